@@ -1,0 +1,3 @@
+pub mod Words
+pub mod Planes
+pub mod Group

@@ -1,0 +1,6 @@
+use Rattle.onfi_param.specs.Fields.{four_bytes}
+use Rattle.onfi_param.proofs.page.ParamPage.four_bytes.Goals as goal
+
+pub returns : goal.returns
+unfolding four_bytes
+returns c = ?

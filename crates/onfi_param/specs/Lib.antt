@@ -1,0 +1,4 @@
+pub mod Crc
+pub mod Register
+pub mod Fields
+pub mod Copies

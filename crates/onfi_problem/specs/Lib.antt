@@ -1,0 +1,4 @@
+pub mod Problem
+pub mod Moves
+pub mod Left
+pub mod Position
