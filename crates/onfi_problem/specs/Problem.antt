@@ -1,5 +1,5 @@
 -- Problems: what is left to do on a channel, and from when on.
-use Rattle.std.specs.Prelude.{◌≡◌, ℕ, ◌*◌, ◌<◌, ◌≤◌, List, length, Some, slice_get}
+use Rattle.std.specs.Prelude.{◌≡◌, ℕ, ◌*◌, ◌<◌, ◌≤◌, ◌==◌, Bool, List, length, Some, slice_get}
 use Rattle.std.specs.List.{AllByRecursion as All}
 use Rattle.onfi_timing.specs.declared.kind.Kind.TheVariants.{Erase}
 use Rattle.onfi_timing.specs.declared.timing.Timing.{Timing}
@@ -43,3 +43,6 @@ pub record IsProblem (p : Problem) : Type 0 where
   pub in_range : All (λ w. w.lun < length p.luns) p.wants
   pub ids : Pairs (λ a b. a.id < b.id) p.wants
   pub running : (lun : ℕ) (group : List Want) (next ready : ℕ) → slice_get p.luns lun ≡ Some (Running group next ready) → IsRunning p.rules lun group next
+
+abbrev pub has_id : ℕ → Want → Bool
+has_id id w = w.id == id

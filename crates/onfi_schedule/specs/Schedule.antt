@@ -1,5 +1,5 @@
 -- Schedules, and which of them are legal.
-use Rattle.std.specs.Prelude.{◌≡◌, ℕ, ◌+◌, ◌*◌, ◌≤◌, ◌==◌, ◌⊎◌, max, Bool, List, [], ◌∷◌, ◌++◌, length, Option, Some, slice_get, slice_set, slice_index_or}
+use Rattle.std.specs.Prelude.{◌≡◌, ℕ, ◌+◌, ◌*◌, ◌≤◌, ◌⊎◌, max, List, [], ◌∷◌, ◌++◌, length, Option, Some, slice_get, slice_set, slice_index_or}
 use Rattle.std.specs.List.{AllByRecursion as All, flat_map}
 use Rattle.onfi_timing.specs.declared.spans.Spans.{Spans}
 use Rattle.onfi_timing.specs.declared.timing.Timing.{Timing}
@@ -9,7 +9,7 @@ use Rattle.onfi_group.specs.Words.{Has, Pairs, number}
 use Rattle.onfi_group.specs.Group.{lun_of, group_spans, IsGroup}
 use Rattle.onfi_problem.specs.declared.lun_state.LunState.{LunState}
 use Rattle.onfi_problem.specs.declared.lun_state.LunState.TheVariants.{Free, Running}
-use Rattle.onfi_problem.specs.Problem.{Problem}
+use Rattle.onfi_problem.specs.Problem.{Problem, has_id}
 use Rattle.onfi_problem.specs.Moves.{Move, Next, Start}
 -- a group with a start for each of its phases
 pub record Placed : Type 0 where
@@ -59,9 +59,6 @@ latest t (p ∷ ps) = max (end_of p) (latest t ps)
 
 abbrev pub finish : Problem → Schedule → ℕ
 finish p s = latest p.bus_free (phases p s)
-
-abbrev pub has_id : ℕ → Want → Bool
-has_id id w = w.id == id
 
 -- the members of all groups
 abbrev pub all_members : List Placed → List Want

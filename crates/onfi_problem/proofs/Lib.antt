@@ -1,0 +1,9 @@
+pub mod Perm
+pub mod Places
+pub mod Wants
+pub mod Totals
+pub mod LunAfter
+pub mod Waits
+pub mod Work
+pub mod Kept
+pub mod Limits
