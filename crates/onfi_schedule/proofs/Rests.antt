@@ -1,0 +1,47 @@
+-- The phases that are left of the running groups.
+use Rattle.std.proofs.Common.{◌≡◌, ℕ, zero, suc, ◌+◌, inl, inr, List, [], ◌∷◌, ◌++◌, Some, refl, subst, arith, append_assoc}
+use Rattle.std.specs.Prelude.{slice_get, slice_set}
+use Rattle.std.specs.List.{AllByRecursion as All}
+use Rattle.onfi_timing.specs.declared.timing.Timing.{Timing}
+use Rattle.onfi_problem.specs.declared.lun_state.LunState.{LunState}
+use Rattle.onfi_group.specs.Words.{Has}
+use Rattle.onfi_schedule.specs.Schedule.{Phase, phases_left, rest_phases}
+use Rattle.onfi_problem.proofs.Perm.{Perm, trans, on_left, on_right, between, All-front, All-back, Has-append_cases}
+
+-- a change at one LUN
+pub rest_changed : (timing : Timing) (first lun here : ℕ) (luns : List LunState) (rest : List (List ℕ)) (state state' : LunState) (ts ts' : List ℕ) (before behind : List Phase) → here ≡ first + lun → slice_get luns lun ≡ Some state → slice_get rest lun ≡ Some ts → Perm (before ++ phases_left timing here state ts) (behind ++ phases_left timing here state' ts') → Perm (before ++ rest_phases timing first luns rest) (behind ++ rest_phases timing first (slice_set luns lun state') (slice_set rest lun ts'))
+rest_changed timing first lun here [] rest state state' ts ts' before behind e h k p = cc
+rest_changed timing first lun here (x ∷ luns) [] state state' ts ts' before behind e h k p = cc
+rest_changed timing first zero here (x ∷ luns) (us ∷ rest) state state' ts ts' before behind e h k p =
+    let hx : state ≡ x = cc in
+    let hu : ts ≡ us = cc in
+    let he : here ≡ first = omega arith in
+    let r = rest_phases timing (first + 1) luns rest in
+    let q : Perm (before ++ phases_left timing first x us) (behind ++ phases_left timing first state' ts') = rw (← hx, ← hu, ← he) p in
+    rw (← append_assoc before (phases_left timing first x us) r, ← append_assoc behind (phases_left timing first state' ts') r) (on_left r q)
+rest_changed timing first (suc lun) here (x ∷ luns) (us ∷ rest) state state' ts ts' before behind e h k p =
+    let he : here ≡ first + 1 + lun = omega arith in
+    let f = phases_left timing first x us in
+    let r = rest_phases timing (first + 1) luns rest in
+    let r' = rest_phases timing (first + 1) (slice_set luns lun state') (slice_set rest lun ts') in
+    trans (between before f r) (trans (on_right f (rest_changed timing (first + 1) lun here luns rest state state' ts ts' before behind he h k p)) (between f behind r'))
+
+pub all_at : (P : Phase → Type 0) (timing : Timing) (first lun here : ℕ) (luns : List LunState) (rest : List (List ℕ)) (state : LunState) (ts : List ℕ) → here ≡ first + lun → slice_get luns lun ≡ Some state → slice_get rest lun ≡ Some ts → All P (rest_phases timing first luns rest) → All P (phases_left timing here state ts)
+all_at P timing first lun here [] rest state ts e h k a = cc
+all_at P timing first lun here (x ∷ luns) [] state ts e h k a = cc
+all_at P timing first zero here (x ∷ luns) (us ∷ rest) state ts e h k a =
+    let hx : x ≡ state = cc in
+    let hu : us ≡ ts = cc in
+    let he : here ≡ first = omega arith in
+    rw (he, ← hx, ← hu) (All-front P (phases_left timing first x us) _ a)
+all_at P timing first (suc lun) here (x ∷ luns) (us ∷ rest) state ts e h k a =
+    all_at P timing (first + 1) lun here luns rest state ts (omega arith) h k (All-back P (phases_left timing first x us) _ a)
+
+pub has_at : (timing : Timing) (first : ℕ) (luns : List LunState) (rest : List (List ℕ)) (x : Phase) → Has (rest_phases timing first luns rest) x → (lun : ℕ) × (state : LunState) × (ts : List ℕ) × (slice_get luns lun ≡ Some state) × (slice_get rest lun ≡ Some ts) × Has (phases_left timing (first + lun) state ts) x
+has_at timing first [] rest x h = absurd h
+has_at timing first (y ∷ luns) [] x h = absurd h
+has_at timing first (y ∷ luns) (us ∷ rest) x h =
+    elim (Has-append_cases (phases_left timing first y us) (rest_phases timing (first + 1) luns rest) x h) [
+      | inl k ↦ (let e : first ≡ first + 0 = omega arith in (0, y, us, refl, refl, subst (λ l. Has (phases_left timing l y us) x) e k))
+      | inr k ↦ (let r = has_at timing (first + 1) luns rest x k in let e : first + 1 + r.0 ≡ first + suc r.0 = omega arith in (suc r.0, r.1, r.2, r.3, r.4, subst (λ l. Has (phases_left timing l r.1 r.2) x) e r.5))
+    ]
