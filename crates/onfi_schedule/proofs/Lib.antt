@@ -7,3 +7,4 @@ pub mod Back
 pub mod RunLegal
 pub mod Sooner
 pub mod Exchange
+mod Worked

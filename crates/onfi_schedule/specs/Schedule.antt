@@ -11,6 +11,7 @@ use Rattle.onfi_problem.specs.declared.lun_state.LunState.{LunState}
 use Rattle.onfi_problem.specs.declared.lun_state.LunState.TheVariants.{Free, Running}
 use Rattle.onfi_problem.specs.Problem.{Problem, has_id}
 use Rattle.onfi_problem.specs.Moves.{Move, Next, Start}
+
 -- a group with a start for each of its phases
 pub record Placed : Type 0 where
   pub members : List Want
