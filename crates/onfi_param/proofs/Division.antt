@@ -5,7 +5,25 @@ use Rattle.std.specs.Int.Bits.{bit_xor, xor_assoc, xor_self, xor_shifted, xor_ze
 use Rattle.std.proofs.lemmas.Nat.{xor_comm, xor_lt, xor_shr, xor_block}
 use Rattle.std.proofs.lemmas.Bool.{cases_lt, lt-ltb, le-ltb}
 use Rattle.onfi_param.specs.Crc.{AllBits, IsRemainder, IsCheckValue, number_from, product_from, byte_bits, bits, masked, polynomial, start_bits}
-use Rattle.onfi_param.specs.Register.{reduced, remainder, remainder_from, crc_of, idle, after_byte, after_bytes}
+use Rattle.onfi_param.specs.Register.{reduced, idle, after_byte}
+
+-- long division, from the highest bit on: what is left so far, with the next bit brought down
+unfoldable pub remainder_from : ℕ → List ℕ → ℕ
+remainder_from left [] = left
+remainder_from left (b ∷ string) = remainder_from (reduced (left * 2 + b)) string
+
+-- what long division leaves of a bit string
+abbrev pub remainder : List ℕ → ℕ
+remainder string = remainder_from 0 string
+
+-- what long division leaves of the bytes
+abbrev pub crc_of : List ℕ → ℕ
+crc_of bytes = remainder (masked start_bits (bits bytes ++ replicate 16 0))
+
+-- the register after bytes
+unfoldable pub after_bytes : ℕ → List ℕ → ℕ
+after_bytes left [] = left
+after_bytes left (byte ∷ bytes) = after_bytes (after_byte left byte) bytes
 
 abbrev zeros : List ℕ
 zeros = replicate 16 0

@@ -3,6 +3,7 @@ ghost use Rattle.onfi_param.specs.Crc.{IsCheckValue};
 ghost use Rattle.onfi_param.specs.Register.{after_byte, reduced};
 
 const START: u16 = 0x4F4E;
+
 const POLYNOMIAL: u16 = 0x8005;
 
 /// The register after one bit was shifted out.

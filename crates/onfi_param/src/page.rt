@@ -1,6 +1,4 @@
-#![tactic(auto, unfolding(crate::specs::Fields::features, crate::specs::Fields::optional_commands, crate::specs::Fields::manufacturer, crate::specs::Fields::model, crate::specs::Fields::data_bytes, crate::specs::Fields::spare_bytes, crate::specs::Fields::pages_per_block, crate::specs::Fields::blocks_per_lun, crate::specs::Fields::lun_count, crate::specs::Fields::column_cycles, crate::specs::Fields::row_cycles, crate::specs::Fields::plane_address_bits, crate::specs::Fields::t_prog, crate::specs::Fields::t_bers, crate::specs::Fields::t_r, crate::specs::Fields::t_ccs, crate::specs::Fields::stored_crc))]
-
-ghost use Rattle.std.specs.Prelude.{◌≡◌, ◌+◌, ◌<◌, ◌↔◌, IsTrue, IsBitSet};
+ghost use Rattle.std.specs.Prelude.{◌≡◌, ◌+◌, ◌<◌, ◌↔◌, IsTrue, IsBitSet, length};
 ghost use Rattle.onfi_param.specs.Fields.{two_bytes, four_bytes};
 ghost use Rattle.onfi_param.specs.Fields as field;
 
@@ -23,9 +21,12 @@ impl Model for ParamPage {
 }
 
 impl ParamPage {
-    pub(crate) fn of(bytes: [u8; 256]) -> ParamPage
-        ensures { result ≡ bytes }
+    pub(crate) fn of(copy: &[u8]) -> ParamPage
+        requires { length copy.now ≡ 256 }
+        ensures { result ≡ copy.now }
     {
+        let mut bytes = [0; 256];
+        bytes.copy_from_slice(copy);
         ParamPage { bytes }
     }
 
@@ -44,6 +45,7 @@ impl ParamPage {
     }
 
     /// All bits of the features that the device supports (bytes 6-7).
+    #[tactic(auto, unfolding(crate::specs::Fields::features))]
     pub fn features(&self) -> u16
         ensures { result ≡ field.features self.now }
     {
@@ -86,6 +88,7 @@ impl ParamPage {
     }
 
     /// All bits of the optional commands that the device supports (bytes 8-9).
+    #[tactic(auto, unfolding(crate::specs::Fields::optional_commands))]
     pub fn optional_commands(&self) -> u16
         ensures { result ≡ field.optional_commands self.now }
     {
@@ -107,6 +110,7 @@ impl ParamPage {
     }
 
     /// The manufacturer, as ASCII with spaces behind it (bytes 32-43).
+    #[tactic(auto, unfolding(crate::specs::Fields::manufacturer))]
     pub fn manufacturer(&self) -> &[u8]
         ensures { result.now ≡ field.manufacturer self.now }
     {
@@ -114,6 +118,7 @@ impl ParamPage {
     }
 
     /// The model, as ASCII with spaces behind it (bytes 44-63).
+    #[tactic(auto, unfolding(crate::specs::Fields::model))]
     pub fn model(&self) -> &[u8]
         ensures { result.now ≡ field.model self.now }
     {
@@ -121,6 +126,7 @@ impl ParamPage {
     }
 
     /// Data bytes of a page, without the spare bytes (bytes 80-83).
+    #[tactic(auto, unfolding(crate::specs::Fields::data_bytes))]
     pub fn data_bytes(&self) -> u32
         ensures { result ≡ field.data_bytes self.now }
     {
@@ -128,6 +134,7 @@ impl ParamPage {
     }
 
     /// Spare bytes of a page (bytes 84-85).
+    #[tactic(auto, unfolding(crate::specs::Fields::spare_bytes))]
     pub fn spare_bytes(&self) -> u16
         ensures { result ≡ field.spare_bytes self.now }
     {
@@ -135,6 +142,7 @@ impl ParamPage {
     }
 
     /// Pages of a block (bytes 92-95).
+    #[tactic(auto, unfolding(crate::specs::Fields::pages_per_block))]
     pub fn pages_per_block(&self) -> u32
         ensures { result ≡ field.pages_per_block self.now }
     {
@@ -142,6 +150,7 @@ impl ParamPage {
     }
 
     /// Blocks of a LUN (bytes 96-99).
+    #[tactic(auto, unfolding(crate::specs::Fields::blocks_per_lun))]
     pub fn blocks_per_lun(&self) -> u32
         ensures { result ≡ field.blocks_per_lun self.now }
     {
@@ -149,6 +158,7 @@ impl ParamPage {
     }
 
     /// LUNs of the device (byte 100).
+    #[tactic(auto, unfolding(crate::specs::Fields::lun_count))]
     pub fn lun_count(&self) -> u8
         ensures { result ≡ field.lun_count self.now }
     {
@@ -156,27 +166,34 @@ impl ParamPage {
     }
 
     /// Column address cycles, 0 to 15 (byte 101, high four bits).
+    #[tactic(auto, unfolding(crate::specs::Fields::column_cycles))]
     pub fn column_cycles(&self) -> u8
-        ensures { result ≡ field.column_cycles self.now }
+        ensures value { result ≡ field.column_cycles self.now }
+        ensures four_bits { result < 16 }
     {
         self.bytes[101] >> 4
     }
 
     /// Row address cycles, 0 to 15 (byte 101, low four bits).
+    #[tactic(auto, unfolding(crate::specs::Fields::row_cycles))]
     pub fn row_cycles(&self) -> u8
-        ensures { result ≡ field.row_cycles self.now }
+        ensures value { result ≡ field.row_cycles self.now }
+        ensures four_bits { result < 16 }
     {
         self.bytes[101] & 0x0F
     }
 
     /// Plane address bits, 0 to 15 (byte 113, low four bits).
+    #[tactic(auto, unfolding(crate::specs::Fields::plane_address_bits))]
     pub fn plane_address_bits(&self) -> u8
-        ensures { result ≡ field.plane_address_bits self.now }
+        ensures value { result ≡ field.plane_address_bits self.now }
+        ensures four_bits { result < 16 }
     {
         self.bytes[113] & 0x0F
     }
 
     /// tPROG, the longest time of a page program, in microseconds (bytes 133-134).
+    #[tactic(auto, unfolding(crate::specs::Fields::t_prog))]
     pub fn t_prog(&self) -> u16
         ensures { result ≡ field.t_prog self.now }
     {
@@ -184,6 +201,7 @@ impl ParamPage {
     }
 
     /// tBERS, the longest time of a block erase, in microseconds (bytes 135-136).
+    #[tactic(auto, unfolding(crate::specs::Fields::t_bers))]
     pub fn t_bers(&self) -> u16
         ensures { result ≡ field.t_bers self.now }
     {
@@ -191,6 +209,7 @@ impl ParamPage {
     }
 
     /// tR, the longest time of a page read, in microseconds (bytes 137-138).
+    #[tactic(auto, unfolding(crate::specs::Fields::t_r))]
     pub fn t_r(&self) -> u16
         ensures { result ≡ field.t_r self.now }
     {
@@ -198,6 +217,7 @@ impl ParamPage {
     }
 
     /// tCCS, the shortest wait after a change of the column, in nanoseconds (bytes 139-140).
+    #[tactic(auto, unfolding(crate::specs::Fields::t_ccs))]
     pub fn t_ccs(&self) -> u16
         ensures { result ≡ field.t_ccs self.now }
     {
@@ -205,6 +225,7 @@ impl ParamPage {
     }
 
     /// The check value that the page holds of its other bytes (bytes 254-255).
+    #[tactic(auto, unfolding(crate::specs::Fields::stored_crc))]
     pub fn stored_crc(&self) -> u16
         ensures { result ≡ field.stored_crc self.now }
     {

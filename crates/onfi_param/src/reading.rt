@@ -1,14 +1,17 @@
 ghost use Rattle.std.specs.Prelude.{◌≡◌, ◌<◌, ◌≤◌, ◌↔◌, ℕ, IfOk, IsTrue, length};
-ghost use Rattle.onfi_param.specs.Copies.{IsFirstCopy, IsPageCopy, NoCopyBelow, copy_at, right_signature_bytes};
+ghost use Rattle.onfi_param.specs.Copies.{IsFirstCopy, IsPageCopy, copy_at, right_signature_bytes};
 
 use crate::crc::crc16;
 use crate::fault::PageFault;
 use crate::page::ParamPage;
 
+const PAGE_BYTES: usize = 256;
+
 const SIGNATURE: [u8; 4] = *b"ONFI";
 
 /// How many of the first four bytes are right in their places.
-fn right_signature_bytes(copy: &[u8; 256]) -> usize
+fn right_signature_bytes(copy: &[u8]) -> usize
+    requires { length copy.now ≡ 256 }
     ensures { result ≡ right_signature_bytes copy.now }
 {
     let mut right = 0;
@@ -20,8 +23,9 @@ fn right_signature_bytes(copy: &[u8; 256]) -> usize
     right
 }
 
-/// Whether the bytes are a copy of a parameter page.
-fn is_copy(copy: &[u8; 256]) -> bool
+/// Whether 256 bytes are a copy of a parameter page.
+fn is_copy(copy: &[u8]) -> bool
+    requires { length copy.now ≡ 256 }
     ensures { IsTrue result ↔ IsPageCopy copy.now }
 {
     if right_signature_bytes(copy) < 2 {
@@ -42,12 +46,12 @@ pub fn read_page(bytes: &[u8]) -> Result<ParamPage, PageFault>
     ensures no_copy { (result ≡ Err PageFault.NoCopy) ↔ ((256 ≤ length bytes.now) × ((number : ℕ) → ¬ IsPageCopy (copy_at bytes.now number))) }
     ensures first { IfOk result (λ page. IsFirstCopy bytes.now page) }
 {
-    if bytes.len() < 256 {
+    if bytes.len() < PAGE_BYTES {
         return Err(PageFault::Short);
     }
-    for number in 0..bytes.len() / 256 {
-        let copy: &[u8] = &bytes[256 * number..256 * (number + 1)];
-        if let Ok(copy) = <[u8; 256]>::try_from(copy) && is_copy(&copy) {
+    for number in 0..bytes.len() / PAGE_BYTES {
+        let copy = &bytes[PAGE_BYTES * number..PAGE_BYTES * (number + 1)];
+        if is_copy(copy) {
             return Ok(ParamPage::of(copy));
         }
     }

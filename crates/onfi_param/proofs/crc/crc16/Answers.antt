@@ -1,7 +1,7 @@
 use Rattle.std.proofs.Common.{◌≡◌, subst, ◌+◌, drop, sym, ap, ◌∙◌, arith}
 use Rattle.std.proofs.Math.ListN.{drop_of_length-le}
 use Rattle.onfi_param.specs.Crc.{IsCheckValue}
-use Rattle.onfi_param.specs.Register.{after_bytes, crc_of}
+use Rattle.onfi_param.proofs.Division.{after_bytes, crc_of}
 use Rattle.onfi_param.proofs.Division.{crc_is_check_value, after_bytes-is-crc, all_bytes, after_bytes_at}
 use Rattle.onfi_param.proofs.Unique.{one_check_value}
 use Rattle.onfi_param.proofs.crc.crc16.Goals as goal

@@ -1,5 +1,5 @@
 use Rattle.std.proofs.Common.{◌≡◌, drop}
-use Rattle.onfi_param.specs.Register.{after_bytes}
+use Rattle.onfi_param.proofs.Division.{after_bytes}
 use Rattle.onfi_param.proofs.crc.crc16.Given as goal
 
 abbrev pub invariant-loop-byte : goal.invariant-loop-byte

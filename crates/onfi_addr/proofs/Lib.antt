@@ -1,0 +1,3 @@
+pub mod BitCounts
+pub mod FaultLemmas
+pub mod RowLemmas

@@ -1,0 +1,11 @@
+use Rattle.std.proofs.Common.{arith}
+use Rattle.onfi_addr.proofs.geometry.Geometry.layout_of.Goals as goal
+
+pub invariant_of-result-clause-few_page_bits : goal.invariant_of-result-clause-few_page_bits
+invariant_of-result-clause-few_page_bits c = c.bits_for.ensures.least.least 12 (omega arith)
+
+pub invariant_of-result-clause-few_block_bits : goal.invariant_of-result-clause-few_block_bits
+invariant_of-result-clause-few_block_bits c = c.bits_for-2.ensures.least.least 16 (omega arith)
+
+pub invariant_of-result-clause-few_lun_bits : goal.invariant_of-result-clause-few_lun_bits
+invariant_of-result-clause-few_lun_bits c = c.bits_for-3.ensures.least.least 3 (omega arith)

@@ -1,0 +1,6 @@
+pub mod Bits
+pub mod Faults
+pub mod Layout
+pub mod Limits
+pub mod Rows
+pub use Rattle.onfi_param.specs.Fields
