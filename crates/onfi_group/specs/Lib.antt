@@ -1,3 +1,5 @@
 pub mod Words
 pub mod Planes
 pub mod Group
+pub mod Joining
+pub mod Listing

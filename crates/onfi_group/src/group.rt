@@ -1,6 +1,10 @@
-ghost use Rattle.std.specs.Prelude.{◌≡◌, ℕ, ◌≤◌, length, List, IsTrue, ◌↔◌};
-ghost use Rattle.onfi_group.specs.Group.{kind_of, lun_of, is_member};
+ghost use Rattle.std.specs.Prelude.{◌≡◌, ℕ, ◌<◌, ◌≤◌, length, List, IsTrue, ◌↔◌};
+ghost use Rattle.std.specs.List.{insert};
+ghost use Rattle.onfi_group.specs.Group.{IsGroup, kind_of, lun_of, is_member};
+ghost use Rattle.onfi_group.specs.Joining.{joined};
 
+use crate::members::is_group;
+use crate::rules::Rules;
 use onfi_request::Want;
 use onfi_timing::Kind;
 use smallvec::SmallVec;
@@ -42,7 +46,7 @@ impl Group {
     {
         let alloc = *self.members.allocator();
         Group {
-            members: SmallVec::from_slice(alloc, self.members.as_slice()).unwrap(),
+            members: SmallVec::from_slice(alloc, self.members()).unwrap(),
         }
     }
 
@@ -68,20 +72,52 @@ impl Group {
     pub fn kind(&self) -> Kind
         ensures { result ≡ kind_of self.now }
     {
-        self.members.as_slice()[0].kind
+        self.members()[0].kind
     }
 
     /// The LUN of its first want.
     pub fn lun(&self) -> u8
         ensures { result ≡ lun_of self.now }
     {
-        self.members.as_slice()[0].lun
+        self.members()[0].lun
     }
 
     /// Whether a want of that number is a member.
     pub fn has(&self, want: &Want) -> bool
         ensures { result ≡ is_member self.now want.now }
     {
-        self.members.as_slice().iter().any(|m| m.id == want.id)
+        self.members().iter().any(|m| m.id == want.id)
     }
+
+    /// Whether the rules allow it, as [`is_group`] tells of wants.
+    pub fn is_group(&self, rules: &Rules) -> bool
+        ensures { IsTrue result ↔ IsGroup rules.now self.now }
+    {
+        is_group(rules, self.members())
+    }
+
+    // Its wants and this one, at its plane, whether that is a group or not.
+    pub(crate) fn joined(&self, want: &Want) -> Group
+        requires { length self.now < 4 }
+        ensures { result ≡ joined want.now self.now }
+    {
+        let at = place_for(want, self.members());
+        let alloc = *self.members.allocator();
+        let mut members = SmallVec::from_slice(alloc, self.members()).unwrap();
+        members.insert(at, *want).unwrap();
+        Group { members }
+    }
+}
+
+// The place for the want among the members: before the first one whose plane isn't below its own.
+fn place_for(want: &Want, members: &[Want]) -> usize
+    ensures within { result ≤ length members.now }
+    ensures place { insert members.now result want.now ≡ joined want.now members.now }
+{
+    for (at, member) in members.iter().enumerate() {
+        if want.plane <= member.plane {
+            return at;
+        }
+    }
+    members.len()
 }
