@@ -2,13 +2,26 @@
 //! waits between them. Alone, it turns a parameter page and a timing sheet into these lengths.
 #![tactic(auto)]
 
+mod decimal;
+mod fault;
 mod kind;
+mod lengths;
+mod parameter;
+mod records;
+mod sheet;
 mod spans;
 mod timing;
+mod values;
 
+pub use decimal::read_number;
+pub use fault::SheetFault;
 pub use kind::Kind;
+pub use parameter::Parameter;
+pub use records::read_records;
+pub use sheet::Sheet;
 pub use spans::{SpanFault, Spans};
 pub use timing::Timing;
+pub use values::Values;
 
 #[cfg(test)]
 mod tests;

@@ -1,8 +1,13 @@
-ghost use Rattle.std.specs.Prelude.{◌≡◌};
-ghost use Rattle.onfi_timing.specs.Kinds.{spans_of};
+ghost use Rattle.std.specs.Prelude.{◌≡◌, MatchResult};
 
+use crate::fault::SheetFault;
 use crate::kind::Kind;
+use crate::lengths::{of_erases, of_programs, of_reads};
+use crate::sheet::Sheet;
 use crate::spans::Spans;
+use crate::values::Values;
+use onfi_addr::Geometry;
+use onfi_param::ParamPage;
 
 /// The phase lengths of each kind, in ns.
 #[derive(Clone, Copy, Debug, PartialEq, Eq)]
@@ -13,6 +18,9 @@ pub struct Timing {
 }
 
 impl Timing {
+    ghost use Rattle.onfi_timing.specs.Kinds.{spans_of};
+    ghost use Rattle.onfi_timing.specs.Table.{IsTiming, IsTimingFault};
+
     /// The timing of a channel from the lengths of each kind.
     pub fn new(read: Spans, program: Spans, erase: Spans) -> Timing
         ensures read { result.read ≡ read }
@@ -24,6 +32,29 @@ impl Timing {
             program,
             erase,
         }
+    }
+
+    /// The timing of a device by its parameter page, its geometry and a timing sheet.
+    ///
+    /// The page gives tR, tPROG and tBERS (microseconds, the maxima) and tCCS (ns), the sheet the rest.
+    ///
+    /// # Errors
+    /// `Missing` with the first parameter that the sheet doesn't give; else `ZeroCycle` where tWC or tRC is 0.
+    pub fn of(page: &ParamPage, geometry: &Geometry, sheet: &Sheet) -> Result<Timing, SheetFault>
+        ensures { MatchResult result (λ timing. IsTiming page.now geometry.now sheet.now timing) (λ fault. IsTimingFault sheet.now fault) }
+    {
+        let values = match Values::of(sheet) {
+            Ok(values) => values,
+            Err(parameter) => return Err(SheetFault::Missing(parameter)),
+        };
+        if values.t_wc == 0 || values.t_rc == 0 {
+            return Err(SheetFault::ZeroCycle);
+        }
+        Ok(Timing {
+            read: of_reads(page, geometry, &values),
+            program: of_programs(page, geometry, &values),
+            erase: of_erases(page, geometry, &values),
+        })
     }
 
     /// The lengths of a kind.

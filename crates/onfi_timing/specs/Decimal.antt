@@ -1,0 +1,13 @@
+-- Numbers as rows of text spell them.
+use Rattle.std.specs.Prelude.{ℕ, ◌==◌, ◌&&◌, not, if◌then◌else◌, Bool, List, length, Option, Some, None}
+use Rattle.std.specs.List.{list_all}
+use Rattle.std.specs.Char.{is_ascii_digit}
+use Rattle.std.specs.Str.Parse.{digits_value}
+
+-- one or more digits 0 to 9; zeros may lead
+abbrev pub is_number : List ℕ → Bool
+is_number text = not (length text == 0) && list_all is_ascii_digit text
+
+-- the number, where the text is one
+abbrev pub number_of : List ℕ → Option ℕ
+number_of text = if is_number text then Some (digits_value 10 text) else None
