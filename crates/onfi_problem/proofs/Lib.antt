@@ -1,3 +1,15 @@
+pub mod OneList
+pub mod Ranges
+pub mod Steps
+pub mod Ordered
+pub mod Firsts
+pub mod Count
+pub mod Listed
+pub mod Sums
+pub mod Rising
+pub mod Marks
+pub mod After
+pub mod Lists
 pub mod Perm
 pub mod Places
 pub mod Wants
@@ -7,3 +19,4 @@ pub mod Waits
 pub mod Work
 pub mod Kept
 pub mod Limits
+pub mod PhaseEnds

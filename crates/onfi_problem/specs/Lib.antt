@@ -2,3 +2,6 @@ pub mod Problem
 pub mod Moves
 pub mod Left
 pub mod Position
+pub mod Kept
+pub mod Checks
+pub mod Starts

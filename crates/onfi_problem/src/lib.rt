@@ -1,8 +1,18 @@
 //! Problems of one channel: what is left to do, which moves there are, when at the earliest, and what each leaves.
 #![tactic(auto)]
 
+mod checks;
+mod ends;
+mod fault;
+mod horizon;
 mod lun_state;
+mod move_list;
 mod moves;
+mod problem;
+mod table;
 
+pub use fault::ProblemFault;
 pub use lun_state::LunState;
+pub use move_list::Moves;
 pub use moves::{Lun, Move, Undo};
+pub use problem::Problem;

@@ -10,9 +10,22 @@ pub enum Move {
     Start { lun: u8, place: u8 },
 }
 
+impl Move {
+    ghost use Rattle.onfi_problem.specs.Position.{lun_named};
+
+    /// The LUN that it is of, from 0.
+    pub fn lun(&self) -> u8
+        ensures { result ≡ lun_named self.now }
+    {
+        match self {
+            Move::Next { lun } | Move::Start { lun, .. } => *lun,
+        }
+    }
+}
+
 /// What a LUN does, told by numbers: from `time` on it may go on with phase `next` of the group at that place, or,
 /// where `next` is 0, with any group.
-#[derive(Clone, Copy, Debug, PartialEq, Eq)]
+#[derive(Clone, Copy, Debug, Default, PartialEq, Eq)]
 pub struct Lun {
     pub next: u8,
     pub place: u8,

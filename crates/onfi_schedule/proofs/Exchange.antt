@@ -10,6 +10,7 @@ use Rattle.onfi_group.specs.Words.{Has}
 use Rattle.onfi_problem.specs.Problem.{Problem, IsProblem}
 use Rattle.onfi_group.specs.Group.{IsGroup, group_spans, lun_of, IsFirst, IsStartable, is_member, on_block}
 use Rattle.onfi_timing.specs.Phases.{phase_length}
+use Rattle.onfi_schedule.specs.Laws.{RunsFirst}
 use Rattle.onfi_schedule.specs.Runs.{Step, Run}
 use Rattle.onfi_problem.proofs.Perm.{All-has, All-each}
 use Rattle.onfi_problem.proofs.Places.{get_set_other, set_set, same_place}
@@ -193,16 +194,7 @@ pull (s ∷ steps) p l f m ip im e (mv, on_time, run) =
     ]
 
 -- a move after which each move of another LUN would still fit before this one's phase can wait
-pub record Yielded (p : Problem) (l f : ℕ) : Type 0 where
-  pub move : Move
-  pub is_move : IsMove p move
-  pub lun : move_lun move ≡ l
-  pub steps : List Step
-  pub finish : ℕ
-  pub sooner : finish ≤ f
-  pub run : Run (after p move) steps finish
-
-pub yielding : (p : Problem) (m m0 : Move) (t l f : ℕ) (steps : List Step) → IsProblem p → IsMove p m → earliest p m ≤ t → Run (placed p m t) steps f → l ≢ move_lun m → IsMove p m0 → move_lun m0 ≡ l → ((n : Move) → IsMove p n → move_lun n ≡ l → (after p n).bus_free ≤ earliest p m) → Yielded p l f
+pub yielding : (p : Problem) (m m0 : Move) (t l f : ℕ) (steps : List Step) → IsProblem p → IsMove p m → earliest p m ≤ t → Run (placed p m t) steps f → l ≢ move_lun m → IsMove p m0 → move_lun m0 ≡ l → ((n : Move) → IsMove p n → move_lun n ≡ l → (after p n).bus_free ≤ earliest p m) → RunsFirst p l f
 yielding p m m0 t l f steps ip im on_time run d i0 e0 fits =
     let q = placed p m t in
     let there = other_lun p m t l ip im d in
@@ -222,9 +214,9 @@ yielding p m m0 t l f steps ip im on_time run d i0 e0 fits =
     record {
       move = r.move;
       is_move = ir;
-      lun = r.lun;
+      of_lun = r.lun;
       steps = record { move = m; start = t } ∷ x.0;
       finish = x.1;
-      sooner = x.2;
+      no_later = x.2;
       run = (same_move p (after p r.move) (move_lun m) m o refl im, omega arith, subst (λ z. Run z x.0 x.1) (commute p r.move m u t ir im (λ e. apart (sym e)) ∙ same) x.3);
     }

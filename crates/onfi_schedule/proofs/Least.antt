@@ -23,7 +23,7 @@ use Rattle.onfi_schedule.proofs.Begin.{begun_schedule, begun_phase, begun_phases
 use Rattle.onfi_problem.proofs.Kept.{kept}
 use Rattle.onfi_problem.proofs.Wants.{number_has, some_with_id, same_by_id}
 
-least_phase : (ps : List Phase) → 1 ≤ length ps → (x : Phase) × Has ps x × All (λ y. x.start ≤ y.start) ps
+pub least_phase : (ps : List Phase) → 1 ≤ length ps → (x : Phase) × Has ps x × All (λ y. x.start ≤ y.start) ps
 least_phase [] h = absurd (omega arith)
 least_phase (x ∷ []) h = (x, inl refl, (omega arith, tt))
 least_phase (x ∷ y ∷ ps) h =
@@ -71,6 +71,21 @@ lun_below : (ms : List Want) (k : ℕ) → 1 ≤ length ms → ((m : Want) → H
 lun_below [] k h f = absurd (omega arith)
 lun_below (m ∷ ms) k h f = f m (inl refl)
 
+-- the greatest end, in whichever order
+pub latest-perm : (b : ℕ) {xs ys : List Phase} → Perm xs ys → latest b xs ≡ latest b ys
+latest-perm b Perm.none = refl
+latest-perm b (Perm.skip x q) = ap (max (end_of x)) (latest-perm b q)
+latest-perm b (Perm.swap x y xs) = omega arith
+latest-perm b (Perm.trans q r) = latest-perm b q ∙ latest-perm b r
+
+pub latest-behind : (b c : ℕ) (xs : List Phase) → b ≤ c → max c (latest b xs) ≡ latest c xs
+latest-behind b c [] h = omega arith
+latest-behind b c (x ∷ xs) h = let e = latest-behind b c xs h in omega arith
+
+-- with its first phase taken off, a list of phases ends when it did
+pub latest_without : (b c : ℕ) (x : Phase) (xs ys : List Phase) → Perm xs (x ∷ ys) → b ≤ x.start → end_of x ≡ c → latest c ys ≡ latest b xs
+latest_without b c x xs ys perm from ends = ap (λ e. latest e ys) (sym ends) ∙ sym (latest-behind b (end_of x) ys (omega arith)) ∙ sym (latest-perm b perm)
+
 module _ (p : Problem) (s : Schedule) (ip : IsProblem p) (lg : Legal p s) where
   -- each want has its group, and each member is wanted
   group_of : (w : Want) → Has p.wants w → (h : Placed) × Has s.groups h × Has h.members w
@@ -94,10 +109,10 @@ module _ (p : Problem) (s : Schedule) (ip : IsProblem p) (lg : Legal p s) where
   rest_at : (l : ℕ) (x : LunState) → slice_get p.luns l ≡ Some x → (us : List ℕ) × (slice_get s.rest l ≡ Some us)
   rest_at l x at = let b = within_get p.luns l x at in let e = lg.shape.luns in get_within s.rest l (omega arith)
 
-  of_group : (P : Phase → Type 0) (h : Placed) → Has s.groups h → All P (phases p s) → All P (group_phases p.timing h)
+  pub of_group : (P : Phase → Type 0) (h : Placed) → Has s.groups h → All P (phases p s) → All P (group_phases p.timing h)
   of_group P h k a = All-has _ s.groups h (All-flat_map P (group_phases p.timing) s.groups (All-back P (rest_phases p.timing 0 p.luns s.rest) _ a)) k
 
-  of_rest : (P : Phase → Type 0) (l : ℕ) (x : LunState) (us : List ℕ) → slice_get p.luns l ≡ Some x → slice_get s.rest l ≡ Some us → All P (phases p s) → All P (phases_left p.timing l x us)
+  pub of_rest : (P : Phase → Type 0) (l : ℕ) (x : LunState) (us : List ℕ) → slice_get p.luns l ≡ Some x → slice_get s.rest l ≡ Some us → All P (phases p s) → All P (phases_left p.timing l x us)
   of_rest P l x us at starts_at a = all_at P p.timing 0 l l p.luns s.rest x us (omega arith) at starts_at (All-front P (rest_phases p.timing 0 p.luns s.rest) _ a)
 
   -- where no phase is left nothing is
@@ -177,14 +192,14 @@ module _ (p : Problem) (s : Schedule) (ip : IsProblem p) (lg : Legal p s) where
       begun_at ms t ts us.0 gs perm least here group first x.0 x.1 us.1
 
   abbrev pub Left : List Want → ℕ → List ℕ → List Placed → Type 0
-  Left ms t ts gs = IsMove p (Start ms) × (earliest p (Start ms) ≤ t) × Legal (placed p (Start ms) t) (record { rest = slice_set s.rest (lun_of ms) ts; groups = gs })
+  Left ms t ts gs = IsMove p (Start ms) × (earliest p (Start ms) ≤ t) × Legal (placed p (Start ms) t) (record { rest = slice_set s.rest (lun_of ms) ts; groups = gs }) × (finish (placed p (Start ms) t) (record { rest = slice_set s.rest (lun_of ms) ts; groups = gs }) ≡ finish p s)
 
   law_at : (ms : List Want) (t : ℕ) (ts us : List ℕ) (gs : List Placed) → Perm s.groups (record { members = ms; starts = t ∷ ts } ∷ gs) → All (λ x. t ≤ x.start) (phases p s) → Has s.groups (record { members = ms; starts = t ∷ ts }) → IsGroup p.rules ms → All (IsFirst p.wants) ms → (x : LunState) → slice_get p.luns (lun_of ms) ≡ Some x → slice_get s.rest (lun_of ms) ≡ Some us → Left ms t ts gs
   law_at ms t ts us gs perm least here group first (Free since) at starts_at =
       let order = begun_phases p s ip lg ms t ts gs perm since us at starts_at in
       let bus = All-perm (λ x. p.bus_free ≤ x.start) order lg.from_bus_free in
       let from : since ≤ t = All-has _ s.groups (record { members = ms; starts = t ∷ ts }) lg.from_since here since at in
-      ((since, at, record { group = group; first = first }), rw at (omega (arith, bus.0)), begun_legal p s ip lg ms t ts gs perm since us at starts_at least)
+      ((since, at, record { group = group; first = first }), rw at (omega (arith, bus.0)), begun_legal p s ip lg ms t ts gs perm since us at starts_at least, latest_without p.bus_free _ (begun_phase p s ip lg ms t ts gs perm since us at starts_at) (phases p s) _ order bus.0 refl)
   law_at ms t ts us gs perm least here group first (Running g n r) at starts_at =
       let before = All-has _ s.groups (record { members = ms; starts = t ∷ ts }) lg.running_first here g n r us at starts_at in
       let c = lg.shape.rest (lun_of ms) g n r us at starts_at in
@@ -207,20 +222,20 @@ module _ (p : Problem) (s : Schedule) (ip : IsProblem p) (lg : Legal p s) where
       absurd (not_before t (record { lun = lun_of ms; start = t; length = phase_length (group_spans p.timing ms) (length ms) 0 }) _ (group_phases p.timing h.0) (of_group (λ x. t ≤ x.start) h.0 h.1 least) (of_group (λ x. 1 ≤ x.length) h.0 h.1 (phases_long p s)) (group_number h.0 h.1) refl before)) (first_or_earlier (KeepsBlockOrder p.timing s.groups) p.wants m lg.block_order (wanted g m here i))) in
       law_at ms t ts us.0 gs perm least here group first x.0 x.1 us.1
 
-  pub law_next : (l t : ℕ) (ts : List ℕ) → slice_get s.rest l ≡ Some (t ∷ ts) → All (λ x. t ≤ x.start) (phases p s) → IsMove p (Next l) × (earliest p (Next l) ≤ t) × Legal (placed p (Next l) t) (record { rest = slice_set s.rest l ts; groups = s.groups })
+  pub law_next : (l t : ℕ) (ts : List ℕ) → slice_get s.rest l ≡ Some (t ∷ ts) → All (λ x. t ≤ x.start) (phases p s) → IsMove p (Next l) × (earliest p (Next l) ≤ t) × Legal (placed p (Next l) t) (record { rest = slice_set s.rest l ts; groups = s.groups }) × (finish (placed p (Next l) t) (record { rest = slice_set s.rest l ts; groups = s.groups }) ≡ finish p s)
   law_next l t ts starts_at least =
       let b = within_get s.rest l (t ∷ ts) starts_at in
       let e = lg.shape.luns in
       let x = get_within p.luns l (omega arith) in
       at_state x.0 x.1
     where
-      at_state : (x : LunState) → slice_get p.luns l ≡ Some x → IsMove p (Next l) × (earliest p (Next l) ≤ t) × Legal (placed p (Next l) t) (record { rest = slice_set s.rest l ts; groups = s.groups })
+      at_state : (x : LunState) → slice_get p.luns l ≡ Some x → IsMove p (Next l) × (earliest p (Next l) ≤ t) × Legal (placed p (Next l) t) (record { rest = slice_set s.rest l ts; groups = s.groups }) × (finish (placed p (Next l) t) (record { rest = slice_set s.rest l ts; groups = s.groups }) ≡ finish p s)
       at_state (Free since) at = let z = lg.shape.no_rest l since (t ∷ ts) at starts_at in cc
       at_state (Running g n r) at =
           let perm = next_phases p s ip lg l g n r t ts at starts_at in
           let bus = All-perm (λ x. p.bus_free ≤ x.start) perm lg.from_bus_free in
           let order = lg.rest_waits l g n r (t ∷ ts) at starts_at in
-          ((g, n, r, at), rw at (omega (arith, bus.0, order.0)), rw at (next_legal p s ip lg l g n r t ts at starts_at least))
+          ((g, n, r, at), rw at (omega (arith, bus.0, order.0)), rw at (next_legal p s ip lg l g n r t ts at starts_at least), rw at (latest_without p.bus_free _ (next_phase p s ip lg l g n r t ts at starts_at) (phases p s) _ perm bus.0 refl))
 
   -- the least phase is the first one of its group
   in_rest : (l : ℕ) (x : LunState) (us : List ℕ) (y : Phase) → slice_get p.luns l ≡ Some x → slice_get s.rest l ≡ Some us → Has (phases_left p.timing l x us) y → All (λ z. y.start ≤ z.start) (phases p s) → FirstMove p s
@@ -252,17 +267,6 @@ module _ (p : Problem) (s : Schedule) (ip : IsProblem p) (lg : Legal p s) where
         | inr h ↦ (let a = Has-flat_map (group_phases p.timing) s.groups y.0 h in in_group a.0 a.0.starts y.0 refl a.1 a.2 y.2)
       ]
 
--- the greatest end, in whichever order
-pub latest-perm : (b : ℕ) {xs ys : List Phase} → Perm xs ys → latest b xs ≡ latest b ys
-latest-perm b Perm.none = refl
-latest-perm b (Perm.skip x q) = ap (max (end_of x)) (latest-perm b q)
-latest-perm b (Perm.swap x y xs) = omega arith
-latest-perm b (Perm.trans q r) = latest-perm b q ∙ latest-perm b r
-
-pub latest-behind : (b c : ℕ) (xs : List Phase) → b ≤ c → max c (latest b xs) ≡ latest c xs
-latest-behind b c [] h = omega arith
-latest-behind b c (x ∷ xs) h = let e = latest-behind b c xs h in omega arith
-
 length-perm : {A : Type 0} {xs ys : List A} → Perm xs ys → length xs ≡ length ys
 length-perm Perm.none = refl
 length-perm (Perm.skip x q) = ap suc (length-perm q)
@@ -283,8 +287,7 @@ run_of (suc n) p s ip lg e =
     let size = length-perm f.others in
     let bus = All-perm (λ x. p.bus_free ≤ x.start) f.others lg.from_bus_free in
     let r = run_of n p' f.left (kept p f.move f.start ip f.is_move) f.legal (omega arith) in
-    let same : finish p' f.left ≡ finish p s =
-    ap (λ b. latest b (phases p' f.left)) (sym f.ends) ∙ sym (latest-behind p.bus_free (end_of f.phase) (phases p' f.left) (omega (arith, bus.0))) ∙ sym (latest-perm p.bus_free f.others) in
+    let same : finish p' f.left ≡ finish p s = latest_without p.bus_free p'.bus_free f.phase (phases p s) (phases p' f.left) f.others bus.0 f.ends in
     (record { move = f.move; start = f.start } ∷ r.0, (f.is_move, f.on_time, subst (Run p' r.0) same r.1))
 
 -- a legal schedule is a run

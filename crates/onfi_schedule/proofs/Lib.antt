@@ -1,5 +1,12 @@
+pub mod AtPlace
 pub mod Chains
 pub mod Rests
+pub mod Earlier
+pub mod Following
+pub mod Waiting
+pub mod Named
+pub mod LegalIs
+pub mod Room
 pub mod First
 pub mod Begin
 pub mod Least

@@ -11,6 +11,7 @@ use Rattle.onfi_problem.specs.declared.lun_state.LunState.{LunState}
 use Rattle.onfi_problem.specs.declared.lun_state.LunState.TheVariants.{Free, Running}
 use Rattle.onfi_problem.specs.Problem.{Problem, has_id}
 use Rattle.onfi_problem.specs.Moves.{Move, Next, Start}
+pub use Rattle.onfi_schedule.specs.declared.phase.Phase.{Phase}
 
 -- a group with a start for each of its phases
 pub record Placed : Type 0 where
@@ -21,11 +22,6 @@ pub record Placed : Type 0 where
 pub record Schedule : Type 0 where
   pub rest : List (List ℕ)
   pub groups : List Placed
-
-pub record Phase : Type 0 where
-  pub lun : ℕ
-  pub start : ℕ
-  pub length : ℕ
 
 abbrev pub end_of : Phase → ℕ
 end_of p = p.start + p.length

@@ -1,0 +1,12 @@
+pub mod Sums
+pub mod Steps
+pub mod Parts
+pub mod Firsts
+pub mod Counts
+pub mod Whole
+pub mod BusBound
+pub mod Classes
+pub mod DieBound
+pub mod LeadBound
+pub mod TrailBound
+pub mod Ends

@@ -1,0 +1,80 @@
+-- The bounds from what is read.
+use Rattle.std.proofs.Common.{◌≡◌, ℕ, zero, suc, ◌+◌, ◌≤◌, ◌<◌, ◌⊎◌, inl, inr, true, false, List, [], ◌∷◌, length, map, get_or, Option, Some, None, refl, sym, ap, ◌∙◌, subst, arith}
+use Rattle.std.specs.Prelude.{slice_get, max}
+use Rattle.onfi_timing.specs.declared.timing.Timing.{Timing}
+use Rattle.onfi_timing.specs.Kinds.{spans_of}
+use Rattle.onfi_request.specs.declared.want.Want.{Want}
+use Rattle.onfi_group.specs.declared.rules.Rules.{Rules}
+use Rattle.onfi_problem.specs.declared.lun_state.LunState.{LunState}
+use Rattle.onfi_problem.specs.declared.lun_state.LunState.TheVariants.{Free, Running}
+use Rattle.onfi_problem.specs.Problem.{Problem}
+use Rattle.onfi_problem.specs.Left.{all_posts}
+use Rattle.onfi_bound.specs.declared.chain.Chain.{Chain}
+use Rattle.onfi_bound.specs.Bounds.{on_lun, post_starts, least, lead, wants_work, die_at, die}
+use Rattle.onfi_bound.specs.Parts.{chain_of, chain_starts}
+use Rattle.onfi_bound.proofs.DieBound.{no_work}
+
+-- the first posts
+starts_from : (p : Problem) (first : ℕ) (luns : List LunState) → ((k : ℕ) → slice_get p.luns (first + k) ≡ slice_get luns k) → chain_starts p.timing p.bus_free p.wants first (map (chain_of p.timing) luns) ≡ post_starts p first luns
+starts_from p first [] h = refl
+starts_from p first (x ∷ luns) h =
+    let here : slice_get p.luns first ≡ Some x = subst (λ i. slice_get p.luns i ≡ Some x) (omega arith) (h 0) in
+    let rest = starts_from p (first + 1) luns (λ k. subst (λ i. slice_get p.luns i ≡ slice_get luns k) (omega arith) (h (suc k))) in
+    one x here rest
+  where
+    one : (y : LunState) → slice_get p.luns first ≡ Some y → chain_starts p.timing p.bus_free p.wants (first + 1) (map (chain_of p.timing) luns) ≡ post_starts p (first + 1) luns → chain_starts p.timing p.bus_free p.wants first (map (chain_of p.timing) (y ∷ luns)) ≡ post_starts p first (y ∷ luns)
+    one (Free since) here rest = rw (here, rest) refl
+    one (Running g n r) here rest = rw (here, rest) refl
+
+pub starts_are : (p : Problem) (timing : Timing) (bus_free : ℕ) (chains cs : List Chain) (wants ws : List Want) → timing ≡ p.timing → bus_free ≡ p.bus_free → chains ≡ map (chain_of p.timing) p.luns → wants ≡ p.wants → cs ≡ chains → ws ≡ wants → least (chain_starts timing bus_free ws 0 cs) ≡ least (post_starts p 0 p.luns)
+starts_are p timing bus_free chains cs wants ws t f a b c d = rw (c, a, d, b, t, f) (ap least (starts_from p 0 p.luns (λ k. ap (slice_get p.luns) (omega arith))))
+
+-- the work of a LUN
+die_at_is : (p : Problem) (lun : ℕ) (x : LunState) (ws : List Want) → slice_get p.luns lun ≡ Some x → ((chain_of p.timing x).running ≡ true) ⊎ (1 ≤ wants_work p.timing p.rules ws) → max p.bus_free (chain_of p.timing x).from + (chain_of p.timing x).commands + (chain_of p.timing x).posts + (chain_of p.timing x).waits + wants_work p.timing p.rules ws ≡ die_at p lun ws (Some x)
+die_at_is p lun (Running g n r) ws at h = rw at (omega arith)
+die_at_is p lun (Free since) (w ∷ ws) at h = rw at (omega arith)
+die_at_is p lun (Free since) [] at (inl e) = cc
+die_at_is p lun (Free since) [] at (inr some) = let a = no_work p.timing p.rules in absurd (omega arith)
+
+die_idle : (p : Problem) (lun : ℕ) (x : LunState) (ws : List Want) → (chain_of p.timing x).running ≡ false → wants_work p.timing p.rules ws ≡ 0 → die_at p lun ws (Some x) ≡ p.bus_free
+die_idle p lun (Running g n r) ws e z = cc
+die_idle p lun (Free since) [] e z = refl
+die_idle p lun (Free since) (w ∷ ws) e z = let r = (spans_of p.timing w.kind).in_range in absurd (omega arith)
+
+found : (p : Problem) (lun : ℕ) (chains : List Chain) (d : Chain) → lun < length p.luns → chains ≡ map (chain_of p.timing) p.luns → (x : LunState) × (slice_get p.luns lun ≡ Some x) × (get_or chains lun d ≡ chain_of p.timing x)
+found p lun chains d h e = let x = go p.luns lun h in (x.0, x.1, rw e x.2)
+  where
+    go : (luns : List LunState) (l : ℕ) → l < length luns → (x : LunState) × (slice_get luns l ≡ Some x) × (get_or (map (chain_of p.timing) luns) l d ≡ chain_of p.timing x)
+    go [] l h = absurd (omega arith)
+    go (x ∷ luns) zero h = (x, refl, refl)
+    go (x ∷ luns) (suc l) h = go luns l (omega arith)
+
+pub die_working : (p : Problem) (lun : ℕ) (chains : List Chain) (c d : Chain) (work : ℕ) → lun < length p.luns → chains ≡ map (chain_of p.timing) p.luns → c ≡ get_or chains lun d → work ≡ wants_work p.timing p.rules (on_lun lun p.wants) → (c.running ≡ true) ⊎ (1 ≤ work) → max p.bus_free c.from + c.commands + c.posts + c.waits + work ≡ die p lun
+die_working p lun chains c d work within e at w h =
+    let x = found p lun chains d within e in
+    let q : c ≡ chain_of p.timing x.0 = at ∙ x.2 in
+    let h' : ((chain_of p.timing x.0).running ≡ true) ⊎ (1 ≤ wants_work p.timing p.rules (on_lun lun p.wants)) = rw (q, w) at h in
+    rw (q, w, x.1) (die_at_is p lun x.0 (on_lun lun p.wants) x.1 h')
+
+pub die_nothing : (p : Problem) (lun : ℕ) (chains : List Chain) (c d : Chain) (work : ℕ) → lun < length p.luns → chains ≡ map (chain_of p.timing) p.luns → c ≡ get_or chains lun d → work ≡ wants_work p.timing p.rules (on_lun lun p.wants) → c.running ≡ false → work ≡ 0 → p.bus_free ≡ die p lun
+die_nothing p lun chains c d work within e at w idle z =
+    let x = found p lun chains d within e in
+    let q : c ≡ chain_of p.timing x.0 = at ∙ x.2 in
+    rw x.1 (sym (die_idle p lun x.0 (on_lun lun p.wants) (sym (ap (λ (y : Chain). y.running) q) ∙ idle) (sym w ∙ z)))
+
+-- and of its first post
+pub lead_some : (p : Problem) (start posts : ℕ) (o : Option ℕ) → o ≡ least (post_starts p 0 p.luns) → Some start ≡ o → posts ≡ all_posts p → start + posts ≡ lead p
+lead_some p start posts o a b c = let e : least (post_starts p 0 p.luns) ≡ Some start = sym (b ∙ a) in rw (e, c) refl
+
+pub lead_none : (p : Problem) (o : Option ℕ) → o ≡ least (post_starts p 0 p.luns) → None ≡ o → p.bus_free ≡ lead p
+lead_none p o a b = let e : least (post_starts p 0 p.luns) ≡ None = sym (b ∙ a) in rw e refl
+
+pub work_is : (p : Problem) (lun : ℕ) (timing : Timing) (rules : Rules) (wants ws : List Want) (work : ℕ) → timing ≡ p.timing → rules ≡ p.rules → wants ≡ p.wants → ws ≡ wants → work ≡ wants_work timing rules (on_lun lun ws) → work ≡ wants_work p.timing p.rules (on_lun lun p.wants)
+work_is p lun timing rules wants ws work t r a b w = w ∙ rw (b, a, t, r) refl
+
+pub there : (p : Problem) (lun : ℕ) (chains : List Chain) → lun < length p.luns → chains ≡ map (chain_of p.timing) p.luns → lun < length chains
+there p lun chains h e = rw (e, length_map (chain_of p.timing) p.luns) h
+  where
+    length_map : (f : LunState → Chain) (xs : List LunState) → length (map f xs) ≡ length xs
+    length_map f [] = refl
+    length_map f (x ∷ xs) = ap suc (length_map f xs)

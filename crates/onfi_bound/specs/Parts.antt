@@ -1,0 +1,79 @@
+-- What the bounds are read from: what is left of each running group, and sums over all LUNs.
+use Rattle.std.specs.Prelude.{◌≡◌, ℕ, ◌+◌, ◌^◌, ◌<◌, ◌≤◌, ◌==◌, max, min, nat_lt, Bool, true, false, if◌then◌else◌, List, [], ◌∷◌, ◌++◌, length, map, Option, Some, None}
+use Rattle.onfi_timing.specs.declared.kind.Kind.{Kind}
+use Rattle.onfi_timing.specs.declared.kind.Kind.TheVariants.{Read, Program, Erase}
+use Rattle.onfi_timing.specs.declared.spans.Spans.{Spans}
+use Rattle.onfi_timing.specs.declared.timing.Timing.{Timing}
+use Rattle.onfi_timing.specs.Kinds.{spans_of}
+use Rattle.onfi_request.specs.declared.want.Want.{Want}
+use Rattle.onfi_group.specs.declared.rules.Rules.{Rules}
+use Rattle.onfi_group.specs.Words.{number}
+use Rattle.onfi_group.specs.Group.{kind_of, group_spans}
+use Rattle.onfi_problem.specs.declared.lun_state.LunState.{LunState}
+use Rattle.onfi_problem.specs.declared.lun_state.LunState.TheVariants.{Free, Running}
+use Rattle.onfi_problem.specs.Problem.{Problem}
+use Rattle.onfi_problem.specs.Left.{command_time, post_time, waits_left, all_commands, all_posts, InLimits}
+use Rattle.onfi_bound.specs.declared.chain.Chain.{Chain}
+use Rattle.onfi_bound.specs.declared.kinds.Kinds.{Kinds}
+use Rattle.onfi_bound.specs.declared.left.Left.{Left}
+use Rattle.onfi_bound.specs.Bounds.{same_kind, page_class, above_class, on_plane, deepest, on_lun, least, plus_each, has_command}
+
+-- what is left of a LUN's running group
+abbrev pub chain_of : Timing → LunState → Chain
+chain_of timing (Free since) = record { running = false; from = since; commands = 0; posts = 0; waits = 0; command = None }
+chain_of timing (Running group next ready) = record {
+  running = true;
+  from = ready;
+  commands = command_time timing (Running group next ready);
+  posts = post_time timing (Running group next ready);
+  waits = waits_left (group_spans timing group) (length group) next;
+  command = if nat_lt next (length group) then Some (kind_of group) else None;
+}
+
+-- no sum of what eight LUNs and eight wants have left leaves 64 bits
+pub record IsShort (chain : Chain) : Type 0 where
+  pub from : chain.from < 2 ^ 62
+  pub commands : chain.commands ≤ 2 ^ 52
+  pub posts : chain.posts ≤ 2 ^ 52
+  pub waits : chain.waits ≤ 2 ^ 52
+
+abbrev pub is_kind : Kind → Option Kind → Bool
+is_kind kind None = false
+is_kind kind (Some other) = same_kind kind other
+
+abbrev pub has_kind : Kinds → Kind → Bool
+has_kind kinds Read = kinds.read
+has_kind kinds Program = kinds.program
+has_kind kinds Erase = kinds.erase
+
+-- how long to the first post
+abbrev pub chain_to_post : Timing → List Want → Chain → Option ℕ
+chain_to_post timing wants chain = if chain.running then Some (chain.commands + chain.waits) else least (map (λ w. (spans_of timing w.kind).cmd + (spans_of timing w.kind).array) wants)
+
+-- the first post starts of the LUNs from number `lun` on
+abbrev pub chain_starts : Timing → ℕ → List Want → ℕ → List Chain → List ℕ
+chain_starts timing bus_free wants lun [] = []
+chain_starts timing bus_free wants lun (chain ∷ chains) = plus_each (max bus_free chain.from) (chain_to_post timing (on_lun lun wants) chain) ++ chain_starts timing bus_free wants (lun + 1) chains
+
+-- how many of a want's class are on each plane
+abbrev pub plane_counts : Rules → Want → List Want → List ℕ
+plane_counts rules w ws =
+    let count = λ (plane : ℕ). number (on_plane rules w.kind (page_class w) (above_class rules w) plane) ws in
+    count 0 ∷ count 1 ∷ count 2 ∷ count 3 ∷ []
+
+-- the wait that a want adds to those before it: an array where its plane becomes the deepest of its class
+abbrev pub added_wait : Spans → Rules → List Want → Want → ℕ
+added_wait spans rules ws w =
+    if number (on_plane rules w.kind (page_class w) (above_class rules w) w.plane) ws == deepest rules w.kind (page_class w) (above_class rules w) ws
+    then spans.array
+    else min spans.gap spans.array
+
+-- all that the bounds of a problem are read from
+pub record IsLeft (p : Problem) (left : Left) : Type 0 where
+  pub limits : InLimits p
+  pub bus_free : left.bus_free ≡ p.bus_free
+  pub chains : left.chains.items ≡ map (chain_of p.timing) p.luns
+  pub wants : left.wants.items ≡ p.wants
+  pub commands : left.sums.commands ≡ all_commands p
+  pub posts : left.sums.posts ≡ all_posts p
+  pub kinds : (kind : Kind) → has_kind left.sums.kinds kind ≡ has_command p kind

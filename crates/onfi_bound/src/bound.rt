@@ -1,0 +1,14 @@
+ghost use Rattle.std.specs.Prelude.{◌≡◌};
+
+/// One of the bounds, in the order in which they are tried.
+#[derive(Clone, Copy, Debug, PartialEq, Eq)]
+pub enum Bound {
+    /// What is left takes the bus one phase after another.
+    Bus,
+    /// All posts stand behind the first one.
+    Lead,
+    /// Behind the last command stand its array and a post.
+    Trail,
+    /// The LUN of that number does all that is left to it, one group after another.
+    Die(u8),
+}

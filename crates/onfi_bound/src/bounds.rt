@@ -1,0 +1,113 @@
+ghost use Rattle.std.specs.Prelude.{◌≡◌, ℕ, ◌+◌, ◌^◌, ◌<◌, ◌≤◌, length, Option, Some, None, if◌then◌else◌, IfSome};
+ghost use Rattle.onfi_bound.specs.Bounds.{bus, lead, trail, die, least_with};
+ghost use Rattle.onfi_bound.specs.Parts.{IsLeft};
+
+use crate::left::Left;
+use crate::posts::{first_post, least_of};
+use crate::waits::work_of_wants;
+use onfi_problem::Problem;
+use onfi_timing::Spans;
+
+/// The bus bound, in ns of the channel's clock: when the bus is free, plus all phases that are left.
+pub fn bus(problem: &Problem) -> u64
+    ensures value { result ≡ bus problem.now.problem }
+    ensures small { result < 2 ^ 62 }
+{
+    Left::of(problem).bus(problem)
+}
+
+/// The lead bound, in ns of the channel's clock: the least first post start of the LUNs that have something left, plus
+/// all posts that are left; where nothing is left it is when the bus is free.
+pub fn lead(problem: &Problem) -> u64
+    ensures value { result ≡ lead problem.now.problem }
+    ensures small { result < 2 ^ 62 }
+{
+    Left::of(problem).lead(problem)
+}
+
+/// The trail bound, in ns of the channel's clock: when the bus is free, plus all commands that are left, plus the least
+/// array time and post of a kind that has a command left; None where no command is left.
+pub fn trail(problem: &Problem) -> Option<u64>
+    ensures value { result ≡ trail problem.now.problem }
+    ensures small { IfSome result (λ t. t < 2 ^ 62) }
+{
+    Left::of(problem).trail(problem)
+}
+
+/// The die bound of a LUN that is there, in ns of the channel's clock: from when the LUN may go on, plus the rest of
+/// its running group with waits, plus the phases and waits of its wants, grouped as the planes of each class of wants
+/// allow at best; where the LUN has nothing left it is when the bus is free.
+pub fn die(problem: &Problem, lun: u8) -> u64
+    requires { lun < length problem.now.problem.luns }
+    ensures value { result ≡ die problem.now.problem lun }
+    ensures small { result < 2 ^ 62 }
+{
+    Left::of(problem).die(problem, lun)
+}
+
+impl Left {
+    /// The bus bound.
+    pub fn bus(&self, problem: &Problem) -> u64
+        requires { IsLeft problem.now.problem self.now }
+        ensures value { result ≡ bus problem.now.problem }
+        ensures small { result < 2 ^ 62 }
+    {
+        self.bus_free + self.sums.commands + self.sums.posts
+    }
+
+    /// The lead bound.
+    pub fn lead(&self, problem: &Problem) -> u64
+        requires { IsLeft problem.now.problem self.now }
+        ensures value { result ≡ lead problem.now.problem }
+        ensures small { result < 2 ^ 62 }
+    {
+        let timing = problem.timing();
+        match first_post(&timing, self.bus_free, &self.chains, &self.wants) {
+            Some(start) => start + self.sums.posts,
+            None => self.bus_free,
+        }
+    }
+
+    /// The trail bound, where a command is left.
+    pub fn trail(&self, problem: &Problem) -> Option<u64>
+        requires { IsLeft problem.now.problem self.now }
+        ensures value { result ≡ trail problem.now.problem }
+        ensures small { IfSome result (λ t. t < 2 ^ 62) }
+    {
+        let timing = problem.timing();
+        let kinds = self.sums.kinds;
+        let rest = behind_command(kinds.erase, &timing.erase, None);
+        let rest = behind_command(kinds.program, &timing.program, rest);
+        let rest = behind_command(kinds.read, &timing.read, rest)?;
+        Some(self.bus_free + self.sums.commands + rest)
+    }
+
+    /// The die bound of a LUN.
+    pub fn die(&self, problem: &Problem, lun: u8) -> u64
+        requires left { IsLeft problem.now.problem self.now }
+        requires there { lun < length problem.now.problem.luns }
+        ensures value { result ≡ die problem.now.problem lun }
+        ensures small { result < 2 ^ 62 }
+    {
+        let chain = self.chains[lun as usize];
+        let (timing, rules) = (problem.timing(), problem.rules());
+        let work = work_of_wants(&timing, &rules, &self.wants, lun);
+        if !chain.running && work == 0 {
+            return self.bus_free;
+        }
+        chain.done_by(self.bus_free, work)
+    }
+}
+
+/// The lesser of what is behind a command of this kind, where one is left, and what is behind others.
+fn behind_command(left: bool, spans: &Spans, others: Option<u64>) -> Option<u64>
+    requires { IfSome others (λ rest. rest < 2 ^ 51) }
+    ensures value { result ≡ (if left then Some (least_with (spans.now.array + spans.now.post) others) else others) }
+    ensures short { IfSome result (λ rest. rest < 2 ^ 51) }
+{
+    if left {
+        Some(least_of(spans.array + spans.post, others))
+    } else {
+        others
+    }
+}

@@ -1,0 +1,81 @@
+ghost use Rattle.std.specs.Prelude.{◌≡◌, ◌+◌, ◌^◌, ◌<◌, ◌≤◌, max, length};
+ghost use Rattle.onfi_problem.specs.declared.lun_state.LunState.TheVariants.{Running};
+ghost use Rattle.onfi_problem.specs.Position.{state_of};
+ghost use Rattle.onfi_bound.specs.Parts.{chain_of, IsShort};
+
+use onfi_group::Group;
+use onfi_problem::Lun;
+use onfi_timing::{Kind, Timing};
+
+/// What is left of a LUN's running group, in ns; where it is free only `from` is not 0.
+#[derive(Clone, Copy, Debug, Default, PartialEq, Eq)]
+pub struct Chain {
+    /// Whether a group runs on the LUN.
+    pub running: bool,
+    /// From when on the LUN may go on.
+    pub from: u64,
+    /// The commands that are left.
+    pub commands: u64,
+    /// The posts that are left.
+    pub posts: u64,
+    /// The waits between the phases that are left.
+    pub waits: u64,
+    /// The kind of the next phase, where that is a command.
+    pub command: Option<Kind>,
+}
+
+impl Chain {
+    /// What is left of what a LUN does.
+    pub fn of(timing: &Timing, groups: &[Group], lun: Lun) -> Chain
+        requires { 1 ≤ lun.next → lun.place < length groups.now }
+        ensures { result ≡ chain_of timing.now (state_of groups.now lun) }
+    {
+        if lun.next == 0 {
+            return Chain {
+                running: false,
+                from: lun.time,
+                commands: 0,
+                posts: 0,
+                waits: 0,
+                command: None,
+            };
+        }
+        let group = &groups[lun.place as usize];
+        Chain::of_group(timing, group, lun.next, lun.time)
+    }
+
+    /// What is left of a group of which phase `next` comes next, from `ready` on.
+    fn of_group(timing: &Timing, group: &Group, next: u8, ready: u64) -> Chain
+        ensures { result ≡ chain_of timing.now (Running group.now next ready) }
+    {
+        let spans = timing.spans(group.kind());
+        let members = group.len() as u64;
+        let next = next as u64;
+        let (waits, command) = if next < members {
+            (
+                (members - 1 - next) * spans.gap + spans.array,
+                Some(group.kind()),
+            )
+        } else {
+            (0, None)
+        };
+        Chain {
+            running: true,
+            from: ready,
+            commands: members.saturating_sub(next) * spans.cmd,
+            posts: (2 * members).saturating_sub(next.max(members)) * spans.post,
+            waits,
+            command,
+        }
+    }
+
+    /// When the LUN is done at the earliest with this and so much more work, in ns.
+    pub fn done_by(&self, bus_free: u64, work: u64) -> u64
+        requires bus_free { bus_free < 2 ^ 62 }
+        requires short { IsShort self.now }
+        requires work { work ≤ 2 ^ 55 }
+        ensures { result ≡ max bus_free self.now.from + self.now.commands + self.now.posts + self.now.waits + work }
+    {
+        bus_free.max(self.from) + self.commands + self.posts + self.waits + work
+    }
+}

@@ -1,0 +1,19 @@
+//! Lower bounds: four numbers that no legal schedule of a problem ends before.
+#![tactic(auto)]
+
+mod bound;
+mod bounds;
+mod chain;
+mod kinds;
+pub mod laws;
+mod left;
+mod posts;
+mod reaching;
+mod waits;
+
+pub use bound::Bound;
+pub use bounds::{bus, die, lead, trail};
+pub use reaching::{closing, reaches};
+
+#[cfg(test)]
+mod tests;

@@ -1,0 +1,31 @@
+-- Lists and their maps.
+use Rattle.std.proofs.Common.{◌≡◌, ℕ, zero, suc, ◌+◌, ◌<◌, ◌≤◌, List, [], ◌∷◌, length, get_or, map, Some, refl, ap, arith, length-set, drop}
+use Rattle.std.specs.Prelude.{slice_get, slice_set, IfSome}
+use Rattle.std.specs.List.{refill, AllByRecursion as All}
+use Rattle.std.proofs.lemmas.List.{take_at}
+
+pub map_set : {A B : Type 0} (f : A → B) (xs : List A) (i : ℕ) (v : A) → map f (slice_set xs i v) ≡ slice_set (map f xs) i (f v)
+map_set f [] i v = refl
+map_set f (x ∷ xs) zero v = refl
+map_set f (x ∷ xs) (suc i) v = ap (λ z. f x ∷ z) (map_set f xs i v)
+
+pub map_get : {A B : Type 0} (f : A → B) (xs : List A) (i : ℕ) (x : A) → slice_get xs i ≡ Some x → slice_get (map f xs) i ≡ Some (f x)
+map_get f [] i x h = cc
+map_get f (y ∷ xs) zero x h = let e : y ≡ x = cc in ap (λ z. Some (f z)) e
+map_get f (y ∷ xs) (suc i) x h = map_get f xs i x h
+
+-- what a read finds where the mapped list has an element
+pub map_found : {A B : Type 0} (f : A → B) (xs : List A) (i : ℕ) (d : A) (y : B) → slice_get (map f xs) i ≡ Some y → f (get_or xs i d) ≡ y
+map_found f [] i d y h = cc
+map_found f (z ∷ xs) zero d y h = cc
+map_found f (z ∷ xs) (suc i) d y h = map_found f xs i d y h
+
+-- what an inline list holds after one element was written
+pub refilled : {A : Type 0} (xs ys : List A) (i : ℕ) (v : A) → ys ≡ xs → refill (length xs) xs (slice_set ys i v) ≡ slice_set xs i v
+refilled xs ys i v e = rw e (take_at (slice_set xs i v) (drop (length (slice_set xs i v)) xs) (length xs) (length-set xs i v))
+
+-- what holds of all holds of one by its place
+pub some_of_all : {A : Type 0} (P : A → Type 0) (xs : List A) (i : ℕ) → All P xs → IfSome (slice_get xs i) P
+some_of_all P [] i h = tt
+some_of_all P (x ∷ xs) zero h = h.0
+some_of_all P (x ∷ xs) (suc i) h = some_of_all P xs i h.1

@@ -1,0 +1,158 @@
+-- The words of the functions that test the conditions say that a schedule is legal.
+use Rattle.std.proofs.Common.{◌≡◌, ℕ, zero, suc, ◌+◌, ◌*◌, ◌≤◌, ◌↔◌, ◌⊎◌, List, [], ◌∷◌, ◌++◌, length, Some, inl, inr, refl, sym, ap, ◌∙◌, subst, arith}
+use Rattle.std.specs.Prelude.{slice_get}
+use Rattle.std.specs.List.{AllByRecursion as All, flat_map}
+use Rattle.onfi_timing.specs.declared.timing.Timing.{Timing}
+use Rattle.onfi_request.specs.declared.want.Want.{Want}
+use Rattle.onfi_group.specs.declared.rules.Rules.{Rules}
+use Rattle.onfi_group.specs.Words.{Has, Pairs, number}
+use Rattle.onfi_group.specs.Group.{lun_of, group_spans, IsGroup}
+use Rattle.onfi_problem.specs.Problem.{Problem, IsProblem, has_id}
+use Rattle.onfi_problem.specs.Left.{InLimits}
+use Rattle.onfi_problem.specs.declared.lun_state.LunState.{LunState}
+use Rattle.onfi_problem.specs.declared.lun_state.LunState.TheVariants.{Free, Running}
+use Rattle.onfi_problem.proofs.Perm.{All-append, All-has, All-each, All-weaker, All-flat_map}
+use Rattle.onfi_problem.proofs.Wants.{Pairs-weaker, number_has, some_with_id, one_with_id}
+use Rattle.onfi_schedule.specs.Schedule.{Placed, Schedule, IsSchedule, Legal, all_members, rest_of, phases_left, group_phases, InOrder, Before, StartsFrom, KeepsBlockOrder}
+use Rattle.onfi_schedule.specs.Conditions.{HasShape, KeepsBus, KeepsWaits, KeepsTurns, KeepsGroups, EachRest, StateFits, StateWaits, StateSince, LeftFirst, FromSince, HoldsOnce, InBlockOrder, HoldersEnd, EndsBefore, MembersAmong, id_count, start_count}
+use Rattle.onfi_schedule.proofs.Room.{id_count_is, members_among, few_starts}
+
+-- at one LUN, and from each
+each_at : (P : LunState → List ℕ → Type 0) (luns : List LunState) (rest : List (List ℕ)) (i : ℕ) (state : LunState) (ts : List ℕ) → EachRest P luns rest → slice_get luns i ≡ Some state → slice_get rest i ≡ Some ts → P state ts
+each_at P [] rest i state ts h e k = cc
+each_at P (x ∷ luns) [] i state ts h e k = cc
+each_at P (x ∷ luns) (us ∷ rest) zero state ts h e k =
+    let a : x ≡ state = cc in
+    let b : us ≡ ts = cc in
+    subst (λ (z : LunState). P z ts) a (subst (λ (z : List ℕ). P x z) b h.0)
+each_at P (x ∷ luns) (us ∷ rest) (suc i) state ts h e k = each_at P luns rest i state ts h.1 e k
+
+each_from : (P : LunState → List ℕ → Type 0) (luns : List LunState) (rest : List (List ℕ)) → ((i : ℕ) (state : LunState) (ts : List ℕ) → slice_get luns i ≡ Some state → slice_get rest i ≡ Some ts → P state ts) → EachRest P luns rest
+each_from P [] rest h = tt
+each_from P (x ∷ luns) [] h = tt
+each_from P (x ∷ luns) (us ∷ rest) h = (h 0 x us refl refl, each_from P luns rest (λ i. h (suc i)))
+
+all_flat : {A B : Type 0} (P : B → Type 0) (f : A → List B) (xs : List A) → All (λ x. All P (f x)) xs → All P (flat_map f xs)
+all_flat P f [] h = tt
+all_flat P f (x ∷ xs) h = All-append P (f x) (flat_map f xs) h.0 (all_flat P f xs h.1)
+
+none_or_some : (n : ℕ) → (n ≡ 0) ⊎ (1 ≤ n)
+none_or_some n = grind arith
+
+module _ (p : Problem) (s : Schedule) (ip : IsProblem p) where
+  fits_of : IsSchedule p s → (i : ℕ) (state : LunState) (ts : List ℕ) → slice_get p.luns i ≡ Some state → slice_get s.rest i ≡ Some ts → StateFits state ts
+  fits_of sh i (Free since) ts e k = sh.no_rest i since ts e k
+  fits_of sh i (Running g n r) ts e k = sh.rest i g n r ts e k
+
+  -- no other member has the id of a want
+  once_of : HasShape p.luns p.wants s → (id : ℕ) → number (has_id id) (all_members s.groups) ≡ number (has_id id) p.wants
+  once_of sh id =
+      let ms = all_members s.groups in
+      let among = members_among p.wants s.groups sh.members in
+      let there : 1 ≤ number (has_id id) p.wants → number (has_id id) ms ≡ number (has_id id) p.wants = λ k. (
+        let w = some_with_id p.wants id k in
+        let a = All-has (HoldsOnce s.groups) p.wants w.0 sh.once w.1 in
+        let b = id_count_is s.groups w.0.id in
+        let c = one_with_id p.wants w.0 ip.ids w.1 in
+        let same = w.2 in
+        let d : number (has_id w.0.id) ms ≡ number (has_id w.0.id) p.wants = omega arith in
+        subst (λ (i : ℕ). number (has_id i) ms ≡ number (has_id i) p.wants) same d) in
+      let back : 1 ≤ number (has_id id) ms → 1 ≤ number (has_id id) p.wants = λ k. (
+        let m = some_with_id ms id k in
+        let e = number_has p.wants m.0 (All-has (Has p.wants) ms m.0 among m.1) in
+        subst (λ (i : ℕ). 1 ≤ number (has_id i) p.wants) m.2 e) in
+      elim (none_or_some (number (has_id id) p.wants)) [
+        | inl none ↦ elim (none_or_some (number (has_id id) ms)) [ inl e ↦ e ∙ sym none | inr k ↦ (let b = back k in absurd (omega arith)) ]
+        | inr k ↦ there k
+      ]
+
+  shape_to : HasShape p.luns p.wants s → IsSchedule p s
+  shape_to sh = record {
+    luns = sh.luns;
+    rest = λ i g n r ts e k. each_at StateFits p.luns s.rest i (Running g n r) ts sh.rest e k;
+    no_rest = λ i since ts e k. each_at StateFits p.luns s.rest i (Free since) ts sh.rest e k;
+    starts = sh.starts;
+    wants_only = members_among p.wants s.groups sh.members;
+    once = once_of sh;
+  }
+
+  shape_from : IsSchedule p s → HasShape p.luns p.wants s
+  shape_from sh = record {
+    luns = sh.luns;
+    rest = each_from StateFits p.luns s.rest (fits_of sh);
+    starts = sh.starts;
+    members = All-flat_map (Has p.wants) (λ g. g.members) s.groups sh.wants_only;
+    once = All-each (HoldsOnce s.groups) p.wants (λ w k. id_count_is s.groups w.id ∙ sh.once w.id ∙ one_with_id p.wants w ip.ids k);
+  }
+
+  waits_of : Legal p s → (i : ℕ) (state : LunState) (ts : List ℕ) → slice_get p.luns i ≡ Some state → slice_get s.rest i ≡ Some ts → StateWaits p.timing state ts
+  waits_of lg i (Free since) ts e k = tt
+  waits_of lg i (Running g n r) ts e k = lg.rest_waits i g n r ts e k
+
+  abbrev RunningFirst : Placed → Type 0
+  RunningFirst g = (group : List Want) (next ready : ℕ) (starts : List ℕ) → slice_get p.luns (lun_of g.members) ≡ Some (Running group next ready) → rest_of s (lun_of g.members) ≡ Some starts → Before (phases_left p.timing (lun_of g.members) (Running group next ready) starts) (group_phases p.timing g)
+
+  left_from : (g : Placed) → RunningFirst g → LeftFirst p.timing p.luns s.rest g
+  left_from g h (Free since) ts e k = tt
+  left_from g h (Running group n r) ts e k = h group n r ts e k
+
+  abbrev Since : Placed → Type 0
+  Since g = (since : ℕ) → slice_get p.luns (lun_of g.members) ≡ Some (Free since) → StartsFrom since g.starts
+
+  since_from : (g : Placed) → Since g → FromSince p.luns g
+  since_from g h (Free since) e = h since e
+  since_from g h (Running group n r) e = tt
+
+  order_to : (a b : Want) → InBlockOrder p.timing s.groups a b → KeepsBlockOrder p.timing s.groups a b
+  order_to a b o el eb g h hg hh ma mb = All-has _ s.groups h (All-has _ s.groups g (o.holders_end el eb) hg ma) hh mb
+
+  order_from : (a b : Want) → KeepsBlockOrder p.timing s.groups a b → InBlockOrder p.timing s.groups a b
+  order_from a b o = record { holders_end = λ el eb. All-each _ s.groups (λ g hg ma. All-each _ s.groups (λ h hh mb. o el eb g h hg hh ma mb)) }
+
+  legal_to : HasShape p.luns p.wants s → KeepsBus p.timing p.bus_free p.luns s → KeepsWaits p.timing p.luns s → KeepsTurns p.timing p.luns s → KeepsGroups p.timing p.rules p.wants s → Legal p s
+  legal_to sh bus waits turns groups = record {
+    shape = shape_to sh;
+    from_bus_free = bus.from_bus_free;
+    no_overlap = bus.no_overlap;
+    rest_waits = λ i g n r ts e k. each_at (StateWaits p.timing) p.luns s.rest i (Running g n r) ts waits.rest_waits e k;
+    waits = waits.groups_wait;
+    running_first = All-weaker (LeftFirst p.timing p.luns s.rest) RunningFirst (λ g h group n r ts e k. h (Running group n r) ts e k) s.groups turns.left_first;
+    turns = turns.turns;
+    from_since = All-weaker (FromSince p.luns) Since (λ g h since e. h (Free since) e) s.groups turns.from_since;
+    block_order = Pairs-weaker _ _ order_to p.wants groups.block_order;
+    group = groups.group;
+  }
+
+  waits_from : Legal p s → KeepsWaits p.timing p.luns s
+  waits_from lg = record { rest_waits = each_from (StateWaits p.timing) p.luns s.rest (waits_of lg); groups_wait = lg.waits }
+
+  turns_from : Legal p s → KeepsTurns p.timing p.luns s
+  turns_from lg = record {
+    left_first = All-weaker RunningFirst (LeftFirst p.timing p.luns s.rest) left_from s.groups lg.running_first;
+    turns = lg.turns;
+    from_since = All-weaker Since (FromSince p.luns) since_from s.groups lg.from_since;
+  }
+
+  groups_from : Legal p s → KeepsGroups p.timing p.rules p.wants s
+  groups_from lg = record { block_order = Pairs-weaker _ _ order_from p.wants lg.block_order; group = lg.group }
+
+abbrev pub Keeps : Timing → Rules → ℕ → List LunState → List Want → Schedule → Type 0
+Keeps timing rules bus_free luns wants s = KeepsBus timing bus_free luns s × KeepsWaits timing luns s × KeepsTurns timing luns s × KeepsGroups timing rules wants s
+
+-- once the shape is right, what is tested further says that the schedule is legal
+pub legal_is : (p : Problem) (s : Schedule) (timing : Timing) (rules : Rules) (bus_free : ℕ) (luns : List LunState) (wants : List Want) → IsProblem p → timing ≡ p.timing → rules ≡ p.rules → bus_free ≡ p.bus_free → luns ≡ p.luns → wants ≡ p.wants → HasShape luns wants s → Keeps timing rules bus_free luns wants s ↔ Legal p s
+legal_is p s timing rules bus_free luns wants ip et er eb el ew shape =
+    let sh : HasShape p.luns p.wants s = rw (← el, ← ew) shape in
+    rw (et, er, eb, el, ew)
+    (λ h. legal_to p s ip sh h.0 h.1 h.2 h.3, λ lg. (record { from_bus_free = lg.from_bus_free; no_overlap = lg.no_overlap }, waits_from p s ip lg, turns_from p s ip lg, groups_from p s ip lg))
+
+pub legal_shape : (p : Problem) (s : Schedule) (luns : List LunState) (wants : List Want) → IsProblem p → luns ≡ p.luns → wants ≡ p.wants → Legal p s → HasShape luns wants s
+legal_shape p s luns wants ip el ew lg = rw (el, ew) (shape_from p s ip lg.shape)
+
+-- a legal schedule has few starts
+pub few_starts_of : (p : Problem) (s : Schedule) → InLimits p → Legal p s → start_count s.groups ≤ 16
+few_starts_of p s limits lg = few_starts p.luns p.wants s limits.problem.ids limits.small.wants (shape_from p s limits.problem lg.shape)
+
+-- .. and its running groups as many as they have phases left
+pub rest_fits_of : (p : Problem) (s : Schedule) (luns : List LunState) (rest : List (List ℕ)) → IsProblem p → luns ≡ p.luns → rest ≡ s.rest → Legal p s → EachRest StateFits luns rest
+rest_fits_of p s luns rest ip el er lg = rw (el, er) ((shape_from p s ip lg.shape).rest)

@@ -1,0 +1,119 @@
+//! The lines of a trace.
+
+ghost use Rattle.std.specs.Prelude.{◌≡◌, ◌++◌, IfOk, OnOk, string_bytes};
+ghost use Rattle.onfi_schedule.specs.Trace.{kind_word, part_word, opener_word, closer_word, times_text, work_text, place_text, bytes_text, line_text};
+
+use onfi_request::Want;
+use onfi_timing::Kind;
+use std::alloc::{AllocError, Global};
+
+/// The part of an operation that a phase is.
+#[derive(Clone, Copy, Debug, Default, PartialEq, Eq)]
+pub(crate) enum Part {
+    /// The command with its address and data.
+    #[default]
+    Command,
+    /// The data output, or the status.
+    Post,
+}
+
+/// A phase as a trace tells of it.
+#[derive(Clone, Copy, Debug, Default, PartialEq, Eq)]
+pub(crate) struct TraceLine {
+    pub(crate) start: u64,
+    pub(crate) end: u64,
+    pub(crate) lun: u8,
+    pub(crate) part: Part,
+    pub(crate) want: Want,
+    /// Whether it is the command of the last plane of its group.
+    pub(crate) last: bool,
+}
+
+impl TraceLine {
+    /// Puts the line behind a text; where memory is refused, the text is longer by a part of it.
+    pub(crate) fn push_to(&self, alloc: Global, text: &mut Vec<u8>) -> Result<(), AllocError>
+        ensures { OnOk result (text.new.items ≡ text.old.items ++ line_text self.now) }
+    {
+        text.extend_from_slice(self.times(alloc)?.as_bytes())?;
+        text.extend_from_slice(self.work(alloc)?.as_bytes())?;
+        text.extend_from_slice(self.place(alloc)?.as_bytes())?;
+        text.extend_from_slice(self.bytes(alloc)?.as_bytes())?;
+        Ok(())
+    }
+
+    fn times(&self, alloc: Global) -> Result<String, AllocError>
+        ensures { IfOk result (λ s. string_bytes s ≡ times_text self.now) }
+    {
+        let start = self.start;
+        let end = self.end;
+        let lun = self.lun;
+        format!(in alloc; "{start} {end} {lun} ")
+    }
+
+    fn work(&self, alloc: Global) -> Result<String, AllocError>
+        ensures { IfOk result (λ s. string_bytes s ≡ work_text self.now) }
+    {
+        let kind = kind_word(self.want.kind);
+        let part = part_word(self.part);
+        format!(in alloc; "{kind} {part} ")
+    }
+
+    fn place(&self, alloc: Global) -> Result<String, AllocError>
+        ensures { IfOk result (λ s. string_bytes s ≡ place_text self.now) }
+    {
+        let block = self.want.block;
+        let page = self.want.page;
+        format!(in alloc; "{block} {page} ")
+    }
+
+    fn bytes(&self, alloc: Global) -> Result<String, AllocError>
+        ensures { IfOk result (λ s. string_bytes s ≡ bytes_text self.now) }
+    {
+        let opener = opener_word(self.want.kind, self.part);
+        let closer = closer_word(self.want.kind, self.part, self.last);
+        format!(in alloc; "{opener} {closer}\n")
+    }
+}
+
+fn kind_word(kind: Kind) -> &'static str
+    ensures { result.now ≡ kind_word kind }
+{
+    match kind {
+        Kind::Read => "read",
+        Kind::Program => "program",
+        Kind::Erase => "erase",
+    }
+}
+
+fn part_word(part: Part) -> &'static str
+    ensures { result.now ≡ part_word part }
+{
+    match part {
+        Part::Command => "cmd",
+        Part::Post => "post",
+    }
+}
+
+fn opener_word(kind: Kind, part: Part) -> &'static str
+    ensures { result.now ≡ opener_word kind part }
+{
+    match (part, kind) {
+        (Part::Command, Kind::Read) => "00",
+        (Part::Command, Kind::Program) => "80",
+        (Part::Command, Kind::Erase) => "60",
+        (Part::Post, Kind::Read) => "06",
+        (Part::Post, _) => "78",
+    }
+}
+
+fn closer_word(kind: Kind, part: Part, last: bool) -> &'static str
+    ensures { result.now ≡ closer_word kind part last }
+{
+    match (part, kind) {
+        (Part::Command, Kind::Read) => if last { "30" } else { "32" },
+        (Part::Command, Kind::Program) => if last { "10" } else { "11" },
+        (Part::Command, Kind::Erase) => if last { "D0" } else { "D1" },
+        (Part::Post, Kind::Read) => "E0",
+        (Part::Post, _) => "-",
+    }
+}
