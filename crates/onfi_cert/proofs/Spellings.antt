@@ -1,0 +1,179 @@
+-- Which words are tokens.
+use Rattle.std.proofs.Common.{◌≡◌, ◌<◌, ◌≤◌, ℕ, ◌+◌, ◌-◌, ◌*◌, ◌/◌, ◌%◌, List, [], ◌∷◌, ◌++◌, Bool, true, false, cond, refl, sym, ap, ◌∙◌, subst, arith, inl, inr}
+use Rattle.std.specs.Prelude.{Option, Some, None, ◌==◌, ◌&&◌, nat_le}
+use Rattle.std.proofs.lemmas.Bool.{cases_lt, lt-ltb, le-ltb, le-leb, leb-true, eqb-true, ne_eqb, and_parts}
+use Rattle.onfi_cert.specs.declared.token.Token.{Token}
+use Rattle.onfi_cert.specs.declared.token.Token.TheVariants as tk
+use Rattle.onfi_cert.specs.Text.{InRange, digit, number, spelling}
+use Rattle.onfi_cert.specs.Word.{is_separator, is_within, letter_token, lun_at, lun_token, narrow, numbered, token_of, wide, word, behind_word, NoToken}
+use Rattle.onfi_cert.proofs.Words.{Ends, Plain, word-append, behind_word-append, word-behind_word}
+
+within : (low b high : ℕ) → low ≤ b → b ≤ high → is_within low b high ≡ true
+within low b high h k = rw (le-leb low b h, le-leb b high k)
+
+plain_digit : (n : ℕ) → is_separator (digit n) ≡ false
+plain_digit n = rw (ne_eqb (48 + n) 32 (λ e. omega arith), ne_eqb (48 + n) 10 (λ e. omega arith))
+
+plain_number : (n : ℕ) → Plain (number n)
+plain_number n =
+    elim (cases_lt n 10) [
+      | inl h ↦ rw (lt-ltb n 10 h) (plain_digit n, tt)
+      | inr h ↦ rw (le-ltb n 10 h) (plain_digit (n / 10), (plain_digit (n % 10), tt))
+    ]
+
+-- no spelling has a space or LF in it
+pub plain : (t : Token) → Plain (spelling t)
+plain (tk.Branch n) = (refl, plain_number n)
+plain tk.Bus = (refl, tt)
+plain tk.Lead = (refl, tt)
+plain tk.Trail = (refl, tt)
+plain (tk.Die l) = (refl, (plain_digit l, tt))
+plain (tk.Yield l) = (refl, (plain_digit l, tt))
+plain tk.End = (refl, tt)
+
+lun_again : (l : ℕ) → l < 8 → lun_at (digit l) ≡ Some l
+lun_again l h =
+    let same : 48 + l - 48 ≡ l = omega arith in
+    rw (within 48 (48 + l) 55 (omega arith) (omega arith), same)
+
+narrow_again : (n : ℕ) → 1 ≤ n → n < 10 → narrow (digit n) ≡ Some (tk.Branch n)
+narrow_again n lo hi =
+    let same : 48 + n - 48 ≡ n = omega arith in
+    rw (within 49 (48 + n) 57 (omega arith) (omega arith), same)
+
+wide_again : (n : ℕ) → 10 ≤ n → n ≤ 99 → wide (digit (n / 10)) (digit (n % 10)) ≡ Some (tk.Branch n)
+wide_again n lo hi =
+    let same : (48 + n / 10 - 48) * 10 + (48 + n % 10 - 48) ≡ n = omega arith in
+    rw (within 49 (48 + n / 10) 57 (omega arith) (omega arith), within 48 (48 + n % 10) 57 (omega arith) (omega arith), same)
+
+branch_again : (n : ℕ) → 1 ≤ n → n ≤ 99 → token_of (spelling (tk.Branch n)) ≡ Some (tk.Branch n)
+branch_again n lo hi =
+    elim (cases_lt n 10) [
+      | inl h ↦ rw (lt-ltb n 10 h) (narrow_again n lo h)
+      | inr h ↦ rw (le-ltb n 10 h) (wide_again n h hi)
+    ]
+
+-- a spelling spells its token
+pub spelling_again : (t : Token) → InRange t → token_of (spelling t) ≡ Some t
+spelling_again (tk.Branch n) h = branch_again n h.0 h.1
+spelling_again tk.Bus h = refl
+spelling_again tk.Lead h = refl
+spelling_again tk.Trail h = refl
+spelling_again (tk.Die l) h = ap (lun_token tk.Die) (lun_again l h)
+spelling_again (tk.Yield l) h = ap (lun_token tk.Yield) (lun_again l h)
+spelling_again tk.End h = refl
+
+abbrev pub Spells : List ℕ → Token → Type 0
+Spells w t = InRange t × (spelling t ≡ w)
+
+abbrev Sound : Option Token → List ℕ → Type 0
+Sound o w = (t : Token) → o ≡ Some t → Spells w t
+
+either : (b : Bool) (x y : Option Token) (w : List ℕ) → (b ≡ true → Sound x w) → (b ≡ false → Sound y w) → Sound (cond b x y) w
+either true x y w f g = f refl
+either false x y w f g = g refl
+
+none : (w : List ℕ) → Sound None w
+none w t e = cc
+
+one : (t : Token) (w : List ℕ) → Spells w t → Sound (Some t) w
+one t w h u e =
+    let same : t ≡ u = cc in
+    subst (λ v. Spells w v) same h
+
+letter : (c l : ℕ) → (c == l) ≡ true → l ∷ [] ≡ c ∷ []
+letter c l e = ap (λ x. x ∷ []) (sym (eqb-true c l e))
+
+letter_sound : (c : ℕ) → Sound (letter_token c) (c ∷ [])
+letter_sound c =
+    either (c == 85) _ _ _ (λ e. one tk.Bus _ (tt, letter c 85 e))
+    (λ _. either (c == 76) _ _ _ (λ e. one tk.Lead _ (tt, letter c 76 e))
+    (λ _. either (c == 84) _ _ _ (λ e. one tk.Trail _ (tt, letter c 84 e))
+    (λ _. either (c == 88) _ _ _ (λ e. one tk.End _ (tt, letter c 88 e)) (λ _. none _))))
+
+from_within : (low b high : ℕ) → is_within low b high ≡ true → (low ≤ b) × (b ≤ high)
+from_within low b high h =
+    let both = and_parts (nat_le low b) (nat_le b high) h in
+    (leb-true low b both.0, leb-true b high both.1)
+
+narrow_sound : (d : ℕ) → Sound (narrow d) (66 ∷ d ∷ [])
+narrow_sound d =
+    either (is_within 49 d 57) _ _ _ (λ e. one (tk.Branch (d - 48)) _ (spelled (from_within 49 d 57 e))) (λ _. none _)
+  where
+    spelled : (49 ≤ d) × (d ≤ 57) → Spells (66 ∷ d ∷ []) (tk.Branch (d - 48))
+    spelled h =
+        let same : 48 + (d - 48) ≡ d = omega arith in
+        ((omega arith, omega arith), rw (lt-ltb (d - 48) 10 (omega arith), same))
+
+abbrev TokenOfLun : ℕ → (ℕ → Token) → Type 0
+TokenOfLun letter token = (l : ℕ) → l < 8 → Spells (letter ∷ digit l ∷ []) (token l)
+
+lun_by : (letter d : ℕ) (token : ℕ → Token) (b : Bool) → TokenOfLun letter token → is_within 48 d 55 ≡ b → Sound (lun_token token (cond b (Some (d - 48)) None)) (letter ∷ d ∷ [])
+lun_by letter d token false spelled e = none _
+lun_by letter d token true spelled e =
+    let in_range = from_within 48 d 55 e in
+    let same : 48 + (d - 48) ≡ d = omega arith in
+    let P : ℕ → Type 0 = λ x. Spells (letter ∷ x ∷ []) (token (d - 48)) in
+    one (token (d - 48)) _ (subst P same (spelled (d - 48) (omega arith)))
+
+lun_sound : (letter d : ℕ) (token : ℕ → Token) → TokenOfLun letter token → Sound (lun_token token (lun_at d)) (letter ∷ d ∷ [])
+lun_sound letter d token spelled = lun_by letter d token (is_within 48 d 55) spelled refl
+
+at_letter : (c l : ℕ) (o : Option Token) (more : List ℕ) → Sound o (l ∷ more) → (c == l) ≡ true → Sound o (c ∷ more)
+at_letter c l o more h e =
+    let P : ℕ → Type 0 = λ x. Sound o (x ∷ more) in
+    subst P (sym (eqb-true c l e)) h
+
+wide_spelled : (d e : ℕ) → (49 ≤ d) × (d ≤ 57) → (48 ≤ e) × (e ≤ 57) → Spells (66 ∷ d ∷ e ∷ []) (tk.Branch ((d - 48) * 10 + (e - 48)))
+wide_spelled d e h k =
+    let n : ℕ = (d - 48) * 10 + (e - 48) in
+    let tens : 48 + ((d - 48) * 10 + (e - 48)) / 10 ≡ d = omega arith in
+    let ones : 48 + ((d - 48) * 10 + (e - 48)) % 10 ≡ e = omega arith in
+    ((omega arith, omega arith), rw (le-ltb ((d - 48) * 10 + (e - 48)) 10 (omega arith), tens, ones))
+
+wide_sound : (d e : ℕ) → Sound (wide d e) (66 ∷ d ∷ e ∷ [])
+wide_sound d e =
+    either (is_within 49 d 57 && is_within 48 e 57) _ _ _ (λ h. one _ _ (spelled (and_parts (is_within 49 d 57) (is_within 48 e 57) h))) (λ _. none _)
+  where
+    spelled : (is_within 49 d 57 ≡ true) × (is_within 48 e 57 ≡ true) → Spells (66 ∷ d ∷ e ∷ []) (tk.Branch ((d - 48) * 10 + (e - 48)))
+    spelled h = wide_spelled d e (from_within 49 d 57 h.0) (from_within 48 e 57 h.1)
+
+numbered_sound : (c d : ℕ) → Sound (numbered c d) (c ∷ d ∷ [])
+numbered_sound c d =
+    either (c == 66) _ _ _ (at_letter c 66 (narrow d) (d ∷ []) (narrow_sound d))
+    (λ _. either (c == 68) _ _ _ (at_letter c 68 (lun_token tk.Die (lun_at d)) (d ∷ []) (lun_sound 68 d tk.Die (λ l h. (h, refl))))
+    (λ _. either (c == 89) _ _ _ (at_letter c 89 (lun_token tk.Yield (lun_at d)) (d ∷ []) (lun_sound 89 d tk.Yield (λ l h. (h, refl)))) (λ _. none _)))
+
+-- what a word spells has that spelling
+pub token_of_sound : (w : List ℕ) (t : Token) → token_of w ≡ Some t → Spells w t
+token_of_sound [] = none []
+token_of_sound (c ∷ []) = letter_sound c
+token_of_sound (c ∷ d ∷ []) = numbered_sound c d
+token_of_sound (c ∷ d ∷ e ∷ []) = either (c == 66) _ _ _ (at_letter c 66 (wide d e) (d ∷ e ∷ []) (wide_sound d e)) (λ _. none _)
+token_of_sound (c ∷ d ∷ e ∷ f ∷ more) = none (c ∷ d ∷ e ∷ f ∷ more)
+
+pub no_token : (w : List ℕ) → token_of w ≡ None → NoToken w
+no_token w e t h spelled =
+    let again = spelling_again t h in
+    let found : token_of w ≡ Some t = ap token_of (sym spelled) ∙ again in
+    cc
+
+pub no_token_of : (w : List ℕ) → NoToken w → token_of w ≡ None
+no_token_of w h = known (token_of w) refl
+  where
+    known : (o : Option Token) → token_of w ≡ o → token_of w ≡ None
+    known None e = e
+    known (Some t) e = let s = token_of_sound w t e in absurd (h t s.0 s.1)
+
+-- the word in front is this token's
+pub token_in_front : (t : Token) (text rest : List ℕ) → InRange t → Ends rest → text ≡ spelling t ++ rest → (token_of (word text) ≡ Some t) × (behind_word text ≡ rest)
+token_in_front t text rest h ends e = (
+  ap (λ x. token_of (word x)) e ∙ ap token_of (word-append (spelling t) rest (plain t) ends) ∙ spelling_again t h,
+  ap behind_word e ∙ behind_word-append (spelling t) rest (plain t) ends,
+)
+
+-- so the text begins with its spelling
+pub front_token : (t : Token) (text : List ℕ) → token_of (word text) ≡ Some t → InRange t × (text ≡ spelling t ++ behind_word text)
+front_token t text e =
+    let s = token_of_sound (word text) t e in
+    (s.0, sym (word-behind_word text) ∙ ap (λ w. w ++ behind_word text) (sym s.1))

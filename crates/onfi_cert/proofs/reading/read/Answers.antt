@@ -1,0 +1,5 @@
+use Rattle.onfi_cert.proofs.Whole.{again}
+use Rattle.onfi_cert.proofs.reading.read.Goals as goal
+
+pub returns-clause-again : goal.returns-clause-again
+returns-clause-again c = again c.args.text.now (λ v. v.items) c.taken.result c.taken.ensures.tokens c.taken.ensures.fault

@@ -1,0 +1,85 @@
+//! From tokens to text.
+ghost use Rattle.std.specs.Prelude.{◌≡◌, ◌≤◌, ◌<◌, ◌⊎◌, ◌↔◌, ◌++◌, All, length, IfOk, IfErr, OnOk};
+ghost use Rattle.onfi_cert.specs.Text.{InRange, IsCertificate, header, joined, line, number, spelling, text_of};
+
+use crate::fault::CertTextFault;
+use crate::limits::MOST_TOKENS;
+use crate::token::Token;
+use crate::width::Width;
+use std::alloc::{AllocError, Global};
+
+fn put_width(out: &mut Vec<u8>, width: Width) -> Result<(), AllocError>
+    ensures { OnOk result (out.new.items ≡ out.old.items ++ number width) }
+{
+    let number = width.get();
+    if number < 10 {
+        out.extend_from_slice(&[b'0' + number])
+    } else {
+        out.extend_from_slice(&[b'0' + number / 10, b'0' + number % 10])
+    }
+}
+
+fn put_token(out: &mut Vec<u8>, token: Token) -> Result<(), AllocError>
+    ensures spelled { OnOk result (out.new.items ≡ out.old.items ++ spelling token) }
+    ensures in_range { OnOk result (InRange token) }
+{
+    match token {
+        Token::Branch(width) => {
+            out.push(b'B')?;
+            put_width(out, width)
+        }
+        Token::Bus => out.extend_from_slice(b"U"),
+        Token::Lead => out.extend_from_slice(b"L"),
+        Token::Trail => out.extend_from_slice(b"T"),
+        Token::Die(lun) => out.extend_from_slice(&[b'D', b'0' + lun.get()]),
+        Token::Yield(lun) => out.extend_from_slice(&[b'Y', b'0' + lun.get()]),
+        Token::End => out.extend_from_slice(b"X"),
+    }
+}
+
+/// Appends the line of the tokens.
+fn put_line(out: &mut Vec<u8>, tokens: &[Token]) -> Result<(), AllocError>
+    ensures spelled { OnOk result (out.new.items ≡ out.old.items ++ line tokens.now) }
+    ensures in_range { OnOk result (All InRange tokens.now) }
+{
+    for (at, token) in tokens.iter().enumerate() {
+        if at > 0 {
+            out.push(b' ')?;
+        }
+        put_token(out, *token)?;
+    }
+    out.push(b'\n')?;
+    Ok(())
+}
+
+fn put_text(alloc: Global, strict: bool, tokens: &[Token]) -> Result<Vec<u8>, AllocError>
+    ensures spelled { IfOk result (λ text. text.items ≡ text_of strict tokens.now) }
+    ensures in_range { OnOk result (All InRange tokens.now) }
+{
+    let mut out = Vec::new(alloc);
+    if strict {
+        out.extend_from_slice(b"ONFICERT 2 strict\n")?;
+    } else {
+        out.extend_from_slice(b"ONFICERT 1\n")?;
+    }
+    put_line(&mut out, tokens)?;
+    Ok(out)
+}
+
+/// The one text of the tokens under this option.
+///
+/// # Errors
+/// `TooLong` exactly where there are more than 100,000,000 tokens; `Memory` where a growth was refused.
+pub fn write(alloc: Global, strict: bool, tokens: &[Token]) -> Result<Vec<u8>, CertTextFault>
+    ensures text { IfOk result (λ text. IsCertificate text.items strict tokens.now) }
+    ensures too_long { (result ≡ Err CertTextFault.TooLong) ↔ (MOST_TOKENS < length tokens.now) }
+    ensures else_memory { IfErr result (λ e. (e ≡ CertTextFault.TooLong) ⊎ (e ≡ CertTextFault.Memory)) }
+{
+    if tokens.len() > MOST_TOKENS as usize {
+        return Err(CertTextFault::TooLong);
+    }
+    match put_text(alloc, strict, tokens) {
+        Ok(text) => Ok(text),
+        Err(_) => Err(CertTextFault::Memory),
+    }
+}
