@@ -1,0 +1,9 @@
+pub mod Known
+pub mod Scan
+pub mod Digits
+pub mod BlockLemmas
+pub mod RowsLemmas
+pub mod SetupLemmas
+pub mod TextLemmas
+pub mod Single
+pub mod Told

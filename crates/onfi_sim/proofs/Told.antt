@@ -1,0 +1,44 @@
+-- From what was written to what the engine promises.
+use Rattle.std.proofs.Common.{◌≡◌, ℕ, List, Ok, Err, Some, None, refl, sym, inl, take}
+use Rattle.std.specs.Prelude.{Option, Result, IfOk, IfErr, IfSome}
+use Rattle.std.specs.Io.KnownBytes.{Appends}
+use Rattle.onfi_sim.specs.Text.{Answer, memory}
+use Rattle.onfi_problem.specs.Problem.{Problem}
+use Rattle.onfi_sim.specs.declared.row.Row.{Row}
+use Rattle.onfi_sim.specs.Row.{Record}
+use Rattle.onfi_sim.specs.Rows.{rows_of}
+use Rattle.onfi_sim.specs.Setup.{setup_refusal, SetsUp}
+use Rattle.onfi_sim.specs.Answer.{AnswersProblem, AnswersRows, AnswersRecords, Answers, BeginsAnswer, IsAnswer}
+use Rattle.onfi_sim.specs.declared.command.Command.{Command}
+use Rattle.onfi_sim.specs.declared.transfer.EngineFault.{EngineFault}
+use Rattle.onfi_sim.specs.declared.transfer.EngineFault.TheVariants.{Write}
+
+pub memory_answers : (command : Command) (input : Option (List ℕ)) → IfSome input (λ xs. IsAnswer command xs memory)
+memory_answers command None = tt
+memory_answers command (Some xs) = inl refl
+
+told_status : (command : Command) (input old new : Option (List ℕ)) (answer : Answer) (s : ℕ) → IfSome input (λ xs. IsAnswer command xs answer) → s ≡ answer.status → Appends old new answer.text
+    → Answers command input old new s
+told_status command None old new answer s is e w = tt
+told_status command (Some xs) old new answer s is e w = (answer, is, sym e, w)
+
+told_start : (command : Command) (input old new : Option (List ℕ)) (answer : Answer) (n : ℕ) → IfSome input (λ xs. IsAnswer command xs answer) → Appends old new (take n answer.text)
+    → BeginsAnswer command input old new
+told_start command None old new answer n is w = tt
+told_start command (Some xs) old new answer n is w = (answer, n, is, w)
+
+pub told : (command : Command) (input old new : Option (List ℕ)) (answer : Answer) (r : Result ℕ EngineFault) → IfSome input (λ xs. IsAnswer command xs answer)
+    → IfOk r (λ s. (s ≡ answer.status) × Appends old new answer.text) → IfOk r (λ s. Answers command input old new s)
+told command input old new answer (Ok s) is w = told_status command input old new answer s is w.0 w.1
+told command input old new answer (Err e) is w = tt
+
+pub told_part : (command : Command) (input old new : Option (List ℕ)) (answer : Answer) (r : Result ℕ EngineFault) → IfSome input (λ xs. IsAnswer command xs answer)
+    → IfErr r (λ e. (e ≡ Write) × (n : ℕ) × Appends old new (take n answer.text)) → r ≡ Err Write → BeginsAnswer command input old new
+told_part command input old new answer (Ok s) is w e = absurd (cc)
+told_part command input old new answer (Err f) is w e = told_start command input old new answer w.1 is w.2
+
+pub rows_told : (command : Command) (records : List Record) (rows : List Row) (answer : Answer) → rows_of command records ≡ Ok rows → AnswersRows rows answer → AnswersRecords command records answer
+rows_told command records rows answer e h = rw e h
+
+pub setup_told : (rows : List Row) (p : Problem) (answer : Answer) → setup_refusal rows ≡ None → SetsUp rows p → AnswersProblem p answer → AnswersRows rows answer
+setup_told rows p answer e up h = rw e (p, up, h)

@@ -1,0 +1,14 @@
+pub mod Script
+pub mod Field
+pub mod RowParts
+pub mod RowName
+pub mod Row
+pub mod Subject
+pub mod Rows
+pub mod Stop
+pub mod Setup
+pub mod SetupOf
+pub mod Text
+pub mod Answer
+pub mod AnswerOf
+pub mod Single

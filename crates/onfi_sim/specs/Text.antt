@@ -1,0 +1,74 @@
+-- The texts that are written.
+use Rattle.std.specs.Prelude.{ℕ, ◌+◌, ◌++◌, if◌then◌else◌, Bool, List, [], ◌∷◌, codes}
+use Rattle.std.specs.List.{flat_map}
+use Rattle.std.specs.Fmt.{decimal}
+use Rattle.onfi_request.specs.declared.want.Want.{Want}
+use Rattle.onfi_problem.specs.declared.fault.ProblemFault.TheVariants.{TooMany, BadLun, Clock, Memory}
+use Rattle.onfi_problem.specs.Problem.{Problem as ProblemOf}
+use Rattle.onfi_schedule.specs.Schedule.{Placed, Schedule}
+use Rattle.onfi_sim.specs.declared.fault.ScriptFault.{ScriptFault}
+use Rattle.onfi_sim.specs.declared.fault.ScriptFault.TheVariants.{NoEnd, UnknownRow, FieldCount, NotANumber, OutOfRange, Repeated, Missing, Problem, NotHere}
+use Rattle.onfi_sim.specs.declared.fault.Refusal.{Refusal}
+
+-- what is written, and the status that the program ends with
+pub record Answer : Type 0 where
+  pub text : List ℕ
+  pub status : ℕ
+
+abbrev pub memory : Answer
+memory = record { text = codes "memory\n"; status = 4 }
+
+abbrev pub name_of : ScriptFault → List ℕ
+name_of NoEnd = codes "NoEnd"
+name_of UnknownRow = codes "UnknownRow"
+name_of FieldCount = codes "FieldCount"
+name_of NotANumber = codes "NotANumber"
+name_of OutOfRange = codes "OutOfRange"
+name_of Repeated = codes "Repeated"
+name_of Missing = codes "Missing"
+name_of (Problem TooMany) = codes "Problem TooMany"
+name_of (Problem BadLun) = codes "Problem BadLun"
+name_of (Problem Clock) = codes "Problem Clock"
+name_of (Problem Memory) = codes "Problem Memory"
+name_of NotHere = codes "NotHere"
+
+abbrev pub refused : Refusal → Answer
+refused refusal = record { text = codes "script refused " ++ (decimal refusal.row ++ (codes " " ++ (name_of refusal.fault ++ codes "\n"))); status = 1 }
+
+-- each number behind a space
+abbrev pub spaced : List ℕ → List ℕ
+spaced numbers = flat_map (λ n. codes " " ++ decimal n) numbers
+
+-- the numbers of the wants behind the first, each behind a plus
+abbrev pub joined : List Want → List ℕ
+joined wants = flat_map (λ w. codes "+" ++ decimal w.id) wants
+
+abbrev pub ids : List Want → List ℕ
+ids [] = []
+ids (w ∷ wants) = decimal w.id ++ joined wants
+
+abbrev pub group_line : Placed → List ℕ
+group_line g = codes "group " ++ ids g.members ++ spaced g.starts ++ codes "\n"
+
+-- of a LUN with phases left of a running group
+abbrev pub rest_line : ℕ → List ℕ → List ℕ
+rest_line lun [] = []
+rest_line lun (start ∷ starts) = codes "rest " ++ decimal lun ++ spaced (start ∷ starts) ++ codes "\n"
+
+-- of the LUNs from number `lun` on
+unfoldable pub rest_lines : ℕ → List (List ℕ) → List ℕ
+rest_lines lun [] = []
+rest_lines lun (starts ∷ rest) = rest_line lun starts ++ rest_lines (lun + 1) rest
+
+-- the header of a certificate, which names the option strict
+abbrev pub header : Bool → List ℕ
+header strict = if strict then codes "ONFICERT 2 strict\n" else codes "ONFICERT 1\n"
+
+-- a schedule that ends at `ends`, and a certificate of these tokens behind it
+abbrev pub schedule_text : Schedule → ℕ → Bool → List ℕ → List ℕ
+schedule_text s ends strict tokens =
+    codes "ONFIPLAN 1\n" ++ (codes "finish " ++ decimal ends) ++ codes "\n" ++ rest_lines 0 s.rest ++ flat_map group_line s.groups ++ header strict ++ tokens ++ codes "\n"
+
+-- the answer that plans a problem
+abbrev pub planned : ProblemOf → Schedule → ℕ → List ℕ → Answer
+planned p s ends tokens = record { text = schedule_text s ends p.rules.strict tokens; status = 0 }

@@ -1,0 +1,164 @@
+//! From the bytes of an input to the bytes of its answer.
+ghost use Rattle.std.specs.Prelude.{◌≡◌, ◌≤◌, ℕ, take, length, map, IfOk, IfErr, OnErr, IsTrue, string_bytes};
+ghost use Rattle.std.specs.Io.KnownBytes.{Appends, Keeps};
+ghost use Rattle.csv.specs.Records.{fields_of};
+ghost use Rattle.onfi_problem.specs.Left.{InLimits};
+ghost use Rattle.onfi_sim.specs.Answer.{Plans, Refuses, AnswersProblem, AnswersRows, AnswersRecords, IsAnswer, Answers, BeginsAnswer, is_single};
+ghost use Rattle.onfi_sim.specs.AnswerOf.{answer_of};
+ghost use Rattle.onfi_sim.specs.SetupOf.{problem_of};
+
+use crate::command::Command;
+use crate::fault::{Refusal, ScriptFault, Stop};
+use crate::plan::{is_single, plan};
+use crate::row::Row;
+use crate::rows::rows;
+use crate::script::{records, script_len};
+use crate::setup::{Setup, set_up};
+use crate::text::{Answer, plan_text, refused};
+use crate::transfer::{EngineFault, InputFault, read_all, write_text};
+use csv::ByteRecord;
+use onfi_problem::{Problem, ProblemFault};
+use std::alloc::{AllocError, Global};
+use std::io::{Read, Write};
+
+/// The answer that plans a problem.
+fn planned(alloc: Global, setup: &Setup) -> Result<Answer, AllocError>
+    requires limits { InLimits (problem_of setup.now) }
+    requires single { IsTrue (is_single (problem_of setup.now)) }
+    ensures { IfOk result (λ a. Plans (problem_of setup.now) (answer_of a)) }
+{
+    let planned = plan(alloc, setup)?;
+    let text = plan_text(
+        alloc,
+        &planned.schedule,
+        planned.finish,
+        setup.rules.strict,
+        planned.tokens,
+    )?;
+    Ok(Answer { text, status: 0 })
+}
+
+/// Times of a problem that was made end below 2^62 ns.
+fn keeps_limits(problem: &Problem)
+    ensures { InLimits problem.now.problem }
+{
+    let _ = problem.bus_free();
+}
+
+/// The line that refuses a script as a whole.
+fn refused_whole(alloc: Global, fault: ScriptFault) -> Result<Answer, AllocError>
+    ensures { IfOk result (λ a. Refuses fault (answer_of a)) }
+{
+    refused(alloc, Refusal { row: 0, fault })
+}
+
+/// The line that refuses a script for what it sets up.
+fn refused_problem(alloc: Global, fault: ProblemFault) -> Result<Answer, AllocError>
+    ensures { IfOk result (λ a. Refuses (ScriptFault.Problem fault) (answer_of a)) }
+{
+    refused_whole(alloc, ScriptFault::Problem(fault))
+}
+
+/// The answer to what a script sets up.
+fn answer_problem(alloc: Global, setup: &Setup) -> Result<Answer, AllocError>
+    ensures { IfOk result (λ a. AnswersProblem (problem_of setup.now) (answer_of a)) }
+{
+    let problem = Problem::new(
+        alloc,
+        setup.timing,
+        setup.rules,
+        setup.bus_free,
+        setup.luns.as_slice(),
+        setup.wants.as_slice(),
+    );
+    match problem {
+        Ok(problem) => {
+            keeps_limits(&problem);
+            if is_single(setup) {
+                planned(alloc, setup)
+            } else {
+                refused_problem(alloc, ProblemFault::TooMany)
+            }
+        }
+        Err(ProblemFault::TooMany) => refused_problem(alloc, ProblemFault::TooMany),
+        Err(ProblemFault::BadLun) => refused_problem(alloc, ProblemFault::BadLun),
+        Err(ProblemFault::Clock) => refused_problem(alloc, ProblemFault::Clock),
+        Err(ProblemFault::Memory) => Err(AllocError),
+    }
+}
+
+/// The answer to rows that are each in order.
+fn answer_rows(alloc: Global, rows: &[Row]) -> Result<Answer, AllocError>
+    ensures { IfOk result (λ a. AnswersRows rows.now (answer_of a)) }
+{
+    match set_up(alloc, rows) {
+        Ok(setup) => answer_problem(alloc, &setup),
+        Err(Stop::Refused(refusal)) => refused(alloc, refusal),
+        Err(Stop::Memory) => Err(AllocError),
+    }
+}
+
+/// The answer to the records of a script.
+fn answer_records(
+    alloc: Global,
+    command: Command,
+    records: &[ByteRecord],
+) -> Result<Answer, AllocError>
+    ensures { IfOk result (λ a. AnswersRecords command (map fields_of records.now) (answer_of a)) }
+{
+    match rows(alloc, command, records) {
+        Ok(rows) => answer_rows(alloc, rows.as_slice()),
+        Err(Stop::Refused(refusal)) => refused(alloc, refusal),
+        Err(Stop::Memory) => Err(AllocError),
+    }
+}
+
+/// The answer to an input.
+fn answer(alloc: Global, command: Command, input: &[u8]) -> Result<Answer, AllocError>
+    ensures { IfOk result (λ a. IsAnswer command input.now (answer_of a)) }
+{
+    let Some(size) = script_len(input) else {
+        return refused_whole(alloc, ScriptFault::NoEnd);
+    };
+    let Ok(found) = records(alloc, &input[..size]) else {
+        return Err(AllocError);
+    };
+    answer_records(alloc, command, found.as_slice())
+}
+
+/// Writes a text, and answers the status that goes with it.
+fn tell<W: Write>(writer: &mut W, text: &[u8], status: u8) -> Result<u8, EngineFault>
+    ensures whole { IfOk result (λ s. (s ≡ status) × Appends (W.contents writer.old) (W.contents writer.new) text.now) }
+    ensures part { IfErr result (λ e. (e ≡ EngineFault.Write) × (n : ℕ) × Appends (W.contents writer.old) (W.contents writer.new) (take n text.now)) }
+{
+    write_text(writer, text)?;
+    Ok(status)
+}
+
+/// Reads all that there is, and writes the answer to it and nothing else.
+///
+/// Answers the exit status of the program: 0 for a plan, 1 where the script is refused, 4 for want of memory.
+///
+/// # Errors
+/// `Read` where a read failed or 2^40 reads did not come to the end: nothing was written. `Write` where a write
+/// failed: a beginning of the answer was written.
+pub fn engine<R: Read, W: Write>(
+    alloc: Global,
+    command: Command,
+    reader: &mut R,
+    writer: &mut W,
+) -> Result<u8, EngineFault>
+    ensures answer { IfOk result (λ status. Answers command (R.remaining reader.old) (W.contents writer.old) (W.contents writer.new) status) }
+    ensures unread { result ≡ Err EngineFault.Read → Keeps (W.contents writer.old) (W.contents writer.new) }
+    ensures unwritten { result ≡ Err EngineFault.Write → BeginsAnswer command (R.remaining reader.old) (W.contents writer.old) (W.contents writer.new) }
+{
+    let input = match read_all(alloc, reader) {
+        Ok(input) => input,
+        Err(InputFault::Read) => return Err(EngineFault::Read),
+        Err(InputFault::Memory) => return tell(writer, b"memory\n", 4),
+    };
+    match answer(alloc, command, input.as_slice()) {
+        Ok(answer) => tell(writer, answer.text.as_bytes(), answer.status),
+        Err(AllocError) => tell(writer, b"memory\n", 4),
+    }
+}

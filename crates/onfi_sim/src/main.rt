@@ -1,0 +1,56 @@
+// Plans ONFI channels: reads a script from standard input and writes its answer to standard output.
+#![tactic(auto)]
+
+mod command;
+mod engine;
+mod fault;
+mod field;
+mod plan;
+mod row;
+mod row_name;
+mod rows;
+mod script;
+mod setup;
+mod text;
+mod transfer;
+mod words;
+
+#[cfg(test)]
+mod tests;
+
+use crate::command::Command;
+use crate::engine::engine;
+use crate::transfer::EngineFault;
+use crate::words::{WordsFault, words};
+use std::io;
+use std::process::ExitCode;
+
+fn asked(rt: &(impl std::rt::Env + AllocGlobal)) -> Result<Command, WordsFault> {
+    let Ok(args) = std::env::args(rt) else {
+        return Err(WordsFault::Refused);
+    };
+    let Ok(given) = args.collect::<Vec<String>>(rt.alloc()) else {
+        return Err(WordsFault::Memory);
+    };
+    words(rt.alloc(), given.as_slice())
+}
+
+fn main(rt: HostRuntime) -> ExitCode {
+    let command = match asked(&rt) {
+        Ok(command) => command,
+        Err(WordsFault::Memory) => {
+            let _ = rt.println("memory");
+            return ExitCode::from(4);
+        }
+        Err(WordsFault::Refused) => {
+            let _ = rt.eprintln("usage: onfi_sim plan [--limit N]");
+            return ExitCode::from(5);
+        }
+    };
+    let mut reader = rt.reader();
+    let mut writer = io::writer(&rt);
+    match engine(rt.alloc(), command, &mut reader, &mut writer) {
+        Ok(status) => ExitCode::from(status),
+        Err(EngineFault::Read) | Err(EngineFault::Write) => ExitCode::from(7),
+    }
+}

@@ -1,0 +1,146 @@
+//! The texts that are written.
+ghost use Rattle.std.specs.Prelude.{◌≡◌, ◌++◌, codes, string_bytes, IfOk, OnOk};
+ghost use Rattle.std.specs.Fmt.{decimal};
+ghost use Rattle.std.specs.List.{flat_map};
+ghost use Rattle.onfi_sim.specs.Text as spec;
+
+use crate::fault::Refusal;
+use onfi_request::Want;
+use onfi_schedule::{Placed, Schedule, Starts};
+use std::alloc::{AllocError, Global};
+
+/// The text that is written, and the status that the program ends with.
+#[derive(Drop)]
+pub struct Answer {
+    pub text: String,
+    pub status: u8,
+}
+
+/// The line that refuses a script.
+pub fn refused(alloc: Global, refusal: Refusal) -> Result<Answer, AllocError>
+    ensures { IfOk result (λ a. record { text = string_bytes a.text; status = a.status } ≡ spec.refused refusal) }
+{
+    let row = refusal.row;
+    let name = refusal.fault.name();
+    let text = format!(in alloc; "script refused {row} {name}\n")?;
+    Ok(Answer { text, status: 1 })
+}
+
+/// Puts a mark and a number behind a text.
+fn put_number(
+    alloc: Global,
+    text: &mut String,
+    mark: &str,
+    number: u64,
+) -> Result<(), AllocError>
+    ensures { OnOk result (string_bytes text.new ≡ string_bytes text.old ++ (mark.now ++ decimal number)) }
+{
+    let piece = format!(in alloc; "{mark}{number}")?;
+    text.push_str(piece.as_str())
+}
+
+/// Puts numbers behind a text, each behind a space.
+fn put_spaced(alloc: Global, text: &mut String, numbers: &[u64]) -> Result<(), AllocError>
+    ensures { OnOk result (string_bytes text.new ≡ string_bytes text.old ++ spec.spaced numbers.now) }
+{
+    for number in numbers {
+        put_number(alloc, text, " ", *number)?;
+    }
+    Ok(())
+}
+
+/// Puts the numbers of wants behind a text, each behind a plus.
+fn put_joined(alloc: Global, text: &mut String, wants: &[Want]) -> Result<(), AllocError>
+    ensures { OnOk result (string_bytes text.new ≡ string_bytes text.old ++ spec.joined wants.now) }
+{
+    for want in wants {
+        put_number(alloc, text, "+", want.id)?;
+    }
+    Ok(())
+}
+
+/// Puts the numbers of a group's members behind a text.
+fn put_ids(alloc: Global, text: &mut String, members: &[Want]) -> Result<(), AllocError>
+    ensures { OnOk result (string_bytes text.new ≡ string_bytes text.old ++ spec.ids members.now) }
+{
+    let Some((first, rest)) = members.split_first() else {
+        return Ok(());
+    };
+    put_number(alloc, text, "", first.id)?;
+    put_joined(alloc, text, rest)
+}
+
+/// Puts the line of a group behind a text.
+fn put_group(alloc: Global, text: &mut String, group: &Placed) -> Result<(), AllocError>
+    ensures { OnOk result (string_bytes text.new ≡ string_bytes text.old ++ spec.group_line group.now) }
+{
+    text.push_str("group ")?;
+    put_ids(alloc, text, group.members().members())?;
+    put_spaced(alloc, text, group.starts().as_slice())?;
+    text.push_str("\n")
+}
+
+/// Puts the lines of new groups behind a text.
+fn put_groups(alloc: Global, text: &mut String, groups: &[Placed]) -> Result<(), AllocError>
+    ensures { OnOk result (string_bytes text.new ≡ string_bytes text.old ++ flat_map spec.group_line groups.now) }
+{
+    for group in groups {
+        put_group(alloc, text, group)?;
+    }
+    Ok(())
+}
+
+/// Puts the line of a LUN with phases left of a running group behind a text.
+fn put_rest(alloc: Global, text: &mut String, lun: usize, starts: &[u64]) -> Result<(), AllocError>
+    ensures { OnOk result (string_bytes text.new ≡ string_bytes text.old ++ spec.rest_line lun starts.now) }
+{
+    if starts.is_empty() {
+        return Ok(());
+    }
+    put_number(alloc, text, "rest ", lun as u64)?;
+    put_spaced(alloc, text, starts)?;
+    text.push_str("\n")
+}
+
+/// Puts the lines of running groups behind a text.
+fn put_rests(alloc: Global, text: &mut String, rest: &[Starts]) -> Result<(), AllocError>
+    ensures { OnOk result (string_bytes text.new ≡ string_bytes text.old ++ spec.rest_lines 0 rest.now) }
+{
+    for (lun, starts) in rest.iter().enumerate() {
+        put_rest(alloc, text, lun, starts.as_slice())?;
+    }
+    Ok(())
+}
+
+/// The header of a certificate.
+fn header(strict: bool) -> &'static str
+    ensures { result.now ≡ spec.header strict }
+{
+    if strict {
+        "ONFICERT 2 strict\n"
+    } else {
+        "ONFICERT 1\n"
+    }
+}
+
+/// The text of a schedule that ends at `finish`, with a certificate of these tokens behind it.
+pub fn plan_text(
+    alloc: Global,
+    schedule: &Schedule,
+    finish: u64,
+    strict: bool,
+    tokens: &str,
+) -> Result<String, AllocError>
+    ensures { IfOk result (λ t. string_bytes t ≡ spec.schedule_text schedule.now finish strict tokens.now) }
+{
+    let mut text = String::new(alloc);
+    text.push_str("ONFIPLAN 1\n")?;
+    put_number(alloc, &mut text, "finish ", finish)?;
+    text.push_str("\n")?;
+    put_rests(alloc, &mut text, schedule.rest())?;
+    put_groups(alloc, &mut text, schedule.groups())?;
+    text.push_str(header(strict))?;
+    text.push_str(tokens)?;
+    text.push_str("\n")?;
+    Ok(text)
+}
