@@ -1,5 +1,5 @@
 ghost use Rattle.std.specs.Prelude.{◌≡◌, ℕ, ◌+◌, ◌*◌, ◌^◌, ◌<◌, ◌≤◌, length, map, take, if◌then◌else◌, true};
-ghost use Rattle.std.specs.List.{AllByRecursion as All, list_any};
+ghost use Rattle.std.specs.List.{AllByRecursion as Each, list_any};
 ghost use Rattle.onfi_timing.specs.declared.kind.Kind.{Kind};
 ghost use Rattle.onfi_group.specs.Words.{total};
 ghost use Rattle.onfi_problem.specs.Position.{state_of};
@@ -29,7 +29,7 @@ pub struct Sums {
 impl Sums {
     /// What is left of running groups.
     fn of_chains(chains: &[Chain]) -> Sums
-        requires short { All IsShort chains.now }
+        requires short { Each IsShort chains.now }
         requires few { length chains.now ≤ 8 }
         ensures commands { result.commands ≡ total (λ c. c.commands) chains.now }
         ensures posts { result.posts ≡ total (λ c. c.posts) chains.now }
@@ -118,7 +118,7 @@ fn waiting(problem: &Problem) -> ArrayVec<Want, 8>
 /// What is left of each LUN's running group.
 fn chains(timing: &Timing, groups: &[Group], luns: &[Lun]) -> ArrayVec<Chain, 8>
     requires few { length luns.now ≤ 8 }
-    requires placed { All (λ lun. 1 ≤ lun.next → lun.place < length groups.now) luns.now }
+    requires placed { Each (λ lun. 1 ≤ lun.next → lun.place < length groups.now) luns.now }
     ensures { result.items ≡ map (chain_of timing.now) (map (state_of groups.now) luns.now) }
 {
     let mut chains = ArrayVec::new();

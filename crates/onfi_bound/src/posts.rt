@@ -1,7 +1,7 @@
 //! When the first post of a problem may start.
 
 ghost use Rattle.std.specs.Prelude.{◌≡◌, ℕ, ◌+◌, ◌*◌, ◌^◌, ◌<◌, ◌≤◌, length, map, IfSome};
-ghost use Rattle.std.specs.List.{AllByRecursion as All};
+ghost use Rattle.std.specs.List.{AllByRecursion as Each};
 ghost use Rattle.onfi_timing.specs.Kinds.{spans_of};
 ghost use Rattle.onfi_bound.specs.Bounds.{on_lun, least, least_with};
 ghost use Rattle.onfi_bound.specs.Parts.{chain_to_post, chain_starts, IsShort};
@@ -13,7 +13,7 @@ use onfi_timing::Timing;
 /// The least first post start of the LUNs that have something left, in ns.
 pub fn first_post(timing: &Timing, bus_free: u64, chains: &[Chain], wants: &[Want]) -> Option<u64>
     requires bus_free { bus_free < 2 ^ 62 }
-    requires short { All IsShort chains.now }
+    requires short { Each IsShort chains.now }
     requires few { length chains.now ≤ 8 }
     ensures value { result ≡ least (chain_starts timing.now bus_free wants.now 0 chains.now) }
 {

@@ -1,7 +1,7 @@
 //! The waits that the wants of a LUN take, whatever their groups.
 
 ghost use Rattle.std.specs.Prelude.{◌≡◌, ℕ, ◌+◌, ◌*◌, ◌^◌, ◌<◌, ◌≤◌, length, take, ◌↔◌, IsTrue};
-ghost use Rattle.std.specs.List.{AllByRecursion as All};
+ghost use Rattle.std.specs.List.{AllByRecursion as Each};
 ghost use Rattle.onfi_problem.specs.Problem.{IsWant};
 ghost use Rattle.onfi_bound.specs.Bounds.{on_lun, page_class, above_class, in_class, wants_work};
 ghost use Rattle.onfi_bound.specs.Parts.{plane_counts, added_wait};
@@ -52,7 +52,7 @@ impl Class {
 
 /// How long the wants of a LUN take at least, in ns: their commands, posts and waits.
 pub fn work_of_wants(timing: &Timing, rules: &Rules, wants: &[Want], lun: u8) -> u64
-    requires wants { All IsWant wants.now }
+    requires wants { Each IsWant wants.now }
     requires few { length wants.now ≤ 8 }
     ensures value { result ≡ wants_work timing.now rules.now (on_lun lun wants.now) }
     ensures short { result ≤ 2 ^ 55 }
@@ -69,7 +69,7 @@ pub fn work_of_wants(timing: &Timing, rules: &Rules, wants: &[Want], lun: u8) ->
 
 /// The wait that a want adds to those of its LUN before it.
 fn wait_of(spans: &Spans, rules: &Rules, before: &[Want], want: &Want) -> u64
-    requires wants { All IsWant before.now }
+    requires wants { Each IsWant before.now }
     requires want { IsWant want.now }
     requires few { length before.now ≤ 8 }
     ensures value { result ≡ added_wait spans.now rules.now (on_lun want.now.lun before.now) want.now }
@@ -88,7 +88,7 @@ fn wait_of(spans: &Spans, rules: &Rules, before: &[Want], want: &Want) -> u64
 
 /// How many of a want's class on its LUN are on each plane.
 fn counts_of_planes(rules: &Rules, before: &[Want], want: &Want) -> [u8; 4]
-    requires wants { All IsWant before.now }
+    requires wants { Each IsWant before.now }
     requires few { length before.now ≤ 8 }
     ensures value { result ≡ plane_counts rules.now want.now (on_lun want.now.lun before.now) }
     ensures page_fits { page_class want.now < 2 ^ 16 }

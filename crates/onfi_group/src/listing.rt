@@ -1,5 +1,5 @@
 ghost use Rattle.std.specs.Prelude.{◌≡◌, ◌<◌, ◌≤◌, length, not, IfOk, IfSome, IfNone, OnOk, vec_len};
-ghost use Rattle.std.specs.List.{AllByRecursion as All, list_any};
+ghost use Rattle.std.specs.List.{AllByRecursion as Each, list_any};
 ghost use Rattle.onfi_group.specs.Words.{Pairs};
 ghost use Rattle.onfi_group.specs.Group.{IsGroup, on_block};
 ghost use Rattle.onfi_group.specs.Joining.{joined, HasGrown};
@@ -22,7 +22,7 @@ pub fn startable(
     rules: &Rules,
 ) -> Result<Vec<Group>, AllocError>
     requires few { length wants.now ≤ 8 }
-    requires planes { All (λ w. w.plane ≤ 3) wants.now }
+    requires planes { Each (λ w. w.plane ≤ 3) wants.now }
     ensures startable { IfOk result (λ groups. AreStartable rules.now wants.now lun groups.items) }
     ensures few { IfOk result (λ groups. vec_len groups ≤ 80) }
 
@@ -52,7 +52,7 @@ pub fn candidates(
     rules: &Rules,
 ) -> Result<Vec<Group>, AllocError>
     requires few { length wants.now ≤ 8 }
-    requires planes { All (λ w. w.plane ≤ 3) wants.now }
+    requires planes { Each (λ w. w.plane ≤ 3) wants.now }
     requires ids { Pairs (λ a b. a.id < b.id) wants.now }
     ensures candidates { IfOk result (λ groups. AreCandidates rules.now wants.now lun groups.items) }
     ensures few { IfOk result (λ groups. vec_len groups ≤ 80) }

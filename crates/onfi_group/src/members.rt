@@ -1,5 +1,5 @@
 ghost use Rattle.std.specs.Prelude.{◌≡◌, ◌<◌, ◌↔◌, IsTrue};
-ghost use Rattle.std.specs.List.{AllByRecursion as All};
+ghost use Rattle.std.specs.List.{AllByRecursion as Each};
 ghost use Rattle.onfi_group.specs.Words.{Pairs};
 ghost use Rattle.onfi_group.specs.Group.{IsGroup, may_group};
 ghost use Rattle.onfi_group.specs.Joining.{GoesWith};
@@ -36,7 +36,7 @@ fn may_group(rules: &Rules, kind: Kind) -> bool
 
 // Whether each of them shares with the first one what members share.
 fn all_go_with(rules: &Rules, first: &Want, members: &[Want]) -> bool
-    ensures { IsTrue result ↔ All (GoesWith rules.now first.now) members.now }
+    ensures { IsTrue result ↔ Each (GoesWith rules.now first.now) members.now }
 {
     for member in members {
         if !goes_with(rules, first, member) {

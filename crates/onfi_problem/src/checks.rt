@@ -1,7 +1,7 @@
 //! Whether what is given is a problem.
 
 ghost use Rattle.std.specs.Prelude.{◌≡◌, ℕ, ◌+◌, ◌<◌, ◌≤◌, ◌↔◌, IsTrue, length};
-ghost use Rattle.std.specs.List.{AllByRecursion as All};
+ghost use Rattle.std.specs.List.{AllByRecursion as Each};
 ghost use Rattle.onfi_timing.specs.declared.timing.Timing.{Timing};
 ghost use Rattle.onfi_group.specs.Words.{Pairs};
 ghost use Rattle.onfi_problem.specs.Problem.{IsProblem, IsRunning, IsWant};
@@ -29,7 +29,7 @@ pub fn is_problem(rules: &Rules, luns: &[LunState], wants: &[Want]) -> bool
 
 // Wants of so many LUNs, with rising numbers.
 fn is_list(wants: &[Want], luns: usize) -> bool
-    ensures { IsTrue result ↔ (All IsWant wants.now × All (λ w. w.lun < luns) wants.now × Pairs (λ a b. a.id < b.id) wants.now) }
+    ensures { IsTrue result ↔ (Each IsWant wants.now × Each (λ w. w.lun < luns) wants.now × Pairs (λ a b. a.id < b.id) wants.now) }
 {
     are_wants(wants) && are_in_range(wants, luns) && ids_rise(wants)
 }
@@ -41,7 +41,7 @@ fn is_want(want: &Want) -> bool
 }
 
 fn are_wants(wants: &[Want]) -> bool
-    ensures { IsTrue result ↔ All IsWant wants.now }
+    ensures { IsTrue result ↔ Each IsWant wants.now }
 {
     for want in wants {
         if !is_want(want) {
@@ -52,7 +52,7 @@ fn are_wants(wants: &[Want]) -> bool
 }
 
 fn are_in_range(wants: &[Want], luns: usize) -> bool
-    ensures { IsTrue result ↔ All (λ w. w.lun < luns) wants.now }
+    ensures { IsTrue result ↔ Each (λ w. w.lun < luns) wants.now }
 {
     for want in wants {
         if want.lun as usize >= luns {

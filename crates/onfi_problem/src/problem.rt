@@ -3,7 +3,7 @@ ghost use Rattle.onfi_request.specs.declared.want.Want.{Want};
 ghost use Rattle.onfi_problem.specs.Problem.{IsSmall, IsProblem};
 ghost use Rattle.onfi_problem.specs.Left.{InLimits, horizon};
 ghost use Rattle.onfi_problem.specs.Kept.{problem_of};
-ghost use Rattle.std.specs.List.{AllByRecursion as All};
+ghost use Rattle.std.specs.List.{AllByRecursion as Each};
 ghost use Rattle.std.specs.Option.{option_map};
 ghost use Rattle.onfi_problem.specs.Starts.{IsNamed, can_start, starts, waits_first};
 ghost use Rattle.onfi_problem.specs.Moves.{Move as OneMove, IsMove, AreMoves, earliest, move_lun, lun_after, without, Next, Start};
@@ -205,7 +205,7 @@ impl Problem {
     /// All moves, in their order, without memory.
     pub fn steps(&self) -> Moves
         ensures moves { AreMoves self.now.problem (moves_of self.now.groups result) }
-        ensures named { All (IsNamed self.now.groups) result }
+        ensures named { Each (IsNamed self.now.groups) result }
         ensures few { length result ≤ 87 }
     {
         let mut moves = Moves::new();
@@ -226,7 +226,7 @@ impl Problem {
     /// Only where memory was refused.
     pub fn moves(&self, alloc: Global) -> Result<Vec<Move>, AllocError>
         ensures moves { IfOk result (λ v. AreMoves self.now.problem (moves_of self.now.groups v.items)) }
-        ensures named { IfOk result (λ v. All (IsNamed self.now.groups) v.items) }
+        ensures named { IfOk result (λ v. Each (IsNamed self.now.groups) v.items) }
     {
         Vec::from_slice(alloc, self.steps().as_slice())
     }
@@ -253,10 +253,10 @@ impl Problem {
         requires within { to ≤ length self.now.groups }
         requires places { to ≤ 256 }
         requires few { lun < 8 }
-        requires luns { All (λ g. lun_of g ≡ lun) (slice_range self.now.groups from to) }
+        requires luns { Each (λ g. lun_of g ≡ lun) (slice_range self.now.groups from to) }
         requires room { length moves.old + length (starts self.now.problem.wants self.now.groups from to) ≤ 87 }
         ensures moves { moves_of self.now.groups moves.new ≡ moves_of self.now.groups moves.old ++ starts self.now.problem.wants self.now.groups from to }
-        ensures named { All (IsNamed self.now.groups) moves.old → All (IsNamed self.now.groups) moves.new }
+        ensures named { Each (IsNamed self.now.groups) moves.old → Each (IsNamed self.now.groups) moves.new }
     {
         for place in from..to {
             if self.can_start(&self.groups[place]) {

@@ -1,7 +1,7 @@
 //! The groups of a problem, made once.
 
 ghost use Rattle.std.specs.Prelude.{◌≡◌, ◌<◌, ◌≤◌, ◌++◌, List, length, map, slice_index, IfOk};
-ghost use Rattle.std.specs.List.{AllByRecursion as All};
+ghost use Rattle.std.specs.List.{AllByRecursion as Each};
 ghost use Rattle.onfi_request.specs.declared.want.Want.{Want};
 ghost use Rattle.onfi_group.specs.Words.{Pairs};
 ghost use Rattle.onfi_group.specs.Listing.{AreCandidates};
@@ -77,7 +77,7 @@ pub fn list_groups(
     requires opened { length groups.old.items ≤ 8 }
     requires luns { luns ≤ 8 }
     requires few { length wants.now ≤ 8 }
-    requires planes { All (λ w. w.plane ≤ 3) wants.now }
+    requires planes { Each (λ w. w.plane ≤ 3) wants.now }
     requires ids { Pairs (λ a b. a.id < b.id) wants.now }
     ensures table { IfOk result (λ first. IsTable rules.now wants.now luns groups.new.items first) }
     ensures grown { IfOk result (λ first. (more : List (List Want)) × (groups.new.items ≡ groups.old.items ++ more)) }

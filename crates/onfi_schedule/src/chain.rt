@@ -3,7 +3,7 @@ ghost use Rattle.arrayvec.specs.ArrayVec.{array_vec_len};
 ghost use Rattle.onfi_problem.specs.Position.{state_of};
 ghost use Rattle.onfi_schedule.specs.Schedule.{phases_left, rest_phases, group_phases};
 ghost use Rattle.onfi_schedule.specs.Conditions.{chain_phases, Names, start_count, states_of, phases_of, EndsInTime};
-ghost use Rattle.std.specs.List.{AllByRecursion as All, flat_map};
+ghost use Rattle.std.specs.List.{AllByRecursion as Each, flat_map};
 
 use crate::phase::Phase;
 use crate::placed::Placed;
@@ -33,9 +33,9 @@ pub(crate) struct Chain {
 fn push_chain(phases: &mut Phases, chain: &Chain, starts: &[u64])
     requires room { array_vec_len phases.old + length starts.now ≤ 80 }
     requires few { chain.now.next + length starts.now < 2 ^ 60 }
-    requires small { All (λ t. t < 2 ^ 63) starts.now }
-    requires short { All EndsInTime phases.old.items }
-    ensures short { All EndsInTime phases.new.items }
+    requires small { Each (λ t. t < 2 ^ 63) starts.now }
+    requires short { Each EndsInTime phases.old.items }
+    ensures short { Each EndsInTime phases.new.items }
     ensures items { phases.new.items ≡ phases.old.items ++ chain_phases chain.now starts.now }
     ensures len { array_vec_len phases.new ≡ array_vec_len phases.old + length starts.now }
 {
@@ -61,8 +61,8 @@ pub(crate) fn push_left(
 )
     requires room { array_vec_len phases.old ≤ 72 }
     requires named { Names table.now lun.now }
-    requires short { All EndsInTime phases.old.items }
-    ensures short { All EndsInTime phases.new.items }
+    requires short { Each EndsInTime phases.old.items }
+    ensures short { Each EndsInTime phases.new.items }
     ensures items { phases.new.items ≡ phases.old.items ++ phases_left timing.now at (state_of table.now lun.now) starts.now }
     ensures len { array_vec_len phases.new ≤ array_vec_len phases.old + 8 }
 {
@@ -82,9 +82,9 @@ pub(crate) fn push_left(
 /// Puts the phases of a new group at these starts behind the others.
 pub(crate) fn push_group(phases: &mut Phases, timing: &Timing, members: &Group, starts: &[u64])
     requires room { array_vec_len phases.old + length starts.now ≤ 80 }
-    requires small { All (λ t. t < 2 ^ 63) starts.now }
-    requires short { All EndsInTime phases.old.items }
-    ensures short { All EndsInTime phases.new.items }
+    requires small { Each (λ t. t < 2 ^ 63) starts.now }
+    requires short { Each EndsInTime phases.old.items }
+    ensures short { Each EndsInTime phases.new.items }
     ensures items { phases.new.items ≡ phases.old.items ++ group_phases timing.now (record { members = members.now; starts = starts.now }) }
     ensures len { array_vec_len phases.new ≡ array_vec_len phases.old + length starts.now }
 {
@@ -106,10 +106,10 @@ fn push_rest(
 )
     requires few { length luns.now ≤ 8 }
     requires length { length rest.now ≡ length luns.now }
-    requires named { All (Names table.now) luns.now }
+    requires named { Each (Names table.now) luns.now }
     requires room { array_vec_len phases.old ≡ 0 }
-    requires short { All EndsInTime phases.old.items }
-    ensures short { All EndsInTime phases.new.items }
+    requires short { Each EndsInTime phases.old.items }
+    ensures short { Each EndsInTime phases.new.items }
     ensures items { phases.new.items ≡ phases.old.items ++ rest_phases timing.now 0 (states_of table.now luns.now) rest.now }
     ensures len { array_vec_len phases.new ≤ 64 }
 {
@@ -120,8 +120,8 @@ fn push_rest(
 
 fn push_groups(phases: &mut Phases, timing: &Timing, groups: &[Placed])
     requires room { array_vec_len phases.old + start_count groups.now ≤ 80 }
-    requires short { All EndsInTime phases.old.items }
-    ensures short { All EndsInTime phases.new.items }
+    requires short { Each EndsInTime phases.old.items }
+    ensures short { Each EndsInTime phases.new.items }
     ensures items { phases.new.items ≡ phases.old.items ++ flat_map (group_phases timing.now) groups.now }
 {
     for group in groups {
@@ -138,10 +138,10 @@ pub(crate) fn all_phases(
 ) -> Phases
     requires few { length luns.now ≤ 8 }
     requires length { length schedule.now.rest ≡ length luns.now }
-    requires named { All (Names table.now) luns.now }
+    requires named { Each (Names table.now) luns.now }
     requires room { start_count schedule.now.groups ≤ 16 }
     ensures items { result.items ≡ phases_of timing.now (states_of table.now luns.now) schedule.now }
-    ensures short { All EndsInTime result.items }
+    ensures short { Each EndsInTime result.items }
 {
     let mut phases = ArrayVec::new();
     push_rest(&mut phases, timing, table, luns, schedule.rest());

@@ -1,7 +1,7 @@
 //! Which schedules are legal.
 
 ghost use Rattle.std.specs.Prelude.{◌≡◌, ◌≤◌, ◌↔◌, IsTrue, length};
-ghost use Rattle.std.specs.List.{AllByRecursion as All};
+ghost use Rattle.std.specs.List.{AllByRecursion as Each};
 ghost use Rattle.onfi_problem.specs.Problem.{IsProblem};
 ghost use Rattle.onfi_schedule.specs.Schedule.{Legal};
 ghost use Rattle.onfi_schedule.specs.Conditions.{Names, HasShape, KeepsBus, KeepsWaits, KeepsTurns, KeepsGroups, states_of, start_count};
@@ -53,7 +53,7 @@ pub(crate) fn luns_and_groups(problem: &Problem) -> (&[Lun], &[Group])
     requires { IsProblem problem.now.problem }
     ensures states { states_of result.1.now result.0.now ≡ problem.now.problem.luns }
     ensures few { length result.0.now ≤ 8 }
-    ensures named { All (Names result.1.now) result.0.now }
+    ensures named { Each (Names result.1.now) result.0.now }
 {
     (problem.luns(), problem.groups())
 }
@@ -68,7 +68,7 @@ fn keeps_bus(
 ) -> bool
     requires few { length luns.now ≤ 8 }
     requires length { length schedule.now.rest ≡ length luns.now }
-    requires named { All (Names table.now) luns.now }
+    requires named { Each (Names table.now) luns.now }
     requires room { start_count schedule.now.groups ≤ 16 }
     ensures { IsTrue result ↔ KeepsBus timing.now bus_free (states_of table.now luns.now) schedule.now }
 {
@@ -79,7 +79,7 @@ fn keeps_bus(
 // Whether all groups keep their waits.
 fn keeps_waits(timing: &Timing, table: &[Group], luns: &[Lun], schedule: &Schedule) -> bool
     requires length { length schedule.now.rest ≡ length luns.now }
-    requires named { All (Names table.now) luns.now }
+    requires named { Each (Names table.now) luns.now }
     ensures { IsTrue result ↔ KeepsWaits timing.now (states_of table.now luns.now) schedule.now }
 {
     waits::rest_waits(timing, table, luns, schedule.rest())
@@ -89,7 +89,7 @@ fn keeps_waits(timing: &Timing, table: &[Group], luns: &[Lun], schedule: &Schedu
 // Whether the groups of each LUN take turns, the running one first, and begin when they may.
 fn keeps_turns(timing: &Timing, table: &[Group], luns: &[Lun], schedule: &Schedule) -> bool
     requires length { length schedule.now.rest ≡ length luns.now }
-    requires named { All (Names table.now) luns.now }
+    requires named { Each (Names table.now) luns.now }
     ensures { IsTrue result ↔ KeepsTurns timing.now (states_of table.now luns.now) schedule.now }
 {
     let groups = schedule.groups();

@@ -1,7 +1,7 @@
 //! Lists of phases.
 
 ghost use Rattle.std.specs.Prelude.{◌≡◌, ◌≤◌, ◌↔◌, IsTrue};
-ghost use Rattle.std.specs.List.{AllByRecursion as All};
+ghost use Rattle.std.specs.List.{AllByRecursion as Each};
 ghost use Rattle.onfi_group.specs.Words.{Pairs};
 ghost use Rattle.onfi_schedule.specs.Schedule.{end_of, Apart, Before, latest};
 ghost use Rattle.onfi_schedule.specs.Conditions.{EndsInTime};
@@ -10,7 +10,7 @@ use crate::phase::Phase;
 
 /// Whether all start at `floor` or later.
 pub(crate) fn all_from(floor: u64, phases: &[Phase]) -> bool
-    ensures { IsTrue result ↔ All (λ x. floor ≤ x.start) phases.now }
+    ensures { IsTrue result ↔ Each (λ x. floor ≤ x.start) phases.now }
 {
     for phase in phases {
         if phase.start < floor {
@@ -22,7 +22,7 @@ pub(crate) fn all_from(floor: u64, phases: &[Phase]) -> bool
 
 /// Whether one doesn't overlap with any of the others.
 pub(crate) fn apart_from_all(phase: &Phase, others: &[Phase]) -> bool
-    ensures { IsTrue result ↔ All (Apart phase.now) others.now }
+    ensures { IsTrue result ↔ Each (Apart phase.now) others.now }
 {
     for other in others {
         if !phase.is_apart(other) {
@@ -46,7 +46,7 @@ pub(crate) fn all_apart(phases: &[Phase]) -> bool
 
 /// Whether a phase has ended when any of the others starts.
 pub(crate) fn ends_before(phase: &Phase, others: &[Phase]) -> bool
-    ensures { IsTrue result ↔ All (λ y. end_of phase.now ≤ y.start) others.now }
+    ensures { IsTrue result ↔ Each (λ y. end_of phase.now ≤ y.start) others.now }
 {
     for other in others {
         if !phase.ends_by(other.start) {
@@ -70,7 +70,7 @@ pub(crate) fn all_before(phases: &[Phase], others: &[Phase]) -> bool
 
 /// The latest of `time` and the ends of the phases, in ns.
 pub(crate) fn latest(time: u64, phases: &[Phase]) -> u64
-    requires { All EndsInTime phases.now }
+    requires { Each EndsInTime phases.now }
     ensures { result ≡ latest time phases.now }
 {
     let mut last = time;

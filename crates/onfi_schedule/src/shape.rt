@@ -1,7 +1,7 @@
 //! The shape of a schedule: each want in exactly one group, each phase with one start.
 
 ghost use Rattle.std.specs.Prelude.{◌≡◌, ◌*◌, ◌≤◌, ◌↔◌, IsTrue, length};
-ghost use Rattle.std.specs.List.{AllByRecursion as All};
+ghost use Rattle.std.specs.List.{AllByRecursion as Each};
 ghost use Rattle.onfi_group.specs.Words.{Has, number};
 ghost use Rattle.onfi_problem.specs.Problem.{has_id};
 ghost use Rattle.onfi_problem.specs.Position.{state_of};
@@ -29,7 +29,7 @@ fn left_fits(table: &[Group], lun: &Lun, starts: &Starts) -> bool
 
 fn rest_fits(table: &[Group], luns: &[Lun], rest: &[Starts]) -> bool
     requires length { length rest.now ≡ length luns.now }
-    requires named { All (Names table.now) luns.now }
+    requires named { Each (Names table.now) luns.now }
     ensures { IsTrue result ↔ EachRest StateFits (states_of table.now luns.now) rest.now }
 {
     for (at, lun) in luns.iter().enumerate() {
@@ -47,7 +47,7 @@ fn group_fits(group: &Placed) -> bool
 }
 
 fn groups_fit(groups: &[Placed]) -> bool
-    ensures { IsTrue result ↔ All StartsFit groups.now }
+    ensures { IsTrue result ↔ Each StartsFit groups.now }
 {
     for group in groups {
         if !group_fits(group) {
@@ -58,7 +58,7 @@ fn groups_fit(groups: &[Placed]) -> bool
 }
 
 fn among(wants: &[Want], members: &[Want]) -> bool
-    ensures { IsTrue result ↔ All (Has wants.now) members.now }
+    ensures { IsTrue result ↔ Each (Has wants.now) members.now }
 {
     for member in members {
         if !turns::holds(wants, member) {
@@ -69,7 +69,7 @@ fn among(wants: &[Want], members: &[Want]) -> bool
 }
 
 fn all_among(wants: &[Want], groups: &[Placed]) -> bool
-    ensures { IsTrue result ↔ All (MembersAmong wants.now) groups.now }
+    ensures { IsTrue result ↔ Each (MembersAmong wants.now) groups.now }
 {
     for group in groups {
         if !among(wants, group.members().members()) {
@@ -103,7 +103,7 @@ fn count_in_all(groups: &[Placed], id: u64) -> usize
 }
 
 fn each_once(groups: &[Placed], wants: &[Want]) -> bool
-    ensures { IsTrue result ↔ All (HoldsOnce groups.now) wants.now }
+    ensures { IsTrue result ↔ Each (HoldsOnce groups.now) wants.now }
 {
     for want in wants {
         if count_in_all(groups, want.id) != 1 {
@@ -120,7 +120,7 @@ pub(crate) fn has_shape(
     wants: &[Want],
     schedule: &Schedule,
 ) -> bool
-    requires named { All (Names table.now) luns.now }
+    requires named { Each (Names table.now) luns.now }
     ensures { IsTrue result ↔ HasShape (states_of table.now luns.now) wants.now schedule.now }
 {
     let rest = schedule.rest();

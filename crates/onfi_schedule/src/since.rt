@@ -1,7 +1,7 @@
 //! New groups on LUNs that are free.
 
 ghost use Rattle.std.specs.Prelude.{◌≡◌, ◌≤◌, ◌↔◌, IsTrue, List, length};
-ghost use Rattle.std.specs.List.{AllByRecursion as All};
+ghost use Rattle.std.specs.List.{AllByRecursion as Each};
 ghost use Rattle.onfi_schedule.specs.Schedule.{StartsFrom};
 ghost use Rattle.onfi_request.specs.declared.want.Want.{Want};
 ghost use Rattle.onfi_problem.specs.Position.{state_of};
@@ -35,7 +35,7 @@ fn from_since(table: &[Group], luns: &[Lun], group: &Placed) -> bool
 
 /// Whether no new group starts before its LUN is free.
 pub(crate) fn all_from_since(table: &[Group], luns: &[Lun], groups: &[Placed]) -> bool
-    ensures { IsTrue result ↔ All (FromSince (states_of table.now luns.now)) groups.now }
+    ensures { IsTrue result ↔ Each (FromSince (states_of table.now luns.now)) groups.now }
 {
     for group in groups {
         if !from_since(table, luns, group) {

@@ -1,5 +1,5 @@
 ghost use Rattle.std.specs.Prelude.{◌≡◌, ℕ, ◌+◌, ◌^◌, ◌<◌, ◌≤◌, [], ◌∷◌, ◌++◌, length};
-ghost use Rattle.std.specs.List.{AllByRecursion as All};
+ghost use Rattle.std.specs.List.{AllByRecursion as Each};
 
 use smallvec::SmallVec;
 use std::alloc::Global;
@@ -13,13 +13,13 @@ pub struct Starts {
 
 impl Model for Starts {
     ghost use Rattle.std.specs.Prelude.{ℕ, List, ◌^◌, ◌≡◌, ◌<◌, ◌≤◌, length};
-    ghost use Rattle.std.specs.List.{AllByRecursion as All};
+    ghost use Rattle.std.specs.List.{AllByRecursion as Each};
 
     ghost Value = { List ℕ };
 
     ghost view = { λ s. s.of.items };
 
-    ghost invariant = { λ s. All (λ t. t < 2 ^ 63) s.of.items × (length s.of.items ≤ 8) × (s.of.capacity ≡ 8) };
+    ghost invariant = { λ s. Each (λ t. t < 2 ^ 63) s.of.items × (length s.of.items ≤ 8) × (s.of.capacity ≡ 8) };
 }
 
 impl Starts {
@@ -44,7 +44,7 @@ impl Starts {
     /// The starts in order.
     pub fn as_slice(&self) -> &[u64]
         ensures value { result.now ≡ self.now }
-        ensures small { All (λ t. t < 2 ^ 63) self.now }
+        ensures small { Each (λ t. t < 2 ^ 63) self.now }
         ensures few { length self.now ≤ 8 }
     {
         self.of.as_slice()

@@ -1,7 +1,7 @@
 //! The order of groups on one LUN and on one block.
 
 ghost use Rattle.std.specs.Prelude.{◌≡◌, ◌≤◌, ◌↔◌, IsTrue, length};
-ghost use Rattle.std.specs.List.{AllByRecursion as All};
+ghost use Rattle.std.specs.List.{AllByRecursion as Each};
 ghost use Rattle.onfi_group.specs.Words.{Has, Pairs};
 ghost use Rattle.onfi_schedule.specs.Schedule.{Before, group_phases, TakeTurns};
 ghost use Rattle.onfi_schedule.specs.Conditions.{Names, states_of, LeftFirst, EndsBefore, HoldersEnd, InBlockOrder};
@@ -42,7 +42,7 @@ fn take_turns(timing: &Timing, group: &Placed, other: &Placed) -> bool
 }
 
 fn takes_turns(timing: &Timing, group: &Placed, others: &[Placed]) -> bool
-    ensures { IsTrue result ↔ All (TakeTurns timing.now group.now) others.now }
+    ensures { IsTrue result ↔ Each (TakeTurns timing.now group.now) others.now }
 {
     for other in others {
         if !take_turns(timing, group, other) {
@@ -72,7 +72,7 @@ fn left_first(
     group: &Placed,
 ) -> bool
     requires length { length rest.now ≡ length luns.now }
-    requires named { All (Names table.now) luns.now }
+    requires named { Each (Names table.now) luns.now }
     ensures { IsTrue result ↔ LeftFirst timing.now (states_of table.now luns.now) rest.now group.now }
 {
     let at = group.members().lun();
@@ -95,8 +95,8 @@ pub(crate) fn all_left_first(
     groups: &[Placed],
 ) -> bool
     requires length { length rest.now ≡ length luns.now }
-    requires named { All (Names table.now) luns.now }
-    ensures { IsTrue result ↔ All (LeftFirst timing.now (states_of table.now luns.now) rest.now) groups.now }
+    requires named { Each (Names table.now) luns.now }
+    ensures { IsTrue result ↔ Each (LeftFirst timing.now (states_of table.now luns.now) rest.now) groups.now }
 {
     for group in groups {
         if !left_first(timing, table, luns, rest, group) {
@@ -149,7 +149,7 @@ fn keep_order(timing: &Timing, groups: &[Placed], first: &Want, second: &Want) -
 }
 
 fn keeps_order(timing: &Timing, groups: &[Placed], want: &Want, later: &[Want]) -> bool
-    ensures { IsTrue result ↔ All (InBlockOrder timing.now groups.now want.now) later.now }
+    ensures { IsTrue result ↔ Each (InBlockOrder timing.now groups.now want.now) later.now }
 {
     for other in later {
         if !keep_order(timing, groups, want, other) {

@@ -1,7 +1,7 @@
 //! The waits between the phases of a group.
 
 ghost use Rattle.std.specs.Prelude.{◌≡◌, ◌+◌, ◌^◌, ◌<◌, ◌≤◌, ◌↔◌, IsTrue, length};
-ghost use Rattle.std.specs.List.{AllByRecursion as All};
+ghost use Rattle.std.specs.List.{AllByRecursion as Each};
 ghost use Rattle.onfi_problem.specs.Position.{state_of};
 ghost use Rattle.onfi_schedule.specs.Schedule.{InOrder};
 ghost use Rattle.onfi_schedule.specs.Conditions.{Names, EachRest, StateWaits, GroupWaits, states_of};
@@ -14,7 +14,7 @@ use onfi_timing::{Spans, Timing};
 
 /// Whether each phase starts at least its wait after the end of the one before it, the first at `floor` or later.
 fn in_order(spans: &Spans, members: usize, next: usize, floor: u64, starts: &[u64]) -> bool
-    requires starts { All (λ t. t < 2 ^ 63) starts.now }
+    requires starts { Each (λ t. t < 2 ^ 63) starts.now }
     requires phases { next + length starts.now < 2 ^ 60 }
     ensures { IsTrue result ↔ InOrder spans.now members next floor starts.now }
 {
@@ -51,7 +51,7 @@ pub(crate) fn rest_waits(
     rest: &[Starts],
 ) -> bool
     requires length { length rest.now ≡ length luns.now }
-    requires named { All (Names table.now) luns.now }
+    requires named { Each (Names table.now) luns.now }
     ensures { IsTrue result ↔ EachRest (StateWaits timing.now) (states_of table.now luns.now) rest.now }
 {
     for (at, lun) in luns.iter().enumerate() {
@@ -72,7 +72,7 @@ fn one_waits(timing: &Timing, group: &Placed) -> bool
 
 /// Whether all new groups keep their waits.
 pub(crate) fn groups_wait(timing: &Timing, groups: &[Placed]) -> bool
-    ensures { IsTrue result ↔ All (GroupWaits timing.now) groups.now }
+    ensures { IsTrue result ↔ Each (GroupWaits timing.now) groups.now }
 {
     for group in groups {
         if !one_waits(timing, group) {
