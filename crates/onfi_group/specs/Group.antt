@@ -1,6 +1,6 @@
 -- Groups: wants that run as one multi-plane operation.
 use Rattle.std.specs.Prelude.{◌≡◌, ℕ, ◌+◌, ◌/◌, ◌^◌, ◌<◌, ◌≤◌, ◌≢◌, ◌==◌, if◌then◌else◌, Bool, false, IsTrue, List, [], ◌∷◌, length, Some, slice_get}
-use Rattle.std.specs.List.{AllByRecursion as All, filter, list_any}
+use Rattle.std.specs.List.{AllByRecursion as Each, filter, list_any}
 use Rattle.onfi_timing.specs.declared.kind.Kind.{Kind}
 use Rattle.onfi_timing.specs.declared.kind.Kind.TheVariants.{Read, Program, Erase}
 use Rattle.onfi_timing.specs.declared.spans.Spans.{Spans}
@@ -45,12 +45,12 @@ above_planes_of rules (m ∷ ms) = above_planes rules m
 pub record IsGroup (rules : Rules) (group : List Want) : Type 0 where
   pub some : 1 ≤ length group
   pub few : length group ≤ 4
-  pub kind : All (λ m. m.kind ≡ kind_of group) group
-  pub lun : All (λ m. m.lun ≡ lun_of group) group
+  pub kind : Each (λ m. m.kind ≡ kind_of group) group
+  pub lun : Each (λ m. m.lun ≡ lun_of group) group
   pub planes : Pairs (λ a b. a.plane < b.plane) group
-  pub page : kind_of group ≢ Erase → All (λ m. m.page ≡ page_of group) group
+  pub page : kind_of group ≢ Erase → Each (λ m. m.page ≡ page_of group) group
   pub rule : 1 < length group → IsTrue (may_group rules (kind_of group))
-  pub strict : IsTrue rules.strict → All (λ m. above_planes rules m ≡ above_planes_of rules group) group
+  pub strict : IsTrue rules.strict → Each (λ m. above_planes rules m ≡ above_planes_of rules group) group
 
 abbrev pub on_block : Want → Want → Bool
 on_block m w = if w.lun == m.lun then w.block == m.block else false
@@ -62,7 +62,7 @@ IsFirst wants m = slice_get (filter (on_block m) wants) 0 ≡ Some m
 -- may be started: a group whose members are each the first waiting want of their block
 pub record IsStartable (rules : Rules) (wants members : List Want) : Type 0 where
   pub group : IsGroup rules members
-  pub first : All (IsFirst wants) members
+  pub first : Each (IsFirst wants) members
 
 abbrev pub is_member : List Want → Want → Bool
 is_member group w = list_any (λ m. m.id == w.id) group

@@ -1,6 +1,6 @@
 -- Which groups a list of wants gives on a LUN, listed in the order of their places.
 use Rattle.std.specs.Prelude.{◌≡◌, ℕ, ◌+◌, ◌^◌, ◌<◌, if◌then◌else◌, List, [], ◌∷◌}
-use Rattle.std.specs.List.{AllByRecursion as All}
+use Rattle.std.specs.List.{AllByRecursion as Each}
 use Rattle.onfi_request.specs.declared.want.Want.{Want}
 use Rattle.onfi_group.specs.declared.rules.Rules.{Rules}
 use Rattle.onfi_group.specs.Words.{Has, Pairs, total}
@@ -10,7 +10,7 @@ use Rattle.onfi_group.specs.Group.{IsGroup, IsStartable, lun_of, on_block, mask_
 pub record IsCandidate (rules : Rules) (wants : List Want) (at : ℕ) (members : List Want) : Type 0 where
   pub group : IsGroup rules members
   pub lun : lun_of members ≡ at
-  pub listed : All (Has wants) members
+  pub listed : Each (Has wants) members
 
 -- in rising bit mask of the members' places, which ids tell
 abbrev pub MasksRise : List Want → List (List Want) → Type 0
@@ -18,7 +18,7 @@ MasksRise wants groups = Pairs (λ a b. mask_of wants a < mask_of wants b) group
 
 -- all candidates, and no other group, in rising bit mask of their places; so each stands there once
 pub record AreCandidates (rules : Rules) (wants : List Want) (lun : ℕ) (groups : List (List Want)) : Type 0 where
-  pub only : All (IsCandidate rules wants lun) groups
+  pub only : Each (IsCandidate rules wants lun) groups
   pub each : (members : List Want) → IsCandidate rules wants lun members → Has groups members
   pub order : MasksRise wants groups
 
@@ -34,6 +34,6 @@ first_mask wants members = total (λ m. 2 ^ first_place wants m) members
 -- all groups that may be started on the LUN, and no other, in rising bit mask of their places; so each stands there once
 -- (each member is the first want on its block, so the block tells its place, whatever the ids)
 pub record AreStartable (rules : Rules) (wants : List Want) (lun : ℕ) (groups : List (List Want)) : Type 0 where
-  pub only : All (λ members. IsStartable rules wants members × (lun_of members ≡ lun)) groups
+  pub only : Each (λ members. IsStartable rules wants members × (lun_of members ≡ lun)) groups
   pub each : (members : List Want) → IsStartable rules wants members → lun_of members ≡ lun → Has groups members
   pub order : Pairs (λ a b. first_mask wants a < first_mask wants b) groups

@@ -1,6 +1,6 @@
 -- How a problem is kept: in a few numbers, marks and a table of groups.
 use Rattle.std.specs.Prelude.{ℕ, ◌+◌, ◌<◌, ◌≤◌, Bool, List, length, map, slice_index, slice_range}
-use Rattle.std.specs.List.{AllByRecursion as All}
+use Rattle.std.specs.List.{AllByRecursion as Each}
 use Rattle.onfi_timing.specs.declared.timing.Timing.{Timing}
 use Rattle.onfi_request.specs.declared.want.Want.{Want}
 use Rattle.onfi_group.specs.declared.rules.Rules.{Rules}
@@ -24,7 +24,7 @@ position_of timing rules bus_free luns all waiting groups = record { problem = p
 pub record IsKept (x : Position) : Type 0 where
   pub limits : InLimits x.problem
   pub few : length x.all ≤ 8
-  pub wants : All IsWant x.all
+  pub wants : Each IsWant x.all
   pub ids : Pairs (λ a b. a.id < b.id) x.all
 
 -- from the place at number `lun` to that at the next one stand the groups that the LUN's wants can form

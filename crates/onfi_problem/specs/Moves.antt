@@ -1,6 +1,6 @@
 -- Moves: which phase may come next, when at the earliest, and what it leaves.
 use Rattle.std.specs.Prelude.{◌≡◌, ℕ, ◌+◌, ◌*◌, ◌<◌, ◌≢◌, ◌⊎◌, max, nat_lt, not, List, [], length, Option, Some, None, slice_get, slice_set, if◌then◌else◌}
-use Rattle.std.specs.List.{AllByRecursion as All, filter}
+use Rattle.std.specs.List.{AllByRecursion as Each, filter}
 use Rattle.onfi_timing.specs.declared.timing.Timing.{Timing}
 use Rattle.onfi_timing.specs.Phases.{phase_length, wait_before}
 use Rattle.onfi_request.specs.declared.want.Want.{Want}
@@ -86,6 +86,6 @@ ComesBefore p a b = (move_lun a < move_lun b) ⊎ ((move_lun a ≡ move_lun b) �
 
 -- the list of all moves, in their order
 pub record AreMoves (p : Problem) (moves : List Move) : Type 0 where
-  pub moves_only : All (IsMove p) moves
+  pub moves_only : Each (IsMove p) moves
   pub each : (m : Move) → IsMove p m → Has moves m
   pub order : Pairs (ComesBefore p) moves

@@ -1,6 +1,6 @@
 -- Problems: what is left to do on a channel, and from when on.
 use Rattle.std.specs.Prelude.{◌≡◌, ℕ, ◌*◌, ◌<◌, ◌≤◌, ◌==◌, Bool, List, length, Some, slice_get}
-use Rattle.std.specs.List.{AllByRecursion as All}
+use Rattle.std.specs.List.{AllByRecursion as Each}
 use Rattle.onfi_timing.specs.declared.kind.Kind.TheVariants.{Erase}
 use Rattle.onfi_timing.specs.declared.timing.Timing.{Timing}
 use Rattle.onfi_request.specs.declared.want.Want.{Want}
@@ -27,7 +27,7 @@ pub record IsWant (w : Want) : Type 0 where
 pub record IsRunning (rules : Rules) (at : ℕ) (members : List Want) (next : ℕ) : Type 0 where
   pub group : IsGroup rules members
   pub lun : lun_of members ≡ at
-  pub wants : All IsWant members
+  pub wants : Each IsWant members
   pub started : 1 ≤ next
   pub unfinished : next < 2 * length members
 
@@ -39,8 +39,8 @@ pub record IsSmall (p : Problem) : Type 0 where
 
 -- each want is of a LUN that is there, ids rise, and what runs is a group of its LUN
 pub record IsProblem (p : Problem) : Type 0 where
-  pub wants : All IsWant p.wants
-  pub in_range : All (λ w. w.lun < length p.luns) p.wants
+  pub wants : Each IsWant p.wants
+  pub in_range : Each (λ w. w.lun < length p.luns) p.wants
   pub ids : Pairs (λ a b. a.id < b.id) p.wants
   pub running : (lun : ℕ) (group : List Want) (next ready : ℕ) → slice_get p.luns lun ≡ Some (Running group next ready) → IsRunning p.rules lun group next
 

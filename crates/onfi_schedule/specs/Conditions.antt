@@ -1,6 +1,6 @@
 -- Words of the functions that test the conditions, over the lists that they go through.
 use Rattle.std.specs.Prelude.{◌≡◌, ℕ, ◌+◌, ◌*◌, ◌^◌, ◌≤◌, ◌<◌, List, [], ◌∷◌, ◌++◌, length, map, Some, slice_get}
-use Rattle.std.specs.List.{AllByRecursion as All, flat_map}
+use Rattle.std.specs.List.{AllByRecursion as Each, flat_map}
 use Rattle.onfi_timing.specs.declared.timing.Timing.{Timing}
 use Rattle.onfi_request.specs.declared.want.Want.{Want}
 use Rattle.onfi_group.specs.declared.rules.Rules.{Rules}
@@ -72,11 +72,11 @@ GroupWaits timing g = InOrder (group_spans timing g.members) (length g.members) 
 
 -- the group has ended when any of the others that hold the want starts
 abbrev pub EndsBefore : Timing → Placed → Want → List Placed → Type 0
-EndsBefore timing g b groups = All (λ h. Has h.members b → Before (group_phases timing g) (group_phases timing h)) groups
+EndsBefore timing g b groups = Each (λ h. Has h.members b → Before (group_phases timing g) (group_phases timing h)) groups
 
 -- so does each of these that holds the one want, of all that hold the other
 abbrev pub HoldersEnd : Timing → List Placed → Want → Want → List Placed → Type 0
-HoldersEnd timing groups a b those = All (λ g. Has g.members a → EndsBefore timing g b groups) those
+HoldersEnd timing groups a b those = Each (λ g. Has g.members a → EndsBefore timing g b groups) those
 
 -- of two wants on one block, in this order
 pub record InBlockOrder (timing : Timing) (groups : List Placed) (a b : Want) : Type 0 where
@@ -95,33 +95,33 @@ abbrev pub StartsFit : Placed → Type 0
 StartsFit g = length g.starts ≡ 2 * length g.members
 
 abbrev pub MembersAmong : List Want → Placed → Type 0
-MembersAmong wants g = All (Has wants) g.members
+MembersAmong wants g = Each (Has wants) g.members
 
 -- each want in exactly one group, each phase with one start
 pub record HasShape (states : List LunState) (wants : List Want) (s : Schedule) : Type 0 where
   pub luns : length s.rest ≡ length states
   pub rest : EachRest StateFits states s.rest
-  pub starts : All StartsFit s.groups
-  pub members : All (MembersAmong wants) s.groups
-  pub once : All (HoldsOnce s.groups) wants
+  pub starts : Each StartsFit s.groups
+  pub members : Each (MembersAmong wants) s.groups
+  pub once : Each (HoldsOnce s.groups) wants
 
 -- the bus is free when a phase starts, and no two phases overlap
 pub record KeepsBus (timing : Timing) (bus_free : ℕ) (luns : List LunState) (s : Schedule) : Type 0 where
-  pub from_bus_free : All (λ x. bus_free ≤ x.start) (phases_of timing luns s)
+  pub from_bus_free : Each (λ x. bus_free ≤ x.start) (phases_of timing luns s)
   pub no_overlap : Pairs Apart (phases_of timing luns s)
 
 -- groups keep their waits
 pub record KeepsWaits (timing : Timing) (luns : List LunState) (s : Schedule) : Type 0 where
   pub rest_waits : EachRest (StateWaits timing) luns s.rest
-  pub groups_wait : All (GroupWaits timing) s.groups
+  pub groups_wait : Each (GroupWaits timing) s.groups
 
 -- the groups of a LUN take turns, the running one first, and a free one begins when it may
 pub record KeepsTurns (timing : Timing) (luns : List LunState) (s : Schedule) : Type 0 where
-  pub left_first : All (LeftFirst timing luns s.rest) s.groups
+  pub left_first : Each (LeftFirst timing luns s.rest) s.groups
   pub turns : Pairs (TakeTurns timing) s.groups
-  pub from_since : All (FromSince luns) s.groups
+  pub from_since : Each (FromSince luns) s.groups
 
 -- groups are groups by the rules, and keep the order of wants on a block
 pub record KeepsGroups (timing : Timing) (rules : Rules) (wants : List Want) (s : Schedule) : Type 0 where
   pub block_order : Pairs (InBlockOrder timing s.groups) wants
-  pub group : All (λ g. IsGroup rules g.members) s.groups
+  pub group : Each (λ g. IsGroup rules g.members) s.groups

@@ -1,6 +1,6 @@
 -- Laws of legal schedules and of runs.
 use Rattle.std.specs.Prelude.{◌≡◌, ◌≢◌, ◌↔◌, ℕ, ◌≤◌, List, [], ◌∷◌, ◌++◌, Some, slice_set}
-use Rattle.std.specs.List.{AllByRecursion as All}
+use Rattle.std.specs.List.{AllByRecursion as Each}
 use Rattle.onfi_request.specs.declared.want.Want.{Want}
 use Rattle.onfi_group.specs.Group.{lun_of}
 use Rattle.onfi_problem.specs.Problem.{Problem, IsProblem}
@@ -20,7 +20,7 @@ Begins s (Start group) start left =
 -- the phase of least start
 pub record ComesNext (p : Problem) (s : Schedule) (move : Move) (start : ℕ) (left : Schedule) : Type 0 where
   pub begins : Begins s move start left
-  pub least : All (λ x. start ≤ x.start) (phases p s)
+  pub least : Each (λ x. start ≤ x.start) (phases p s)
 
 -- that phase is a move of the problem, and the others are legal behind it: at its own start, and at its earliest
 pub record IsFirstMove (p : Problem) (s : Schedule) (move : Move) (start : ℕ) (left : Schedule) : Type 0 where

@@ -1,6 +1,6 @@
 -- Schedules, and which of them are legal.
 use Rattle.std.specs.Prelude.{◌≡◌, ℕ, ◌+◌, ◌*◌, ◌≤◌, ◌⊎◌, max, List, [], ◌∷◌, ◌++◌, length, Option, Some, slice_get, slice_set, slice_index_or}
-use Rattle.std.specs.List.{AllByRecursion as All, flat_map}
+use Rattle.std.specs.List.{AllByRecursion as Each, flat_map}
 use Rattle.onfi_timing.specs.declared.spans.Spans.{Spans}
 use Rattle.onfi_timing.specs.declared.timing.Timing.{Timing}
 use Rattle.onfi_timing.specs.Phases.{phase_length, wait_before}
@@ -69,8 +69,8 @@ pub record IsSchedule (p : Problem) (s : Schedule) : Type 0 where
   pub luns : length s.rest ≡ length p.luns
   pub rest : (lun : ℕ) (group : List Want) (next ready : ℕ) (starts : List ℕ) → slice_get p.luns lun ≡ Some (Running group next ready) → rest_of s lun ≡ Some starts → next + length starts ≡ 2 * length group
   pub no_rest : (lun since : ℕ) (starts : List ℕ) → slice_get p.luns lun ≡ Some (Free since) → rest_of s lun ≡ Some starts → starts ≡ []
-  pub starts : All (λ g. length g.starts ≡ 2 * length g.members) s.groups
-  pub wants_only : All (Has p.wants) (all_members s.groups)
+  pub starts : Each (λ g. length g.starts ≡ 2 * length g.members) s.groups
+  pub wants_only : Each (Has p.wants) (all_members s.groups)
   pub once : (id : ℕ) → number (has_id id) (all_members s.groups) ≡ number (has_id id) p.wants
 
 -- two phases don't overlap
@@ -84,7 +84,7 @@ InOrder spans k n floor (t ∷ ts) = (floor ≤ t) × InOrder spans k (n + 1) (t
 
 -- the ones have ended when any of the others starts
 abbrev pub Before : List Phase → List Phase → Type 0
-Before xs ys = All (λ x. All (λ y. end_of x ≤ y.start) ys) xs
+Before xs ys = Each (λ x. Each (λ y. end_of x ≤ y.start) ys) xs
 
 abbrev pub StartsFrom : ℕ → List ℕ → Type 0
 StartsFrom floor [] = Unit {0}
@@ -100,15 +100,15 @@ KeepsBlockOrder timing groups a b = a.lun ≡ b.lun → a.block ≡ b.block → 
 
 pub record Legal (p : Problem) (s : Schedule) : Type 0 where
   pub shape : IsSchedule p s
-  pub from_bus_free : All (λ x. p.bus_free ≤ x.start) (phases p s)
+  pub from_bus_free : Each (λ x. p.bus_free ≤ x.start) (phases p s)
   pub no_overlap : Pairs Apart (phases p s)
   pub rest_waits : (lun : ℕ) (group : List Want) (next ready : ℕ) (starts : List ℕ) → slice_get p.luns lun ≡ Some (Running group next ready) → rest_of s lun ≡ Some starts → InOrder (group_spans p.timing group) (length group) next ready starts
-  pub waits : All (λ g. InOrder (group_spans p.timing g.members) (length g.members) 0 0 g.starts) s.groups
-  pub running_first : All (λ g. (group : List Want) (next ready : ℕ) (starts : List ℕ) → slice_get p.luns (lun_of g.members) ≡ Some (Running group next ready) → rest_of s (lun_of g.members) ≡ Some starts → Before (phases_left p.timing (lun_of g.members) (Running group next ready) starts) (group_phases p.timing g)) s.groups
+  pub waits : Each (λ g. InOrder (group_spans p.timing g.members) (length g.members) 0 0 g.starts) s.groups
+  pub running_first : Each (λ g. (group : List Want) (next ready : ℕ) (starts : List ℕ) → slice_get p.luns (lun_of g.members) ≡ Some (Running group next ready) → rest_of s (lun_of g.members) ≡ Some starts → Before (phases_left p.timing (lun_of g.members) (Running group next ready) starts) (group_phases p.timing g)) s.groups
   pub turns : Pairs (TakeTurns p.timing) s.groups
-  pub from_since : All (λ g. (since : ℕ) → slice_get p.luns (lun_of g.members) ≡ Some (Free since) → StartsFrom since g.starts) s.groups
+  pub from_since : Each (λ g. (since : ℕ) → slice_get p.luns (lun_of g.members) ≡ Some (Free since) → StartsFrom since g.starts) s.groups
   pub block_order : Pairs (KeepsBlockOrder p.timing s.groups) p.wants
-  pub group : All (λ g. IsGroup p.rules g.members) s.groups
+  pub group : Each (λ g. IsGroup p.rules g.members) s.groups
 
 -- legal, and no legal schedule ends sooner
 pub record Optimal (p : Problem) (s : Schedule) : Type 0 where
