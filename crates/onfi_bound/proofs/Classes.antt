@@ -8,7 +8,7 @@ use Rattle.onfi_timing.specs.declared.kind.Kind.TheVariants.{Read, Program, Eras
 use Rattle.onfi_timing.specs.declared.spans.Spans.{Spans}
 use Rattle.onfi_timing.specs.declared.timing.Timing.{Timing}
 use Rattle.onfi_request.specs.declared.want.Want.{Want}
-use Rattle.onfi_group.specs.Words.{Has, Pairs, number}
+use Rattle.onfi_group.specs.Words.{Has, Pairs, total, number}
 use Rattle.onfi_group.specs.Group.{IsGroup, kind_of, page_of, above_planes_of, group_spans}
 use Rattle.onfi_problem.specs.Moves.{without}
 use Rattle.onfi_problem.specs.Left.{waits_left}
@@ -16,7 +16,6 @@ use Rattle.onfi_group.specs.declared.rules.Rules.{Rules}
 use Rattle.onfi_bound.specs.Bounds.{sum_upto, same_kind, page_class, above_class, in_class, on_plane, deepest, class_waits, waits_of, kind_waits, all_waits}
 use Rattle.onfi_problem.proofs.Perm.{All-weaker, All-both, All-each}
 use Rattle.onfi_problem.proofs.Wants.{Rising}
-use Rattle.onfi_bound.proofs.Sums.{total_le}
 use Rattle.onfi_problem.proofs.Limits.{times_le}
 use Rattle.onfi_problem.proofs.Totals.{split_total}
 
@@ -50,6 +49,10 @@ grid_step n m f g i j c h k =
     sum_step n (λ i'. sum_upto m (λ j'. f i' j')) (λ i'. sum_upto m (λ j'. g i' j')) i c
     (λ i' d. let a = h i' 0 (inl d) in let b = sum_step m (λ j'. f i' j') (λ j'. g i' j') 0 0 (λ j' e. h i' j' (inl d)) (omega arith) in omega arith)
     (sum_step m (λ j'. f i j') (λ j'. g i j') j c (λ j' e. h i j' (inr e)) k)
+
+total_le : {A : Type 0} (f g : A → ℕ) (xs : List A) → ((x : A) → f x ≤ g x) → total f xs ≤ total g xs
+total_le f g [] h = omega arith
+total_le f g (x ∷ xs) h = let e = total_le f g xs h in let a = h x in omega arith
 
 pub same_kind_is : (a b : Kind) → same_kind a b ≡ true → a ≡ b
 same_kind_is Read Read h = refl

@@ -1,4 +1,3 @@
-pub mod Sums
 pub mod Steps
 pub mod Parts
 pub mod Firsts

@@ -1,14 +1,13 @@
 -- One more element of the list that a loop goes over.
 use Rattle.std.proofs.Common.{◌≡◌, ℕ, zero, suc, ◌+◌, ◌<◌, Bool, true, false, if◌then◌else◌, List, [], ◌∷◌, ◌++◌, length, None, get_or, take, refl, ap, add-one, arith}
 use Rattle.std.specs.List.{AllByRecursion as All, list_any}
-use Rattle.std.proofs.lemmas.List.{take_more}
 use Rattle.std.proofs.lemmas.List.Folds.{list_any_more}
 use Rattle.onfi_timing.specs.declared.kind.Kind.TheVariants.{Read}
 use Rattle.onfi_request.specs.declared.want.Want.{Want}
 use Rattle.onfi_group.specs.Words.{total}
 use Rattle.onfi_problem.specs.Position.{waiting_of}
 use Rattle.onfi_bound.specs.declared.chain.Chain.{Chain}
-use Rattle.onfi_problem.proofs.Wants.{total-append}
+use Rattle.onfi_problem.proofs.Sums.{total_more}
 
 -- what a list gives behind its end
 abbrev pub no_chain : Chain
@@ -16,9 +15,6 @@ no_chain = record { running = false; from = 0; commands = 0; posts = 0; waits = 
 
 abbrev pub no_want : Want
 no_want = record { id = 0; kind = Read; lun = 0; plane = 0; block = 0; page = 0 }
-
-total_more : {A : Type 0} (f : A → ℕ) (xs : List A) (i : ℕ) (d : A) → i < length xs → total f (take (i + 1) xs) ≡ total f (take i xs) + f (get_or xs i d)
-total_more f xs i d h = let e = total-append f (take i xs) (get_or xs i d ∷ []) in rw (take_more xs i d h) (omega arith)
 
 -- a sum with one more
 pub summed : {A : Type 0} (f : A → ℕ) (xs : List A) (i : ℕ) (d : A) (first so_far next : ℕ) → i < length xs → so_far ≡ first + total f (take i xs) → next ≡ so_far + f (get_or xs i d) → next ≡ first + total f (take (i + 1) xs)

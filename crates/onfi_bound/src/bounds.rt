@@ -35,8 +35,11 @@ pub fn trail(problem: &Problem) -> Option<u64>
 }
 
 /// The die bound of a LUN that is there, in ns of the channel's clock: from when the LUN may go on, plus the rest of
-/// its running group with waits, plus the phases and waits of its wants, grouped as the planes of each class of wants
-/// allow at best; where the LUN has nothing left it is when the bus is free.
+/// its running group with waits, plus the phases of its wants and the waits that the best grouping leaves them
+/// (ONFI 4.2, multi-plane operations); where the LUN has nothing left it is when the bus is free.
+///
+/// Wants are counted for each kind and page, all erases as one page; where groups are strict, also for each block
+/// number above the plane bits.
 pub fn die(problem: &Problem, lun: u8) -> u64
     requires { lun < length problem.now.problem.luns }
     ensures value { result ≡ die problem.now.problem lun }

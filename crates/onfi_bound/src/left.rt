@@ -1,9 +1,9 @@
-ghost use Rattle.std.specs.Prelude.{◌≡◌, ℕ, ◌+◌, ◌*◌, ◌^◌, ◌<◌, ◌≤◌, length, map, take, if◌then◌else◌, true};
+ghost use Rattle.std.specs.Prelude.{◌≡◌, ℕ, ◌+◌, ◌*◌, ◌^◌, ◌<◌, ◌≤◌, length, map, take, if◌then◌else◌, true, false, []};
 ghost use Rattle.std.specs.List.{AllByRecursion as Each, list_any};
 ghost use Rattle.onfi_timing.specs.declared.kind.Kind.{Kind};
 ghost use Rattle.onfi_group.specs.Words.{total};
 ghost use Rattle.onfi_problem.specs.Position.{state_of};
-ghost use Rattle.onfi_problem.specs.Left.{want_command, want_post};
+ghost use Rattle.onfi_problem.specs.Left.{want_command, want_post, InLimits};
 ghost use Rattle.onfi_bound.specs.Bounds.{same_kind};
 ghost use Rattle.onfi_bound.specs.Parts.{chain_of, has_kind, is_kind, IsShort, IsLeft};
 
@@ -27,6 +27,19 @@ pub struct Sums {
 }
 
 impl Sums {
+    /// Nothing is left.
+    fn none() -> Sums
+        ensures commands { result.commands ≡ 0 }
+        ensures posts { result.posts ≡ 0 }
+        ensures kinds { (kind : Kind) → has_kind result.kinds kind ≡ false }
+    {
+        Sums {
+            commands: 0,
+            posts: 0,
+            kinds: Kinds::none(),
+        }
+    }
+
     /// What is left of running groups.
     fn of_chains(chains: &[Chain]) -> Sums
         requires short { Each IsShort chains.now }
@@ -37,11 +50,7 @@ impl Sums {
         ensures commands_short { result.commands ≤ 2 ^ 55 }
         ensures posts_short { result.posts ≤ 2 ^ 55 }
     {
-        let mut sums = Sums {
-            commands: 0,
-            posts: 0,
-            kinds: Kinds::none(),
-        };
+        let mut sums = Sums::none();
         for chain in chains {
             sums = sums.with_chain(*chain);
         }
@@ -101,48 +110,67 @@ pub struct Left {
     pub sums: Sums,
 }
 
-/// The wants that wait.
-fn waiting(problem: &Problem) -> ArrayVec<Want, 8>
-    ensures { result.items ≡ problem.now.problem.wants }
-{
-    let marks = problem.waiting();
-    let mut wants = ArrayVec::new();
-    for (i, want) in problem.wants().iter().enumerate() {
-        if marks[i] {
-            wants.push(*want);
-        }
-    }
-    wants
-}
-
-/// What is left of each LUN's running group.
-fn chains(timing: &Timing, groups: &[Group], luns: &[Lun]) -> ArrayVec<Chain, 8>
-    requires few { length luns.now ≤ 8 }
-    requires placed { Each (λ lun. 1 ≤ lun.next → lun.place < length groups.now) luns.now }
-    ensures { result.items ≡ map (chain_of timing.now) (map (state_of groups.now) luns.now) }
-{
-    let mut chains = ArrayVec::new();
-    for lun in luns {
-        chains.push(Chain::of(timing, groups, *lun));
-    }
-    chains
-}
-
 impl Left {
     /// What is left to a problem.
     pub fn of(problem: &Problem) -> Left
         ensures { IsLeft problem.now.problem result }
     {
-        let bus_free = problem.bus_free();
-        let timing = problem.timing();
-        let wants = waiting(problem);
-        let chains = chains(&timing, problem.groups(), problem.luns());
-        let sums = Sums::of_chains(&chains).with_wants(&timing, &wants);
+        let mut left = Left::new(problem);
+        left.read(problem);
+        left
+    }
+
+    /// Nothing is read yet but when the bus is free.
+    pub fn new(problem: &Problem) -> Left
+        ensures limits { InLimits problem.now.problem }
+        ensures bus_free { result.bus_free ≡ problem.now.problem.bus_free }
+        ensures chains { result.chains.items ≡ [] }
+        ensures wants { result.wants.items ≡ [] }
+    {
         Left {
-            bus_free,
-            chains,
-            wants,
-            sums,
+            bus_free: problem.bus_free(),
+            chains: ArrayVec::new(),
+            wants: ArrayVec::new(),
+            sums: Sums::none(),
         }
+    }
+
+    /// Reads what is left to a problem. The lists are filled where they stand, since they are long to copy.
+    pub fn read(&mut self, problem: &Problem)
+        requires limits { InLimits problem.now.problem }
+        requires bus_free { self.old.bus_free ≡ problem.now.problem.bus_free }
+        requires chains { self.old.chains.items ≡ [] }
+        requires wants { self.old.wants.items ≡ [] }
+        ensures { IsLeft problem.now.problem self.new }
+    {
+        let timing = problem.timing();
+        list_chains(&timing, problem.groups(), problem.luns(), &mut self.chains);
+        list_waiting(problem, &mut self.wants);
+        self.sums = Sums::of_chains(&self.chains).with_wants(&timing, &self.wants);
+    }
+}
+
+/// Lists the wants that wait.
+fn list_waiting(problem: &Problem, wants: &mut ArrayVec<Want, 8>)
+    requires { wants.old.items ≡ [] }
+    ensures { wants.new.items ≡ problem.now.problem.wants }
+{
+    let marks = problem.waiting();
+    for (i, want) in problem.wants().iter().enumerate() {
+        if marks[i] {
+            wants.push(*want);
+        }
+    }
+}
+
+/// Lists what is left of each LUN's running group.
+fn list_chains(timing: &Timing, groups: &[Group], luns: &[Lun], chains: &mut ArrayVec<Chain, 8>)
+    requires empty { chains.old.items ≡ [] }
+    requires few { length luns.now ≤ 8 }
+    requires placed { Each (λ lun. 1 ≤ lun.next → lun.place < length groups.now) luns.now }
+    ensures { chains.new.items ≡ map (chain_of timing.now) (map (state_of groups.now) luns.now) }
+{
+    for lun in luns {
+        chains.push(Chain::of(timing, groups, *lun));
     }
 }

@@ -1,4 +1,5 @@
-//! Lower bounds: four numbers that no legal schedule of a problem ends before.
+//! Lower bounds: four numbers that no legal schedule of a problem ends before. Alone, it tells how soon a problem may
+//! be done at best, and which bound lets a search stop.
 #![tactic(auto)]
 
 mod bound;

@@ -1,5 +1,5 @@
 ghost use Rattle.std.specs.Prelude.{◌≡◌, ℕ, ◌<◌, ◌≤◌, ◌↔◌, IsTrue, length, MatchOption, Some};
-ghost use Rattle.onfi_bound.specs.Bounds.{trail, die};
+ghost use Rattle.onfi_bound.specs.Bounds.{die};
 ghost use Rattle.onfi_bound.specs.Parts.{IsLeft};
 ghost use Rattle.onfi_bound.specs.Reaching.{Reaches, NoneReaches, IsFirst, IsFirstDie};
 
@@ -13,14 +13,16 @@ use onfi_problem::Problem;
 pub fn closing(problem: &Problem, e: u64) -> Option<Bound>
     ensures { MatchOption result (NoneReaches problem.now.problem e) (λ bound. IsFirst problem.now.problem e bound) }
 {
-    let left = Left::of(problem);
+    // A search asks this at each node: what is left is not moved once it is read.
+    let mut left = Left::new(problem);
+    left.read(problem);
     if left.bus(problem) >= e {
         return Some(Bound::Bus);
     }
     if left.lead(problem) >= e {
         return Some(Bound::Lead);
     }
-    if left.trail_reaches(problem, e) {
+    if is_reached(left.trail(problem), e) {
         return Some(Bound::Trail);
     }
     match left.first_die(problem, e) {
@@ -37,23 +39,12 @@ pub fn reaches(problem: &Problem, bound: Bound, e: u64) -> bool
     match bound {
         Bound::Bus => bus(problem) >= e,
         Bound::Lead => lead(problem) >= e,
-        Bound::Trail => Left::of(problem).trail_reaches(problem, e),
+        Bound::Trail => is_reached(trail(problem), e),
         Bound::Die(lun) => (lun as usize) < problem.lun_count() && die(problem, lun) >= e,
     }
 }
 
 impl Left {
-    /// Whether there is a trail bound of at least `e` ns.
-    fn trail_reaches(&self, problem: &Problem, e: u64) -> bool
-        requires { IsLeft problem.now.problem self.now }
-        ensures { IsTrue result ↔ ((t : ℕ) × (trail problem.now.problem ≡ Some t) × (e ≤ t)) }
-    {
-        match self.trail(problem) {
-            Some(t) => t >= e,
-            None => false,
-        }
-    }
-
     /// The first LUN whose die bound is at least `e` ns.
     fn first_die(&self, problem: &Problem, e: u64) -> Option<u8>
         requires { IsLeft problem.now.problem self.now }
@@ -65,5 +56,15 @@ impl Left {
             }
         }
         None
+    }
+}
+
+/// Whether there is a bound and it is at least `e` ns.
+fn is_reached(bound: Option<u64>, e: u64) -> bool
+    ensures { IsTrue result ↔ ((t : ℕ) × (bound ≡ Some t) × (e ≤ t)) }
+{
+    match bound {
+        Some(t) => t >= e,
+        None => false,
     }
 }

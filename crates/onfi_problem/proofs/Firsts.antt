@@ -1,7 +1,7 @@
 -- The groups of the table that may be started, and their order by masks: the same over all wants and over those that wait.
-use Rattle.std.proofs.Common.{◌≡◌, ◌≢◌, ℕ, ◌+◌, ◌*◌, ◌^◌, ◌≤◌, ◌<◌, inl, inr, Bool, true, false, List, [], ◌∷◌, Some, refl, sym, ap, ◌∙◌, subst, arith, add-one, pow-suc}
+use Rattle.std.proofs.Common.{◌≡◌, ℕ, ◌+◌, ◌*◌, ◌^◌, ◌≤◌, ◌<◌, inl, inr, Bool, true, false, List, [], ◌∷◌, Some, refl, sym, ap, subst, arith, add-one, pow-suc}
 use Rattle.std.specs.Prelude.{slice_get, if◌then◌else◌, ◌==◌}
-use Rattle.std.specs.List.{filter, AllByRecursion as All, list_all, list_any}
+use Rattle.std.specs.List.{filter, AllByRecursion as All}
 use Rattle.std.proofs.lemmas.Bool.{cases_Bool, cases_lt, eq-eqb, eqb-true, false≢true}
 use Rattle.onfi_request.specs.declared.want.Want.{Want}
 use Rattle.onfi_group.specs.declared.rules.Rules.{Rules}
@@ -55,9 +55,9 @@ with_bits : (a b x y x' y' : ℕ) → a ≤ 1 → b ≤ 1 → Same x y x' y' →
 with_bits a b x y x' y' ha hb s = elim (cases_lt x y) [
   | inl l ↦ (let q = s.less l in record { less = λ h. omega arith; equal = λ h. absurd (omega arith) })
   | inr l ↦ elim (cases_lt y x) [
-      | inl m ↦ record { less = λ h. absurd (omega arith); equal = λ h. absurd (omega arith) }
-      | inr m ↦ (let e : x ≡ y = omega arith in let q = s.equal e in record { less = λ h. omega arith; equal = λ h. omega arith })
-    ]
+    | inl m ↦ record { less = λ h. absurd (omega arith); equal = λ h. absurd (omega arith) }
+    | inr m ↦ (let e : x ≡ y = omega arith in let q = s.equal e in record { less = λ h. omega arith; equal = λ h. omega arith })
+  ]
 ]
 
 none_in : (g ws : List Want) → Covered g [] ws → mask0 g ws ≡ 0
@@ -83,7 +83,6 @@ mask_order g h marks ws c d lt =
     let q = (same_order g h marks ws c d).less (omega arith) in
     omega arith
 
-
 -- who waits is there
 pub waiting_in : (marks : List Bool) (ws : List Want) (w : Want) → Has (waiting_of marks ws) w → Has ws w
 waiting_in marks [] w h = h
@@ -103,11 +102,10 @@ covered g [] (w ∷ ws) r f = (none_member w (λ m. f w (inl refl) m), covered g
     none_member : (v : Want) → (is_member g v ≡ true → ⊥) → is_member g v ≡ false
     none_member v n = elim (cases_Bool (is_member g v)) [ inl k ↦ absurd (n k) | inr k ↦ k ]
 covered g (true ∷ bs) (w ∷ ws) r f = ((λ e. absurd (false≢true (sym e))), covered g bs ws r.1 (λ v h m. elim (f v (inr h) m) [ inl e ↦ absurd (not_later w ws r.0 (subst (Has ws) (sym e) h)) | inr k ↦ k ]))
-covered g (false ∷ bs) (w ∷ ws) r f =
-    (
-      (λ e. elim (cases_Bool (is_member g w)) [ inl k ↦ absurd (not_later w ws r.0 (waiting_in bs ws w (f w (inl refl) k))) | inr k ↦ k ]),
-      covered g bs ws r.1 (λ v h m. f v (inr h) m),
-    )
+covered g (false ∷ bs) (w ∷ ws) r f = (
+  (λ e. elim (cases_Bool (is_member g w)) [ inl k ↦ absurd (not_later w ws r.0 (waiting_in bs ws w (f w (inl refl) k))) | inr k ↦ k ]),
+  covered g bs ws r.1 (λ v h m. f v (inr h) m),
+)
 
 -- who is told to be a member is one
 member_in : (all : List Want) (g : List Want) (w : Want) → Rising all → All (Has all) g → Has all w → is_member g w ≡ true → Has g w

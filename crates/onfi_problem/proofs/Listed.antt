@@ -1,16 +1,16 @@
 -- The table of groups while it is made.
-use Rattle.std.proofs.Common.{◌≡◌, ◌≢◌, ℕ, zero, suc, ◌+◌, ◌-◌, ◌<◌, ◌≤◌, inl, inr, List, [], ◌∷◌, ◌++◌, length, get_or, map, take, drop, Some, refl, sym, ap, ◌∙◌, subst, arith, append_assoc, get_or-set_same, get_or-set_other, drop-drop}
-use Rattle.std.specs.Prelude.{slice_index, slice_index_or, slice_range, slice_set}
+use Rattle.std.proofs.Common.{◌≡◌, ◌≢◌, ℕ, ◌+◌, ◌-◌, ◌<◌, ◌≤◌, inl, inr, List, [], ◌∷◌, ◌++◌, length, get_or, map, take, drop, refl, sym, ap, ◌∙◌, subst, arith, append_assoc, get_or-set_same, get_or-set_other}
+use Rattle.std.specs.Prelude.{slice_index, slice_range, slice_set}
 use Rattle.std.proofs.lemmas.Bool.{ne_eqb, cases_lt}
 use Rattle.std.proofs.lemmas.List.{get_or_at, map_push, take_more, drop_at, take_all, take-append-le, drop-append-le, length-append, length-drop}
 use Rattle.onfi_request.specs.declared.want.Want.{Want}
 use Rattle.onfi_group.specs.declared.rules.Rules.{Rules}
 use Rattle.onfi_group.specs.Listing.{AreCandidates}
 use Rattle.onfi_problem.specs.declared.lun_state.LunState.{LunState}
-use Rattle.onfi_problem.specs.declared.lun_state.LunState.TheVariants.{Free, Running}
+use Rattle.onfi_problem.specs.declared.lun_state.LunState.TheVariants.{Running}
 use Rattle.onfi_problem.specs.declared.moves.Lun.{Lun}
 use Rattle.onfi_problem.specs.Position.{state_of}
-use Rattle.onfi_problem.specs.Kept.{IsOwn, IsTable}
+use Rattle.onfi_problem.specs.Kept.{IsOwn}
 
 -- a group that was put behind the others is found at its place, whatever comes behind it
 pub last_state : (groups more : List (List Want)) (g : List Want) (n r place : ℕ) → 1 ≤ n → place ≡ length groups → state_of (groups ++ g ∷ [] ++ more) (record { next = n; place = place; time = r }) ≡ Running g n r

@@ -1,5 +1,5 @@
 -- Lists and their maps.
-use Rattle.std.proofs.Common.{◌≡◌, ℕ, zero, suc, ◌+◌, ◌<◌, ◌≤◌, List, [], ◌∷◌, length, get_or, map, Some, refl, ap, arith, length-set, drop}
+use Rattle.std.proofs.Common.{◌≡◌, ℕ, zero, suc, List, [], ◌∷◌, length, get_or, map, Some, refl, ap, length-set, drop}
 use Rattle.std.specs.Prelude.{slice_get, slice_set, IfSome}
 use Rattle.std.specs.List.{refill, AllByRecursion as All}
 use Rattle.std.proofs.lemmas.List.{take_at}
@@ -29,3 +29,8 @@ pub some_of_all : {A : Type 0} (P : A → Type 0) (xs : List A) (i : ℕ) → Al
 some_of_all P [] i h = tt
 some_of_all P (x ∷ xs) zero h = h.0
 some_of_all P (x ∷ xs) (suc i) h = some_of_all P xs i h.1
+
+-- what holds of each mapped element
+pub All-map : {A B : Type 0} (f : A → B) (P : B → Type 0) (xs : List A) → All P (map f xs) → All (λ x. P (f x)) xs
+All-map f P [] h = tt
+All-map f P (x ∷ xs) h = (h.0, All-map f P xs h.1)

@@ -27,4 +27,3 @@ free_is timing g n ended since h =
       | inl a ↦ (let k = lun_after_running timing g n ended a in cc)
       | inr a ↦ (let k = lun_after_free timing g n ended a in (cc, a))
     ]
-

@@ -6,7 +6,7 @@ use Rattle.std.proofs.lemmas.Bool.{cases_Bool, cases_lt}
 use Rattle.std.proofs.lemmas.List.{length-append, length-map, append_assoc, append-nil}
 use Rattle.onfi_request.specs.declared.want.Want.{Want}
 use Rattle.onfi_group.specs.Words.{Has, Pairs}
-use Rattle.onfi_group.specs.Group.{IsGroup, IsStartable, lun_of, mask_of}
+use Rattle.onfi_group.specs.Group.{IsStartable, lun_of, mask_of}
 use Rattle.onfi_problem.specs.declared.lun_state.LunState.{LunState}
 use Rattle.onfi_problem.specs.declared.lun_state.LunState.TheVariants.{Free, Running}
 use Rattle.onfi_problem.specs.Problem.{Problem}
@@ -155,7 +155,6 @@ module _ (p : Problem) (own : ℕ → List (List Want)) (can : List Want → Boo
     (right : (l : ℕ) (g : List Want) → l < length p.luns → Has (own l) g → can g ≡ true → (lun_of g ≡ l) × IsStartable p.rules p.wants g)
     (full : (g : List Want) → lun_of g < length p.luns → IsStartable p.rules p.wants g → Has (own (lun_of g)) g × (can g ≡ true))
     (sorted : (l : ℕ) → l < length p.luns → Pairs (λ g h. can g ≡ true → can h ≡ true → mask_of p.wants g < mask_of p.wants h) (own l)) where
-
   all_starts : (l since : ℕ) (gs : List (List Want)) → ((g : List Want) → Has gs g → Has (own l) g) → slice_get p.luns l ≡ Some (Free since) → All (λ m. IsMove p m × (move_lun m ≡ l)) (starts_of own can gs)
   all_starts l since [] i at = tt
   all_starts l since (g ∷ gs) i at = elim (cases_Bool (can g)) [
@@ -189,7 +188,7 @@ module _ (p : Problem) (own : ℕ → List (List Want)) (can : List Want → Boo
   in_starts : (gs : List (List Want)) (g : List Want) → Has gs g → can g ≡ true → Has (starts_of own can gs) (Start g)
   in_starts [] g h k = absurd h
   in_starts (x ∷ gs) g (inl e) k = let k' : can x ≡ true = ap can e ∙ k in rw k' (inl (ap (λ z. Start z) e))
-  in_starts (x ∷ gs) g (inr h) k = elim (cases_Bool (can x)) [ | inl j ↦ rw j (inr (in_starts gs g h k)) | inr j ↦ rw j (in_starts gs g h k) ]
+  in_starts (x ∷ gs) g (inr h) k = elim (cases_Bool (can x)) [ inl j ↦ rw j (inr (in_starts gs g h k)) | inr j ↦ rw j (in_starts gs g h k) ]
 
   in_from : (l i : ℕ) (luns : List LunState) (x : LunState) (m : Move) → slice_get luns i ≡ Some x → Has (lun_moves own can (l + i) x) m → Has (moves_from own can l luns) m
   in_from l i [] x m e h = cc

@@ -8,7 +8,7 @@ use Rattle.onfi_request.specs.declared.want.Want.{Want}
 use Rattle.onfi_problem.specs.declared.moves.Move.{Move as KeptMove}
 use Rattle.onfi_problem.specs.declared.moves.Move.TheVariants.{Start as KeptStart}
 use Rattle.onfi_group.specs.Group.{lun_of}
-use Rattle.onfi_problem.specs.Moves.{Move, Start}
+use Rattle.onfi_problem.specs.Moves.{Start}
 use Rattle.onfi_problem.specs.Position.{move_of, moves_of}
 use Rattle.onfi_problem.specs.Starts.{can_start, starts, IsNamed}
 use Rattle.onfi_problem.proofs.Perm.{All-append}

@@ -1,7 +1,7 @@
 -- The moves of a position, from its table.
-use Rattle.std.proofs.Common.{◌≡◌, ◌≢◌, ℕ, zero, suc, ◌+◌, ◌-◌, ◌≤◌, ◌<◌, inl, inr, Bool, true, List, [], ◌∷◌, ◌++◌, length, map, take, drop, get_or, Some, refl, sym, ap, ◌∙◌, subst, arith}
-use Rattle.std.specs.Prelude.{slice_get, slice_index, slice_range}
-use Rattle.std.specs.List.{filter, AllByRecursion as All}
+use Rattle.std.proofs.Common.{◌≡◌, ◌≢◌, ℕ, zero, suc, ◌+◌, ◌-◌, ◌≤◌, ◌<◌, inl, inr, Bool, true, List, [], ◌∷◌, ◌++◌, length, take, drop, get_or, refl, sym, ap, ◌∙◌, arith}
+use Rattle.std.specs.Prelude.{slice_index, slice_range}
+use Rattle.std.specs.List.{AllByRecursion as All}
 use Rattle.std.proofs.lemmas.List.{length-append, length-map, length-take, length-drop, get_or-map, map_push, take_all}
 use Rattle.std.proofs.lemmas.Bool.{eq-eqb, ne_eqb}
 use Rattle.onfi_timing.specs.declared.timing.Timing.{Timing}
@@ -10,14 +10,13 @@ use Rattle.onfi_group.specs.declared.rules.Rules.{Rules}
 use Rattle.onfi_group.specs.Words.{Has, Pairs}
 use Rattle.onfi_group.specs.Group.{IsStartable, lun_of, mask_of}
 use Rattle.onfi_group.specs.Listing.{IsCandidate, AreCandidates}
-use Rattle.onfi_problem.specs.declared.lun_state.LunState.{LunState}
 use Rattle.onfi_problem.specs.declared.moves.Lun.{Lun}
-use Rattle.onfi_problem.specs.Problem.{Problem, IsWant}
+use Rattle.onfi_problem.specs.Problem.{IsWant}
 use Rattle.onfi_problem.specs.declared.moves.Move.{Move as KeptMove}
 use Rattle.onfi_problem.specs.declared.moves.Move.TheVariants.{Next as KeptNext}
 use Rattle.onfi_problem.specs.Moves.{AreMoves, Next}
 use Rattle.onfi_problem.specs.Position.{Position, waiting_of, state_of, move_of, moves_of}
-use Rattle.onfi_problem.specs.Kept.{IsKept, IsOwn, IsTable, position_of}
+use Rattle.onfi_problem.specs.Kept.{IsKept, IsTable, position_of}
 use Rattle.onfi_problem.specs.Starts.{can_start, starts, IsNamed}
 use Rattle.onfi_problem.proofs.Perm.{All-append, All-has, All-each, All-weaker}
 use Rattle.onfi_problem.proofs.Firsts.{startable_of, candidate_of, passes, startable_order}

@@ -43,4 +43,3 @@ one_phase spans k n h =
           let q : 2 * k - max n k ≡ suc (2 * k - max (n + 1) k) = omega arith in
           rw (le-ltb n k a, e, e', q) (omega arith))
     ]
-

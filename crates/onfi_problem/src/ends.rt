@@ -13,7 +13,8 @@ impl Problem {
         ensures value { result ≡ may_go self.now.problem lun }
         ensures small { result < 2 ^ 62 }
     {
-        self.bus_free().max(self.luns()[lun as usize].time)
+        let from = self.luns()[lun as usize].time;
+        self.bus_free().max(from)
     }
 
     /// When the phase of a move ends that starts at its earliest, in ns.

@@ -47,7 +47,7 @@ impl Moves {
         ensures value { result ≡ length self.now }
         ensures few { result ≤ 87 }
     {
-        self.count
+        self.as_slice().len()
     }
 
     /// Whether there is none.

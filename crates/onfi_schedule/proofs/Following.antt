@@ -51,9 +51,12 @@ module _ (p : Problem) (s : Schedule) (ip : IsProblem p) (lg : Legal p s) where
       let q = is_head (lun_of h.members) spans k 0 0 t ts y w i' low.0 in
       let cut = cut_at s.groups h here in
       let g : Placed = record { members = h.members; starts = t ∷ ts } in
-      let same : h ≡ g = ap (λ (u : List ℕ). record { members = h.members; starts = u }) e in
-      (Start h.members, t, record { rest = slice_set s.rest (lun_of h.members) ts; groups = cut.0 ++ cut.1 },
-       record { begins = (ts, cut.0, cut.1, cut.2 ∙ ap (λ (z : Placed). cut.0 ++ z ∷ cut.1) same, refl); least = subst (λ (j : ℕ). All (λ z. j ≤ z.start) (phases p s)) q least })
+      let same : h ≡ g = ap (λ (u : List ℕ). record { members = h.members; starts = u }) e in (
+        Start h.members,
+        t,
+        record { rest = slice_set s.rest (lun_of h.members) ts; groups = cut.0 ++ cut.1 },
+        record { begins = (ts, cut.0, cut.1, cut.2 ∙ ap (λ (z : Placed). cut.0 ++ z ∷ cut.1) same, refl); least = subst (λ (j : ℕ). All (λ z. j ≤ z.start) (phases p s)) q least },
+      )
 
   next_of : 1 ≤ length (phases p s) → Next' p s
   next_of some =
@@ -90,4 +93,5 @@ done_law p s ip lg = (
     | inl none ↦ none
     | inr some ↦ (let n = next_of p s ip lg some in let f = first_move_law p s n.0 n.1 n.2 ip lg n.3 in absurd (not_done p n.0 done f.is_move))
   ],
-  λ none. none_left p s ip lg (rw none tt))
+  λ none. none_left p s ip lg (rw none tt),
+)

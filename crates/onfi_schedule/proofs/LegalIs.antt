@@ -50,17 +50,17 @@ module _ (p : Problem) (s : Schedule) (ip : IsProblem p) where
       let ms = all_members s.groups in
       let among = members_among p.wants s.groups sh.members in
       let there : 1 ≤ number (has_id id) p.wants → number (has_id id) ms ≡ number (has_id id) p.wants = λ k. (
-        let w = some_with_id p.wants id k in
-        let a = All-has (HoldsOnce s.groups) p.wants w.0 sh.once w.1 in
-        let b = id_count_is s.groups w.0.id in
-        let c = one_with_id p.wants w.0 ip.ids w.1 in
-        let same = w.2 in
-        let d : number (has_id w.0.id) ms ≡ number (has_id w.0.id) p.wants = omega arith in
-        subst (λ (i : ℕ). number (has_id i) ms ≡ number (has_id i) p.wants) same d) in
+      let w = some_with_id p.wants id k in
+      let a = All-has (HoldsOnce s.groups) p.wants w.0 sh.once w.1 in
+      let b = id_count_is s.groups w.0.id in
+      let c = one_with_id p.wants w.0 ip.ids w.1 in
+      let same = w.2 in
+      let d : number (has_id w.0.id) ms ≡ number (has_id w.0.id) p.wants = omega arith in
+      subst (λ (i : ℕ). number (has_id i) ms ≡ number (has_id i) p.wants) same d) in
       let back : 1 ≤ number (has_id id) ms → 1 ≤ number (has_id id) p.wants = λ k. (
-        let m = some_with_id ms id k in
-        let e = number_has p.wants m.0 (All-has (Has p.wants) ms m.0 among m.1) in
-        subst (λ (i : ℕ). 1 ≤ number (has_id i) p.wants) m.2 e) in
+      let m = some_with_id ms id k in
+      let e = number_has p.wants m.0 (All-has (Has p.wants) ms m.0 among m.1) in
+      subst (λ (i : ℕ). 1 ≤ number (has_id i) p.wants) m.2 e) in
       elim (none_or_some (number (has_id id) p.wants)) [
         | inl none ↦ elim (none_or_some (number (has_id id) ms)) [ inl e ↦ e ∙ sym none | inr k ↦ (let b = back k in absurd (omega arith)) ]
         | inr k ↦ there k

@@ -1,6 +1,7 @@
 pub mod AtPlace
 pub mod Chains
 pub mod Rests
+pub mod OneTrace
 pub mod Earlier
 pub mod Following
 pub mod Waiting

@@ -23,7 +23,8 @@ named_by : (table : List (List Want)) (luns : List Lun) → ((i : ℕ) (g : List
 named_by table [] h = tt
 named_by table (lun ∷ luns) h = (
   λ k. some_there table lun.place (h 0 _ _ _ (ap (λ (s : LunState). Some s) (state_running table lun k))),
-  named_by table luns (λ i. h (suc i)))
+  named_by table luns (λ i. h (suc i)),
+)
 
 pub all_named : (p : Problem) (table : List (List Want)) (luns : List Lun) → IsProblem p → states_of table luns ≡ p.luns → All (Names table) luns
 all_named p table luns ip e = named_by table luns (λ i g n r at. (ip.running i g n r (rw (← e) at)).group.some)

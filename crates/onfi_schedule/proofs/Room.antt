@@ -30,7 +30,8 @@ apart_ids : (ms : List Want) → ((m : Want) → Has ms m → number (has_id m.i
 apart_ids [] h = tt
 apart_ids (m ∷ ms) h = (
   All-each (λ b. m.id ≢ b.id) ms (λ b k e. let here = h m (inl refl) in let there = number_has ms b k in let same : 1 ≤ number (has_id m.id) ms = rw e there in grind (arith, nat_tests)),
-  apart_ids ms (λ b k. let here = h b (inr k) in omega (arith, here)))
+  apart_ids ms (λ b k. let here = h b (inr k) in omega (arith, here)),
+)
 
 total_length : (ms : List Want) → total (λ _. 1) ms ≡ length ms
 total_length [] = refl

@@ -7,6 +7,7 @@ use Rattle.onfi_problem.specs.Problem.{Problem, IsProblem}
 use Rattle.onfi_problem.specs.Moves.{Move, Next, Start, IsMove, move_lun, earliest, placed, after, IsDone}
 use Rattle.onfi_schedule.specs.Schedule.{Placed, Schedule, Legal, finish, phases, rest_of, with_first}
 use Rattle.onfi_schedule.specs.Runs.{Step, Run, schedule_of}
+use Rattle.onfi_schedule.specs.Trace.{IsTrace}
 
 -- the schedule begins with the move's phase at `start`, and these are the others
 abbrev pub Begins : Schedule → Move → ℕ → Schedule → Type 0
@@ -74,3 +75,7 @@ pub record RunsFirst (p : Problem) (lun end : ℕ) : Type 0 where
 -- start: some run that begins with one of those moves ends no later
 abbrev pub YieldLaw : Type 0
 YieldLaw = (p : Problem) (move other : Move) (start lun end : ℕ) (steps : List Step) → IsProblem p → IsMove p move → earliest p move ≤ start → Run (placed p move start) steps end → lun ≢ move_lun move → IsMove p other → move_lun other ≡ lun → ((m : Move) → IsMove p m → move_lun m ≡ lun → (after p m).bus_free ≤ earliest p move) → RunsFirst p lun end
+
+-- a legal schedule has one trace
+abbrev pub OneTraceLaw : Type 0
+OneTraceLaw = (p : Problem) (s : Schedule) (text other : List ℕ) → Legal p s → IsTrace p s text → IsTrace p s other → text ≡ other

@@ -14,10 +14,8 @@ use onfi_group::Group;
 use onfi_problem::Lun;
 use onfi_timing::{Spans, Timing};
 
-/// No schedule of a problem has more phases: eight starts on each of eight LUNs, and two for each of eight wants.
-pub(crate) const MOST: usize = 80;
-
-/// Phases, kept inline.
+/// Phases, kept inline. No schedule of a problem has more of them: at most eight starts on each of eight LUNs, and two
+/// for each of eight wants.
 pub(crate) type Phases = ArrayVec<Phase, 80>;
 
 /// What is common to the phases of a group from number `next` on.
@@ -97,13 +95,7 @@ pub(crate) fn push_group(phases: &mut Phases, timing: &Timing, members: &Group, 
     push_chain(phases, &chain, starts);
 }
 
-fn push_rest(
-    phases: &mut Phases,
-    timing: &Timing,
-    table: &[Group],
-    luns: &[Lun],
-    rest: &[Starts],
-)
+fn push_rest(phases: &mut Phases, timing: &Timing, table: &[Group], luns: &[Lun], rest: &[Starts])
     requires few { length luns.now ≤ 8 }
     requires length { length rest.now ≡ length luns.now }
     requires named { Each (Names table.now) luns.now }

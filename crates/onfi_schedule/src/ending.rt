@@ -3,10 +3,8 @@
 ghost use Rattle.std.specs.Prelude.{◌≡◌};
 ghost use Rattle.onfi_schedule.specs.Schedule.{Legal, finish};
 
-use crate::chain;
-use crate::legality;
-use crate::phases;
 use crate::schedule::Schedule;
+use crate::{chain, legality, phases};
 use onfi_problem::Problem;
 
 /// When the last phase of a legal schedule ends, or from when on the bus is free where no phase is left, in ns.

@@ -1,6 +1,6 @@
 //! Laws of legal schedules and of runs, for whoever walks from problem to problem by moves.
 
-ghost use Rattle.onfi_schedule.specs.Laws.{FirstMoveLaw, NextLaw, DoneLaw, EarlierLaw, MoveBackLaw, LegalRunLaw, RunLegalLaw, YieldLaw};
+ghost use Rattle.onfi_schedule.specs.Laws.{FirstMoveLaw, NextLaw, DoneLaw, EarlierLaw, MoveBackLaw, LegalRunLaw, RunLegalLaw, YieldLaw, OneTraceLaw};
 
 /// The phase of least start of a legal schedule is that of a move; the others are legal behind it and end when they
 /// did, and with that phase at its earliest they are legal too and end no later.
@@ -42,4 +42,9 @@ pub fn run_is_legal()
 /// moves ends no later.
 pub fn yielding()
     ensures { YieldLaw }
+{}
+
+/// A legal schedule has one trace.
+pub fn one_trace()
+    ensures { OneTraceLaw }
 {}

@@ -6,14 +6,8 @@ ghost use Rattle.onfi_problem.specs.Problem.{IsProblem};
 ghost use Rattle.onfi_schedule.specs.Schedule.{Legal};
 ghost use Rattle.onfi_schedule.specs.Conditions.{Names, HasShape, KeepsBus, KeepsWaits, KeepsTurns, KeepsGroups, states_of, start_count};
 
-use crate::chain;
-use crate::groups;
-use crate::phases;
 use crate::schedule::Schedule;
-use crate::shape;
-use crate::since;
-use crate::turns;
-use crate::waits;
+use crate::{chain, groups, phases, shape, since, turns, waits};
 use arrayvec::ArrayVec;
 use onfi_group::{Group, Rules};
 use onfi_problem::{Lun, Problem};

@@ -25,3 +25,6 @@ pub use placed::Placed;
 pub use schedule::Schedule;
 pub use starts::Starts;
 pub use tracing::trace;
+
+#[cfg(test)]
+mod tests;

@@ -114,12 +114,7 @@ fn each_once(groups: &[Placed], wants: &[Want]) -> bool
 }
 
 /// Whether a schedule has each want in exactly one group, and for each phase one start.
-pub(crate) fn has_shape(
-    table: &[Group],
-    luns: &[Lun],
-    wants: &[Want],
-    schedule: &Schedule,
-) -> bool
+pub(crate) fn has_shape(table: &[Group], luns: &[Lun], wants: &[Want], schedule: &Schedule) -> bool
     requires named { Each (Names table.now) luns.now }
     ensures { IsTrue result ↔ HasShape (states_of table.now luns.now) wants.now schedule.now }
 {

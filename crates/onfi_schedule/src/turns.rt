@@ -20,7 +20,12 @@ fn phases_of(timing: &Timing, group: &Placed) -> Phases
     ensures { result.items ≡ group_phases timing.now group.now }
 {
     let mut phases = ArrayVec::new();
-    chain::push_group(&mut phases, timing, group.members(), group.starts().as_slice());
+    chain::push_group(
+        &mut phases,
+        timing,
+        group.members(),
+        group.starts().as_slice(),
+    );
     phases
 }
 

@@ -40,16 +40,17 @@ fn left_waits(timing: &Timing, table: &[Group], lun: &Lun, starts: &Starts) -> b
     }
     let group = &table[lun.place as usize];
     let spans = timing.spans(group.kind());
-    in_order(&spans, group.len(), lun.next as usize, lun.time, starts.as_slice())
+    in_order(
+        &spans,
+        group.len(),
+        lun.next as usize,
+        lun.time,
+        starts.as_slice(),
+    )
 }
 
 /// Whether what is left of each running group keeps its waits.
-pub(crate) fn rest_waits(
-    timing: &Timing,
-    table: &[Group],
-    luns: &[Lun],
-    rest: &[Starts],
-) -> bool
+pub(crate) fn rest_waits(timing: &Timing, table: &[Group], luns: &[Lun], rest: &[Starts]) -> bool
     requires length { length rest.now ≡ length luns.now }
     requires named { Each (Names table.now) luns.now }
     ensures { IsTrue result ↔ EachRest (StateWaits timing.now) (states_of table.now luns.now) rest.now }

@@ -7,3 +7,4 @@ pub mod SetupLemmas
 pub mod TextLemmas
 pub mod Single
 pub mod Told
+pub mod WordsLemmas

@@ -1,19 +1,15 @@
 -- Walks over the LUNs and the rows of a script.
-use Rattle.std.proofs.Common.{◌≡◌, ◌<◌, ◌≤◌, ℕ, zero, suc, Bool, false, ◌+◌, List, [], ◌∷◌, ◌++◌, length, map, take, drop, get_or, refl, sym, ap, ◌∙◌, add-one, drop-cons, append_assoc, append-nil, length-append, Some, None}
-use Rattle.std.specs.Prelude.{Option, cond, option_map, position}
+use Rattle.std.proofs.Common.{◌≡◌, ◌<◌, ◌≤◌, ℕ, suc, ◌+◌, List, [], ◌∷◌, ◌++◌, length, map, take, drop, get_or, refl, sym, ap, ◌∙◌, add-one, drop-cons, append_assoc, append-nil, length-append, Some, None}
+use Rattle.std.specs.Prelude.{Option}
 use Rattle.std.proofs.Math.ListN.{drop_of_length-le}
 use Rattle.std.proofs.Math.Seq.{take-suc}
 use Rattle.std.proofs.lemmas.List.{map-append}
 use Rattle.onfi_timing.specs.declared.kind.Kind.{Kind}
 use Rattle.onfi_request.specs.declared.want.Want.{Want as WantOf}
-use Rattle.onfi_problem.specs.Problem.{Problem}
-use Rattle.onfi_sim.specs.declared.fault.ScriptFault.TheVariants.{Missing, OutOfRange}
-use Rattle.onfi_sim.specs.declared.fault.Refusal.{Refusal}
-use Rattle.onfi_sim.specs.declared.row.Subject.TheVariants.{Bus, Strict}
 use Rattle.onfi_sim.specs.declared.row.Row.{Row}
 use Rattle.onfi_problem.specs.declared.lun_state.LunState.{LunState}
-use Rattle.onfi_sim.specs.RowParts.{RunningRow, ShapeRow}
-use Rattle.onfi_sim.specs.Setup.{member, plane_of, state_at, states, want_in, numbered, wants_from, row_on, shape_in, bus_from, strict_from, names_absent, lacks_spans, refusal_with, setup_refusal, HasTiming, SetsUp}
+use Rattle.onfi_sim.specs.RowParts.{RunningRow}
+use Rattle.onfi_sim.specs.Setup.{member, plane_of, state_at, states, want_in, numbered, wants_from}
 
 pub states_begun : (plane_bits : ℕ) (rows : List Row) → [] ≡ states plane_bits rows 0
 unfolding states
@@ -63,34 +59,3 @@ members_more plane_bits at row blocks made want h e told =
 pub member_is : (plane_bits plane block : ℕ) (kind : Kind) (lun page : ℕ) (row : RunningRow) → kind ≡ row.kind → lun ≡ row.lun → page ≡ row.page → plane ≡ plane_of plane_bits block
     → record { id = 0; kind = kind; lun = lun; plane = plane; block = block; page = page } ≡ member plane_bits row block
 member_is plane_bits plane block kind lun page row a b c d = cc
-
-length_states : (plane_bits : ℕ) (rows : List Row) (luns : ℕ) → length (states plane_bits rows luns) ≡ luns
-unfolding states
-length_states plane_bits rows zero = refl
-length_states plane_bits rows (suc luns) =
-    length-append (states plane_bits rows luns) (state_at plane_bits rows luns ∷ []) ∙ ap (λ n. n + 1) (length_states plane_bits rows luns) ∙ add-one luns
-
-shape_is : (s : ShapeRow) (luns plane_bits : ℕ) (read write : Bool) → s.luns ≡ luns → s.plane_bits ≡ plane_bits → s.read ≡ read → s.write ≡ write
-    → s ≡ record { luns = luns; plane_bits = plane_bits; read = read; write = write }
-shape_is s luns plane_bits read write a b c d =
-    let of : ℕ → ℕ → Bool → Bool → ShapeRow = λ l p r w. record { luns = l; plane_bits = p; read = r; write = w } in
-    ap (λ l. of l s.plane_bits s.read s.write) a ∙ ap (λ p. of luns p s.read s.write) b ∙ ap (λ r. of luns plane_bits r s.write) c ∙ ap (of luns plane_bits read) d
-
--- what is found of the rows makes the problem that they set up
-pub whole : (rows : List Row) (p : Problem) (shape : ShapeRow) → shape_in rows ≡ Some shape → lacks_spans rows ≡ false → position (names_absent shape.luns) rows ≡ None
-    → shape.read ≡ p.rules.read → shape.write ≡ p.rules.write → shape.plane_bits ≡ p.rules.plane_bits → p.rules.strict ≡ strict_from (row_on Strict rows)
-    → HasTiming rows p.timing → p.bus_free ≡ bus_from (row_on Bus rows) → p.luns ≡ states shape.plane_bits rows shape.luns → p.wants ≡ wants_from shape.plane_bits 0 rows
-    → (setup_refusal rows ≡ None) × SetsUp rows p
-whole rows p shape found lengths there read write bits strict timing bus luns wants =
-    let count : shape.luns ≡ length p.luns = sym (ap length luns ∙ length_states shape.plane_bits rows shape.luns) in (
-      ap (refusal_with rows) found ∙ ap (λ b. cond b (Some (record { row = 0; fault = Missing })) (option_map (λ at. record { row = at + 1; fault = OutOfRange }) (position (names_absent shape.luns) rows))) lengths
-      ∙ ap (option_map (λ at. record { row = at + 1; fault = OutOfRange })) there,
-      record {
-        shape = found ∙ ap Some (shape_is shape (length p.luns) p.rules.plane_bits p.rules.read p.rules.write count bits read write);
-        strict = strict;
-        timing = timing;
-        bus_free = bus;
-        luns = luns ∙ ap (λ b. states b rows shape.luns) bits ∙ ap (states p.rules.plane_bits rows) count;
-        wants = wants ∙ ap (λ b. wants_from b 0 rows) bits;
-      },
-    )

@@ -3,12 +3,10 @@ use Rattle.std.proofs.Common.{◌≡◌, ℕ, List, Ok, Err, Some, None, refl, s
 use Rattle.std.specs.Prelude.{Option, Result, IfOk, IfErr, IfSome}
 use Rattle.std.specs.Io.KnownBytes.{Appends}
 use Rattle.onfi_sim.specs.Text.{Answer, memory}
-use Rattle.onfi_problem.specs.Problem.{Problem}
 use Rattle.onfi_sim.specs.declared.row.Row.{Row}
 use Rattle.onfi_sim.specs.Row.{Record}
 use Rattle.onfi_sim.specs.Rows.{rows_of}
-use Rattle.onfi_sim.specs.Setup.{setup_refusal, SetsUp}
-use Rattle.onfi_sim.specs.Answer.{AnswersProblem, AnswersRows, AnswersRecords, Answers, BeginsAnswer, IsAnswer}
+use Rattle.onfi_sim.specs.Answer.{AnswersRows, AnswersRecords, Answers, BeginsAnswer, IsAnswer}
 use Rattle.onfi_sim.specs.declared.command.Command.{Command}
 use Rattle.onfi_sim.specs.declared.transfer.EngineFault.{EngineFault}
 use Rattle.onfi_sim.specs.declared.transfer.EngineFault.TheVariants.{Write}
@@ -39,6 +37,3 @@ told_part command input old new answer (Err f) is w e = told_start command input
 
 pub rows_told : (command : Command) (records : List Record) (rows : List Row) (answer : Answer) → rows_of command records ≡ Ok rows → AnswersRows rows answer → AnswersRecords command records answer
 rows_told command records rows answer e h = rw e h
-
-pub setup_told : (rows : List Row) (p : Problem) (answer : Answer) → setup_refusal rows ≡ None → SetsUp rows p → AnswersProblem p answer → AnswersRows rows answer
-setup_told rows p answer e up h = rw e (p, up, h)

@@ -1,5 +1,5 @@
 -- What is written for an input, and with which status.
-use Rattle.std.specs.Prelude.{◌≡◌, ℕ, ◌+◌, ◌^◌, ◌≤◌, ◌⊎◌, ◌==◌, ◌&&◌, nat_le, if◌then◌else◌, Bool, true, false, IsTrue, List, length, take, Option, Some, Result, Ok, Err, IfSome, MatchOption, MatchResult, codes}
+use Rattle.std.specs.Prelude.{◌≡◌, ℕ, ◌+◌, ◌^◌, ◌≤◌, ◌⊎◌, ◌==◌, ◌&&◌, nat_le, if◌then◌else◌, Bool, true, false, IsTrue, List, length, take, Option, Some, None, position, Result, Ok, Err, IfSome, MatchOption, MatchResult, codes}
 use Rattle.std.specs.List.{list_all}
 use Rattle.std.specs.Io.KnownBytes.{Appends}
 use Rattle.csv.specs.Reading.{AreRecords, default_config, strip_bom}
@@ -11,14 +11,16 @@ use Rattle.onfi_problem.specs.Left.{horizon, InLimits, all_commands, all_posts}
 use Rattle.onfi_schedule.specs.Schedule.{Schedule, Optimal, finish}
 use Rattle.onfi_sim.specs.declared.command.Command.{Command}
 use Rattle.onfi_sim.specs.declared.fault.ScriptFault.{ScriptFault}
-use Rattle.onfi_sim.specs.declared.fault.ScriptFault.TheVariants.{NoEnd, Problem as Fault}
+use Rattle.onfi_sim.specs.declared.fault.ScriptFault.TheVariants.{NoEnd, OutOfRange, Problem as Fault}
 use Rattle.onfi_problem.specs.declared.fault.ProblemFault.TheVariants.{TooMany, BadLun, Clock}
 use Rattle.onfi_sim.specs.declared.fault.Refusal.{Refusal}
 use Rattle.onfi_sim.specs.declared.row.Row.{Row}
 use Rattle.onfi_sim.specs.Row.{Record}
 use Rattle.onfi_sim.specs.Rows.{rows_of}
 use Rattle.onfi_sim.specs.Script.{script_of}
-use Rattle.onfi_sim.specs.Setup.{setup_refusal, SetsUp}
+use Rattle.onfi_sim.specs.declared.device.Device.{Device}
+use Rattle.onfi_sim.specs.Device.{TellsDevice}
+use Rattle.onfi_sim.specs.Setup.{names_absent, SetsUp}
 use Rattle.onfi_sim.specs.Text.{Answer, memory, refused, planned}
 
 -- a fault of the script as a whole
@@ -67,9 +69,14 @@ pub data AnswersProblem (p : Problem) (answer : Answer) : Type 0 where
   is_not_single : InLimits p → is_single p ≡ false → Refuses (Fault TooMany) answer → AnswersProblem p answer
   is_planned : InLimits p → IsTrue (is_single p) → Plans p answer → AnswersProblem p answer
 
--- the answer to rows that are each in order: why they set up no problem, or the answer to it
-abbrev pub AnswersRows : List Row → Answer → Type 0
-AnswersRows rows answer = MatchOption (setup_refusal rows) ((p : Problem) × SetsUp rows p × AnswersProblem p answer) (λ refusal. answer ≡ refused refusal)
+-- the answer to rows that are each in order: why they tell of no device, the first that names a LUN that isn't
+-- there, or the answer to what they set up
+pub data AnswersRows (rows : List Row) (answer : Answer) : Type 0 where
+  has_no_device : (fault : ScriptFault) → TellsDevice rows (Err fault) → Refuses fault answer → AnswersRows rows answer
+  has_no_lun : (device : Device) (at : ℕ) → TellsDevice rows (Ok device) → position (names_absent device.luns) rows ≡ Some at
+      → answer ≡ refused (record { row = at + 1; fault = OutOfRange }) → AnswersRows rows answer
+  has_problem : (device : Device) (p : Problem) → TellsDevice rows (Ok device) → position (names_absent device.luns) rows ≡ None → SetsUp rows device p
+      → AnswersProblem p answer → AnswersRows rows answer
 
 -- the answer to records: their first refused row, or the answer to all
 abbrev pub AnswersRecords : Command → List Record → Answer → Type 0

@@ -4,11 +4,14 @@ pub mod RowParts
 pub mod RowName
 pub mod Row
 pub mod Subject
+pub mod Seen
 pub mod Rows
 pub mod Stop
+pub mod Device
 pub mod Setup
 pub mod SetupOf
 pub mod Text
 pub mod Answer
 pub mod AnswerOf
 pub mod Single
+pub mod Words

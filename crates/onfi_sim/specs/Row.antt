@@ -1,8 +1,14 @@
 -- What a row says, by its name.
 use Rattle.std.specs.Prelude.{ℕ, List, [], ◌∷◌, drop, Result, Ok, Err}
+use Rattle.hex.specs.Hex.{decode_of}
+use Rattle.hex.specs.declared.error.FromHexError.{FromHexError}
+use Rattle.onfi_timing.specs.declared.fault.SheetFault.{SheetFault}
+use Rattle.onfi_timing.specs.declared.sheet.Sheet.{Sheet as SheetOf}
+use Rattle.onfi_timing.specs.Sheet.{with_row}
 use Rattle.onfi_sim.specs.declared.fault.ScriptFault.{ScriptFault}
+use Rattle.onfi_sim.specs.declared.fault.ScriptFault.TheVariants.{Hex, Sheet as InSheet}
 use Rattle.onfi_sim.specs.declared.row.Row.{Row}
-use Rattle.onfi_sim.specs.declared.row.Row.TheVariants.{Shape, Spans, Bus, Free, Running, Want, Strict}
+use Rattle.onfi_sim.specs.declared.row.Row.TheVariants.{Shape, Spans, Page, Sheet, Bus, Free, Running, Want, Strict}
 use Rattle.onfi_sim.specs.Field.{given, field, number, flag, kind, lun, block, page, span, time}
 
 -- the fields of a row, its name first
@@ -25,6 +31,22 @@ spans_row row =
     given (span 0 (field row 4)) (λ array.
     given (span 1 (field row 5)) (λ post.
     Ok (Spans (record { kind = kind; cmd = cmd; gap = gap; array = array; post = post })))))))
+
+-- bytes in hexadecimal
+abbrev pub bytes_row : Result (List ℕ) FromHexError → Result Row ScriptFault
+bytes_row (Ok bytes) = Ok (Page bytes)
+bytes_row (Err fault) = Err Hex
+
+abbrev pub page_row : Record → Result Row ScriptFault
+page_row row = bytes_row (decode_of (field row 1))
+
+-- a sheet with one value more
+abbrev pub values_row : Result SheetOf SheetFault → Result Row ScriptFault
+values_row (Ok sheet) = Ok (Sheet sheet)
+values_row (Err fault) = Err (InSheet fault)
+
+abbrev pub sheet_row : SheetOf → ℕ → Record → Result Row ScriptFault
+sheet_row sheet number row = values_row (with_row sheet number (field row 1) (field row 2))
 
 abbrev pub bus_row : Record → Result Row ScriptFault
 bus_row row = given (time (field row 1)) (λ bus_free. Ok (Bus bus_free))

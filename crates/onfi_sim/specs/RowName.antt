@@ -3,6 +3,8 @@ use Rattle.std.specs.Prelude.{ℕ, ◌==◌, ◌&&◌, nat_le, if◌then◌else�
 use Rattle.std.specs.Str.{bytes_eq}
 use Rattle.onfi_sim.specs.declared.command.Command.{Command}
 use Rattle.onfi_sim.specs.declared.command.Command.TheVariants.{Plan}
+use Rattle.onfi_sim.specs.declared.row_name.Form.{Form}
+use Rattle.onfi_sim.specs.declared.row_name.Form.TheVariants.{First, Second}
 use Rattle.onfi_sim.specs.declared.row_name.RowName.{RowName}
 use Rattle.onfi_sim.specs.declared.row_name.RowName.TheVariants.{Shape, Spans, Page, Sheet, Bus, Free, Running, Want, Strict, Channels, Hosts, Batch, SubmitCap, PostCap, Op, Fault, ChipFail, NotReady}
 
@@ -37,6 +39,8 @@ name_of text =
 abbrev pub is_taken_by_plan : RowName → Bool
 is_taken_by_plan Shape = true
 is_taken_by_plan Spans = true
+is_taken_by_plan Page = true
+is_taken_by_plan Sheet = true
 is_taken_by_plan Bus = true
 is_taken_by_plan Free = true
 is_taken_by_plan Running = true
@@ -47,10 +51,31 @@ is_taken_by_plan _ = false
 abbrev pub is_taken : Command → RowName → Bool
 is_taken (Plan limit) name = is_taken_by_plan name
 
+-- the form whose row it is
+abbrev pub form_of : RowName → Option Form
+form_of Shape = Some First
+form_of Spans = Some First
+form_of Page = Some Second
+form_of Sheet = Some Second
+form_of _ = None
+
+abbrev pub is_form : Form → Form → Bool
+is_form First First = true
+is_form Second Second = true
+is_form form other = false
+
+-- a row of that form, or of none, may stand in a script of this form, or of none as yet
+abbrev pub fits : Option Form → Option Form → Bool
+fits None form = true
+fits (Some own) None = true
+fits (Some own) (Some form) = is_form own form
+
 -- how many fields a row may have, its name with them
 abbrev pub has_fields : RowName → ℕ → Bool
 has_fields Shape count = count == 5
 has_fields Spans count = count == 6
+has_fields Page count = count == 2
+has_fields Sheet count = count == 3
 has_fields Bus count = count == 2
 has_fields Free count = count == 3
 has_fields Running count = nat_le 7 count && nat_le count 10

@@ -1,15 +1,17 @@
 -- What a row settles for a script.
-use Rattle.std.specs.Prelude.{◌==◌, Bool, true, false, Option, Some, None}
+use Rattle.std.specs.Prelude.{◌==◌, Bool, true, false, List, Option, Some, None, find}
 use Rattle.onfi_timing.specs.declared.kind.Kind.{Kind}
 use Rattle.onfi_timing.specs.declared.kind.Kind.TheVariants.{Read, Program, Erase}
 use Rattle.onfi_sim.specs.declared.row.Row.{Row}
-use Rattle.onfi_sim.specs.declared.row.Row.TheVariants.{Shape, Spans, Bus, Free, Running, Want, Strict}
+use Rattle.onfi_sim.specs.declared.row.Row.TheVariants.{Shape, Spans, Page, Sheet, Bus, Free, Running, Want, Strict}
 use Rattle.onfi_sim.specs.declared.row.Subject.{Subject}
 use Rattle.onfi_sim.specs.declared.row.Subject.TheVariants as on
 
 abbrev pub subject_of : Row → Option Subject
 subject_of (Shape row) = Some on.Shape
 subject_of (Spans row) = Some (on.Spans row.kind)
+subject_of (Page bytes) = None
+subject_of (Sheet sheet) = None
 subject_of (Bus bus_free) = Some on.Bus
 subject_of (Free lun since) = Some (on.Lun lun)
 subject_of (Running row) = Some (on.Lun row.lun)
@@ -37,3 +39,7 @@ settled_by (Some other) subject = is_subject subject other
 
 abbrev pub settles : Subject → Row → Bool
 settles subject row = settled_by (subject_of row) subject
+
+-- the row that settles a subject
+abbrev pub row_on : Subject → List Row → Option Row
+row_on subject rows = find (settles subject) rows

@@ -3,11 +3,18 @@ use Rattle.std.specs.Prelude.{ℕ, ◌+◌, ◌++◌, if◌then◌else◌, Bool,
 use Rattle.std.specs.List.{flat_map}
 use Rattle.std.specs.Fmt.{decimal}
 use Rattle.onfi_request.specs.declared.want.Want.{Want}
+use Rattle.onfi_param.specs.declared.fault.PageFault.{PageFault}
+use Rattle.onfi_param.specs.declared.fault.PageFault.TheVariants.{Short, NoCopy}
+use Rattle.onfi_addr.specs.declared.fault.GeometryFault.{GeometryFault}
+use Rattle.onfi_addr.specs.declared.fault.GeometryFault.TheVariants.{WideBus, NoStatusEnhanced, NoColumnEnhanced, NoMultiLun, LunCount, PlaneBits, Zero, RowTooWide, ColumnTooWide, TooLarge}
+use Rattle.onfi_timing.specs.declared.fault.SheetFault.{SheetFault}
+use Rattle.onfi_timing.specs.declared.fault.SheetFault.TheVariants as sheet
+use Rattle.onfi_problem.specs.declared.fault.ProblemFault.{ProblemFault}
 use Rattle.onfi_problem.specs.declared.fault.ProblemFault.TheVariants.{TooMany, BadLun, Clock, Memory}
 use Rattle.onfi_problem.specs.Problem.{Problem as ProblemOf}
 use Rattle.onfi_schedule.specs.Schedule.{Placed, Schedule}
 use Rattle.onfi_sim.specs.declared.fault.ScriptFault.{ScriptFault}
-use Rattle.onfi_sim.specs.declared.fault.ScriptFault.TheVariants.{NoEnd, UnknownRow, FieldCount, NotANumber, OutOfRange, Repeated, Missing, Problem, NotHere}
+use Rattle.onfi_sim.specs.declared.fault.ScriptFault.TheVariants.{NoEnd, UnknownRow, FieldCount, NotANumber, OutOfRange, Repeated, Missing, Hex, Page, Geometry, Sheet, Problem, NotHere}
 use Rattle.onfi_sim.specs.declared.fault.Refusal.{Refusal}
 
 -- what is written, and the status that the program ends with
@@ -18,6 +25,37 @@ pub record Answer : Type 0 where
 abbrev pub memory : Answer
 memory = record { text = codes "memory\n"; status = 4 }
 
+abbrev pub page_name : PageFault → List ℕ
+page_name Short = codes "Page Short"
+page_name NoCopy = codes "Page NoCopy"
+
+abbrev pub geometry_name : GeometryFault → List ℕ
+geometry_name WideBus = codes "Geometry WideBus"
+geometry_name NoStatusEnhanced = codes "Geometry NoStatusEnhanced"
+geometry_name NoColumnEnhanced = codes "Geometry NoColumnEnhanced"
+geometry_name NoMultiLun = codes "Geometry NoMultiLun"
+geometry_name LunCount = codes "Geometry LunCount"
+geometry_name PlaneBits = codes "Geometry PlaneBits"
+geometry_name Zero = codes "Geometry Zero"
+geometry_name RowTooWide = codes "Geometry RowTooWide"
+geometry_name ColumnTooWide = codes "Geometry ColumnTooWide"
+geometry_name TooLarge = codes "Geometry TooLarge"
+
+abbrev pub sheet_name : SheetFault → List ℕ
+sheet_name (sheet.Missing parameter) = codes "Sheet Missing"
+sheet_name (sheet.Repeated parameter) = codes "Sheet Repeated"
+sheet_name (sheet.Unknown row) = codes "Sheet Unknown"
+sheet_name (sheet.NotANumber row) = codes "Sheet NotANumber"
+sheet_name sheet.ZeroCycle = codes "Sheet ZeroCycle"
+sheet_name sheet.TooLong = codes "Sheet TooLong"
+sheet_name sheet.Memory = codes "Sheet Memory"
+
+abbrev pub problem_name : ProblemFault → List ℕ
+problem_name TooMany = codes "Problem TooMany"
+problem_name BadLun = codes "Problem BadLun"
+problem_name Clock = codes "Problem Clock"
+problem_name Memory = codes "Problem Memory"
+
 abbrev pub name_of : ScriptFault → List ℕ
 name_of NoEnd = codes "NoEnd"
 name_of UnknownRow = codes "UnknownRow"
@@ -26,10 +64,11 @@ name_of NotANumber = codes "NotANumber"
 name_of OutOfRange = codes "OutOfRange"
 name_of Repeated = codes "Repeated"
 name_of Missing = codes "Missing"
-name_of (Problem TooMany) = codes "Problem TooMany"
-name_of (Problem BadLun) = codes "Problem BadLun"
-name_of (Problem Clock) = codes "Problem Clock"
-name_of (Problem Memory) = codes "Problem Memory"
+name_of Hex = codes "Hex"
+name_of (Page fault) = page_name fault
+name_of (Geometry fault) = geometry_name fault
+name_of (Sheet fault) = sheet_name fault
+name_of (Problem fault) = problem_name fault
 name_of NotHere = codes "NotHere"
 
 abbrev pub refused : Refusal → Answer

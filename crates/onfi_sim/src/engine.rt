@@ -1,19 +1,22 @@
 //! From the bytes of an input to the bytes of its answer.
-ghost use Rattle.std.specs.Prelude.{◌≡◌, ◌≤◌, ℕ, take, length, map, IfOk, IfErr, OnErr, IsTrue, string_bytes};
+ghost use Rattle.std.specs.Prelude.{◌≡◌, ◌≤◌, ℕ, take, length, map, IfOk, IfErr, OnErr, IsTrue, string_bytes, Ok};
 ghost use Rattle.std.specs.Io.KnownBytes.{Appends, Keeps};
 ghost use Rattle.csv.specs.Records.{fields_of};
 ghost use Rattle.onfi_problem.specs.Left.{InLimits};
 ghost use Rattle.onfi_sim.specs.Answer.{Plans, Refuses, AnswersProblem, AnswersRows, AnswersRecords, IsAnswer, Answers, BeginsAnswer, is_single};
 ghost use Rattle.onfi_sim.specs.AnswerOf.{answer_of};
+ghost use Rattle.onfi_sim.specs.Device.{TellsDevice};
 ghost use Rattle.onfi_sim.specs.SetupOf.{problem_of};
 
 use crate::command::Command;
-use crate::fault::{Refusal, ScriptFault, Stop};
+use crate::device::Device;
+use crate::fault::{Refusal, RowStop, ScriptFault, Stop};
+use crate::forms::device_of;
 use crate::plan::{is_single, plan};
 use crate::row::Row;
 use crate::rows::rows;
 use crate::script::{records, script_len};
-use crate::setup::{Setup, set_up};
+use crate::setup::{Setup, absent, set_up};
 use crate::text::{Answer, plan_text, refused};
 use crate::transfer::{EngineFault, InputFault, read_all, write_text};
 use csv::ByteRecord;
@@ -87,14 +90,32 @@ fn answer_problem(alloc: Global, setup: &Setup) -> Result<Answer, AllocError>
     }
 }
 
+/// The answer to rows that are each in order, and that tell of this device.
+fn answer_device(alloc: Global, rows: &[Row], device: &Device) -> Result<Answer, AllocError>
+    requires { TellsDevice rows.now (Ok device.now) }
+    ensures { IfOk result (λ a. AnswersRows rows.now (answer_of a)) }
+{
+    if let Some(at) = absent(rows, device.luns) {
+        return refused(
+            alloc,
+            Refusal {
+                row: at as u64 + 1,
+                fault: ScriptFault::OutOfRange,
+            },
+        );
+    }
+    let setup = set_up(alloc, rows, device)?;
+    answer_problem(alloc, &setup)
+}
+
 /// The answer to rows that are each in order.
 fn answer_rows(alloc: Global, rows: &[Row]) -> Result<Answer, AllocError>
     ensures { IfOk result (λ a. AnswersRows rows.now (answer_of a)) }
 {
-    match set_up(alloc, rows) {
-        Ok(setup) => answer_problem(alloc, &setup),
-        Err(Stop::Refused(refusal)) => refused(alloc, refusal),
-        Err(Stop::Memory) => Err(AllocError),
+    match device_of(alloc, rows) {
+        Ok(device) => answer_device(alloc, rows, &device),
+        Err(RowStop::Fault(fault)) => refused_whole(alloc, fault),
+        Err(RowStop::Memory) => Err(AllocError),
     }
 }
 

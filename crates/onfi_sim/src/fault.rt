@@ -1,7 +1,11 @@
 ghost use Rattle.std.specs.Prelude.{◌≡◌};
-ghost use Rattle.onfi_sim.specs.Text.{name_of};
+ghost use Rattle.onfi_sim.specs.Stop.{stop_at};
+ghost use Rattle.onfi_sim.specs.Text.{name_of, page_name, geometry_name, sheet_name, problem_name};
 
+use onfi_addr::GeometryFault;
+use onfi_param::PageFault;
 use onfi_problem::ProblemFault;
+use onfi_timing::SheetFault;
 use thiserror::Error;
 
 /// Why a script is refused.
@@ -21,10 +25,69 @@ pub enum ScriptFault {
     Repeated,
     #[error("a row that the script needs is not there")]
     Missing,
+    #[error("a field that is not bytes in hexadecimal")]
+    Hex,
+    #[error("the bytes of the script hold no parameter page")]
+    Page(PageFault),
+    #[error("a device that can't be driven")]
+    Geometry(GeometryFault),
+    #[error("a timing sheet that gives no phase lengths")]
+    Sheet(SheetFault),
     #[error("what the rows set up is no problem")]
     Problem(ProblemFault),
     #[error("a row that the command or the form of the script does not take")]
     NotHere,
+}
+
+fn page_name(fault: PageFault) -> &'static str
+    ensures { result.now ≡ page_name fault }
+{
+    match fault {
+        PageFault::Short => "Page Short",
+        PageFault::NoCopy => "Page NoCopy",
+    }
+}
+
+fn geometry_name(fault: GeometryFault) -> &'static str
+    ensures { result.now ≡ geometry_name fault }
+{
+    match fault {
+        GeometryFault::WideBus => "Geometry WideBus",
+        GeometryFault::NoStatusEnhanced => "Geometry NoStatusEnhanced",
+        GeometryFault::NoColumnEnhanced => "Geometry NoColumnEnhanced",
+        GeometryFault::NoMultiLun => "Geometry NoMultiLun",
+        GeometryFault::LunCount => "Geometry LunCount",
+        GeometryFault::PlaneBits => "Geometry PlaneBits",
+        GeometryFault::Zero => "Geometry Zero",
+        GeometryFault::RowTooWide => "Geometry RowTooWide",
+        GeometryFault::ColumnTooWide => "Geometry ColumnTooWide",
+        GeometryFault::TooLarge => "Geometry TooLarge",
+    }
+}
+
+fn sheet_name(fault: SheetFault) -> &'static str
+    ensures { result.now ≡ sheet_name fault }
+{
+    match fault {
+        SheetFault::Missing(_) => "Sheet Missing",
+        SheetFault::Repeated(_) => "Sheet Repeated",
+        SheetFault::Unknown(_) => "Sheet Unknown",
+        SheetFault::NotANumber(_) => "Sheet NotANumber",
+        SheetFault::ZeroCycle => "Sheet ZeroCycle",
+        SheetFault::TooLong => "Sheet TooLong",
+        SheetFault::Memory => "Sheet Memory",
+    }
+}
+
+fn problem_name(fault: ProblemFault) -> &'static str
+    ensures { result.now ≡ problem_name fault }
+{
+    match fault {
+        ProblemFault::TooMany => "Problem TooMany",
+        ProblemFault::BadLun => "Problem BadLun",
+        ProblemFault::Clock => "Problem Clock",
+        ProblemFault::Memory => "Problem Memory",
+    }
 }
 
 impl ScriptFault {
@@ -40,10 +103,11 @@ impl ScriptFault {
             ScriptFault::OutOfRange => "OutOfRange",
             ScriptFault::Repeated => "Repeated",
             ScriptFault::Missing => "Missing",
-            ScriptFault::Problem(ProblemFault::TooMany) => "Problem TooMany",
-            ScriptFault::Problem(ProblemFault::BadLun) => "Problem BadLun",
-            ScriptFault::Problem(ProblemFault::Clock) => "Problem Clock",
-            ScriptFault::Problem(ProblemFault::Memory) => "Problem Memory",
+            ScriptFault::Hex => "Hex",
+            ScriptFault::Page(fault) => page_name(fault),
+            ScriptFault::Geometry(fault) => geometry_name(fault),
+            ScriptFault::Sheet(fault) => sheet_name(fault),
+            ScriptFault::Problem(fault) => problem_name(fault),
             ScriptFault::NotHere => "NotHere",
         }
     }
@@ -56,6 +120,15 @@ pub struct Refusal {
     pub fault: ScriptFault,
 }
 
+/// What stands in the way of reading a row.
+#[derive(Clone, Copy, Debug, PartialEq, Eq)]
+pub enum RowStop {
+    /// The row is refused.
+    Fault(ScriptFault),
+    /// A growth was refused.
+    Memory,
+}
+
 /// What stands in the way of an answer.
 #[derive(Clone, Copy, Debug, PartialEq, Eq)]
 pub enum Stop {
@@ -63,4 +136,16 @@ pub enum Stop {
     Refused(Refusal),
     /// A growth was refused.
     Memory,
+}
+
+impl RowStop {
+    /// The same, told of a row.
+    pub fn at(self, row: u64) -> Stop
+        ensures { result ≡ stop_at row self }
+    {
+        match self {
+            RowStop::Fault(fault) => Stop::Refused(Refusal { row, fault }),
+            RowStop::Memory => Stop::Memory,
+        }
+    }
 }

@@ -2,14 +2,17 @@
 #![tactic(auto)]
 
 mod command;
+mod device;
 mod engine;
 mod fault;
 mod field;
+mod forms;
 mod plan;
 mod row;
 mod row_name;
 mod rows;
 mod script;
+mod seen;
 mod setup;
 mod text;
 mod transfer;

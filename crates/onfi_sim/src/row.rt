@@ -3,17 +3,22 @@ ghost use Rattle.std.specs.Prelude.{◌≡◌, ◌<◌, ◌≤◌, length, drop,
 ghost use Rattle.csv.specs.Records.{fields_of};
 ghost use Rattle.onfi_timing.specs.Lengths.{AreLengths};
 ghost use Rattle.onfi_sim.specs.Row as spec;
-ghost use Rattle.onfi_sim.specs.Setup.{names_absent, want_in, members, plane_of as spec_plane_of, HasLengths};
+ghost use Rattle.onfi_sim.specs.Seen.{form_in, sheet_in};
+ghost use Rattle.onfi_sim.specs.Stop.{IfFault};
+ghost use Rattle.onfi_sim.specs.Device.{HasLengths, bytes_in, is_page};
+ghost use Rattle.onfi_sim.specs.Setup.{names_absent, want_in, members, plane_of as spec_plane_of};
 ghost use Rattle.onfi_problem.specs.declared.lun_state.LunState.TheVariants.{Running};
 ghost use Rattle.onfi_sim.specs.Subject.{subject_of, settles, is_subject, is_kind};
 
-use crate::fault::ScriptFault;
+use crate::fault::{RowStop, ScriptFault};
 use crate::field::{block, field, flag, kind, lun, page, small, span, time};
+use crate::row_name::Form;
 use csv::ByteRecord;
-use onfi_group::{Group, Rules};
+use onfi_group::Group;
 use onfi_problem::LunState;
 use onfi_request::Want;
-use onfi_timing::{Kind, Spans};
+use hex::FromHexError;
+use onfi_timing::{Kind, Sheet, Spans};
 use smallvec::SmallVec;
 use std::alloc::Global;
 use std::marker::Model;
@@ -72,14 +77,18 @@ impl ShapeRow {
         self.plane_bits
     }
 
-    /// What may be grouped.
-    pub fn rules(&self, strict: bool) -> Rules
-        ensures read { result.read ≡ self.now.read }
-        ensures write { result.write ≡ self.now.write }
-        ensures strict { result.strict ≡ strict }
-        ensures plane_bits { result.plane_bits ≡ self.now.plane_bits }
+    /// Whether reads may be grouped.
+    pub fn read(&self) -> bool
+        ensures { result ≡ self.now.read }
     {
-        Rules::new(self.read, self.write, strict, self.plane_bits)
+        self.read
+    }
+
+    /// Whether programs, and erases, may be grouped.
+    pub fn write(&self) -> bool
+        ensures { result ≡ self.now.write }
+    {
+        self.write
     }
 }
 
@@ -99,11 +108,38 @@ impl SpansRow {
     }
 }
 
+/// Some bytes of a parameter page.
+#[derive(Drop)]
+pub struct PageRow {
+    bytes: Vec<u8>,
+}
+
+impl Model for PageRow {
+    ghost use Rattle.std.specs.Prelude.{ℕ, List};
+
+    ghost Value = { List ℕ };
+
+    ghost view = { λ r. r.bytes.items };
+}
+
+impl PageRow {
+    /// The bytes.
+    pub fn bytes(&self) -> &[u8]
+        ensures { result.now ≡ self.now }
+    {
+        self.bytes.as_slice()
+    }
+}
+
 /// A row of a script; times are in ns.
 #[derive(Drop)]
 pub enum Row {
     Shape(ShapeRow),
     Spans(SpansRow),
+    /// Some bytes of the parameter page.
+    Page(PageRow),
+    /// The timing sheet with this row and the rows before it.
+    Sheet(Sheet),
     Bus { bus_free: u64 },
     Free { lun: u8, since: u64 },
     Running(RunningRow),
@@ -122,18 +158,60 @@ pub enum Subject {
 }
 
 impl Row {
-    /// What the row settles; a want settles nothing.
+    /// What the row settles; wants, bytes of a page and values of a sheet settle nothing here.
     pub fn subject(&self) -> Option<Subject>
         ensures { result ≡ subject_of self.now }
     {
         match self {
             Row::Shape(_) => Some(Subject::Shape),
             Row::Spans(row) => Some(Subject::Spans(row.kind())),
+            Row::Page(_) | Row::Sheet(_) => None,
             Row::Bus { .. } => Some(Subject::Bus),
             Row::Free { lun, .. } => Some(Subject::Lun(*lun)),
             Row::Running(row) => Some(Subject::Lun(row.lun())),
             Row::Want { .. } => None,
             Row::Strict { .. } => Some(Subject::Strict),
+        }
+    }
+
+    /// The form whose row it is.
+    pub fn form(&self) -> Option<Form>
+        ensures { result ≡ form_in self.now }
+    {
+        match self {
+            Row::Shape(_) | Row::Spans(_) => Some(Form::First),
+            Row::Page(_) | Row::Sheet(_) => Some(Form::Second),
+            _ => None,
+        }
+    }
+
+    /// The sheet of a row of it.
+    pub fn sheet(&self) -> Option<Sheet>
+        ensures { result ≡ sheet_in self.now }
+    {
+        match self {
+            Row::Sheet(sheet) => Some(*sheet),
+            _ => None,
+        }
+    }
+
+    /// Whether it is one of bytes of the page.
+    pub fn is_page(&self) -> bool
+        ensures { result ≡ is_page self.now }
+    {
+        match self {
+            Row::Page(_) => true,
+            _ => false,
+        }
+    }
+
+    /// Its bytes of the page.
+    pub fn bytes(&self) -> &[u8]
+        ensures { result.now ≡ bytes_in self.now }
+    {
+        match self {
+            Row::Page(page) => page.bytes(),
+            _ => b"",
         }
     }
 
@@ -315,6 +393,28 @@ pub fn spans_row(row: &ByteRecord) -> Result<Row, ScriptFault>
     let post = span(field(row, 5), 1)?;
     let spans = lengths(cmd, gap, array, post);
     Ok(Row::Spans(SpansRow { kind, spans }))
+}
+
+/// `page,HEX`
+pub fn page_row(alloc: Global, row: &ByteRecord) -> Result<Row, RowStop>
+    ensures { MatchResult result (λ r. spec.page_row (fields_of row.now) ≡ Ok r) (λ stop. IfFault stop (λ fault. spec.page_row (fields_of row.now) ≡ Err fault)) }
+{
+    match hex::decode(alloc, field(row, 1)) {
+        Ok(bytes) => Ok(Row::Page(PageRow { bytes })),
+        Err(FromHexError::OutOfMemory) => Err(RowStop::Memory),
+        Err(_) => Err(RowStop::Fault(ScriptFault::Hex)),
+    }
+}
+
+/// `sheet,NAME,VALUE`, behind rows that made this sheet.
+pub fn sheet_row(sheet: &Sheet, number: usize, row: &ByteRecord) -> Result<Row, ScriptFault>
+    ensures { result ≡ spec.sheet_row sheet.now number (fields_of row.now) }
+{
+    let mut sheet = *sheet;
+    match sheet.put(number, field(row, 1), field(row, 2)) {
+        Ok(()) => Ok(Row::Sheet(sheet)),
+        Err(fault) => Err(ScriptFault::Sheet(fault)),
+    }
 }
 
 /// `bus,T`

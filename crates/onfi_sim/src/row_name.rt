@@ -26,6 +26,27 @@ pub enum RowName {
     NotReady,
 }
 
+/// The two forms of a script.
+#[derive(Clone, Copy, Debug, PartialEq, Eq)]
+pub enum Form {
+    /// Phase lengths stand in the script.
+    First,
+    /// They come from a parameter page and a timing sheet.
+    Second,
+}
+
+impl Form {
+    /// Whether both are the same.
+    pub fn is(self, other: Form) -> bool
+        ensures { result ≡ spec.is_form self other }
+    {
+        match (self, other) {
+            (Form::First, Form::First) | (Form::Second, Form::Second) => true,
+            _ => false,
+        }
+    }
+}
+
 impl RowName {
     /// The row name that a text spells.
     pub fn of(text: &[u8]) -> Option<RowName>
@@ -90,6 +111,8 @@ impl RowName {
                 self,
                 RowName::Shape
                     | RowName::Spans
+                    | RowName::Page
+                    | RowName::Sheet
                     | RowName::Bus
                     | RowName::Free
                     | RowName::Running
@@ -99,13 +122,34 @@ impl RowName {
         }
     }
 
+    /// The form whose row it is.
+    pub fn form(self) -> Option<Form>
+        ensures { result ≡ spec.form_of self }
+    {
+        match self {
+            RowName::Shape | RowName::Spans => Some(Form::First),
+            RowName::Page | RowName::Sheet => Some(Form::Second),
+            _ => None,
+        }
+    }
+
+    /// Whether its rows may stand in a script of that form; no form is known before the first row of one.
+    pub fn fits(self, form: Option<Form>) -> bool
+        ensures { result ≡ spec.fits (spec.form_of self) form }
+    {
+        match (self.form(), form) {
+            (Some(own), Some(form)) => own.is(form),
+            _ => true,
+        }
+    }
+
     /// Whether its rows may have that many fields, the name with them.
     pub fn has_fields(self, count: usize) -> bool
         ensures { result ≡ spec.has_fields self count }
     {
         match self {
-            RowName::Bus | RowName::Strict => count == 2,
-            RowName::Free => count == 3,
+            RowName::Page | RowName::Bus | RowName::Strict => count == 2,
+            RowName::Sheet | RowName::Free => count == 3,
             RowName::Shape | RowName::Want => count == 5,
             RowName::Spans => count == 6,
             RowName::Running => 7 <= count && count <= 10,

@@ -4,23 +4,24 @@ ghost use Rattle.std.specs.List.{list_any};
 ghost use Rattle.csv.specs.Records.{fields_of};
 ghost use Rattle.onfi_sim.specs.Rows as spec;
 ghost use Rattle.onfi_sim.specs.RowName.{has_fields};
-ghost use Rattle.onfi_sim.specs.Stop.{IfRefused};
+ghost use Rattle.onfi_sim.specs.Stop.{IfFault, IfRefused};
 ghost use Rattle.onfi_sim.specs.Subject.{settles, subject_of};
 
 use crate::command::Command;
-use crate::fault::{Refusal, ScriptFault, Stop};
+use crate::fault::{RowStop, ScriptFault, Stop};
 use crate::field::field;
 use crate::row::{
-    Row, Subject, bus_row, free_row, running_row, shape_row, spans_row, strict_row, want_row,
+    Row, Subject, bus_row, free_row, page_row, running_row, shape_row, sheet_row, spans_row, strict_row, want_row,
 };
 use crate::row_name::RowName;
+use crate::seen::Seen;
 use csv::ByteRecord;
 use std::alloc::Global;
 
-/// What a row of that name says.
-fn said(alloc: Global, name: RowName, record: &ByteRecord) -> Result<Row, ScriptFault>
+/// What a row of that name says by itself.
+fn told_alone(alloc: Global, name: RowName, record: &ByteRecord) -> Result<Row, ScriptFault>
     requires { IsTrue (has_fields name (length (fields_of record.now))) }
-    ensures { result ≡ spec.said name (fields_of record.now) }
+    ensures { result ≡ spec.told_alone name (fields_of record.now) }
 {
     match name {
         RowName::Shape => shape_row(record),
@@ -31,6 +32,34 @@ fn said(alloc: Global, name: RowName, record: &ByteRecord) -> Result<Row, Script
         RowName::Want => want_row(record),
         RowName::Strict => strict_row(record),
         _ => Err(ScriptFault::NotHere),
+    }
+}
+
+/// Without want of memory.
+fn told(read: Result<Row, ScriptFault>) -> Result<Row, RowStop>
+    ensures { MatchResult result (λ row. read ≡ Ok row) (λ stop. IfFault stop (λ fault. read ≡ Err fault)) }
+{
+    match read {
+        Ok(row) => Ok(row),
+        Err(fault) => Err(RowStop::Fault(fault)),
+    }
+}
+
+/// What row number `number` says, behind rows that show that much.
+fn said(
+    alloc: Global,
+    name: RowName,
+    seen: &Seen,
+    number: usize,
+    record: &ByteRecord,
+) -> Result<Row, RowStop>
+    requires { IsTrue (has_fields name (length (fields_of record.now))) }
+    ensures { MatchResult result (λ row. spec.said name seen.now number (fields_of record.now) ≡ Ok row) (λ stop. IfFault stop (λ fault. spec.said name seen.now number (fields_of record.now) ≡ Err fault)) }
+{
+    match name {
+        RowName::Page => page_row(alloc, record),
+        RowName::Sheet => told(sheet_row(&seen.sheet, number, record)),
+        _ => told(told_alone(alloc, name, record)),
     }
 }
 
@@ -51,30 +80,38 @@ fn is_settled(row: &Row, earlier: &[Row]) -> bool
     }
 }
 
-/// What a row says behind these earlier ones.
-fn row_of(
-    alloc: Global,
-    command: Command,
-    earlier: &[Row],
-    record: &ByteRecord,
-) -> Result<Row, ScriptFault>
-    ensures { result ≡ spec.row_of command earlier.now (fields_of record.now) }
+/// The row, where no earlier row settles the same.
+fn unless_settled(earlier: &[Row], row: Row) -> Result<Row, RowStop>
+    ensures { MatchResult result (λ r. spec.unless_settled earlier.now row ≡ Ok r) (λ stop. IfFault stop (λ fault. spec.unless_settled earlier.now row ≡ Err fault)) }
 {
-    let Some(name) = RowName::of(field(record, 0)) else {
-        return Err(ScriptFault::UnknownRow);
-    };
-    if !name.is_taken(command) {
-        return Err(ScriptFault::NotHere);
-    }
-    if !name.has_fields(record.len()) {
-        return Err(ScriptFault::FieldCount);
-    }
-    let row = said(alloc, name, record)?;
     if is_settled(&row, earlier) {
-        Err(ScriptFault::Repeated)
+        Err(RowStop::Fault(ScriptFault::Repeated))
     } else {
         Ok(row)
     }
+}
+
+/// What a row says behind these earlier ones, which show that much.
+fn row_of(
+    alloc: Global,
+    command: Command,
+    seen: &Seen,
+    earlier: &[Row],
+    record: &ByteRecord,
+) -> Result<Row, RowStop>
+    ensures { MatchResult result (λ row. spec.row_of command seen.now earlier.now (fields_of record.now) ≡ Ok row) (λ stop. IfFault stop (λ fault. spec.row_of command seen.now earlier.now (fields_of record.now) ≡ Err fault)) }
+{
+    let Some(name) = RowName::of(field(record, 0)) else {
+        return Err(RowStop::Fault(ScriptFault::UnknownRow));
+    };
+    if !(name.is_taken(command) && name.fits(seen.form)) {
+        return Err(RowStop::Fault(ScriptFault::NotHere));
+    }
+    if !name.has_fields(record.len()) {
+        return Err(RowStop::Fault(ScriptFault::FieldCount));
+    }
+    let row = said(alloc, name, seen, earlier.len() + 1, record)?;
+    unless_settled(earlier, row)
 }
 
 /// All rows, or the first that is refused.
@@ -82,19 +119,16 @@ pub fn rows(alloc: Global, command: Command, records: &[ByteRecord]) -> Result<V
     ensures { MatchResult result (λ v. spec.rows_of command (map fields_of records.now) ≡ Ok v.items) (λ stop. IfRefused stop (λ refusal. spec.rows_of command (map fields_of records.now) ≡ Err refusal)) }
 {
     let mut rows = Vec::new(alloc);
+    let mut seen = Seen::nothing();
     for (at, record) in records.iter().enumerate() {
-        match row_of(alloc, command, rows.as_slice(), record) {
+        match row_of(alloc, command, &seen, rows.as_slice(), record) {
             Ok(row) => {
+                seen = seen.after(&row);
                 if rows.push(row).is_err() {
                     return Err(Stop::Memory);
                 }
             }
-            Err(fault) => {
-                return Err(Stop::Refused(Refusal {
-                    row: at as u64 + 1,
-                    fault,
-                }));
-            }
+            Err(stop) => return Err(stop.at(at as u64 + 1)),
         }
     }
     Ok(rows)

@@ -1,29 +1,329 @@
 use crate::command::Command;
 use crate::engine::engine;
+use crate::transfer::EngineFault;
+use crate::words::{WordsFault, words};
+use onfi_param::crc16;
 use std::alloc::Global;
+use std::io;
+use std::io::{Read, Write};
+use std::test::Fail;
 
 const BASE: &str = "shape,2,1,1,1\nspans,read,140,600,25100,11000\nspans,program,10800,600,200100,280\nspans,erase,100,600,1500100,280\n";
 
-fn answers(alloc: Global, rows: &str, text: &str, status: u8) -> bool {
-    let Ok(input) = format!(in alloc; "{BASE}{rows}end\n") else {
-        return false;
-    };
-    let mut reader = input.as_bytes();
+const NO_ARRAY: &str = "shape,2,1,1,1\nspans,read,140,600,0,11000\nspans,program,10800,600,200100,280\nspans,erase,100,600,1500100,280\n";
+
+const SHEET: &str = "sheet,tWC,20\nsheet,tRC,20\nsheet,tADL,100\nsheet,tWHR,80\nsheet,tRHW,100\nsheet,tWB,100\nsheet,tPLRBSY,500\nsheet,tPLPBSY,500\nsheet,tPLEBSY,500\n";
+
+const ONE_READ: &str = "ONFIPLAN 1\nfinish 36240\ngroup 0 0 25240\nONFICERT 1\nL\n";
+
+const PLAN: Command = Command::Plan { limit: 1_048_576 };
+
+// Gives its text two bytes at a time; its call number `bad`, from 0, fails.
+#[derive(Drop)]
+struct Cut<'a> {
+    text: &'a [u8],
+    calls: u32,
+    bad: u32,
+}
+
+impl<'a> Read for Cut<'a> {
+    fn read(&mut self, buf: &mut [u8]) -> io::Result<usize> {
+        let call = self.calls;
+        self.calls = call.saturating_add(1);
+        if call == self.bad {
+            return Err(io::Error::from(io::ErrorKind::BrokenPipe));
+        }
+        let most = self.text.len().min(buf.len()).min(2);
+        let (front, rest) = self.text.split_at(most);
+        buf[..most].copy_from_slice(front);
+        self.text = rest;
+        Ok(most)
+    }
+}
+
+// Takes three bytes at a time; its call number `bad`, from 0, fails.
+#[derive(Drop)]
+struct Choppy {
+    got: Vec<u8>,
+    calls: u32,
+    bad: u32,
+}
+
+impl Write for Choppy {
+    fn write(&mut self, buf: &[u8]) -> io::Result<usize> {
+        let call = self.calls;
+        self.calls = call.saturating_add(1);
+        if call == self.bad {
+            return Err(io::Error::from(io::ErrorKind::BrokenPipe));
+        }
+        let most = buf.len().min(3);
+        self.got.extend_from_slice(&buf[..most])?;
+        Ok(most)
+    }
+
+    fn flush(&mut self) -> io::Result<()> {
+        Ok(())
+    }
+}
+
+fn told(alloc: Global, input: &[u8], text: &str, status: u8) -> bool {
+    let mut reader = input;
     let mut out = Vec::new(alloc);
-    match engine(alloc, Command::Plan { limit: 1 }, &mut reader, &mut out) {
+    match engine(alloc, PLAN, &mut reader, &mut out) {
         Ok(got) => got == status && out.as_slice() == text.as_bytes(),
         Err(_) => false,
     }
 }
 
+fn told_behind(alloc: Global, base: &str, rows: &str, text: &str, status: u8) -> bool {
+    match format!(in alloc; "{base}{rows}end\n") {
+        Ok(input) => told(alloc, input.as_bytes(), text, status),
+        Err(_) => false,
+    }
+}
+
+fn refused(alloc: Global, base: &str, rows: &str, why: &str) -> bool {
+    match format!(in alloc; "script refused {why}\n") {
+        Ok(text) => told_behind(alloc, base, rows, text.as_str(), 1),
+        Err(_) => false,
+    }
+}
+
 #[test]
-fn one_read(rt: HostRuntime) {
+fn plans_at_most_one_want(rt: HostRuntime) {
+    let alloc = rt.alloc();
+    assert!(rt; told_behind(alloc, BASE, "want,read,0,0,0\n", ONE_READ, 0));
     assert!(rt;
-        answers(
-            rt.alloc(),
-            "want,read,0,0,0\n",
-            "ONFIPLAN 1\nfinish 36240\ngroup 0 0 25240\nONFICERT 1\nL\n",
+        told_behind(alloc, BASE, "", "ONFIPLAN 1\nfinish 0\nONFICERT 1\nU\n", 0)
+    );
+    assert!(rt;
+        told_behind(
+            alloc,
+            BASE,
+            "bus,4611686018427387903\n",
+            "ONFIPLAN 1\nfinish 4611686018427387903\nONFICERT 1\nU\n",
             0
         )
     );
+    assert!(rt;
+        told_behind(
+            alloc,
+            BASE,
+            "free,0,1000\nwant,read,0,0,0\n",
+            "ONFIPLAN 1\nfinish 37240\ngroup 0 1000 26240\nONFICERT 1\nL\n",
+            0
+        )
+    );
+    assert!(rt; told_behind(alloc, BASE, "bus,7\n", "ONFIPLAN 1\nfinish 7\nONFICERT 1\nU\n", 0));
+    assert!(rt;
+        told_behind(
+            alloc,
+            NO_ARRAY,
+            "want,read,0,0,0\n",
+            "ONFIPLAN 1\nfinish 11140\ngroup 0 0 140\nONFICERT 1\nU\n",
+            0
+        )
+    );
+    assert!(rt;
+        told_behind(
+            alloc,
+            NO_ARRAY,
+            "free,0,1000\nwant,read,0,0,0\n",
+            "ONFIPLAN 1\nfinish 12140\ngroup 0 1000 1140\nONFICERT 1\nL\n",
+            0
+        )
+    );
+    assert!(rt;
+        told_behind(
+            alloc,
+            BASE,
+            "strict,1\nwant,read,0,0,0\n",
+            "ONFIPLAN 1\nfinish 36240\ngroup 0 0 25240\nONFICERT 2 strict\nL\n",
+            0
+        )
+    );
+}
+
+#[test]
+fn refuses_problems(rt: HostRuntime) {
+    let alloc = rt.alloc();
+    assert!(rt; refused(alloc, BASE, "want,read,2,0,0\n", "0 Problem BadLun"));
+    assert!(rt; refused(alloc, BASE, "want,erase,0,0,1\n", "0 Problem BadLun"));
+    assert!(rt;
+        refused(alloc, BASE, "bus,4611686018427387903\nwant,read,0,0,0\n", "0 Problem Clock")
+    );
+    assert!(rt;
+        refused(alloc, BASE, "running,0,2,0,read,0,0\n", "0 Problem BadLun")
+    );
+}
+
+#[test]
+fn tells_the_first_fault(rt: HostRuntime) {
+    let alloc = rt.alloc();
+    assert!(rt; told(alloc, b"shape,2,1,1,1\nendx\n end\n", "script refused 0 NoEnd\n", 1));
+    assert!(rt; told(alloc, b"want,read\nfoo\nend", "script refused 1 FieldCount\n", 1));
+    assert!(rt; told(alloc, b"want,read,0,0,0\r\nend\r\n", "script refused 0 Missing\n", 1));
+    assert!(rt; refused(alloc, BASE, "foo\nbus,x\n", "5 UnknownRow"));
+    assert!(rt; refused(alloc, BASE, "op,0,0,read,0,0,0\n", "5 NotHere"));
+    assert!(rt; refused(alloc, BASE, "page,00\n", "5 NotHere"));
+    assert!(rt; refused(alloc, BASE, "bus,\n", "5 NotANumber"));
+    assert!(rt; refused(alloc, BASE, "bus,+1\n", "5 NotANumber"));
+    assert!(rt; refused(alloc, BASE, "bus,4611686018427387904\n", "5 OutOfRange"));
+    assert!(rt; refused(alloc, BASE, "bus,18446744073709551616\n", "5 OutOfRange"));
+    assert!(rt;
+        refused(alloc, BASE, "bus,99999999999999999999999999999999\n", "5 OutOfRange")
+    );
+    assert!(rt;
+        told_behind(
+            alloc,
+            BASE,
+            "bus,00000000000000000000000000000007\n",
+            "ONFIPLAN 1\nfinish 7\nONFICERT 1\nU\n",
+            0
+        )
+    );
+    assert!(rt; refused(alloc, BASE, "want,reads,x,0,0\n", "5 OutOfRange"));
+    assert!(rt; refused(alloc, BASE, "bus,1\nbus,1\nbus,x\n", "6 Repeated"));
+    assert!(rt; refused(alloc, BASE, "free,0,1\nrunning,0,1,0,read,0,0\n", "6 Repeated"));
+    assert!(rt; refused(alloc, "", "shape,2,1,1,1\nfree,2,0\n", "0 Missing"));
+    assert!(rt; refused(alloc, BASE, "free,0,0\nfree,2,0\nwant,read,7,0,0\n", "6 OutOfRange"));
+}
+
+// The row of the worked parameter page with these bytes changed and its check value set anew; where it is spoiled, one
+// bit of byte 100 is changed behind that.
+fn page(alloc: Global, changes: &[(usize, u8)], spoiled: bool) -> Option<String> {
+    let mut bytes = [0u8; 256];
+    bytes[..4].copy_from_slice(b"ONFI".as_slice());
+    bytes[6] = 0x4A;
+    bytes[8] = 0x48;
+    bytes[80..86].copy_from_slice([0, 2, 0, 0, 16, 0].as_slice());
+    bytes[92..102].copy_from_slice([64, 0, 0, 0, 0xE8, 3, 0, 0, 2, 0x23].as_slice());
+    bytes[113] = 1;
+    bytes[133..141].copy_from_slice([0xC8, 0, 0xDC, 5, 0x19, 0, 0xC8, 0].as_slice());
+    for (at, value) in changes {
+        if let Some(byte) = bytes.get_mut(*at) {
+            *byte = *value;
+        }
+    }
+    let check = crc16(&bytes[..254]).to_le_bytes();
+    bytes[254..].copy_from_slice(check.as_slice());
+    if spoiled {
+        bytes[100] ^= 1;
+    }
+    let text = hex::encode(alloc, bytes.as_slice()).ok()?;
+    format!(in alloc; "page,{text}\n").ok()
+}
+
+fn page_refused(alloc: Global, changes: &[(usize, u8)], why: &str) -> bool {
+    match page(alloc, changes, false) {
+        Some(page) => refused(alloc, page.as_str(), SHEET, why),
+        None => false,
+    }
+}
+
+#[test]
+fn takes_page_and_sheet(rt: HostRuntime) -> Result<(), Fail> {
+    let alloc = rt.alloc();
+    let page_row = page(alloc, &[], false).ok_or("a page")?;
+    let page_row = page_row.as_str();
+    let rows = format!(in alloc; "{SHEET}want,read,0,0,0\n")?;
+    assert!(rt; told_behind(alloc, page_row, rows.as_str(), ONE_READ, 0));
+    let (most, _) = SHEET.split_at(SHEET.len() - "sheet,tPLEBSY,500\n".len());
+    assert!(rt; refused(alloc, page_row, most, "0 Sheet Missing"));
+    let late = format!(in alloc; "sheet,tWC,0\n")?;
+    let (_, behind) = SHEET.split_at("sheet,tWC,20\n".len());
+    let late = format!(in alloc; "{late}{behind}")?;
+    assert!(rt; refused(alloc, page_row, late.as_str(), "0 Sheet ZeroCycle"));
+    let spoiled = page(alloc, &[], true).ok_or("a page")?;
+    assert!(rt; refused(alloc, spoiled.as_str(), SHEET, "0 Page NoCopy"));
+    assert!(rt; refused(alloc, "page,00\n", SHEET, "0 Page Short"));
+    assert!(rt; refused(alloc, "", SHEET, "0 Missing"));
+    assert!(rt; refused(alloc, SHEET, BASE, "10 NotHere"));
+    assert!(rt; refused(alloc, "page,0x\n", SHEET, "1 Hex"));
+    assert!(rt; refused(alloc, "page,000\n", SHEET, "1 Hex"));
+    assert!(rt; refused(alloc, SHEET, "sheet,tWC,1\n", "10 Sheet Repeated"));
+    assert!(rt; refused(alloc, "sheet,tXY,1\n", "", "1 Sheet Unknown"));
+    assert!(rt; refused(alloc, "sheet,tWC,x\n", "", "1 Sheet NotANumber"));
+    assert!(rt; refused(alloc, "sheet,tWC,4294967296\n", "", "1 Sheet TooLong"));
+    Ok(())
+}
+
+#[test]
+fn refuses_devices(rt: HostRuntime) {
+    let alloc = rt.alloc();
+    assert!(rt; page_refused(alloc, &[(6, 0x4B), (8, 0x40)], "0 Geometry WideBus"));
+    assert!(rt; page_refused(alloc, &[(8, 0x40)], "0 Geometry NoStatusEnhanced"));
+    assert!(rt; page_refused(alloc, &[(8, 0x08)], "0 Geometry NoColumnEnhanced"));
+    assert!(rt; page_refused(alloc, &[(6, 0x48)], "0 Geometry NoMultiLun"));
+    assert!(rt; page_refused(alloc, &[(100, 0)], "0 Geometry LunCount"));
+    assert!(rt; page_refused(alloc, &[(113, 3)], "0 Geometry PlaneBits"));
+    assert!(rt; page_refused(alloc, &[(92, 0)], "0 Geometry Zero"));
+    assert!(rt; page_refused(alloc, &[(101, 0x22)], "0 Geometry RowTooWide"));
+    assert!(rt; page_refused(alloc, &[(101, 0x13)], "0 Geometry ColumnTooWide"));
+    assert!(rt; page_refused(alloc, &[(82, 1), (101, 0x43)], "0 Geometry TooLarge"));
+}
+
+fn asked(alloc: Global, line: &str) -> Option<Result<Command, WordsFault>> {
+    let mut given = Vec::new(alloc);
+    for word in line.split(' ') {
+        given.push(String::from_str(alloc, word).ok()?).ok()?;
+    }
+    Some(words(alloc, given.as_slice()))
+}
+
+#[test]
+fn reads_the_command_line(rt: HostRuntime) {
+    let alloc = rt.alloc();
+    assert_eq!(rt; asked(alloc, "onfi_sim plan"), Some(Ok(PLAN)));
+    assert_eq!(rt;
+        asked(alloc, "onfi_sim plan --limit 7"),
+        Some(Ok(Command::Plan { limit: 7 }))
+    );
+    for line in [
+        "onfi_sim",
+        "onfi_sim --limit 7 plan",
+        "onfi_sim plan --limit 0",
+        "onfi_sim plan --limit 1048577",
+        "onfi_sim plan --limit +7",
+        "onfi_sim plan --limit 7 --limit 7",
+        "onfi_sim plan extra",
+        "onfi_sim run",
+        "onfi_sim --help",
+    ] {
+        assert_eq!(rt; asked(alloc, line), Some(Err(WordsFault::Refused)));
+    }
+}
+
+#[test]
+fn a_read_fails(rt: HostRuntime) -> Result<(), Fail> {
+    let input = b"bus,1\nend\n";
+    for bad in 0..6u32 {
+        let mut reader = Cut {
+            text: input.as_slice(),
+            calls: 0,
+            bad,
+        };
+        let mut out = Vec::new(rt.alloc());
+        let got = engine(rt.alloc(), PLAN, &mut reader, &mut out);
+        assert!(rt; matches!(&got, Err(EngineFault::Read)), "at {bad}");
+        assert!(rt; out.is_empty());
+    }
+    Ok(())
+}
+
+#[test]
+fn a_write_fails(rt: HostRuntime) -> Result<(), Fail> {
+    let whole = b"script refused 0 NoEnd\n".as_slice();
+    for bad in 0..8u32 {
+        let mut reader = b"bus,1\n".as_slice();
+        let mut out = Choppy {
+            got: Vec::new(rt.alloc()),
+            calls: 0,
+            bad,
+        };
+        let got = engine(rt.alloc(), PLAN, &mut reader, &mut out);
+        assert!(rt; matches!(&got, Err(EngineFault::Write)), "at {bad}");
+        assert!(rt; whole.starts_with(out.got.as_slice()));
+    }
+    Ok(())
 }

@@ -1,8 +1,11 @@
 //! The command line.
-ghost use Rattle.std.specs.Prelude.{◌≤◌, IfOk};
+ghost use Rattle.std.specs.Prelude.{◌≡◌, IfOk, map, string_bytes, codes};
+ghost use Rattle.clap.specs.Words.{app_of, first_value, found_of, subcommand_of, subcommand_rows_of};
+ghost use Rattle.onfi_sim.specs.Words as spec;
 
 use crate::command::Command;
 use crate::field::number;
+use clap::error::ErrorKind;
 use clap::{Arg, ArgAction, ArgMatches, Command as App};
 use std::alloc::{AllocError, Global};
 use thiserror::Error;
@@ -20,7 +23,9 @@ pub enum WordsFault {
 const MOST: u32 = 1_048_576;
 
 /// What the program understands.
-fn app<'a>(alloc: Global) -> Result<App<'a>, AllocError> {
+fn app<'a>(alloc: Global) -> Result<App<'a>, AllocError>
+    ensures { IfOk result (λ a. app_of a ≡ spec.app) }
+{
     let limit = Arg::new(alloc, "limit")
         .long("limit")
         .action(ArgAction::Set);
@@ -30,7 +35,7 @@ fn app<'a>(alloc: Global) -> Result<App<'a>, AllocError> {
 
 /// A limit in its range, or the greatest where none is named.
 fn limit_of(matches: &ArgMatches<'_>) -> Result<u32, WordsFault>
-    ensures { IfOk result (λ n. (1 ≤ n) × (n ≤ 1048576)) }
+    ensures { IfOk result (λ n. spec.IsLimit (first_value (found_of matches.now) (codes "limit")) n) }
 {
     let Some(text) = matches.get_str("limit") else {
         return Ok(MOST);
@@ -41,30 +46,39 @@ fn limit_of(matches: &ArgMatches<'_>) -> Result<u32, WordsFault>
     }
 }
 
+/// What `clap` finds in the words.
+fn matches_of<'a>(alloc: Global, words: &'a [String]) -> Result<ArgMatches<'a>, WordsFault>
+    ensures { IfOk result (λ m. subcommand_rows_of m ≡ subcommand_of spec.app (map string_bytes words.entry.now)) }
+{
+    let Ok(app) = app(alloc) else {
+        return Err(WordsFault::Memory);
+    };
+    match app.try_get_matches_from(words) {
+        Ok(matches) => Ok(matches),
+        Err(error) => Err(if error.kind() == ErrorKind::OutOfMemory {
+            WordsFault::Memory
+        } else {
+            WordsFault::Refused
+        }),
+    }
+}
+
 /// The command that the words name; the first word is the program's.
 ///
 /// # Errors
 /// `Refused` where the words are no command line of the program, a call for help included; `Memory` where a growth
 /// was refused.
 pub fn words<'a>(alloc: Global, words: &'a [String]) -> Result<Command, WordsFault>
+    ensures { IfOk result (λ command. spec.Name (map string_bytes words.entry.now) command) }
 {
-    let Ok(app) = app(alloc) else {
-        return Err(WordsFault::Memory);
+    let matches = matches_of(alloc, words)?;
+    let Some((name, used)) = matches.subcommand() else {
+        return Err(WordsFault::Refused);
     };
-    let matches = match app.try_get_matches_from(words) {
-        Ok(matches) => matches,
-        Err(error) => {
-            return Err(if error.kind() == clap::error::ErrorKind::OutOfMemory {
-                WordsFault::Memory
-            } else {
-                WordsFault::Refused
-            });
-        }
-    };
-    match matches.subcommand() {
-        Some(("plan", plan)) => Ok(Command::Plan {
-            limit: limit_of(plan)?,
-        }),
-        _ => Err(WordsFault::Refused),
+    if name == "plan" {
+        let limit = limit_of(used)?;
+        Ok(Command::Plan { limit })
+    } else {
+        Err(WordsFault::Refused)
     }
 }

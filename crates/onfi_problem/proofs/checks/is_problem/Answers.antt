@@ -6,8 +6,7 @@ use Rattle.onfi_problem.proofs.checks.is_problem.Goals as goal
 pub returns-then-is_list : goal.returns-then-is_list
 returns-then-is_list c = λ timing bus_free.
     let w = c.is_list.ensures.0 c.if-is_list.true in
-    let rules = c.args.rules.now in
-    (
+    let rules = c.args.rules.now in (
       (λ t. record {
         wants = w.0;
         in_range = w.1;

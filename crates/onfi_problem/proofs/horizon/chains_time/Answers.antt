@@ -1,4 +1,4 @@
-use Rattle.std.proofs.Common.{◌≡◌, ◌∙◌, arith, ap, get_or}
+use Rattle.std.proofs.Common.{◌∙◌, arith, ap}
 use Rattle.onfi_problem.specs.Left.{chain_time}
 use Rattle.onfi_problem.proofs.Sums.{one_more}
 use Rattle.onfi_problem.proofs.horizon.chains_time.Goals as goal

@@ -1,5 +1,4 @@
-use Rattle.std.proofs.Common.{◌≡◌, ◌∙◌, sym, ap, get_or}
-use Rattle.std.specs.Prelude.{max}
+use Rattle.std.proofs.Common.{◌≡◌, ap, get_or}
 use Rattle.onfi_problem.proofs.Sums.{latest_more}
 use Rattle.onfi_problem.specs.Checks.{time_of}
 use Rattle.onfi_problem.proofs.horizon.latest_wait.Goals as goal

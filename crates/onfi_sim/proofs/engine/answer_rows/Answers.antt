@@ -1,13 +1,11 @@
 use Rattle.std.proofs.lemmas.Result.{IfOk-weaker}
-use Rattle.onfi_sim.specs.Answer.{AnswersProblem, AnswersRows}
+use Rattle.onfi_sim.specs.Answer.{AnswersRows, Refuses, has_no_device}
 use Rattle.onfi_sim.specs.AnswerOf.{answer_of}
-use Rattle.onfi_sim.specs.SetupOf.{problem_of}
-use Rattle.onfi_sim.proofs.Told.{setup_told}
 use Rattle.onfi_sim.proofs.engine.answer_rows.Goals as goal
 
-pub returns-in-Ok : goal.returns-in-Ok
-returns-in-Ok c =
+pub returns-in-Err-Fault : goal.returns-in-Err-Fault
+returns-in-Err-Fault c =
     let rows = c.args.rows.now in
-    let p = problem_of c.in-Ok.setup in
-    IfOk-weaker c.answer_problem.result (λ a. AnswersProblem p (answer_of a)) (λ a. AnswersRows rows (answer_of a))
-    (λ a h. setup_told rows p (answer_of a) c.in-Ok.ensures.0 c.in-Ok.ensures.1 h) c.answer_problem.ensures
+    let fault = c.in-Err-Fault.fault in
+    let none = rw c.in-Err-Fault.field-0-is at c.in-Err-Fault.ensures in
+    IfOk-weaker c.refused_whole.result (λ a. Refuses fault (answer_of a)) (λ a. AnswersRows rows (answer_of a)) (λ a h. has_no_device fault none h) c.refused_whole.ensures

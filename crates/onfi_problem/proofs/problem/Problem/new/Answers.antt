@@ -1,14 +1,12 @@
-use Rattle.std.proofs.Common.{◌≡◌, ◌∙◌, ◌^◌, ◌<◌, inl, inr, sym, refl, arith}
+use Rattle.std.proofs.Common.{◌∙◌, ◌^◌, ◌<◌, inl, inr, sym, refl}
 use Rattle.std.proofs.lemmas.Bool.{false≢true, cases_lt}
-use Rattle.onfi_problem.specs.Problem.{IsSmall, IsProblem}
-use Rattle.onfi_problem.specs.Left.{InLimits, horizon}
+use Rattle.onfi_problem.specs.Left.{horizon}
 use Rattle.onfi_problem.specs.Kept.{problem_of}
 use Rattle.onfi_problem.proofs.problem.Problem.new.Goals as goal
 
 pub returns-then-not-is_problem-clause-bad_lun : goal.returns-then-not-is_problem-clause-bad_lun
 returns-then-not-is_problem-clause-bad_lun c =
-    let s = c.is_small.ensures.0 c.if-not-is_small.false in
-    (
+    let s = c.is_small.ensures.0 c.if-not-is_small.false in (
       (λ e. (record { wants = s.0; some_luns = s.1; few_luns = s.2 }, (λ i. false≢true (sym c.if-not-is_problem.true ∙ (c.is_problem.ensures c.args.timing c.args.bus_free).1 i)))),
       (λ h. refl),
     )
@@ -23,8 +21,7 @@ returns-then-reaches_limit-clause-bad_lun c =
 
 pub returns-then-reaches_limit-clause-clock : goal.returns-then-reaches_limit-clause-clock
 returns-then-reaches_limit-clause-clock c =
-    let s = c.is_small.ensures.0 c.if-not-is_small.false in
-    (
+    let s = c.is_small.ensures.0 c.if-not-is_small.false in (
       (λ e. (record { wants = s.0; some_luns = s.1; few_luns = s.2 }, (c.is_problem.ensures c.args.timing c.args.bus_free).0 c.if-not-is_problem.false, c.reaches_limit.ensures.0 c.if-reaches_limit.true)),
       (λ h. refl),
     )

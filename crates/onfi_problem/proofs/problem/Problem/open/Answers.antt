@@ -1,8 +1,6 @@
-use Rattle.std.proofs.Common.{◌≡◌, ◌∙◌, sym, ap, subst, length, map, refl}
+use Rattle.std.proofs.Common.{◌≡◌, ◌∙◌, sym, ap, length, map, refl}
 use Rattle.std.proofs.lemmas.List.{length-map}
-use Rattle.onfi_problem.specs.Left.{InLimits}
-use Rattle.onfi_problem.specs.Kept.{IsTable, problem_of}
-use Rattle.onfi_problem.specs.Position.{state_of, waiting_of}
+use Rattle.onfi_problem.specs.Position.{state_of}
 use Rattle.onfi_problem.specs.Problem.{IsWant}
 use Rattle.onfi_problem.proofs.Perm.{All-weaker}
 use Rattle.onfi_problem.proofs.Marks.{all_wait}

@@ -1,7 +1,7 @@
-use Rattle.std.proofs.Common.{[], ◌≡◌, ◌∙◌, ℕ, refl, sym, subst, ap, arith}
-use Rattle.std.specs.Prelude.{slice_index_or, slice_set}
+use Rattle.std.proofs.Common.{[], ◌≡◌, sym, subst, arith}
+use Rattle.std.specs.Prelude.{slice_index_or}
 use Rattle.onfi_problem.specs.declared.moves.Lun.{Lun}
-use Rattle.onfi_problem.specs.Moves.{IsMove, Next, Start}
+use Rattle.onfi_problem.specs.Moves.{IsMove, Start}
 use Rattle.onfi_problem.specs.Position.{Position}
 use Rattle.onfi_problem.proofs.Lists.{refilled}
 use Rattle.onfi_problem.proofs.Places.{length_set}

@@ -1,4 +1,4 @@
-use Rattle.std.proofs.Common.{◌≡◌, ◌∙◌, ◌<◌, [], length, true, false, sym, ap, subst, arith}
+use Rattle.std.proofs.Common.{◌≡◌, ◌∙◌, ◌<◌, [], length, true, false, sym, ap, arith}
 use Rattle.std.specs.Prelude.{slice_index_or}
 use Rattle.onfi_problem.specs.Starts.{can_start}
 use Rattle.onfi_problem.specs.Position.{Position}

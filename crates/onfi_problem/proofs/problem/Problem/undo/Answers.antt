@@ -1,6 +1,4 @@
-use Rattle.std.proofs.Common.{◌≡◌, refl, sym, subst}
-use Rattle.std.specs.List.{refill}
-use Rattle.std.specs.Prelude.{length, map, slice_set}
+use Rattle.std.proofs.Common.{refl, sym, subst}
 use Rattle.onfi_problem.specs.Left.{InLimits}
 use Rattle.onfi_problem.specs.Position.{Position, restored, state_of}
 use Rattle.onfi_problem.proofs.Lists.{map_set, refilled}

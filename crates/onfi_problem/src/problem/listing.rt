@@ -1,0 +1,117 @@
+//! The moves of a problem, in their order.
+
+ghost use Rattle.std.specs.Prelude.{◌≡◌, ◌+◌, ◌≤◌, ◌<◌, ◌++◌, IfOk, IfSome, List, length, slice_range, slice_get};
+ghost use Rattle.std.specs.List.{AllByRecursion as Each};
+ghost use Rattle.std.specs.Option.{option_map};
+ghost use Rattle.onfi_group.specs.Group.{lun_of, on_block};
+ghost use Rattle.onfi_problem.specs.Moves.{Move as OneMove, IsMove, AreMoves};
+ghost use Rattle.onfi_problem.specs.Position.{move_of, moves_of, waiting_of};
+ghost use Rattle.onfi_problem.specs.Starts.{IsNamed, can_start, starts, waits_first};
+
+use super::Problem;
+use crate::move_list::Moves;
+use crate::moves::Move;
+use onfi_group::Group;
+use onfi_request::Want;
+use std::alloc::{AllocError, Global};
+
+impl Problem {
+    /// All moves, in their order, without memory.
+    pub fn steps(&self) -> Moves
+        ensures moves { AreMoves self.now.problem (moves_of self.now.groups result) }
+        ensures named { Each (IsNamed self.now.groups) result }
+        ensures few { length result ≤ 87 }
+    {
+        let mut moves = Moves::new();
+        for (at, state) in self.luns.iter().enumerate() {
+            let lun = at as u8;
+            if state.next == 0 {
+                self.starts(lun, self.first[at], self.first[at + 1], &mut moves);
+            } else {
+                moves.push(Move::Next { lun });
+            }
+        }
+        moves
+    }
+
+    /// All moves, in their order.
+    ///
+    /// # Errors
+    /// Only where memory was refused.
+    pub fn moves(&self, alloc: Global) -> Result<Vec<Move>, AllocError>
+        ensures moves { IfOk result (λ v. AreMoves self.now.problem (moves_of self.now.groups v.items)) }
+        ensures named { IfOk result (λ v. Each (IsNamed self.now.groups) v.items) }
+    {
+        Vec::from_slice(alloc, self.steps().as_slice())
+    }
+
+    /// How many moves there are, at most 87.
+    pub fn move_count(&self) -> usize
+        ensures count { (moves : List OneMove) → AreMoves self.now.problem moves → result ≡ length moves }
+        ensures few { result ≤ 87 }
+    {
+        self.steps().len()
+    }
+
+    /// The move at a place of the list of all moves, counted from 0.
+    pub fn move_at(&self, at: usize) -> Option<Move>
+        ensures value { (moves : List OneMove) → AreMoves self.now.problem moves → option_map (move_of self.now.groups) result ≡ slice_get moves at }
+        ensures move_of_it { IfSome result (λ m. IsMove self.now.problem (move_of self.now.groups m)) }
+        ensures named { IfSome result (λ m. IsNamed self.now.groups m) }
+    {
+        self.steps().get(at)
+    }
+
+    // Puts behind the moves those of the groups from one place to another, all of that LUN, that may be started.
+    fn starts(&self, lun: u8, from: usize, to: usize, moves: &mut Moves)
+        requires order { from ≤ to }
+        requires within { to ≤ length self.now.groups }
+        requires places { to ≤ 256 }
+        requires few { lun < 8 }
+        requires luns { Each (λ g. lun_of g ≡ lun) (slice_range self.now.groups from to) }
+        requires room { length moves.old + length (starts self.now.problem.wants self.now.groups from to) ≤ 87 }
+        ensures moves { moves_of self.now.groups moves.new ≡ moves_of self.now.groups moves.old ++ starts self.now.problem.wants self.now.groups from to }
+        ensures named { Each (IsNamed self.now.groups) moves.old → Each (IsNamed self.now.groups) moves.new }
+    {
+        for place in from..to {
+            if self.can_start(&self.groups[place]) {
+                moves.push(Move::Start {
+                    lun,
+                    place: place as u8,
+                });
+            }
+        }
+    }
+
+    // Whether each member waits first on its block.
+    fn can_start(&self, group: &Group) -> bool
+        ensures { result ≡ can_start self.now.problem.wants group.now }
+    {
+        let waiting = &self.waiting;
+        let wants = self.wants.as_slice();
+        group
+            .members()
+            .iter()
+            .all(|member| waits_first(waiting, wants, member))
+    }
+}
+
+// Whether it is this want that waits first on its block.
+fn waits_first(waiting: &[bool; 8], wants: &[Want], member: &Want) -> bool
+    requires { length wants.now ≤ 8 }
+    ensures { result ≡ waits_first (waiting_of waiting.now wants.now) member.now }
+{
+    for (i, want) in wants.iter().enumerate() {
+        if waiting[i] && is_on_block(member, want) {
+            return want.id == member.id;
+        }
+    }
+    false
+}
+
+// Whether a want is on the member's block.
+fn is_on_block(member: &Want, want: &Want) -> bool
+    ensures { result ≡ on_block member.now want.now }
+{
+    want.lun == member.lun && want.block == member.block
+}
