@@ -6,7 +6,7 @@ use Rattle.onfi_timing.specs.Phases.{phase_length}
 use Rattle.onfi_request.specs.declared.want.Want.{Want}
 use Rattle.onfi_group.specs.Group.{group_spans, lun_of}
 use Rattle.onfi_problem.specs.declared.lun_state.LunState.{LunState}
-use Rattle.onfi_problem.specs.declared.lun_state.LunState.TheVariants.{Free, Running}
+use Rattle.onfi_problem.specs.declared.lun_state.LunState.TheVariants.{Free}
 use Rattle.onfi_problem.specs.declared.moves.Lun.{Lun}
 use Rattle.onfi_problem.specs.Problem.{Problem}
 use Rattle.onfi_problem.specs.Moves.{Move, Next, Start, IsMove, after, free_from}

@@ -1,6 +1,5 @@
 -- The words in which a problem is tested and its times are summed up.
-use Rattle.std.specs.Prelude.{ℕ, ◌+◌, ◌<◌, ◌≤◌, List, [], ◌∷◌, length}
-use Rattle.onfi_request.specs.declared.want.Want.{Want}
+use Rattle.std.specs.Prelude.{ℕ, ◌+◌, List, [], ◌∷◌}
 use Rattle.onfi_group.specs.declared.rules.Rules.{Rules}
 use Rattle.onfi_problem.specs.declared.lun_state.LunState.{LunState}
 use Rattle.onfi_problem.specs.declared.lun_state.LunState.TheVariants.{Free, Running}

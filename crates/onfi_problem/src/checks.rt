@@ -22,14 +22,16 @@ pub fn is_small(luns: &[LunState], wants: &[Want]) -> bool
 
 // Wants of these LUNs with rising numbers, and what runs is a group of its LUN.
 pub fn is_problem(rules: &Rules, luns: &[LunState], wants: &[Want]) -> bool
-    ensures { (timing : Timing) (bus_free : ℕ) → IsTrue result ↔ IsProblem (problem_of timing rules.now bus_free luns.now wants.now) }
+    ensures { (timing : Timing) (bus_free : ℕ) →
+        IsTrue result ↔ IsProblem (problem_of timing rules.now bus_free luns.now wants.now) }
 {
     is_list(wants, luns.len()) && are_luns(rules, luns)
 }
 
 // Wants of so many LUNs, with rising numbers.
 fn is_list(wants: &[Want], luns: usize) -> bool
-    ensures { IsTrue result ↔ (Each IsWant wants.now × Each (λ w. w.lun < luns) wants.now × Pairs (λ a b. a.id < b.id) wants.now) }
+    ensures { IsTrue result ↔
+        (Each IsWant wants.now × Each (λ w. w.lun < luns) wants.now × Pairs (λ a b. a.id < b.id) wants.now) }
 {
     are_wants(wants) && are_in_range(wants, luns) && ids_rise(wants)
 }

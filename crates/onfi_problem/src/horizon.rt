@@ -16,7 +16,9 @@ const LIMIT: u64 = 1 << 62;
 pub fn reaches_limit(timing: &Timing, bus_free: u64, luns: &[LunState], wants: &[Want]) -> bool
     requires luns { length luns.now ≤ 8 }
     requires wants { length wants.now ≤ 8 }
-    ensures { IsTrue result ↔ (2 ^ 62 ≤ latest_wait bus_free luns.now + total (chain_time timing.now) luns.now + total (want_time timing.now) wants.now) }
+    ensures { let chains = total (chain_time timing.now) luns.now in
+        let wants_left = total (want_time timing.now) wants.now in
+        IsTrue result ↔ (2 ^ 62 ≤ latest_wait bus_free luns.now + chains + wants_left) }
 {
     let latest = latest_wait(bus_free, luns);
     latest >= LIMIT || latest + chains_time(timing, luns) + wants_time(timing, wants) >= LIMIT

@@ -68,10 +68,14 @@ impl Problem {
     ) -> Result<Problem, ProblemFault>
         ensures ok { IfOk result (λ p. p.problem ≡ problem_of timing rules bus_free luns.now wants.now) }
         ensures begun { IfOk result (λ p. p.all ≡ wants.now) }
-        ensures too_many { let p = problem_of timing rules bus_free luns.now wants.now in IsErrOf result ProblemFault.TooMany ↔ (IsSmall p → ⊥) }
-        ensures bad_lun { let p = problem_of timing rules bus_free luns.now wants.now in IsErrOf result ProblemFault.BadLun ↔ (IsSmall p × (IsProblem p → ⊥)) }
-        ensures clock { let p = problem_of timing rules bus_free luns.now wants.now in IsErrOf result ProblemFault.Clock ↔ (IsSmall p × IsProblem p × (2 ^ 62 ≤ horizon p)) }
-        ensures memory { IsErrOf result ProblemFault.Memory → InLimits (problem_of timing rules bus_free luns.now wants.now) }
+        ensures too_many { let p = problem_of timing rules bus_free luns.now wants.now in
+            IsErrOf result ProblemFault.TooMany ↔ (IsSmall p → ⊥) }
+        ensures bad_lun { let p = problem_of timing rules bus_free luns.now wants.now in
+            IsErrOf result ProblemFault.BadLun ↔ (IsSmall p × (IsProblem p → ⊥)) }
+        ensures clock { let p = problem_of timing rules bus_free luns.now wants.now in
+            IsErrOf result ProblemFault.Clock ↔ (IsSmall p × IsProblem p × (2 ^ 62 ≤ horizon p)) }
+        ensures memory { let p = problem_of timing rules bus_free luns.now wants.now in
+            IsErrOf result ProblemFault.Memory → InLimits p }
     {
         if !is_small(luns, wants) {
             return Err(ProblemFault::TooMany);

@@ -25,7 +25,8 @@ pub fn open_luns(
     requires empty { length groups.old.items ≡ 0 }
     requires few { length states.now ≤ 8 }
     requires luns { AreLuns rules.now 0 states.now }
-    ensures states { IfOk result (λ luns. (more : List (List Want)) → map (state_of (groups.new.items ++ more)) luns.items ≡ states.now) }
+    ensures states { IfOk result
+        (λ luns. (more : List (List Want)) → map (state_of (groups.new.items ++ more)) luns.items ≡ states.now) }
     ensures few { IfOk result (λ luns. length groups.new.items ≤ 8) }
 {
     let mut luns = ArrayVec::new();
@@ -46,7 +47,8 @@ fn open_lun(
     requires few { length groups.old.items < 8 }
     requires lun { IsLun rules.now at state.now }
     ensures state { IfOk result (λ lun. (more : List (List Want)) → state_of (groups.new.items ++ more) lun ≡ state.now) }
-    ensures grown { IfOk result (λ lun. (more : List (List Want)) × (groups.new.items ≡ groups.old.items ++ more) × (length more ≤ 1)) }
+    ensures grown { IfOk result
+        (λ lun. (more : List (List Want)) × (groups.new.items ≡ groups.old.items ++ more) × (length more ≤ 1)) }
 {
     match state {
         LunState::Free { since } => Ok(Lun {

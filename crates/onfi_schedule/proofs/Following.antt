@@ -1,18 +1,17 @@
 -- The phase of least start.
-use Rattle.std.proofs.Common.{◌≡◌, ℕ, zero, suc, ◌+◌, ◌≤◌, ◌↔◌, ◌⊎◌, inl, inr, List, [], ◌∷◌, ◌++◌, length, Some, refl, sym, ap, ◌∙◌, subst, arith}
+use Rattle.std.proofs.Common.{◌≡◌, ℕ, ◌+◌, ◌≤◌, ◌⊎◌, inl, inr, List, [], ◌∷◌, ◌++◌, length, Some, refl, sym, ap, ◌∙◌, subst, arith}
 use Rattle.std.specs.Prelude.{slice_get, slice_set}
 use Rattle.std.specs.List.{AllByRecursion as All}
-use Rattle.onfi_request.specs.declared.want.Want.{Want}
 use Rattle.onfi_group.specs.Words.{Has}
 use Rattle.onfi_group.specs.Group.{group_spans, lun_of}
 use Rattle.onfi_problem.specs.declared.lun_state.LunState.{LunState}
 use Rattle.onfi_problem.specs.declared.lun_state.LunState.TheVariants.{Free, Running}
 use Rattle.onfi_problem.specs.Problem.{Problem, IsProblem}
-use Rattle.onfi_problem.specs.Moves.{Move, Next, Start, IsMove, IsDone, earliest, placed, after}
+use Rattle.onfi_problem.specs.Moves.{Move, Next, Start, earliest, placed}
 use Rattle.onfi_problem.proofs.Perm.{Perm, to_front, All-has, Has-append_cases, Has-flat_map}
 use Rattle.onfi_problem.proofs.Kept.{kept}
 use Rattle.onfi_schedule.specs.Schedule.{Placed, Schedule, Phase, phases_from, phases_left, rest_phases, group_phases, phases, InOrder, Legal, finish}
-use Rattle.onfi_schedule.specs.Laws.{ComesNext, IsFirstMove, FirstMoveLaw, NextLaw, DoneLaw}
+use Rattle.onfi_schedule.specs.Laws.{ComesNext, FirstMoveLaw, NextLaw, DoneLaw}
 use Rattle.onfi_schedule.proofs.Chains.{is_head}
 use Rattle.onfi_schedule.proofs.Rests.{has_at}
 use Rattle.onfi_schedule.proofs.Least.{least_phase, of_rest, of_group, none_left, law_next, law_first}

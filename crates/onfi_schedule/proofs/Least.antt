@@ -10,7 +10,7 @@ use Rattle.onfi_problem.specs.declared.lun_state.LunState.TheVariants.{Free, Run
 use Rattle.onfi_problem.specs.Moves.{Move, Next, Start, IsMove, IsDone, earliest, placed}
 use Rattle.onfi_group.specs.Words.{Has, Pairs, number}
 use Rattle.onfi_problem.specs.Problem.{Problem, IsProblem, has_id}
-use Rattle.onfi_group.specs.Group.{IsGroup, lun_of, group_spans, kind_of, IsFirst, on_block}
+use Rattle.onfi_group.specs.Group.{IsGroup, lun_of, group_spans, IsFirst, on_block}
 use Rattle.onfi_timing.specs.Phases.{phase_length}
 use Rattle.onfi_schedule.specs.Schedule.{Placed, Schedule, Phase, end_of, phases_from, phases_left, rest_phases, group_phases, phases, latest, finish, InOrder, KeepsBlockOrder, all_members, Legal}
 use Rattle.onfi_schedule.specs.Runs.{Step, Run}

@@ -1,20 +1,20 @@
 -- The words of the functions that test the conditions say that a schedule is legal.
-use Rattle.std.proofs.Common.{◌≡◌, ℕ, zero, suc, ◌+◌, ◌*◌, ◌≤◌, ◌↔◌, ◌⊎◌, List, [], ◌∷◌, ◌++◌, length, Some, inl, inr, refl, sym, ap, ◌∙◌, subst, arith}
+use Rattle.std.proofs.Common.{◌≡◌, ℕ, zero, suc, ◌≤◌, ◌↔◌, ◌⊎◌, List, [], ◌∷◌, Some, inl, inr, refl, sym, ◌∙◌, subst, arith}
 use Rattle.std.specs.Prelude.{slice_get}
 use Rattle.std.specs.List.{AllByRecursion as All, flat_map}
 use Rattle.onfi_timing.specs.declared.timing.Timing.{Timing}
 use Rattle.onfi_request.specs.declared.want.Want.{Want}
 use Rattle.onfi_group.specs.declared.rules.Rules.{Rules}
-use Rattle.onfi_group.specs.Words.{Has, Pairs, number}
-use Rattle.onfi_group.specs.Group.{lun_of, group_spans, IsGroup}
+use Rattle.onfi_group.specs.Words.{Has, number}
+use Rattle.onfi_group.specs.Group.{lun_of}
 use Rattle.onfi_problem.specs.Problem.{Problem, IsProblem, has_id}
 use Rattle.onfi_problem.specs.Left.{InLimits}
 use Rattle.onfi_problem.specs.declared.lun_state.LunState.{LunState}
 use Rattle.onfi_problem.specs.declared.lun_state.LunState.TheVariants.{Free, Running}
 use Rattle.onfi_problem.proofs.Perm.{All-append, All-has, All-each, All-weaker, All-flat_map}
 use Rattle.onfi_problem.proofs.Wants.{Pairs-weaker, number_has, some_with_id, one_with_id}
-use Rattle.onfi_schedule.specs.Schedule.{Placed, Schedule, IsSchedule, Legal, all_members, rest_of, phases_left, group_phases, InOrder, Before, StartsFrom, KeepsBlockOrder}
-use Rattle.onfi_schedule.specs.Conditions.{HasShape, KeepsBus, KeepsWaits, KeepsTurns, KeepsGroups, EachRest, StateFits, StateWaits, StateSince, LeftFirst, FromSince, HoldsOnce, InBlockOrder, HoldersEnd, EndsBefore, MembersAmong, id_count, start_count}
+use Rattle.onfi_schedule.specs.Schedule.{Placed, Schedule, IsSchedule, Legal, all_members, rest_of, phases_left, group_phases, Before, StartsFrom, KeepsBlockOrder}
+use Rattle.onfi_schedule.specs.Conditions.{HasShape, KeepsBus, KeepsWaits, KeepsTurns, KeepsGroups, EachRest, StateFits, StateWaits, LeftFirst, FromSince, HoldsOnce, InBlockOrder, start_count}
 use Rattle.onfi_schedule.proofs.Room.{id_count_is, members_among, few_starts}
 
 -- at one LUN, and from each

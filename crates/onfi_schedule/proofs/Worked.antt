@@ -1,5 +1,5 @@
 -- The definitions at worked examples: the base device has two LUNs, two planes and reads of 140, 600, 25100 and 11000 ns.
-use Rattle.std.proofs.Common.{◌≡◌, ◌⊎◌, ℕ, List, [], ◌∷◌, true, false, refl, inl, inr, lit≤, lit<}
+use Rattle.std.proofs.Common.{◌≡◌, ℕ, [], ◌∷◌, true, false, refl, lit≤, lit<}
 use Rattle.onfi_timing.specs.declared.kind.Kind.TheVariants.{Read, Erase}
 use Rattle.onfi_timing.specs.declared.spans.Spans.{Spans}
 use Rattle.onfi_timing.specs.declared.timing.Timing.{Timing}
@@ -9,7 +9,7 @@ use Rattle.onfi_problem.specs.declared.lun_state.LunState.TheVariants.{Free, Run
 use Rattle.onfi_problem.specs.Problem.{Problem}
 use Rattle.onfi_problem.specs.Moves.{Next, Start, earliest, after}
 use Rattle.onfi_problem.specs.Left.{horizon}
-use Rattle.onfi_schedule.specs.Schedule.{Placed, Schedule, Phase, phases, finish, InOrder}
+use Rattle.onfi_schedule.specs.Schedule.{Schedule, finish, InOrder}
 
 abbrev reads : Spans
 reads = record { cmd = 140; gap = 600; array = 25100; post = 11000; in_range = record { cmd_some = lit≤ tt; cmd_short = lit< tt; gap_short = lit< tt; array_short = lit< tt; post_some = lit≤ tt; post_short = lit< tt } }

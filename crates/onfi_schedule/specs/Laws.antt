@@ -1,7 +1,6 @@
 -- Laws of legal schedules and of runs.
 use Rattle.std.specs.Prelude.{◌≡◌, ◌≢◌, ◌↔◌, ℕ, ◌≤◌, List, [], ◌∷◌, ◌++◌, Some, slice_set}
 use Rattle.std.specs.List.{AllByRecursion as Each}
-use Rattle.onfi_request.specs.declared.want.Want.{Want}
 use Rattle.onfi_group.specs.Group.{lun_of}
 use Rattle.onfi_problem.specs.Problem.{Problem, IsProblem}
 use Rattle.onfi_problem.specs.Moves.{Move, Next, Start, IsMove, move_lun, earliest, placed, after, IsDone}

@@ -18,9 +18,9 @@ pub grown_more : {X : Type 0} (f : X → List ℕ) (xs : List X) (at : ℕ) (x :
     → next ≡ text ++ f (get_or xs at x) → Grown f xs (at + 1) start next
 grown_more f xs at x start text next h grown e = record {
   is = e ∙ ap (λ t. t ++ f (get_or xs at x)) grown.is ∙ append_assoc start (flat_map f (take at xs)) (f (get_or xs at x))
-  ∙ ap (λ t. start ++ t)
-  (sym (ap (λ n. flat_map f (take n xs)) (add-one at) ∙ ap (flat_map f) (take-suc xs at x h) ∙ flat_map-append f (take at xs) (get_or xs at x ∷ [])
-  ∙ ap (λ t. flat_map f (take at xs) ++ t) (append-nil (f (get_or xs at x)))));
+      ∙ ap (λ t. start ++ t)
+      (sym (ap (λ n. flat_map f (take n xs)) (add-one at) ∙ ap (flat_map f) (take-suc xs at x h) ∙ flat_map-append f (take at xs) (get_or xs at x ∷ [])
+      ∙ ap (λ t. flat_map f (take at xs) ++ t) (append-nil (f (get_or xs at x)))));
 }
 
 pub grown_all : {X : Type 0} (f : X → List ℕ) (xs : List X) (at : ℕ) (start text : List ℕ) → length xs ≤ at → Grown f xs at start text → text ≡ start ++ flat_map f xs
@@ -38,8 +38,8 @@ pub listed_more : (rest : List (List ℕ)) (at : ℕ) (x : List ℕ) (start text
 unfolding rest_lines
 listed_more rest at x start text next h listed e = record {
   is = ap (λ t. t ++ rest_lines (at + 1) (drop (at + 1) rest)) e ∙ append_assoc text (rest_line at (get_or rest at x)) (rest_lines (at + 1) (drop (at + 1) rest))
-  ∙ ap (λ n. text ++ (rest_line at (get_or rest at x) ++ rest_lines (at + 1) (drop n rest))) (add-one at)
-  ∙ ap (λ l. text ++ rest_lines at l) (sym (drop-cons rest at x h)) ∙ listed.is;
+      ∙ ap (λ n. text ++ (rest_line at (get_or rest at x) ++ rest_lines (at + 1) (drop n rest))) (add-one at)
+      ∙ ap (λ l. text ++ rest_lines at l) (sym (drop-cons rest at x h)) ∙ listed.is;
 }
 
 pub listed_all : (rest : List (List ℕ)) (at : ℕ) (start text : List ℕ) → length rest ≤ at → Listed rest at start text → text ≡ start ++ rest_lines 0 rest

@@ -14,12 +14,11 @@ mod rows;
 mod script;
 mod seen;
 mod setup;
+#[cfg(test)]
+mod tests;
 mod text;
 mod transfer;
 mod words;
-
-#[cfg(test)]
-mod tests;
 
 use crate::command::Command;
 use crate::engine::engine;

@@ -107,7 +107,9 @@ fn plan_one(alloc: Global, setup: &Setup, want: Want) -> Result<Planned, AllocEr
     ensures { IfOk result (λ planned. IsPlan (problem_of setup.now) planned.schedule planned.finish planned.tokens.now) }
 {
     let spans = setup.timing.spans(want.kind);
-    let cmd = setup.bus_free.max(free_from(&setup.luns[want.lun as usize]));
+    let cmd = setup
+        .bus_free
+        .max(free_from(&setup.luns[want.lun as usize]));
     let post = cmd + spans.cmd + spans.array;
     let finish = post + spans.post;
     let mut groups = Vec::new(alloc);

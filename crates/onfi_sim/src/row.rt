@@ -14,10 +14,10 @@ use crate::fault::{RowStop, ScriptFault};
 use crate::field::{block, field, flag, kind, lun, page, small, span, time};
 use crate::row_name::Form;
 use csv::ByteRecord;
+use hex::FromHexError;
 use onfi_group::Group;
 use onfi_problem::LunState;
 use onfi_request::Want;
-use hex::FromHexError;
 use onfi_timing::{Kind, Sheet, Spans};
 use smallvec::SmallVec;
 use std::alloc::Global;
@@ -140,11 +140,23 @@ pub enum Row {
     Page(PageRow),
     /// The timing sheet with this row and the rows before it.
     Sheet(Sheet),
-    Bus { bus_free: u64 },
-    Free { lun: u8, since: u64 },
+    Bus {
+        bus_free: u64,
+    },
+    Free {
+        lun: u8,
+        since: u64,
+    },
     Running(RunningRow),
-    Want { kind: Kind, lun: u8, block: u16, page: u16 },
-    Strict { strict: bool },
+    Want {
+        kind: Kind,
+        lun: u8,
+        block: u16,
+        page: u16,
+    },
+    Strict {
+        strict: bool,
+    },
 }
 
 /// What a row settles for a script; two rows that settle the same don't go together.
@@ -281,9 +293,8 @@ pub fn is_kind(kind: Kind, other: Kind) -> bool
     ensures { result ≡ is_kind kind other }
 {
     match (kind, other) {
-        (Kind::Read, Kind::Read)
-        | (Kind::Program, Kind::Program)
-        | (Kind::Erase, Kind::Erase) => true,
+        (Kind::Read, Kind::Read) | (Kind::Program, Kind::Program) | (Kind::Erase, Kind::Erase) =>
+            true,
         _ => false,
     }
 }

@@ -11,7 +11,8 @@ use crate::command::Command;
 use crate::fault::{RowStop, ScriptFault, Stop};
 use crate::field::field;
 use crate::row::{
-    Row, Subject, bus_row, free_row, page_row, running_row, shape_row, sheet_row, spans_row, strict_row, want_row,
+    Row, Subject, bus_row, free_row, page_row, running_row, shape_row, sheet_row, spans_row,
+    strict_row, want_row,
 };
 use crate::row_name::RowName;
 use crate::seen::Seen;

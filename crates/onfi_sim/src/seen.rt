@@ -38,6 +38,7 @@ impl Seen {
     pub fn of(rows: &[Row]) -> Seen
         ensures { result ≡ spec.seen rows.now }
     {
-        rows.iter().fold(Seen::nothing(), |seen, row| seen.after(row))
+        rows.iter()
+            .fold(Seen::nothing(), |seen, row| seen.after(row))
     }
 }

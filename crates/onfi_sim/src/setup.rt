@@ -103,7 +103,12 @@ pub fn set_up(alloc: Global, rows: &[Row], device: &Device) -> Result<Setup, All
     let wants = wants(alloc, rows, device.plane_bits)?;
     Ok(Setup {
         timing: device.timing,
-        rules: Rules::new(device.reads, device.writes, is_strict(rows), device.plane_bits),
+        rules: Rules::new(
+            device.reads,
+            device.writes,
+            is_strict(rows),
+            device.plane_bits,
+        ),
         bus_free: bus_free(rows),
         luns,
         wants,

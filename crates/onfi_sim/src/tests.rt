@@ -8,11 +8,14 @@ use std::io;
 use std::io::{Read, Write};
 use std::test::Fail;
 
-const BASE: &str = "shape,2,1,1,1\nspans,read,140,600,25100,11000\nspans,program,10800,600,200100,280\nspans,erase,100,600,1500100,280\n";
+const BASE: &str =
+    "shape,2,1,1,1\nspans,read,140,600,25100,11000\nspans,program,10800,600,200100,280\nspans,erase,100,600,1500100,280\n";
 
-const NO_ARRAY: &str = "shape,2,1,1,1\nspans,read,140,600,0,11000\nspans,program,10800,600,200100,280\nspans,erase,100,600,1500100,280\n";
+const NO_ARRAY: &str =
+    "shape,2,1,1,1\nspans,read,140,600,0,11000\nspans,program,10800,600,200100,280\nspans,erase,100,600,1500100,280\n";
 
-const SHEET: &str = "sheet,tWC,20\nsheet,tRC,20\nsheet,tADL,100\nsheet,tWHR,80\nsheet,tRHW,100\nsheet,tWB,100\nsheet,tPLRBSY,500\nsheet,tPLPBSY,500\nsheet,tPLEBSY,500\n";
+const SHEET: &str =
+    "sheet,tWC,20\nsheet,tRC,20\nsheet,tADL,100\nsheet,tWHR,80\nsheet,tRHW,100\nsheet,tWB,100\nsheet,tPLRBSY,500\nsheet,tPLPBSY,500\nsheet,tPLEBSY,500\n";
 
 const ONE_READ: &str = "ONFIPLAN 1\nfinish 36240\ngroup 0 0 25240\nONFICERT 1\nL\n";
 
@@ -93,9 +96,7 @@ fn refused(alloc: Global, base: &str, rows: &str, why: &str) -> bool {
 fn plans_at_most_one_want(rt: HostRuntime) {
     let alloc = rt.alloc();
     assert!(rt; told_behind(alloc, BASE, "want,read,0,0,0\n", ONE_READ, 0));
-    assert!(rt;
-        told_behind(alloc, BASE, "", "ONFIPLAN 1\nfinish 0\nONFICERT 1\nU\n", 0)
-    );
+    assert!(rt; told_behind(alloc, BASE, "", "ONFIPLAN 1\nfinish 0\nONFICERT 1\nU\n", 0));
     assert!(rt;
         told_behind(
             alloc,
@@ -114,7 +115,15 @@ fn plans_at_most_one_want(rt: HostRuntime) {
             0
         )
     );
-    assert!(rt; told_behind(alloc, BASE, "bus,7\n", "ONFIPLAN 1\nfinish 7\nONFICERT 1\nU\n", 0));
+    assert!(rt;
+        told_behind(
+            alloc,
+            BASE,
+            "bus,7\n",
+            "ONFIPLAN 1\nfinish 7\nONFICERT 1\nU\n",
+            0
+        )
+    );
     assert!(rt;
         told_behind(
             alloc,
@@ -150,19 +159,43 @@ fn refuses_problems(rt: HostRuntime) {
     assert!(rt; refused(alloc, BASE, "want,read,2,0,0\n", "0 Problem BadLun"));
     assert!(rt; refused(alloc, BASE, "want,erase,0,0,1\n", "0 Problem BadLun"));
     assert!(rt;
-        refused(alloc, BASE, "bus,4611686018427387903\nwant,read,0,0,0\n", "0 Problem Clock")
+        refused(
+            alloc,
+            BASE,
+            "bus,4611686018427387903\nwant,read,0,0,0\n",
+            "0 Problem Clock"
+        )
     );
-    assert!(rt;
-        refused(alloc, BASE, "running,0,2,0,read,0,0\n", "0 Problem BadLun")
-    );
+    assert!(rt; refused(alloc, BASE, "running,0,2,0,read,0,0\n", "0 Problem BadLun"));
 }
 
 #[test]
 fn tells_the_first_fault(rt: HostRuntime) {
     let alloc = rt.alloc();
-    assert!(rt; told(alloc, b"shape,2,1,1,1\nendx\n end\n", "script refused 0 NoEnd\n", 1));
-    assert!(rt; told(alloc, b"want,read\nfoo\nend", "script refused 1 FieldCount\n", 1));
-    assert!(rt; told(alloc, b"want,read,0,0,0\r\nend\r\n", "script refused 0 Missing\n", 1));
+    assert!(rt;
+        told(
+            alloc,
+            b"shape,2,1,1,1\nendx\n end\n",
+            "script refused 0 NoEnd\n",
+            1
+        )
+    );
+    assert!(rt;
+        told(
+            alloc,
+            b"want,read\nfoo\nend",
+            "script refused 1 FieldCount\n",
+            1
+        )
+    );
+    assert!(rt;
+        told(
+            alloc,
+            b"want,read,0,0,0\r\nend\r\n",
+            "script refused 0 Missing\n",
+            1
+        )
+    );
     assert!(rt; refused(alloc, BASE, "foo\nbus,x\n", "5 UnknownRow"));
     assert!(rt; refused(alloc, BASE, "op,0,0,read,0,0,0\n", "5 NotHere"));
     assert!(rt; refused(alloc, BASE, "page,00\n", "5 NotHere"));
@@ -171,7 +204,12 @@ fn tells_the_first_fault(rt: HostRuntime) {
     assert!(rt; refused(alloc, BASE, "bus,4611686018427387904\n", "5 OutOfRange"));
     assert!(rt; refused(alloc, BASE, "bus,18446744073709551616\n", "5 OutOfRange"));
     assert!(rt;
-        refused(alloc, BASE, "bus,99999999999999999999999999999999\n", "5 OutOfRange")
+        refused(
+            alloc,
+            BASE,
+            "bus,99999999999999999999999999999999\n",
+            "5 OutOfRange"
+        )
     );
     assert!(rt;
         told_behind(
@@ -184,14 +222,27 @@ fn tells_the_first_fault(rt: HostRuntime) {
     );
     assert!(rt; refused(alloc, BASE, "want,reads,x,0,0\n", "5 OutOfRange"));
     assert!(rt; refused(alloc, BASE, "bus,1\nbus,1\nbus,x\n", "6 Repeated"));
-    assert!(rt; refused(alloc, BASE, "free,0,1\nrunning,0,1,0,read,0,0\n", "6 Repeated"));
+    assert!(rt;
+        refused(
+            alloc,
+            BASE,
+            "free,0,1\nrunning,0,1,0,read,0,0\n",
+            "6 Repeated"
+        )
+    );
     assert!(rt; refused(alloc, "", "shape,2,1,1,1\nfree,2,0\n", "0 Missing"));
-    assert!(rt; refused(alloc, BASE, "free,0,0\nfree,2,0\nwant,read,7,0,0\n", "6 OutOfRange"));
+    assert!(rt;
+        refused(
+            alloc,
+            BASE,
+            "free,0,0\nfree,2,0\nwant,read,7,0,0\n",
+            "6 OutOfRange"
+        )
+    );
 }
 
-// The row of the worked parameter page with these bytes changed and its check value set anew; where it is spoiled, one
-// bit of byte 100 is changed behind that.
-fn page(alloc: Global, changes: &[(usize, u8)], spoiled: bool) -> Option<String> {
+// The worked parameter page without its check value.
+fn worked_page() -> [u8; 256] {
     let mut bytes = [0u8; 256];
     bytes[..4].copy_from_slice(b"ONFI".as_slice());
     bytes[6] = 0x4A;
@@ -200,22 +251,42 @@ fn page(alloc: Global, changes: &[(usize, u8)], spoiled: bool) -> Option<String>
     bytes[92..102].copy_from_slice([64, 0, 0, 0, 0xE8, 3, 0, 0, 2, 0x23].as_slice());
     bytes[113] = 1;
     bytes[133..141].copy_from_slice([0xC8, 0, 0xDC, 5, 0x19, 0, 0xC8, 0].as_slice());
+    bytes
+}
+
+// The page with these bytes changed.
+fn changed_page(changes: &[(usize, u8)]) -> [u8; 256] {
+    let mut bytes = worked_page();
     for (at, value) in changes {
         if let Some(byte) = bytes.get_mut(*at) {
             *byte = *value;
         }
     }
-    let check = crc16(&bytes[..254]).to_le_bytes();
-    bytes[254..].copy_from_slice(check.as_slice());
-    if spoiled {
-        bytes[100] ^= 1;
-    }
-    let text = hex::encode(alloc, bytes.as_slice()).ok()?;
+    bytes
+}
+
+// The check value of all bytes but the last two.
+fn check_of(bytes: &[u8]) -> u16 {
+    let (front, _) = bytes.split_at(bytes.len().saturating_sub(2));
+    crc16(front)
+}
+
+// The page with these bytes changed and its check value set anew.
+fn checked_page(changes: &[(usize, u8)]) -> [u8; 256] {
+    let mut bytes = changed_page(changes);
+    let check = check_of(bytes.as_slice());
+    bytes[254] = (check % 256) as u8;
+    bytes[255] = (check / 256) as u8;
+    bytes
+}
+
+fn page_row(alloc: Global, bytes: &[u8]) -> Option<String> {
+    let text = hex::encode(alloc, bytes).ok()?;
     format!(in alloc; "page,{text}\n").ok()
 }
 
 fn page_refused(alloc: Global, changes: &[(usize, u8)], why: &str) -> bool {
-    match page(alloc, changes, false) {
+    match page_row(alloc, checked_page(changes).as_slice()) {
         Some(page) => refused(alloc, page.as_str(), SHEET, why),
         None => false,
     }
@@ -224,17 +295,21 @@ fn page_refused(alloc: Global, changes: &[(usize, u8)], why: &str) -> bool {
 #[test]
 fn takes_page_and_sheet(rt: HostRuntime) -> Result<(), Fail> {
     let alloc = rt.alloc();
-    let page_row = page(alloc, &[], false).ok_or("a page")?;
-    let page_row = page_row.as_str();
+    let bytes = checked_page(&[]);
+    let row = page_row(alloc, bytes.as_slice()).ok_or("a page")?;
+    let row = row.as_str();
     let rows = format!(in alloc; "{SHEET}want,read,0,0,0\n")?;
-    assert!(rt; told_behind(alloc, page_row, rows.as_str(), ONE_READ, 0));
+    assert!(rt; told_behind(alloc, row, rows.as_str(), ONE_READ, 0));
     let (most, _) = SHEET.split_at(SHEET.len() - "sheet,tPLEBSY,500\n".len());
-    assert!(rt; refused(alloc, page_row, most, "0 Sheet Missing"));
+    assert!(rt; refused(alloc, row, most, "0 Sheet Missing"));
     let late = format!(in alloc; "sheet,tWC,0\n")?;
     let (_, behind) = SHEET.split_at("sheet,tWC,20\n".len());
     let late = format!(in alloc; "{late}{behind}")?;
-    assert!(rt; refused(alloc, page_row, late.as_str(), "0 Sheet ZeroCycle"));
-    let spoiled = page(alloc, &[], true).ok_or("a page")?;
+    assert!(rt; refused(alloc, row, late.as_str(), "0 Sheet ZeroCycle"));
+    // One bit of byte 100 is changed, and the check value is as it was.
+    let mut spoiled = bytes;
+    spoiled[100] ^= 1;
+    let spoiled = page_row(alloc, spoiled.as_slice()).ok_or("a page")?;
     assert!(rt; refused(alloc, spoiled.as_str(), SHEET, "0 Page NoCopy"));
     assert!(rt; refused(alloc, "page,00\n", SHEET, "0 Page Short"));
     assert!(rt; refused(alloc, "", SHEET, "0 Missing"));

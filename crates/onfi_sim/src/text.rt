@@ -27,12 +27,7 @@ pub fn refused(alloc: Global, refusal: Refusal) -> Result<Answer, AllocError>
 }
 
 /// Puts a mark and a number behind a text.
-fn put_number(
-    alloc: Global,
-    text: &mut String,
-    mark: &str,
-    number: u64,
-) -> Result<(), AllocError>
+fn put_number(alloc: Global, text: &mut String, mark: &str, number: u64) -> Result<(), AllocError>
     ensures { OnOk result (string_bytes text.new ≡ string_bytes text.old ++ (mark.now ++ decimal number)) }
 {
     let piece = format!(in alloc; "{mark}{number}")?;

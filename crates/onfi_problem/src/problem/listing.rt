@@ -55,7 +55,8 @@ impl Problem {
 
     /// The move at a place of the list of all moves, counted from 0.
     pub fn move_at(&self, at: usize) -> Option<Move>
-        ensures value { (moves : List OneMove) → AreMoves self.now.problem moves → option_map (move_of self.now.groups) result ≡ slice_get moves at }
+        ensures value { (moves : List OneMove) → AreMoves self.now.problem moves →
+            option_map (move_of self.now.groups) result ≡ slice_get moves at }
         ensures move_of_it { IfSome result (λ m. IsMove self.now.problem (move_of self.now.groups m)) }
         ensures named { IfSome result (λ m. IsNamed self.now.groups m) }
     {
@@ -70,7 +71,8 @@ impl Problem {
         requires few { lun < 8 }
         requires luns { Each (λ g. lun_of g ≡ lun) (slice_range self.now.groups from to) }
         requires room { length moves.old + length (starts self.now.problem.wants self.now.groups from to) ≤ 87 }
-        ensures moves { moves_of self.now.groups moves.new ≡ moves_of self.now.groups moves.old ++ starts self.now.problem.wants self.now.groups from to }
+        ensures moves { let now = self.now in
+            moves_of now.groups moves.new ≡ moves_of now.groups moves.old ++ starts now.problem.wants now.groups from to }
         ensures named { Each (IsNamed self.now.groups) moves.old → Each (IsNamed self.now.groups) moves.new }
     {
         for place in from..to {

@@ -112,7 +112,8 @@ fn run(timing: &Timing, group: &Group, place: u8, next: u8, start: u64) -> (u64,
     requires start { start < 2 ^ 62 }
     requires next { next < 2 * length group.now }
     ensures ended { result.0 ≡ start + phase_length (group_spans timing.now group.now) (length group.now) next }
-    ensures state { (groups : List (List Want)) → slice_index_or groups place [] ≡ group.now → state_of groups result.1 ≡ lun_after timing.now group.now next result.0 }
+    ensures state { (groups : List (List Want)) → slice_index_or groups place [] ≡ group.now →
+        state_of groups result.1 ≡ lun_after timing.now group.now next result.0 }
 {
     let spans = timing.spans(group.kind());
     let members = group.len();

@@ -1,4 +1,4 @@
-use Rattle.std.proofs.Common.{refl, ◌∙◌, arith}
+use Rattle.std.proofs.Common.{refl, ◌∙◌}
 use Rattle.std.proofs.lemmas.Bool.{false≢true}
 use Rattle.onfi_schedule.proofs.Room.{few_starts}
 use Rattle.onfi_schedule.proofs.LegalIs.{legal_is, legal_shape}

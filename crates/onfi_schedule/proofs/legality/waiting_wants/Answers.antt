@@ -1,5 +1,4 @@
-use Rattle.std.proofs.Common.{◌<◌, ◌≤◌, ap, length, arith}
-use Rattle.arrayvec.specs.ArrayVec.{array_vec_len}
+use Rattle.std.proofs.Common.{◌<◌, length, arith}
 use Rattle.onfi_schedule.proofs.Waiting.{one_waits, none_waits}
 use Rattle.onfi_schedule.proofs.legality.waiting_wants.Goals as goal
 use Rattle.onfi_schedule.proofs.legality.waiting_wants.Goals.{then-waiting-at, else-waiting-at}

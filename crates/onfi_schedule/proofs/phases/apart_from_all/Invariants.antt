@@ -1,4 +1,4 @@
-use Rattle.std.proofs.Common.{◌≤◌, ◌↔◌, drop}
+use Rattle.std.proofs.Common.{◌↔◌, drop}
 use Rattle.std.specs.List.{AllByRecursion as All}
 use Rattle.onfi_schedule.specs.Schedule.{Apart}
 use Rattle.onfi_schedule.proofs.phases.apart_from_all.Given as goal

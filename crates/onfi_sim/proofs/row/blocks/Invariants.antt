@@ -8,5 +8,5 @@ abbrev pub invariant-loop-at : goal.invariant-loop-at
 invariant-loop-at l = record {
   read : blocks_of (drop 6 (fields_of l.row)) ≡ given (blocks_of (drop l.at (fields_of l.row))) (λ rest. Ok (l.blocks.items ++ rest));
   len : length l.blocks.items + 6 ≡ l.at;
-  room : l.blocks.capacity ≡ 4
+  room : l.blocks.capacity ≡ 4;
 }

@@ -8,5 +8,5 @@ abbrev pub invariant-loop-at : goal.invariant-loop-at
 invariant-loop-at l = record {
   read : rows_of l.command (map fields_of l.records) ≡ rows_after l.command l.rows.items (map fields_of (drop l.at l.records));
   len : length l.rows.items ≡ l.at;
-  seen : l.seen ≡ seen l.rows.items
+  seen : l.seen ≡ seen l.rows.items;
 }

@@ -24,9 +24,9 @@ loop-block-preserved c =
     let at = c.loop-block.block-index in
     record {
       made = c.push_reserved.ensures.items
-      ∙ members_more c.args.plane_bits at c.args.self.now blocks c.loop-block.members.items _ c.loop-block-test.true inv.made
-      (member_is c.args.plane_bits c.plane_of.result (get_or blocks at 0) c.self.inside.kind c.self.inside.lun c.self.inside.page c.args.self.now
-      (ap (λ r. r.kind) c.self.view_is) (ap (λ r. r.lun) c.self.view_is) (ap (λ r. r.page) c.self.view_is) c.plane_of.ensures);
+          ∙ members_more c.args.plane_bits at c.args.self.now blocks c.loop-block.members.items _ c.loop-block-test.true inv.made
+          (member_is c.args.plane_bits c.plane_of.result (get_or blocks at 0) c.self.inside.kind c.self.inside.lun c.self.inside.page c.args.self.now
+          (ap (λ r. r.kind) c.self.view_is) (ap (λ r. r.lun) c.self.view_is) (ap (λ r. r.page) c.self.view_is) c.plane_of.ensures);
       len = rw c.push_reserved.ensures.items (omega (arith, length-append c.loop-block.members.items));
       room = c.push_reserved.ensures.capacity ∙ inv.room;
       all = inv.all;

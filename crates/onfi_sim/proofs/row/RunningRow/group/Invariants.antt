@@ -9,5 +9,5 @@ invariant-loop-block l = record {
   room : l.members.capacity ≡ 4;
   all : l.block-items ≡ l.self.blocks;
   some : 1 ≤ length l.block-items;
-  few : length l.block-items ≤ 4
+  few : length l.block-items ≤ 4;
 }

@@ -1,0 +1,10 @@
+pub mod Sound
+pub mod Spelled
+pub mod OneList
+pub mod Reading
+pub mod LastEnds
+pub mod Nothing
+pub mod Fitting
+pub mod ByDie
+pub mod Walking
+pub mod Tokens

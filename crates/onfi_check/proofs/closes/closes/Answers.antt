@@ -1,0 +1,8 @@
+use Rattle.std.proofs.Common.{◌≡◌, refl, sym, ap, ◌∙◌, subst}
+use Rattle.onfi_cert.specs.declared.token.Token.TheVariants.{Die}
+use Rattle.onfi_check.specs.Tree.{Closes, Closing, ByDie, token_of}
+use Rattle.onfi_check.proofs.ByDie.{by_die}
+use Rattle.onfi_check.proofs.closes.closes.Goals as goal
+
+pub returns-in-Die : goal.returns-in-Die
+returns-in-Die c = by_die c.args.problem.now.problem c.args.e c.args.token.now c.in-Die.lun c.get.result _ c.in-Die.is c.get.ensures.value c.reaches-in-Die.ensures

@@ -1,0 +1,161 @@
+use Rattle.std.proofs.Common.{◌≡◌, ℕ, ◌+◌, ◌*◌, ◌≤◌, ◌<◌, ◌↔◌, ◌∷◌, List, IfErr, OnOk, length, get_or, drop, refl, sym, ap, ◌∙◌, subst, arith}
+use Rattle.std.proofs.lemmas.Result.{err_from_is_err_and}
+use Rattle.std.specs.List.{AllByRecursion as All}
+use Rattle.onfi_problem.specs.declared.moves.Move.TheVariants.{Next}
+use Rattle.onfi_problem.specs.Moves.{IsMove, AreMoves, after}
+use Rattle.onfi_problem.specs.Position.{Position, move_of, moves_of, moved}
+use Rattle.onfi_problem.specs.Starts.{IsNamed}
+use Rattle.onfi_cert.specs.declared.token.Token.{Token}
+use Rattle.onfi_check.specs.Reading.{Begins, BeginsEach, ReadsChild, RefusesChild}
+use Rattle.onfi_check.specs.Ends.{AreLastEnds}
+use Rattle.onfi_check.proofs.LastEnds.{move_at, at_place}
+use Rattle.onfi_check.proofs.Walking.{lun_there, luns_named, few_named, on_ok, yield_taken, yield_refused, child_taken, child_refused, none_left, fewer_left, begun, one_more_child, refused_child, all_children, closing_taken, closing_refused, branch_width, branch_taken, branch_refused}
+use Rattle.onfi_check.proofs.walk.+read.Goals as goal
+
+pub read_below-returns-in_err-read_tree-clause-err : goal.read_below-returns-in_err-read_tree-clause-err
+read_below-returns-in_err-read_tree-clause-err g t c =
+    let p = err_from_is_err_and c.from_residual.result c.from_residual.ensures.1 in
+    rw p.1 (subst (λ (z : Position). (rest : List Token) → Begins z.problem c.args.e (c.args.token ∷ g.S.TokenSource.left c.args.tokens.now.source) rest → ⊥) c.advance-undo.ensures.moved c.in_err-read_tree.ensures.err)
+
+pub read_child-returns-in_default-clause-err : goal.read_child-returns-in_default-clause-err
+read_child-returns-in_default-clause-err g t c = none_left c.args.problem.now.problem c.args.e (move_of c.args.problem.now.groups c.args.m) c.args.standing.now (g.S.TokenSource.left c.args.tokens.now.source) c.in_default.ensures.end
+
+pub read_child-take_yield-requires-clause-own : goal.read_child-take_yield-requires-clause-own
+read_child-take_yield-requires-clause-own g t c =
+    let there = lun_there c.args.problem.now.problem (move_of c.args.problem.now.groups c.args.m) c.requires.step in
+    let named = c.requires.named.lun in
+    let own = c.lun.ensures in
+    omega arith
+
+pub read_child-returns-in-Yield-clause-ok : goal.read_child-returns-in-Yield-clause-ok
+read_child-returns-in-Yield-clause-ok g t c =
+    yield_taken c.args.problem.now.problem c.args.e (move_of c.args.problem.now.groups c.args.m) c.args.standing.now c.take_yield.new.standing (g.S.TokenSource.left c.args.tokens.now.source) (g.S.TokenSource.left c.take.new.self.source) c.lun.result c.in-Yield.lun c.get.result c.in-Some.token c.take_yield.result
+    c.in-Yield.is c.get.ensures.value (c.lun.ensures ∙ sym c.requires.named.lun) c.in-Some.ensures.token c.take_yield.ensures.ok c.take_yield.ensures.awaited c.take_yield.ensures.leaving
+
+pub read_child-returns-in-Yield-clause-err : goal.read_child-returns-in-Yield-clause-err
+read_child-returns-in-Yield-clause-err g t c =
+    yield_refused c.args.problem.now.problem c.args.e (move_of c.args.problem.now.groups c.args.m) c.args.standing.now (g.S.TokenSource.left c.args.tokens.now.source) (g.S.TokenSource.left c.take.new.self.source) c.lun.result c.in-Yield.lun c.get.result c.in-Some.token c.take_yield.result
+    c.in-Yield.is c.get.ensures.value (c.lun.ensures ∙ sym c.requires.named.lun) c.in-Some.ensures.token c.take_yield.ensures.err
+
+pub read_child-returns-in_default-token : goal.read_child-returns-in_default-token
+read_child-returns-in_default-token g t c =
+    let p = c.args.problem.now.problem in
+    let m = move_of c.args.problem.now.groups c.args.m in
+    let tokens = g.S.TokenSource.left c.args.tokens.now.source in
+    let left = g.S.TokenSource.left c.take.new.self.source in
+    let next = g.S.TokenSource.left c.read_below.new.tokens.source in
+    record {
+      problem = c.read_below.ensures.problem;
+      fewer = fewer_left tokens left next c.in-Some.token c.read_below.result c.in-Some.ensures.token c.read_below.ensures.fewer;
+      ends = refl;
+      ok = child_taken p c.args.e m c.args.standing.now tokens left next c.in-Some.token c.read_below.result c.in-Some.ensures.token c.read_below.ensures.ok;
+      err = child_refused p c.args.e m c.args.standing.now tokens left c.in-Some.token c.read_below.result c.in-Some.ensures.token c.in_default-token.not-Yield c.read_below.ensures.err;
+      kind = c.read_below.ensures.kind;
+    }
+
+pub read_children-last_ends-requires-clause-luns : goal.read_children-last_ends-requires-clause-luns
+read_children-last_ends-requires-clause-luns g t c = luns_named c.args.problem.now.groups c.as_slice-listed.result.now (subst (All (IsNamed c.args.problem.now.groups)) (sym c.as_slice-listed.ensures.value) c.requires.named)
+
+pub read_children-last_ends-requires-clause-few : goal.read_children-last_ends-requires-clause-few
+read_children-last_ends-requires-clause-few g t c = few_named c.args.problem.now.groups c.as_slice-listed.result.now (subst (All (IsNamed c.args.problem.now.groups)) (sym c.as_slice-listed.ensures.value) c.requires.named)
+
+pub read_children-loop-m-init : goal.read_children-loop-m-init
+read_children-loop-m-init g t c =
+    let x = c.args.problem.now in
+    let items = c.as_slice-listed.result.now in
+    record {
+      problem = refl;
+      fewer = omega arith;
+      ends = c.last_ends.ensures.ends;
+      same = λ rest. begun x c.args.e items (g.S.TokenSource.left c.args.tokens.now.source) rest (subst (All (IsNamed x.groups)) (sym c.as_slice-listed.ensures.value) c.requires.named);
+    }
+
+pub read_children-read_child-requires : goal.read_children-read_child-requires
+read_children-read_child-requires g t c κs within =
+    let x = c.args.problem.now in
+    let items = c.as_slice-listed.result.now in
+    let i = c.loop-m.m-index in
+    let named = subst (All (IsNamed x.groups)) (sym c.as_slice-listed.ensures.value) c.requires.named in
+    let are = subst (λ z. AreMoves x.problem (moves_of x.groups z)) (sym c.as_slice-listed.ensures.value) c.requires.moves in
+    let same = sym c.loop-m.invariant.problem in
+    let fewer = c.loop-m.invariant.fewer in (
+      omega (arith, c.decreases),
+      (
+        within,
+        (
+          subst (λ (z : Position). IsMove z.problem (move_of z.groups (get_or items i (Next 0)))) same (move_at x.problem x.groups items i (Next 0) c.loop-m-test.true are.moves_only),
+          subst (λ (z : Position). IsNamed z.groups (get_or items i (Next 0))) same (at_place (IsNamed x.groups) items i (Next 0) c.loop-m-test.true named),
+        ),
+      ),
+    )
+
+pub read_children-returns-in_err-read_child-clause-err : goal.read_children-returns-in_err-read_child-clause-err
+read_children-returns-in_err-read_child-clause-err g t c =
+    let x = c.args.problem.now in
+    let items = c.as_slice-listed.result.now in
+    let i = c.loop-m.m-index in
+    let tokens = g.S.TokenSource.left c.loop-m.tokens.source in
+    let begun = g.S.TokenSource.left c.args.tokens.now.source in
+    let p = err_from_is_err_and c.from_residual.result c.from_residual.ensures.1 in
+    let refuses = subst (λ (z : Position). RefusesChild z.problem c.args.e (move_of z.groups (get_or items i (Next 0))) c.loop-m.standing tokens) c.loop-m.invariant.problem c.in_err-read_child.ensures.err in
+    rw p.1 (λ rest b. refused_child x c.args.e items i (Next 0) c.loop-m.standing tokens begun rest c.loop-m-test.true c.loop-m.invariant.ends refuses (c.loop-m.invariant.same rest) (subst (λ z. BeginsEach x.problem c.args.e (moves_of x.groups z) begun rest) (sym c.as_slice-listed.ensures.value) b))
+
+pub read_children-loop-m-preserved : goal.read_children-loop-m-preserved
+read_children-loop-m-preserved g t c =
+    let x = c.args.problem.now in
+    let items = c.as_slice-listed.result.now in
+    let i = c.loop-m.m-index in
+    let tokens = g.S.TokenSource.left c.loop-m.tokens.source in
+    let left = g.S.TokenSource.left c.read_child.new.tokens.source in
+    let begun = g.S.TokenSource.left c.args.tokens.now.source in
+    let reads = subst (λ (z : Position). ReadsChild z.problem c.args.e (move_of z.groups (get_or items i (Next 0))) c.loop-m.standing c.read_child.new.standing tokens left) c.loop-m.invariant.problem c.in_ok-read_child.ensures.ok in
+    let less = c.in_ok-read_child.ensures.fewer in
+    let fewer = c.loop-m.invariant.fewer in
+    record {
+      problem = c.in_ok-read_child.ensures.problem ∙ c.loop-m.invariant.problem;
+      fewer = omega arith;
+      ends = subst (AreLastEnds x.problem (moves_of x.groups items)) (sym c.read_child.ensures.ends) c.loop-m.invariant.ends;
+      same = λ rest. one_more_child x c.args.e items i (Next 0) c.loop-m.standing c.read_child.new.standing tokens left begun rest c.loop-m-test.true c.loop-m.invariant.ends reads (c.loop-m.invariant.same rest);
+    }
+
+pub read_children-returns-clause-ok : goal.read_children-returns-clause-ok
+read_children-returns-clause-ok g t c =
+    let x = c.args.problem.now in
+    let items = c.as_slice-listed.result.now in
+    let left = g.S.TokenSource.left c.loop-m.tokens.source in
+    let begun = g.S.TokenSource.left c.args.tokens.now.source in
+    subst (λ z. BeginsEach x.problem c.args.e (moves_of x.groups z) begun left) c.as_slice-listed.ensures.value (all_children x c.args.e items c.loop-m.m-index c.loop-m.standing.awaited c.loop-m.standing.leaving left begun c.loop-m-test.false (c.loop-m.invariant.same left))
+
+pub read_tree-returns-in_default : goal.read_tree-returns-in_default
+read_tree-returns-in_default g t c =
+    let p = c.args.problem.now.problem in
+    let left = g.S.TokenSource.left c.args.tokens.now.source in
+    record {
+      problem = on_ok c.read_closing.result refl;
+      fewer = on_ok c.read_closing.result (omega arith);
+      ok = closing_taken p c.args.e c.args.token left c.read_closing.result c.read_closing.ensures.ok;
+      err = closing_refused p c.args.e c.args.token left c.read_closing.result c.in_default.not-Branch c.read_closing.ensures.err;
+      kind = c.read_closing.ensures.kind;
+    }
+
+pub read_tree-returns-then-len-get-clause-err : goal.read_tree-returns-then-len-get-clause-err
+read_tree-returns-then-len-get-clause-err g t c = λ rest b.
+    let x = c.args.problem.now in
+    let left = g.S.TokenSource.left c.args.tokens.now.source in
+    let wide = branch_width x c.args.e c.in-Branch.width c.get.result c.steps-moves.result c.args.token left rest c.steps-moves.ensures.moves c.in-Branch.is c.get.ensures.value b in
+    let long = c.len.ensures.value in
+    omega (arith, c.if-len-get.true)
+
+pub read_tree-returns-clause-ok : goal.read_tree-returns-clause-ok
+read_tree-returns-clause-ok g t c =
+    let x = c.args.problem.now in
+    let left = g.S.TokenSource.left c.args.tokens.now.source in
+    let next = g.S.TokenSource.left c.read_children.new.tokens.source in
+    let long = c.len.ensures.value in
+    branch_taken x c.args.e c.in-Branch.width c.get.result c.steps-moves.result c.args.token left next c.read_children.result c.steps-moves.ensures.moves c.in-Branch.is c.get.ensures.value c.get.ensures.low (omega (arith, c.if-len-get.false)) c.read_children.ensures.ok
+
+pub read_tree-returns-clause-err : goal.read_tree-returns-clause-err
+read_tree-returns-clause-err g t c =
+    let x = c.args.problem.now in
+    let left = g.S.TokenSource.left c.args.tokens.now.source in
+    branch_refused x c.args.e c.in-Branch.width c.steps-moves.result c.args.token left c.read_children.result c.steps-moves.ensures.moves c.in-Branch.is c.read_children.ensures.err

@@ -1,0 +1,31 @@
+use Rattle.std.proofs.Common.{◌≡◌, ℕ, ◌+◌, ◌*◌, ◌≤◌, ◌↔◌, List, length, drop}
+use Rattle.onfi_problem.specs.Position.{moves_of}
+use Rattle.onfi_cert.specs.declared.token.Token.{Token}
+use Rattle.onfi_check.specs.Ends.{AreLastEnds}
+use Rattle.onfi_check.specs.Reading.{BeginsEach, BeginsRest}
+use Rattle.onfi_check.proofs.walk.+read.Given as goal
+
+abbrev pub decreases-read_tree : goal.decreases-read_tree
+decreases-read_tree g l = 4 * length (g.S.TokenSource.left l.tokens.now.source) + 2
+
+abbrev pub decreases-read_children : goal.decreases-read_children
+decreases-read_children g l = 4 * length (g.S.TokenSource.left l.tokens.now.source) + 1
+
+abbrev pub decreases-read_child : goal.decreases-read_child
+decreases-read_child g l = 4 * length (g.S.TokenSource.left l.tokens.now.source)
+
+abbrev pub decreases-read_below : goal.decreases-read_below
+decreases-read_below g l = 4 * length (g.S.TokenSource.left l.tokens.now.source) + 3
+
+abbrev pub invariant-read_children-loop-m : goal.invariant-read_children-loop-m
+invariant-read_children-loop-m g l =
+    let p = l.fn.problem.problem in
+    let all = moves_of l.fn.problem.groups l.listed in
+    let begun = g.S.TokenSource.left l.fn.tokens.source in
+    let left = g.S.TokenSource.left l.tokens.source in
+    record {
+      problem : l.problem ≡ l.fn.problem;
+      fewer : length left ≤ length begun;
+      ends : AreLastEnds p all l.standing.ends;
+      same : (rest : List Token) → BeginsRest p l.e (moves_of l.fn.problem.groups (drop l.m-index l.listed)) all l.standing.awaited l.standing.leaving left rest ↔ BeginsEach p l.e all begun rest;
+    }

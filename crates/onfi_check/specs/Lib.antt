@@ -1,0 +1,4 @@
+pub mod Tree
+pub mod Ends
+pub mod Reading
+pub mod Faults

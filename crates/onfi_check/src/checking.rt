@@ -1,0 +1,85 @@
+ghost use Rattle.std.specs.Prelude.{◌≡◌, ◌↔◌, IfOk, IfErr, List};
+ghost use Rattle.onfi_cert.specs.declared.token.Token.{Token as OneToken};
+ghost use Rattle.onfi_cert.specs.Text.{IsCertificate};
+ghost use Rattle.onfi_schedule.specs.Schedule.{Legal, Optimal, finish};
+ghost use Rattle.onfi_check.specs.Faults.{IsCertFault, IsTextFault};
+ghost use Rattle.onfi_check.specs.Tree.{AcceptsTokens};
+
+use crate::fault::{CertFault, TextFault};
+use crate::walk::read_whole;
+use onfi_cert::{CheckedTokens, Token, TokenList, TokenSource};
+use onfi_problem::Problem;
+use onfi_schedule::{Schedule, finish, legal};
+use std::alloc::Global;
+
+// Checks a schedule by the tokens of a source.
+fn check_source<S: TokenSource + Drop>(
+    alloc: Global,
+    problem: &Problem,
+    schedule: &Schedule,
+    source: S,
+) -> Result<u64, CertFault>
+    ensures optimal { IfOk result (λ e. Optimal problem.now.problem schedule.now × (finish problem.now.problem schedule.now ≡ e)) }
+    ensures accepted { IfOk result (λ e. AcceptsTokens (S.left source) problem.now.problem e) }
+    ensures fault { IfErr result (IsCertFault problem.now.problem schedule.now (S.left source)) }
+{
+    if !legal(problem, schedule) {
+        return Err(CertFault::Illegal);
+    }
+    let Ok(mut copy) = problem.copy(alloc) else {
+        return Err(CertFault::Memory);
+    };
+    let e = finish(problem, schedule);
+    read_whole(&mut copy, e, source)?;
+    Ok(e)
+}
+
+/// Checks by a certificate that no legal schedule of the problem ends sooner than this one; answers when it ends, in
+/// ns.
+///
+/// # Errors
+/// `Illegal` exactly where the schedule isn't legal. Else `Memory` where the memory for a copy of the problem was
+/// refused. Else the first fault in reading order, only where the tokens aren't those of an accepted tree: `Short`,
+/// `Trailing`, `Width`, `BoundLow`, `YieldLoop`, `YieldNoFit` or `NotEnd`.
+pub fn check(
+    alloc: Global,
+    problem: &Problem,
+    schedule: &Schedule,
+    tokens: &[Token],
+) -> Result<u64, CertFault>
+    ensures optimal { IfOk result (λ e. Optimal problem.now.problem schedule.now × (finish problem.now.problem schedule.now ≡ e)) }
+    ensures accepted { IfOk result (λ e. AcceptsTokens tokens.now problem.now.problem e) }
+    ensures illegal { (result ≡ Err CertFault.Illegal) ↔ (Legal problem.now.problem schedule.now → ⊥) }
+    ensures fault { IfErr result (IsCertFault problem.now.problem schedule.now tokens.now) }
+{
+    check_source(alloc, problem, schedule, TokenList::new(tokens))
+}
+
+/// The same by the text of a certificate, which is read twice: once for its faults, once for its tokens. No list of
+/// tokens is built.
+///
+/// # Errors
+/// `Text` where the text is no certificate, with its fault, never `Memory`. Else `Option` where its header names
+/// another option than the problem's rules have. Else `Cert` with what `check` tells of its tokens.
+pub fn check_text(
+    alloc: Global,
+    problem: &Problem,
+    schedule: &Schedule,
+    text: &[u8],
+) -> Result<u64, TextFault>
+    ensures optimal { IfOk result (λ e. Optimal problem.now.problem schedule.now × (finish problem.now.problem schedule.now ≡ e)) }
+    ensures accepted { IfOk result (λ e. (tokens : List OneToken) × IsCertificate text.now problem.now.problem.rules.strict tokens × AcceptsTokens tokens problem.now.problem e) }
+    ensures fault { IfErr result (IsTextFault problem.now.problem schedule.now text.now) }
+{
+    let tokens = match CheckedTokens::new(text) {
+        Ok(tokens) => tokens,
+        Err(fault) => return Err(TextFault::Text(fault)),
+    };
+    if tokens.strict() != problem.rules().strict {
+        return Err(TextFault::Option);
+    }
+    match check_source(alloc, problem, schedule, tokens) {
+        Ok(e) => Ok(e),
+        Err(fault) => Err(TextFault::Cert(fault)),
+    }
+}

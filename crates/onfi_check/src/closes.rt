@@ -1,0 +1,28 @@
+ghost use Rattle.std.specs.Prelude.{◌≡◌, ◌↔◌, IsTrue};
+ghost use Rattle.onfi_check.specs.Tree.{Closes, Closing, AtEnd, token_of};
+
+use onfi_bound::{Bound, reaches};
+use onfi_cert::Token;
+use onfi_problem::Problem;
+
+/// Whether a token closes the node of a problem for the finish `e`, in ns: its bound reaches it, or nothing is left and
+/// so much time has passed.
+pub(crate) fn closes(problem: &Problem, token: &Token, e: u64) -> bool
+    ensures { IsTrue result ↔ ((c : Closing) × (token_of c ≡ token.now) × Closes problem.now.problem e c) }
+{
+    match *token {
+        Token::Bus => reaches(problem, Bound::Bus, e),
+        Token::Lead => reaches(problem, Bound::Lead, e),
+        Token::Trail => reaches(problem, Bound::Trail, e),
+        Token::Die(lun) => reaches(problem, Bound::Die(lun.get()), e),
+        Token::End => is_over(problem, e),
+        Token::Branch(_) | Token::Yield(_) => false,
+    }
+}
+
+// Whether nothing is left and so much time has passed.
+fn is_over(problem: &Problem, e: u64) -> bool
+    ensures { IsTrue result ↔ Closes problem.now.problem e AtEnd }
+{
+    problem.bus_free() >= e && problem.steps().is_empty()
+}

@@ -1,0 +1,34 @@
+ghost use Rattle.std.specs.Prelude.{◌≡◌, ◌<◌, length};
+ghost use Rattle.std.specs.List.{AllByRecursion as Each};
+ghost use Rattle.onfi_problem.specs.Moves.{IsMove, move_lun};
+ghost use Rattle.onfi_problem.specs.Position.{move_of, moves_of, lun_named};
+ghost use Rattle.onfi_check.specs.Ends.{AreLastEnds, later_of};
+
+use onfi_problem::{Move, Problem};
+
+/// For each LUN by when its moves end, in ns, where each starts at its earliest; None where it has no move.
+pub fn last_ends(problem: &Problem, moves: &[Move]) -> [Option<u64>; 8]
+    requires moves { Each (IsMove problem.now.problem) (moves_of problem.now.groups moves.now) }
+    requires luns { Each (λ m. move_lun (move_of problem.now.groups m) ≡ lun_named m) moves.now }
+    requires few { Each (λ m. lun_named m < 8) moves.now }
+    ensures ends { AreLastEnds problem.now.problem (moves_of problem.now.groups moves.now) result }
+    ensures length { length result ≡ 8 }
+{
+    let mut ends = [None; 8];
+    for m in moves {
+        let lun = m.lun() as usize;
+        let end = problem.end_of(*m);
+        ends[lun] = later(ends[lun], end);
+    }
+    ends
+}
+
+// The later of two ends, where there are two.
+fn later(known: Option<u64>, end: u64) -> Option<u64>
+    ensures { result ≡ later_of known end }
+{
+    match known {
+        Some(other) => Some(other.max(end)),
+        None => Some(end),
+    }
+}

@@ -1,0 +1,178 @@
+//! The walk over the tokens of a tree.
+
+ghost use Rattle.std.specs.Prelude.{◌≡◌, ◌≤◌, ◌∷◌, List, IfErr, OnOk, length};
+ghost use Rattle.onfi_problem.specs.Moves.{AreMoves, IsMove, after};
+ghost use Rattle.onfi_problem.specs.Position.{move_of, moves_of};
+ghost use Rattle.onfi_problem.specs.Starts.{IsNamed};
+ghost use Rattle.std.specs.List.{AllByRecursion as Each};
+ghost use Rattle.onfi_cert.specs.declared.token.Token.{Token as OneToken};
+ghost use Rattle.onfi_check.specs.Faults.{IsOfTokens};
+ghost use Rattle.onfi_check.specs.Reading.{Begins, BeginsEach, ReadsChild, RefusesChild};
+ghost use Rattle.onfi_check.specs.Tree.{AcceptsTokens, Closes, Closing, token_of};
+
+use crate::closes::closes;
+use crate::ends::last_ends;
+use crate::fault::CertFault;
+use crate::numbered::Numbered;
+use crate::yields::{Standing, take_yield};
+use onfi_cert::{Token, TokenSource};
+use onfi_problem::{Move, Moves, Problem};
+
+// What speaks against a token that closes no node, told at that place.
+fn closing_fault(token: Token, place: usize) -> CertFault
+    ensures { IsOfTokens result }
+{
+    match token {
+        Token::Yield(_) => CertFault::YieldNoFit(place),
+        Token::End => CertFault::NotEnd(place),
+        _ => CertFault::BoundLow(place),
+    }
+}
+
+// Reads a token that closes a node.
+fn read_closing(problem: &Problem, e: u64, token: Token, place: usize) -> Result<(), CertFault>
+    ensures ok { OnOk result ((c : Closing) × (token_of c ≡ token) × Closes problem.now.problem e c) }
+    ensures err { IfErr result (λ _. ((c : Closing) × (token_of c ≡ token) × Closes problem.now.problem e c) → ⊥) }
+    ensures kind { IfErr result IsOfTokens }
+{
+    if closes(problem, &token, e) {
+        Ok(())
+    } else {
+        Err(closing_fault(token, place))
+    }
+}
+
+// Reads the tree of a problem whose first token, which stands at that place, was taken already.
+//
+// On Ok the problem is as it was, and the tokens of the tree were taken.
+//
+// # Errors
+// The first fault in reading order. Then the problem may be one within the tree.
+#[cycle(read)]
+fn read_tree<S: TokenSource>(
+    problem: &mut Problem,
+    e: u64,
+    token: Token,
+    place: usize,
+    tokens: &mut Numbered<S>,
+) -> Result<(), CertFault>
+    ensures problem { OnOk result (problem.new ≡ problem.old) }
+    ensures fewer { OnOk result (length (S.left tokens.new.source) ≤ length (S.left tokens.old.source)) }
+    ensures ok { OnOk result (Begins problem.old.problem e (token ∷ S.left tokens.old.source) (S.left tokens.new.source)) }
+    ensures err { IfErr result (λ _. (rest : List OneToken) → Begins problem.old.problem e (token ∷ S.left tokens.old.source) rest → ⊥) }
+    ensures kind { IfErr result IsOfTokens }
+{
+    let Token::Branch(width) = token else {
+        return read_closing(problem, e, token, place);
+    };
+    let moves = problem.steps();
+    if moves.len() != width.get() as usize {
+        return Err(CertFault::Width(place));
+    }
+    read_children(problem, e, &moves, tokens)
+}
+
+// Reads a child for each move of a node.
+#[cycle(read)]
+fn read_children<S: TokenSource>(
+    problem: &mut Problem,
+    e: u64,
+    moves: &Moves,
+    tokens: &mut Numbered<S>,
+) -> Result<(), CertFault>
+    requires moves { AreMoves problem.old.problem (moves_of problem.old.groups moves.now) }
+    requires named { Each (IsNamed problem.old.groups) moves.now }
+    ensures problem { OnOk result (problem.new ≡ problem.old) }
+    ensures fewer { OnOk result (length (S.left tokens.new.source) ≤ length (S.left tokens.old.source)) }
+    ensures ok { OnOk result (BeginsEach problem.old.problem e (moves_of problem.old.groups moves.now) (S.left tokens.old.source) (S.left tokens.new.source)) }
+    ensures err { IfErr result (λ _. (rest : List OneToken) → BeginsEach problem.old.problem e (moves_of problem.old.groups moves.now) (S.left tokens.old.source) rest → ⊥) }
+    ensures kind { IfErr result IsOfTokens }
+{
+    let listed = moves.as_slice();
+    let mut standing = Standing {
+        ends: last_ends(problem, listed),
+        awaited: [false; 8],
+        leaving: [false; 8],
+    };
+    for m in listed {
+        read_child(problem, e, *m, &mut standing, tokens)?;
+    }
+    Ok(())
+}
+
+// Reads the child of one move: a yield, or a tree.
+#[cycle(read)]
+fn read_child<S: TokenSource>(
+    problem: &mut Problem,
+    e: u64,
+    m: Move,
+    standing: &mut Standing,
+    tokens: &mut Numbered<S>,
+) -> Result<(), CertFault>
+    requires step { IsMove problem.old.problem (move_of problem.old.groups m) }
+    requires named { IsNamed problem.old.groups m }
+    ensures problem { OnOk result (problem.new ≡ problem.old) }
+    ensures fewer { OnOk result (length (S.left tokens.new.source) ≤ length (S.left tokens.old.source)) }
+    ensures ends { standing.new.ends ≡ standing.old.ends }
+    ensures ok { OnOk result (ReadsChild problem.old.problem e (move_of problem.old.groups m) standing.old standing.new (S.left tokens.old.source) (S.left tokens.new.source)) }
+    ensures err { IfErr result (λ _. RefusesChild problem.old.problem e (move_of problem.old.groups m) standing.old (S.left tokens.old.source)) }
+    ensures kind { IfErr result IsOfTokens }
+{
+    let Some((token, place)) = tokens.take() else {
+        return Err(CertFault::Short);
+    };
+    match token {
+        Token::Yield(lun) => take_yield(problem, standing, m.lun(), lun.get(), place),
+        _ => read_below(problem, e, m, token, place, tokens),
+    }
+}
+
+// Reads the tree behind a move, whose first token was taken already.
+#[cycle(read)]
+fn read_below<S: TokenSource>(
+    problem: &mut Problem,
+    e: u64,
+    m: Move,
+    token: Token,
+    place: usize,
+    tokens: &mut Numbered<S>,
+) -> Result<(), CertFault>
+    requires step { IsMove problem.old.problem (move_of problem.old.groups m) }
+    requires named { IsNamed problem.old.groups m }
+    ensures problem { OnOk result (problem.new ≡ problem.old) }
+    ensures fewer { OnOk result (length (S.left tokens.new.source) ≤ length (S.left tokens.old.source)) }
+    ensures ok { OnOk result (Begins (after problem.old.problem (move_of problem.old.groups m)) e (token ∷ S.left tokens.old.source) (S.left tokens.new.source)) }
+    ensures err { IfErr result (λ _. (rest : List OneToken) → Begins (after problem.old.problem (move_of problem.old.groups m)) e (token ∷ S.left tokens.old.source) rest → ⊥) }
+    ensures kind { IfErr result IsOfTokens }
+{
+    let undo = problem.advance(m);
+    read_tree(problem, e, token, place, tokens)?;
+    problem.undo(undo);
+    Ok(())
+}
+
+/// Reads the tree of a problem, with nothing behind it. On Ok the problem is as it was.
+///
+/// # Errors
+/// The first fault in reading order: `Short`, `Width`, `BoundLow`, `YieldLoop`, `YieldNoFit` or `NotEnd`, else
+/// `Trailing` at the first token behind the tree. Then the problem may be one within the tree.
+pub(crate) fn read_whole<S: TokenSource + Drop>(
+    problem: &mut Problem,
+    e: u64,
+    source: S,
+) -> Result<(), CertFault>
+    ensures problem { OnOk result (problem.new ≡ problem.old) }
+    ensures ok { OnOk result (AcceptsTokens (S.left source) problem.old.problem e) }
+    ensures err { IfErr result (λ _. AcceptsTokens (S.left source) problem.old.problem e → ⊥) }
+    ensures kind { IfErr result IsOfTokens }
+{
+    let mut tokens = Numbered { source, place: 0 };
+    let Some((token, place)) = tokens.take() else {
+        return Err(CertFault::Short);
+    };
+    read_tree(problem, e, token, place, &mut tokens)?;
+    match tokens.take() {
+        Some((_, place)) => Err(CertFault::Trailing(place)),
+        None => Ok(()),
+    }
+}

@@ -1,0 +1,4 @@
+pub mod Numbers
+pub mod GroupRun
+pub mod Lanes
+pub mod SimCalls

@@ -1,0 +1,28 @@
+use Rattle.std.proofs.Common.{◌≡◌, ℕ, ◌+◌, sym, ap, ◌∙◌}
+use Rattle.onfi_request.specs.declared.answer.Answer.TheVariants.{Read}
+use Rattle.onfi_chip.specs.declared.post.Post.{Post}
+use Rattle.onfi_chip.specs.declared.sim.SimChip.{SimChip}
+use Rattle.onfi_chip.specs.Numbers.{failed}
+use Rattle.onfi_chip.proofs.SimCalls.{posts_there, post_done, is_read}
+use Rattle.onfi_chip.proofs.sim.SimChipChip.data_out.Goals as goal
+
+pub unreachable-requires : goal.unreachable-requires
+unreachable-requires c =
+    let old = c.args.self.now in
+    let post = c.requires.next.0 in
+    let left = c.requires.next.1 in
+    let h = c.requires.next.2 in
+    let place = c.place-place.ensures post.place h.in_range h.row_is in
+    let told = c.post-post.ensures.taken post left h.ready (posts_there old c.args.now c.args.row post left c.place-place.result place h) in
+    is_read _ c.post-post.result.kind c.post-post.result.answer (ap (λ (q : Post). q.kind) told.0 ∙ c.requires.next.3) c.post-post.ensures.form c.in_default.not-Read
+
+pub returns-clause-ok : goal.returns-clause-ok
+returns-clause-ok c post left h =
+    let old = c.args.self.now in
+    let place = c.place-place.ensures post.place h.in_range h.row_is in
+    let told = c.post-post.ensures.taken post left h.ready (posts_there old c.args.now c.args.row post left c.place-place.result place h) in
+    let fine = c.step-2.ensures.fine (sym c.fails.ensures.value ∙ c.if-fails.false) in
+    let new : SimChip = record { dies = c.post-post.new.self; calls = c.step-2.new.self; statuses = old.statuses } in (
+      ap (λ (q : Post). q.answer) (sym told.0) ∙ c.in-Read.is ∙ ap Read (sym c.in-Read.bytes-is ∙ sym (c.copy_from_slice.ensures.after ∙ c.as_slice.ensures)),
+      post_done old new c.args.now post left c.place-place.result place told.1 (ap (λ (n : ℕ). n + failed old.statuses.failing.items old.statuses.made) fine),
+    )

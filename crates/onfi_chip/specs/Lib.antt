@@ -1,0 +1,13 @@
+pub mod Chip
+pub mod Calls
+pub mod Hold
+pub mod Alone
+pub mod Sim
+pub mod Numbers
+pub mod SimChip
+pub use Rattle.onfi_addr.specs.Rows
+pub use Rattle.onfi_timing.specs.Kinds
+pub use Rattle.onfi_request.specs.Range
+pub use Rattle.onfi_die.specs.Shapes
+pub use Rattle.onfi_die.specs.Contents
+pub use Rattle.onfi_die.specs.Blocks

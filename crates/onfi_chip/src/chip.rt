@@ -1,0 +1,66 @@
+ghost use Rattle.std.specs.Prelude.{◌≡◌, ◌≢◌, ℕ, ◌+◌, ◌≤◌, List, length, IsBitSet, OnOk, IfOk, IfErr};
+ghost use Rattle.onfi_addr.specs.Rows.{page_bytes_of};
+ghost use Rattle.onfi_timing.specs.declared.kind.Kind.TheVariants as kind;
+ghost use Rattle.onfi_request.specs.declared.answer.Answer.TheVariants as answer;
+ghost use Rattle.onfi_request.specs.declared.request.Request.{Request as ARequest};
+ghost use Rattle.onfi_chip.specs.declared.post.Post.{Post as APost};
+ghost use Rattle.onfi_chip.specs.Chip.{Chip as ChipState, posted};
+ghost use Rattle.onfi_chip.specs.Calls.{IsNextCommand, IsNextPost, command_of, HasDone, IsLost, AfterFault, TellsAnswer};
+
+use crate::closer::Closer;
+use crate::fault::ChipFault;
+use onfi_timing::Kind;
+use std::alloc::Global;
+
+/// A chip of one channel: its LUNs, as far as a sequencer knows them.
+///
+/// Moments are ns of the channel's clock, row addresses those of the chip's geometry. A call on one LUN leaves all others.
+/// Each call asks that it is the next of its LUN's group and that the wait before it is over. A group's requests happen at
+/// its last command; its posts, one for each member, give their answers.
+pub trait Chip {
+    /// Its geometry, timing and injected faults, its blocks and LUNs, and how often a call failed.
+    ghost state: { Self → ChipState };
+
+    /// A command of a group: the opener of `opener` (00h, 80h or 60h), the address, for a program the data, and the
+    /// closer (ONFI 4.2, command definition and multi-plane operations).
+    ///
+    /// # Errors
+    /// `Bus`, only where the chip's count of failures rose; `Memory` where a growth was refused: the chip is unchanged.
+    fn command(
+        &mut self,
+        alloc: Global,
+        now: u64,
+        row: u64,
+        opener: Kind,
+        closer: Closer,
+        bytes: &[u8],
+    ) -> Result<(), ChipFault>
+        requires { (r : ARequest) × IsNextCommand (state self.old) now row opener bytes.now r }
+        ensures ok { OnOk result ((r : ARequest) → IsNextCommand (state self.old) now row opener bytes.now r
+            → HasDone (command_of closer (state self.old) r now) (state self.new)) }
+        ensures err { IfErr result (λ fault. AfterFault fault (state self.old) (state self.new)) };
+
+    /// The data output of a read, its post: 06h, the address, E0h, then all bytes of the page into `out` (ONFI 4.2,
+    /// Change Read Column Enhanced).
+    ///
+    /// # Errors
+    /// `Bus`, only where the chip's count of failures rose.
+    fn data_out(&mut self, now: u64, row: u64, out: &mut [u8]) -> Result<(), ChipFault>
+        requires next { (post : APost) × (left : List APost) × IsNextPost (state self.old) now row post left × (post.kind ≡ kind.Read) }
+        requires room { length out.old ≡ page_bytes_of (state self.old).geometry }
+        ensures ok { OnOk result ((post : APost) (left : List APost) → IsNextPost (state self.old) now row post left
+            → (post.answer ≡ answer.Read out.new) × HasDone (posted (state self.old) post left now) (state self.new)) }
+        ensures err { IfErr result (λ fault. (fault ≡ ChipFault.Bus) × IsLost (state self.old) (state self.new)) };
+
+    /// The status of a program or an erase, its post: 78h, the row address, then one byte (ONFI 4.2, Read Status
+    /// Enhanced). Bit 6 is RDY; where it is 1, bit 0 is FAIL of that member.
+    ///
+    /// # Errors
+    /// `Bus`. It and a byte whose RDY is 0 come only where the chip's count of failures rose.
+    fn status(&mut self, now: u64, row: u64) -> Result<u8, ChipFault>
+        requires { (post : APost) × (left : List APost) × IsNextPost (state self.old) now row post left × (post.kind ≢ kind.Read) }
+        ensures ready { IfOk result (λ byte. IsBitSet byte 6 → (post : APost) (left : List APost) → IsNextPost (state self.old) now row post left
+            → TellsAnswer byte post.answer × HasDone (posted (state self.old) post left now) (state self.new)) }
+        ensures not_ready { IfOk result (λ byte. ¬ IsBitSet byte 6 → IsLost (state self.old) (state self.new)) }
+        ensures err { IfErr result (λ fault. (fault ≡ ChipFault.Bus) × IsLost (state self.old) (state self.new)) };
+}

@@ -1,0 +1,12 @@
+use thiserror::Error;
+
+/// Why a chip call failed.
+#[derive(Clone, Copy, Debug, PartialEq, Eq, Error)]
+pub enum ChipFault {
+    /// The bus failed: nothing more is known of the chip.
+    #[error("the bus failed")]
+    Bus,
+    /// Want of memory: the chip is unchanged.
+    #[error("out of memory")]
+    Memory,
+}

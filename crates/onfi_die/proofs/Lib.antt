@@ -1,0 +1,7 @@
+pub mod Lists
+pub mod Stable
+pub mod Apart
+pub mod Order
+pub mod Walks
+pub mod Keeping
+pub mod Same

@@ -1,0 +1,14 @@
+pub mod Shapes
+pub mod Block
+pub mod Contents
+pub mod Blocks
+pub mod Answers
+pub mod Rightful
+pub mod Apart
+pub mod Order
+pub mod Whole
+pub mod Prepared
+pub mod Requests
+pub mod Store
+pub use Rattle.onfi_addr.specs.Rows
+pub use Rattle.onfi_request.specs.Words

@@ -1,0 +1,60 @@
+ghost use Rattle.std.specs.Prelude.{◌≡◌, ℕ, ◌+◌, length, if◌then◌else◌, IfOk};
+ghost use Rattle.onfi_die.specs.Contents.{counted};
+ghost use Rattle.onfi_die.specs.Prepared.{kind_of, data_of, HasRoom};
+
+use onfi_request::Bytes;
+use onfi_timing::Kind;
+use std::alloc::{AllocError, Global};
+
+/// An operation on a page or a block with all the memory that it needs: to do it can't fail for memory.
+#[derive(Debug, Drop)]
+pub enum Prepared {
+    /// A read, with room for the data and spare bytes of a page.
+    Read(Vec<u8>),
+    /// A program of these data and spare bytes.
+    Program(Bytes),
+    /// An erase.
+    Erase,
+}
+
+impl Prepared {
+    /// An operation on pages of `page_bytes` bytes; a program copies `bytes`, the others don't look at them.
+    ///
+    /// # Errors
+    /// Want of memory.
+    pub fn of(
+        alloc: Global,
+        kind: Kind,
+        bytes: &[u8],
+        page_bytes: u16,
+    ) -> Result<Prepared, AllocError>
+        requires { kind ≡ Kind.Program → length bytes.now ≡ page_bytes }
+        ensures kind { IfOk result (λ p. kind_of p ≡ kind) }
+        ensures data { IfOk result (λ p. kind ≡ Kind.Program → data_of p ≡ bytes.now) }
+        ensures room { IfOk result (λ p. HasRoom page_bytes p) }
+    {
+        match kind {
+            Kind::Read => Ok(Prepared::Read(vec![in alloc; 0; usize::from(page_bytes)]?)),
+            Kind::Program => Ok(Prepared::Program(Bytes::of(Vec::from_slice(alloc, bytes)?))),
+            Kind::Erase => Ok(Prepared::Erase),
+        }
+    }
+
+    /// Whether it is a read, a program or an erase.
+    pub fn kind(&self) -> Kind
+        ensures { result ≡ kind_of self.now }
+    {
+        match self {
+            Prepared::Read(_) => Kind::Read,
+            Prepared::Program(_) => Kind::Program,
+            Prepared::Erase => Kind::Erase,
+        }
+    }
+
+    /// Whether it is a program or an erase: these are counted.
+    pub fn is_change(&self) -> bool
+        ensures { (n : ℕ) → (if result then n + 1 else n) ≡ counted (kind_of self.now) n }
+    {
+        !matches!(self, Prepared::Read(_))
+    }
+}

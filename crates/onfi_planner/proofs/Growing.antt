@@ -1,0 +1,148 @@
+-- A certificate between two children of a node.
+use Rattle.std.proofs.Common.{◌≡◌, ℕ, zero, suc, ◌+◌, ◌≤◌, ◌<◌, List, [], ◌∷◌, ◌++◌, length, take, get_or, Option, Some, None, refl, sym, ap, ◌∙◌, subst, arith, append_assoc}
+use Rattle.std.proofs.lemmas.List.{take_more, map-append}
+use Rattle.onfi_problem.specs.Moves.{Move, Next as NextPhase, Start as StartGroup, IsMove, earliest, move_lun, after, AreMoves}
+use Rattle.onfi_cert.specs.declared.token.Token.{Token}
+use Rattle.onfi_cert.specs.declared.token.Token.TheVariants.{Branch, Yield}
+use Rattle.onfi_problem.specs.Problem.{Problem, IsProblem}
+use Rattle.onfi_check.specs.Tree.{Forest, Closing, Closes, token_of, width, preorder, preorders, NoneYields, Accepts, AcceptsEach, Closed, Opened, NoMore, Child, Yields}
+use Rattle.onfi_problem.specs.declared.moves.Move.{Move as KeptMove}
+use Rattle.onfi_problem.specs.Position.{moves_of, Position, move_of, moved}
+use Rattle.onfi_planner.specs.Opening.{IsOpen, yield_at, AreYields}
+use Rattle.onfi_planner.specs.Planning.{Bounded, Written}
+use Rattle.onfi_problem.proofs.Perm.{All-has}
+use Rattle.onfi_problem.proofs.Places.{within_get}
+use Rattle.onfi_planner.proofs.Halfway.{no_moves}
+
+-- the children of these moves: trees that are accepted, and yields as chosen
+abbrev pub Grown : Problem → List (Option ℕ) → ℕ → List Move → Forest → Type 0
+Grown p ys e [] NoMore = Unit {0}
+Grown p ys e [] (Child t f) = ⊥
+Grown p ys e [] (Yields l f) = ⊥
+Grown p ys e (m ∷ moves) NoMore = ⊥
+Grown p ys e (m ∷ moves) (Child t f) = Accepts t (after p m) e × Grown p ys e moves f
+Grown p ys e (m ∷ moves) (Yields l f) = (yield_at ys (move_lun m) ≡ Some l) × Grown p ys e moves f
+
+abbrev pub joined : Forest → Forest → Forest
+joined NoMore g = g
+joined (Child t f) g = Child t (joined f g)
+joined (Yields l f) g = Yields l (joined f g)
+
+pub preorders_joined : (f g : Forest) → preorders (joined f g) ≡ preorders f ++ preorders g
+preorders_joined NoMore g = refl
+preorders_joined (Child t f) g = ap (λ z. preorder t ++ z) (preorders_joined f g) ∙ sym (append_assoc (preorder t) (preorders f) (preorders g))
+preorders_joined (Yields l f) g = ap (λ z. Yield l ∷ z) (preorders_joined f g)
+
+pub grown_joined : (p : Problem) (ys : List (Option ℕ)) (e : ℕ) (ms ns : List Move) (f g : Forest) → Grown p ys e ms f → Grown p ys e ns g → Grown p ys e (ms ++ ns) (joined f g)
+grown_joined p ys e [] ns NoMore g a b = b
+grown_joined p ys e [] ns (Child t f) g a b = absurd a
+grown_joined p ys e [] ns (Yields l f) g a b = absurd a
+grown_joined p ys e (m ∷ ms) ns NoMore g a b = absurd a
+grown_joined p ys e (m ∷ ms) ns (Child t f) g a b = (a.0, grown_joined p ys e ms ns f g a.1 b)
+grown_joined p ys e (m ∷ ms) ns (Yields l f) g a b = (a.0, grown_joined p ys e ms ns f g a.1 b)
+
+pub grown_width : (p : Problem) (ys : List (Option ℕ)) (e : ℕ) (ms : List Move) (f : Forest) → Grown p ys e ms f → width f ≡ length ms
+grown_width p ys e [] NoMore a = refl
+grown_width p ys e [] (Child t f) a = absurd a
+grown_width p ys e [] (Yields l f) a = absurd a
+grown_width p ys e (m ∷ ms) NoMore a = absurd a
+grown_width p ys e (m ∷ ms) (Child t f) a = let h = grown_width p ys e ms f a.1 in omega arith
+grown_width p ys e (m ∷ ms) (Yields l f) a = let h = grown_width p ys e ms f a.1 in omega arith
+
+none_yields : (p : Problem) (ys : List (Option ℕ)) (e l : ℕ) (ms : List Move) (f : Forest) → yield_at ys l ≡ None → Grown p ys e ms f → NoneYields l ms f
+none_yields p ys e l [] NoMore n a = tt
+none_yields p ys e l [] (Child t f) n a = absurd a
+none_yields p ys e l [] (Yields k f) n a = absurd a
+none_yields p ys e l (m ∷ ms) NoMore n a = absurd a
+none_yields p ys e l (m ∷ ms) (Child t f) n a = none_yields p ys e l ms f n a.1
+none_yields p ys e l (m ∷ ms) (Yields k f) n a = ((λ q. let s : yield_at ys l ≡ Some k = subst (λ z. yield_at ys z ≡ Some k) q a.0 in cc), none_yields p ys e l ms f n a.1)
+
+each : (p : Problem) (ys : List (Option ℕ)) (e : ℕ) (ms : List Move) (f : Forest) (all : List Move) (whole : Forest) → AreYields p all ys → Grown p ys e all whole → Grown p ys e ms f → AcceptsEach f p e ms whole all
+each p ys e [] NoMore all whole ay w a = refl
+each p ys e [] (Child t f) all whole ay w a = absurd a
+each p ys e [] (Yields l f) all whole ay w a = absurd a
+each p ys e (m ∷ ms) NoMore all whole ay w a = absurd a
+each p ys e (m ∷ ms) (Child t f) all whole ay w a = (a.0, each p ys e ms f all whole ay w a.1)
+each p ys e (m ∷ ms) (Yields l f) all whole ay w a =
+    let to = ay (move_lun m) l a.0 in
+    (record { other = to.other; move = to.move; has_move = to.has_move; of_lun = to.of_lun; fits = to.fits; none_back = none_yields p ys e l all whole to.stays w }, each p ys e ms f all whole ay w a.1)
+
+pub grown_accepts : (p : Problem) (ys : List (Option ℕ)) (e : ℕ) (moves : List Move) (f : Forest) → AreMoves p moves → 1 ≤ length moves → AreYields p moves ys → Grown p ys e moves f → Accepts (Opened f) p e
+grown_accepts p ys e moves f are some ay a = (moves, are, some, each p ys e moves f moves f ay a a)
+
+-- so far
+abbrev pub Growing : Position → List KeptMove → List (Option ℕ) → ℕ → ℕ → List Token → List Token → Type 0
+Growing x items ys e i old new = (f : Forest) × (new ≡ old ++ (Branch (length items) ∷ preorders f)) × Grown x.problem ys e (moves_of x.groups (take i items)) f
+
+pub begun : (x : Position) (items : List KeptMove) (ys : List (Option ℕ)) (e n : ℕ) (old new : List Token) → new ≡ old ++ Branch n ∷ [] → n ≡ length items → Growing x items ys e 0 old new
+begun x items ys e n old new h q = (NoMore, h ∙ ap (λ z. old ++ Branch z ∷ []) q, tt)
+
+one_more : (x : Position) (items : List KeptMove) (i : ℕ) (s : KeptMove) → s ≡ get_or items i s → i < length items → moves_of x.groups (take (i + 1) items) ≡ moves_of x.groups (take i items) ++ move_of x.groups s ∷ []
+one_more x items i s e h =
+    let a = take_more items i s h in
+    ap (moves_of x.groups) a ∙ (map-append (move_of x.groups) (take i items) (get_or items i s ∷ []) ∙ ap (λ z. moves_of x.groups (take i items) ++ move_of x.groups z ∷ []) (sym e))
+
+more_tokens : (old new new' ts : List Token) (n : ℕ) (f g : Forest) → new ≡ old ++ (Branch n ∷ preorders f) → new' ≡ new ++ ts → preorders g ≡ ts → new' ≡ old ++ (Branch n ∷ preorders (joined f g))
+more_tokens old new new' ts n f g h k e =
+    k ∙ (ap (λ z. z ++ ts) h ∙ (append_assoc old (Branch n ∷ preorders f) ts ∙ ap (λ z. old ++ (Branch n ∷ z)) (ap (λ z. preorders f ++ z) (sym e) ∙ sym (preorders_joined f g))))
+
+append_none : {A : Type 0} (xs : List A) → xs ++ [] ≡ xs
+append_none [] = refl
+append_none (x ∷ xs) = ap (λ z. x ∷ z) (append_none xs)
+
+pub with_child : (x : Position) (items : List KeptMove) (ys : List (Option ℕ)) (e i : ℕ) (old new new' : List Token) (s : KeptMove) → s ≡ get_or items i s → i < length items → Written (moved x s).problem e new new' → Growing x items ys e i old new → Growing x items ys e (i + 1) old new'
+with_child x items ys e i old new new' s q h (tree, k, a) (f, t, g) =
+    let last = Child tree NoMore in (
+      joined f last,
+      more_tokens old new new' (preorder tree) (length items) f last t k (append_none (preorder tree)),
+      subst (λ z. Grown x.problem ys e z (joined f last)) (sym (one_more x items i s q h)) (grown_joined x.problem ys e (moves_of x.groups (take i items)) (move_of x.groups s ∷ []) f last g (a, tt)),
+    )
+
+pub with_yield : (x : Position) (items : List KeptMove) (ys : List (Option ℕ)) (e i l : ℕ) (old new new' : List Token) (s : KeptMove) → s ≡ get_or items i s → i < length items → yield_at ys (move_lun (move_of x.groups s)) ≡ Some l → new' ≡ new ++ Yield l ∷ [] → Growing x items ys e i old new → Growing x items ys e (i + 1) old new'
+with_yield x items ys e i l old new new' s q h y k (f, t, g) =
+    let last = Yields l NoMore in (
+      joined f last,
+      more_tokens old new new' (Yield l ∷ []) (length items) f last t k refl,
+      subst (λ z. Grown x.problem ys e z (joined f last)) (sym (one_more x items i s q h)) (grown_joined x.problem ys e (moves_of x.groups (take i items)) (move_of x.groups s ∷ []) f last g (y, tt)),
+    )
+
+take_all : {A : Type 0} (xs : List A) (n : ℕ) → length xs ≤ n → take n xs ≡ xs
+take_all [] zero h = refl
+take_all [] (suc n) h = refl
+take_all (x ∷ xs) zero h = absurd (omega arith)
+take_all (x ∷ xs) (suc n) h = ap (λ z. x ∷ z) (take_all xs n (omega arith))
+
+pub map_length : (x : Position) (items : List KeptMove) → length (moves_of x.groups items) ≡ length items
+map_length x [] = refl
+map_length x (s ∷ items) = let h = map_length x items in omega arith
+
+pub grown_up : (x : Position) (items : List KeptMove) (ys : List (Option ℕ)) (e i : ℕ) (old new : List Token) → AreMoves x.problem (moves_of x.groups items) → 1 ≤ length items → AreYields x.problem (moves_of x.groups items) ys → length items ≤ i → Growing x items ys e i old new → Written x.problem e old new
+grown_up x items ys e i old new are some ay h (f, t, g) =
+    let g' = subst (λ z. Grown x.problem ys e (moves_of x.groups z) f) (take_all items i h) g in
+    let l = map_length x items in
+    let w : length items ≡ width f = sym (grown_width x.problem ys e (moves_of x.groups items) f g' ∙ l) in
+    (Opened f, t ∙ ap (λ z. old ++ (Branch z ∷ preorders f)) w, grown_accepts x.problem ys e (moves_of x.groups items) f are (omega arith) ay g')
+
+pub closed_written : (p : Problem) (e : ℕ) (t : Token) (old new : List Token) → new ≡ old ++ t ∷ [] → (c : Closing) × (token_of c ≡ t) × Closes p e c → Written p e old new
+closed_written p e t old new h (c, k, a) = (Closed c, h ∙ ap (λ z. old ++ z ∷ []) (sym k), a)
+
+-- what a node's finish bounds bounds its children
+pub bounded_below : (p : Problem) (m : Move) (e : ℕ) → IsMove p m → Bounded p e → Bounded (after p m) e
+bounded_below p m e im b steps f run = b (record { move = m; start = earliest p m } ∷ steps) f (im, omega arith, run)
+
+-- an open node has something left
+pub no_end : (x : Position) (items : List KeptMove) (e : ℕ) → IsProblem x.problem → AreMoves x.problem (moves_of x.groups items) → length items ≡ 0 → IsOpen e x.problem → Bounded x.problem e → ⊥
+no_end x [] e ip are z o b = let d = no_moves x.problem ip are in let u = o.bus in let le = b [] x.problem.bus_free (d, refl) in omega arith
+no_end x (s ∷ items) e ip are z o b = absurd (omega arith)
+
+lun_of_move : (p : Problem) (m : Move) → IsMove p m → move_lun m < length p.luns
+lun_of_move p (NextPhase l) (g, n, r, at) = within_get p.luns l _ at
+lun_of_move p (StartGroup ms) (since, at, st) = within_get p.luns _ _ at
+
+-- the LUN that is yielded to is there
+pub yields_small : (p : Problem) (moves : List Move) (ys : List (Option ℕ)) (j j' l : ℕ) → AreMoves p moves → AreYields p moves ys → length p.luns ≤ 8 → j ≡ j' → yield_at ys j' ≡ Some l → l < 8
+yields_small p moves ys j j' l are ay few q y =
+    let to = ay j' l y in
+    let h = lun_of_move p to.move (All-has (IsMove p) moves to.move are.moves_only to.has_move) in
+    let e = to.of_lun in
+    omega arith

@@ -1,0 +1,11 @@
+pub mod BusWork
+pub mod Reaching
+pub mod Opening
+pub mod Paths
+pub mod Halfway
+pub mod Growing
+pub mod Whole
+pub mod Deciding
+pub mod Choosing
+pub mod Beginning
+pub mod Stacking

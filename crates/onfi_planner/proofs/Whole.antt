@@ -1,0 +1,82 @@
+-- A search and what it is written as make an optimal plan.
+use Rattle.std.proofs.Common.{◌≡◌, ℕ, ◌+◌, ◌-◌, Bool, List, [], ◌++◌, inl, inr, sym, ap, ◌∙◌, subst, arith, ◌<◌, ◌^◌}
+use Rattle.std.proofs.lemmas.Bool.{cases_Bool}
+use Rattle.onfi_cert.specs.declared.token.Token.{Token}
+use Rattle.onfi_problem.specs.Problem.{IsProblem}
+use Rattle.onfi_schedule.specs.Schedule.{Schedule, Optimal, finish}
+use Rattle.onfi_schedule.specs.Runs.{Run, schedule_of}
+use Rattle.onfi_check.specs.Tree.{Accepts, AcceptsTokens, preorder}
+use Rattle.onfi_schedule.proofs.RunLegal.{run_legal}
+use Rattle.onfi_check.proofs.Sound.{certified}
+use Rattle.onfi_planner.specs.declared.search.Best.{Best}
+use Rattle.onfi_problem.specs.Position.{Position}
+use Rattle.onfi_problem.specs.Left.{InLimits}
+use Rattle.onfi_planner.specs.declared.fault.PlanFault.TheVariants.{Over}
+use Rattle.onfi_planner.specs.First.{IsFirstRun}
+use Rattle.onfi_planner.specs.Nodes.{HasNodes, HasMoreNodes}
+use Rattle.onfi_planner.specs.Planning.{Searched, Written, IsOver, Bounded, run_of}
+use Rattle.onfi_planner.proofs.Beginning.{first_is_run}
+use Rattle.std.specs.Prelude.{Result, Ok, Err, MatchResult, IfOk}
+use Rattle.onfi_planner.specs.declared.fault.PlanFault.{PlanFault}
+
+pub still_run : (x : Position) (old new : Best) (improved : Bool) → Run x.problem (run_of x.groups old.steps.items) old.finish → Searched x old new improved → Run x.problem (run_of x.groups new.steps.items) new.finish
+still_run x old new improved r s = elim (cases_Bool improved) [
+  | inl k ↦ s.run k
+  | inr k ↦ (let q = s.kept k in subst (λ (b : Best). Run x.problem (run_of x.groups b.steps.items) b.finish) (sym q) r)
+]
+
+-- what is promised of a call holds of the value that it passed on
+pub known : {T E : Type 0} (r : Result T E) (y : T) (P : T → Type 0) → MatchResult r (λ x. ◌≡◌ {A = Result T PlanFault} (Ok y) (Ok x)) (λ e. ⊥) → IfOk r P → P y
+known (Ok x) y P h k = let e : y ≡ x = cc in subst P (sym e) k
+known (Err x) y P h k = absurd h
+
+-- a search that begins with the first schedule of a problem
+pub record Ready (x now : Position) (first : Best) : Type 0 where
+  pub same : now ≡ x
+  pub limits : InLimits x.problem
+  pub first_run : IsFirstRun x.problem (run_of x.groups first.steps.items) first.finish
+  pub small : first.finish < 2 ^ 62
+
+pub ready : (x at now : Position) (first : Best) → at ≡ x → now ≡ at → InLimits at.problem → IsFirstRun at.problem (run_of at.groups first.steps.items) first.finish → first.finish < 2 ^ 62 → Ready x now first
+ready x at now first e e' limits run small = record {
+  same = e' ∙ e;
+  limits = subst (λ (z : Position). InLimits z.problem) e limits;
+  first_run = subst (λ (z : Position). IsFirstRun z.problem (run_of z.groups first.steps.items) first.finish) e run;
+  small = small;
+}
+
+-- what the search found
+pub record Found (x : Position) (best : Best) : Type 0 where
+  pub run : Run x.problem (run_of x.groups best.steps.items) best.finish
+  pub least : Bounded x.problem best.finish
+  pub small : best.finish < 2 ^ 63
+
+pub found : (x now : Position) (first best : Best) (improved : Bool) → Ready x now first → Searched now first best improved → Found x best
+found x now first best improved r s =
+    let s' = subst (λ (z : Position). Searched z first best improved) r.same s in
+    let le = s'.sooner in
+    let small = r.small in
+    record {
+      run = still_run x first best improved (first_is_run (run_of x.groups first.steps.items) x.problem first.finish r.first_run) s';
+      least = s'.least;
+      small = omega arith;
+    }
+
+pub more_nodes : (x now : Position) (first : Best) (n limit opened : ℕ) → Ready x now first → IsOver now.problem first.finish 0 n limit → Over n ≡ Over opened → (opened ≡ limit) × HasMoreNodes x.problem limit
+more_nodes x now first n limit opened r over e =
+    let o = subst (λ (z : Position). IsOver z.problem first.finish 0 n limit) r.same over in
+    let l = o.limit in
+    let q : n ≡ opened = cc in
+    let z : limit - 0 + 1 ≡ limit + 1 = omega arith in
+    (omega arith, (first.finish, (run_of x.groups first.steps.items, r.first_run), subst (HasNodes first.finish x.problem) z (o.nodes first.finish (omega arith))))
+
+pub written_tokens : (x now found : Position) (first : Best) (e : ℕ) (old new : List Token) → Ready x now first → found ≡ now → old ≡ [] → Written found.problem e old new → AcceptsTokens new x.problem e
+written_tokens x now found first e old new r q n w =
+    let (tree, t, a) = subst (λ (z : Position). Written z.problem e old new) (q ∙ r.same) w in
+    (tree, sym (t ∙ ap (λ z. z ++ preorder tree) n), a)
+
+pub best_plan : (x : Position) (best : Best) (s : Schedule) (tokens : List Token) → IsProblem x.problem → Found x best → AcceptsTokens tokens x.problem best.finish → s ≡ schedule_of x.problem (run_of x.groups best.steps.items) → Optimal x.problem s × (finish x.problem s ≡ best.finish)
+best_plan x best s tokens ip f (tree, t, a) e =
+    let l = run_legal (run_of x.groups best.steps.items) x.problem best.finish ip f.run in
+    let o = certified x.problem (schedule_of x.problem (run_of x.groups best.steps.items)) tree ip l.0 (subst (Accepts tree x.problem) (sym l.1) a) in
+    (subst (Optimal x.problem) (sym e) o, ap (finish x.problem) e ∙ l.1)

@@ -1,0 +1,145 @@
+use Rattle.std.proofs.Common.{◌≡◌, true, false, length, get_or, arith, sym, ◌∙◌, subst, ap}
+use Rattle.std.specs.Prelude.{◌==◌}
+use Rattle.std.specs.List.{AllByRecursion as All}
+use Rattle.std.proofs.lemmas.List.{get_or_default}
+use Rattle.std.proofs.lemmas.Bool.{eqb-true, false≢true}
+use Rattle.std.proofs.lemmas.Result.{err_from_is_err_and}
+use Rattle.onfi_problem.specs.Moves.{IsMove, move_lun, after}
+use Rattle.onfi_problem.specs.Left.{InLimits}
+use Rattle.onfi_problem.specs.declared.moves.Move.TheVariants.{Next}
+use Rattle.onfi_problem.specs.Position.{Position, move_of, moved, lun_named}
+use Rattle.onfi_schedule.specs.Runs.{Run}
+use Rattle.onfi_planner.specs.declared.search.Best.{Best}
+use Rattle.onfi_planner.specs.Planning.{work, IsOver, Bounded, HasOpened, run_of}
+use Rattle.onfi_planner.proofs.Halfway.{step_of_lun, yields_some, one_over, one_opened, closed_node, open_node, done_node, step_moves, given_up, skipped, visited, ended, ended_count, steps_same, not_empty, luns_of}
+use Rattle.onfi_planner.proofs.BusWork.{work_after}
+use Rattle.onfi_problem.proofs.Limits.{after_limits}
+use Rattle.onfi_planner.proofs.search.+search.Goals as goal
+use Rattle.onfi_planner.proofs.search.+search.Goals.{search-then-branch, search-else-branch}
+
+pub search-returns-then-opened-limit-clause-over : goal.search-returns-then-opened-limit-clause-over
+search-returns-then-opened-limit-clause-over t c = λ e. one_over _ _ _ _ c.if-opened-limit.true
+
+pub search-returns-then-is_some-clause-found : goal.search-returns-then-is_some-clause-found
+search-returns-then-is_some-clause-found t c = closed_node c.args.problem.now c.args.best.now c.closing_token.result c.requires.limits.problem c.if-is_some.ensures c.closing_token.ensures
+
+pub search-returns-then-is_some-clause-opened : goal.search-returns-then-is_some-clause-opened
+search-returns-then-is_some-clause-opened t c = (one_opened _ _ _, omega (arith, c.if-opened-limit.false))
+
+pub search-returns-then-is_empty-clause-found : goal.search-returns-then-is_empty-clause-found
+search-returns-then-is_empty-clause-found t c =
+    let items = c.steps-moves.result in
+    let are = c.steps-moves.ensures.moves in
+    done_node c.args.problem.now items c.args.best.now _ c.requires.limits.problem are (eqb-true _ _ (sym c.if-is_empty.ensures)) c.bus_free-best.ensures.value c.clear.ensures.items (open_node c.args.problem.now _ c.closing_token.result _ (sym c.if-is_some.ensures) c.closing_token.ensures)
+
+pub search-returns-then-is_empty-clause-opened : goal.search-returns-then-is_empty-clause-opened
+search-returns-then-is_empty-clause-opened t c = (one_opened _ _ _, omega (arith, c.if-opened-limit.false))
+
+pub search-visit-requires : goal.search-visit-requires
+search-visit-requires t c =
+    let x = c.args.problem.now in
+    let items = c.as_slice-steps.result.now in
+    let are = steps_same x items _ c.as_slice-steps.ensures.value c.steps-moves.ensures.moves in
+    let luns = subst (λ z. All (λ s. move_lun (move_of x.groups s) ≡ lun_named s) z) (sym c.as_slice-steps.ensures.value) (luns_of x.groups c.steps-moves.result c.steps-moves.ensures.named) in
+    let e = c.loop-step.invariant.problem in
+    let m = step_moves x items c.loop-step.step-index (get_or items c.loop-step.step-index (Next 0)) are luns (get_or_default items c.loop-step.step-index (Next 0) _ c.loop-step-test.true) c.loop-step-test.true in
+    let w : work c.loop-step.problem.problem ≡ work x.problem = ap (λ (z : Position). work z.problem) e in (
+      omega (arith, c.decreases, w),
+      (
+        subst (λ (z : Position). InLimits z.problem) (sym e) c.requires.limits,
+        (
+          c.loop-step.invariant.half.within,
+          (
+            subst (λ (z : Position). IsMove z.problem (move_of z.groups (get_or items c.loop-step.step-index (Next 0)))) (sym e) m,
+            subst (λ (z : Position). move_lun (move_of z.groups (get_or items c.loop-step.step-index (Next 0))) ≡ lun_named (get_or items c.loop-step.step-index (Next 0))) (sym e) (step_of_lun x items c.loop-step.step-index (get_or items c.loop-step.step-index (Next 0)) are luns (get_or_default items c.loop-step.step-index (Next 0) _ c.loop-step-test.true) c.loop-step-test.true),
+          ),
+        ),
+      ),
+    )
+
+pub search-returns-in_err-visit-clause-over : goal.search-returns-in_err-visit-clause-over
+search-returns-in_err-visit-clause-over t c =
+    let p = err_from_is_err_and c.from_residual.result c.from_residual.ensures.1 in
+    let x = c.args.problem.now in
+    let items = c.as_slice-steps.result.now in
+    let i = c.loop-step.step-index in
+    let s = get_or items i (Next 0) in
+    let are = steps_same x items _ c.as_slice-steps.ensures.value c.steps-moves.ensures.moves in
+    let luns = subst (λ z. All (λ s. move_lun (move_of x.groups s) ≡ lun_named s) z) (sym c.as_slice-steps.ensures.value) (luns_of x.groups c.steps-moves.result c.steps-moves.ensures.named) in
+    let o = open_node x c.args.best.now.finish c.closing_token.result _ (sym c.if-is_some.ensures) c.closing_token.ensures in
+    rw (p.1, p.2) (λ q. given_up x items c.yields_of-yields.result i c.args.best.now c.loop-step.best c.loop-step.improved c.args.opened.now c.loop-step.opened c.visit.new.opened c.args.limit s are luns (get_or_default items i (Next 0) s c.loop-step-test.true) c.loop-step-test.true o c.loop-step.invariant.half
+    (subst (λ (z : Position). IsOver (moved z s).problem c.loop-step.best.finish c.loop-step.opened c.visit.new.opened c.args.limit) c.loop-step.invariant.problem (c.in_err-visit.ensures.over q)))
+
+pub search-loop-step-preserved-then-is_some-2 : goal.search-loop-step-preserved-then-is_some-2
+search-loop-step-preserved-then-is_some-2 t c =
+    let x = c.args.problem.now in
+    let items = c.as_slice-steps.result.now in
+    let i = c.loop-step.step-index in
+    let s = get_or items i (Next 0) in
+    let are = steps_same x items _ c.as_slice-steps.ensures.value c.steps-moves.ensures.moves in
+    let luns = subst (λ z. All (λ s. move_lun (move_of x.groups s) ≡ lun_named s) z) (sym c.as_slice-steps.ensures.value) (luns_of x.groups c.steps-moves.result c.steps-moves.ensures.named) in
+    let here = get_or_default items i (Next 0) s c.loop-step-test.true in
+    let h = c.loop-step.invariant.half in
+    let e = c.loop-step.invariant.problem in
+    let l = yields_some c.yields_of-yields.result c.lun.result (lun_named s) c.lun.ensures (sym c.if-is_some-2.ensures) in
+    record {
+      problem = e;
+      half = skipped x items c.yields_of-yields.result i c.args.best.now c.loop-step.best c.loop-step.improved c.args.opened.now c.loop-step.opened c.args.limit l.0 s are luns here c.loop-step-test.true l.1 h;
+    }
+
+pub search-loop-step-preserved : goal.search-loop-step-preserved
+search-loop-step-preserved t c =
+    let x = c.args.problem.now in
+    let items = c.as_slice-steps.result.now in
+    let i = c.loop-step.step-index in
+    let s = get_or items i (Next 0) in
+    let are = steps_same x items _ c.as_slice-steps.ensures.value c.steps-moves.ensures.moves in
+    let luns = subst (λ z. All (λ s. move_lun (move_of x.groups s) ≡ lun_named s) z) (sym c.as_slice-steps.ensures.value) (luns_of x.groups c.steps-moves.result c.steps-moves.ensures.named) in
+    let here = get_or_default items i (Next 0) s c.loop-step-test.true in
+    let h = c.loop-step.invariant.half in
+    let e = c.loop-step.invariant.problem in
+    let o = open_node x c.args.best.now.finish c.closing_token.result _ (sym c.if-is_some.ensures) c.closing_token.ensures in
+    let v = c.in_ok-visit.ensures in
+    let best = c.visit.new.best in
+    let least = subst (λ (z : Position). Bounded (moved z s).problem best.finish) e v.least in
+    let more = subst (λ (z : Position). HasOpened (moved z s).problem c.loop-step.best.finish c.loop-step.opened c.visit.new.opened) e v.opened.0 in
+    elim c.if-branch.branch [
+      | search-then-branch w ↦ (
+          rw w.improved-is (record {
+            problem = v.problem ∙ e;
+            half = visited x items c.yields_of-yields.result i c.args.best.now c.loop-step.best best c.loop-step.improved true c.args.opened.now c.loop-step.opened c.visit.new.opened c.args.limit s are luns here c.loop-step-test.true o h
+                v.sooner least more v.opened.1
+                (λ q. subst (λ (z : Position). Run z.problem (run_of z.groups best.steps.items) best.finish) e (v.run w.if-branch.true))
+                (λ q. absurd (false≢true (sym q)));
+          }))
+      | search-else-branch w ↦ (
+          let k = v.kept w.if-branch.false in
+          rw w.improved-is (record {
+            problem = v.problem ∙ e;
+            half = visited x items c.yields_of-yields.result i c.args.best.now c.loop-step.best best c.loop-step.improved c.loop-step.improved c.args.opened.now c.loop-step.opened c.visit.new.opened c.args.limit s are luns here c.loop-step-test.true o h
+                v.sooner least more v.opened.1
+                (λ q. subst (λ (b : Best). Run x.problem (run_of x.groups b.steps.items) b.finish) (sym k) (h.run q))
+                (λ q. k ∙ h.kept q);
+          }))
+    ]
+
+pub search-returns-clause-found : goal.search-returns-clause-found
+search-returns-clause-found t c =
+    let x = c.args.problem.now in
+    let items = c.as_slice-steps.result.now in
+    let are = steps_same x items _ c.as_slice-steps.ensures.value c.steps-moves.ensures.moves in
+    let ay = c.yields_of-yields.ensures.yields in
+    ended x items _ _ _ _ _ _ _ _ c.requires.limits.problem are ay (λ q. not_empty items false (c.if-is_empty.ensures ∙ ap (λ z. length z == 0) (sym c.as_slice-steps.ensures.value)) q) c.loop-step-test.false c.loop-step.invariant.half
+
+pub search-returns-clause-opened : goal.search-returns-clause-opened
+search-returns-clause-opened t c = (ended_count _ _ _ _ _ _ _ _ _ _ c.loop-step.invariant.half, c.loop-step.invariant.half.within)
+
+pub visit-search-requires : goal.visit-search-requires
+visit-search-requires t c =
+    let x = c.args.problem.now in
+    let m = move_of x.groups c.args.step in
+    let less = work_after x.problem m c.requires.limits.problem c.requires.step in
+    let w : work c.advance-undo.new.self.problem ≡ work (after x.problem m) = ap (λ (z : Position). work z.problem) c.advance-undo.ensures.moved in (
+      omega (arith, c.decreases, w, less),
+      (subst (λ (z : Position). InLimits z.problem) (sym c.advance-undo.ensures.moved) (after_limits x.problem m c.requires.limits c.requires.step), c.requires.opened),
+    )

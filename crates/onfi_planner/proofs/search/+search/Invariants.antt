@@ -1,0 +1,16 @@
+use Rattle.std.proofs.Common.{◌≡◌, ◌+◌, ◌*◌}
+use Rattle.onfi_planner.specs.Planning.{work}
+use Rattle.onfi_planner.proofs.Halfway.{Halfway}
+use Rattle.onfi_planner.proofs.search.+search.Given as goal
+
+abbrev pub decreases-search : goal.decreases-search
+decreases-search l = 2 * work l.problem.now.problem + 1
+
+abbrev pub decreases-visit : goal.decreases-visit
+decreases-visit l = 2 * work l.problem.now.problem
+
+abbrev pub invariant-search-loop-step : goal.invariant-search-loop-step
+invariant-search-loop-step l = record {
+  problem : l.problem ≡ l.fn.problem;
+  half : Halfway l.fn.problem l.steps l.yields l.step-index l.fn.best l.best l.improved l.fn.opened l.opened l.limit;
+}

@@ -1,0 +1,4 @@
+pub mod Opening
+pub mod Nodes
+pub mod Planning
+pub mod First

@@ -1,0 +1,48 @@
+-- What the search and the writing of certificates promise.
+use Rattle.std.specs.Prelude.{◌≡◌, ℕ, ◌+◌, ◌-◌, ◌≤◌, Bool, true, false, List, ◌++◌, map, reverse}
+use Rattle.onfi_request.specs.declared.want.Want.{Want}
+use Rattle.onfi_cert.specs.declared.token.Token.{Token}
+use Rattle.onfi_problem.specs.Problem.{Problem}
+use Rattle.onfi_problem.specs.Left.{all_commands, all_posts}
+use Rattle.onfi_schedule.specs.Runs.{Step as Taken, Run}
+use Rattle.onfi_check.specs.Tree.{Tree, preorder, Accepts}
+use Rattle.onfi_planner.specs.declared.search.Begun.{Begun}
+use Rattle.onfi_planner.specs.declared.search.Best.{Best}
+use Rattle.onfi_problem.specs.Position.{Position, move_of}
+use Rattle.onfi_planner.specs.Nodes.{HasNodes}
+
+-- no run ends before e
+abbrev pub Bounded : Problem → ℕ → Type 0
+Bounded p e = (steps : List Taken) (f : ℕ) → Run p steps f → e ≤ f
+
+abbrev pub taken : List (List Want) → Begun → Taken
+taken groups b = record { move = move_of groups b.step; start = b.start }
+
+-- steps are kept last first
+abbrev pub run_of : List (List Want) → List Begun → List Taken
+run_of groups steps = reverse (map (taken groups) steps)
+
+-- what a search of x from one best to another has found
+pub record Searched (x : Position) (old new : Best) (improved : Bool) : Type 0 where
+  pub sooner : new.finish ≤ old.finish
+  pub least : Bounded x.problem new.finish
+  pub run : improved ≡ true → Run x.problem (run_of x.groups new.steps.items) new.finish
+  pub kept : improved ≡ false → new ≡ old
+
+-- so many nodes were opened, and each is one of the tree
+pub record HasOpened (p : Problem) (finish old new : ℕ) : Type 0 where
+  pub more : old ≤ new
+  pub nodes : (f : ℕ) → finish ≤ f → HasNodes f p (new - old)
+
+-- the limit is met, and the tree has one more node
+pub record IsOver (p : Problem) (finish old new greatest : ℕ) : Type 0 where
+  pub limit : new ≡ greatest
+  pub nodes : (f : ℕ) → finish ≤ f → HasNodes f p (greatest - old + 1)
+
+-- the new tokens are those of a tree that is accepted for e
+abbrev pub Written : Problem → ℕ → List Token → List Token → Type 0
+Written p e old new = (tree : Tree) × (new ≡ old ++ preorder tree) × Accepts tree p e
+
+-- the work that is left
+abbrev pub work : Problem → ℕ
+work p = all_commands p + all_posts p

@@ -1,0 +1,62 @@
+ghost use Rattle.std.specs.Prelude.{◌≡◌, ℕ, ◌+◌, ◌≤◌, ◌<◌, IfOk};
+ghost use Rattle.onfi_problem.specs.Moves.{IsMove, move_lun};
+ghost use Rattle.onfi_problem.specs.Left.{InLimits};
+ghost use Rattle.onfi_problem.specs.Position.{move_of, moved, lun_named};
+ghost use Rattle.onfi_planner.specs.Planning.{Bounded, Written};
+
+use crate::closing::closing_token;
+use crate::yields::yields_of;
+use onfi_cert::{LunNumber, Token, Width};
+use onfi_check::last_ends;
+use onfi_problem::{Move, Problem};
+use std::alloc::AllocError;
+
+/// Appends the tokens of a tree that shows that nothing below a node ends before `e`.
+#[cycle(write)]
+pub fn write(problem: &mut Problem, e: u64, tokens: &mut Vec<Token>) -> Result<(), AllocError>
+    requires limits { InLimits problem.old.problem }
+    requires least { Bounded problem.old.problem e }
+    ensures problem { IfOk result (λ _. problem.new ≡ problem.old) }
+    ensures written { IfOk result (λ _. Written problem.old.problem e tokens.old.items tokens.new.items) }
+{
+    if let Some(token) = closing_token(problem, e) {
+        tokens.push(token)?;
+        return Ok(());
+    }
+    let moves = problem.steps();
+    if moves.is_empty() {
+        unreachable!();
+    }
+    let steps = moves.as_slice();
+    let ends = last_ends(problem, steps);
+    let yields = yields_of(problem, steps, &ends);
+    tokens.push(Token::Branch(Width::of(steps.len() as u8)))?;
+    for step in steps {
+        match yields[step.lun() as usize] {
+            Some(lun) => tokens.push(Token::Yield(LunNumber::of(lun)))?,
+            None => write_below(problem, *step, e, tokens)?,
+        }
+    }
+    Ok(())
+}
+
+// Appends the tokens of the child behind a step.
+#[cycle(write)]
+fn write_below(
+    problem: &mut Problem,
+    step: Move,
+    e: u64,
+    tokens: &mut Vec<Token>,
+) -> Result<(), AllocError>
+    requires limits { InLimits problem.old.problem }
+    requires least { Bounded problem.old.problem e }
+    requires step { IsMove problem.old.problem (move_of problem.old.groups step) }
+    requires lun { move_lun (move_of problem.old.groups step) ≡ lun_named step }
+    ensures problem { IfOk result (λ _. problem.new ≡ problem.old) }
+    ensures written { IfOk result (λ _. Written (moved problem.old step).problem e tokens.old.items tokens.new.items) }
+{
+    let undo = problem.advance(step);
+    write(problem, e, tokens)?;
+    problem.undo(undo);
+    Ok(())
+}

@@ -1,0 +1,111 @@
+ghost use Rattle.std.specs.Prelude.{◌≡◌, ℕ, ◌+◌, ◌≤◌, ◌<◌, IfOk, IfErr, true, false};
+ghost use Rattle.onfi_problem.specs.Moves.{IsMove, move_lun};
+ghost use Rattle.onfi_problem.specs.Left.{InLimits};
+ghost use Rattle.onfi_problem.specs.Position.{move_of, moved, lun_named};
+ghost use Rattle.onfi_schedule.specs.Runs.{Run};
+ghost use Rattle.onfi_planner.specs.Planning.{Searched, HasOpened, IsOver, Bounded, run_of};
+
+use crate::closing::closing_token;
+use crate::yields::yields_of;
+use onfi_check::last_ends;
+use onfi_problem::{Move, Problem};
+
+/// A step, and when it begins.
+#[derive(Clone, Copy, Debug, PartialEq, Eq)]
+pub struct Begun {
+    pub step: Move,
+    pub start: u64,
+}
+
+/// The best finish so far, and the steps to it, last first.
+#[derive(Drop)]
+pub struct Best {
+    pub finish: u64,
+    pub steps: Vec<Begun>,
+}
+
+/// Why a search gave up.
+#[derive(Debug, Drop)]
+pub enum Stop {
+    /// As many nodes as may be are open, and there is one more.
+    Over,
+    /// Memory was refused.
+    Memory,
+}
+
+/// Looks below a node for what ends before the best; tells whether it found something.
+#[cycle(search)]
+pub fn search(
+    problem: &mut Problem,
+    best: &mut Best,
+    opened: &mut u32,
+    limit: u32,
+) -> Result<bool, Stop>
+    requires limits { InLimits problem.old.problem }
+    requires opened { opened.old ≤ limit }
+    ensures problem { IfOk result (λ _. problem.new ≡ problem.old) }
+    ensures found { IfOk result (λ improved. Searched problem.old best.old best.new improved) }
+    ensures opened { IfOk result (λ _. HasOpened problem.old.problem best.old.finish opened.old opened.new × (opened.new ≤ limit)) }
+    ensures over { IfErr result (λ stop. stop ≡ Stop.Over → IsOver problem.old.problem best.old.finish opened.old opened.new limit) }
+{
+    if *opened == limit {
+        return Err(Stop::Over);
+    }
+    *opened += 1;
+    if closing_token(problem, best.finish).is_some() {
+        return Ok(false);
+    }
+    let moves = problem.steps();
+    if moves.is_empty() {
+        best.finish = problem.bus_free();
+        best.steps.clear();
+        return Ok(true);
+    }
+    let steps = moves.as_slice();
+    let ends = last_ends(problem, steps);
+    let yields = yields_of(problem, steps, &ends);
+    let mut improved = false;
+    for step in steps {
+        if yields[step.lun() as usize].is_some() {
+            continue;
+        }
+        if visit(problem, *step, best, opened, limit)? {
+            improved = true;
+        }
+    }
+    Ok(improved)
+}
+
+// Looks below a step.
+#[cycle(search)]
+fn visit(
+    problem: &mut Problem,
+    step: Move,
+    best: &mut Best,
+    opened: &mut u32,
+    limit: u32,
+) -> Result<bool, Stop>
+    requires limits { InLimits problem.old.problem }
+    requires opened { opened.old ≤ limit }
+    requires step { IsMove problem.old.problem (move_of problem.old.groups step) }
+    requires lun { move_lun (move_of problem.old.groups step) ≡ lun_named step }
+    ensures problem { IfOk result (λ _. problem.new ≡ problem.old) }
+    ensures sooner { IfOk result (λ _. best.new.finish ≤ best.old.finish) }
+    ensures least { IfOk result (λ _. Bounded (moved problem.old step).problem best.new.finish) }
+    ensures run { IfOk result (λ improved. improved ≡ true → Run problem.old.problem (run_of problem.old.groups best.new.steps.items) best.new.finish) }
+    ensures kept { IfOk result (λ improved. improved ≡ false → best.new ≡ best.old) }
+    ensures opened { IfOk result (λ _. HasOpened (moved problem.old step).problem best.old.finish opened.old opened.new × (opened.new ≤ limit)) }
+    ensures over { IfErr result (λ stop. stop ≡ Stop.Over → IsOver (moved problem.old step).problem best.old.finish opened.old opened.new limit) }
+{
+    let start = problem.earliest(step);
+    let undo = problem.advance(step);
+    let improved = search(problem, best, opened, limit)?;
+    problem.undo(undo);
+    if improved {
+        match best.steps.push(Begun { step, start }) {
+            Ok(()) => {}
+            Err(_) => return Err(Stop::Memory),
+        }
+    }
+    Ok(improved)
+}

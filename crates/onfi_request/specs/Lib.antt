@@ -1,0 +1,3 @@
+pub mod Range
+pub mod Words
+pub use Rattle.onfi_addr.specs.Rows

@@ -1,0 +1,12 @@
+use crate::bytes::Bytes;
+
+/// What a request came to.
+#[derive(Debug, Drop)]
+pub enum Answer {
+    /// A read: all data and spare bytes of the page.
+    Read(Bytes),
+    /// A program or an erase that succeeded.
+    Done,
+    /// A program or an erase whose status has FAIL set (ONFI 4.2, status field definition, bit 0).
+    Failed,
+}
