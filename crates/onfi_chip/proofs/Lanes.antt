@@ -1,5 +1,5 @@
 -- The LUNs of a simulated chip, and what a change of one leaves.
-use Rattle.std.proofs.Common.{◌≡◌, ℕ, zero, suc, ◌+◌, ◌<◌, List, [], ◌∷◌, ◌++◌, length, get_or, replicate, Option, Some, None, refl, sym, ap, subst, ◌∙◌, arith, add_assoc}
+use Rattle.std.proofs.Common.{◌≡◌, ℕ, zero, suc, ◌+◌, ◌<◌, List, [], ◌∷◌, ◌++◌, length, get_or, replicate, Some, refl, sym, ap, subst, ◌∙◌, arith, add_assoc}
 use Rattle.std.proofs.Math.ListN.{set}
 use Rattle.std.specs.Prelude.{map, slice_get}
 use Rattle.std.specs.List.{AllByRecursion as Each}
@@ -13,7 +13,7 @@ use Rattle.onfi_timing.specs.declared.timing.Timing.{Timing}
 use Rattle.onfi_timing.specs.Kinds.{spans_of}
 use Rattle.onfi_request.specs.declared.fault.Fault.{Fault}
 use Rattle.onfi_request.specs.declared.request.Request.{Request}
-use Rattle.onfi_request.specs.Range.{Fits, IsLengthFor}
+use Rattle.onfi_request.specs.Range.{IsLengthFor}
 use Rattle.onfi_die.specs.declared.prepared.Prepared.{Prepared}
 use Rattle.onfi_die.specs.declared.prepared.Prepared.TheVariants.{Read, Program, Erase}
 use Rattle.onfi_die.specs.declared.shape.Shape.{Shape}
@@ -31,7 +31,7 @@ use Rattle.onfi_chip.specs.Chip.{Chip, Lun, opened, taken, posts_of, queued, hap
 use Rattle.onfi_chip.specs.Chip.Lun.{Idle, Commanding, Posting}
 use Rattle.onfi_chip.specs.Calls.{command_of}
 use Rattle.onfi_chip.specs.Hold.{hold}
-use Rattle.onfi_chip.specs.Sim.{Sim, IsSim, IsLane, IsReady, IsPost, IsOpen, IsOpenAt, lun_of, chip_of, added}
+use Rattle.onfi_chip.specs.Sim.{Sim, IsSim, IsLane, IsPost, IsOpenAt, lun_of, chip_of, added}
 use Rattle.onfi_chip.proofs.GroupRun.{all_ready}
 
 get_map : {A B : Type 0} (f : A → B) (xs : List A) (i : ℕ) (x : A) → i < length xs → x ≡ get_or xs i x → slice_get (map f xs) i ≡ Some (f x)

@@ -1,5 +1,5 @@
 -- The calls of a simulated chip.
-use Rattle.std.proofs.Common.{◌≡◌, ◌≢◌, ℕ, ◌+◌, ◌<◌, ◌≤◌, Bool, true, false, List, ◌∷◌, Result, Ok, Err, OnOk, OnErr, refl, sym, ap, subst, ◌∙◌, arith}
+use Rattle.std.proofs.Common.{◌≡◌, ◌≢◌, ℕ, ◌+◌, ◌<◌, true, false, List, ◌∷◌, Result, Ok, Err, OnOk, OnErr, refl, sym, ap, subst, ◌∙◌, arith}
 use Rattle.std.specs.Prelude.{Some, slice_get, slice_set}
 use Rattle.std.specs.Result.{is_err}
 use Rattle.onfi_addr.specs.declared.geometry.Geometry.{Geometry}
@@ -20,8 +20,7 @@ use Rattle.onfi_chip.specs.declared.sim.SimChip.{SimChip}
 use Rattle.onfi_chip.specs.Chip.{Chip, after_post, posted}
 use Rattle.onfi_chip.specs.Chip.Lun.{Posting}
 use Rattle.onfi_chip.specs.Calls.{command_of, HasDone, IsNextPost, IsStatus}
-use Rattle.onfi_chip.specs.Numbers.{failed}
-use Rattle.onfi_chip.specs.Sim.{Sim, chip_of}
+use Rattle.onfi_chip.specs.Sim.{chip_of}
 use Rattle.onfi_chip.specs.SimChip.{chip_in, failures_of}
 
 pub if_ok : {A E P : Type 0} (r : Result A E) → is_err r ≡ false → OnOk r P → P

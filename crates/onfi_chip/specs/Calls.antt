@@ -1,9 +1,8 @@
 -- What a chip's calls ask for, and what they leave.
-use Rattle.std.specs.Prelude.{◌≡◌, ◌≢◌, ℕ, ◌<◌, ◌≤◌, List, ◌∷◌, Option, Some, None, All, IsBitSet, slice_get}
+use Rattle.std.specs.Prelude.{◌≡◌, ℕ, ◌<◌, ◌≤◌, List, ◌∷◌, Option, Some, None, All, IsBitSet, slice_get}
 use Rattle.onfi_addr.specs.declared.geometry.Geometry.{Geometry}
 use Rattle.onfi_addr.specs.Rows.{IsInRange, row_of, plane_of_block}
 use Rattle.onfi_timing.specs.declared.kind.Kind.{Kind}
-use Rattle.onfi_timing.specs.declared.kind.Kind.TheVariants as kind
 use Rattle.onfi_request.specs.declared.answer.Answer.{Answer}
 use Rattle.onfi_request.specs.declared.answer.Answer.TheVariants.{Read, Done, Failed}
 use Rattle.onfi_request.specs.declared.request.Request.{Request}
@@ -13,7 +12,7 @@ use Rattle.onfi_chip.specs.declared.closer.Closer.TheVariants.{More, Last}
 use Rattle.onfi_chip.specs.declared.fault.ChipFault.{ChipFault}
 use Rattle.onfi_chip.specs.declared.fault.ChipFault.TheVariants.{Bus, Memory}
 use Rattle.onfi_chip.specs.declared.post.Post.{Post}
-use Rattle.onfi_chip.specs.Chip.{Chip, Lun, commanded, launched, posted}
+use Rattle.onfi_chip.specs.Chip.{Chip, Lun, commanded, launched}
 use Rattle.onfi_chip.specs.Chip.Lun.{Idle, Commanding, Posting}
 
 -- the request that a command carries, and the device takes

@@ -1,28 +1,25 @@
 -- Requests on different blocks.
-use Rattle.std.proofs.Common.{◌≡◌, ◌≢◌, ℕ, ◌⊎◌, inl, inr, true, false, List, [], ◌∷◌, ◌++◌, refl, sym, ap, ◌∙◌, arith}
+use Rattle.std.proofs.Common.{◌≡◌, ◌≢◌, ℕ, ◌⊎◌, inl, inr, true, false, List, [], ◌∷◌, refl, sym, ap, ◌∙◌, arith}
 use Rattle.std.specs.Prelude.{map}
 use Rattle.std.specs.List.{AllByRecursion as Each, filter}
 use Rattle.std.proofs.lemmas.Bool.{cases_Bool}
 use Rattle.std.proofs.lemmas.Bool.Decides.{nat_tests}
 use Rattle.onfi_request.specs.Words.{Pairs}
 use Rattle.onfi_request.specs.declared.request.Request.{Request}
-use Rattle.onfi_die.specs.Contents.{Contents, runs, answer_of, contents_after}
+use Rattle.onfi_die.specs.Contents.{runs, answer_of}
 use Rattle.onfi_die.specs.Shapes.{Device}
 use Rattle.onfi_die.specs.Blocks.{Blocks, is_on, block_of, changed, happen, answers}
 use Rattle.onfi_die.specs.Apart.{OnOthers, AreApart, answer_now}
 
-pub is_on_true : (lun block : ℕ) (r : Request) → is_on lun block r ≡ true → (r.place.lun ≡ lun) × (r.place.block ≡ block)
+is_on_true : (lun block : ℕ) (r : Request) → is_on lun block r ≡ true → (r.place.lun ≡ lun) × (r.place.block ≡ block)
 is_on_true lun block r h = grind (arith, nat_tests)
 
-pub is_on_false : (lun block : ℕ) (r : Request) → (r.place.lun ≢ lun) ⊎ (r.place.block ≢ block) → is_on lun block r ≡ false
+is_on_false : (lun block : ℕ) (r : Request) → (r.place.lun ≢ lun) ⊎ (r.place.block ≢ block) → is_on lun block r ≡ false
 is_on_false lun block r (inl h) = grind (arith, nat_tests)
 is_on_false lun block r (inr h) = grind (arith, nat_tests)
 
-pub is_on_self : (r : Request) → is_on r.place.lun r.place.block r ≡ true
-is_on_self r = grind (arith, nat_tests)
-
 -- each block sees its own requests alone
-pub own_requests : (device : Device) (rs : List Request) (blocks : Blocks) (lun block : ℕ) → happen device rs blocks lun block ≡ runs device (filter (is_on lun block) rs) (blocks lun block)
+own_requests : (device : Device) (rs : List Request) (blocks : Blocks) (lun block : ℕ) → happen device rs blocks lun block ≡ runs device (filter (is_on lun block) rs) (blocks lun block)
 own_requests device [] blocks lun block = refl
 own_requests device (r ∷ rs) blocks lun block =
     let e = own_requests device rs (changed device r blocks) lun block in
@@ -32,7 +29,7 @@ own_requests device (r ∷ rs) blocks lun block =
     ]
 
 -- a request leaves the blocks of others
-pub left_alone : (device : Device) (a b : Request) (blocks : Blocks) → OnOthers a b → block_of b (changed device a blocks) ≡ block_of b blocks
+left_alone : (device : Device) (a b : Request) (blocks : Blocks) → OnOthers a b → block_of b (changed device a blocks) ≡ block_of b blocks
 left_alone device a b blocks h = rw (is_on_false b.place.lun b.place.block a h) refl
 
 OnOthers-sym : (a b : Request) → OnOthers a b → OnOthers b a
@@ -57,13 +54,9 @@ unmoved device a blocks [] h = refl
 unmoved device a blocks (r ∷ rs) h = let e : answer_now device (changed device a blocks) r ≡ answer_now device blocks r = ap (answer_of device r) (left_alone device a r blocks h.0) in let f = unmoved device a blocks rs h.1 in rw (e, f) refl
 
 -- requests on different blocks get the answers that each gets alone
-pub answers_alone : (device : Device) (rs : List Request) (blocks : Blocks) → Pairs OnOthers rs → answers device rs blocks ≡ map (answer_now device blocks) rs
+answers_alone : (device : Device) (rs : List Request) (blocks : Blocks) → Pairs OnOthers rs → answers device rs blocks ≡ map (answer_now device blocks) rs
 answers_alone device [] blocks h = refl
 answers_alone device (r ∷ rs) blocks h = ap (λ zs. answer_now device blocks r ∷ zs) (answers_alone device rs (changed device r blocks) h.1 ∙ unmoved device r blocks rs h.0)
-
-pub runs-append : (device : Device) (rs qs : List Request) (b : Contents) → runs device (rs ++ qs) b ≡ runs device qs (runs device rs b)
-runs-append device [] qs b = refl
-runs-append device (r ∷ rs) qs b = runs-append device rs qs (contents_after device r b)
 
 pub apart : AreApart
 apart = record {

@@ -10,8 +10,8 @@ use Rattle.onfi_die.specs.declared.prepared.Prepared.TheVariants.{Read, Program,
 use Rattle.onfi_die.specs.declared.shape.Shape.{Shape}
 use Rattle.onfi_die.specs.Shapes.{Device}
 use Rattle.onfi_die.specs.Block.{Did, did}
-use Rattle.onfi_die.specs.Contents.{Contents, contents_after, answer_of, counted, fails}
-use Rattle.onfi_die.specs.Blocks.{Blocks, changed, is_on}
+use Rattle.onfi_die.specs.Contents.{Contents, contents_after, answer_of, fails}
+use Rattle.onfi_die.specs.Blocks.{Blocks, changed}
 use Rattle.onfi_die.specs.Prepared.{kind_of, data_of}
 use Rattle.onfi_die.specs.Requests.{request_of}
 

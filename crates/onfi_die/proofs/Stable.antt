@@ -17,7 +17,7 @@ stays_right device accepted more r h = record {
   answer = h.answer ∙ ap (λ before. answer_behind device before h.item) (sym (take_of_more accepted more r.place h.item h.there));
 }
 
-pub stay_right : (device : Device) (accepted more : List Item) (rs : List Reply) → Each (IsRightful device accepted) rs → Each (IsRightful device (accepted ++ more)) rs
+stay_right : (device : Device) (accepted more : List Item) (rs : List Reply) → Each (IsRightful device accepted) rs → Each (IsRightful device (accepted ++ more)) rs
 stay_right device accepted more rs h = Each-map (IsRightful device accepted) (IsRightful device (accepted ++ more)) (stays_right device accepted more) rs h
 
 pub stay_rightful : StaysRightful

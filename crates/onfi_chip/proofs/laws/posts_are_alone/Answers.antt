@@ -3,12 +3,10 @@ use Rattle.std.specs.Prelude.{map}
 use Rattle.std.specs.List.{AllByRecursion as Each}
 use Rattle.onfi_request.specs.declared.answer.Answer.{Answer}
 use Rattle.onfi_request.specs.declared.request.Request.{Request}
-use Rattle.onfi_request.specs.Words.{Pairs}
 use Rattle.onfi_die.specs.Shapes.{Device}
 use Rattle.onfi_die.specs.Blocks.{Blocks, changed}
 use Rattle.onfi_die.specs.Apart.{OnOthers, AreApart}
 use Rattle.onfi_chip.specs.declared.post.Post.{Post}
-use Rattle.onfi_chip.specs.Chip.{posts_of}
 use Rattle.onfi_chip.specs.Alone.{post_now, PostsAreAlone}
 use Rattle.onfi_chip.proofs.laws.posts_are_alone.Goals as goal
 

@@ -1,4 +1,4 @@
-use Rattle.std.proofs.Common.{◌≡◌, ◌+◌, ◌≤◌, arith}
+use Rattle.std.proofs.Common.{◌≡◌, ◌+◌, arith}
 use Rattle.onfi_chip.proofs.Numbers.{failed_fine, failed_rises}
 use Rattle.onfi_chip.proofs.numbered.Numbered.step.Goals as goal
 

@@ -1,4 +1,4 @@
-use Rattle.std.proofs.Common.{◌≡◌, ℕ, ◌+◌, sym, ap, ◌∙◌}
+use Rattle.std.proofs.Common.{ℕ, ◌+◌, sym, ap, ◌∙◌}
 use Rattle.onfi_request.specs.declared.request.Request.{Request}
 use Rattle.onfi_chip.specs.declared.sim.SimChip.{SimChip}
 use Rattle.onfi_chip.specs.Chip.{Chip}

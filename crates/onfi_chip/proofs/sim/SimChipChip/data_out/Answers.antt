@@ -1,4 +1,4 @@
-use Rattle.std.proofs.Common.{◌≡◌, ℕ, ◌+◌, sym, ap, ◌∙◌}
+use Rattle.std.proofs.Common.{ℕ, ◌+◌, sym, ap, ◌∙◌}
 use Rattle.onfi_request.specs.declared.answer.Answer.TheVariants.{Read}
 use Rattle.onfi_chip.specs.declared.post.Post.{Post}
 use Rattle.onfi_chip.specs.declared.sim.SimChip.{SimChip}

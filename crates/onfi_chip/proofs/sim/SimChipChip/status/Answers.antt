@@ -1,4 +1,4 @@
-use Rattle.std.proofs.Common.{◌≡◌, ℕ, ◌+◌, sym, ap, subst, ◌∙◌}
+use Rattle.std.proofs.Common.{ℕ, ◌+◌, sym, ap, subst, ◌∙◌}
 use Rattle.onfi_chip.specs.declared.post.Post.{Post}
 use Rattle.onfi_chip.specs.declared.sim.SimChip.{SimChip}
 use Rattle.onfi_chip.specs.Calls.{TellsAnswer}

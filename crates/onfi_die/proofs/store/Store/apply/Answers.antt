@@ -1,9 +1,7 @@
 use Rattle.std.proofs.Common.{◌≡◌, OnErr, ◌∙◌, subst, Result, Ok, Err}
-use Rattle.onfi_request.specs.declared.answer.Answer.{Answer}
 use Rattle.onfi_die.specs.Shapes.{Device}
 use Rattle.onfi_die.specs.Contents.{answer_of}
 use Rattle.onfi_die.specs.Blocks.{Blocks, changed, block_of}
-use Rattle.onfi_die.specs.Requests.{request_of}
 use Rattle.onfi_die.specs.Store.{blocks_of}
 use Rattle.onfi_die.proofs.Same.{same_changed, same_answer}
 use Rattle.onfi_die.proofs.store.Store.apply.Goals as goal

@@ -3,7 +3,7 @@ use Rattle.std.specs.List.{list_any}
 use Rattle.onfi_die.specs.declared.kept.Kept.{Kept}
 use Rattle.onfi_die.specs.Shapes.{Device}
 use Rattle.onfi_die.specs.Contents.{fresh}
-use Rattle.onfi_die.specs.Store.{Stored, IsKept, IsFirst, is_block, blocks_of, contents_of, contents_in}
+use Rattle.onfi_die.specs.Store.{IsKept, IsFirst, is_block, blocks_of, contents_of, contents_in}
 use Rattle.onfi_die.proofs.Keeping.{found_any, contents_more}
 use Rattle.onfi_die.proofs.store.Store.keep.Goals as goal
 

@@ -1,4 +1,4 @@
-use Rattle.std.proofs.Common.{◌≡◌, ℕ, ◌<◌, sym, subst, List, get_or, length}
+use Rattle.std.proofs.Common.{◌≡◌, ℕ, ◌<◌, sym, subst, List}
 use Rattle.onfi_die.specs.declared.kept.Kept.{Kept}
 use Rattle.onfi_die.specs.declared.shape.Shape.{Shape}
 use Rattle.onfi_die.specs.Prepared.{kind_of, HasRoom, IsAnswerTo}
