@@ -1,6 +1,6 @@
 -- A walk over the blocks that a row names.
-use Rattle.std.proofs.Common.{◌≡◌, ◌<◌, ◌≤◌, ℕ, zero, suc, ◌+◌, List, [], ◌∷◌, ◌++◌, length, drop, Ok, Err, Some, None, refl, sym, ap, ◌∙◌, add-one, arith, append_assoc, append-nil}
-use Rattle.std.specs.Prelude.{Result, Option, unwrap_or}
+use Rattle.std.proofs.Common.{◌≡◌, ◌<◌, ◌≤◌, ℕ, zero, suc, ◌+◌, List, [], ◌∷◌, ◌++◌, length, drop, Ok, Err, refl, sym, ap, ◌∙◌, arith, append_assoc, append-nil}
+use Rattle.std.specs.Prelude.{Result}
 use Rattle.std.proofs.Math.ListN.{drop_of_length-le}
 use Rattle.csv.specs.Records.{field_at}
 use Rattle.onfi_sim.specs.declared.fault.ScriptFault.{ScriptFault}

@@ -5,6 +5,5 @@ pub mod BlockLemmas
 pub mod RowsLemmas
 pub mod SetupLemmas
 pub mod TextLemmas
-pub mod Single
 pub mod Told
 pub mod WordsLemmas

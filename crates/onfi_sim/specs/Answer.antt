@@ -1,15 +1,16 @@
 -- What is written for an input, and with which status.
-use Rattle.std.specs.Prelude.{◌≡◌, ℕ, ◌+◌, ◌^◌, ◌≤◌, ◌⊎◌, ◌==◌, ◌&&◌, nat_le, if◌then◌else◌, Bool, true, false, IsTrue, List, length, take, Option, Some, None, position, Result, Ok, Err, IfSome, MatchOption, MatchResult, codes}
-use Rattle.std.specs.List.{list_all}
+use Rattle.std.specs.Prelude.{◌≡◌, ℕ, ◌+◌, ◌^◌, ◌≤◌, ◌⊎◌, List, take, Option, Some, None, position, Ok, Err, IfSome, MatchOption, MatchResult}
 use Rattle.std.specs.Io.KnownBytes.{Appends}
 use Rattle.csv.specs.Reading.{AreRecords, default_config, strip_bom}
 use Rattle.csv.specs.declared.parser.State.TheVariants as st
-use Rattle.onfi_problem.specs.declared.lun_state.LunState.{LunState}
-use Rattle.onfi_problem.specs.declared.lun_state.LunState.TheVariants.{Free, Running}
 use Rattle.onfi_problem.specs.Problem.{Problem, IsSmall, IsProblem}
-use Rattle.onfi_problem.specs.Left.{horizon, InLimits, all_commands, all_posts}
+use Rattle.onfi_problem.specs.Left.{horizon, InLimits}
 use Rattle.onfi_schedule.specs.Schedule.{Schedule, Optimal, finish}
+use Rattle.onfi_cert.specs.declared.token.Token.{Token}
+use Rattle.onfi_check.specs.Tree.{AcceptsTokens}
+use Rattle.onfi_planner.specs.Nodes.{HasMoreNodes}
 use Rattle.onfi_sim.specs.declared.command.Command.{Command}
+use Rattle.onfi_sim.specs.declared.command.Command.TheVariants.{Plan}
 use Rattle.onfi_sim.specs.declared.fault.ScriptFault.{ScriptFault}
 use Rattle.onfi_sim.specs.declared.fault.ScriptFault.TheVariants.{NoEnd, OutOfRange, Problem as Fault}
 use Rattle.onfi_problem.specs.declared.fault.ProblemFault.TheVariants.{TooMany, BadLun, Clock}
@@ -21,7 +22,7 @@ use Rattle.onfi_sim.specs.Script.{script_of}
 use Rattle.onfi_sim.specs.declared.device.Device.{Device}
 use Rattle.onfi_sim.specs.Device.{TellsDevice}
 use Rattle.onfi_sim.specs.Setup.{names_absent, SetsUp}
-use Rattle.onfi_sim.specs.Text.{Answer, memory, refused, planned}
+use Rattle.onfi_sim.specs.Text.{Answer, memory, refused, planned, over}
 
 -- a fault of the script as a whole
 abbrev pub whole : ScriptFault → Refusal
@@ -31,56 +32,39 @@ whole fault = record { row = 0; fault = fault }
 abbrev pub Refuses : ScriptFault → Answer → Type 0
 Refuses fault answer = answer ≡ refused (whole fault)
 
-abbrev pub is_free : LunState → Bool
-is_free (Free since) = true
-is_free (Running group next ready) = false
-
--- at most one want, and no group runs: all that can be planned as yet
-abbrev pub is_single : Problem → Bool
-is_single p = nat_le (length p.wants) 1 && list_all is_free p.luns
-
--- by then the bus has carried all that is left
-abbrev pub bus_bound : Problem → ℕ
-bus_bound p = p.bus_free + all_commands p + all_posts p
-
--- the bus bound where it is the finish, else the lead bound
-abbrev pub certificate : Problem → Schedule → List ℕ
-certificate p s = if finish p s == bus_bound p then codes "U" else codes "L"
-
--- a problem's optimal schedule with its certificate
-pub record IsPlan (p : Problem) (s : Schedule) (ends : ℕ) (tokens : List ℕ) : Type 0 where
-  pub optimal : Optimal p s
-  pub finish : finish p s ≡ ends
-  pub certified : tokens ≡ certificate p s
-
--- the text of such a schedule
+-- the text of an optimal schedule, with tokens that show that none ends before it
 pub record Plans (p : Problem) (answer : Answer) : Type 0 where
   pub schedule : Schedule
   pub ends : ℕ
-  pub tokens : List ℕ
-  pub plan : IsPlan p schedule ends tokens
+  pub tokens : List Token
+  pub optimal : Optimal p schedule
+  pub finish : finish p schedule ≡ ends
+  pub certified : AcceptsTokens tokens p ends
   pub text : answer ≡ planned p schedule ends tokens
 
--- the answer to a problem: its first fault, or its plan
-pub data AnswersProblem (p : Problem) (answer : Answer) : Type 0 where
-  is_too_many : (IsSmall p → ⊥) → Refuses (Fault TooMany) answer → AnswersProblem p answer
-  is_bad_lun : IsSmall p → (IsProblem p → ⊥) → Refuses (Fault BadLun) answer → AnswersProblem p answer
-  is_late : IsSmall p → IsProblem p → 2 ^ 62 ≤ horizon p → Refuses (Fault Clock) answer → AnswersProblem p answer
-  is_not_single : InLimits p → is_single p ≡ false → Refuses (Fault TooMany) answer → AnswersProblem p answer
-  is_planned : InLimits p → IsTrue (is_single p) → Plans p answer → AnswersProblem p answer
+-- a plan, or where the tree of the problem has more nodes than may be opened, so many
+abbrev pub AnswersPlan : Command → Problem → Answer → Type 0
+AnswersPlan (Plan limit) p answer = Plans p answer ⊎ (HasMoreNodes p limit × (answer ≡ over limit))
+
+-- the answer to a problem: its first fault, or what the command asks for
+pub data AnswersProblem (command : Command) (p : Problem) (answer : Answer) : Type 0 where
+  is_too_many : (IsSmall p → ⊥) → Refuses (Fault TooMany) answer → AnswersProblem command p answer
+  is_bad_lun : IsSmall p → (IsProblem p → ⊥) → Refuses (Fault BadLun) answer → AnswersProblem command p answer
+  is_late : IsSmall p → IsProblem p → 2 ^ 62 ≤ horizon p → Refuses (Fault Clock) answer → AnswersProblem command p answer
+  is_planned : InLimits p → AnswersPlan command p answer → AnswersProblem command p answer
 
 -- the answer to rows that are each in order: why they tell of no device, the first that names a LUN that isn't
 -- there, or the answer to what they set up
-pub data AnswersRows (rows : List Row) (answer : Answer) : Type 0 where
-  has_no_device : (fault : ScriptFault) → TellsDevice rows (Err fault) → Refuses fault answer → AnswersRows rows answer
+pub data AnswersRows (command : Command) (rows : List Row) (answer : Answer) : Type 0 where
+  has_no_device : (fault : ScriptFault) → TellsDevice rows (Err fault) → Refuses fault answer → AnswersRows command rows answer
   has_no_lun : (device : Device) (at : ℕ) → TellsDevice rows (Ok device) → position (names_absent device.luns) rows ≡ Some at
-      → answer ≡ refused (record { row = at + 1; fault = OutOfRange }) → AnswersRows rows answer
+      → answer ≡ refused (record { row = at + 1; fault = OutOfRange }) → AnswersRows command rows answer
   has_problem : (device : Device) (p : Problem) → TellsDevice rows (Ok device) → position (names_absent device.luns) rows ≡ None → SetsUp rows device p
-      → AnswersProblem p answer → AnswersRows rows answer
+      → AnswersProblem command p answer → AnswersRows command rows answer
 
 -- the answer to records: their first refused row, or the answer to all
 abbrev pub AnswersRecords : Command → List Record → Answer → Type 0
-AnswersRecords command records answer = MatchResult (rows_of command records) (λ rows. AnswersRows rows answer) (λ refusal. answer ≡ refused refusal)
+AnswersRecords command records answer = MatchResult (rows_of command records) (λ rows. AnswersRows command rows answer) (λ refusal. answer ≡ refused refusal)
 
 -- the answers to an input: the one to the records that its script reads as, or that memory ran out
 abbrev pub IsAnswer : Command → List ℕ → Answer → Type 0

@@ -1,5 +1,5 @@
 -- The device of a script: how many LUNs it has, what may be grouped, and its phase lengths.
-use Rattle.std.specs.Prelude.{◌≡◌, ℕ, ◌<◌, ◌≤◌, ◌||◌, Bool, true, false, IsTrue, List, [], length, Option, Some, None, is_none, option_and_then, IsSomeAnd, Result, Ok, Err, MatchResult, MatchBool}
+use Rattle.std.specs.Prelude.{◌≡◌, ℕ, ◌<◌, ◌≤◌, ◌||◌, Bool, true, false, IsTrue, List, [], length, Option, Some, None, is_none, option_and_then, IsSomeAnd, Result, Err, MatchResult, MatchBool}
 use Rattle.std.specs.List.{flat_map, list_any}
 use Rattle.onfi_param.specs.declared.fault.PageFault.TheVariants.{Short, NoCopy}
 use Rattle.onfi_param.specs.Copies.{IsPageCopy, IsFirstCopy, copy_at}

@@ -11,7 +11,7 @@ pub mod Device
 pub mod Setup
 pub mod SetupOf
 pub mod Text
+pub mod Limit
 pub mod Answer
 pub mod AnswerOf
-pub mod Single
 pub mod Words

@@ -1,5 +1,5 @@
 -- The rows of a script, read from the top, or the first that is refused.
-use Rattle.std.specs.Prelude.{ℕ, ◌+◌, ◌&&◌, if◌then◌else◌, Bool, true, false, List, [], ◌∷◌, ◌++◌, length, Option, Some, None, Result, Ok, Err}
+use Rattle.std.specs.Prelude.{ℕ, ◌+◌, ◌&&◌, if◌then◌else◌, Bool, false, List, [], ◌∷◌, ◌++◌, length, Option, Some, None, Result, Ok, Err}
 use Rattle.std.specs.List.{list_any}
 use Rattle.onfi_sim.specs.declared.command.Command.{Command}
 use Rattle.onfi_sim.specs.declared.fault.ScriptFault.{ScriptFault}

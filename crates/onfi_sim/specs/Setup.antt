@@ -1,5 +1,5 @@
 -- What the rows of a script set up on its device.
-use Rattle.std.specs.Prelude.{◌≡◌, ℕ, zero, suc, ◌+◌, ◌%◌, ◌^◌, nat_lt, not, Bool, true, false, List, [], ◌∷◌, ◌++◌, map, Option, Some, None}
+use Rattle.std.specs.Prelude.{◌≡◌, ℕ, zero, suc, ◌+◌, ◌%◌, ◌^◌, nat_lt, not, Bool, false, List, [], ◌∷◌, ◌++◌, map, Option, Some, None}
 use Rattle.onfi_request.specs.declared.want.Want.{Want as WantOf}
 use Rattle.onfi_problem.specs.declared.lun_state.LunState.{LunState}
 use Rattle.onfi_problem.specs.declared.lun_state.LunState.TheVariants as state

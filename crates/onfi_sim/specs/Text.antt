@@ -1,5 +1,5 @@
 -- The texts that are written.
-use Rattle.std.specs.Prelude.{ℕ, ◌+◌, ◌++◌, if◌then◌else◌, Bool, List, [], ◌∷◌, codes}
+use Rattle.std.specs.Prelude.{ℕ, ◌+◌, ◌++◌, List, [], ◌∷◌, codes}
 use Rattle.std.specs.List.{flat_map}
 use Rattle.std.specs.Fmt.{decimal}
 use Rattle.onfi_request.specs.declared.want.Want.{Want}
@@ -13,6 +13,8 @@ use Rattle.onfi_problem.specs.declared.fault.ProblemFault.{ProblemFault}
 use Rattle.onfi_problem.specs.declared.fault.ProblemFault.TheVariants.{TooMany, BadLun, Clock, Memory}
 use Rattle.onfi_problem.specs.Problem.{Problem as ProblemOf}
 use Rattle.onfi_schedule.specs.Schedule.{Placed, Schedule}
+use Rattle.onfi_cert.specs.declared.token.Token.{Token}
+use Rattle.onfi_cert.specs.Text.{text_of}
 use Rattle.onfi_sim.specs.declared.fault.ScriptFault.{ScriptFault}
 use Rattle.onfi_sim.specs.declared.fault.ScriptFault.TheVariants.{NoEnd, UnknownRow, FieldCount, NotANumber, OutOfRange, Repeated, Missing, Hex, Page, Geometry, Sheet, Problem, NotHere}
 use Rattle.onfi_sim.specs.declared.fault.Refusal.{Refusal}
@@ -99,15 +101,14 @@ unfoldable pub rest_lines : ℕ → List (List ℕ) → List ℕ
 rest_lines lun [] = []
 rest_lines lun (starts ∷ rest) = rest_line lun starts ++ rest_lines (lun + 1) rest
 
--- the header of a certificate, which names the option strict
-abbrev pub header : Bool → List ℕ
-header strict = if strict then codes "ONFICERT 2 strict\n" else codes "ONFICERT 1\n"
+-- the lines of a schedule that ends at `ends`
+abbrev pub schedule_text : Schedule → ℕ → List ℕ
+schedule_text s ends = codes "ONFIPLAN 1\n" ++ (codes "finish " ++ decimal ends) ++ codes "\n" ++ rest_lines 0 s.rest ++ flat_map group_line s.groups
 
--- a schedule that ends at `ends`, and a certificate of these tokens behind it
-abbrev pub schedule_text : Schedule → ℕ → Bool → List ℕ → List ℕ
-schedule_text s ends strict tokens =
-    codes "ONFIPLAN 1\n" ++ (codes "finish " ++ decimal ends) ++ codes "\n" ++ rest_lines 0 s.rest ++ flat_map group_line s.groups ++ header strict ++ tokens ++ codes "\n"
+-- the answer that plans a problem: the schedule, and behind it the certificate of these tokens, which names the option strict
+abbrev pub planned : ProblemOf → Schedule → ℕ → List Token → Answer
+planned p s ends tokens = record { text = schedule_text s ends ++ text_of p.rules.strict tokens; status = 0 }
 
--- the answer that plans a problem
-abbrev pub planned : ProblemOf → Schedule → ℕ → List ℕ → Answer
-planned p s ends tokens = record { text = schedule_text s ends p.rules.strict tokens; status = 0 }
+-- the answer where so many nodes were opened, and the search is not over
+abbrev pub over : ℕ → Answer
+over opened = record { text = codes "over " ++ (decimal opened ++ codes "\n"); status = 6 }

@@ -3,42 +3,66 @@ ghost use Rattle.std.specs.Prelude.{◌≡◌, ◌≤◌, ℕ, take, length, map
 ghost use Rattle.std.specs.Io.KnownBytes.{Appends, Keeps};
 ghost use Rattle.csv.specs.Records.{fields_of};
 ghost use Rattle.onfi_problem.specs.Left.{InLimits};
-ghost use Rattle.onfi_sim.specs.Answer.{Plans, Refuses, AnswersProblem, AnswersRows, AnswersRecords, IsAnswer, Answers, BeginsAnswer, is_single};
+ghost use Rattle.onfi_sim.specs.Text.{planned as spec_planned};
+ghost use Rattle.onfi_sim.specs.Answer.{AnswersPlan, Refuses, AnswersProblem, AnswersRows, AnswersRecords, IsAnswer, Answers, BeginsAnswer};
 ghost use Rattle.onfi_sim.specs.AnswerOf.{answer_of};
 ghost use Rattle.onfi_sim.specs.Device.{TellsDevice};
+ghost use Rattle.onfi_sim.specs.Limit.{IsLimited};
 ghost use Rattle.onfi_sim.specs.SetupOf.{problem_of};
 
 use crate::command::Command;
 use crate::device::Device;
 use crate::fault::{Refusal, RowStop, ScriptFault, Stop};
 use crate::forms::device_of;
-use crate::plan::{is_single, plan};
 use crate::row::Row;
 use crate::rows::rows;
 use crate::script::{records, script_len};
 use crate::setup::{Setup, absent, set_up};
-use crate::text::{Answer, plan_text, refused};
+use crate::text::{Answer, over, plan_text, refused};
 use crate::transfer::{EngineFault, InputFault, read_all, write_text};
 use csv::ByteRecord;
+use onfi_cert::write;
+use onfi_planner::{PlanFault, Planned, plan};
 use onfi_problem::{Problem, ProblemFault};
 use std::alloc::{AllocError, Global};
 use std::io::{Read, Write};
 
-/// The answer that plans a problem.
-fn planned(alloc: Global, setup: &Setup) -> Result<Answer, AllocError>
-    requires limits { InLimits (problem_of setup.now) }
-    requires single { IsTrue (is_single (problem_of setup.now)) }
-    ensures { IfOk result (λ a. Plans (problem_of setup.now) (answer_of a)) }
+/// The text of a plan, with its certificate behind it.
+fn plan_answer(alloc: Global, problem: &Problem, planned: &Planned) -> Result<Answer, AllocError>
+    ensures { IfOk result (λ a. answer_of a ≡ spec_planned problem.now.problem planned.now.schedule planned.now.finish planned.now.cert.items) }
 {
-    let planned = plan(alloc, setup)?;
+    let Ok(certificate) = write(alloc, problem.rules().strict, planned.cert.as_slice()) else {
+        return Err(AllocError);
+    };
     let text = plan_text(
         alloc,
         &planned.schedule,
         planned.finish,
-        setup.rules.strict,
-        planned.tokens,
+        certificate.as_slice(),
     )?;
     Ok(Answer { text, status: 0 })
+}
+
+/// The answer that plans a problem with a search of at most so many nodes.
+fn planned(alloc: Global, problem: &Problem, limit: u32) -> Result<Answer, AllocError>
+    requires some { 1 ≤ limit }
+    requires few { limit ≤ 1048576 }
+    ensures { IfOk result (λ a. AnswersPlan (Command.Plan limit) problem.now.problem (answer_of a)) }
+{
+    match plan(alloc, problem, limit) {
+        Ok(planned) => plan_answer(alloc, problem, &planned),
+        Err(PlanFault::Over { opened }) => over(alloc, opened),
+        Err(PlanFault::Memory) => Err(AllocError),
+    }
+}
+
+/// What the command asks for.
+fn commanded(alloc: Global, command: Command, problem: &Problem) -> Result<Answer, AllocError>
+    requires limit { IsLimited command }
+    ensures { IfOk result (λ a. AnswersPlan command problem.now.problem (answer_of a)) }
+{
+    let Command::Plan { limit } = command;
+    planned(alloc, problem, limit)
 }
 
 /// Times of a problem that was made end below 2^62 ns.
@@ -63,8 +87,9 @@ fn refused_problem(alloc: Global, fault: ProblemFault) -> Result<Answer, AllocEr
 }
 
 /// The answer to what a script sets up.
-fn answer_problem(alloc: Global, setup: &Setup) -> Result<Answer, AllocError>
-    ensures { IfOk result (λ a. AnswersProblem (problem_of setup.now) (answer_of a)) }
+fn answer_problem(alloc: Global, command: Command, setup: &Setup) -> Result<Answer, AllocError>
+    requires limit { IsLimited command }
+    ensures { IfOk result (λ a. AnswersProblem command (problem_of setup.now) (answer_of a)) }
 {
     let problem = Problem::new(
         alloc,
@@ -77,11 +102,7 @@ fn answer_problem(alloc: Global, setup: &Setup) -> Result<Answer, AllocError>
     match problem {
         Ok(problem) => {
             keeps_limits(&problem);
-            if is_single(setup) {
-                planned(alloc, setup)
-            } else {
-                refused_problem(alloc, ProblemFault::TooMany)
-            }
+            commanded(alloc, command, &problem)
         }
         Err(ProblemFault::TooMany) => refused_problem(alloc, ProblemFault::TooMany),
         Err(ProblemFault::BadLun) => refused_problem(alloc, ProblemFault::BadLun),
@@ -91,9 +112,15 @@ fn answer_problem(alloc: Global, setup: &Setup) -> Result<Answer, AllocError>
 }
 
 /// The answer to rows that are each in order, and that tell of this device.
-fn answer_device(alloc: Global, rows: &[Row], device: &Device) -> Result<Answer, AllocError>
-    requires { TellsDevice rows.now (Ok device.now) }
-    ensures { IfOk result (λ a. AnswersRows rows.now (answer_of a)) }
+fn answer_device(
+    alloc: Global,
+    command: Command,
+    rows: &[Row],
+    device: &Device,
+) -> Result<Answer, AllocError>
+    requires limit { IsLimited command }
+    requires told { TellsDevice rows.now (Ok device.now) }
+    ensures { IfOk result (λ a. AnswersRows command rows.now (answer_of a)) }
 {
     if let Some(at) = absent(rows, device.luns) {
         return refused(
@@ -105,15 +132,16 @@ fn answer_device(alloc: Global, rows: &[Row], device: &Device) -> Result<Answer,
         );
     }
     let setup = set_up(alloc, rows, device)?;
-    answer_problem(alloc, &setup)
+    answer_problem(alloc, command, &setup)
 }
 
 /// The answer to rows that are each in order.
-fn answer_rows(alloc: Global, rows: &[Row]) -> Result<Answer, AllocError>
-    ensures { IfOk result (λ a. AnswersRows rows.now (answer_of a)) }
+fn answer_rows(alloc: Global, command: Command, rows: &[Row]) -> Result<Answer, AllocError>
+    requires limit { IsLimited command }
+    ensures { IfOk result (λ a. AnswersRows command rows.now (answer_of a)) }
 {
     match device_of(alloc, rows) {
-        Ok(device) => answer_device(alloc, rows, &device),
+        Ok(device) => answer_device(alloc, command, rows, &device),
         Err(RowStop::Fault(fault)) => refused_whole(alloc, fault),
         Err(RowStop::Memory) => Err(AllocError),
     }
@@ -125,10 +153,11 @@ fn answer_records(
     command: Command,
     records: &[ByteRecord],
 ) -> Result<Answer, AllocError>
+    requires limit { IsLimited command }
     ensures { IfOk result (λ a. AnswersRecords command (map fields_of records.now) (answer_of a)) }
 {
     match rows(alloc, command, records) {
-        Ok(rows) => answer_rows(alloc, rows.as_slice()),
+        Ok(rows) => answer_rows(alloc, command, rows.as_slice()),
         Err(Stop::Refused(refusal)) => refused(alloc, refusal),
         Err(Stop::Memory) => Err(AllocError),
     }
@@ -136,6 +165,7 @@ fn answer_records(
 
 /// The answer to an input.
 fn answer(alloc: Global, command: Command, input: &[u8]) -> Result<Answer, AllocError>
+    requires limit { IsLimited command }
     ensures { IfOk result (λ a. IsAnswer command input.now (answer_of a)) }
 {
     let Some(size) = script_len(input) else {
@@ -158,7 +188,8 @@ fn tell<W: Write>(writer: &mut W, text: &[u8], status: u8) -> Result<u8, EngineF
 
 /// Reads all that there is, and writes the answer to it and nothing else.
 ///
-/// Answers the exit status of the program: 0 for a plan, 1 where the script is refused, 4 for want of memory.
+/// Answers the exit status of the program: 0 for a plan, 1 where the script is refused, 4 for want
+/// of memory, 6 where as many nodes were opened as may be and the search is not over.
 ///
 /// # Errors
 /// `Read` where a read failed or 2^40 reads did not come to the end: nothing was written. `Write` where a write
@@ -169,6 +200,7 @@ pub fn engine<R: Read, W: Write>(
     reader: &mut R,
     writer: &mut W,
 ) -> Result<u8, EngineFault>
+    requires limit { IsLimited command }
     ensures answer { IfOk result (λ status. Answers command (R.remaining reader.old) (W.contents writer.old) (W.contents writer.new) status) }
     ensures unread { result ≡ Err EngineFault.Read → Keeps (W.contents writer.old) (W.contents writer.new) }
     ensures unwritten { result ≡ Err EngineFault.Write → BeginsAnswer command (R.remaining reader.old) (W.contents writer.old) (W.contents writer.new) }
@@ -179,7 +211,7 @@ pub fn engine<R: Read, W: Write>(
         Err(InputFault::Memory) => return tell(writer, b"memory\n", 4),
     };
     match answer(alloc, command, input.as_slice()) {
-        Ok(answer) => tell(writer, answer.text.as_bytes(), answer.status),
+        Ok(answer) => tell(writer, answer.text.as_slice(), answer.status),
         Err(AllocError) => tell(writer, b"memory\n", 4),
     }
 }

@@ -7,7 +7,6 @@ mod engine;
 mod fault;
 mod field;
 mod forms;
-mod plan;
 mod row;
 mod row_name;
 mod rows;
@@ -20,6 +19,9 @@ mod text;
 mod transfer;
 mod words;
 
+ghost use Rattle.std.specs.Prelude.{IfOk};
+ghost use Rattle.onfi_sim.specs.Limit.{IsLimited};
+
 use crate::command::Command;
 use crate::engine::engine;
 use crate::transfer::EngineFault;
@@ -27,7 +29,9 @@ use crate::words::{WordsFault, words};
 use std::io;
 use std::process::ExitCode;
 
-fn asked(rt: &(impl std::rt::Env + AllocGlobal)) -> Result<Command, WordsFault> {
+fn asked(rt: &(impl std::rt::Env + AllocGlobal)) -> Result<Command, WordsFault>
+    ensures { IfOk result (λ command. IsLimited command) }
+{
     let Ok(args) = std::env::args(rt) else {
         return Err(WordsFault::Refused);
     };

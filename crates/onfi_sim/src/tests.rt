@@ -1,3 +1,6 @@
+ghost use Rattle.std.specs.Prelude.{◌≤◌};
+ghost use Rattle.onfi_sim.specs.Limit.{IsLimited};
+
 use crate::command::Command;
 use crate::engine::engine;
 use crate::transfer::EngineFault;
@@ -19,7 +22,33 @@ const SHEET: &str =
 
 const ONE_READ: &str = "ONFIPLAN 1\nfinish 36240\ngroup 0 0 25240\nONFICERT 1\nL\n";
 
-const PLAN: Command = Command::Plan { limit: 1_048_576 };
+// The base script with a read whose gap is as long as one wants.
+const LONG_GAP: &str =
+    "shape,2,1,1,1\nspans,read,140,30100,25100,11000\nspans,program,10800,600,200100,280\nspans,erase,100,600,1500100,280\n";
+
+const READS_ONLY: &str =
+    "shape,2,1,1,0\nspans,read,140,600,25100,11000\nspans,program,10800,600,200100,280\nspans,erase,100,600,1500100,280\n";
+
+const TWO_RUNNING: &str = "running,0,1,0,read,0,0\nrunning,1,1,50,erase,0,0\nwant,erase,1,1,0\n";
+
+const NINE_READS: &str =
+    "want,read,0,0,0\nwant,read,0,2,0\nwant,read,0,4,0\nwant,read,0,6,0\nwant,read,0,8,0\nwant,read,0,10,0\nwant,read,0,12,0\nwant,read,0,14,0\nwant,read,0,16,0\n";
+
+const TWO_PROGRAMS: &str = "want,program,0,0,0\nwant,program,0,1,0\n";
+
+fn plan_within(limit: u32) -> Command
+    requires low { 1 ≤ limit }
+    requires high { limit ≤ 1048576 }
+    ensures { IsLimited result }
+{
+    Command::Plan { limit }
+}
+
+fn plan() -> Command
+    ensures { IsLimited result }
+{
+    plan_within(1_048_576)
+}
 
 // Gives its text two bytes at a time; its call number `bad`, from 0, fails.
 #[derive(Drop)]
@@ -69,11 +98,28 @@ impl Write for Choppy {
     }
 }
 
-fn told(alloc: Global, input: &[u8], text: &str, status: u8) -> bool {
+fn answered(alloc: Global, command: Command, input: &[u8], text: &str, status: u8) -> bool
+    requires { IsLimited command }
+{
     let mut reader = input;
     let mut out = Vec::new(alloc);
-    match engine(alloc, PLAN, &mut reader, &mut out) {
+    match engine(alloc, command, &mut reader, &mut out) {
         Ok(got) => got == status && out.as_slice() == text.as_bytes(),
+        Err(_) => false,
+    }
+}
+
+fn told(alloc: Global, input: &[u8], text: &str, status: u8) -> bool {
+    answered(alloc, plan(), input, text, status)
+}
+
+// The answer of a search that may open so many nodes.
+fn limited(alloc: Global, limit: u32, base: &str, rows: &str, text: &str, status: u8) -> bool
+    requires low { 1 ≤ limit }
+    requires high { limit ≤ 1048576 }
+{
+    match format!(in alloc; "{base}{rows}end\n") {
+        Ok(input) => answered(alloc, plan_within(limit), input.as_bytes(), text, status),
         Err(_) => false,
     }
 }
@@ -148,6 +194,106 @@ fn plans_at_most_one_want(rt: HostRuntime) {
             BASE,
             "strict,1\nwant,read,0,0,0\n",
             "ONFIPLAN 1\nfinish 36240\ngroup 0 0 25240\nONFICERT 2 strict\nL\n",
+            0
+        )
+    );
+}
+
+#[test]
+fn plans_reads_and_programs_on_two_luns(rt: HostRuntime) {
+    let alloc = rt.alloc();
+    assert!(rt;
+        told_behind(
+            alloc,
+            BASE,
+            "want,read,0,0,0\nwant,read,1,0,0\n",
+            "ONFIPLAN 1\nfinish 47240\ngroup 0 0 25240\ngroup 1 140 36240\nONFICERT 1\nL\n",
+            0
+        )
+    );
+    assert!(rt;
+        told_behind(
+            alloc,
+            BASE,
+            "want,program,0,0,0\nwant,program,1,0,0\n",
+            "ONFIPLAN 1\nfinish 221980\ngroup 0 0 210900\ngroup 1 10800 221700\nONFICERT 1\nT\n",
+            0
+        )
+    );
+}
+
+#[test]
+fn groups_where_that_ends_first(rt: HostRuntime) {
+    let alloc = rt.alloc();
+    assert!(rt;
+        told_behind(
+            alloc,
+            BASE,
+            "want,read,0,0,0\nwant,read,0,1,0\n",
+            "ONFIPLAN 1\nfinish 47980\ngroup 0+1 0 740 25980 36980\nONFICERT 1\nD0\n",
+            0
+        )
+    );
+    let apart = "ONFIPLAN 1\nfinish 72480\ngroup 0 0 25240\ngroup 1 36240 61480\nONFICERT 1\nD0\n";
+    let two = "want,read,0,0,0\nwant,read,0,1,0\n";
+    assert!(rt; limited(alloc, 6, LONG_GAP, two, "over 6\n", 6));
+    assert!(rt; limited(alloc, 7, LONG_GAP, two, apart, 0));
+    assert!(rt; told_behind(alloc, BASE, "want,read,0,0,0\nwant,read,0,1,1\n", apart, 0));
+}
+
+#[test]
+fn keeps_the_order_on_a_block(rt: HostRuntime) {
+    assert!(rt;
+        told_behind(
+            rt.alloc(),
+            BASE,
+            "want,program,0,0,0\nwant,read,0,0,0\n",
+            "ONFIPLAN 1\nfinish 247420\ngroup 0 0 210900\ngroup 1 211180 236420\nONFICERT 1\nD0\n",
+            0
+        )
+    );
+}
+
+#[test]
+fn waits_for_a_status_before_it_reads(rt: HostRuntime) {
+    let alloc = rt.alloc();
+    let plan =
+        "ONFIPLAN 1\nfinish 1500810\nrest 0 430\nrest 1 50\ngroup 0 330 1500530\nONFICERT 1\nD1\n";
+    assert!(rt; limited(alloc, 6, BASE, TWO_RUNNING, "over 6\n", 6));
+    assert!(rt; limited(alloc, 7, BASE, TWO_RUNNING, plan, 0));
+    assert!(rt;
+        told_behind(
+            alloc,
+            BASE,
+            "running,0,1,1000,erase,0,0\nwant,read,1,0,0\n",
+            "ONFIPLAN 1\nfinish 36240\nrest 0 1000\ngroup 0 0 25240\nONFICERT 1\nT\n",
+            0
+        )
+    );
+}
+
+#[test]
+fn tells_why_no_other_order_ends_first(rt: HostRuntime) {
+    let alloc = rt.alloc();
+    assert!(rt;
+        told_behind(
+            alloc,
+            BASE,
+            TWO_PROGRAMS,
+            "ONFIPLAN 1\nfinish 222860\ngroup 0+1 0 11400 222300 222580\nONFICERT 1\nD0\n",
+            0
+        )
+    );
+    let apart =
+        "ONFIPLAN 1\nfinish 422360\ngroup 0 0 210900\ngroup 1 211180 422080\nONFICERT 1\nB2 D0 D0\n";
+    assert!(rt; limited(alloc, 2, READS_ONLY, TWO_PROGRAMS, "over 2\n", 6));
+    assert!(rt; limited(alloc, 3, READS_ONLY, TWO_PROGRAMS, apart, 0));
+    assert!(rt;
+        told_behind(
+            alloc,
+            READS_ONLY,
+            "want,program,0,0,0\nwant,program,0,1,0\nrunning,1,1,100000,erase,0,0\n",
+            "ONFIPLAN 1\nfinish 422360\nrest 1 100000\ngroup 0 0 210900\ngroup 1 211180 422080\nONFICERT 1\nB3 D0 D0 Y0\n",
             0
         )
     );
@@ -349,10 +495,10 @@ fn asked(alloc: Global, line: &str) -> Option<Result<Command, WordsFault>> {
 #[test]
 fn reads_the_command_line(rt: HostRuntime) {
     let alloc = rt.alloc();
-    assert_eq!(rt; asked(alloc, "onfi_sim plan"), Some(Ok(PLAN)));
+    assert_eq!(rt; asked(alloc, "onfi_sim plan"), Some(Ok(plan())));
     assert_eq!(rt;
         asked(alloc, "onfi_sim plan --limit 7"),
-        Some(Ok(Command::Plan { limit: 7 }))
+        Some(Ok(plan_within(7)))
     );
     for line in [
         "onfi_sim",
@@ -379,7 +525,7 @@ fn a_read_fails(rt: HostRuntime) -> Result<(), Fail> {
             bad,
         };
         let mut out = Vec::new(rt.alloc());
-        let got = engine(rt.alloc(), PLAN, &mut reader, &mut out);
+        let got = engine(rt.alloc(), plan(), &mut reader, &mut out);
         assert!(rt; matches!(&got, Err(EngineFault::Read)), "at {bad}");
         assert!(rt; out.is_empty());
     }
@@ -396,7 +542,7 @@ fn a_write_fails(rt: HostRuntime) -> Result<(), Fail> {
             calls: 0,
             bad,
         };
-        let got = engine(rt.alloc(), PLAN, &mut reader, &mut out);
+        let got = engine(rt.alloc(), plan(), &mut reader, &mut out);
         assert!(rt; matches!(&got, Err(EngineFault::Write)), "at {bad}");
         assert!(rt; whole.starts_with(out.got.as_slice()));
     }

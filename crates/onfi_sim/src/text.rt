@@ -3,6 +3,7 @@ ghost use Rattle.std.specs.Prelude.{◌≡◌, ◌++◌, codes, string_bytes, If
 ghost use Rattle.std.specs.Fmt.{decimal};
 ghost use Rattle.std.specs.List.{flat_map};
 ghost use Rattle.onfi_sim.specs.Text as spec;
+ghost use Rattle.onfi_sim.specs.AnswerOf.{answer_of};
 
 use crate::fault::Refusal;
 use onfi_request::Want;
@@ -12,18 +13,32 @@ use std::alloc::{AllocError, Global};
 /// The text that is written, and the status that the program ends with.
 #[derive(Drop)]
 pub struct Answer {
-    pub text: String,
+    pub text: Vec<u8>,
     pub status: u8,
 }
 
 /// The line that refuses a script.
 pub fn refused(alloc: Global, refusal: Refusal) -> Result<Answer, AllocError>
-    ensures { IfOk result (λ a. record { text = string_bytes a.text; status = a.status } ≡ spec.refused refusal) }
+    ensures { IfOk result (λ a. answer_of a ≡ spec.refused refusal) }
 {
     let row = refusal.row;
     let name = refusal.fault.name();
     let text = format!(in alloc; "script refused {row} {name}\n")?;
-    Ok(Answer { text, status: 1 })
+    Ok(Answer {
+        text: text.into_bytes(),
+        status: 1,
+    })
+}
+
+/// The line of a search that opened as many nodes as it may, and is not over.
+pub fn over(alloc: Global, opened: u32) -> Result<Answer, AllocError>
+    ensures { IfOk result (λ a. answer_of a ≡ spec.over opened) }
+{
+    let text = format!(in alloc; "over {opened}\n")?;
+    Ok(Answer {
+        text: text.into_bytes(),
+        status: 6,
+    })
 }
 
 /// Puts a mark and a number behind a text.
@@ -107,26 +122,9 @@ fn put_rests(alloc: Global, text: &mut String, rest: &[Starts]) -> Result<(), Al
     Ok(())
 }
 
-/// The header of a certificate.
-fn header(strict: bool) -> &'static str
-    ensures { result.now ≡ spec.header strict }
-{
-    if strict {
-        "ONFICERT 2 strict\n"
-    } else {
-        "ONFICERT 1\n"
-    }
-}
-
-/// The text of a schedule that ends at `finish`, with a certificate of these tokens behind it.
-pub fn plan_text(
-    alloc: Global,
-    schedule: &Schedule,
-    finish: u64,
-    strict: bool,
-    tokens: &str,
-) -> Result<String, AllocError>
-    ensures { IfOk result (λ t. string_bytes t ≡ spec.schedule_text schedule.now finish strict tokens.now) }
+/// The lines of a schedule that ends at `finish`, in ns.
+fn schedule_text(alloc: Global, schedule: &Schedule, finish: u64) -> Result<String, AllocError>
+    ensures { IfOk result (λ t. string_bytes t ≡ spec.schedule_text schedule.now finish) }
 {
     let mut text = String::new(alloc);
     text.push_str("ONFIPLAN 1\n")?;
@@ -134,8 +132,19 @@ pub fn plan_text(
     text.push_str("\n")?;
     put_rests(alloc, &mut text, schedule.rest())?;
     put_groups(alloc, &mut text, schedule.groups())?;
-    text.push_str(header(strict))?;
-    text.push_str(tokens)?;
-    text.push_str("\n")?;
+    Ok(text)
+}
+
+/// The text of a schedule that ends at `finish`, in ns, with the text of its certificate behind it.
+pub fn plan_text(
+    alloc: Global,
+    schedule: &Schedule,
+    finish: u64,
+    certificate: &[u8],
+) -> Result<Vec<u8>, AllocError>
+    ensures { IfOk result (λ text. text.items ≡ spec.schedule_text schedule.now finish ++ certificate.now) }
+{
+    let mut text = schedule_text(alloc, schedule, finish)?.into_bytes();
+    text.extend_from_slice(certificate)?;
     Ok(text)
 }

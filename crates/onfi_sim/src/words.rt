@@ -1,7 +1,8 @@
 //! The command line.
-ghost use Rattle.std.specs.Prelude.{◌≡◌, IfOk, map, string_bytes, codes};
+ghost use Rattle.std.specs.Prelude.{◌≡◌, ◌≤◌, IfOk, map, string_bytes, codes};
 ghost use Rattle.clap.specs.Words.{app_of, first_value, found_of, subcommand_of, subcommand_rows_of};
 ghost use Rattle.onfi_sim.specs.Words as spec;
+ghost use Rattle.onfi_sim.specs.Limit.{IsLimited};
 
 use crate::command::Command;
 use crate::field::number;
@@ -35,7 +36,8 @@ fn app<'a>(alloc: Global) -> Result<App<'a>, AllocError>
 
 /// A limit in its range, or the greatest where none is named.
 fn limit_of(matches: &ArgMatches<'_>) -> Result<u32, WordsFault>
-    ensures { IfOk result (λ n. spec.IsLimit (first_value (found_of matches.now) (codes "limit")) n) }
+    ensures range { IfOk result (λ n. (1 ≤ n) × (n ≤ 1048576)) }
+    ensures value { IfOk result (λ n. spec.IsLimit (first_value (found_of matches.now) (codes "limit")) n) }
 {
     let Some(text) = matches.get_str("limit") else {
         return Ok(MOST);
@@ -69,7 +71,8 @@ fn matches_of<'a>(alloc: Global, words: &'a [String]) -> Result<ArgMatches<'a>, 
 /// `Refused` where the words are no command line of the program, a call for help included; `Memory` where a growth
 /// was refused.
 pub fn words<'a>(alloc: Global, words: &'a [String]) -> Result<Command, WordsFault>
-    ensures { IfOk result (λ command. spec.Name (map string_bytes words.entry.now) command) }
+    ensures limit { IfOk result (λ command. IsLimited command) }
+    ensures names { IfOk result (λ command. spec.Name (map string_bytes words.entry.now) command) }
 {
     let matches = matches_of(alloc, words)?;
     let Some((name, used)) = matches.subcommand() else {

@@ -8,4 +8,5 @@ returns-in-Err-Fault c =
     let rows = c.args.rows.now in
     let fault = c.in-Err-Fault.fault in
     let none = rw c.in-Err-Fault.field-0-is at c.in-Err-Fault.ensures in
-    IfOk-weaker c.refused_whole.result (λ a. Refuses fault (answer_of a)) (λ a. AnswersRows rows (answer_of a)) (λ a h. has_no_device fault none h) c.refused_whole.ensures
+    let refused = rw c.in-Err-Fault.field-0-is at c.refused_whole.ensures in
+    IfOk-weaker c.refused_whole.result (λ a. Refuses fault (answer_of a)) (λ a. AnswersRows c.args.command rows (answer_of a)) (λ a h. has_no_device fault none h) refused

@@ -1,4 +1,4 @@
-use Rattle.std.proofs.Common.{◌≡◌, ◌≤◌, ◌+◌, ◌++◌, length, drop, Ok}
+use Rattle.std.proofs.Common.{◌≡◌, ◌+◌, ◌++◌, length, drop, Ok}
 use Rattle.csv.specs.Records.{fields_of}
 use Rattle.onfi_sim.specs.Field.{given}
 use Rattle.onfi_sim.specs.Row.{blocks_of}

@@ -1,10 +1,7 @@
-use Rattle.std.proofs.Common.{◌≡◌, ℕ, ◌+◌, ◌++◌, [], ◌∷◌, List, map, get_or, length, length-append, sym, subst, arith, rules, true, Ok, Err}
+use Rattle.std.proofs.Common.{◌≡◌, [], ◌∷◌, map, get_or, length-append, subst, arith, rules, true, Ok, Err}
 use Rattle.std.specs.Result.{is_ok}
 use Rattle.csv.specs.Records.{fields_of}
-use Rattle.onfi_sim.specs.declared.row.Row.{Row}
 use Rattle.onfi_sim.specs.declared.seen.Seen.{Seen}
-use Rattle.onfi_sim.specs.Row.{Record}
-use Rattle.onfi_sim.specs.Seen.{seen}
 use Rattle.onfi_sim.specs.Stop.{IfFault}
 use Rattle.onfi_sim.specs.Rows.{rows_of, row_of}
 use Rattle.onfi_sim.proofs.RowsLemmas.{rows_passed, rows_stop, rows_ended, seen_more}

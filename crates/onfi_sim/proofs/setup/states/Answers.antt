@@ -1,4 +1,4 @@
-use Rattle.std.proofs.Common.{◌∙◌, sym}
+use Rattle.std.proofs.Common.{◌∙◌}
 use Rattle.onfi_sim.proofs.SetupLemmas.{states_begun, states_more}
 use Rattle.onfi_sim.proofs.setup.states.Goals as goal
 

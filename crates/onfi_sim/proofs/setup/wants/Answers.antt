@@ -1,6 +1,6 @@
-use Rattle.std.proofs.Common.{◌≡◌, ◌++◌, [], ◌∷◌, length, get_or, sym, ap, ◌∙◌, Some, None}
+use Rattle.std.proofs.Common.{◌≡◌, length, get_or, sym, ap, ◌∙◌}
 use Rattle.onfi_sim.specs.Setup.{want_in}
-use Rattle.onfi_sim.proofs.SetupLemmas.{Counted, wants_kept, wants_more, wants_ended}
+use Rattle.onfi_sim.proofs.SetupLemmas.{wants_kept, wants_more, wants_ended}
 use Rattle.onfi_sim.proofs.setup.wants.Goals as goal
 use Rattle.onfi_sim.proofs.setup.wants.Goals.{in-Some+in_ok-push, in_default}
 

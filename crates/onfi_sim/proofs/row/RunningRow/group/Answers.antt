@@ -1,4 +1,4 @@
-use Rattle.std.proofs.Common.{◌≡◌, ◌+◌, ◌++◌, [], ◌∷◌, ℕ, map, take, get_or, length, sym, ap, ◌∙◌, refl, arith, rules, length-append}
+use Rattle.std.proofs.Common.{◌≡◌, map, get_or, length, ap, ◌∙◌, arith, length-append}
 use Rattle.std.proofs.lemmas.List.{take_all}
 use Rattle.onfi_sim.specs.Setup.{member}
 use Rattle.onfi_sim.proofs.SetupLemmas.{member_is, members_more}

@@ -1,0 +1,7 @@
+-- How many nodes a search may open.
+use Rattle.std.specs.Prelude.{◌≤◌}
+use Rattle.onfi_sim.specs.declared.command.Command.{Command}
+use Rattle.onfi_sim.specs.declared.command.Command.TheVariants.{Plan}
+
+abbrev pub IsLimited : Command → Type 0
+IsLimited (Plan limit) = (1 ≤ limit) × (limit ≤ 1048576)
