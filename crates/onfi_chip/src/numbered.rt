@@ -12,7 +12,8 @@ pub struct Numbered {
 impl Numbered {
     /// No call yet.
     pub(crate) fn new(failing: Vec<u32>) -> Numbered
-        ensures { failed result.failing.items result.made ≡ 0 }
+        ensures none { failed result.failing.items result.made ≡ 0 }
+        ensures failing { result.failing.items ≡ failing.items }
     {
         Numbered { failing, made: 0 }
     }

@@ -22,7 +22,7 @@ pub struct SimChip {
 
 impl SimChip {
     ghost use Rattle.onfi_chip.specs.Chip.{opened};
-    ghost use Rattle.onfi_chip.specs.SimChip.{chip_in};
+    ghost use Rattle.onfi_chip.specs.SimChip.{chip_in, failing_calls, failing_statuses};
 
     /// A chip of this geometry and timing as it opens: all blocks erased, all LUNs idle. `faults` are the programs and
     /// erases that fail, `calls` the numbers, from 0, of the calls whose bus fails, `statuses` the numbers of the status
@@ -38,7 +38,9 @@ impl SimChip {
         calls: Vec<u32>,
         statuses: Vec<u32>,
     ) -> Result<SimChip, AllocError>
-        ensures { IfOk result (λ chip. chip_in chip ≡ opened geometry timing faults.items 0) }
+        ensures opened { IfOk result (λ chip. chip_in chip ≡ opened geometry timing faults.items 0) }
+        ensures calls { IfOk result (λ chip. failing_calls chip ≡ calls.items) }
+        ensures statuses { IfOk result (λ chip. failing_statuses chip ≡ statuses.items) }
     {
         Ok(SimChip {
             dies: Dies::new(alloc, geometry, timing, faults)?,

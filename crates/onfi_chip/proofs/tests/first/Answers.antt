@@ -12,4 +12,4 @@ get_replicate (suc n) (suc i) x l = get_replicate n i x (omega arith)
 pub run_one-requires-clause-idle : goal.run_one-requires-clause-idle
 run_one-requires-clause-idle g c =
     let there : 1 < c.sample_geometry-geometry.result.lun_count = omega arith in
-    ap (λ ls. slice_get ls 1) (ap (λ (x : Chip). x.luns) c.in_ok-chip.ensures) ∙ get_replicate c.sample_geometry-geometry.result.lun_count 1 Idle there
+    ap (λ ls. slice_get ls 1) (ap (λ (x : Chip). x.luns) c.in_ok-chip.ensures.opened) ∙ get_replicate c.sample_geometry-geometry.result.lun_count 1 Idle there

@@ -1,4 +1,4 @@
-use Rattle.std.proofs.Common.{◌≡◌, ℕ, false, true, zero, suc, ◌+◌, ◌≤◌, List, [], ◌∷◌, ◌++◌, Option, Some, refl, sym, ap, subst, ◌∙◌, arith, rules}
+use Rattle.std.proofs.Common.{◌≡◌, ℕ, false, zero, suc, ◌+◌, ◌≤◌, List, [], ◌∷◌, ◌++◌, Some, refl, sym, ap, subst, ◌∙◌, arith, rules}
 use Rattle.std.proofs.Math.ListN.{set}
 use Rattle.std.specs.Prelude.{slice_get}
 use Rattle.onfi_addr.specs.declared.geometry.Geometry.{Geometry}
@@ -11,7 +11,7 @@ use Rattle.onfi_request.specs.Range.{Fits}
 use Rattle.onfi_die.specs.Contents.{answer_of}
 use Rattle.onfi_die.specs.Blocks.{block_of}
 use Rattle.onfi_chip.specs.declared.post.Post.{Post}
-use Rattle.onfi_chip.specs.Chip.{Chip, Lun, device_in, spans_for, launched, taken, posts_of}
+use Rattle.onfi_chip.specs.Chip.{Chip, device_in, spans_for, launched, taken, posts_of}
 use Rattle.onfi_chip.specs.Chip.Lun.{Idle, Posting}
 use Rattle.onfi_chip.specs.Calls.{HasDone, IsNextPost, IsNextCommand, MayTake, command_of}
 use Rattle.onfi_chip.specs.declared.closer.Closer.TheVariants.{Last}

@@ -1,5 +1,5 @@
 use Rattle.onfi_chip.proofs.Numbers.{none_failed}
 use Rattle.onfi_chip.proofs.numbered.Numbered.new.Goals as goal
 
-pub returns : goal.returns
-returns c = none_failed c.args.failing.items
+pub returns-clause-none : goal.returns-clause-none
+returns-clause-none c = none_failed c.args.failing.items
