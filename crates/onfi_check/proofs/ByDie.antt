@@ -1,5 +1,5 @@
 -- A die token closes a node by the bound of its LUN.
-use Rattle.std.proofs.Common.{◌≡◌, ℕ, ◌≤◌, ◌<◌, ◌↔◌, Bool, IsTrue, length, refl, sym, ap, ◌∙◌, subst}
+use Rattle.std.proofs.Common.{◌≡◌, ℕ, ◌≤◌, ◌<◌, ◌↔◌, Bool, IsTrue, length, sym, ap, ◌∙◌, subst}
 use Rattle.onfi_problem.specs.Problem.{Problem}
 use Rattle.onfi_bound.specs.Bounds.{die}
 use Rattle.onfi_cert.specs.declared.token.Token.{Token}

@@ -5,11 +5,10 @@ use Rattle.std.specs.List.{AllByRecursion as All}
 use Rattle.std.proofs.lemmas.List.{take_more, map-append}
 use Rattle.std.proofs.lemmas.Bool.{cases_lt, cases_eq}
 use Rattle.onfi_request.specs.declared.want.Want.{Want}
-use Rattle.onfi_group.specs.Words.{Has}
 use Rattle.onfi_problem.specs.declared.moves.Move.{Move as KeptMove}
 use Rattle.onfi_problem.specs.Problem.{Problem}
 use Rattle.onfi_problem.specs.Moves.{Move, IsMove, move_lun, after}
-use Rattle.onfi_problem.specs.Position.{move_of, moves_of, lun_named}
+use Rattle.onfi_problem.specs.Position.{move_of, moves_of}
 use Rattle.onfi_problem.proofs.Perm.{All-append, All-weaker, Has-append_left, Has-append_right}
 use Rattle.onfi_check.specs.Ends.{IsLastEnd, later_of}
 

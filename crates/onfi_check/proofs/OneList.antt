@@ -1,20 +1,16 @@
 -- A problem has one list of moves, and what a tree's first token says.
-use Rattle.std.proofs.Common.{◌≡◌, ◌≢◌, ℕ, zero, suc, ◌+◌, ◌≤◌, ◌<◌, ◌⊎◌, inl, inr, ⊎_elim, Bool, true, false, List, [], ◌∷◌, ◌++◌, length, refl, sym, ap, ◌∙◌, subst, arith}
-use Rattle.std.specs.List.{AllByRecursion as All}
-use Rattle.onfi_problem.specs.Moves.{Move, IsMove, move_lun, after, AreMoves, ComesBefore}
+use Rattle.std.proofs.Common.{◌≡◌, ℕ, ◌≤◌, inl, inr, List, [], ◌∷◌, ◌++◌, length, refl, sym, ap, ◌∙◌, subst, arith}
+use Rattle.onfi_problem.specs.Moves.{Move, AreMoves, ComesBefore}
 use Rattle.onfi_cert.specs.declared.token.Token.{Token}
-use Rattle.onfi_cert.specs.declared.token.Token.TheVariants.{Branch, Yield, Bus, Lead, Trail, Die, End}
+use Rattle.onfi_cert.specs.declared.token.Token.TheVariants.{Branch, Yield}
 use Rattle.onfi_group.specs.Words.{Has, Pairs}
 use Rattle.onfi_problem.specs.Problem.{Problem}
-use Rattle.onfi_check.specs.Tree.{Tree, Forest, Closing, Closes, token_of, width, preorder, preorders, Accepts, AcceptsEach, Closed, Opened, NoMore, Child, Yields, AtEnd, ByBus, ByLead, ByTrail, ByDie}
+use Rattle.onfi_check.specs.Tree.{Forest, Closing, Closes, token_of, width, preorders, AcceptsEach, Closed, Opened, NoMore, Child, Yields, AtEnd, ByBus, ByLead, ByTrail, ByDie}
 use Rattle.onfi_problem.proofs.Perm.{All-has}
-use Rattle.onfi_check.specs.declared.fault.CertFault.{CertFault}
 use Rattle.onfi_problem.specs.declared.moves.Move.{Move as KeptMove}
 use Rattle.onfi_problem.specs.Position.{Position}
 use Rattle.onfi_problem.specs.Position.{moves_of}
 use Rattle.onfi_check.specs.Reading.{Begins, BeginsEach}
-use Rattle.std.specs.Prelude.{Result, Ok, Err, IfOk, IfErr}
-use Rattle.std.proofs.Common.{drop}
 
 -- a position's moves are as many as those of the program
 pub map_length : (x : Position) (items : List KeptMove) → length (moves_of x.groups items) ≡ length items

@@ -1,20 +1,19 @@
 -- Reading the children of a node one by one.
-use Rattle.std.proofs.Common.{◌≡◌, ◌≢◌, ℕ, zero, suc, ◌+◌, ◌-◌, ◌≤◌, ◌<◌, ◌⊎◌, ◌↔◌, inl, inr, ⊎_elim, Bool, true, false, List, [], ◌∷◌, ◌++◌, length, map, take, drop, get_or, Option, Some, None, refl, sym, ap, ◌∙◌, subst, arith, append_assoc, add-one}
-use Rattle.std.specs.Prelude.{slice_set, slice_index_or}
+use Rattle.std.proofs.Common.{◌≡◌, ◌≢◌, ℕ, zero, suc, ◌+◌, ◌≤◌, ◌<◌, ◌⊎◌, ◌↔◌, inl, inr, ⊎_elim, Bool, true, false, List, [], ◌∷◌, ◌++◌, length, drop, get_or, refl, sym, ap, ◌∙◌, subst, arith, append_assoc}
+use Rattle.std.specs.Prelude.{slice_set}
 use Rattle.std.specs.List.{AllByRecursion as All}
 use Rattle.std.proofs.lemmas.Bool.{false≢true, cases_Bool}
-use Rattle.onfi_problem.specs.Moves.{Move, move_lun, after, AreMoves}
+use Rattle.onfi_problem.specs.Moves.{Move, move_lun, after}
 use Rattle.onfi_cert.specs.declared.token.Token.{Token}
-use Rattle.onfi_cert.specs.declared.token.Token.TheVariants.{Branch, Yield, Bus, Lead, Trail, Die, End}
-use Rattle.onfi_group.specs.Words.{Has}
+use Rattle.onfi_cert.specs.declared.token.Token.TheVariants.{Yield}
 use Rattle.onfi_problem.specs.Problem.{Problem}
-use Rattle.onfi_check.specs.Tree.{Tree, Forest, Closing, Closes, token_of, width, preorder, preorders, NoneYields, MayYield, Accepts, AcceptsEach, Closed, Opened, NoMore, Child, Yields, AtEnd, ByBus, ByLead, ByTrail, ByDie}
+use Rattle.onfi_check.specs.Tree.{Tree, Forest, preorder, preorders, NoneYields, AcceptsEach, Closed, Opened, NoMore, Child, Yields, AtEnd, ByBus, ByLead, ByTrail, ByDie}
 use Rattle.onfi_problem.proofs.Perm.{All-has}
 use Rattle.onfi_check.proofs.Spelled.{one_tree}
 use Rattle.onfi_problem.specs.declared.moves.Move.{Move as KeptMove}
-use Rattle.onfi_problem.specs.Position.{Position, move_of, moved, lun_named}
+use Rattle.onfi_problem.specs.Position.{Position, move_of}
 use Rattle.onfi_problem.specs.Position.{moves_of}
-use Rattle.onfi_check.specs.Reading.{Begins, BeginsEach, Fits, marked, IsYield, Rest, BeginsRest}
+use Rattle.onfi_check.specs.Reading.{Begins, BeginsEach, marked, IsYield, Rest, BeginsRest}
 
 same_or : (i j : ℕ) → (i ≡ j) ⊎ (i ≢ j)
 same_or zero zero = inl refl

@@ -1,5 +1,5 @@
 -- How the token, the child or the tree that was read tells of the whole.
-use Rattle.std.proofs.Common.{◌≡◌, ℕ, ◌+◌, ◌≤◌, ◌<◌, ◌↔◌, Bool, true, false, List, [], ◌∷◌, length, drop, get_or, Option, refl, sym, ap, ◌∙◌, subst, arith}
+use Rattle.std.proofs.Common.{◌≡◌, ℕ, ◌+◌, ◌≤◌, ◌<◌, ◌↔◌, Bool, true, false, List, [], ◌∷◌, length, drop, get_or, refl, sym, ap, ◌∙◌, subst, arith}
 use Rattle.std.specs.Prelude.{Result, Ok, Err, OnOk, IfErr, slice_set}
 use Rattle.std.specs.List.{AllByRecursion as All}
 use Rattle.onfi_request.specs.declared.want.Want.{Want}
@@ -15,7 +15,7 @@ use Rattle.onfi_cert.specs.declared.token.Token.TheVariants.{Branch, Yield}
 use Rattle.onfi_check.specs.declared.fault.CertFault.{CertFault}
 use Rattle.onfi_check.specs.declared.yields.Standing.{Standing}
 use Rattle.onfi_check.specs.Ends.{AreLastEnds}
-use Rattle.onfi_check.specs.Tree.{Closing, Closes, token_of, AcceptsTokens}
+use Rattle.onfi_check.specs.Tree.{Closing, Closes, token_of}
 use Rattle.onfi_check.specs.Reading.{Begins, BeginsEach, BeginsRest, IsYield, ReadsChild, RefusesChild}
 use Rattle.onfi_check.proofs.OneList.{branch_each, each_branch, closed_begins, not_closed, map_length}
 use Rattle.onfi_check.proofs.Reading.{rest_each, read_yield, yield_kept, read_child, no_child, no_token, read_all, none_marked, drop_step, drop_all, trans_same}

@@ -1,7 +1,6 @@
-use Rattle.std.proofs.Common.{◌≡◌, refl, sym, ◌∙◌, subst}
+use Rattle.std.proofs.Common.{refl, sym, ◌∙◌, subst}
 use Rattle.onfi_problem.specs.Problem.{IsProblem}
 use Rattle.onfi_problem.specs.Position.{Position}
-use Rattle.onfi_schedule.specs.Schedule.{Optimal}
 use Rattle.onfi_check.specs.Tree.{Accepts, AcceptsTokens}
 use Rattle.onfi_check.proofs.Sound.{certified}
 use Rattle.onfi_check.proofs.checking.check_source.Goals as goal

@@ -1,6 +1,3 @@
-use Rattle.std.proofs.Common.{◌≡◌, refl, sym, ap, ◌∙◌, subst}
-use Rattle.onfi_cert.specs.declared.token.Token.TheVariants.{Die}
-use Rattle.onfi_check.specs.Tree.{Closes, Closing, ByDie, token_of}
 use Rattle.onfi_check.proofs.ByDie.{by_die}
 use Rattle.onfi_check.proofs.closes.closes.Goals as goal
 

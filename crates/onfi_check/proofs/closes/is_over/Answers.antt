@@ -1,4 +1,4 @@
-use Rattle.std.proofs.Common.{◌≡◌, arith}
+use Rattle.std.proofs.Common.{arith}
 use Rattle.onfi_check.proofs.Nothing.{over_where_none}
 use Rattle.onfi_check.proofs.closes.is_over.Goals as goal
 

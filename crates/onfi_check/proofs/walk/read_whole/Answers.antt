@@ -1,9 +1,7 @@
-use Rattle.std.proofs.Common.{◌≡◌, [], ◌∷◌, List, sym, ◌∙◌, subst}
+use Rattle.std.proofs.Common.{[], sym, subst}
 use Rattle.std.proofs.lemmas.Result.{err_from_is_err_and}
-use Rattle.onfi_cert.specs.declared.token.Token.{Token}
-use Rattle.onfi_check.specs.Tree.{AcceptsTokens}
 use Rattle.onfi_check.specs.Reading.{Begins}
-use Rattle.onfi_check.proofs.Tokens.{begins_with_all, all_begin, none_accepted, none_behind}
+use Rattle.onfi_check.proofs.Tokens.{begins_with_all, none_accepted, none_behind}
 use Rattle.onfi_check.proofs.walk.read_whole.Goals as goal
 
 pub returns-in_default-clause-err : goal.returns-in_default-clause-err

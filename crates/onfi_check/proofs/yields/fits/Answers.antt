@@ -1,4 +1,4 @@
-use Rattle.std.proofs.Common.{◌≡◌, None, Some, refl, sym, ◌∙◌, subst}
+use Rattle.std.proofs.Common.{subst}
 use Rattle.std.proofs.lemmas.Bool.{false≢true}
 use Rattle.onfi_check.specs.Ends.{IsLastEnd}
 use Rattle.onfi_check.proofs.Fitting.{fits_by_end, none_fits}

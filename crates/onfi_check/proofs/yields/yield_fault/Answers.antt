@@ -1,4 +1,4 @@
-use Rattle.std.proofs.Common.{◌≡◌, arith}
+use Rattle.std.proofs.Common.{arith}
 use Rattle.onfi_check.proofs.yields.yield_fault.Goals as goal
 
 pub returns-then-fits-clause-loops_or_fits : goal.returns-then-fits-clause-loops_or_fits
