@@ -1,11 +1,12 @@
 -- What is written for an input, and with which status.
-use Rattle.std.specs.Prelude.{◌≡◌, ℕ, ◌+◌, ◌^◌, ◌≤◌, ◌⊎◌, List, take, Option, Some, None, position, Ok, Err, IfSome, MatchOption, MatchResult}
+use Rattle.std.specs.Prelude.{◌≡◌, ℕ, ◌+◌, ◌^◌, ◌≤◌, ◌⊎◌, Bool, true, false, List, take, Option, Some, None, position, Ok, Err, IfSome, MatchOption, MatchResult}
 use Rattle.std.specs.Io.KnownBytes.{Appends}
 use Rattle.csv.specs.Reading.{AreRecords, default_config, strip_bom}
 use Rattle.csv.specs.declared.parser.State.TheVariants as st
 use Rattle.onfi_problem.specs.Problem.{Problem, IsSmall, IsProblem}
 use Rattle.onfi_problem.specs.Left.{horizon, InLimits}
 use Rattle.onfi_schedule.specs.Schedule.{Schedule, Optimal, finish}
+use Rattle.onfi_schedule.specs.Trace.{IsTrace}
 use Rattle.onfi_cert.specs.declared.token.Token.{Token}
 use Rattle.onfi_check.specs.Tree.{AcceptsTokens}
 use Rattle.onfi_planner.specs.Nodes.{HasMoreNodes}
@@ -42,9 +43,21 @@ pub record Plans (p : Problem) (answer : Answer) : Type 0 where
   pub certified : AcceptsTokens tokens p ends
   pub text : answer ≡ planned p schedule ends tokens
 
+-- the trace of an optimal schedule
+pub record Traces (p : Problem) (answer : Answer) : Type 0 where
+  pub schedule : Schedule
+  pub optimal : Optimal p schedule
+  pub is_trace : IsTrace p schedule answer.text
+  pub fine : answer.status ≡ 0
+
+-- a trace or a plan, as asked for
+abbrev pub Prints : Bool → Problem → Answer → Type 0
+Prints true p answer = Traces p answer
+Prints false p answer = Plans p answer
+
 -- a plan, or where the tree of the problem has more nodes than may be opened, so many
 abbrev pub AnswersPlan : Command → Problem → Answer → Type 0
-AnswersPlan (Plan limit) p answer = Plans p answer ⊎ (HasMoreNodes p limit × (answer ≡ over limit))
+AnswersPlan (Plan limit trace) p answer = Prints trace p answer ⊎ (HasMoreNodes p limit × (answer ≡ over limit))
 
 -- the answer to a problem: its first fault, or what the command asks for
 pub data AnswersProblem (command : Command) (p : Problem) (answer : Answer) : Type 0 where

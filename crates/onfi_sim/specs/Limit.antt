@@ -4,4 +4,4 @@ use Rattle.onfi_sim.specs.declared.command.Command.{Command}
 use Rattle.onfi_sim.specs.declared.command.Command.TheVariants.{Plan}
 
 abbrev pub IsLimited : Command → Type 0
-IsLimited (Plan limit) = (1 ≤ limit) × (limit ≤ 1048576)
+IsLimited (Plan limit trace) = (1 ≤ limit) × (limit ≤ 1048576)

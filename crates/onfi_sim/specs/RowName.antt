@@ -49,7 +49,7 @@ is_taken_by_plan Strict = true
 is_taken_by_plan _ = false
 
 abbrev pub is_taken : Command → RowName → Bool
-is_taken (Plan limit) name = is_taken_by_plan name
+is_taken (Plan limit trace) name = is_taken_by_plan name
 
 -- the form whose row it is
 abbrev pub form_of : RowName → Option Form

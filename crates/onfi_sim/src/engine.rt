@@ -3,8 +3,9 @@ ghost use Rattle.std.specs.Prelude.{◌≡◌, ◌≤◌, ℕ, take, length, map
 ghost use Rattle.std.specs.Io.KnownBytes.{Appends, Keeps};
 ghost use Rattle.csv.specs.Records.{fields_of};
 ghost use Rattle.onfi_problem.specs.Left.{InLimits};
+ghost use Rattle.onfi_schedule.specs.Schedule.{Optimal};
 ghost use Rattle.onfi_sim.specs.Text.{planned as spec_planned};
-ghost use Rattle.onfi_sim.specs.Answer.{AnswersPlan, Refuses, AnswersProblem, AnswersRows, AnswersRecords, IsAnswer, Answers, BeginsAnswer};
+ghost use Rattle.onfi_sim.specs.Answer.{AnswersPlan, Traces, Refuses, AnswersProblem, AnswersRows, AnswersRecords, IsAnswer, Answers, BeginsAnswer};
 ghost use Rattle.onfi_sim.specs.AnswerOf.{answer_of};
 ghost use Rattle.onfi_sim.specs.Device.{TellsDevice};
 ghost use Rattle.onfi_sim.specs.Limit.{IsLimited};
@@ -24,6 +25,7 @@ use csv::ByteRecord;
 use onfi_cert::write;
 use onfi_planner::{PlanFault, Planned, plan};
 use onfi_problem::{Problem, ProblemFault};
+use onfi_schedule::trace;
 use std::alloc::{AllocError, Global};
 use std::io::{Read, Write};
 
@@ -43,13 +45,23 @@ fn plan_answer(alloc: Global, problem: &Problem, planned: &Planned) -> Result<An
     Ok(Answer { text, status: 0 })
 }
 
+/// The trace of a plan.
+fn trace_answer(alloc: Global, problem: &Problem, planned: &Planned) -> Result<Answer, AllocError>
+    requires { Optimal problem.now.problem planned.now.schedule }
+    ensures { IfOk result (λ a. Traces problem.now.problem (answer_of a)) }
+{
+    let text = trace(alloc, problem, &planned.schedule)?;
+    Ok(Answer { text, status: 0 })
+}
+
 /// The answer that plans a problem with a search of at most so many nodes.
-fn planned(alloc: Global, problem: &Problem, limit: u32) -> Result<Answer, AllocError>
+fn planned(alloc: Global, problem: &Problem, limit: u32, traced: bool) -> Result<Answer, AllocError>
     requires some { 1 ≤ limit }
     requires few { limit ≤ 1048576 }
-    ensures { IfOk result (λ a. AnswersPlan (Command.Plan limit) problem.now.problem (answer_of a)) }
+    ensures { IfOk result (λ a. AnswersPlan (Command.Plan limit traced) problem.now.problem (answer_of a)) }
 {
     match plan(alloc, problem, limit) {
+        Ok(planned) if traced => trace_answer(alloc, problem, &planned),
         Ok(planned) => plan_answer(alloc, problem, &planned),
         Err(PlanFault::Over { opened }) => over(alloc, opened),
         Err(PlanFault::Memory) => Err(AllocError),
@@ -61,8 +73,8 @@ fn commanded(alloc: Global, command: Command, problem: &Problem) -> Result<Answe
     requires limit { IsLimited command }
     ensures { IfOk result (λ a. AnswersPlan command problem.now.problem (answer_of a)) }
 {
-    let Command::Plan { limit } = command;
-    planned(alloc, problem, limit)
+    let Command::Plan { limit, trace } = command;
+    planned(alloc, problem, limit, trace)
 }
 
 /// Times of a problem that was made end below 2^62 ns.

@@ -49,7 +49,7 @@ fn main(rt: HostRuntime) -> ExitCode {
             return ExitCode::from(4);
         }
         Err(WordsFault::Refused) => {
-            let _ = rt.eprintln("usage: onfi_sim plan [--limit N]");
+            let _ = rt.eprintln("usage: onfi_sim plan [--limit N] [--trace]");
             return ExitCode::from(5);
         }
     };

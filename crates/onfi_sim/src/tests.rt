@@ -41,7 +41,10 @@ fn plan_within(limit: u32) -> Command
     requires high { limit ≤ 1048576 }
     ensures { IsLimited result }
 {
-    Command::Plan { limit }
+    Command::Plan {
+        limit,
+        trace: false,
+    }
 }
 
 fn plan() -> Command
@@ -105,6 +108,18 @@ fn answered(alloc: Global, command: Command, input: &[u8], text: &str, status: u
     let mut out = Vec::new(alloc);
     match engine(alloc, command, &mut reader, &mut out) {
         Ok(got) => got == status && out.as_slice() == text.as_bytes(),
+        Err(_) => false,
+    }
+}
+
+// The trace of the plan.
+fn traced(alloc: Global, base: &str, rows: &str, text: &str) -> bool {
+    let command = Command::Plan {
+        limit: 1_048_576,
+        trace: true,
+    };
+    match format!(in alloc; "{base}{rows}end\n") {
+        Ok(input) => answered(alloc, command, input.as_bytes(), text, 0),
         Err(_) => false,
     }
 }
@@ -295,6 +310,27 @@ fn tells_why_no_other_order_ends_first(rt: HostRuntime) {
             "want,program,0,0,0\nwant,program,0,1,0\nrunning,1,1,100000,erase,0,0\n",
             "ONFIPLAN 1\nfinish 422360\nrest 1 100000\ngroup 0 0 210900\ngroup 1 211180 422080\nONFICERT 1\nB3 D0 D0 Y0\n",
             0
+        )
+    );
+}
+
+#[test]
+fn traces_each_phase(rt: HostRuntime) {
+    let alloc = rt.alloc();
+    assert!(rt;
+        traced(
+            alloc,
+            BASE,
+            "want,read,0,0,0\nwant,read,0,1,0\n",
+            "0 140 0 read cmd 0 0 00 32\n740 880 0 read cmd 1 0 00 30\n25980 36980 0 read post 0 0 06 E0\n36980 47980 0 read post 1 0 06 E0\n"
+        )
+    );
+    assert!(rt;
+        traced(
+            alloc,
+            BASE,
+            TWO_RUNNING,
+            "50 330 1 erase post 0 0 78 -\n330 430 1 erase cmd 1 0 60 D0\n430 11430 0 read post 0 0 06 E0\n1500530 1500810 1 erase post 1 0 78 -\n"
         )
     );
 }
@@ -500,6 +536,13 @@ fn reads_the_command_line(rt: HostRuntime) {
         asked(alloc, "onfi_sim plan --limit 7"),
         Some(Ok(plan_within(7)))
     );
+    assert_eq!(rt;
+        asked(alloc, "onfi_sim plan --limit 6 --trace"),
+        Some(Ok(Command::Plan {
+            limit: 6,
+            trace: true,
+        }))
+    );
     for line in [
         "onfi_sim",
         "onfi_sim --limit 7 plan",
@@ -508,6 +551,8 @@ fn reads_the_command_line(rt: HostRuntime) {
         "onfi_sim plan --limit +7",
         "onfi_sim plan --limit 7 --limit 7",
         "onfi_sim plan extra",
+        "onfi_sim plan --trace --trace",
+        "onfi_sim plan --tracer",
         "onfi_sim run",
         "onfi_sim --help",
     ] {

@@ -30,7 +30,10 @@ fn app<'a>(alloc: Global) -> Result<App<'a>, AllocError>
     let limit = Arg::new(alloc, "limit")
         .long("limit")
         .action(ArgAction::Set);
-    let plan = App::new(alloc, "plan").arg(limit)?;
+    let trace = Arg::new(alloc, "trace")
+        .long("trace")
+        .action(ArgAction::SetTrue);
+    let plan = App::new(alloc, "plan").arg(limit)?.arg(trace)?;
     App::new(alloc, "onfi_sim").subcommand(plan)
 }
 
@@ -45,6 +48,16 @@ fn limit_of(matches: &ArgMatches<'_>) -> Result<u32, WordsFault>
     match number(text.as_bytes(), 1, u64::from(MOST)) {
         Ok(limit) => Ok(limit as u32),
         Err(_) => Err(WordsFault::Refused),
+    }
+}
+
+/// Whether a trace is asked for.
+fn is_traced(matches: &ArgMatches<'_>) -> bool
+    ensures { result ≡ spec.is_given (first_value (found_of matches.now) (codes "trace")) }
+{
+    match matches.get_str("trace") {
+        Some(text) => text == "true",
+        None => false,
     }
 }
 
@@ -80,7 +93,10 @@ pub fn words<'a>(alloc: Global, words: &'a [String]) -> Result<Command, WordsFau
     };
     if name == "plan" {
         let limit = limit_of(used)?;
-        Ok(Command::Plan { limit })
+        Ok(Command::Plan {
+            limit,
+            trace: is_traced(used),
+        })
     } else {
         Err(WordsFault::Refused)
     }
