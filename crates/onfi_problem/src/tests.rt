@@ -6,6 +6,7 @@ use crate::{Lun, LunState, Move, Problem, ProblemFault, Undo};
 use onfi_group::{Group, Rules};
 use onfi_request::Want;
 use onfi_timing::{Kind, SpanFault, Spans, Timing};
+use std::alloc::Global;
 use std::process::Abort;
 use std::test::Fail;
 
@@ -88,17 +89,20 @@ fn eight_wants_beside_seven_running_luns(rt: HostRuntime) -> Result<(), Fail> {
     Ok(())
 }
 
+// Why these LUNs and wants, of a bus that is free from then on, are no problem.
+fn fault(
+    alloc: Global,
+    luns: &[LunState],
+    wants: &[Want],
+    bus_free: u64,
+) -> Result<Option<ProblemFault>, SpanFault> {
+    Ok(Problem::new(alloc, lengths()?, any_groups(), bus_free, luns, wants).err())
+}
+
 #[test]
 fn refusals_in_their_order(rt: HostRuntime) -> Result<(), Fail> {
     let alloc = rt.alloc();
-    let fault = |luns: &[LunState], wants: &[Want], bus_free: u64| -> Option<ProblemFault> {
-        match lengths() {
-            Ok(timing) => Problem::new(alloc, timing, any_groups(), bus_free, luns, wants).err(),
-            Err(_) => None,
-        }
-    };
     let read = want(1, READ, 0, 0);
-    let late = (1u64 << 62) - 1;
     let other = want(2, READ, 1, 0);
     let same = want(1, READ, 0, 1);
     let high = Want { plane: 4, ..read };
@@ -106,28 +110,22 @@ fn refusals_in_their_order(rt: HostRuntime) -> Result<(), Fail> {
         page: 1,
         ..want(1, ERASE, 0, 0)
     };
-    let none: [LunState; 0] = [];
-    assert_eq!(rt; fault(&none, &[], 0), Some(ProblemFault::TooMany));
-    assert_eq!(rt;
-        fault(&[free()], &[other; 9], late),
-        Some(ProblemFault::TooMany)
-    );
-    assert_eq!(rt;
-        fault(&[free()], &[read, other], late),
-        Some(ProblemFault::BadLun)
-    );
-    assert_eq!(rt;
-        fault(&[free()], &[read, same], 0),
-        Some(ProblemFault::BadLun)
-    );
-    assert_eq!(rt; fault(&[free()], &[high], 0), Some(ProblemFault::BadLun));
-    assert_eq!(rt; fault(&[free()], &[paged], 0), Some(ProblemFault::BadLun));
-    assert_eq!(rt; fault(&[free()], &[read], late), Some(ProblemFault::Clock));
-    assert_eq!(rt;
-        fault(&[LunState::Free { since: u64::MAX }], &[], 0),
-        Some(ProblemFault::Clock)
-    );
-    assert_eq!(rt; fault(&[free()], &[], late), None);
+    let late = (1u64 << 62) - 1;
+    let one = [free()];
+    for (wants, bus_free, told) in [
+        ([other; 9].as_slice(), late, Some(ProblemFault::TooMany)),
+        ([read, other].as_slice(), late, Some(ProblemFault::BadLun)),
+        ([read, same].as_slice(), 0, Some(ProblemFault::BadLun)),
+        ([high].as_slice(), 0, Some(ProblemFault::BadLun)),
+        ([paged].as_slice(), 0, Some(ProblemFault::BadLun)),
+        ([read].as_slice(), late, Some(ProblemFault::Clock)),
+        ([].as_slice(), late, None),
+    ] {
+        assert_eq!(rt; fault(alloc, &one, wants, bus_free)?, told);
+    }
+    let never = [LunState::Free { since: u64::MAX }];
+    assert_eq!(rt; fault(alloc, &never, &[], 0)?, Some(ProblemFault::Clock));
+    assert_eq!(rt; fault(alloc, &[], &[], 0)?, Some(ProblemFault::TooMany));
     Ok(())
 }
 
