@@ -13,6 +13,7 @@ use Rattle.onfi_problem.specs.Starts.{IsNamed}
 use Rattle.onfi_problem.proofs.Perm.{All-append, All-has, All-weaker}
 use Rattle.onfi_check.proofs.Reading.{drop_one}
 use Rattle.onfi_planner.specs.First.{wants_started, starts_before, GoesFirst, IsFirstChoice}
+use Rattle.onfi_planner.proofs.Taking.{take_all}
 
 -- what a comparison says
 abbrev Sooner : Problem → Move → Move → Type 0
@@ -136,12 +137,6 @@ chosen_move p groups moves i choice are c = All-has (IsMove p) (moves_of groups 
 
 pub chosen_named : (p : Problem) (groups : List (List Want)) (moves : List KeptMove) (i : ℕ) (choice : KeptMove) → All (IsNamed groups) moves → Chosen p groups moves i choice → IsNamed groups choice
 chosen_named p groups moves i choice named c = All-has (IsNamed groups) moves choice named c.has
-
-take_all : {A : Type 0} (xs : List A) (n : ℕ) → length xs ≤ n → take n xs ≡ xs
-take_all [] zero h = refl
-take_all [] (suc n) h = refl
-take_all (x ∷ xs) zero h = absurd (omega arith)
-take_all (x ∷ xs) (suc n) h = ap (λ z. x ∷ z) (take_all xs n (omega arith))
 
 pub chosen_all : (p : Problem) (groups : List (List Want)) (moves : List KeptMove) (i : ℕ) (choice : KeptMove) → length moves ≤ i → AreMoves p (moves_of groups moves) → Chosen p groups moves i choice → IsFirstChoice p (move_of groups choice)
 chosen_all p groups moves i choice h are c =

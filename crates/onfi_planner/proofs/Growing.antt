@@ -1,6 +1,5 @@
 -- A certificate between two children of a node.
-use Rattle.std.proofs.Common.{◌≡◌, ℕ, zero, suc, ◌+◌, ◌≤◌, ◌<◌, List, [], ◌∷◌, ◌++◌, length, take, get_or, Option, Some, None, refl, sym, ap, ◌∙◌, subst, arith, append_assoc}
-use Rattle.std.proofs.lemmas.List.{take_more, map-append}
+use Rattle.std.proofs.Common.{◌≡◌, ℕ, ◌+◌, ◌≤◌, ◌<◌, List, [], ◌∷◌, ◌++◌, length, take, get_or, Option, Some, None, refl, sym, ap, ◌∙◌, subst, arith, append_assoc}
 use Rattle.onfi_problem.specs.Moves.{Move, Next as NextPhase, Start as StartGroup, IsMove, earliest, move_lun, after, AreMoves}
 use Rattle.onfi_cert.specs.declared.token.Token.{Token}
 use Rattle.onfi_cert.specs.declared.token.Token.TheVariants.{Branch, Yield}
@@ -12,7 +11,8 @@ use Rattle.onfi_planner.specs.Opening.{IsOpen, yield_at, AreYields}
 use Rattle.onfi_planner.specs.Planning.{Bounded, Written}
 use Rattle.onfi_problem.proofs.Perm.{All-has}
 use Rattle.onfi_problem.proofs.Places.{within_get}
-use Rattle.onfi_planner.proofs.Halfway.{no_moves}
+use Rattle.onfi_planner.proofs.Halfway.{no_moves, one_more}
+use Rattle.onfi_planner.proofs.Taking.{take_all}
 
 -- the children of these moves: trees that are accepted, and yields as chosen
 abbrev pub Grown : Problem → List (Option ℕ) → ℕ → List Move → Forest → Type 0
@@ -77,11 +77,6 @@ Growing x items ys e i old new = (f : Forest) × (new ≡ old ++ (Branch (length
 pub begun : (x : Position) (items : List KeptMove) (ys : List (Option ℕ)) (e n : ℕ) (old new : List Token) → new ≡ old ++ Branch n ∷ [] → n ≡ length items → Growing x items ys e 0 old new
 begun x items ys e n old new h q = (NoMore, h ∙ ap (λ z. old ++ Branch z ∷ []) q, tt)
 
-one_more : (x : Position) (items : List KeptMove) (i : ℕ) (s : KeptMove) → s ≡ get_or items i s → i < length items → moves_of x.groups (take (i + 1) items) ≡ moves_of x.groups (take i items) ++ move_of x.groups s ∷ []
-one_more x items i s e h =
-    let a = take_more items i s h in
-    ap (moves_of x.groups) a ∙ (map-append (move_of x.groups) (take i items) (get_or items i s ∷ []) ∙ ap (λ z. moves_of x.groups (take i items) ++ move_of x.groups z ∷ []) (sym e))
-
 more_tokens : (old new new' ts : List Token) (n : ℕ) (f g : Forest) → new ≡ old ++ (Branch n ∷ preorders f) → new' ≡ new ++ ts → preorders g ≡ ts → new' ≡ old ++ (Branch n ∷ preorders (joined f g))
 more_tokens old new new' ts n f g h k e =
     k ∙ (ap (λ z. z ++ ts) h ∙ (append_assoc old (Branch n ∷ preorders f) ts ∙ ap (λ z. old ++ (Branch n ∷ z)) (ap (λ z. preorders f ++ z) (sym e) ∙ sym (preorders_joined f g))))
@@ -105,12 +100,6 @@ with_yield x items ys e i l old new new' s q h y k (f, t, g) =
       more_tokens old new new' (Yield l ∷ []) (length items) f last t k refl,
       subst (λ z. Grown x.problem ys e z (joined f last)) (sym (one_more x items i s q h)) (grown_joined x.problem ys e (moves_of x.groups (take i items)) (move_of x.groups s ∷ []) f last g (y, tt)),
     )
-
-take_all : {A : Type 0} (xs : List A) (n : ℕ) → length xs ≤ n → take n xs ≡ xs
-take_all [] zero h = refl
-take_all [] (suc n) h = refl
-take_all (x ∷ xs) zero h = absurd (omega arith)
-take_all (x ∷ xs) (suc n) h = ap (λ z. x ∷ z) (take_all xs n (omega arith))
 
 pub map_length : (x : Position) (items : List KeptMove) → length (moves_of x.groups items) ≡ length items
 map_length x [] = refl

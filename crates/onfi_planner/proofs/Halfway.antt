@@ -1,5 +1,5 @@
 -- A search between two children of a node.
-use Rattle.std.proofs.Common.{◌≡◌, ℕ, zero, suc, ◌+◌, ◌-◌, ◌≤◌, ◌<◌, inl, inr, Bool, true, false, List, [], ◌∷◌, ◌++◌, length, take, get_or, Option, Some, None, refl, sym, ap, ◌∙◌, subst, arith}
+use Rattle.std.proofs.Common.{◌≡◌, ℕ, ◌+◌, ◌-◌, ◌≤◌, ◌<◌, inl, inr, Bool, true, false, List, [], ◌∷◌, ◌++◌, length, take, get_or, Option, Some, None, refl, sym, ap, ◌∙◌, subst, arith}
 use Rattle.std.specs.Prelude.{slice_get, ◌==◌, MatchOption}
 use Rattle.std.specs.Option.{is_some}
 use Rattle.std.specs.List.{AllByRecursion as All}
@@ -28,6 +28,7 @@ use Rattle.onfi_planner.specs.Nodes.{HasNodes}
 use Rattle.onfi_planner.specs.Planning.{Bounded, run_of, Searched, HasOpened, IsOver}
 use Rattle.onfi_planner.proofs.Paths.{Among, node_one, among_none, among_more, among_skip, among_all}
 use Rattle.onfi_planner.proofs.Opening.{Done, done_sooner, opened}
+use Rattle.onfi_planner.proofs.Taking.{take_all, split_at}
 
 pub record Halfway (x : Position) (items : List KeptMove) (yields : List (Option ℕ)) (i : ℕ) (old best : Best) (improved : Bool) (began count limit : ℕ) : Type 0 where
   pub sooner : best.finish ≤ old.finish
@@ -50,15 +51,10 @@ started x items yields best began limit h = record {
 }
 
 -- one more step
-one_more : (x : Position) (items : List KeptMove) (i : ℕ) (s : KeptMove) → s ≡ get_or items i s → i < length items → moves_of x.groups (take (i + 1) items) ≡ moves_of x.groups (take i items) ++ move_of x.groups s ∷ []
+pub one_more : (x : Position) (items : List KeptMove) (i : ℕ) (s : KeptMove) → s ≡ get_or items i s → i < length items → moves_of x.groups (take (i + 1) items) ≡ moves_of x.groups (take i items) ++ move_of x.groups s ∷ []
 one_more x items i s e h =
     let a = take_more items i s h in
     ap (moves_of x.groups) a ∙ (map-append (move_of x.groups) (take i items) (get_or items i s ∷ []) ∙ ap (λ z. moves_of x.groups (take i items) ++ move_of x.groups z ∷ []) (sym e))
-
-split_at : {A : Type 0} (xs : List A) (i : ℕ) (d : A) → i < length xs → (ys : List A) × (xs ≡ take i xs ++ get_or xs i d ∷ ys)
-split_at [] i d h = absurd (omega arith)
-split_at (x ∷ xs) zero d h = (xs, refl)
-split_at (x ∷ xs) (suc i) d h = let r = split_at xs i d (omega arith) in (r.0, ap (λ z. x ∷ z) r.1)
 
 Pairs-cross : {A : Type 0} (R : A → A → Type 0) (xs ys : List A) (y x : A) → Pairs R (xs ++ y ∷ ys) → Has xs x → R x y
 Pairs-cross R [] ys y x h k = absurd k
@@ -152,12 +148,6 @@ given_up x items yields i old best improved began count count' limit s are luns 
 
 pub step_moves : (x : Position) (items : List KeptMove) (i : ℕ) (s : KeptMove) → AreMoves x.problem (moves_of x.groups items) → All (λ s. move_lun (move_of x.groups s) ≡ lun_named s) items → s ≡ get_or items i s → i < length items → IsMove x.problem (move_of x.groups s)
 step_moves x items i s are luns e h = (next_step x items i s are luns e h).is_move
-
-take_all : {A : Type 0} (xs : List A) (n : ℕ) → length xs ≤ n → take n xs ≡ xs
-take_all [] zero h = refl
-take_all [] (suc n) h = refl
-take_all (x ∷ xs) zero h = absurd (omega arith)
-take_all (x ∷ xs) (suc n) h = ap (λ z. x ∷ z) (take_all xs n (omega arith))
 
 some_step : (x : Position) (items : List KeptMove) → AreMoves x.problem (moves_of x.groups items) → (items ≡ [] → ⊥) → (m : Move) × IsMove x.problem m
 some_step x [] are h = absurd (h refl)

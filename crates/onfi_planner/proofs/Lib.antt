@@ -2,6 +2,7 @@ pub mod BusWork
 pub mod Reaching
 pub mod Opening
 pub mod Paths
+mod Taking
 pub mod Halfway
 pub mod Growing
 pub mod Whole

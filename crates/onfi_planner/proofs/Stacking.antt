@@ -21,6 +21,7 @@ use Rattle.onfi_schedule.proofs.RunLegal.{run_legal}
 use Rattle.onfi_schedule.proofs.Exchange.{bus_after}
 use Rattle.onfi_planner.specs.declared.search.Begun.{Begun}
 use Rattle.onfi_planner.specs.Planning.{run_of, taken}
+use Rattle.onfi_planner.proofs.Taking.{take_all, split_at}
 
 -- these steps in front of a schedule
 abbrev pub stacked : Schedule → List Step → Schedule
@@ -123,11 +124,6 @@ run_split groups xs b ys =
     let n = map (taken groups) ys in
     ap reverse (map-append (taken groups) xs (b ∷ ys)) ∙ (reverse-append m (taken groups b ∷ n) ∙ (ap (λ z. z ++ reverse m) (reverse-append (taken groups b ∷ []) n) ∙ append_assoc (reverse n) (taken groups b ∷ []) (reverse m)))
 
-split_at : {A : Type 0} (xs : List A) (i : ℕ) (d : A) → i < length xs → (ys : List A) × (xs ≡ take i xs ++ get_or xs i d ∷ ys)
-split_at [] i d h = absurd (omega arith)
-split_at (x ∷ xs) zero d h = (xs, refl)
-split_at (x ∷ xs) (suc i) d h = let r = split_at xs i d (omega arith) in (r.0, ap (λ z. x ∷ z) r.1)
-
 pub room_of_step : (p : Problem) (groups : List (List Want)) (steps : List Begun) (i : ℕ) (d : Begun) (f : ℕ) → IsProblem p → Run p (run_of groups steps) f → i < length steps → Room (taken groups (get_or steps i d)) (stacked (empty p) (run_of groups (take i steps))) f
 room_of_step p groups steps i d f ip run h =
     let r = split_at steps i d h in
@@ -136,12 +132,6 @@ room_of_step p groups steps i d f ip run h =
 
 pub one_taken : (groups : List (List Want)) (steps : List Begun) (i : ℕ) (d : Begun) → i < length steps → run_of groups (take (i + 1) steps) ≡ taken groups (get_or steps i d) ∷ run_of groups (take i steps)
 one_taken groups steps i d h = ap (run_of groups) (take_more steps i d h) ∙ run_split groups (take i steps) (get_or steps i d) []
-
-take_all : {A : Type 0} (xs : List A) (n : ℕ) → length xs ≤ n → take n xs ≡ xs
-take_all [] zero h = refl
-take_all [] (suc n) h = refl
-take_all (x ∷ xs) zero h = absurd (omega arith)
-take_all (x ∷ xs) (suc n) h = ap (λ z. x ∷ z) (take_all xs n (omega arith))
 
 none_each : (luns : List LunState) → replicate (length luns) [] ≡ map {B = List ℕ} (λ _. []) luns
 none_each [] = refl
