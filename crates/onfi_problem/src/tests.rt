@@ -240,3 +240,29 @@ fn moves_made_and_taken_back(rt: HostRuntime) -> Result<(), Fail> {
     );
     Ok(())
 }
+
+#[test]
+fn what_a_problem_tells_of_itself(rt: HostRuntime) -> Result<(), Fail> {
+    let alloc = rt.alloc();
+    let wants = [want(0, READ, 0, 0), want(1, READ, 0, 1)];
+    let problem = Problem::new(
+        alloc,
+        lengths()?,
+        any_groups(),
+        7,
+        &[free(), free()],
+        &wants,
+    )?;
+    assert_eq!(rt; problem.timing(), lengths()?);
+    assert_eq!(rt; problem.rules(), any_groups());
+    assert_eq!(rt; problem.bus_free(), 7);
+    assert_eq!(rt; problem.lun_count(), 2);
+    assert_eq!(rt; problem.wants(), wants.as_slice());
+    assert_eq!(rt; problem.groups().len(), 3);
+    let Some(both) = problem.groups().get(2) else {
+        panic!(rt; "no group of both");
+    };
+    assert_eq!(rt; both.len(), 2);
+    assert_eq!(rt; problem.group(2).len(), 2);
+    Ok(())
+}
