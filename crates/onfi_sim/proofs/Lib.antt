@@ -1,9 +1,12 @@
 pub mod Known
 pub mod Scan
-pub mod Digits
 pub mod BlockLemmas
 pub mod RowsLemmas
 pub mod SetupLemmas
 pub mod TextLemmas
 pub mod Told
 pub mod WordsLemmas
+pub mod PartsLemmas
+pub mod NumbersLemmas
+pub mod LineLemmas
+pub mod PlanLemmas

@@ -35,5 +35,5 @@ pub told_part : (command : Command) (input old new : Option (List ℕ)) (answer 
 told_part command input old new answer (Ok s) is w e = absurd (cc)
 told_part command input old new answer (Err f) is w e = told_start command input old new answer w.1 is w.2
 
-pub rows_told : (command : Command) (records : List Record) (rows : List Row) (answer : Answer) → rows_of command records ≡ Ok rows → AnswersRows command rows answer → AnswersRecords command records answer
-rows_told command records rows answer e h = rw e h
+pub rows_told : (command : Command) (text : List ℕ) (records : List Record) (rows : List Row) (answer : Answer) → rows_of command records ≡ Ok rows → AnswersRows command text rows answer → AnswersRecords command text records answer
+rows_told command text records rows answer e h = rw e h

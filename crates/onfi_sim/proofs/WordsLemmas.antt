@@ -4,7 +4,7 @@ use Rattle.std.specs.Prelude.{Bool, Option, option_map, IsSomeAnd}
 use Rattle.clap.specs.Words.{Row, first_of, subcommand_rows_of}
 use Rattle.clap.specs.Matches.{subcommand_name_of}
 use Rattle.clap.specs.declared.parser.matches.ArgMatches.{ArgMatches}
-use Rattle.onfi_sim.specs.declared.command.Command.TheVariants.{Plan}
+use Rattle.onfi_sim.specs.declared.command.Command.TheVariants.{Check, Plan}
 use Rattle.onfi_sim.specs.Words.{IsLimit, IsNamed, is_given}
 
 pub named : (found : Option (List ℕ × List Row)) (name : List ℕ) (used : List Row) (limit : ℕ) (trace : Bool) → Some name ≡ option_map (λ p. p.0) found → Some used ≡ option_map (λ p. p.1) found
@@ -22,3 +22,7 @@ twice f g h (Some x) e = ap Some (e x)
 
 pub name_found : (m : ArgMatches) → subcommand_name_of m ≡ option_map (λ p. p.0) (subcommand_rows_of m)
 name_found m = twice _ _ (λ p. p.0) _ (λ x. refl)
+
+pub named_check : (found : Option (List ℕ × List Row)) (name : List ℕ) → Some name ≡ option_map (λ p. p.0) found → name ≡ codes "check" → IsSomeAnd found (λ p. IsNamed Check p.0 p.1)
+named_check None name e is = cc
+named_check (Some p) name e is = let same : name ≡ p.0 = cc in sym same ∙ is

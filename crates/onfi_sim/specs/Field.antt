@@ -1,10 +1,8 @@
 -- What stands in the fields of a row.
-use Rattle.std.specs.Prelude.{ℕ, ◌==◌, ◌&&◌, not, nat_le, if◌then◌else◌, Bool, List, [], length, unwrap_or, Result, Ok, Err, codes}
-use Rattle.std.specs.List.{list_all}
-use Rattle.std.specs.Char.{is_ascii_digit}
+use Rattle.std.specs.Prelude.{ℕ, ◌==◌, ◌&&◌, nat_le, if◌then◌else◌, Bool, List, [], unwrap_or, Option, Some, None, Result, Ok, Err, codes}
 use Rattle.std.specs.Str.{bytes_eq}
-use Rattle.std.specs.Str.Parse.{digits_value}
 use Rattle.csv.specs.Records.{field_at}
+use Rattle.onfi_timing.specs.Decimal.{number_of}
 use Rattle.onfi_timing.specs.declared.kind.Kind.{Kind}
 use Rattle.onfi_timing.specs.declared.kind.Kind.TheVariants.{Read, Program, Erase}
 use Rattle.onfi_sim.specs.declared.fault.ScriptFault.{ScriptFault}
@@ -19,16 +17,14 @@ given (Err fault) f = Err fault
 abbrev pub field : List (List ℕ) → ℕ → List ℕ
 field row at = unwrap_or (field_at row at) []
 
--- one or more digits 0 to 9
-abbrev pub is_number : List ℕ → Bool
-is_number text = not (length text == 0) && list_all is_ascii_digit text
+-- the number, where there is one from `least` to `most`
+abbrev pub within : ℕ → ℕ → Option ℕ → Result ℕ ScriptFault
+within least most None = Err NotANumber
+within least most (Some n) = if nat_le least n && nat_le n most then Ok n else Err OutOfRange
 
--- a number from `least` to `most`
+-- a number in digits, from `least` to `most`
 abbrev pub number : ℕ → ℕ → List ℕ → Result ℕ ScriptFault
-number least most text =
-    if is_number text
-    then (if nat_le least (digits_value 10 text) && nat_le (digits_value 10 text) most then Ok (digits_value 10 text) else Err OutOfRange)
-    else Err NotANumber
+number least most text = within least most (number_of text)
 
 -- 0 or 1
 abbrev pub flag : List ℕ → Result Bool ScriptFault

@@ -11,6 +11,10 @@ pub mod Device
 pub mod Setup
 pub mod SetupOf
 pub mod Text
+pub mod Parts
+pub mod PlanLine
+pub mod PlanText
+pub mod Wrong
 pub mod Limit
 pub mod Answer
 pub mod AnswerOf

@@ -2,7 +2,7 @@
 use Rattle.std.specs.Prelude.{ℕ, ◌==◌, ◌&&◌, nat_le, if◌then◌else◌, Bool, true, false, List, Option, Some, None, codes}
 use Rattle.std.specs.Str.{bytes_eq}
 use Rattle.onfi_sim.specs.declared.command.Command.{Command}
-use Rattle.onfi_sim.specs.declared.command.Command.TheVariants.{Plan}
+use Rattle.onfi_sim.specs.declared.command.Command.TheVariants.{Plan, Check}
 use Rattle.onfi_sim.specs.declared.row_name.Form.{Form}
 use Rattle.onfi_sim.specs.declared.row_name.Form.TheVariants.{First, Second}
 use Rattle.onfi_sim.specs.declared.row_name.RowName.{RowName}
@@ -35,21 +35,22 @@ name_of text =
     else (if bytes_eq text (codes "strict") then Some Strict
     else run_name_of text))))))))
 
--- the rows that `plan` takes
-abbrev pub is_taken_by_plan : RowName → Bool
-is_taken_by_plan Shape = true
-is_taken_by_plan Spans = true
-is_taken_by_plan Page = true
-is_taken_by_plan Sheet = true
-is_taken_by_plan Bus = true
-is_taken_by_plan Free = true
-is_taken_by_plan Running = true
-is_taken_by_plan Want = true
-is_taken_by_plan Strict = true
-is_taken_by_plan _ = false
+-- the rows of a device and a problem
+abbrev pub is_of_problem : RowName → Bool
+is_of_problem Shape = true
+is_of_problem Spans = true
+is_of_problem Page = true
+is_of_problem Sheet = true
+is_of_problem Bus = true
+is_of_problem Free = true
+is_of_problem Running = true
+is_of_problem Want = true
+is_of_problem Strict = true
+is_of_problem _ = false
 
 abbrev pub is_taken : Command → RowName → Bool
-is_taken (Plan limit trace) name = is_taken_by_plan name
+is_taken (Plan limit trace) name = is_of_problem name
+is_taken Check name = is_of_problem name
 
 -- the form whose row it is
 abbrev pub form_of : RowName → Option Form

@@ -14,7 +14,13 @@ use Rattle.onfi_problem.specs.declared.fault.ProblemFault.TheVariants.{TooMany, 
 use Rattle.onfi_problem.specs.Problem.{Problem as ProblemOf}
 use Rattle.onfi_schedule.specs.Schedule.{Placed, Schedule}
 use Rattle.onfi_cert.specs.declared.token.Token.{Token}
+use Rattle.onfi_cert.specs.declared.fault.CertTextFault.{CertTextFault}
+use Rattle.onfi_cert.specs.declared.fault.CertTextFault.TheVariants as cert_text
 use Rattle.onfi_cert.specs.Text.{text_of}
+use Rattle.onfi_check.specs.declared.fault.CertFault.{CertFault}
+use Rattle.onfi_check.specs.declared.fault.CertFault.TheVariants as cert
+use Rattle.onfi_check.specs.declared.fault.TextFault.{TextFault}
+use Rattle.onfi_check.specs.declared.fault.TextFault.TheVariants as in_text
 use Rattle.onfi_sim.specs.declared.fault.ScriptFault.{ScriptFault}
 use Rattle.onfi_sim.specs.declared.fault.ScriptFault.TheVariants.{NoEnd, UnknownRow, FieldCount, NotANumber, OutOfRange, Repeated, Missing, Hex, Page, Geometry, Sheet, Problem, NotHere}
 use Rattle.onfi_sim.specs.declared.fault.Refusal.{Refusal}
@@ -108,6 +114,43 @@ schedule_text s ends = codes "ONFIPLAN 1\n" ++ (codes "finish " ++ decimal ends)
 -- the answer that plans a problem: the schedule, and behind it the certificate of these tokens, which names the option strict
 abbrev pub planned : ProblemOf → Schedule → ℕ → List Token → Answer
 planned p s ends tokens = record { text = schedule_text s ends ++ text_of p.rules.strict tokens; status = 0 }
+
+-- what is refused for this reason
+abbrev pub refused_for : List ℕ → Answer
+refused_for reason = record { text = codes "refused " ++ (reason ++ codes "\n"); status = 2 }
+
+-- .. with a place
+abbrev pub refused_at : List ℕ → ℕ → Answer
+refused_at reason place = record { text = codes "refused " ++ (reason ++ (codes " " ++ (decimal place ++ codes "\n"))); status = 2 }
+
+-- the answer to a schedule that ends at `ends` and that nothing beats
+abbrev pub accepted : ℕ → Answer
+accepted ends = record { text = codes "accepted " ++ (decimal ends ++ codes "\n"); status = 0 }
+
+-- why the tokens of a certificate are refused; want of memory refuses nothing
+abbrev pub cert_refused : CertFault → Answer
+cert_refused cert.Illegal = refused_for (codes "1 Illegal")
+cert_refused cert.Short = refused_for (codes "2 Short")
+cert_refused (cert.Trailing place) = refused_at (codes "3 Trailing") place
+cert_refused (cert.Width place) = refused_at (codes "4 Width") place
+cert_refused (cert.BoundLow place) = refused_at (codes "5 BoundLow") place
+cert_refused (cert.YieldNoFit place) = refused_at (codes "6 YieldNoFit") place
+cert_refused (cert.YieldLoop place) = refused_at (codes "7 YieldLoop") place
+cert_refused (cert.NotEnd place) = refused_at (codes "8 NotEnd") place
+cert_refused cert.Memory = memory
+
+-- why a text is no certificate
+abbrev pub cert_text_refused : CertTextFault → Answer
+cert_text_refused cert_text.Header = refused_for (codes "cert Header")
+cert_text_refused (cert_text.BadToken place) = refused_at (codes "cert BadToken") place
+cert_text_refused cert_text.TooLong = refused_for (codes "cert TooLong")
+cert_text_refused cert_text.Memory = memory
+
+-- why the text of a certificate is refused
+abbrev pub text_refused : TextFault → Answer
+text_refused (in_text.Text fault) = cert_text_refused fault
+text_refused in_text.Option = refused_for (codes "cert Option")
+text_refused (in_text.Cert fault) = cert_refused fault
 
 -- the answer where so many nodes were opened, and the search is not over
 abbrev pub over : ℕ → Answer

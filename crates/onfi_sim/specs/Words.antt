@@ -3,7 +3,7 @@ use Rattle.std.specs.Prelude.{◌≡◌, ℕ, List, Bool, false, bytes_eq, Optio
 use Rattle.clap.specs.Words.{App, Row as Used, Rule, first_of, new_app, new_rule, subcommand_of, with_rule, with_subcommand}
 use Rattle.clap.specs.declared.builder.ArgAction.TheVariants.{Set, SetTrue}
 use Rattle.onfi_sim.specs.declared.command.Command.{Command}
-use Rattle.onfi_sim.specs.declared.command.Command.TheVariants.{Plan}
+use Rattle.onfi_sim.specs.declared.command.Command.TheVariants.{Plan, Check}
 use Rattle.onfi_sim.specs.Field.{number}
 
 -- `--limit N`
@@ -18,8 +18,16 @@ trace = record (new_rule (codes "trace")) { long = Some (codes "trace"); action 
 abbrev pub plan : App
 plan = with_rule (with_rule (new_app (codes "plan")) limit) trace
 
+-- `check`
+abbrev pub check : App
+check = new_app (codes "check")
+
+-- the program with `plan` alone
+abbrev pub with_plan : App
+with_plan = with_subcommand (new_app (codes "onfi_sim")) plan.top
+
 abbrev pub app : App
-app = with_subcommand (new_app (codes "onfi_sim")) plan.top
+app = with_subcommand with_plan check.top
 
 -- the number that was given, 1 to 1,048,576; the greatest where none was
 abbrev pub IsLimit : Option (List ℕ) → ℕ → Type 0
@@ -34,6 +42,7 @@ is_given (Some text) = bytes_eq text (codes "true")
 -- a subcommand with these arguments is this command
 abbrev pub IsNamed : Command → List ℕ → List Used → Type 0
 IsNamed (Plan n traced) name used = (name ≡ codes "plan") × IsLimit (first_of (codes "limit") used) n × (traced ≡ is_given (first_of (codes "trace") used))
+IsNamed Check name used = name ≡ codes "check"
 
 -- the words, of which the first is the program's name, name this command
 abbrev pub Name : List (List ℕ) → Command → Type 0

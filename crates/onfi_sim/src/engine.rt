@@ -5,7 +5,7 @@ ghost use Rattle.csv.specs.Records.{fields_of};
 ghost use Rattle.onfi_problem.specs.Left.{InLimits};
 ghost use Rattle.onfi_schedule.specs.Schedule.{Optimal};
 ghost use Rattle.onfi_sim.specs.Text.{planned as spec_planned};
-ghost use Rattle.onfi_sim.specs.Answer.{AnswersPlan, Traces, Refuses, AnswersProblem, AnswersRows, AnswersRecords, IsAnswer, Answers, BeginsAnswer};
+ghost use Rattle.onfi_sim.specs.Answer.{AnswersCheck, AnswersCommand, AnswersPlan, AnswersSchedule, Traces, Refuses, AnswersProblem, AnswersRows, AnswersRecords, IsAnswer, Answers, BeginsAnswer};
 ghost use Rattle.onfi_sim.specs.AnswerOf.{answer_of};
 ghost use Rattle.onfi_sim.specs.Device.{TellsDevice};
 ghost use Rattle.onfi_sim.specs.Limit.{IsLimited};
@@ -15,17 +15,21 @@ use crate::command::Command;
 use crate::device::Device;
 use crate::fault::{Refusal, RowStop, ScriptFault, Stop};
 use crate::forms::device_of;
+use crate::plan_text::{PlanStop, read_plan};
 use crate::row::Row;
 use crate::rows::rows;
-use crate::script::{records, script_len};
+use crate::script::{behind_end, records, script_len};
 use crate::setup::{Setup, absent, set_up};
-use crate::text::{Answer, over, plan_text, refused};
+use crate::text::{
+    Answer, accepted, over, plan_text, refused, refused_at, refused_for, text_refused,
+};
 use crate::transfer::{EngineFault, InputFault, read_all, write_text};
 use csv::ByteRecord;
 use onfi_cert::write;
+use onfi_check::check_text;
 use onfi_planner::{PlanFault, Planned, plan};
 use onfi_problem::{Problem, ProblemFault};
-use onfi_schedule::trace;
+use onfi_schedule::{Schedule, trace};
 use std::alloc::{AllocError, Global};
 use std::io::{Read, Write};
 
@@ -58,7 +62,7 @@ fn trace_answer(alloc: Global, problem: &Problem, planned: &Planned) -> Result<A
 fn planned(alloc: Global, problem: &Problem, limit: u32, traced: bool) -> Result<Answer, AllocError>
     requires some { 1 ≤ limit }
     requires few { limit ≤ 1048576 }
-    ensures { IfOk result (λ a. AnswersPlan (Command.Plan limit traced) problem.now.problem (answer_of a)) }
+    ensures { IfOk result (λ a. AnswersPlan limit traced problem.now.problem (answer_of a)) }
 {
     match plan(alloc, problem, limit) {
         Ok(planned) if traced => trace_answer(alloc, problem, &planned),
@@ -68,13 +72,54 @@ fn planned(alloc: Global, problem: &Problem, limit: u32, traced: bool) -> Result
     }
 }
 
-/// What the command asks for.
-fn commanded(alloc: Global, command: Command, problem: &Problem) -> Result<Answer, AllocError>
-    requires limit { IsLimited command }
-    ensures { IfOk result (λ a. AnswersPlan command problem.now.problem (answer_of a)) }
+/// The answer to a schedule that is said to end at `ends`, in ns, and the text of its certificate.
+fn judged(
+    alloc: Global,
+    problem: &Problem,
+    schedule: &Schedule,
+    ends: u64,
+    certificate: &[u8],
+) -> Result<Answer, AllocError>
+    ensures { IfOk result (λ a. AnswersSchedule problem.now.problem schedule.now ends certificate.now (answer_of a)) }
 {
-    let Command::Plan { limit, trace } = command;
-    planned(alloc, problem, limit, trace)
+    match check_text(alloc, problem, schedule, certificate) {
+        Ok(finish) if finish == ends => accepted(alloc, ends),
+        Ok(_) => refused_for(alloc, "finish"),
+        Err(fault) => text_refused(alloc, fault),
+    }
+}
+
+/// The answer to a plan text.
+fn checked(alloc: Global, problem: &Problem, text: &[u8]) -> Result<Answer, AllocError>
+    requires begun { problem.now.all ≡ problem.now.problem.wants }
+    ensures { IfOk result (λ a. AnswersCheck problem.now.problem text.now (answer_of a)) }
+{
+    match read_plan(alloc, problem.wants(), text) {
+        Ok((plan, certificate)) => {
+            let ends = plan.finish();
+            let schedule = plan.schedule(alloc, problem.lun_count())?;
+            judged(alloc, problem, &schedule, ends, certificate)
+        }
+        Err(PlanStop::Wrong(number)) => refused_at(alloc, "plan", number),
+        Err(PlanStop::Memory) => Err(AllocError),
+    }
+}
+
+/// What the command asks for; `text` stands behind the script.
+fn commanded(
+    alloc: Global,
+    command: Command,
+    text: &[u8],
+    problem: &Problem,
+) -> Result<Answer, AllocError>
+    requires limit { IsLimited command }
+    requires begun { problem.now.all ≡ problem.now.problem.wants }
+    ensures { IfOk result (λ a. AnswersCommand command text.now problem.now.problem (answer_of a)) }
+{
+    match command {
+        Command::Plan { limit, trace } => planned(alloc, problem, limit, trace),
+        Command::Check => checked(alloc, problem, text),
+    }
 }
 
 /// Times of a problem that was made end below 2^62 ns.
@@ -99,9 +144,14 @@ fn refused_problem(alloc: Global, fault: ProblemFault) -> Result<Answer, AllocEr
 }
 
 /// The answer to what a script sets up.
-fn answer_problem(alloc: Global, command: Command, setup: &Setup) -> Result<Answer, AllocError>
+fn answer_problem(
+    alloc: Global,
+    command: Command,
+    text: &[u8],
+    setup: &Setup,
+) -> Result<Answer, AllocError>
     requires limit { IsLimited command }
-    ensures { IfOk result (λ a. AnswersProblem command (problem_of setup.now) (answer_of a)) }
+    ensures { IfOk result (λ a. AnswersProblem command text.now (problem_of setup.now) (answer_of a)) }
 {
     let problem = Problem::new(
         alloc,
@@ -114,7 +164,7 @@ fn answer_problem(alloc: Global, command: Command, setup: &Setup) -> Result<Answ
     match problem {
         Ok(problem) => {
             keeps_limits(&problem);
-            commanded(alloc, command, &problem)
+            commanded(alloc, command, text, &problem)
         }
         Err(ProblemFault::TooMany) => refused_problem(alloc, ProblemFault::TooMany),
         Err(ProblemFault::BadLun) => refused_problem(alloc, ProblemFault::BadLun),
@@ -127,12 +177,13 @@ fn answer_problem(alloc: Global, command: Command, setup: &Setup) -> Result<Answ
 fn answer_device(
     alloc: Global,
     command: Command,
+    text: &[u8],
     rows: &[Row],
     device: &Device,
 ) -> Result<Answer, AllocError>
     requires limit { IsLimited command }
     requires told { TellsDevice rows.now (Ok device.now) }
-    ensures { IfOk result (λ a. AnswersRows command rows.now (answer_of a)) }
+    ensures { IfOk result (λ a. AnswersRows command text.now rows.now (answer_of a)) }
 {
     if let Some(at) = absent(rows, device.luns) {
         return refused(
@@ -144,16 +195,21 @@ fn answer_device(
         );
     }
     let setup = set_up(alloc, rows, device)?;
-    answer_problem(alloc, command, &setup)
+    answer_problem(alloc, command, text, &setup)
 }
 
 /// The answer to rows that are each in order.
-fn answer_rows(alloc: Global, command: Command, rows: &[Row]) -> Result<Answer, AllocError>
+fn answer_rows(
+    alloc: Global,
+    command: Command,
+    text: &[u8],
+    rows: &[Row],
+) -> Result<Answer, AllocError>
     requires limit { IsLimited command }
-    ensures { IfOk result (λ a. AnswersRows command rows.now (answer_of a)) }
+    ensures { IfOk result (λ a. AnswersRows command text.now rows.now (answer_of a)) }
 {
     match device_of(alloc, rows) {
-        Ok(device) => answer_device(alloc, command, rows, &device),
+        Ok(device) => answer_device(alloc, command, text, rows, &device),
         Err(RowStop::Fault(fault)) => refused_whole(alloc, fault),
         Err(RowStop::Memory) => Err(AllocError),
     }
@@ -163,13 +219,14 @@ fn answer_rows(alloc: Global, command: Command, rows: &[Row]) -> Result<Answer, 
 fn answer_records(
     alloc: Global,
     command: Command,
+    text: &[u8],
     records: &[ByteRecord],
 ) -> Result<Answer, AllocError>
     requires limit { IsLimited command }
-    ensures { IfOk result (λ a. AnswersRecords command (map fields_of records.now) (answer_of a)) }
+    ensures { IfOk result (λ a. AnswersRecords command text.now (map fields_of records.now) (answer_of a)) }
 {
     match rows(alloc, command, records) {
-        Ok(rows) => answer_rows(alloc, command, rows.as_slice()),
+        Ok(rows) => answer_rows(alloc, command, text, rows.as_slice()),
         Err(Stop::Refused(refusal)) => refused(alloc, refusal),
         Err(Stop::Memory) => Err(AllocError),
     }
@@ -183,10 +240,11 @@ fn answer(alloc: Global, command: Command, input: &[u8]) -> Result<Answer, Alloc
     let Some(size) = script_len(input) else {
         return refused_whole(alloc, ScriptFault::NoEnd);
     };
-    let Ok(found) = records(alloc, &input[..size]) else {
+    let (script, closed) = input.split_at(size);
+    let Ok(found) = records(alloc, script) else {
         return Err(AllocError);
     };
-    answer_records(alloc, command, found.as_slice())
+    answer_records(alloc, command, behind_end(closed), found.as_slice())
 }
 
 /// Writes a text, and answers the status that goes with it.
@@ -200,8 +258,9 @@ fn tell<W: Write>(writer: &mut W, text: &[u8], status: u8) -> Result<u8, EngineF
 
 /// Reads all that there is, and writes the answer to it and nothing else.
 ///
-/// Answers the exit status of the program: 0 for a plan, 1 where the script is refused, 4 for want
-/// of memory, 6 where as many nodes were opened as may be and the search is not over.
+/// Answers the exit status of the program: 0 for a plan and for a schedule that is accepted, 1 where the script is
+/// refused, 2 where the plan text or its certificate is, 4 for want of memory, 6 where as many nodes were opened as may
+/// be and the search is not over.
 ///
 /// # Errors
 /// `Read` where a read failed or 2^40 reads did not come to the end: nothing was written. `Write` where a write

@@ -1,14 +1,11 @@
 //! What stands in the fields of a row.
-ghost use Rattle.std.specs.Prelude.{◌≡◌, ℕ, ◌≤◌, ◌<◌, ◌-◌, ◌^◌, min, IfOk, IsTrue};
-ghost use Rattle.std.specs.Char.{is_ascii_digit};
-ghost use Rattle.std.specs.List.{list_all};
-ghost use Rattle.std.specs.Str.Parse.{digits_value};
+ghost use Rattle.std.specs.Prelude.{◌≡◌, ◌≤◌, ◌<◌, ◌-◌, ◌^◌, IfOk};
 ghost use Rattle.csv.specs.Records.{fields_of};
 ghost use Rattle.onfi_sim.specs.Field as spec;
 
 use crate::fault::ScriptFault;
 use csv::ByteRecord;
-use onfi_timing::Kind;
+use onfi_timing::{Kind, read_number};
 
 /// A field of a row, from 0, which is its name; nothing where the row is shorter.
 pub fn field(row: &ByteRecord, at: usize) -> &[u8]
@@ -17,44 +14,15 @@ pub fn field(row: &ByteRecord, at: usize) -> &[u8]
     row.get(at).unwrap_or(b"")
 }
 
-/// Whether each byte is a digit.
-fn all_digits(text: &[u8]) -> bool
-    ensures { result ≡ list_all is_ascii_digit text.now }
-{
-    text.iter().all(|byte| byte.is_ascii_digit())
-}
-
-/// Whether the text is one or more digits.
-fn is_number(text: &[u8]) -> bool
-    ensures { result ≡ spec.is_number text.now }
-{
-    !text.is_empty() && all_digits(text)
-}
-
-/// The value of the digits, or the greatest 64-bit number where that is less.
-fn value(text: &[u8]) -> u64
-    requires { IsTrue (list_all is_ascii_digit text.now) }
-    ensures { result ≡ min (digits_value 10 text.now) (2 ^ 64 - 1) }
-{
-    let mut value = 0u64;
-    for byte in text.iter() {
-        value = value
-            .saturating_mul(10)
-            .saturating_add(u64::from(byte.saturating_sub(b'0')));
-    }
-    value
-}
-
 /// A number from `least` to `most`.
 pub fn number(text: &[u8], least: u64, most: u64) -> Result<u64, ScriptFault>
     requires { most < 2 ^ 64 - 1 }
     ensures value { result ≡ spec.number least most text.now }
     ensures range { IfOk result (λ n. (least ≤ n) × (n ≤ most)) }
 {
-    if !is_number(text) {
+    let Some(value) = read_number(text) else {
         return Err(ScriptFault::NotANumber);
-    }
-    let value = value(text);
+    };
     if least <= value && value <= most {
         Ok(value)
     } else {

@@ -1,12 +1,17 @@
-// Plans ONFI channels: reads a script from standard input and writes its answer to standard output.
+// Plans ONFI channels and checks plans: reads a script from standard input and writes its answer to standard output.
 #![tactic(auto)]
 
+#[cfg(test)]
+mod check_tests;
 mod command;
 mod device;
 mod engine;
 mod fault;
 mod field;
 mod forms;
+mod parts;
+mod plan_line;
+mod plan_text;
 mod row;
 mod row_name;
 mod rows;
@@ -49,7 +54,7 @@ fn main(rt: HostRuntime) -> ExitCode {
             return ExitCode::from(4);
         }
         Err(WordsFault::Refused) => {
-            let _ = rt.eprintln("usage: onfi_sim plan [--limit N] [--trace]");
+            let _ = rt.eprintln("usage: onfi_sim plan [--limit N] [--trace] | onfi_sim check");
             return ExitCode::from(5);
         }
     };

@@ -107,7 +107,7 @@ impl RowName {
         ensures { result ≡ spec.is_taken command self }
     {
         match command {
-            Command::Plan { .. } => matches!(
+            Command::Plan { .. } | Command::Check => matches!(
                 self,
                 RowName::Shape
                     | RowName::Spans

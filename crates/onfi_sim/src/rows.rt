@@ -20,18 +20,18 @@ use csv::ByteRecord;
 use std::alloc::Global;
 
 /// What a row of that name says by itself.
-fn told_alone(alloc: Global, name: RowName, record: &ByteRecord) -> Result<Row, ScriptFault>
-    requires { IsTrue (has_fields name (length (fields_of record.now))) }
-    ensures { result ≡ spec.told_alone name (fields_of record.now) }
+fn told_alone(alloc: Global, name: RowName, fields: &ByteRecord) -> Result<Row, ScriptFault>
+    requires { IsTrue (has_fields name (length (fields_of fields.now))) }
+    ensures { result ≡ spec.told_alone name (fields_of fields.now) }
 {
     match name {
-        RowName::Shape => shape_row(record),
-        RowName::Spans => spans_row(record),
-        RowName::Bus => bus_row(record),
-        RowName::Free => free_row(record),
-        RowName::Running => running_row(alloc, record),
-        RowName::Want => want_row(record),
-        RowName::Strict => strict_row(record),
+        RowName::Shape => shape_row(fields),
+        RowName::Spans => spans_row(fields),
+        RowName::Bus => bus_row(fields),
+        RowName::Free => free_row(fields),
+        RowName::Running => running_row(alloc, fields),
+        RowName::Want => want_row(fields),
+        RowName::Strict => strict_row(fields),
         _ => Err(ScriptFault::NotHere),
     }
 }
@@ -52,15 +52,15 @@ fn said(
     name: RowName,
     seen: &Seen,
     number: usize,
-    record: &ByteRecord,
+    fields: &ByteRecord,
 ) -> Result<Row, RowStop>
-    requires { IsTrue (has_fields name (length (fields_of record.now))) }
-    ensures { MatchResult result (λ row. spec.said name seen.now number (fields_of record.now) ≡ Ok row) (λ stop. IfFault stop (λ fault. spec.said name seen.now number (fields_of record.now) ≡ Err fault)) }
+    requires { IsTrue (has_fields name (length (fields_of fields.now))) }
+    ensures { MatchResult result (λ row. spec.said name seen.now number (fields_of fields.now) ≡ Ok row) (λ stop. IfFault stop (λ fault. spec.said name seen.now number (fields_of fields.now) ≡ Err fault)) }
 {
     match name {
-        RowName::Page => page_row(alloc, record),
-        RowName::Sheet => told(sheet_row(&seen.sheet, number, record)),
-        _ => told(told_alone(alloc, name, record)),
+        RowName::Page => page_row(alloc, fields),
+        RowName::Sheet => told(sheet_row(&seen.sheet, number, fields)),
+        _ => told(told_alone(alloc, name, fields)),
     }
 }
 
@@ -98,20 +98,20 @@ fn row_of(
     command: Command,
     seen: &Seen,
     earlier: &[Row],
-    record: &ByteRecord,
+    fields: &ByteRecord,
 ) -> Result<Row, RowStop>
-    ensures { MatchResult result (λ row. spec.row_of command seen.now earlier.now (fields_of record.now) ≡ Ok row) (λ stop. IfFault stop (λ fault. spec.row_of command seen.now earlier.now (fields_of record.now) ≡ Err fault)) }
+    ensures { MatchResult result (λ row. spec.row_of command seen.now earlier.now (fields_of fields.now) ≡ Ok row) (λ stop. IfFault stop (λ fault. spec.row_of command seen.now earlier.now (fields_of fields.now) ≡ Err fault)) }
 {
-    let Some(name) = RowName::of(field(record, 0)) else {
+    let Some(name) = RowName::of(field(fields, 0)) else {
         return Err(RowStop::Fault(ScriptFault::UnknownRow));
     };
     if !(name.is_taken(command) && name.fits(seen.form)) {
         return Err(RowStop::Fault(ScriptFault::NotHere));
     }
-    if !name.has_fields(record.len()) {
+    if !name.has_fields(fields.len()) {
         return Err(RowStop::Fault(ScriptFault::FieldCount));
     }
-    let row = said(alloc, name, seen, earlier.len() + 1, record)?;
+    let row = said(alloc, name, seen, earlier.len() + 1, fields)?;
     unless_settled(earlier, row)
 }
 

@@ -3,7 +3,7 @@ ghost use Rattle.std.specs.Prelude.{◌≡◌, ◌&&◌, ◌≤◌, take, length
 ghost use Rattle.csv.specs.Reading.{AreRecords, default_config, strip_bom};
 ghost use Rattle.csv.specs.Records.{fields_of};
 ghost use Rattle.csv.specs.declared.parser.State.TheVariants as st;
-ghost use Rattle.onfi_sim.specs.Script.{is_end_line, script_of};
+ghost use Rattle.onfi_sim.specs.Script.{behind_end, is_end_line, script_of};
 
 use csv::{ByteRecord, Error, ReaderBuilder};
 use std::alloc::Global;
@@ -34,6 +34,14 @@ pub fn script_len(input: &[u8]) -> Option<usize>
         starts = *byte == b'\n';
     }
     None
+}
+
+/// What stands behind the line `end` that a text begins with.
+pub fn behind_end(text: &[u8]) -> &[u8]
+    ensures { result.now ≡ behind_end text.now }
+{
+    let len = if text.starts_with(b"end\r\n") { 5 } else { 4 };
+    &text[text.len().min(len)..]
 }
 
 /// Every record of the text.

@@ -11,7 +11,7 @@ use std::io;
 use std::io::{Read, Write};
 use std::test::Fail;
 
-const BASE: &str =
+pub const BASE: &str =
     "shape,2,1,1,1\nspans,read,140,600,25100,11000\nspans,program,10800,600,200100,280\nspans,erase,100,600,1500100,280\n";
 
 const NO_ARRAY: &str =
@@ -23,7 +23,7 @@ const SHEET: &str =
 const ONE_READ: &str = "ONFIPLAN 1\nfinish 36240\ngroup 0 0 25240\nONFICERT 1\nL\n";
 
 // The base script with a read whose gap is as long as one wants.
-const LONG_GAP: &str =
+pub const LONG_GAP: &str =
     "shape,2,1,1,1\nspans,read,140,30100,25100,11000\nspans,program,10800,600,200100,280\nspans,erase,100,600,1500100,280\n";
 
 const READS_ONLY: &str =
@@ -55,10 +55,10 @@ fn plan() -> Command
 
 // Gives its text two bytes at a time; its call number `bad`, from 0, fails.
 #[derive(Drop)]
-struct Cut<'a> {
-    text: &'a [u8],
-    calls: u32,
-    bad: u32,
+pub struct Cut<'a> {
+    pub text: &'a [u8],
+    pub calls: u32,
+    pub bad: u32,
 }
 
 impl<'a> Read for Cut<'a> {
@@ -78,10 +78,10 @@ impl<'a> Read for Cut<'a> {
 
 // Takes three bytes at a time; its call number `bad`, from 0, fails.
 #[derive(Drop)]
-struct Choppy {
-    got: Vec<u8>,
-    calls: u32,
-    bad: u32,
+pub struct Choppy {
+    pub got: Vec<u8>,
+    pub calls: u32,
+    pub bad: u32,
 }
 
 impl Write for Choppy {
@@ -101,7 +101,7 @@ impl Write for Choppy {
     }
 }
 
-fn answered(alloc: Global, command: Command, input: &[u8], text: &str, status: u8) -> bool
+pub fn answered(alloc: Global, command: Command, input: &[u8], text: &str, status: u8) -> bool
     requires { IsLimited command }
 {
     let mut reader = input;
@@ -543,6 +543,7 @@ fn reads_the_command_line(rt: HostRuntime) {
             trace: true,
         }))
     );
+    assert_eq!(rt; asked(alloc, "onfi_sim check"), Some(Ok(Command::Check)));
     for line in [
         "onfi_sim",
         "onfi_sim --limit 7 plan",
@@ -553,6 +554,9 @@ fn reads_the_command_line(rt: HostRuntime) {
         "onfi_sim plan extra",
         "onfi_sim plan --trace --trace",
         "onfi_sim plan --tracer",
+        "onfi_sim check --trace",
+        "onfi_sim check --limit 7",
+        "onfi_sim check extra",
         "onfi_sim run",
         "onfi_sim --help",
     ] {

@@ -6,6 +6,8 @@ ghost use Rattle.onfi_sim.specs.Text as spec;
 ghost use Rattle.onfi_sim.specs.AnswerOf.{answer_of};
 
 use crate::fault::Refusal;
+use onfi_cert::CertTextFault;
+use onfi_check::{CertFault, TextFault};
 use onfi_request::Want;
 use onfi_schedule::{Placed, Schedule, Starts};
 use std::alloc::{AllocError, Global};
@@ -39,6 +41,79 @@ pub fn over(alloc: Global, opened: u32) -> Result<Answer, AllocError>
         text: text.into_bytes(),
         status: 6,
     })
+}
+
+/// The line that refuses for this reason.
+pub fn refused_for(alloc: Global, reason: &str) -> Result<Answer, AllocError>
+    ensures { IfOk result (λ a. answer_of a ≡ spec.refused_for reason.now) }
+{
+    let text = format!(in alloc; "refused {reason}\n")?;
+    Ok(Answer {
+        text: text.into_bytes(),
+        status: 2,
+    })
+}
+
+/// The line that refuses for this reason, with a place.
+pub fn refused_at(alloc: Global, reason: &str, place: u64) -> Result<Answer, AllocError>
+    ensures { IfOk result (λ a. answer_of a ≡ spec.refused_at reason.now place) }
+{
+    let text = format!(in alloc; "refused {reason} {place}\n")?;
+    Ok(Answer {
+        text: text.into_bytes(),
+        status: 2,
+    })
+}
+
+/// The line of a schedule that ends at `ends`, in ns, and that nothing beats.
+pub fn accepted(alloc: Global, ends: u64) -> Result<Answer, AllocError>
+    ensures { IfOk result (λ a. answer_of a ≡ spec.accepted ends) }
+{
+    let text = format!(in alloc; "accepted {ends}\n")?;
+    Ok(Answer {
+        text: text.into_bytes(),
+        status: 0,
+    })
+}
+
+/// The line that refuses the tokens of a certificate; none where memory was refused.
+fn cert_refused(alloc: Global, fault: CertFault) -> Result<Answer, AllocError>
+    ensures { IfOk result (λ a. answer_of a ≡ spec.cert_refused fault) }
+{
+    match fault {
+        CertFault::Illegal => refused_for(alloc, "1 Illegal"),
+        CertFault::Short => refused_for(alloc, "2 Short"),
+        CertFault::Trailing(place) => refused_at(alloc, "3 Trailing", place as u64),
+        CertFault::Width(place) => refused_at(alloc, "4 Width", place as u64),
+        CertFault::BoundLow(place) => refused_at(alloc, "5 BoundLow", place as u64),
+        CertFault::YieldNoFit(place) => refused_at(alloc, "6 YieldNoFit", place as u64),
+        CertFault::YieldLoop(place) => refused_at(alloc, "7 YieldLoop", place as u64),
+        CertFault::NotEnd(place) => refused_at(alloc, "8 NotEnd", place as u64),
+        CertFault::Memory => Err(AllocError),
+    }
+}
+
+/// The line that refuses a text as no certificate; none where memory was refused.
+fn cert_text_refused(alloc: Global, fault: CertTextFault) -> Result<Answer, AllocError>
+    ensures { IfOk result (λ a. answer_of a ≡ spec.cert_text_refused fault) }
+{
+    match fault {
+        CertTextFault::Header => refused_for(alloc, "cert Header"),
+        CertTextFault::BadToken(place) => refused_at(alloc, "cert BadToken", u64::from(place)),
+        CertTextFault::TooLong => refused_for(alloc, "cert TooLong"),
+        CertTextFault::Memory => Err(AllocError),
+    }
+}
+
+/// The line that refuses the text of a certificate; none where memory was refused.
+pub fn text_refused(alloc: Global, fault: TextFault) -> Result<Answer, AllocError>
+    ensures { IfOk result (λ a. answer_of a ≡ spec.text_refused fault) }
+{
+    match fault {
+        TextFault::Text(fault) => cert_text_refused(alloc, fault),
+        TextFault::Option => refused_for(alloc, "cert Option"),
+        TextFault::Cert(fault) => cert_refused(alloc, fault),
+    }
 }
 
 /// Puts a mark and a number behind a text.

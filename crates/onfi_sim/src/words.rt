@@ -23,9 +23,9 @@ pub enum WordsFault {
 /// The greatest limit of a search, and the one where none is named.
 const MOST: u32 = 1_048_576;
 
-/// What the program understands.
-fn app<'a>(alloc: Global) -> Result<App<'a>, AllocError>
-    ensures { IfOk result (λ a. app_of a ≡ spec.app) }
+/// The program with the command `plan [--limit N] [--trace]`.
+fn with_plan<'a>(alloc: Global) -> Result<App<'a>, AllocError>
+    ensures { IfOk result (λ a. app_of a ≡ spec.with_plan) }
 {
     let limit = Arg::new(alloc, "limit")
         .long("limit")
@@ -35,6 +35,14 @@ fn app<'a>(alloc: Global) -> Result<App<'a>, AllocError>
         .action(ArgAction::SetTrue);
     let plan = App::new(alloc, "plan").arg(limit)?.arg(trace)?;
     App::new(alloc, "onfi_sim").subcommand(plan)
+}
+
+/// What the program understands.
+fn app<'a>(alloc: Global) -> Result<App<'a>, AllocError>
+    ensures { IfOk result (λ a. app_of a ≡ spec.app) }
+{
+    let program = with_plan(alloc)?;
+    program.subcommand(App::new(alloc, "check"))
 }
 
 /// A limit in its range, or the greatest where none is named.
@@ -97,6 +105,8 @@ pub fn words<'a>(alloc: Global, words: &'a [String]) -> Result<Command, WordsFau
             limit,
             trace: is_traced(used),
         })
+    } else if name == "check" {
+        Ok(Command::Check)
     } else {
         Err(WordsFault::Refused)
     }

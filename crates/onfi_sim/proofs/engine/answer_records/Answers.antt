@@ -9,5 +9,5 @@ use Rattle.onfi_sim.proofs.engine.answer_records.Goals as goal
 pub returns-in-Ok : goal.returns-in-Ok
 returns-in-Ok c =
     let records = map fields_of c.args.records.now in
-    IfOk-weaker c.answer_rows.result (λ a. AnswersRows c.args.command c.as_slice.result.now (answer_of a)) (λ a. AnswersRecords c.args.command records (answer_of a))
-    (λ a h. rows_told c.args.command records c.in-Ok.rows.items (answer_of a) c.in-Ok.ensures (subst (λ l. AnswersRows c.args.command l (answer_of a)) c.as_slice.ensures.value h)) c.answer_rows.ensures
+    IfOk-weaker c.answer_rows.result (λ a. AnswersRows c.args.command c.args.text.now c.as_slice.result.now (answer_of a)) (λ a. AnswersRecords c.args.command c.args.text.now records (answer_of a))
+    (λ a h. rows_told c.args.command c.args.text.now records c.in-Ok.rows.items (answer_of a) c.in-Ok.ensures (subst (λ l. AnswersRows c.args.command c.args.text.now l (answer_of a)) c.as_slice.ensures.value h)) c.answer_rows.ensures

@@ -9,4 +9,4 @@ returns-in-Err-Fault c =
     let fault = c.in-Err-Fault.fault in
     let none = rw c.in-Err-Fault.field-0-is at c.in-Err-Fault.ensures in
     let refused = rw c.in-Err-Fault.field-0-is at c.refused_whole.ensures in
-    IfOk-weaker c.refused_whole.result (λ a. Refuses fault (answer_of a)) (λ a. AnswersRows c.args.command rows (answer_of a)) (λ a h. has_no_device fault none h) refused
+    IfOk-weaker c.refused_whole.result (λ a. Refuses fault (answer_of a)) (λ a. AnswersRows c.args.command c.args.text.now rows (answer_of a)) (λ a h. has_no_device fault none h) refused

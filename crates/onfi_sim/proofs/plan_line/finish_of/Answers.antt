@@ -1,0 +1,20 @@
+use Rattle.std.proofs.Common.{◌≡◌, ◌∷◌, length, sym, ap, ◌∙◌, true, false, codes}
+use Rattle.std.specs.Prelude.{not}
+use Rattle.std.specs.Str.{bytes_eq}
+use Rattle.onfi_sim.specs.Parts.{parts}
+use Rattle.onfi_sim.specs.PlanLine.{finish_of_words}
+use Rattle.onfi_sim.proofs.PartsLemmas.{some_parts}
+use Rattle.onfi_sim.proofs.LineLemmas.{finish_other, finish_longer, not_so}
+use Rattle.onfi_sim.proofs.plan_line.finish_of.Goals as goal
+
+pub returns-then-ne : goal.returns-then-ne
+returns-then-ne c =
+    let name = c.in_ok-name.name.now in
+    let other : bytes_eq name (codes "finish") ≡ false = not_so _ (rw c.as_slice.ensures at (sym c.ne.ensures ∙ c.if-ne.true)) in
+    sym (ap finish_of_words c.in_ok-name.ensures.some ∙ finish_other name (parts 32 c.in_ok-name.text.now) other)
+
+pub returns-in-Some : goal.returns-in-Some
+returns-in-Some c =
+    let name = c.in_ok-name.name.now in
+    let p = c.in-Some.field-0 in
+    sym (ap finish_of_words c.in_ok-name.ensures.some ∙ ap (λ l. finish_of_words (name ∷ l)) c.in-Some.ensures.some ∙ finish_longer name p.0.now (parts 32 p.1.now) (some_parts 32 p.1.now))
