@@ -1,8 +1,9 @@
 pub mod Steps
 pub mod Parts
-pub mod Firsts
 pub mod Counts
 pub mod Whole
+pub mod Tallying
+pub mod Loading
 pub mod BusBound
 pub mod Classes
 pub mod DieBound

@@ -43,7 +43,7 @@ running_short spans k n some few =
     let w = times_left (k - 1 - n) 3 spans.gap (omega arith) in
     (omega arith, omega arith, elim (cases_lt n k) [ inl h ↦ rw (lt-ltb n k h) (omega arith) | inr h ↦ rw (le-ltb n k h) (omega arith) ])
 
-short_at : (p : Problem) → InLimits p → (l : ℕ) (x : LunState) → slice_get p.luns l ≡ Some x → IsShort (chain_of p.timing x)
+pub short_at : (p : Problem) → InLimits p → (l : ℕ) (x : LunState) → slice_get p.luns l ≡ Some x → IsShort (chain_of p.timing x)
 short_at p lim l (Free since) at = let a = lun_in_limits p l _ lim at in record { from = a; commands = omega arith; posts = omega arith; waits = omega arith }
 short_at p lim l (Running g n r) at =
     let a = lun_in_limits p l _ lim at in
@@ -69,7 +69,7 @@ chain_posts timing [] = refl
 chain_posts timing (Free since ∷ luns) = let e = chain_posts timing luns in omega arith
 chain_posts timing (Running g n r ∷ luns) = let e = chain_posts timing luns in omega arith
 
-next_kind : (timing : Timing) (kind : Kind) (x : LunState) → is_kind kind (chain_of timing x).command ≡ commands_next kind x
+pub next_kind : (timing : Timing) (kind : Kind) (x : LunState) → is_kind kind (chain_of timing x).command ≡ commands_next kind x
 next_kind timing kind (Free since) = refl
 next_kind timing kind (Running g n r) = elim (cases_Bool (nat_lt n (length g))) [
   | inl a ↦ elim (cases_Bool (same_kind kind (kind_of g))) [ inl b ↦ simp (a, b) refl | inr b ↦ simp (a, b) refl ]

@@ -30,13 +30,13 @@ pub starts_are : (p : Problem) (timing : Timing) (bus_free : ℕ) (chains cs : L
 starts_are p timing bus_free chains cs wants ws t f a b c d = rw (c, a, d, b, t, f) (ap least (starts_from p 0 p.luns (λ k. ap (slice_get p.luns) (omega arith))))
 
 -- the work of a LUN
-die_at_is : (p : Problem) (lun : ℕ) (x : LunState) (ws : List Want) → slice_get p.luns lun ≡ Some x → ((chain_of p.timing x).running ≡ true) ⊎ (1 ≤ wants_work p.timing p.rules ws) → max p.bus_free (chain_of p.timing x).from + (chain_of p.timing x).commands + (chain_of p.timing x).posts + (chain_of p.timing x).waits + wants_work p.timing p.rules ws ≡ die_at p lun ws (Some x)
+pub die_at_is : (p : Problem) (lun : ℕ) (x : LunState) (ws : List Want) → slice_get p.luns lun ≡ Some x → ((chain_of p.timing x).running ≡ true) ⊎ (1 ≤ wants_work p.timing p.rules ws) → max p.bus_free (chain_of p.timing x).from + (chain_of p.timing x).commands + (chain_of p.timing x).posts + (chain_of p.timing x).waits + wants_work p.timing p.rules ws ≡ die_at p lun ws (Some x)
 die_at_is p lun (Running g n r) ws at h = rw at (omega arith)
 die_at_is p lun (Free since) (w ∷ ws) at h = rw at (omega arith)
 die_at_is p lun (Free since) [] at (inl e) = cc
 die_at_is p lun (Free since) [] at (inr some) = let a = no_work p.timing p.rules in absurd (omega arith)
 
-die_idle : (p : Problem) (lun : ℕ) (x : LunState) (ws : List Want) → (chain_of p.timing x).running ≡ false → wants_work p.timing p.rules ws ≡ 0 → die_at p lun ws (Some x) ≡ p.bus_free
+pub die_idle : (p : Problem) (lun : ℕ) (x : LunState) (ws : List Want) → (chain_of p.timing x).running ≡ false → wants_work p.timing p.rules ws ≡ 0 → die_at p lun ws (Some x) ≡ p.bus_free
 die_idle p lun (Running g n r) ws e z = cc
 die_idle p lun (Free since) [] e z = refl
 die_idle p lun (Free since) (w ∷ ws) e z = let r = (spans_of p.timing w.kind).in_range in absurd (omega arith)

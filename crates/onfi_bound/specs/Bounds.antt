@@ -27,6 +27,11 @@ abbrev pub least_with : ℕ → Option ℕ → ℕ
 least_with x None = x
 least_with x (Some y) = min x y
 
+-- the least of two, where there are two
+abbrev pub earlier : Option ℕ → Option ℕ → Option ℕ
+earlier None y = y
+earlier (Some x) y = Some (least_with x y)
+
 -- the least of them, if there are any
 abbrev pub least : List ℕ → Option ℕ
 least [] = None

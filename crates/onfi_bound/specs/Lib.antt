@@ -1,3 +1,4 @@
 pub mod Bounds
 pub mod Parts
 pub mod Reaching
+pub mod Loads

@@ -16,6 +16,7 @@ use Rattle.onfi_problem.specs.Left.{command_time, post_time, waits_left, all_com
 use Rattle.onfi_bound.specs.declared.chain.Chain.{Chain}
 use Rattle.onfi_bound.specs.declared.kinds.Kinds.{Kinds}
 use Rattle.onfi_bound.specs.declared.left.Left.{Left}
+use Rattle.onfi_bound.specs.declared.left.Sums.{Sums}
 use Rattle.onfi_bound.specs.Bounds.{same_kind, page_class, above_class, on_plane, deepest, on_lun, least, plus_each, has_command}
 
 -- what is left of a LUN's running group
@@ -68,12 +69,16 @@ added_wait spans rules ws w =
     then spans.array
     else min spans.gap spans.array
 
+-- the sums of what is left to a problem
+pub record AreSums (p : Problem) (sums : Sums) : Type 0 where
+  pub commands : sums.commands ≡ all_commands p
+  pub posts : sums.posts ≡ all_posts p
+  pub kinds : (kind : Kind) → has_kind sums.kinds kind ≡ has_command p kind
+
 -- all that the bounds of a problem are read from
 pub record IsLeft (p : Problem) (left : Left) : Type 0 where
   pub limits : InLimits p
   pub bus_free : left.bus_free ≡ p.bus_free
   pub chains : left.chains.items ≡ map (chain_of p.timing) p.luns
   pub wants : left.wants.items ≡ p.wants
-  pub commands : left.sums.commands ≡ all_commands p
-  pub posts : left.sums.posts ≡ all_posts p
-  pub kinds : (kind : Kind) → has_kind left.sums.kinds kind ≡ has_command p kind
+  pub sums : AreSums p left.sums

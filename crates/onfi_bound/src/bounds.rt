@@ -1,8 +1,8 @@
 ghost use Rattle.std.specs.Prelude.{◌≡◌, ℕ, ◌+◌, ◌^◌, ◌<◌, ◌≤◌, length, Option, Some, None, if◌then◌else◌, IfSome};
-ghost use Rattle.onfi_bound.specs.Bounds.{bus, lead, trail, die, least_with};
-ghost use Rattle.onfi_bound.specs.Parts.{IsLeft};
+ghost use Rattle.onfi_bound.specs.Bounds.{bus, lead, trail, die, least, least_with, post_starts};
+ghost use Rattle.onfi_bound.specs.Parts.{AreSums, IsLeft};
 
-use crate::left::Left;
+use crate::left::{Left, Sums};
 use crate::posts::{first_post, least_of};
 use crate::waits::work_of_wants;
 use onfi_problem::Problem;
@@ -13,7 +13,7 @@ pub fn bus(problem: &Problem) -> u64
     ensures value { result ≡ bus problem.now.problem }
     ensures small { result < 2 ^ 62 }
 {
-    Left::of(problem).bus(problem)
+    Left::of(problem).sums.bus(problem)
 }
 
 /// The lead bound, in ns of the channel's clock: the least first post start of the LUNs that have something left, plus
@@ -31,7 +31,7 @@ pub fn trail(problem: &Problem) -> Option<u64>
     ensures value { result ≡ trail problem.now.problem }
     ensures small { IfSome result (λ t. t < 2 ^ 62) }
 {
-    Left::of(problem).trail(problem)
+    Left::of(problem).sums.trail(problem)
 }
 
 /// The die bound of a LUN that is there, in ns of the channel's clock: from when the LUN may go on, plus the rest of
@@ -48,16 +48,47 @@ pub fn die(problem: &Problem, lun: u8) -> u64
     Left::of(problem).die(problem, lun)
 }
 
-impl Left {
-    /// The bus bound.
+impl Sums {
+    /// The bus bound of a problem to which these are left.
     pub fn bus(&self, problem: &Problem) -> u64
-        requires { IsLeft problem.now.problem self.now }
+        requires { AreSums problem.now.problem self.now }
         ensures value { result ≡ bus problem.now.problem }
         ensures small { result < 2 ^ 62 }
     {
-        self.bus_free + self.sums.commands + self.sums.posts
+        problem.bus_free() + self.commands + self.posts
     }
 
+    /// Its lead bound, where the first post starts then.
+    pub fn lead(&self, problem: &Problem, first: Option<u64>) -> u64
+        requires sums { AreSums problem.now.problem self.now }
+        requires first { first ≡ least (post_starts problem.now.problem 0 problem.now.problem.luns) }
+        ensures value { result ≡ lead problem.now.problem }
+        ensures small { result < 2 ^ 62 }
+    {
+        let bus_free = problem.bus_free();
+        match first {
+            Some(start) => start + self.posts,
+            None => bus_free,
+        }
+    }
+
+    /// Its trail bound, where a command is left.
+    pub fn trail(&self, problem: &Problem) -> Option<u64>
+        requires { AreSums problem.now.problem self.now }
+        ensures value { result ≡ trail problem.now.problem }
+        ensures small { IfSome result (λ t. t < 2 ^ 62) }
+    {
+        let bus_free = problem.bus_free();
+        let timing = problem.timing();
+        let kinds = self.kinds;
+        let rest = behind_command(kinds.erase, &timing.erase, None);
+        let rest = behind_command(kinds.program, &timing.program, rest);
+        let rest = behind_command(kinds.read, &timing.read, rest)?;
+        Some(bus_free + self.commands + rest)
+    }
+}
+
+impl Left {
     /// The lead bound.
     pub fn lead(&self, problem: &Problem) -> u64
         requires { IsLeft problem.now.problem self.now }
@@ -65,24 +96,8 @@ impl Left {
         ensures small { result < 2 ^ 62 }
     {
         let timing = problem.timing();
-        match first_post(&timing, self.bus_free, &self.chains, &self.wants) {
-            Some(start) => start + self.sums.posts,
-            None => self.bus_free,
-        }
-    }
-
-    /// The trail bound, where a command is left.
-    pub fn trail(&self, problem: &Problem) -> Option<u64>
-        requires { IsLeft problem.now.problem self.now }
-        ensures value { result ≡ trail problem.now.problem }
-        ensures small { IfSome result (λ t. t < 2 ^ 62) }
-    {
-        let timing = problem.timing();
-        let kinds = self.sums.kinds;
-        let rest = behind_command(kinds.erase, &timing.erase, None);
-        let rest = behind_command(kinds.program, &timing.program, rest);
-        let rest = behind_command(kinds.read, &timing.read, rest)?;
-        Some(self.bus_free + self.sums.commands + rest)
+        let first = first_post(&timing, self.bus_free, &self.chains, &self.wants);
+        self.sums.lead(problem, first)
     }
 
     /// The die bound of a LUN.

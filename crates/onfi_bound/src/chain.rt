@@ -1,5 +1,6 @@
 ghost use Rattle.std.specs.Prelude.{◌≡◌, ◌+◌, ◌^◌, ◌<◌, ◌≤◌, max, length};
-ghost use Rattle.onfi_problem.specs.declared.lun_state.LunState.TheVariants.{Running};
+ghost use Rattle.onfi_timing.specs.declared.timing.Timing.{Timing as Shape};
+ghost use Rattle.onfi_problem.specs.declared.lun_state.LunState.TheVariants.{Free, Running};
 ghost use Rattle.onfi_problem.specs.Position.{state_of};
 ghost use Rattle.onfi_bound.specs.Parts.{chain_of, IsShort};
 
@@ -31,41 +32,65 @@ impl Chain {
         ensures { result ≡ chain_of timing.now (state_of groups.now lun) }
     {
         if lun.next == 0 {
-            return Chain {
-                running: false,
-                from: lun.time,
-                commands: 0,
-                posts: 0,
-                waits: 0,
-                command: None,
-            };
+            return Chain::free(lun.time);
         }
         let group = &groups[lun.place as usize];
-        Chain::of_group(timing, group, lun.next, lun.time)
+        if (lun.next as usize) < group.len() {
+            Chain::of_commands(timing, group, lun.next, lun.time)
+        } else {
+            Chain::of_posts(timing, group, lun.next, lun.time)
+        }
     }
 
-    /// What is left of a group of which phase `next` comes next, from `ready` on.
-    fn of_group(timing: &Timing, group: &Group, next: u8, ready: u64) -> Chain
+    /// Nothing, on a LUN that is free from then on.
+    #[inline(always)]
+    pub fn free(since: u64) -> Chain
+        ensures { (timing : Shape) → result ≡ chain_of timing (Free since) }
+    {
+        Chain {
+            running: false,
+            from: since,
+            commands: 0,
+            posts: 0,
+            waits: 0,
+            command: None,
+        }
+    }
+
+    /// What is left of a group of which command `next` comes next, from `ready` on.
+    #[inline(always)]
+    pub fn of_commands(timing: &Timing, group: &Group, next: u8, ready: u64) -> Chain
+        requires { next < length group.now }
         ensures { result ≡ chain_of timing.now (Running group.now next ready) }
     {
         let spans = timing.spans(group.kind());
         let members = group.len() as u64;
         let next = next as u64;
-        let (waits, command) = if next < members {
-            (
-                (members - 1 - next) * spans.gap + spans.array,
-                Some(group.kind()),
-            )
-        } else {
-            (0, None)
-        };
         Chain {
             running: true,
             from: ready,
-            commands: members.saturating_sub(next) * spans.cmd,
-            posts: (2 * members).saturating_sub(next.max(members)) * spans.post,
-            waits,
-            command,
+            commands: (members - next) * spans.cmd,
+            posts: members * spans.post,
+            waits: (members - 1 - next) * spans.gap + spans.array,
+            command: Some(group.kind()),
+        }
+    }
+
+    /// What is left of a group whose commands are over, of which phase `next` comes next, from `ready` on.
+    #[inline(always)]
+    pub fn of_posts(timing: &Timing, group: &Group, next: u8, ready: u64) -> Chain
+        requires { length group.now ≤ next }
+        ensures { result ≡ chain_of timing.now (Running group.now next ready) }
+    {
+        let spans = timing.spans(group.kind());
+        let members = group.len() as u64;
+        Chain {
+            running: true,
+            from: ready,
+            commands: 0,
+            posts: (2 * members).saturating_sub(next as u64) * spans.post,
+            waits: 0,
+            command: None,
         }
     }
 

@@ -2,7 +2,7 @@ ghost use Rattle.std.specs.Prelude.{◌≡◌, ℕ, ◌+◌, ◌*◌, ◌^◌, �
 ghost use Rattle.std.specs.List.{AllByRecursion as Each, list_any};
 ghost use Rattle.onfi_timing.specs.declared.kind.Kind.{Kind};
 ghost use Rattle.onfi_group.specs.Words.{total};
-ghost use Rattle.onfi_problem.specs.Position.{state_of};
+ghost use Rattle.onfi_problem.specs.Position.{state_of, waiting_of};
 ghost use Rattle.onfi_problem.specs.Left.{want_command, want_post, InLimits};
 ghost use Rattle.onfi_bound.specs.Bounds.{same_kind};
 ghost use Rattle.onfi_bound.specs.Parts.{chain_of, has_kind, is_kind, IsShort, IsLeft};
@@ -28,7 +28,7 @@ pub struct Sums {
 
 impl Sums {
     /// Nothing is left.
-    fn none() -> Sums
+    pub fn none() -> Sums
         ensures commands { result.commands ≡ 0 }
         ensures posts { result.posts ≡ 0 }
         ensures kinds { (kind : Kind) → has_kind result.kinds kind ≡ false }
@@ -58,7 +58,7 @@ impl Sums {
     }
 
     /// One more running group.
-    fn with_chain(self, chain: Chain) -> Sums
+    pub fn with_chain(self, chain: Chain) -> Sums
         requires commands { self.commands + chain.commands < 2 ^ 64 }
         requires posts { self.posts + chain.posts < 2 ^ 64 }
         ensures commands { result.commands ≡ self.commands + chain.commands }
@@ -77,7 +77,7 @@ impl Sums {
     }
 
     /// These and what is left of wants.
-    fn with_wants(self, timing: &Timing, wants: &[Want]) -> Sums
+    pub fn with_wants(self, timing: &Timing, wants: &[Want]) -> Sums
         requires few { length wants.now ≤ 8 }
         requires commands { self.commands ≤ 2 ^ 55 }
         requires posts { self.posts ≤ 2 ^ 55 }
@@ -145,18 +145,19 @@ impl Left {
     {
         let timing = problem.timing();
         list_chains(&timing, problem.groups(), problem.luns(), &mut self.chains);
-        list_waiting(problem, &mut self.wants);
+        list_marked(problem.wants(), problem.waiting(), &mut self.wants);
         self.sums = Sums::of_chains(&self.chains).with_wants(&timing, &self.wants);
     }
 }
 
-/// Lists the wants that wait.
-fn list_waiting(problem: &Problem, wants: &mut ArrayVec<Want, 8>)
-    requires { wants.old.items ≡ [] }
-    ensures { wants.new.items ≡ problem.now.problem.wants }
+/// Lists the marked ones of some wants.
+pub fn list_marked(all: &[Want], marks: &[bool; 8], wants: &mut ArrayVec<Want, 8>)
+    requires empty { wants.old.items ≡ [] }
+    requires few { length all.now ≤ 8 }
+    ensures wants { wants.new.items ≡ waiting_of marks.now all.now }
+    ensures few { length wants.new.items ≤ 8 }
 {
-    let marks = problem.waiting();
-    for (i, want) in problem.wants().iter().enumerate() {
+    for (i, want) in all.iter().enumerate() {
         if marks[i] {
             wants.push(*want);
         }

@@ -8,12 +8,16 @@ mod chain;
 mod kinds;
 pub mod laws;
 mod left;
+mod load;
+mod loads;
 mod posts;
 mod reaching;
+mod tally;
 mod waits;
 
 pub use bound::Bound;
 pub use bounds::{bus, die, lead, trail};
+pub use loads::Loads;
 pub use reaching::{closing, reaches};
 
 #[cfg(test)]

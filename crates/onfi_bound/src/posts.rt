@@ -40,7 +40,7 @@ fn to_post(timing: &Timing, wants: &[Want], lun: u8, chain: &Chain) -> Option<u6
 }
 
 /// The least command and array of the wants on a LUN, in ns.
-fn first_command(timing: &Timing, wants: &[Want], lun: u8) -> Option<u64>
+pub fn first_command(timing: &Timing, wants: &[Want], lun: u8) -> Option<u64>
     ensures value { result ≡ least (map (λ w. (spans_of timing.now w.kind).cmd + (spans_of timing.now w.kind).array) (on_lun lun wants.now)) }
     ensures short { IfSome result (λ rest. rest < 2 ^ 51) }
 {

@@ -1,4 +1,4 @@
-use crate::{Bound, bus, closing, die, lead, reaches, trail};
+use crate::{Bound, Loads, bus, closing, die, lead, reaches, trail};
 use onfi_group::{Group, Rules};
 use onfi_problem::{LunState, Problem};
 use onfi_request::Want;
@@ -182,5 +182,16 @@ fn the_first_bound_that_reaches(rt: HostRuntime) -> Result<(), Fail> {
     assert!(rt; !reaches(&problem, Bound::Lead, 11_561));
     assert!(rt; reaches(&problem, Bound::Die(0), 11_000));
     assert!(rt; !reaches(&problem, Bound::Die(2), 0));
+    Ok(())
+}
+
+#[test]
+fn a_table_finds_the_same_bound(rt: HostRuntime) -> Result<(), Fail> {
+    let problem = output_and_status(rt.alloc())?;
+    let loads = Loads::new(rt.alloc(), &problem)?;
+    assert_eq!(rt; loads.closing(&problem, 11_660), Some(Bound::Bus));
+    assert_eq!(rt; loads.closing(&problem, 1_500_480), Some(Bound::Trail));
+    assert_eq!(rt; loads.closing(&problem, 1_500_810), Some(Bound::Die(1)));
+    assert_eq!(rt; loads.closing(&problem, 1_500_811), None);
     Ok(())
 }

@@ -5,6 +5,7 @@ pub mod Paths
 mod Taking
 pub mod Halfway
 pub mod Growing
+pub mod Rising
 pub mod Whole
 pub mod Deciding
 pub mod Choosing

@@ -14,7 +14,8 @@ use Rattle.onfi_problem.specs.Left.{InLimits}
 use Rattle.onfi_planner.specs.declared.fault.PlanFault.TheVariants.{Over}
 use Rattle.onfi_planner.specs.First.{IsFirstRun}
 use Rattle.onfi_planner.specs.Nodes.{HasNodes, HasMoreNodes}
-use Rattle.onfi_planner.specs.Planning.{Searched, Written, IsOver, Bounded, run_of}
+use Rattle.onfi_planner.specs.Planning.{Searched, Written, IsOver, Bounded, run_of, AreRising}
+use Rattle.onfi_planner.proofs.Rising.{run_rises}
 use Rattle.onfi_planner.proofs.Beginning.{first_is_run}
 use Rattle.std.specs.Prelude.{Result, Ok, Err, MatchResult, IfOk}
 use Rattle.onfi_planner.specs.declared.fault.PlanFault.{PlanFault}
@@ -75,8 +76,8 @@ written_tokens x now found first e old new r q n w =
     let (tree, t, a) = subst (λ (z : Position). Written z.problem e old new) (q ∙ r.same) w in
     (tree, sym (t ∙ ap (λ z. z ++ preorder tree) n), a)
 
-pub best_plan : (x : Position) (best : Best) (s : Schedule) (tokens : List Token) → IsProblem x.problem → Found x best → AcceptsTokens tokens x.problem best.finish → s ≡ schedule_of x.problem (run_of x.groups best.steps.items) → Optimal x.problem s × (finish x.problem s ≡ best.finish)
+pub best_plan : (x : Position) (best : Best) (s : Schedule) (tokens : List Token) → IsProblem x.problem → Found x best → AcceptsTokens tokens x.problem best.finish → s ≡ schedule_of x.problem (run_of x.groups best.steps.items) → Optimal x.problem s × (finish x.problem s ≡ best.finish) × AreRising s.groups
 best_plan x best s tokens ip f (tree, t, a) e =
     let l = run_legal (run_of x.groups best.steps.items) x.problem best.finish ip f.run in
     let o = certified x.problem (schedule_of x.problem (run_of x.groups best.steps.items)) tree ip l.0 (subst (Accepts tree x.problem) (sym l.1) a) in
-    (subst (Optimal x.problem) (sym e) o, ap (finish x.problem) e ∙ l.1)
+    (subst (Optimal x.problem) (sym e) o, ap (finish x.problem) e ∙ l.1, subst (λ (z : Schedule). AreRising z.groups) (sym e) (run_rises (run_of x.groups best.steps.items) x.problem best.finish f.run))

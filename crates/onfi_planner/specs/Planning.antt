@@ -1,9 +1,11 @@
 -- What the search and the writing of certificates promise.
-use Rattle.std.specs.Prelude.{◌≡◌, ℕ, ◌+◌, ◌-◌, ◌≤◌, Bool, true, false, List, ◌++◌, map, reverse}
+use Rattle.std.specs.Prelude.{◌≡◌, ℕ, ◌+◌, ◌-◌, ◌≤◌, ◌<◌, Bool, true, false, List, ◌++◌, map, reverse, slice_index}
 use Rattle.onfi_request.specs.declared.want.Want.{Want}
 use Rattle.onfi_cert.specs.declared.token.Token.{Token}
 use Rattle.onfi_problem.specs.Problem.{Problem}
 use Rattle.onfi_problem.specs.Left.{all_commands, all_posts}
+use Rattle.onfi_group.specs.Words.{Pairs}
+use Rattle.onfi_schedule.specs.Schedule.{Placed}
 use Rattle.onfi_schedule.specs.Runs.{Step as Taken, Run}
 use Rattle.onfi_check.specs.Tree.{Tree, preorder, Accepts}
 use Rattle.onfi_planner.specs.declared.search.Begun.{Begun}
@@ -42,6 +44,14 @@ pub record IsOver (p : Problem) (finish old new greatest : ℕ) : Type 0 where
 -- the new tokens are those of a tree that is accepted for e
 abbrev pub Written : Problem → ℕ → List Token → List Token → Type 0
 Written p e old new = (tree : Tree) × (new ≡ old ++ preorder tree) × Accepts tree p e
+
+-- when a group's first phase starts
+abbrev pub first_start : Placed → ℕ
+first_start g = slice_index g.starts 0
+
+-- groups by rising first start
+abbrev pub AreRising : List Placed → Type 0
+AreRising groups = Pairs (λ a b. first_start a < first_start b) groups
 
 -- the work that is left
 abbrev pub work : Problem → ℕ

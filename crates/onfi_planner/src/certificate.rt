@@ -2,10 +2,12 @@ ghost use Rattle.std.specs.Prelude.{◌≡◌, ℕ, ◌+◌, ◌≤◌, ◌<◌,
 ghost use Rattle.onfi_problem.specs.Moves.{IsMove, move_lun};
 ghost use Rattle.onfi_problem.specs.Left.{InLimits};
 ghost use Rattle.onfi_problem.specs.Position.{move_of, moved, lun_named};
+ghost use Rattle.onfi_bound.specs.Loads.{AreLoads};
 ghost use Rattle.onfi_planner.specs.Planning.{Bounded, Written};
 
 use crate::closing::closing_token;
 use crate::yields::yields_of;
+use onfi_bound::Loads;
 use onfi_cert::{LunNumber, Token, Width};
 use onfi_check::last_ends;
 use onfi_problem::{Move, Problem};
@@ -13,13 +15,19 @@ use std::alloc::AllocError;
 
 /// Appends the tokens of a tree that shows that nothing below a node ends before `e`.
 #[cycle(write)]
-pub fn write(problem: &mut Problem, e: u64, tokens: &mut Vec<Token>) -> Result<(), AllocError>
+pub fn write(
+    problem: &mut Problem,
+    loads: &Loads,
+    e: u64,
+    tokens: &mut Vec<Token>,
+) -> Result<(), AllocError>
     requires limits { InLimits problem.old.problem }
+    requires loads { AreLoads problem.old loads.now.of.items }
     requires least { Bounded problem.old.problem e }
     ensures problem { IfOk result (λ _. problem.new ≡ problem.old) }
     ensures written { IfOk result (λ _. Written problem.old.problem e tokens.old.items tokens.new.items) }
 {
-    if let Some(token) = closing_token(problem, e) {
+    if let Some(token) = closing_token(problem, loads, e) {
         tokens.push(token)?;
         return Ok(());
     }
@@ -34,7 +42,7 @@ pub fn write(problem: &mut Problem, e: u64, tokens: &mut Vec<Token>) -> Result<(
     for step in steps {
         match yields[step.lun() as usize] {
             Some(lun) => tokens.push(Token::Yield(LunNumber::of(lun)))?,
-            None => write_below(problem, *step, e, tokens)?,
+            None => write_below(problem, loads, *step, e, tokens)?,
         }
     }
     Ok(())
@@ -44,11 +52,13 @@ pub fn write(problem: &mut Problem, e: u64, tokens: &mut Vec<Token>) -> Result<(
 #[cycle(write)]
 fn write_below(
     problem: &mut Problem,
+    loads: &Loads,
     step: Move,
     e: u64,
     tokens: &mut Vec<Token>,
 ) -> Result<(), AllocError>
     requires limits { InLimits problem.old.problem }
+    requires loads { AreLoads problem.old loads.now.of.items }
     requires least { Bounded problem.old.problem e }
     requires step { IsMove problem.old.problem (move_of problem.old.groups step) }
     requires lun { move_lun (move_of problem.old.groups step) ≡ lun_named step }
@@ -56,7 +66,7 @@ fn write_below(
     ensures written { IfOk result (λ _. Written (moved problem.old step).problem e tokens.old.items tokens.new.items) }
 {
     let undo = problem.advance(step);
-    write(problem, e, tokens)?;
+    write(problem, loads, e, tokens)?;
     problem.undo(undo);
     Ok(())
 }

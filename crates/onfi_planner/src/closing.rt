@@ -1,18 +1,20 @@
 ghost use Rattle.std.specs.Prelude.{◌≡◌, MatchOption};
 ghost use Rattle.onfi_problem.specs.Left.{InLimits};
+ghost use Rattle.onfi_bound.specs.Loads.{AreLoads};
 ghost use Rattle.onfi_check.specs.Tree.{Closing, Closes, token_of};
 ghost use Rattle.onfi_planner.specs.Opening.{IsOpen};
 
-use onfi_bound::Bound;
+use onfi_bound::{Bound, Loads};
 use onfi_cert::{LunNumber, Token};
 use onfi_problem::Problem;
 
 /// The token of the first bound that is at least `e` ns; None where the node is open.
-pub fn closing_token(problem: &Problem, e: u64) -> Option<Token>
-    requires { InLimits problem.now.problem }
+pub fn closing_token(problem: &Problem, loads: &Loads, e: u64) -> Option<Token>
+    requires limits { InLimits problem.now.problem }
+    requires loads { AreLoads problem.now loads.now.of.items }
     ensures { MatchOption result (IsOpen e problem.now.problem) (λ token. (c : Closing) × (token_of c ≡ token) × Closes problem.now.problem e c) }
 {
-    match onfi_bound::closing(problem, e) {
+    match loads.closing(problem, e) {
         None => None,
         Some(Bound::Bus) => Some(Token::Bus),
         Some(Bound::Lead) => Some(Token::Lead),

@@ -2,6 +2,7 @@ ghost use Rattle.std.specs.Prelude.{◌≡◌, ℕ, ◌≤◌, IfOk, IfErr};
 ghost use Rattle.onfi_schedule.specs.Schedule.{Optimal, finish};
 ghost use Rattle.onfi_check.specs.Tree.{AcceptsTokens};
 ghost use Rattle.onfi_planner.specs.Nodes.{HasMoreNodes};
+ghost use Rattle.onfi_planner.specs.Planning.{AreRising};
 
 use crate::certificate;
 use crate::fault::PlanFault;
@@ -9,11 +10,12 @@ use crate::first::first_run;
 use crate::placing::schedule_of;
 use crate::planned::Planned;
 use crate::search::{self, Best, Stop};
+use onfi_bound::Loads;
 use onfi_problem::Problem;
 use std::alloc::Global;
 
-/// The legal schedule of a problem that ends first, with the certificate that shows it; the search opens at most
-/// `limit` nodes, 1 to 1,048,576.
+/// The legal schedule of a problem that ends first, its groups by rising first start, with the certificate that shows
+/// it; the search opens at most `limit` nodes, 1 to 1,048,576.
 ///
 /// # Errors
 /// `Over` where `limit` nodes were opened and the tree of the problem has more: its nodes are the paths of moves on
@@ -23,6 +25,7 @@ pub fn plan(alloc: Global, problem: &Problem, limit: u32) -> Result<Planned, Pla
     requires few { limit ≤ 1048576 }
     ensures optimal { IfOk result (λ plan. Optimal problem.now.problem plan.schedule) }
     ensures finish { IfOk result (λ plan. finish problem.now.problem plan.schedule ≡ plan.finish) }
+    ensures rising { IfOk result (λ plan. AreRising plan.schedule.groups) }
     ensures cert { IfOk result (λ plan. AcceptsTokens plan.cert.items problem.now.problem plan.finish) }
     ensures over { IfErr result (λ fault. (opened : ℕ) → fault ≡ PlanFault.Over opened → (opened ≡ limit) × HasMoreNodes problem.now.problem limit) }
 {
@@ -30,14 +33,15 @@ pub fn plan(alloc: Global, problem: &Problem, limit: u32) -> Result<Planned, Pla
     let mut steps = Vec::new(alloc);
     let finish = first_run(&mut at, &mut steps).map_err(|_| PlanFault::Memory)?;
     let mut best = Best { finish, steps };
+    let loads = Loads::new(alloc, &at).map_err(|_| PlanFault::Memory)?;
     let mut opened = 0;
-    match search::search(&mut at, &mut best, &mut opened, limit) {
+    match search::search(&mut at, &loads, &mut best, &mut opened, limit) {
         Ok(_) => {}
         Err(Stop::Over) => return Err(PlanFault::Over { opened }),
         Err(Stop::Memory) => return Err(PlanFault::Memory),
     }
     let mut cert = Vec::new(alloc);
-    certificate::write(&mut at, best.finish, &mut cert).map_err(|_| PlanFault::Memory)?;
+    certificate::write(&mut at, &loads, best.finish, &mut cert).map_err(|_| PlanFault::Memory)?;
     let schedule = schedule_of(alloc, problem, best.steps.as_slice());
     Ok(Planned {
         schedule: schedule.map_err(|_| PlanFault::Memory)?,

@@ -3,10 +3,12 @@ ghost use Rattle.onfi_problem.specs.Moves.{IsMove, move_lun};
 ghost use Rattle.onfi_problem.specs.Left.{InLimits};
 ghost use Rattle.onfi_problem.specs.Position.{move_of, moved, lun_named};
 ghost use Rattle.onfi_schedule.specs.Runs.{Run};
+ghost use Rattle.onfi_bound.specs.Loads.{AreLoads};
 ghost use Rattle.onfi_planner.specs.Planning.{Searched, HasOpened, IsOver, Bounded, run_of};
 
 use crate::closing::closing_token;
 use crate::yields::yields_of;
+use onfi_bound::Loads;
 use onfi_check::last_ends;
 use onfi_problem::{Move, Problem};
 
@@ -37,11 +39,13 @@ pub enum Stop {
 #[cycle(search)]
 pub fn search(
     problem: &mut Problem,
+    loads: &Loads,
     best: &mut Best,
     opened: &mut u32,
     limit: u32,
 ) -> Result<bool, Stop>
     requires limits { InLimits problem.old.problem }
+    requires loads { AreLoads problem.old loads.now.of.items }
     requires opened { opened.old ≤ limit }
     ensures problem { IfOk result (λ _. problem.new ≡ problem.old) }
     ensures found { IfOk result (λ improved. Searched problem.old best.old best.new improved) }
@@ -52,7 +56,7 @@ pub fn search(
         return Err(Stop::Over);
     }
     *opened += 1;
-    if closing_token(problem, best.finish).is_some() {
+    if closing_token(problem, loads, best.finish).is_some() {
         return Ok(false);
     }
     let moves = problem.steps();
@@ -69,7 +73,7 @@ pub fn search(
         if yields[step.lun() as usize].is_some() {
             continue;
         }
-        if visit(problem, *step, best, opened, limit)? {
+        if visit(problem, loads, *step, best, opened, limit)? {
             improved = true;
         }
     }
@@ -80,12 +84,14 @@ pub fn search(
 #[cycle(search)]
 fn visit(
     problem: &mut Problem,
+    loads: &Loads,
     step: Move,
     best: &mut Best,
     opened: &mut u32,
     limit: u32,
 ) -> Result<bool, Stop>
     requires limits { InLimits problem.old.problem }
+    requires loads { AreLoads problem.old loads.now.of.items }
     requires opened { opened.old ≤ limit }
     requires step { IsMove problem.old.problem (move_of problem.old.groups step) }
     requires lun { move_lun (move_of problem.old.groups step) ≡ lun_named step }
@@ -99,7 +105,7 @@ fn visit(
 {
     let start = problem.earliest(step);
     let undo = problem.advance(step);
-    let improved = search(problem, best, opened, limit)?;
+    let improved = search(problem, loads, best, opened, limit)?;
     problem.undo(undo);
     if improved {
         match best.steps.push(Begun { step, start }) {

@@ -286,6 +286,22 @@ fn a_post_yields_to_programs(rt: HostRuntime) -> Result<(), Fail> {
 }
 
 #[test]
+fn a_lun_without_a_move_does_not_yield(rt: HostRuntime) -> Result<(), Fail> {
+    let alloc = rt.alloc();
+    let late = LunState::Free { since: 1_000_000 };
+    let post = waits(alloc, want(0, Kind::Erase, 1, 0, 0), 100_000);
+    let luns = [late, post, free()];
+    let wants = [program(0, 2, 0), program(1, 2, 1)];
+    let problem = problem(alloc, apart(), &luns, &wants)?;
+    let plan = planned(alloc, &problem)?;
+    let yields = Token::Yield(LunNumber::of(2));
+    let cert = [Token::Branch(Width::of(3)), yields, die(2), die(2)];
+    assert!(rt; ends_so(&problem, &plan, 2, 422_360, &cert));
+    assert!(rt; is_over(alloc, &problem, 2) && !is_over(alloc, &problem, 3));
+    Ok(())
+}
+
+#[test]
 fn a_read_goes_before_a_late_post(rt: HostRuntime) -> Result<(), Fail> {
     let alloc = rt.alloc();
     let luns = [waits(alloc, want(0, Kind::Erase, 0, 0, 0), 1_000), free()];

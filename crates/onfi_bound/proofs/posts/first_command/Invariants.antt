@@ -1,8 +1,7 @@
 use Rattle.std.proofs.Common.{◌≡◌, ◌+◌, ◌^◌, ◌<◌, map, drop}
 use Rattle.std.specs.Prelude.{IfSome}
 use Rattle.onfi_timing.specs.Kinds.{spans_of}
-use Rattle.onfi_bound.specs.Bounds.{on_lun, least}
-use Rattle.onfi_bound.proofs.Firsts.{earlier}
+use Rattle.onfi_bound.specs.Bounds.{earlier, on_lun, least}
 use Rattle.onfi_bound.proofs.posts.first_command.Given as goal
 
 abbrev pub invariant-loop-want : goal.invariant-loop-want

@@ -1,7 +1,6 @@
 use Rattle.std.proofs.Common.{◌≡◌, drop}
-use Rattle.onfi_bound.specs.Bounds.{least}
+use Rattle.onfi_bound.specs.Bounds.{earlier, least}
 use Rattle.onfi_bound.specs.Parts.{chain_starts}
-use Rattle.onfi_bound.proofs.Firsts.{earlier}
 use Rattle.onfi_bound.proofs.posts.first_post.Given as goal
 
 abbrev pub invariant-loop-lun : goal.invariant-loop-lun

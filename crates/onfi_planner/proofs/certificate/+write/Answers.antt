@@ -9,6 +9,8 @@ use Rattle.onfi_problem.proofs.Limits.{after_limits}
 use Rattle.onfi_cert.specs.declared.token.Token.TheVariants.{Yield}
 use Rattle.onfi_problem.specs.declared.moves.Move.TheVariants.{Next}
 use Rattle.onfi_problem.specs.Position.{Position, move_of, moves_of, moved, lun_named}
+use Rattle.onfi_bound.specs.Loads.{AreLoads}
+use Rattle.onfi_bound.proofs.Loading.{loads_after}
 use Rattle.onfi_planner.specs.Opening.{yield_at}
 use Rattle.onfi_planner.specs.Planning.{work, Bounded, Written}
 use Rattle.onfi_planner.proofs.BusWork.{work_after}
@@ -51,10 +53,13 @@ write-write_below-requires t c =
       (
         subst (λ (z : Position). InLimits z.problem) (sym e) c.requires.limits,
         (
-          subst (λ (z : Position). Bounded z.problem c.args.e) (sym e) c.requires.least,
+          subst (λ (z : Position). AreLoads z c.args.loads.now.of.items) (sym e) c.requires.loads,
           (
-            subst (λ (z : Position). IsMove z.problem (move_of z.groups (get_or items c.loop-step.step-index (Next 0)))) (sym e) m,
-            subst (λ (z : Position). move_lun (move_of z.groups (get_or items c.loop-step.step-index (Next 0))) ≡ lun_named (get_or items c.loop-step.step-index (Next 0))) (sym e) (step_of_lun x items c.loop-step.step-index (get_or items c.loop-step.step-index (Next 0)) are luns (get_or_default items c.loop-step.step-index (Next 0) _ c.loop-step-test.true) c.loop-step-test.true),
+            subst (λ (z : Position). Bounded z.problem c.args.e) (sym e) c.requires.least,
+            (
+              subst (λ (z : Position). IsMove z.problem (move_of z.groups (get_or items c.loop-step.step-index (Next 0)))) (sym e) m,
+              subst (λ (z : Position). move_lun (move_of z.groups (get_or items c.loop-step.step-index (Next 0))) ≡ lun_named (get_or items c.loop-step.step-index (Next 0))) (sym e) (step_of_lun x items c.loop-step.step-index (get_or items c.loop-step.step-index (Next 0)) are luns (get_or_default items c.loop-step.step-index (Next 0) _ c.loop-step-test.true) c.loop-step-test.true),
+            ),
           ),
         ),
       ),
@@ -97,6 +102,9 @@ write_below-write-requires t c =
       omega (arith, c.decreases, w, less),
       (
         subst (λ (z : Position). InLimits z.problem) (sym c.advance-undo.ensures.moved) (after_limits x.problem m c.requires.limits c.requires.step),
-        subst (λ (z : Position). Bounded z.problem c.args.e) (sym c.advance-undo.ensures.moved) (bounded_below x.problem m c.args.e c.requires.step c.requires.least),
+        (
+          subst (λ (z : Position). AreLoads z c.args.loads.now.of.items) (sym c.advance-undo.ensures.moved) (loads_after x c.args.step c.args.loads.now.of.items c.requires.step c.requires.loads),
+          subst (λ (z : Position). Bounded z.problem c.args.e) (sym c.advance-undo.ensures.moved) (bounded_below x.problem m c.args.e c.requires.step c.requires.least),
+        ),
       ),
     )

@@ -86,6 +86,25 @@ returns-clause-finish c =
     let p = best_plan x best c.in_ok-map_err-2.field-0 c.write.new.tokens.items r.limits.problem f tokens (s ∙ ap (λ z. schedule_of x.problem (run_of x.groups z)) c.as_slice.ensures.value) in
     p.1
 
+pub returns-clause-rising : goal.returns-clause-rising
+returns-clause-rising c =
+    let x = c.args.problem.now in
+    let at = c.in_ok-at.at in
+    let first : Best = record { finish = c.in_ok-finish.finish; steps = c.first_run.new.steps } in
+    let same = known c.copy.result at (λ z. z ≡ x) c.in_ok-at.ensures.cases c.copy.ensures in
+    let r = ready x at c.first_run.new.problem first same
+    (known c.first_run.result first.finish (λ _. c.first_run.new.problem ≡ at) c.in_ok-finish.ensures.cases c.first_run.ensures.problem)
+    (known c.first_run.result first.finish (λ _. InLimits at.problem) c.in_ok-finish.ensures.cases c.first_run.ensures.limits)
+    (known c.first_run.result first.finish (λ f. IsFirstRun at.problem (run_of at.groups first.steps.items) f) c.in_ok-finish.ensures.cases c.first_run.ensures.run)
+    (known c.first_run.result first.finish (λ f. f < 2 ^ 62) c.in_ok-finish.ensures.cases c.first_run.ensures.small) in
+    let best = c.search.new.best in
+    let f = found x c.first_run.new.problem first best c.in-Ok.field-0 r c.in-Ok.ensures.found in
+    let w = known c.write.result c.in_ok-map_err.field-0 (λ _. Written c.search.new.problem.problem best.finish c.new-cert.result.items c.write.new.tokens.items) c.in_ok-map_err.ensures.cases c.write.ensures.written in
+    let tokens = written_tokens x c.first_run.new.problem c.search.new.problem first best.finish c.new-cert.result.items c.write.new.tokens.items r c.in-Ok.ensures.problem c.new-cert.ensures.items w in
+    let s = known c.schedule_of-schedule.result c.in_ok-map_err-2.field-0 (λ z. z ≡ schedule_of x.problem (run_of x.groups c.as_slice.result.now)) c.in_ok-map_err-2.ensures.cases c.schedule_of-schedule.ensures in
+    let p = best_plan x best c.in_ok-map_err-2.field-0 c.write.new.tokens.items r.limits.problem f tokens (s ∙ ap (λ z. schedule_of x.problem (run_of x.groups z)) c.as_slice.ensures.value) in
+    p.2
+
 pub returns-clause-cert : goal.returns-clause-cert
 returns-clause-cert c =
     let x = c.args.problem.now in

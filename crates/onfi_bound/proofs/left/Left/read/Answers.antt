@@ -1,4 +1,5 @@
-use Rattle.std.proofs.Common.{◌∙◌}
+use Rattle.std.proofs.Common.{ap, ◌∙◌}
+use Rattle.onfi_problem.specs.Position.{waiting_of}
 use Rattle.onfi_bound.proofs.Parts.{placed, chains_are, chains_short, commands_are, posts_are, kinds_are}
 use Rattle.onfi_bound.proofs.left.Left.read.Goals as goal
 
@@ -14,12 +15,15 @@ pub returns : goal.returns
 returns c =
     let p = c.args.problem.now.problem in
     let e = chains_are p _ _ _ _ _ c.timing-timing.ensures c.groups.ensures.value c.luns.ensures.states c.list_chains.ensures in
+    let w = c.list_marked.ensures.wants ∙ (ap (waiting_of c.waiting.result.now) c.wants.ensures.value ∙ c.waiting.ensures.value) in
     record {
       limits = c.requires.limits;
       bus_free = c.requires.bus_free;
       chains = e;
-      wants = c.list_waiting.ensures;
-      commands = commands_are p _ _ _ _ _ _ _ c.timing-timing.ensures e c.list_waiting.ensures c.deref.ensures.0 c.deref-2.ensures.0 c.of_chains.ensures.commands c.with_wants-self.ensures.commands;
-      posts = posts_are p _ _ _ _ _ _ _ c.timing-timing.ensures e c.list_waiting.ensures c.deref.ensures.0 c.deref-2.ensures.0 c.of_chains.ensures.posts c.with_wants-self.ensures.posts;
-      kinds = λ kind. kinds_are p kind _ _ _ _ _ _ e c.list_waiting.ensures c.deref.ensures.0 c.deref-2.ensures.0 (c.of_chains.ensures.kinds kind) (c.with_wants-self.ensures.kinds kind);
+      wants = w;
+      sums = record {
+        commands = commands_are p _ _ _ _ _ _ _ c.timing-timing.ensures e w c.deref.ensures.0 c.deref-2.ensures.0 c.of_chains.ensures.commands c.with_wants-self.ensures.commands;
+        posts = posts_are p _ _ _ _ _ _ _ c.timing-timing.ensures e w c.deref.ensures.0 c.deref-2.ensures.0 c.of_chains.ensures.posts c.with_wants-self.ensures.posts;
+        kinds = λ kind. kinds_are p kind _ _ _ _ _ _ e w c.deref.ensures.0 c.deref-2.ensures.0 (c.of_chains.ensures.kinds kind) (c.with_wants-self.ensures.kinds kind);
+      };
     }
