@@ -1,5 +1,5 @@
 -- The views of all passes, where one of them changes and where one is added.
-use Rattle.std.proofs.Common.{◌≡◌, ◌≢◌, ℕ, zero, suc, ◌<◌, ◌⊎◌, List, [], ◌∷◌, ◌++◌, length, get_or, set, sym, refl, ap, subst, inl, inr, ⊎_elim, arith}
+use Rattle.std.proofs.Common.{◌≡◌, ◌≢◌, ℕ, zero, suc, ◌⊎◌, List, [], ◌∷◌, ◌++◌, length, set, sym, refl, ap, subst, inl, inr, ⊎_elim}
 use mathlib.Core.Option.{some, some-injective, some-ne-none}
 use lib.ListN.{get_elem?}
 use Rattle.crossbeam_queue.proofs.Lists.{at_set}
@@ -35,14 +35,3 @@ module _ {A : Type 0} where
   pub only : (v : A) (at : ℕ) (x : A) → get_elem? (v ∷ []) at ≡ some x → (at ≡ 0) × (v ≡ x)
   only v zero x e = (refl, some-injective v x e)
   only v (suc at) x e = absurd (some-ne-none x (sym e))
-
-  pub index-left : (xs : List A) (y : A) (k : ℕ) (d : A) → k < length xs → get_or (xs ++ y ∷ []) k d ≡ get_or xs k d
-  index-left [] y k d h = absurd (omega arith)
-  index-left (x ∷ xs) y zero d h = refl
-  index-left (x ∷ xs) y (suc k) d h = index-left xs y k d (omega arith)
-
-  pub index-last : (xs : List A) (y : A) (k : ℕ) (d : A) → k ≡ length xs → get_or (xs ++ y ∷ []) k d ≡ y
-  index-last [] y zero d h = refl
-  index-last [] y (suc k) d h = absurd (omega arith)
-  index-last (x ∷ xs) y zero d h = absurd (omega arith)
-  index-last (x ∷ xs) y (suc k) d h = index-last xs y k d (omega arith)

@@ -1,5 +1,7 @@
 -- Each step keeps the rule of the submission queue.
 use Rattle.std.proofs.Common.{◌≡◌, ◌≢◌, ℕ, ◌+◌, ◌<◌, ◌≤◌, Bool, cond, eqb, List, [], ◌∷◌, ◌++◌, length, get_or, set, sym, refl, ap, ◌∙◌, subst, inl, inr, eq-eqb, ne_eqb, append_assoc, length-append, arith}
+use Rattle.std.proofs.lemmas.List.{get_or_append_left}
+use Rattle.std.proofs.Math.Seq.{get_or-append_seam}
 use mathlib.Core.Option.{some}
 use native.Mathlib.Decide.{ℕ_discrete}
 use lib.ListN.{get_elem?}
@@ -13,7 +15,7 @@ use Rattle.onfi_queue.specs.declared.view.View.TheVariants.{Unopened, AtHost, At
 use Rattle.onfi_queue.specs.Items.{items_from, AreNumbered, IsNext}
 use Rattle.onfi_queue.specs.Rule.{History, Sits, IsKept, IsRuled, after_sent, after_accepted, ComesNext, with_host_made, next_host, with_back, HostSees, IntakeSees}
 use Rattle.onfi_queue.proofs.Numbering.{items_from-append, last-own, last-other, middle-own, AreNumbered-snoc, AreNumbered-middle, not_of}
-use Rattle.onfi_queue.proofs.Ports.{Every, every-set, every-snoc, at_other, only, index-left, index-last}
+use Rattle.onfi_queue.proofs.Ports.{Every, every-set, every-snoc, at_other, only}
 
 -- ---- the opening
 opened_at : (items : List Item) (views : List View) (port : ℕ) (v : View) → v ≢ Unopened → get_elem? views port ≡ some v → IsRuled items views → IsKept items views
@@ -187,8 +189,10 @@ without history port at j Unopened other away s = s
 
 back_too : (log sent : List Item) (back : List (List Item)) (gone : ℕ) → length back ≡ gone → sent ≡ items_from gone log → ((k : ℕ) → k < gone → get_or back k [] ≡ items_from k log)
     → (k : ℕ) → k < gone + 1 → Dec (k ≡ gone) → get_or (back ++ sent ∷ []) k [] ≡ items_from k log
-back_too log sent back gone long is before k lt (yes e) = index-last back sent k [] (e ∙ sym long) ∙ is ∙ ap (λ (i : ℕ). items_from i log) (sym e)
-back_too log sent back gone long is before k lt (no n) = let lt' : k < gone = omega (arith, n) in index-left back sent k [] (omega arith) ∙ before k lt'
+back_too log sent back gone long is before k lt (yes e) =
+    ap (λ (i : ℕ). get_or (back ++ sent ∷ []) i []) (e ∙ sym long) ∙ get_or-append_seam back sent [] [] ∙ is ∙ ap (λ (i : ℕ). items_from i log) (sym e)
+back_too log sent back gone long is before k lt (no n) =
+    let lt' : k < gone = omega (arith, n) in get_or_append_left back (sent ∷ []) [] k (omega arith) ∙ before k lt'
 
 merges_kept : (port : ℕ) (opened : Opened) (accepted : List Item) (made : ℕ) (back : List (List Item)) (other : ℕ) (opened' : Opened) (h : ℕ) (sent : List Item) → h ≡ length back
     → Merges IsKept port (AtIntake opened accepted made back) other (AtHost opened' h sent) (AtIntake opened accepted made (back ++ sent ∷ [])) Spent
