@@ -1,0 +1,4 @@
+pub mod Proper
+pub mod Steps
+pub mod Given
+pub mod Erases
