@@ -1,0 +1,13 @@
+use Rattle.std.proofs.Common.{◌+◌, ap, subst, ◌∙◌}
+use Rattle.onfi_chip.specs.Chip.Lun.{Commanding}
+use Rattle.onfi_seq.specs.Phases.{IsMade}
+use Rattle.onfi_seq.specs.declared.states.Queuing.{Queuing}
+use Rattle.onfi_seq.proofs.Phases.{command_made}
+use Rattle.onfi_seq.proofs.commanding.Lun+Queuing.command.Goals as goal
+
+pub returns-in-Ok-clause-commanded : goal.returns-in-Ok-clause-commanded
+returns-in-Ok-clause-commanded g c =
+    let q = c.requires.queuing.1 in
+    let made = subst (λ n. IsMade c.args.closer n (c.state.result.now.commands + 1) c.in-Ok.ready c.commanded.result) c.number.ensures c.commanded.ensures in
+    command_made c.args.closer c.args.target.now (g.C.Chip.state c.args.chip.now) (g.C.Chip.state c.give.new.chip) c.args.request.now c.args.now c.args.self.number (c.state.result.now.commands + 1) c.in-Ok.ready (Commanding c.requires.queuing.0 c.args.self.state.ready) c.commanded.result c.requires.device c.in-Ok.ensures.done c.requires.lun q.there
+    (ap (λ (s : Queuing). s.commands + 1) c.state.ensures ∙ ap (λ n. n + 1) q.count) c.in-Ok.ensures.ready made

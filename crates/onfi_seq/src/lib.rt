@@ -1,0 +1,20 @@
+//! A channel's LUNs driven in typed phases: a group's commands, its array time, its posts. Each move takes its LUN by
+//! value, so that what a LUN isn't ready for cannot be written. Alone, it drives a chip through one group.
+#![tactic(auto)]
+
+mod commanding;
+mod fault;
+mod fetch;
+mod lun;
+mod posting;
+mod states;
+mod target;
+
+pub use fault::{PostFault, Refused};
+pub use fetch::Fetch;
+pub use lun::{Commanded, Lun, Posted};
+pub use states::{Idle, Phase, Posting, Queuing, Working};
+pub use target::Target;
+
+#[cfg(test)]
+mod tests;
