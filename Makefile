@@ -1,6 +1,6 @@
 # make plan: prove and build bin/onfi_sim, and plan one read with it.
 # make try:  the same script with the program unproved, within a minute.
-# make test: the whole gate.
+# make test: what must not compile, then the whole gate.
 
 CRATES := $(shell sed -n 's/^\([a-z_0-9]*\)[^:]*:.*/\1/p' crates.txt)
 LIBRARIES := $(filter $(shell sed -n 's/^onfi_sim://p' crates.txt),$(CRATES))
@@ -27,4 +27,5 @@ try:
 	cd crates/onfi_sim && rt try -- plan < ../../examples/one-read.onfi
 
 test:
+	tools/must-not-compile
 	rt ci
