@@ -1,0 +1,57 @@
+-- Each channel of a core keeps the promise.
+use Rattle.std.proofs.Common.{◌≡◌, ℕ, zero, suc, ◌≤◌, inl, inr, List, [], ◌∷◌, Some, sym, subst}
+use Rattle.std.specs.Prelude.{slice_get, slice_set}
+use Rattle.std.specs.List.{AllByRecursion as All}
+use Rattle.onfi_problem.proofs.Perm.{All-weaker}
+use Rattle.onfi_core.specs.Core.{Headline, CoreStep, Doing, Did, DidAll, with_batch, channel_of}
+use Rattle.onfi_core.specs.Core.Doing.{Happens, SetsBatch}
+use Rattle.onfi_core.specs.Kept.{IsSound, IsReached}
+use Rattle.onfi_core.specs.State.{HalfState, ChannelState}
+use Rattle.onfi_core.specs.declared.event.Event.{Event}
+use Rattle.onfi_core.specs.declared.outcome.Outcome.{Outcome}
+use Rattle.onfi_core.specs.declared.setup.Setup.{Setup}
+use Rattle.onfi_core.proofs.Opening.{opened}
+use Rattle.onfi_core.proofs.Promise.{promise}
+use Rattle.onfi_core.proofs.Reach.{step_kept}
+
+All-at : {A : Type 0} (P : A → Type 0) (xs : List A) (i : ℕ) (x : A) → All P xs → slice_get xs i ≡ Some x → P x
+All-at P [] i x h e = cc
+All-at P (y ∷ xs) zero x h e = let q : y ≡ x = cc in subst P q h.0
+All-at P (y ∷ xs) (suc i) x h e = All-at P xs i x h.1 e
+
+All-set : {A : Type 0} (P : A → Type 0) (xs : List A) (i : ℕ) (x : A) → All P xs → P x → All P (slice_set xs i x)
+All-set P [] i x h p = tt
+All-set P (y ∷ xs) zero x h p = (p, h.1)
+All-set P (y ∷ xs) (suc i) x h p = (h.0, All-set P xs i x h.1 p)
+
+pub sound_batch : (s : Setup) (batch : ℕ) (h : HalfState) → 1 ≤ batch → batch ≤ 8 → IsSound s h → IsSound s (record h { batch = batch })
+sound_batch s batch h some few r = record { planned = r.planned; some_batch = some; few_batch = few; timing = r.timing; rules = r.rules; problem = r.problem; few = r.few; luns = r.luns; legal = r.legal; in_range = r.in_range; wants = r.wants; running = r.running; once = r.once; last = r.last }
+
+batch_kept : (s : Setup) (batch : ℕ) (c : ChannelState) → 1 ≤ batch → batch ≤ 8 → IsReached s c → IsReached s (with_batch batch c)
+batch_kept s batch c some few r = record {
+  half = record { sound = sound_batch s batch c.half some few r.half.sound; held = r.half.held; posted = r.half.posted; made = r.half.made };
+  chip = λ going. (let g = r.chip going in record { geometry = g.geometry; timing = g.timing; blocks = λ l b. (let o = g.blocks l b in record { ran = o.ran; contents = o.contents; order = o.order }); luns = g.luns });
+  sent = r.sent;
+  in_range = r.in_range;
+  hosts = r.hosts;
+  fit = r.fit;
+  serials = r.serials;
+  collected = r.collected;
+}
+
+pub core_step_kept : (s : Setup) (cs : List ChannelState) (e : Event) (o : Outcome) (cs' : List ChannelState) → All (IsReached s) cs → CoreStep s cs e o cs' → All (IsReached s) cs'
+core_step_kept s cs e o cs' all (inl (none, out, same)) = subst (All (IsReached s)) (sym same) all
+core_step_kept s cs e o cs' all (inr (c, c', at, step, after)) = subst (All (IsReached s)) (sym after) (All-set (IsReached s) cs (channel_of e) c' all (step_kept s c e o c' (All-at (IsReached s) cs (channel_of e) c all at) step))
+
+did_kept : (s : Setup) (cs : List ChannelState) (d : Doing) (cs' : List ChannelState) → All (IsReached s) cs → Did s cs d cs' → All (IsReached s) cs'
+did_kept s cs (Happens e o) cs' all step = core_step_kept s cs e o cs' all step
+did_kept s cs (SetsBatch n batch) cs' all (some, few, c, at, after) = subst (All (IsReached s)) (sym after) (All-set (IsReached s) cs n (with_batch batch c) all (batch_kept s batch c some few (All-at (IsReached s) cs n c all at)))
+
+all_kept : (s : Setup) (cs : List ChannelState) (ds : List Doing) (cs' : List ChannelState) → All (IsReached s) cs → DidAll s cs ds cs' → All (IsReached s) cs'
+all_kept s cs [] cs' all h = subst (All (IsReached s)) (sym h) all
+all_kept s cs (d ∷ ds) cs' all (mid, one, rest) = all_kept s mid ds cs' (did_kept s cs d mid all one) rest
+
+pub headline : Headline
+headline s cs cs' ds open' run =
+    All-weaker (IsReached s) _ (λ c r. promise s c r) cs'
+    (all_kept s cs ds cs' (All-weaker _ (IsReached s) (λ c (faults, failures, is). subst (IsReached s) (sym is) (opened s faults failures)) cs open') run)

@@ -1,0 +1,16 @@
+pub mod Lists
+pub mod Cut
+pub mod Startable
+pub mod Members
+pub mod Made
+pub mod Going
+pub mod Phase
+pub mod Bus
+pub mod Numbered
+pub mod Plan
+pub mod Accept
+pub mod Hosts
+pub mod Opening
+pub mod Reach
+pub mod Promise
+pub mod Channels

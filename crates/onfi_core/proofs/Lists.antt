@@ -1,0 +1,105 @@
+-- Lists and their places.
+use Rattle.std.proofs.Common.{◌≡◌, ℕ, zero, suc, ◌+◌, ◌≤◌, inl, inr, List, [], ◌∷◌, ◌++◌, length, Some, take, drop, refl, ap, arith}
+use Rattle.std.specs.Prelude.{slice_get, slice_index_or, map}
+use Rattle.std.specs.List.{AllByRecursion as All}
+use Rattle.onfi_group.specs.Words.{Has}
+
+pub get_at_length : {A : Type 0} (xs : List A) (x : A) (ys : List A) → slice_get (xs ++ x ∷ ys) (length xs) ≡ Some x
+get_at_length [] x ys = refl
+get_at_length (y ∷ xs) x ys = get_at_length xs x ys
+
+pub take_at_length : {A : Type 0} (xs ys : List A) → take (length xs) (xs ++ ys) ≡ xs
+take_at_length [] ys = refl
+take_at_length (y ∷ xs) ys = ap (λ zs. y ∷ zs) (take_at_length xs ys)
+
+pub map_append : {A B : Type 0} (f : A → B) (xs ys : List A) → map f (xs ++ ys) ≡ map f xs ++ map f ys
+map_append f [] ys = refl
+map_append f (x ∷ xs) ys = ap (λ zs. f x ∷ zs) (map_append f xs ys)
+
+pub index_at_length : {A : Type 0} (xs : List A) (x : A) (ys : List A) (d : A) → slice_index_or (xs ++ x ∷ ys) (length xs) d ≡ x
+index_at_length [] x ys d = refl
+index_at_length (y ∷ xs) x ys d = index_at_length xs x ys d
+
+pub index_get : {A : Type 0} (xs : List A) (i : ℕ) (x d : A) → slice_get xs i ≡ Some x → slice_index_or xs i d ≡ x
+index_get [] i x d h = cc
+index_get (y ∷ xs) zero x d h = cc
+index_get (y ∷ xs) (suc i) x d h = index_get xs i x d h
+
+pub not_nil : {A : Type 0} (xs : List A) (y : A) (ys : List A) → [] ≡ xs ++ y ∷ ys → ⊥
+not_nil [] y ys h = cc
+not_nil (x ∷ xs) y ys h = cc
+
+pub head_same : {A : Type 0} (x y : A) (xs ys : List A) → x ∷ xs ≡ y ∷ ys → x ≡ y
+head_same x y xs ys h = cc
+
+pub tail_same : {A : Type 0} (x y : A) (xs ys : List A) → x ∷ xs ≡ y ∷ ys → xs ≡ ys
+tail_same x y xs ys h = cc
+
+take_suc : {A : Type 0} (xs : List A) (i : ℕ) (x : A) → slice_get xs i ≡ Some x → take (suc i) xs ≡ take i xs ++ x ∷ []
+take_suc [] i x h = cc
+take_suc (y ∷ xs) zero x h = let e : y ≡ x = cc in ap (λ z. z ∷ []) e
+take_suc (y ∷ xs) (suc i) x h = ap (λ zs. y ∷ zs) (take_suc xs i x h)
+
+pub take_next : {A : Type 0} (xs : List A) (i : ℕ) (x : A) → slice_get xs i ≡ Some x → take (i + 1) xs ≡ take i xs ++ x ∷ []
+take_next xs i x h = let e : i + 1 ≡ suc i = omega arith in rw e (take_suc xs i x h)
+
+drop_suc : {A : Type 0} (xs : List A) (i : ℕ) (x : A) → slice_get xs i ≡ Some x → drop i xs ≡ x ∷ drop (suc i) xs
+drop_suc [] i x h = cc
+drop_suc (y ∷ xs) zero x h = let e : y ≡ x = cc in ap (λ z. z ∷ xs) e
+drop_suc (y ∷ xs) (suc i) x h = drop_suc xs i x h
+
+pub drop_next : {A : Type 0} (xs : List A) (i : ℕ) (x : A) → slice_get xs i ≡ Some x → drop i xs ≡ x ∷ drop (i + 1) xs
+drop_next xs i x h = let e : i + 1 ≡ suc i = omega arith in rw e (drop_suc xs i x h)
+
+pub take_whole : {A : Type 0} (xs : List A) (n : ℕ) → n ≡ length xs → take n xs ≡ xs
+take_whole [] n h = rw h refl
+take_whole (x ∷ xs) zero h = absurd (omega arith)
+take_whole (x ∷ xs) (suc n) h = ap (λ zs. x ∷ zs) (take_whole xs n (omega arith))
+
+pub drop_all : {A : Type 0} (xs : List A) (n : ℕ) → length xs ≤ n → drop n xs ≡ []
+drop_all [] zero h = refl
+drop_all [] (suc n) h = refl
+drop_all (x ∷ xs) zero h = absurd (omega arith)
+drop_all (x ∷ xs) (suc n) h = drop_all xs n (omega arith)
+
+pub get_has : {A : Type 0} (xs : List A) (i : ℕ) (x : A) → slice_get xs i ≡ Some x → Has xs x
+get_has [] i x h = cc
+get_has (y ∷ xs) zero x h = let e : y ≡ x = cc in inl e
+get_has (y ∷ xs) (suc i) x h = inr (get_has xs i x h)
+
+pub take_drop : {A : Type 0} (n : ℕ) (xs : List A) → take n xs ++ drop n xs ≡ xs
+take_drop zero [] = refl
+take_drop zero (x ∷ xs) = refl
+take_drop (suc n) [] = refl
+take_drop (suc n) (x ∷ xs) = ap (λ zs. x ∷ zs) (take_drop n xs)
+
+pub drop_twice : {A : Type 0} (n k : ℕ) (xs : List A) → drop k (drop n xs) ≡ drop (n + k) xs
+drop_twice zero k xs = let e : 0 + k ≡ k = omega arith in rw e refl
+drop_twice (suc n) zero [] = let e : suc n + 0 ≡ suc n = omega arith in rw e refl
+drop_twice (suc n) (suc k) [] = let e : suc n + suc k ≡ suc (suc (n + k)) = omega arith in rw e refl
+drop_twice (suc n) k (x ∷ xs) = let e : suc n + k ≡ suc (n + k) = omega arith in rw e (drop_twice n k xs)
+
+pub length_take : {A : Type 0} (n : ℕ) (xs : List A) → n ≤ length xs → length (take n xs) ≡ n
+length_take zero xs h = refl
+length_take (suc n) [] h = absurd (omega arith)
+length_take (suc n) (x ∷ xs) h = ap suc (length_take n xs (omega arith))
+
+pub drop_more : {A : Type 0} (n : ℕ) (xs ys : List A) → n ≤ length xs → drop n (xs ++ ys) ≡ drop n xs ++ ys
+drop_more zero xs ys h = refl
+drop_more (suc n) [] ys h = absurd (omega arith)
+drop_more (suc n) (x ∷ xs) ys h = drop_more n xs ys (omega arith)
+
+pub length_least : {A : Type 0} (m : ℕ) (xs : List A) → length (take m xs) ≤ length xs
+length_least zero xs = omega arith
+length_least (suc m) [] = omega arith
+length_least (suc m) (x ∷ xs) = let h = length_least m xs in omega arith
+
+pub All-take : {A : Type 0} (P : A → Type 0) (n : ℕ) (xs : List A) → All P xs → All P (take n xs)
+All-take P zero xs h = tt
+All-take P (suc n) [] h = tt
+All-take P (suc n) (x ∷ xs) h = (h.0, All-take P n xs h.1)
+
+pub All-drop : {A : Type 0} (P : A → Type 0) (n : ℕ) (xs : List A) → All P xs → All P (drop n xs)
+All-drop P zero xs h = h
+All-drop P (suc n) [] h = tt
+All-drop P (suc n) (x ∷ xs) h = All-drop P n xs h.1

@@ -1,0 +1,136 @@
+-- Each step keeps it, so each run does.
+use Rattle.std.proofs.Common.{◌≡◌, ℕ, ◌<◌, ◌^◌, inl, inr, Bool, true, false, length, Option, Some, None, refl, sym, subst, arith}
+use Rattle.std.specs.Prelude.{nat_le}
+use Rattle.std.proofs.lemmas.Bool.{cases_Bool}
+use Rattle.std.proofs.lemmas.Bool.Decides.{nat_tests}
+use Rattle.onfi_addr.specs.declared.geometry.Geometry.{Geometry}
+use Rattle.onfi_timing.specs.declared.kind.Kind.{Kind}
+use Rattle.onfi_timing.specs.declared.kind.Kind.TheVariants.{Read, Program, Erase}
+use Rattle.onfi_request.specs.Range.{Fits, IsPageFor, IsLengthFor}
+use Rattle.onfi_request.specs.declared.checking.RequestFault.{RequestFault}
+use Rattle.onfi_request.specs.declared.request.Request.{Request}
+use Rattle.onfi_die.specs.Shapes.{device_of}
+use Rattle.onfi_core.specs.Kept.{IsSound, IsReached, IsHalf}
+use Rattle.onfi_core.specs.State.{HalfState, ChannelState, sent_by}
+use Rattle.onfi_core.specs.Steps.{Step, StepBy, Does, Fails, refusal, fault_of, or_else, refused_where, right_page, right_length, if_stopped, if_faulty, after_refusal, stopped_by}
+use Rattle.onfi_core.specs.declared.event.Event.{Event}
+use Rattle.onfi_core.specs.declared.event.Event.TheVariants.{Submit, Accept, Plan, Bus, Post, Collect}
+use Rattle.onfi_core.specs.declared.outcome.Cause.{Cause}
+use Rattle.onfi_core.specs.declared.outcome.Outcome.{Outcome}
+use Rattle.onfi_core.specs.declared.outcome.Outcome.TheVariants.{Stopped}
+use Rattle.onfi_core.specs.declared.setup.Setup.{Setup}
+use Rattle.onfi_core.proofs.Accept.{accept_kept}
+use Rattle.onfi_core.proofs.Bus.{bus_kept}
+use Rattle.onfi_core.proofs.Hosts.{submit_kept, post_kept, collect_kept}
+use Rattle.onfi_core.proofs.Plan.{plan_kept}
+
+none_first : (x y : Option Outcome) → or_else x y ≡ None → x ≡ None
+none_first None y h = refl
+none_first (Some o) y h = h
+
+none_second : (x y : Option Outcome) → or_else x y ≡ None → y ≡ None
+none_second None y h = h
+none_second (Some o) y h = cc
+
+not_stopped : (o : Option Cause) → if_stopped o ≡ None → o ≡ None
+not_stopped None h = refl
+not_stopped (Some cause) h = cc
+
+not_faulty : (o : Option RequestFault) (r : Request) → if_faulty o r ≡ None → o ≡ None
+not_faulty None r h = refl
+not_faulty (Some fault) r h = cc
+
+not_where : (b : Bool) (o : Outcome) → refused_where b o ≡ None → b ≡ false
+not_where true o h = cc
+not_where false o h = refl
+
+below : (a b : ℕ) → nat_le a b ≡ false → b < a
+below a b h = grind (arith, nat_tests)
+
+page_is : (geometry : Geometry) (kind : Kind) (page : ℕ) → right_page geometry kind page ≡ true → IsPageFor geometry kind page
+page_is geometry Read page h = grind (arith, nat_tests)
+page_is geometry Program page h = grind (arith, nat_tests)
+page_is geometry Erase page h = grind (arith, nat_tests)
+
+length_is : (geometry : Geometry) (kind : Kind) (n : ℕ) → right_length geometry kind n ≡ true → IsLengthFor geometry kind n
+length_is geometry Read n h = grind (arith, nat_tests)
+length_is geometry Program n h = grind (arith, nat_tests)
+length_is geometry Erase n h = grind (arith, nat_tests)
+
+-- a request without fault is in range
+pub fits : (geometry : Geometry) (r : Request) → fault_of geometry r ≡ None → Fits geometry r
+fits geometry r h =
+    elim (cases_Bool (nat_le geometry.lun_count r.place.lun)) [
+      | inl a ↦ (let h' = rw a at h in cc)
+      | inr a ↦ elim (cases_Bool (nat_le geometry.blocks_per_lun r.place.block)) [
+        | inl b ↦ (let h' = rw (a, b) at h in cc)
+        | inr b ↦ elim (cases_Bool (right_page geometry r.kind r.place.page)) [
+          | inr c ↦ (let h' = rw (a, b, c) at h in cc)
+          | inl c ↦ elim (cases_Bool (right_length geometry r.kind (length r.bytes))) [
+            | inr d ↦ (let h' = rw (a, b, c, d) at h in cc)
+            | inl d ↦ record { lun = below _ _ a; block = below _ _ b; page = page_is geometry r.kind r.place.page c; data_length = length_is geometry r.kind (length r.bytes) d }
+          ]
+        ]
+      ]
+    ]
+
+pub sound_stopped : (s : Setup) (cause : Cause) (h : HalfState) → IsSound s h → IsSound s (record h { stopped = Some cause })
+sound_stopped s cause h r = record { planned = r.planned; some_batch = r.some_batch; few_batch = r.few_batch; timing = r.timing; rules = r.rules; problem = r.problem; few = r.few; luns = r.luns; legal = r.legal; in_range = r.in_range; wants = r.wants; running = r.running; once = r.once; last = r.last }
+
+-- a stop cause stays
+stop_kept : (s : Setup) (cause : Cause) (c : ChannelState) → IsReached s c → IsReached s (stopped_by cause c)
+stop_kept s cause c r = record {
+  half = record { sound = sound_stopped s cause c.half r.half.sound; held = r.half.held; posted = r.half.posted; made = r.half.made };
+  chip = λ going. cc;
+  sent = r.sent;
+  in_range = r.in_range;
+  hosts = r.hosts;
+  fit = r.fit;
+  serials = r.serials;
+  collected = r.collected;
+}
+
+refused_kept : (s : Setup) (o : Outcome) (c : ChannelState) → IsReached s c → IsReached s (after_refusal o c)
+refused_kept s (Stopped cause) c r = stop_kept s cause c r
+refused_kept s _ c r = r
+
+fails_kept : (s : Setup) (c c' : ChannelState) (cause : Cause) → IsReached s c → Fails c c' cause → IsReached s c'
+fails_kept s c c' cause r f =
+    let k = stop_kept s cause c r in
+    let next : IsReached s (record (stopped_by cause c) { chip = f.chip }) = record {
+      half = subst (λ fs. IsHalf s (device_of s.geometry fs) (stopped_by cause c).half) (sym f.lost.faults) k.half;
+      chip = λ going. cc;
+      sent = r.sent;
+      in_range = r.in_range;
+      hosts = r.hosts;
+      fit = r.fit;
+      serials = r.serials;
+      collected = r.collected;
+    } in
+    subst (IsReached s) (sym f.after) next
+
+does_kept : (s : Setup) (c : ChannelState) (e : Event) (o : Outcome) (c' : ChannelState) → IsReached s c → refusal s c e ≡ None → Does s c e o c' → IsReached s c'
+does_kept s c (Submit host channel r) o c' reached none (inl d) =
+    let second = none_second _ _ none in
+    let third = none_second _ _ second in
+    let f = fits s.geometry r (not_faulty (fault_of s.geometry r) r (none_first _ _ second)) in
+    let known = below s.hosts host (not_where _ _ (none_first _ _ none)) in
+    let low = below (2 ^ 32) (length (sent_by host c)) (not_where _ _ (none_first _ _ third)) in
+    subst (IsReached s) (sym d.1) (submit_kept s c host r reached f known low)
+does_kept s c (Submit host channel r) o c' reached none (inr d) = subst (IsReached s) (sym d.1) reached
+does_kept s c (Accept channel) o c' reached none d = accept_kept s c c' reached d.1
+does_kept s c (Plan channel) o c' reached none (inl (plan, out, plans, after)) = subst (IsReached s) (sym after) (plan_kept s c plan reached plans)
+does_kept s c (Plan channel) o c' reached none (inr (inl d)) = subst (IsReached s) (sym d.2) reached
+does_kept s c (Plan channel) o c' reached none (inr (inr d)) = subst (IsReached s) (sym d.1) reached
+does_kept s c (Bus channel) o c' reached none (inl (start, out, runs)) = bus_kept s c c' start reached (not_stopped c.half.stopped (none_first _ _ none)) runs
+does_kept s c (Bus channel) o c' reached none (inr (inl (cause, other, out, fails))) = fails_kept s c c' cause reached fails
+does_kept s c (Bus channel) o c' reached none (inr (inr d)) = subst (IsReached s) (sym d.1) reached
+does_kept s c (Post channel host) o c' reached none (r, h, out, goes, after) = subst (IsReached s) (sym after) (post_kept s c host r h reached goes)
+does_kept s c (Collect channel host) o c' reached none (r, out, at, after) = subst (IsReached s) (sym after) (collect_kept s c host r reached at)
+
+by_refusal : (s : Setup) (c : ChannelState) (e : Event) (o : Outcome) (c' : ChannelState) → IsReached s c → (refused : Option Outcome) → refusal s c e ≡ refused → StepBy refused s c e o c' → IsReached s c'
+by_refusal s c e o c' reached None q d = does_kept s c e o c' reached q d
+by_refusal s c e o c' reached (Some refused) q d = subst (IsReached s) (sym d.1) (refused_kept s refused c reached)
+
+pub step_kept : (s : Setup) (c : ChannelState) (e : Event) (o : Outcome) (c' : ChannelState) → IsReached s c → Step s c e o c' → IsReached s c'
+step_kept s c e o c' reached d = by_refusal s c e o c' reached (refusal s c e) refl d

@@ -1,0 +1,67 @@
+-- Several channels, and lists of events.
+use Rattle.std.specs.Prelude.{◌≡◌, ℕ, ◌≤◌, ◌⊎◌, List, [], ◌∷◌, Option, Some, None, slice_get, slice_set}
+use Rattle.std.specs.List.{AllByRecursion as Each}
+use Rattle.onfi_request.specs.declared.request.Request.{Request}
+use Rattle.onfi_request.specs.declared.fault.Fault.{Fault}
+use Rattle.onfi_core.specs.declared.setup.Setup.{Setup}
+use Rattle.onfi_core.specs.declared.event.Event.{Event}
+use Rattle.onfi_core.specs.declared.event.Event.TheVariants.{Submit, Accept, Plan, Bus, Post, Collect}
+use Rattle.onfi_core.specs.declared.outcome.Outcome.{Outcome}
+use Rattle.onfi_core.specs.declared.outcome.Outcome.TheVariants.{NoSuch}
+use Rattle.onfi_core.specs.State.{ChannelState}
+use Rattle.onfi_core.specs.Steps.{Step}
+use Rattle.onfi_core.specs.Kept.{first, KeepsPromise}
+
+abbrev pub channel_of : Event → ℕ
+channel_of (Submit host channel r) = channel
+channel_of (Accept channel) = channel
+channel_of (Plan channel) = channel
+channel_of (Bus channel) = channel
+channel_of (Post channel host) = channel
+channel_of (Collect channel host) = channel
+
+-- the request that a refused event hands back
+abbrev pub request_in : Event → Option Request
+request_in (Submit host channel r) = Some r
+request_in (Accept channel) = None
+request_in (Plan channel) = None
+request_in (Bus channel) = None
+request_in (Post channel host) = None
+request_in (Collect channel host) = None
+
+-- an event changes its channel alone; of a number that isn't there it is refused
+abbrev pub CoreStep : Setup → List ChannelState → Event → Outcome → List ChannelState → Type 0
+CoreStep s cs e o cs' =
+    ((slice_get cs (channel_of e) ≡ None) × (o ≡ NoSuch (request_in e)) × (cs' ≡ cs))
+    ⊎ ((c : ChannelState) × (c' : ChannelState) × (slice_get cs (channel_of e) ≡ Some c) × Step s c e o c' × (cs' ≡ slice_set cs (channel_of e) c'))
+
+-- these events may give these outcomes, one step after another
+abbrev pub CoreRun : Setup → List ChannelState → List Event → List Outcome → List ChannelState → Type 0
+CoreRun s cs [] [] cs' = cs' ≡ cs
+CoreRun s cs (e ∷ es) (o ∷ os) cs' = (mid : List ChannelState) × CoreStep s cs e o mid × CoreRun s mid es os cs'
+CoreRun s cs [] (o ∷ os) cs' = ⊥
+CoreRun s cs (e ∷ es) [] cs' = ⊥
+
+abbrev pub with_batch : ℕ → ChannelState → ChannelState
+with_batch batch c = record c { half = record c.half { batch = batch } }
+
+-- what is done to a core: an event happens, or the batch of a channel's later plannings is set
+pub data Doing : Type 0 where
+  Happens : Event → Outcome → Doing
+  SetsBatch : (channel : ℕ) → (batch : ℕ) → Doing
+
+abbrev pub Did : Setup → List ChannelState → Doing → List ChannelState → Type 0
+Did s cs (Happens e o) cs' = CoreStep s cs e o cs'
+Did s cs (SetsBatch n batch) cs' = (1 ≤ batch) × (batch ≤ 8) × (c : ChannelState) × (slice_get cs n ≡ Some c) × (cs' ≡ slice_set cs n (with_batch batch c))
+
+abbrev pub DidAll : Setup → List ChannelState → List Doing → List ChannelState → Type 0
+DidAll s cs [] cs' = cs' ≡ cs
+DidAll s cs (d ∷ ds) cs' = (mid : List ChannelState) × Did s cs d mid × DidAll s mid ds cs'
+
+-- a channel as it was opened, with some chip of the setup
+abbrev pub IsOpened : Setup → ChannelState → Type 0
+IsOpened s c = (faults : List Fault) × (failures : ℕ) × (c ≡ first s faults failures)
+
+-- whatever is done to an opened core, each channel keeps the promise
+abbrev pub Headline : Type 0
+Headline = (s : Setup) (cs cs' : List ChannelState) (ds : List Doing) → Each (IsOpened s) cs → DidAll s cs ds cs' → Each (KeepsPromise s) cs'

@@ -1,0 +1,57 @@
+use onfi_request::{Reply, Request, RequestFault};
+
+/// What an event came to. The last fourteen are refusals: the state is unchanged, save that a stop cause stays.
+#[derive(Debug, Drop)]
+pub enum Outcome {
+    /// The item has this number among those that the host sent to the channel, from 0.
+    Submitted { serial: u32 },
+    /// The item has this position in the channel's accepted list, from 0.
+    Accepted { place: u64 },
+    /// There is a plan that ends then, in ns of the channel's clock.
+    Planned { finish: u64 },
+    /// The phase started then, in ns of the channel's clock.
+    Phase { start: u64 },
+    /// The reply to the item at this place was posted.
+    Posted { place: u64 },
+    /// The host has this reply.
+    Collected(Reply),
+    /// The submission queue is full; the request comes back.
+    SubmitFull(Request),
+    /// Nothing waits to be accepted.
+    NothingToAccept,
+    /// No phase of a plan is left.
+    NoPlan,
+    /// The host's completion queue is full.
+    PostFull,
+    /// Nothing that was posted to the host is uncollected.
+    NothingToCollect,
+    /// The channel stopped, now or earlier: it accepts, plans and runs no more.
+    Stopped(Cause),
+    /// The planning opened as many nodes as it may and isn't over; the old plan stands.
+    Over { opened: u32 },
+    /// A growth was refused; a request that was to be submitted comes back.
+    Memory(Option<Request>),
+    /// The device doesn't take the request; it comes back.
+    Refused(RequestFault, Request),
+    /// The host has sent 2^32 items to the channel; the request comes back.
+    SerialsSpent(Request),
+    /// 64 accepted items have no posted reply.
+    WindowFull,
+    /// No accepted item is unplanned, or the wants not started fill the batch.
+    NothingToPlan,
+    /// No reply is held for the host.
+    NothingToPost,
+    /// There is no such channel or host; a request that was to be submitted comes back.
+    NoSuch(Option<Request>),
+}
+
+/// Why a channel stopped.
+#[derive(Clone, Copy, Debug, PartialEq, Eq)]
+pub enum Cause {
+    /// A call of the chip failed.
+    Bus,
+    /// The LUN's status told that it isn't ready.
+    NotReady(u8),
+    /// The next plan might end at 2^62 ns or later.
+    Clock,
+}

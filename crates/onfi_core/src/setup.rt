@@ -1,0 +1,65 @@
+ghost use Rattle.std.specs.Prelude.{◌≡◌, ℕ, ◌<◌, ◌≤◌, ◌⊎◌, ◌↔◌, IfOk, IfErr, IsErrOf};
+
+use onfi_addr::Geometry;
+use onfi_group::Rules;
+use onfi_timing::Timing;
+use thiserror::Error;
+
+/// What never changes of a core, and the batch that its channels open with. Each value is in the range that its ghost
+/// fields say.
+#[derive(Clone, Copy, Debug, PartialEq, Eq)]
+pub struct Setup {
+    /// How the chips are addressed.
+    pub geometry: Geometry,
+    /// The phase lengths, in ns.
+    pub timing: Timing,
+    /// Which operations may be grouped.
+    pub rules: Rules,
+    /// Channels, 1 to 4.
+    pub channels: u8,
+    /// Hosts, 1 to 4.
+    pub hosts: u8,
+    /// Wants of one plan, 1 to 8.
+    pub batch: u8,
+    /// How many items wait in a channel's submission queue, 1 to 1,024.
+    pub submit_cap: u16,
+    /// How many replies a completion queue holds, 1 to 1,024.
+    pub post_cap: u16,
+    /// How many nodes one planning opens, 1 to 1,048,576.
+    pub limit: u32,
+    ghost some_channel: { 1 ≤ channels },
+    ghost few_channels: { channels ≤ 4 },
+    ghost some_host: { 1 ≤ hosts },
+    ghost few_hosts: { hosts ≤ 4 },
+    ghost some_batch: { 1 ≤ batch },
+    ghost small_batch: { batch ≤ 8 },
+    ghost some_room: { 1 ≤ submit_cap },
+    ghost little_room: { submit_cap ≤ 1024 },
+    ghost some_posts: { 1 ≤ post_cap },
+    ghost few_posts: { post_cap ≤ 1024 },
+    ghost some_node: { 1 ≤ limit },
+    ghost few_nodes: { limit ≤ 1048576 },
+}
+
+/// Which number of a setup is out of range, in the order in which it is told.
+#[derive(Clone, Copy, Debug, PartialEq, Eq, Error)]
+pub enum SetupFault {
+    /// Not 1 to 4 channels.
+    #[error("not 1 to 4 channels")]
+    Channels,
+    /// Not 1 to 4 hosts.
+    #[error("not 1 to 4 hosts")]
+    Hosts,
+    /// Not 1 to 8 wants of one plan.
+    #[error("a batch that is not 1 to 8")]
+    Batch,
+    /// A submission queue that doesn't hold 1 to 1,024 items.
+    #[error("a submission queue that does not hold 1 to 1,024 items")]
+    SubmitCap,
+    /// A completion queue that doesn't hold 1 to 1,024 replies.
+    #[error("a completion queue that does not hold 1 to 1,024 replies")]
+    PostCap,
+    /// Not 1 to 1,048,576 nodes.
+    #[error("a search limit that is not 1 to 1,048,576")]
+    Limit,
+}
