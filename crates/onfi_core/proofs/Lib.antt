@@ -1,3 +1,4 @@
+pub mod Walks
 pub mod Lists
 pub mod Cut
 pub mod Startable
@@ -12,5 +13,7 @@ pub mod Accept
 pub mod Hosts
 pub mod Opening
 pub mod Reach
+pub mod Window
+pub mod Next
 pub mod Promise
 pub mod Channels

@@ -14,11 +14,11 @@ use Rattle.onfi_core.specs.Kept.{IsReached, KeepsPromise, is_of_place}
 use Rattle.onfi_core.specs.State.{ChannelState, wants_from}
 use Rattle.onfi_core.specs.declared.setup.Setup.{Setup}
 
-none_before : (geometry : Geometry) (n i : ℕ) (xs : List Item) → i < n → number (has_id i) (wants_from geometry n xs) ≡ 0
+pub none_before : (geometry : Geometry) (n i : ℕ) (xs : List Item) → i < n → number (has_id i) (wants_from geometry n xs) ≡ 0
 none_before geometry n i [] h = refl
 none_before geometry n i (x ∷ xs) h = let e = none_before geometry (n + 1) i xs (omega arith) in grind (arith, nat_tests)
 
-one_each : (geometry : Geometry) (n i : ℕ) (xs : List Item) → number (has_id i) (wants_from geometry n xs) ≤ 1
+pub one_each : (geometry : Geometry) (n i : ℕ) (xs : List Item) → number (has_id i) (wants_from geometry n xs) ≤ 1
 one_each geometry n i [] = omega arith
 one_each geometry n i (x ∷ xs) =
     elim (cases_Bool (n == i)) [

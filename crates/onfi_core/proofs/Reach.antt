@@ -24,11 +24,11 @@ use Rattle.onfi_core.proofs.Bus.{bus_kept}
 use Rattle.onfi_core.proofs.Hosts.{submit_kept, post_kept, collect_kept}
 use Rattle.onfi_core.proofs.Plan.{plan_kept}
 
-none_first : (x y : Option Outcome) → or_else x y ≡ None → x ≡ None
+pub none_first : (x y : Option Outcome) → or_else x y ≡ None → x ≡ None
 none_first None y h = refl
 none_first (Some o) y h = h
 
-none_second : (x y : Option Outcome) → or_else x y ≡ None → y ≡ None
+pub none_second : (x y : Option Outcome) → or_else x y ≡ None → y ≡ None
 none_second None y h = h
 none_second (Some o) y h = cc
 
@@ -40,11 +40,11 @@ not_faulty : (o : Option RequestFault) (r : Request) → if_faulty o r ≡ None 
 not_faulty None r h = refl
 not_faulty (Some fault) r h = cc
 
-not_where : (b : Bool) (o : Outcome) → refused_where b o ≡ None → b ≡ false
+pub not_where : (b : Bool) (o : Outcome) → refused_where b o ≡ None → b ≡ false
 not_where true o h = cc
 not_where false o h = refl
 
-below : (a b : ℕ) → nat_le a b ≡ false → b < a
+pub below : (a b : ℕ) → nat_le a b ≡ false → b < a
 below a b h = grind (arith, nat_tests)
 
 page_is : (geometry : Geometry) (kind : Kind) (page : ℕ) → right_page geometry kind page ≡ true → IsPageFor geometry kind page

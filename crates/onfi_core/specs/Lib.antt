@@ -2,3 +2,5 @@ pub mod State
 pub mod Steps
 pub mod Kept
 pub mod Core
+pub mod View
+pub mod Refusals

@@ -187,23 +187,32 @@ held_for host h = filter (is_to host) h.held
 abbrev pub not_collected : ℕ → ChannelState → ℕ
 not_collected host c = length (posted_to host c) - length (collected_by host c)
 
+-- an item is not accepted, whatever waits
+abbrev pub accept_refusal : HalfState → Option Outcome
+accept_refusal h =
+    or_else (if_stopped h.stopped)
+    (refused_where (nat_le 64 (unanswered h)) WindowFull)
+
+abbrev pub plan_refusal : Setup → HalfState → Option Outcome
+plan_refusal s h =
+    or_else (if_stopped h.stopped)
+    (or_else (refused_where (is_empty (taken_next s h)) NothingToPlan)
+    (refused_where (nat_le (2 ^ 62) (horizon (next_problem s h))) (Stopped Clock)))
+
+abbrev pub bus_refusal : HalfState → Option Outcome
+bus_refusal h =
+    or_else (if_stopped h.stopped)
+    (refused_where (none_left h) NoPlan)
+
 abbrev pub refusal : Setup → ChannelState → Event → Option Outcome
 refusal s c (Submit host channel r) =
     or_else (refused_where (nat_le s.hosts host) (NoSuch (Some r)))
     (or_else (if_faulty (fault_of s.geometry r) r)
     (or_else (refused_where (nat_le (2 ^ 32) (length (sent_by host c))) (SerialsSpent r))
     (refused_where (nat_le s.submit_cap (length c.waiting)) (SubmitFull r))))
-refusal s c (Accept channel) =
-    or_else (if_stopped c.half.stopped)
-    (or_else (refused_where (nat_le 64 (unanswered c.half)) WindowFull)
-    (refused_where (is_empty c.waiting) NothingToAccept))
-refusal s c (Plan channel) =
-    or_else (if_stopped c.half.stopped)
-    (or_else (refused_where (is_empty (taken_next s c.half)) NothingToPlan)
-    (refused_where (nat_le (2 ^ 62) (horizon (next_problem s c.half))) (Stopped Clock)))
-refusal s c (Bus channel) =
-    or_else (if_stopped c.half.stopped)
-    (refused_where (none_left c.half) NoPlan)
+refusal s c (Accept channel) = or_else (accept_refusal c.half) (refused_where (is_empty c.waiting) NothingToAccept)
+refusal s c (Plan channel) = plan_refusal s c.half
+refusal s c (Bus channel) = bus_refusal c.half
 refusal s c (PostTo channel host) =
     or_else (refused_where (nat_le s.hosts host) (NoSuch None))
     (or_else (refused_where (is_empty (held_for host c.half)) NothingToPost)

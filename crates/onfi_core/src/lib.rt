@@ -2,12 +2,19 @@
 //! collections.
 #![tactic(auto)]
 
+mod batch;
 mod event;
+mod finding;
+mod half;
+mod history;
 mod laws;
 mod outcome;
 mod setup;
+mod slot;
+mod wants;
 
 pub use event::Event;
+pub use half::{AcceptFault, Half};
 pub use laws::headline;
 pub use outcome::{Cause, Outcome};
 pub use setup::{Setup, SetupFault};

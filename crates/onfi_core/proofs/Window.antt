@@ -1,0 +1,146 @@
+-- The slots of unanswered items.
+use Rattle.std.proofs.Common.{◌≡◌, ◌≢◌, ℕ, ◌+◌, ◌-◌, ◌^◌, ◌<◌, ◌≤◌, ◌⊎◌, inl, inr, Bool, true, false, List, [], ◌∷◌, ◌++◌, length, Option, Some, None, refl, sym, ap, ◌∙◌, subst, length-append, append-nil, arith}
+use Rattle.std.specs.Prelude.{slice_get, nat_le, count_by, is_some, slice_index_or}
+use Rattle.std.specs.List.{AllByRecursion as All, filter}
+use Rattle.std.proofs.lemmas.Bool.{cases_Bool}
+use Rattle.std.proofs.lemmas.Bool.Decides.{nat_tests}
+use Rattle.std.proofs.lemmas.List.Elements.{filter-append}
+use Rattle.onfi_request.specs.declared.request.Item.{Item}
+use Rattle.onfi_request.specs.declared.reply.Reply.{Reply}
+use Rattle.onfi_group.specs.Words.{number}
+use Rattle.onfi_problem.proofs.Perm.{All-append}
+use Rattle.onfi_problem.proofs.Places.{same_place, get_within}
+use Rattle.onfi_die.proofs.Lists.{get_more}
+use Rattle.slab.specs.Slab.{Slab, get, slab_len, Updates}
+use Rattle.onfi_core.specs.declared.setup.Setup.{Setup}
+use Rattle.onfi_core.specs.declared.slot.Slot.{Slot}
+use Rattle.onfi_core.specs.State.{HalfState, is_from}
+use Rattle.onfi_core.specs.Steps.{accept_refusal, refused_where, if_stopped, or_else, unanswered}
+use Rattle.onfi_core.specs.Kept.{is_of_place, first_half}
+use Rattle.onfi_core.proofs.Opening.{opened_sound}
+use Rattle.onfi_core.specs.View.{IsNext, AreSlots, AreNumbered, IsLent, AreFields}
+use Rattle.onfi_core.proofs.Accept.{sound_accepted}
+use Rattle.onfi_core.proofs.Lists.{get_at_length}
+use Rattle.onfi_core.proofs.Reach.{none_first, none_second, not_where, below}
+
+by_hosts : (xs : List Item) → All (λ (x : Item). x.host < 4) xs → length xs ≡ length (filter (is_from 0) xs) + length (filter (is_from 1) xs) + length (filter (is_from 2) xs) + length (filter (is_from 3) xs)
+by_hosts [] h = refl
+by_hosts (x ∷ xs) h =
+    let e = by_hosts xs h.1 in
+    let l = h.0 in
+    elim (host_cases x.host l) [
+      | inl a ↦ (let q : is_from 0 x ≡ true = grind (arith, nat_tests) in let r : is_from 1 x ≡ false = grind (arith, nat_tests) in let s : is_from 2 x ≡ false = grind (arith, nat_tests) in let t : is_from 3 x ≡ false = grind (arith, nat_tests) in rw (q, r, s, t) (omega (arith, e)))
+      | inr (inl a) ↦ (let q : is_from 0 x ≡ false = grind (arith, nat_tests) in let r : is_from 1 x ≡ true = grind (arith, nat_tests) in let s : is_from 2 x ≡ false = grind (arith, nat_tests) in let t : is_from 3 x ≡ false = grind (arith, nat_tests) in rw (q, r, s, t) (omega (arith, e)))
+      | inr (inr (inl a)) ↦ (let q : is_from 0 x ≡ false = grind (arith, nat_tests) in let r : is_from 1 x ≡ false = grind (arith, nat_tests) in let s : is_from 2 x ≡ true = grind (arith, nat_tests) in let t : is_from 3 x ≡ false = grind (arith, nat_tests) in rw (q, r, s, t) (omega (arith, e)))
+      | inr (inr (inr a)) ↦ (let q : is_from 0 x ≡ false = grind (arith, nat_tests) in let r : is_from 1 x ≡ false = grind (arith, nat_tests) in let s : is_from 2 x ≡ false = grind (arith, nat_tests) in let t : is_from 3 x ≡ true = grind (arith, nat_tests) in rw (q, r, s, t) (omega (arith, e)))
+    ]
+  where
+    host_cases : (n : ℕ) → n < 4 → (n ≡ 0) ⊎ ((n ≡ 1) ⊎ ((n ≡ 2) ⊎ (n ≡ 3)))
+    host_cases n h = grind arith
+
+-- so a place fits into 64 bits
+pub places_fit : (xs : List Item) → AreNumbered xs → length xs ≤ 2 ^ 34
+places_fit xs n =
+    let e = by_hosts xs n.hosts in
+    let a = n.few 0 in
+    let b = n.few 1 in
+    let c = n.few 2 in
+    let d = n.few 3 in
+    omega arith
+
+-- where an item is not refused the window has room
+pub has_room : (h : HalfState) → accept_refusal h ≡ None → length h.accepted - length h.posted < 64
+has_room h none = below 64 (unanswered h) (not_where _ _ (none_second (if_stopped h.stopped) _ none))
+
+numbered_more : (s : Setup) (h : HalfState) (x : Item) → AreNumbered h.accepted → IsNext s h x → AreNumbered (h.accepted ++ x ∷ [])
+numbered_more s h x n next =
+    let few = s.few_hosts in
+    let known = next.host in
+    record {
+      hosts = All-append (λ (y : Item). y.host < 4) h.accepted (x ∷ []) n.hosts (omega arith, tt);
+      few = λ host. (
+          let a = filter-append (is_from host) h.accepted (x ∷ []) in
+          let f = n.few host in
+          rw a (elim (cases_Bool (is_from host x)) [
+            | inl k ↦ (
+                let e : x.host ≡ host = grind (arith, nat_tests) in
+                let c : x.serial ≡ length (filter (is_from host) h.accepted) = next.serial ∙ ap (λ i. length (filter (is_from i) h.accepted)) e in
+                let low = next.fits in
+                rw k (omega (arith, length-append (filter (is_from host) h.accepted) (x ∷ []))))
+            | inr k ↦ rw (k, append-nil (filter (is_from host) h.accepted)) f
+          ]));
+    }
+
+module _ (slots slots' : Slab Slot) (n key : ℕ) (accepted : List Item) (posted : List Reply) (x : Item) (were : AreSlots slots accepted posted) (count : n ≡ length accepted) (u : Updates slots slots' key (Some (record { place = n; item = x }))) (cap : slots'.capacity ≡ slots.capacity) (len : slab_len slots' ≡ slab_len slots + 1) (within : key < slots'.capacity) (vacant : get slots key ≡ None) where
+  items_more : (k : ℕ) (slot : Slot) → get slots' k ≡ Some slot → slice_get (accepted ++ x ∷ []) slot.place ≡ Some slot.item
+  items_more k slot at =
+      elim (same_place k key) [
+        | inl e ↦ (
+            let q : Some (let z : Slot = record { place = n; item = x } in z) ≡ Some slot = sym u.changed ∙ ap (get slots') (sym e) ∙ at in
+            let same : (let z : Slot = record { place = n; item = x } in z) ≡ slot = cc in
+            let P : Slot → Type 0 = λ z. slice_get (accepted ++ x ∷ []) z.place ≡ Some z.item in
+            subst P same (ap (slice_get (accepted ++ x ∷ [])) count ∙ get_at_length accepted x []))
+        | inr d ↦ get_more accepted (x ∷ []) slot.place slot.item (were.items k slot (sym (u.others k d) ∙ at))
+      ]
+
+  kept_more : (place : ℕ) → place < length (accepted ++ x ∷ []) → number (is_of_place place) posted ≡ 0 → (k : ℕ) × (slot : Slot) × (k < slots'.capacity) × (get slots' k ≡ Some slot) × (slot.place ≡ place)
+  kept_more place low none =
+      let l = length-append accepted (x ∷ []) in
+      elim (same_place place n) [
+        | inl e ↦ (key, record { place = n; item = x }, within, u.changed, sym e)
+        | inr d ↦ (
+            let old = were.kept place (omega arith) none in
+            let apart : old.0 ≢ key = λ e. (let z = ap (get slots) (sym e) ∙ old.3 in let z' : None ≡ Some old.1 = sym vacant ∙ z in cc) in
+            (old.0, old.1, omega (arith, cap, old.2), u.others old.0 apart ∙ old.3, old.4))
+      ]
+
+  pub slots_more : slab_len slots < 64 → AreSlots slots' (accepted ++ x ∷ []) posted
+  slots_more room =
+      let a = were.reserved in
+      let b = were.total in
+      let l = length-append accepted (x ∷ []) in
+      record {
+        reserved = omega arith;
+        total = omega arith;
+        few = omega arith;
+        items = items_more;
+        kept = kept_more;
+      }
+
+-- an item is taken in
+pub fields_accepted : (s : Setup) (slots slots' : Slab Slot) (n key room : ℕ) (kept : List Reply) (at : Option ℕ) (h : HalfState) (lent lent' : Option Reply) (x : Item) (accepted' : List Item) (held' posted' : List Reply)
+    → AreFields s slots n room kept at h lent → accept_refusal h ≡ None → IsNext s h x
+    → Updates slots slots' key (Some (record { place = n; item = x })) → slots'.capacity ≡ slots.capacity → slab_len slots' ≡ slab_len slots + 1 → key < slots'.capacity → get slots key ≡ None
+    → accepted' ≡ h.accepted ++ x ∷ [] → held' ≡ h.held → posted' ≡ h.posted → lent' ≡ lent
+    → AreFields s slots' (n + 1) room kept at (record h { accepted = accepted'; held = held'; posted = posted' }) lent'
+fields_accepted s slots slots' n key room kept at h lent lent' x accepted' held' posted' f none next u cap len within vacant e0 e1 e2 e3 =
+    let low = has_room h none in
+    let t = f.slots_are.total in
+    let c = f.count in
+    let l = length-append h.accepted (x ∷ []) in
+    rw (e0, e1, e2, e3) (record {
+      slots_are = slots_more slots slots' n key h.accepted h.posted x f.slots_are c u cap len within vacant (omega arith);
+      count = omega arith;
+      numbered = numbered_more s h x f.numbered next;
+      room_is = f.room_is;
+      lending = f.lending;
+      sound = sound_accepted s h f.sound x next.in_range;
+    })
+
+-- the fields at the opening
+pub fields_opened : (s : Setup) (slots : Slab Slot) (room : ℕ) (kept : List Reply) (lent : Option Reply) (h : HalfState) → slots.slots ≡ [] → 64 ≤ slots.capacity → 64 ≤ room → kept ≡ [] → lent ≡ None → h ≡ first_half s → AreFields s slots 0 room kept None h lent
+fields_opened s slots room kept lent h empty reserved has none unlent is =
+    rw (is, none, unlent) (record {
+      slots_are = record {
+        reserved = reserved;
+        total = ap (λ xs. count_by is_some xs + 0) empty;
+        few = let e = ap (count_by is_some) empty in omega (arith, e);
+        items = λ key slot at. (let e = ap (λ xs. slice_index_or xs key None) empty in let z : None ≡ Some slot = sym e ∙ at in cc);
+        kept = λ place low q. absurd (omega (arith, low));
+      };
+      count = refl;
+      numbered = record { hosts = tt; few = λ host. omega arith };
+      room_is = has;
+      lending = (refl, refl);
+      sound = opened_sound s;
+    })

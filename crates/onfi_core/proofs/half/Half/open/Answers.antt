@@ -1,0 +1,12 @@
+use Rattle.std.proofs.Common.{refl, ap, ◌∙◌, arith}
+use Rattle.onfi_core.proofs.Window.{fields_opened}
+use Rattle.onfi_core.proofs.half.Half.open.Goals as goal
+
+pub invariant_of-result : goal.invariant_of-result
+invariant_of-result c =
+    let n = c.new-3.ensures in
+    let l = c.in_ok-luns.ensures in
+    let r = c.in_ok-rest.ensures in
+    let w = c.new.ensures in
+    let g = c.new-2.ensures.items in
+    fields_opened _ _ _ _ _ _ c.in_ok-slots.ensures.empty c.in_ok-slots.ensures.capacity c.in_ok-held.ensures.capacity c.in_ok-held.ensures.items n.3 (rw (n.0, n.1, n.2, l, r, w, g) refl)

@@ -1,0 +1,64 @@
+-- What callers see of a half, and what its fields keep.
+use Rattle.std.specs.Prelude.{◌≡◌, ℕ, ◌+◌, ◌^◌, ◌<◌, ◌≤◌, List, [], ◌∷◌, ◌++◌, length, Option, Some, None, option_map, slice_get}
+use Rattle.std.specs.List.{AllByRecursion as Each, filter}
+use Rattle.onfi_request.specs.Range.{Fits}
+use Rattle.onfi_request.specs.declared.request.Item.{Item}
+use Rattle.onfi_request.specs.declared.reply.Reply.{Reply}
+use Rattle.onfi_group.specs.Words.{number}
+use Rattle.slab.specs.Slab.{Slab, get, slab_len}
+use Rattle.onfi_core.specs.declared.setup.Setup.{Setup}
+use Rattle.onfi_core.specs.declared.slot.Slot.{Slot}
+use Rattle.onfi_core.specs.declared.batch.Batch.{Batch}
+use Rattle.onfi_core.specs.State.{Planning, HalfState, is_from, is_to}
+use Rattle.onfi_core.specs.Kept.{IsSound, is_of_place}
+
+-- the state, and the held reply that is on its way out
+pub record HalfView : Type 0 where
+  pub setup : Setup
+  pub state : HalfState
+  pub lent : Option Reply
+
+abbrev pub planning_of : Batch → Planning
+planning_of batch = record { problem = batch.problem.problem; schedule = batch.plan.schedule; finish = batch.plan.finish; cert = batch.plan.cert.items }
+
+-- an item as the intake gives it: in range, of a host that is there, with that host's next serial
+pub record IsNext (s : Setup) (h : HalfState) (x : Item) : Type 0 where
+  pub in_range : Fits s.geometry x.request
+  pub host : x.host < s.hosts
+  pub serial : x.serial ≡ length (filter (is_from x.host) h.accepted)
+  pub fits : x.serial < 2 ^ 32
+
+abbrev pub accepting : HalfState → Item → HalfState
+accepting h x = record h { accepted = h.accepted ++ x ∷ [] }
+
+-- a slot has the place
+abbrev pub HasSlot : Slab Slot → ℕ → Type 0
+HasSlot slots place = (key : ℕ) × (slot : Slot) × (key < slots.capacity) × (get slots key ≡ Some slot) × (slot.place ≡ place)
+
+-- each unanswered item stands in a slot, with its place
+pub record AreSlots (slots : Slab Slot) (accepted : List Item) (posted : List Reply) : Type 0 where
+  pub reserved : 64 ≤ slots.capacity
+  pub total : slab_len slots + length posted ≡ length accepted
+  pub few : slab_len slots ≤ 64
+  pub items : (key : ℕ) (slot : Slot) → get slots key ≡ Some slot → slice_get accepted slot.place ≡ Some slot.item
+  pub kept : (place : ℕ) → place < length accepted → number (is_of_place place) posted ≡ 0 → HasSlot slots place
+
+-- the items are numbered, by at most four hosts
+pub record AreNumbered (accepted : List Item) : Type 0 where
+  pub hosts : Each (λ x. x.host < 4) accepted
+  pub few : (host : ℕ) → length (filter (is_from host) accepted) ≤ 2 ^ 32
+
+-- the replies that are kept are those held, without the one that is lent: it stood there
+abbrev pub IsLent : List Reply → List Reply → Option ℕ → Option Reply → Type 0
+IsLent held kept None lent = (lent ≡ None) × (kept ≡ held)
+IsLent held kept (Some at) lent =
+    (r : Reply) × (before : List Reply) × (behind : List Reply)
+    × (lent ≡ Some r) × (held ≡ before ++ r ∷ behind) × (kept ≡ before ++ behind) × (length before ≡ at) × (filter (is_to r.host) before ≡ [])
+
+pub record AreFields (setup : Setup) (slots : Slab Slot) (accepted room : ℕ) (kept : List Reply) (place : Option ℕ) (state : HalfState) (lent : Option Reply) : Type 0 where
+  pub slots_are : AreSlots slots state.accepted state.posted
+  pub count : accepted ≡ length state.accepted
+  pub numbered : AreNumbered state.accepted
+  pub room_is : 64 ≤ room
+  pub lending : IsLent state.held kept place lent
+  pub sound : IsSound setup state

@@ -1,0 +1,11 @@
+use onfi_planner::Planned;
+use onfi_problem::Problem;
+
+/// An accepting planning.
+#[derive(Drop)]
+pub struct Batch {
+    /// What was planned.
+    pub problem: Problem,
+    /// Its plan.
+    pub plan: Planned,
+}
