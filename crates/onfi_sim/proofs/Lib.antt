@@ -10,3 +10,6 @@ pub mod PartsLemmas
 pub mod NumbersLemmas
 pub mod LineLemmas
 pub mod PlanLemmas
+pub mod Spelled
+pub mod ReadBack
+pub mod Strangers

@@ -19,3 +19,4 @@ pub mod Limit
 pub mod Answer
 pub mod AnswerOf
 pub mod Words
+pub mod Laws

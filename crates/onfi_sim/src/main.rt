@@ -9,6 +9,7 @@ mod engine;
 mod fault;
 mod field;
 mod forms;
+mod laws;
 mod parts;
 mod plan_line;
 mod plan_text;
