@@ -1,10 +1,10 @@
 -- What an inbox gave, and what waits there, are what was popped.
-use Rattle.std.proofs.Common.{◌≡◌, ◌-◌, List, [], ◌∷◌, ◌++◌, length, take, Option, Some, None, IfSome, IfNone, sym, refl, ap, ◌∙◌, subst, append_assoc, length-append, arith}
+use Rattle.std.proofs.Common.{◌≡◌, ◌-◌, List, [], ◌∷◌, ◌++◌, length, take, sym, refl, ap, ◌∙◌, subst, ⊎_elim, append_assoc, length-append, arith}
 use Rattle.std.proofs.lemmas.List.{append-nil}
 use Rattle.onfi_request.specs.declared.reply.Reply.{Reply}
-use Rattle.onfi_reply.specs.Replies.{IsNext, AreProper}
+use Rattle.onfi_reply.specs.Replies.{IsNext}
 use Rattle.onfi_reply.specs.Ends.{Popper, with_popped, given_of, IsWhole}
-use Rattle.onfi_reply.proofs.Proper.{AreProper-snoc, AreProper-middle}
+use Rattle.onfi_reply.proofs.Proper.{split_last, not_nil}
 
 take_front : (given waiting : List Reply) → take (length given) (given ++ waiting) ≡ given
 take_front [] waiting = refl
@@ -16,32 +16,46 @@ given_is popped given waiting e =
     (λ i. take (n i) (e i)) ∙ take_front given waiting
 
 -- however what was popped is split before what waits, it is whole
-whole_by : (seat : Popper) (given waiting : List Reply) → seat.popped ≡ given ++ waiting → AreProper seat.opened seat.popped → IsWhole seat waiting
-whole_by seat given waiting e proper = record { split = e ∙ ap (λ (l : List Reply). l ++ waiting) (sym (given_is seat.popped given waiting e)); proper = proper }
+whole_by : (seat : Popper) (given waiting : List Reply) → seat.popped ≡ given ++ waiting
+    → ((before : List Reply) (r : Reply) (behind : List Reply) → waiting ≡ before ++ r ∷ behind → IsNext seat.opened (given ++ before) r) → IsWhole seat waiting
+whole_by seat given waiting e next = record {
+  split = e ∙ ap (λ (l : List Reply). l ++ waiting) (sym (given_is seat.popped given waiting e));
+  next = λ before r behind at. subst (λ (l : List Reply). IsNext seat.opened (l ++ before) r) (sym (given_is seat.popped given waiting e)) (next before r behind at);
+}
 
 -- ---- the first of those that wait is given
-front_split : (seat : Popper) (x : Reply) (waiting old : List Reply) → IsWhole seat old → old ≡ x ∷ waiting → seat.popped ≡ given_of seat.popped old ++ x ∷ waiting
-front_split seat x waiting old whole is = whole.split ∙ ap (λ (l : List Reply). given_of seat.popped old ++ l) is
+front_split : (seat : Popper) (x : Reply) (waiting old : List Reply) → IsWhole seat old → old ≡ x ∷ waiting → seat.popped ≡ (given_of seat.popped old ++ x ∷ []) ++ waiting
+front_split seat x waiting old whole is =
+    whole.split ∙ ap (λ (l : List Reply). given_of seat.popped old ++ l) is ∙ sym (append_assoc (given_of seat.popped old) (x ∷ []) waiting)
 
 pub front_whole : (seat : Popper) (x : Reply) (waiting old : List Reply) → IsWhole seat old → old ≡ x ∷ waiting → IsWhole seat waiting
 front_whole seat x waiting old whole is =
-    whole_by seat (given_of seat.popped old ++ x ∷ []) waiting (front_split seat x waiting old whole is ∙ sym (append_assoc (given_of seat.popped old) (x ∷ []) waiting)) whole.proper
+    whole_by seat (given_of seat.popped old ++ x ∷ []) waiting (front_split seat x waiting old whole is)
+    (λ before r behind at. subst (λ (l : List Reply). IsNext seat.opened l r) (sym (append_assoc (given_of seat.popped old) (x ∷ []) before))
+    (whole.next (x ∷ before) r behind (is ∙ ap (λ (l : List Reply). x ∷ l) at)))
 
 pub front_given : (seat : Popper) (x : Reply) (waiting old : List Reply) → IsWhole seat old → old ≡ x ∷ waiting → given_of seat.popped waiting ≡ given_of seat.popped old ++ x ∷ []
-front_given seat x waiting old whole is =
-    given_is seat.popped (given_of seat.popped old ++ x ∷ []) waiting (front_split seat x waiting old whole is ∙ sym (append_assoc (given_of seat.popped old) (x ∷ []) waiting))
+front_given seat x waiting old whole is = given_is seat.popped (given_of seat.popped old ++ x ∷ []) waiting (front_split seat x waiting old whole is)
 
 pub front_next : (seat : Popper) (x : Reply) (waiting old : List Reply) → IsWhole seat old → old ≡ x ∷ waiting → IsNext seat.opened (given_of seat.popped old) x
-front_next seat x waiting old whole is = AreProper-middle seat.opened seat.popped (given_of seat.popped old) x waiting whole.proper (front_split seat x waiting old whole is)
+front_next seat x waiting old whole is =
+    subst (λ (l : List Reply). IsNext seat.opened l x) (append-nil (given_of seat.popped old)) (whole.next [] x waiting is)
 
 -- ---- one more is popped, and waits
 taken_split : (seat : Popper) (x : Reply) (old : List Reply) → IsWhole seat old → seat.popped ++ x ∷ [] ≡ given_of seat.popped old ++ (old ++ x ∷ [])
 taken_split seat x old whole = ap (λ (l : List Reply). l ++ x ∷ []) whole.split ∙ append_assoc (given_of seat.popped old) old (x ∷ [])
 
+taken_next : (seat : Popper) (x : Reply) (old : List Reply) → IsWhole seat old → IsNext seat.opened seat.popped x
+    → (before : List Reply) (r : Reply) (behind : List Reply) → old ++ x ∷ [] ≡ before ++ r ∷ behind → IsNext seat.opened (given_of seat.popped old ++ before) r
+taken_next seat x old whole next before r behind at =
+    ⊎_elim
+    (λ (t : (before ≡ old) × (r ≡ x)). subst (λ (y : List Reply × Reply). IsNext seat.opened y.0 y.1) (λ i. ((whole.split ∙ ap (λ (l : List Reply). given_of seat.popped old ++ l) (sym t.0)) i, sym t.1 i)) next)
+    (λ (t : (behind' : List Reply) × (old ≡ before ++ r ∷ behind')). whole.next before r t.0 t.1) (split_last old x before r behind at)
+
 pub taken_whole : (seat after : Popper) (x : Reply) (waiting old : List Reply) → IsWhole seat old → after ≡ with_popped seat x → waiting ≡ old ++ x ∷ [] → IsNext seat.opened seat.popped x → IsWhole after waiting
 taken_whole seat after x waiting old whole is longer next =
     subst (λ (y : Popper × List Reply). IsWhole y.0 y.1) (λ i. (sym is i, sym longer i))
-    (whole_by (with_popped seat x) (given_of seat.popped old) (old ++ x ∷ []) (taken_split seat x old whole) (AreProper-snoc seat.opened seat.popped x whole.proper next))
+    (whole_by (with_popped seat x) (given_of seat.popped old) (old ++ x ∷ []) (taken_split seat x old whole) (taken_next seat x old whole next))
 
 pub taken_given : (seat : Popper) (x : Reply) (old : List Reply) → IsWhole seat old → given_of (seat.popped ++ x ∷ []) (old ++ x ∷ []) ≡ given_of seat.popped old
 taken_given seat x old whole = given_is (seat.popped ++ x ∷ []) (given_of seat.popped old) (old ++ x ∷ []) (taken_split seat x old whole)
@@ -50,16 +64,12 @@ taken_given seat x old whole = given_is (seat.popped ++ x ∷ []) (given_of seat
 pub all_given : (popped : List Reply) → given_of popped [] ≡ popped
 all_given popped = given_is popped popped [] (sym (append-nil popped))
 
-alone_whole : (seat : Popper) (x : Reply) → IsWhole seat [] → IsNext seat.opened seat.popped x → IsWhole (with_popped seat x) []
-alone_whole seat x whole next = whole_by (with_popped seat x) (seat.popped ++ x ∷ []) [] (sym (append-nil (seat.popped ++ x ∷ []))) (AreProper-snoc seat.opened seat.popped x whole.proper next)
+alone_whole : (seat : Popper) → IsWhole seat []
+alone_whole seat = whole_by seat seat.popped [] (sym (append-nil seat.popped)) (λ before r behind at. absurd (not_nil before r behind at))
 
 nil_of : (xs : List Reply) → length xs ≡ 0 → xs ≡ []
 nil_of [] e = refl
 nil_of (x ∷ xs) e = absurd (omega arith)
 
-pub popped_whole : (seat after : Popper) (answer : Option Reply) (waiting old : List Reply) → IsWhole seat old → old ≡ waiting → length waiting ≡ 0
-    → IfSome answer (λ x. after ≡ with_popped seat x) → IfSome answer (λ x. IsNext seat.opened seat.popped x) → IfNone answer (after ≡ seat) → IsWhole after waiting
-popped_whole seat after None waiting old whole same none moved next kept = subst (λ (y : Popper × List Reply). IsWhole y.0 y.1) (λ i. (sym kept i, same i)) whole
-popped_whole seat after (Some x) waiting old whole same none moved next kept =
-    let e : waiting ≡ [] = nil_of waiting none in
-    subst (λ (y : Popper × List Reply). IsWhole y.0 y.1) (λ i. (sym moved i, sym e i)) (alone_whole seat x (subst (λ (l : List Reply). IsWhole seat l) (same ∙ e) whole) next)
+pub popped_whole : (seat : Popper) (waiting : List Reply) → length waiting ≡ 0 → IsWhole seat waiting
+popped_whole seat waiting none = subst (λ (l : List Reply). IsWhole seat l) (sym (nil_of waiting none)) (alone_whole seat)

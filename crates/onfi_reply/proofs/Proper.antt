@@ -15,7 +15,7 @@ Each-middle P [] x ys all = all.0
 Each-middle P (y ∷ xs) x ys all = Each-middle P xs x ys all.1
 
 -- where one is added at the end, each is the added one or stood there before
-split_last : (xs : List Reply) (x : Reply) (before : List Reply) (r : Reply) (behind : List Reply) → xs ++ x ∷ [] ≡ before ++ r ∷ behind
+pub split_last : (xs : List Reply) (x : Reply) (before : List Reply) (r : Reply) (behind : List Reply) → xs ++ x ∷ [] ≡ before ++ r ∷ behind
     → ((before ≡ xs) × (r ≡ x)) ⊎ ((behind' : List Reply) × (xs ≡ before ++ r ∷ behind'))
 split_last [] x [] r behind e = inl (refl, cc)
 split_last [] x (b ∷ []) r behind e = absurd (cc)
@@ -27,12 +27,12 @@ split_last (y ∷ ys) x (b ∷ bs) r behind e =
     ⊎_elim (λ (t : (bs ≡ ys) × (r ≡ x)). inl ((λ i. sym head i ∷ t.0 i), t.1))
     (λ (t : (behind' : List Reply) × (ys ≡ bs ++ r ∷ behind')). inr (t.0, λ i. head i ∷ t.1 i)) (split_last ys x bs r behind tail)
 
-nothing : (opened : OpenedFor) (before : List Reply) (r : Reply) (behind : List Reply) → [] ≡ before ++ r ∷ behind → AreRightfulIn opened.geometry r (before ++ r ∷ [])
-nothing opened [] r behind e = absurd (cc)
-nothing opened (b ∷ bs) r behind e = absurd (cc)
+pub not_nil : (before : List Reply) (r : Reply) (behind : List Reply) → [] ≡ before ++ r ∷ behind → ⊥
+not_nil [] r behind e = cc
+not_nil (b ∷ bs) r behind e = cc
 
 pub AreProper-nil : (opened : OpenedFor) → AreProper opened []
-AreProper-nil opened = record { own = tt; rightful = nothing opened }
+AreProper-nil opened = record { own = tt; rightful = λ before r behind e. absurd (not_nil before r behind e) }
 
 pub AreProper-snoc : (opened : OpenedFor) (xs : List Reply) (x : Reply) → AreProper opened xs → IsNext opened xs x → AreProper opened (xs ++ x ∷ [])
 AreProper-snoc opened xs x old new = record {

@@ -5,7 +5,7 @@ use Rattle.crossbeam_queue.specs.Fifo.{Held}
 use Rattle.onfi_request.specs.declared.reply.Reply.{Reply}
 use Rattle.onfi_reply.specs.declared.opened_for.OpenedFor.{OpenedFor}
 use Rattle.onfi_reply.specs.declared.view.View.TheVariants.{AtPoster, AtInbox}
-use Rattle.onfi_reply.specs.Replies.{IsNext, AreProper}
+use Rattle.onfi_reply.specs.Replies.{IsNext}
 use Rattle.onfi_reply.specs.Rule.{PosterSees, InboxSees}
 
 -- a poster: of which queue it is, what that was opened for, and what was posted
@@ -111,7 +111,7 @@ SeatSawEmpty p = Held 0 (InboxSees (AtInbox p.opened p.popped))
 abbrev pub given_of : List Reply → List Reply → List Reply
 given_of popped waiting = take (length popped - length waiting) popped
 
--- what waits is the end of what was popped, and that is proper
+-- what waits is the end of what was popped, each next behind those before it
 pub record IsWhole (seat : Popper) (waiting : List Reply) : Type 0 where
   pub split : seat.popped ≡ given_of seat.popped waiting ++ waiting
-  pub proper : AreProper seat.opened seat.popped
+  pub next : (before : List Reply) (r : Reply) (behind : List Reply) → waiting ≡ before ++ r ∷ behind → IsNext seat.opened (given_of seat.popped waiting ++ before) r

@@ -8,7 +8,7 @@ pub invariant_of-self : goal.invariant_of-self
 invariant_of-self g c = front_whole c.self.inside.seat c.in-Some.reply _ _ c.self.invariant c.in-Some.ensures.items
 
 pub invariant_of-self-in-None : goal.invariant_of-self-in-None
-invariant_of-self-in-None g c = popped_whole c.self.inside.seat c.pop.new.self c.pop.result _ _ c.self.invariant c.in-None.ensures.items (search rules) c.pop.ensures.popped c.pop.ensures.next (search rules)
+invariant_of-self-in-None g c = popped_whole c.pop.new.self _ (search rules)
 
 pub returns-in-Some-clause-rightful : goal.returns-in-Some-clause-rightful
 returns-in-Some-clause-rightful g c =
