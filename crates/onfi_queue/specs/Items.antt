@@ -24,9 +24,9 @@ pub record IsNext (geometry : Geometry) (hosts : ℕ) (accepted : List Item) (x 
   pub serial : x.serial ≡ length (items_from x.host accepted)
   pub fits : Fits geometry x.request
 
--- what each of the first hosts sent is what was accepted of it, and then what waits
+-- where `sents` tells what the first hosts sent, that is what was accepted of each, and then what waits; the items of each
+-- host are numbered from 0 on, and from the number `hosts` on there are none
 pub record IsSplit (geometry : Geometry) (hosts : ℕ) (accepted : List Item) (sents : List (List Item)) (waiting : List Item) : Type 0 where
   pub sent : (host : ℕ) → host < length sents → slice_index_or sents host [] ≡ items_from host accepted ++ items_from host waiting
-  -- whether or not that is told, it is numbered from 0 on, and there is nothing of other hosts
   pub numbered : (host : ℕ) → AreNumbered geometry host 0 (items_from host accepted ++ items_from host waiting)
   pub no_other : (host : ℕ) → hosts ≤ host → items_from host accepted ++ items_from host waiting ≡ []

@@ -35,9 +35,18 @@ impl Model for Host {
 
     ghost Value = { Sender };
 
-    ghost view = { λ h. record { queue = h.pass.table_id; capacity = ruled_capacity (arc_value h.line); opened = h.opened; number = h.number; sent = sent_of (known h.pass) } };
+    ghost view = { λ h. record {
+      queue = h.pass.table_id;
+      capacity = ruled_capacity (arc_value h.line);
+      opened = h.opened;
+      number = h.number;
+      sent = sent_of (known h.pass);
+    } };
 
-    ghost invariant = { λ h. IsPassOf (arc_value h.line) h.pass × (known h.pass ≡ AtHost h.opened h.number (sent_of (known h.pass))) × (h.count ≡ length (sent_of (known h.pass))) × (h.count ≤ 2 ^ 32) };
+    ghost invariant = { λ h. IsPassOf (arc_value h.line) h.pass
+        × (known h.pass ≡ AtHost h.opened h.number (sent_of (known h.pass)))
+        × (h.count ≡ length (sent_of (known h.pass)))
+        × (h.count ≤ 2 ^ 32) };
 }
 
 impl Host {

@@ -22,7 +22,12 @@ impl Model for Intake {
 
     ghost Value = { Taker };
 
-    ghost view = { λ t. record { queue = t.seat.queue; capacity = t.seat.capacity; opened = t.seat.opened; accepted = t.seat.accepted } };
+    ghost view = { λ t. record {
+      queue = t.seat.queue;
+      capacity = t.seat.capacity;
+      opened = t.seat.opened;
+      accepted = t.seat.accepted;
+    } };
 
     ghost invariant = { λ t. (t.seat.made ≡ 4) × (t.seat.back ≡ []) };
 }

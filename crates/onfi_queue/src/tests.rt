@@ -114,8 +114,13 @@ fn an_item_comes_out_as_it_went_in(rt: HostRuntime) -> Result<(), AllocError> {
 
 #[test]
 fn closing_tells_what_each_host_sent(rt: HostRuntime) -> Result<(), AllocError> {
-    let (intake, hosts) = open(rt.alloc(), 0, &sample_geometry(&rt), 4)?;
-    assert_eq!(rt; intake.close(hosts), [0, 0, 0, 0]);
+    let alloc = rt.alloc();
+    let (mut intake, mut hosts) = open(alloc, 0, &sample_geometry(&rt), 4)?;
+    assert_eq!(rt; hosts[2].submit(&rt, read_of(alloc, 4, 0)).ok(), Some(0));
+    assert_eq!(rt; hosts[2].submit(&rt, read_of(alloc, 5, 0)).ok(), Some(1));
+    assert_eq!(rt; hosts[0].submit(&rt, read_of(alloc, 6, 0)).ok(), Some(0));
+    assert_eq!(rt; shown(intake.accept(&rt)), Some((2, 0, 4)));
+    assert_eq!(rt; intake.close(hosts), [1, 0, 2, 0]);
     Ok(())
 }
 

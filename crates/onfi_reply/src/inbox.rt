@@ -25,7 +25,13 @@ impl Model for Inbox {
 
     ghost Value = { Getter };
 
-    ghost view = { λ t. record { queue = t.seat.queue; capacity = t.seat.capacity; opened = t.seat.opened; given = given_of t.seat.popped t.waiting.items; waiting = t.waiting.items } };
+    ghost view = { λ t. record {
+      queue = t.seat.queue;
+      capacity = t.seat.capacity;
+      opened = t.seat.opened;
+      given = given_of t.seat.popped t.waiting.items;
+      waiting = t.waiting.items;
+    } };
 
     ghost invariant = { λ t. IsWhole t.seat t.waiting.items };
 }

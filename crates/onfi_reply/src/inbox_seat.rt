@@ -29,9 +29,15 @@ impl Model for InboxSeat {
 
     ghost Value = { Popper };
 
-    ghost view = { λ s. record { queue = s.pass.table_id; capacity = ruled_capacity (arc_value s.line); opened = s.opened; popped = popped_of (known s.pass) } };
+    ghost view = { λ s. record {
+      queue = s.pass.table_id;
+      capacity = ruled_capacity (arc_value s.line);
+      opened = s.opened;
+      popped = popped_of (known s.pass);
+    } };
 
-    ghost invariant = { λ s. IsPassOf (arc_value s.line) s.pass × (known s.pass ≡ AtInbox s.opened (popped_of (known s.pass))) };
+    ghost invariant = { λ s. IsPassOf (arc_value s.line) s.pass
+        × (known s.pass ≡ AtInbox s.opened (popped_of (known s.pass))) };
 }
 
 impl InboxSeat {

@@ -23,7 +23,12 @@ impl Model for Poster {
 
     ghost Value = { Giver };
 
-    ghost view = { λ t. record { queue = t.seat.queue; capacity = t.seat.capacity; opened = t.seat.opened; posted = t.seat.posted } };
+    ghost view = { λ t. record {
+      queue = t.seat.queue;
+      capacity = t.seat.capacity;
+      opened = t.seat.opened;
+      posted = t.seat.posted;
+    } };
 
     ghost invariant = { λ t. (t.seat.made ≡ true) × (t.seat.back ≡ None) };
 }

@@ -30,9 +30,17 @@ impl Model for PosterSeat {
 
     ghost Value = { SeatGiver };
 
-    ghost view = { λ s. record { queue = s.pass.table_id; capacity = ruled_capacity (arc_value s.line); opened = s.opened; posted = posted_of (known s.pass); made = made_of (known s.pass); back = back_of (known s.pass) } };
+    ghost view = { λ s. record {
+      queue = s.pass.table_id;
+      capacity = ruled_capacity (arc_value s.line);
+      opened = s.opened;
+      posted = posted_of (known s.pass);
+      made = made_of (known s.pass);
+      back = back_of (known s.pass);
+    } };
 
-    ghost invariant = { λ s. IsPassOf (arc_value s.line) s.pass × (known s.pass ≡ AtPoster s.opened (posted_of (known s.pass)) (made_of (known s.pass)) (back_of (known s.pass))) };
+    ghost invariant = { λ s. IsPassOf (arc_value s.line) s.pass
+        × (known s.pass ≡ AtPoster s.opened (posted_of (known s.pass)) (made_of (known s.pass)) (back_of (known s.pass))) };
 }
 
 impl PosterSeat {
