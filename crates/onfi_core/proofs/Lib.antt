@@ -15,5 +15,7 @@ pub mod Opening
 pub mod Reach
 pub mod Window
 pub mod Next
+pub mod Few
+pub mod Lending
 pub mod Promise
 pub mod Channels

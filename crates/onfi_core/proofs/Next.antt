@@ -1,6 +1,6 @@
 -- What the next planning takes, item by item.
-use Rattle.std.proofs.Common.{◌≡◌, ℕ, zero, suc, ◌+◌, ◌-◌, ◌<◌, ◌≤◌, ◌⊎◌, inl, inr, true, false, List, [], ◌∷◌, ◌++◌, length, Some, take, drop, refl, sym, ap, ◌∙◌, append_assoc, length-drop, arith}
-use Rattle.std.specs.Prelude.{slice_get, ◌==◌}
+use Rattle.std.proofs.Common.{◌≡◌, ℕ, zero, suc, ◌+◌, ◌-◌, ◌<◌, ◌≤◌, ◌⊎◌, inl, inr, true, false, List, [], ◌∷◌, ◌++◌, length, Some, None, ◌^◌, take, drop, refl, sym, ap, ◌∙◌, append_assoc, length-drop, arith}
+use Rattle.std.specs.Prelude.{slice_get, ◌==◌, nat_le}
 use Rattle.std.specs.List.{flat_map}
 use Rattle.std.proofs.lemmas.Bool.{cases_Bool}
 use Rattle.std.proofs.lemmas.Bool.Decides.{nat_tests}
@@ -14,7 +14,8 @@ use Rattle.slab.specs.Slab.{Slab, get}
 use Rattle.onfi_core.specs.declared.setup.Setup.{Setup}
 use Rattle.onfi_core.specs.declared.slot.Slot.{Slot}
 use Rattle.onfi_core.specs.State.{HalfState, want_of, wants_from}
-use Rattle.onfi_core.specs.Steps.{unplanned}
+use Rattle.onfi_core.specs.Steps.{unplanned, is_empty, taken_next, next_problem, plan_refusal}
+use Rattle.onfi_problem.specs.Left.{horizon}
 use Rattle.onfi_core.specs.Kept.{IsSound, is_of_place, unposted}
 use Rattle.onfi_core.specs.View.{HasSlot, AreSlots, AreFields}
 use Rattle.onfi_core.proofs.Lists.{take_next}
@@ -81,3 +82,14 @@ take_all (suc n) (suc m) (x ∷ xs) a b = ap (λ zs. x ∷ zs) (take_all n m xs 
 pub takes_all : {A : Type 0} (n m : ℕ) (xs : List A) → n ≤ m → (n ≡ m) ⊎ (length xs ≤ n) → take n xs ≡ take m xs
 takes_all n m xs low (inl e) = ap (λ k. take k xs) e
 takes_all n m xs low (inr h) = take_all n m xs h (omega arith)
+
+some_not_empty : {A : Type 0} (xs : List A) → 1 ≤ length xs → is_empty xs ≡ false
+some_not_empty [] h = absurd (omega arith)
+some_not_empty (x ∷ xs) h = refl
+
+-- where nothing stands against it a planning is not refused
+pub plan_goes_on : (s : Setup) (h : HalfState) → h.stopped ≡ None → 1 ≤ length (taken_next s h) → horizon (next_problem s h) < 2 ^ 62 → plan_refusal s h ≡ None
+plan_goes_on s h going some low =
+    let a = some_not_empty (taken_next s h) some in
+    let b : nat_le (2 ^ 62) (horizon (next_problem s h)) ≡ false = grind (arith, nat_tests) in
+    rw (going, a, b) refl

@@ -65,6 +65,38 @@ take_few zero xs = omega arith
 take_few (suc m) [] = omega arith
 take_few (suc m) (x ∷ xs) = let h = take_few m xs in omega arith
 
+module _ (s : Setup) (h : HalfState) (half : IsSound s h) where
+  pub weaker : (w : Want) → IsTaken s h.planned h.accepted w → IsTaken s (h.planned + length (taken_next s h)) h.accepted w
+  weaker w t = let q = t.below in record { below = omega arith; item = t.item; there = t.there; is = t.is }
+
+  pub new_wants : All (IsTaken s (h.planned + length (taken_next s h)) h.accepted) (h.now.wants ++ taken_next s h)
+  new_wants = All-append (IsTaken s (h.planned + length (taken_next s h)) h.accepted) h.now.wants (taken_next s h)
+      (All-weaker _ _ weaker h.now.wants half.wants)
+      (taken_are s h.accepted h.planned (h.batch - length h.now.wants) (h.planned + length (taken_next s h)) (take h.planned h.accepted) (drop h.planned h.accepted) (sym (take_drop h.planned h.accepted)) (sym (length_take h.planned h.accepted half.planned)) refl)
+
+  pub next_is_problem : IsProblem (next_problem s h)
+  next_is_problem = record {
+    wants = All-append IsWant h.now.wants (taken_next s h) half.problem.wants (wants_are_wants s h.planned (h.batch - length h.now.wants) (drop h.planned h.accepted) (All-drop _ h.planned h.accepted half.in_range));
+    running = half.problem.running;
+    ids = Rising-append h.planned h.now.wants (taken_next s h) half.problem.ids (numbers_rise s.geometry h.planned (h.batch - length h.now.wants) (drop h.planned h.accepted)) (All-weaker _ (λ (w : Want). w.id < h.planned) (λ w t. t.below) h.now.wants half.wants) (not_below s.geometry h.planned (h.batch - length h.now.wants) h.planned (drop h.planned h.accepted) (omega arith));
+    in_range = All-append _ h.now.wants (taken_next s h) half.problem.in_range (let e = half.luns in rw e (taken_in_range s h.planned (h.batch - length h.now.wants) (drop h.planned h.accepted) (All-drop _ h.planned h.accepted half.in_range)));
+  }
+
+  pub next_few : length (h.now.wants ++ taken_next s h) ≤ 8
+  next_few =
+      let a = length-append h.now.wants (taken_next s h) in
+      let b = take_few (h.batch - length h.now.wants) (unplanned s h) in
+      let c = half.few in
+      let d = half.few_batch in
+      omega arith
+
+  pub next_is_small : IsSmall (next_problem s h)
+  next_is_small =
+      let e = half.luns in
+      let a = s.geometry.some_lun in
+      let b = s.geometry.few_luns in
+      record { wants = next_few; some_luns = omega arith; few_luns = omega arith }
+
 module _ (s : Setup) (h : HalfState) (half : IsSound s h) (plan : Planning) (plans : Plans s h plan) where
   abbrev new : HalfState
   new = planned_by h (length (taken_next s h)) plan
@@ -89,37 +121,6 @@ module _ (s : Setup) (h : HalfState) (half : IsSound s h) (plan : Planning) (pla
       let d = half.planned in
       omega arith
 
-  weaker : (w : Want) → IsTaken s h.planned h.accepted w → IsTaken s (h.planned + length (taken_next s h)) h.accepted w
-  weaker w t = let q = t.below in record { below = omega arith; item = t.item; there = t.there; is = t.is }
-
-  new_wants : All (IsTaken s (h.planned + length (taken_next s h)) h.accepted) (h.now.wants ++ taken_next s h)
-  new_wants = All-append (IsTaken s (h.planned + length (taken_next s h)) h.accepted) h.now.wants (taken_next s h)
-      (All-weaker _ _ weaker h.now.wants half.wants)
-      (taken_are s h.accepted h.planned (h.batch - length h.now.wants) (h.planned + length (taken_next s h)) (take h.planned h.accepted) (drop h.planned h.accepted) (sym (take_drop h.planned h.accepted)) (sym (length_take h.planned h.accepted half.planned)) refl)
-
-  pub next_is_problem : IsProblem (next_problem s h)
-  next_is_problem = record {
-    wants = All-append IsWant h.now.wants (taken_next s h) half.problem.wants (wants_are_wants s h.planned (h.batch - length h.now.wants) (drop h.planned h.accepted) (All-drop _ h.planned h.accepted half.in_range));
-    running = half.problem.running;
-    ids = Rising-append h.planned h.now.wants (taken_next s h) half.problem.ids (numbers_rise s.geometry h.planned (h.batch - length h.now.wants) (drop h.planned h.accepted)) (All-weaker _ (λ (w : Want). w.id < h.planned) (λ w t. t.below) h.now.wants half.wants) (not_below s.geometry h.planned (h.batch - length h.now.wants) h.planned (drop h.planned h.accepted) (omega arith));
-    in_range = All-append _ h.now.wants (taken_next s h) half.problem.in_range (let e = half.luns in rw e (taken_in_range s h.planned (h.batch - length h.now.wants) (drop h.planned h.accepted) (All-drop _ h.planned h.accepted half.in_range)));
-  }
-
-  next_few : length (h.now.wants ++ taken_next s h) ≤ 8
-  next_few =
-      let a = length-append h.now.wants (taken_next s h) in
-      let b = take_few (h.batch - length h.now.wants) (unplanned s h) in
-      let c = half.few in
-      let d = half.few_batch in
-      omega arith
-
-  pub next_is_small : IsSmall (next_problem s h)
-  next_is_small =
-      let e = half.luns in
-      let a = s.geometry.some_lun in
-      let b = s.geometry.few_luns in
-      record { wants = next_few; some_luns = omega arith; few_luns = omega arith }
-
   pub sound_planned : IsSound s (planned_by h (length (taken_next s h)) plan)
   sound_planned = record {
     planned = few;
@@ -127,13 +128,13 @@ module _ (s : Setup) (h : HalfState) (half : IsSound s h) (plan : Planning) (pla
     few_batch = half.few_batch;
     timing = ap (λ (p : Problem). p.timing) plans.problem ∙ half.timing;
     rules = ap (λ (p : Problem). p.rules) plans.problem ∙ half.rules;
-    problem = let e = plans.problem in rw e next_is_problem;
-    few = rw wants_are next_few;
+    problem = let e = plans.problem in rw e (next_is_problem s h half);
+    few = rw wants_are (next_few s h half);
     luns = ap length luns_same ∙ half.luns;
     legal = plans.planned.optimal.legal;
     in_range = half.in_range;
-    wants = rw wants_are new_wants;
-    running = λ lun group next ready at. All-weaker _ _ weaker group (half.running lun group next ready (ap (λ ls. slice_get ls lun) (sym luns_same) ∙ at));
+    wants = rw wants_are (new_wants s h half);
+    running = λ lun group next ready at. All-weaker _ _ (weaker s h half) group (half.running lun group next ready (ap (λ ls. slice_get ls lun) (sym luns_same) ∙ at));
     once = λ i. (
         let a = half.once i in
         let b = number-append (has_id i) (taken_next s h) (unplanned s (planned_by h (length (taken_next s h)) plan)) in

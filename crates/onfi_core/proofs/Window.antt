@@ -14,8 +14,13 @@ use Rattle.onfi_die.proofs.Lists.{get_more}
 use Rattle.slab.specs.Slab.{Slab, get, slab_len, Updates}
 use Rattle.onfi_core.specs.declared.setup.Setup.{Setup}
 use Rattle.onfi_core.specs.declared.slot.Slot.{Slot}
-use Rattle.onfi_core.specs.State.{HalfState, is_from}
-use Rattle.onfi_core.specs.Steps.{accept_refusal, refused_where, if_stopped, or_else, unanswered}
+use Rattle.onfi_core.specs.declared.lent.Lent.{Lent}
+use Rattle.onfi_core.specs.State.{Planning, HalfState, is_from}
+use Rattle.onfi_core.proofs.Plan.{sound_planned}
+use Rattle.onfi_problem.specs.Problem.{Problem}
+use Rattle.onfi_request.specs.declared.want.Want.{Want}
+use Rattle.onfi_schedule.specs.Schedule.{Placed}
+use Rattle.onfi_core.specs.Steps.{taken_next, next_problem, planned_by, Plans, accept_refusal, refused_where, if_stopped, or_else, unanswered}
 use Rattle.onfi_core.specs.Kept.{is_of_place, first_half}
 use Rattle.onfi_core.proofs.Opening.{opened_sound}
 use Rattle.onfi_core.specs.View.{IsNext, AreSlots, AreNumbered, IsLent, AreFields}
@@ -108,7 +113,7 @@ module _ (slots slots' : Slab Slot) (n key : ℕ) (accepted : List Item) (posted
       }
 
 -- an item is taken in
-pub fields_accepted : (s : Setup) (slots slots' : Slab Slot) (n key room : ℕ) (kept : List Reply) (at : Option ℕ) (h : HalfState) (lent lent' : Option Reply) (x : Item) (accepted' : List Item) (held' posted' : List Reply)
+pub fields_accepted : (s : Setup) (slots slots' : Slab Slot) (n key room : ℕ) (kept : List Reply) (at : Option Lent) (h : HalfState) (lent lent' : Option Reply) (x : Item) (accepted' : List Item) (held' posted' : List Reply)
     → AreFields s slots n room kept at h lent → accept_refusal h ≡ None → IsNext s h x
     → Updates slots slots' key (Some (record { place = n; item = x })) → slots'.capacity ≡ slots.capacity → slab_len slots' ≡ slab_len slots + 1 → key < slots'.capacity → get slots key ≡ None
     → accepted' ≡ h.accepted ++ x ∷ [] → held' ≡ h.held → posted' ≡ h.posted → lent' ≡ lent
@@ -144,3 +149,23 @@ fields_opened s slots room kept lent h empty reserved has none unlent is =
       lending = (refl, refl);
       sound = opened_sound s;
     })
+
+-- a plan takes the old one's place
+pub fields_planned : (s : Setup) (slots : Slab Slot) (n room : ℕ) (kept : List Reply) (at : Option Lent) (h : HalfState) (lent : Option Reply) (plan : Planning) (wants : List Want) (rest : List (List ℕ)) (groups : List Placed) (taken : ℕ)
+    → AreFields s slots n room kept at h lent → Plans s h plan → wants ≡ h.now.wants ++ taken_next s h → rest ≡ plan.schedule.rest → groups ≡ plan.schedule.groups → length wants ≡ length h.now.wants + taken
+    → AreFields s slots n room kept at (record h { planned = h.planned + taken; now = record h.now { wants = wants }; left = record { rest = rest; groups = groups }; last = Some plan }) lent
+fields_planned s slots n room kept at h lent plan wants rest groups taken f plans ew er eg count =
+    let k = length (taken_next s h) in
+    let l = ap length ew ∙ length-append h.now.wants (taken_next s h) in
+    let et : taken ≡ length (taken_next s h) = omega (arith, l, count) in
+    let built : (let z : HalfState = record h { planned = h.planned + k; now = next_problem s h; left = plan.schedule; last = Some plan } in z) ≡ planned_by h k plan = ap (λ (p : Problem). let z : HalfState = record h { planned = h.planned + k; now = p; left = plan.schedule; last = Some plan } in z) (sym plans.problem) in
+    let P : HalfState → Type 0 = λ z. AreFields s slots n room kept at z lent in
+    let base : P (planned_by h k plan) = record {
+      slots_are = f.slots_are;
+      count = f.count;
+      numbered = f.numbered;
+      room_is = f.room_is;
+      lending = f.lending;
+      sound = sound_planned s h f.sound plan plans;
+    } in
+    rw (ew, er, eg, et) (subst P (sym built) base)

@@ -1,3 +1,4 @@
+pub mod Ranges
 pub mod State
 pub mod Steps
 pub mod Kept

@@ -1,14 +1,24 @@
 -- What callers see of a half, and what its fields keep.
-use Rattle.std.specs.Prelude.{◌≡◌, ℕ, ◌+◌, ◌^◌, ◌<◌, ◌≤◌, List, [], ◌∷◌, ◌++◌, length, Option, Some, None, option_map, slice_get}
+use Rattle.std.specs.Prelude.{◌≡◌, ℕ, ◌+◌, ◌^◌, ◌<◌, ◌≤◌, List, [], ◌∷◌, ◌++◌, length, take, Option, Some, None, option_map, slice_get}
 use Rattle.std.specs.List.{AllByRecursion as Each, filter}
 use Rattle.onfi_request.specs.Range.{Fits}
 use Rattle.onfi_request.specs.declared.request.Item.{Item}
 use Rattle.onfi_request.specs.declared.reply.Reply.{Reply}
 use Rattle.onfi_group.specs.Words.{number}
+use Rattle.onfi_problem.specs.Problem.{Problem}
+use Rattle.onfi_problem.specs.Left.{horizon}
+use Rattle.onfi_planner.specs.Nodes.{HasMoreNodes}
 use Rattle.slab.specs.Slab.{Slab, get, slab_len}
 use Rattle.onfi_core.specs.declared.setup.Setup.{Setup}
 use Rattle.onfi_core.specs.declared.slot.Slot.{Slot}
+use Rattle.onfi_core.specs.declared.lent.Lent.{Lent}
 use Rattle.onfi_core.specs.declared.batch.Batch.{Batch}
+use Rattle.onfi_core.specs.declared.planning.PlanStop.{PlanStop}
+use Rattle.onfi_core.specs.declared.planning.PlanStop.TheVariants.{Clock, Over, Memory}
+use Rattle.onfi_core.specs.declared.half.PlanRefusal.{PlanRefusal}
+use Rattle.onfi_core.specs.declared.half.PlanRefusal.TheVariants.{Stopped, NothingToPlan, Over as IsOver, Memory as NoMemory}
+use Rattle.onfi_core.specs.declared.outcome.Outcome.TheVariants as outcome
+use Rattle.onfi_core.specs.Steps.{plan_refusal, next_problem}
 use Rattle.onfi_core.specs.State.{Planning, HalfState, is_from, is_to}
 use Rattle.onfi_core.specs.Kept.{IsSound, is_of_place}
 
@@ -48,17 +58,45 @@ pub record AreNumbered (accepted : List Item) : Type 0 where
   pub hosts : Each (λ x. x.host < 4) accepted
   pub few : (host : ℕ) → length (filter (is_from host) accepted) ≤ 2 ^ 32
 
+-- the first reply to the host stands there
+pub record IsOldestAt (host : ℕ) (held : List Reply) (at : ℕ) : Type 0 where
+  pub reply : Reply
+  pub there : slice_get held at ≡ Some reply
+  pub own : reply.host ≡ host
+  pub before : filter (is_to host) (take at held) ≡ []
+
+-- the oldest reply that is held for the host
+pub record IsOldest (host : ℕ) (held : List Reply) (r : Reply) : Type 0 where
+  pub before : List Reply
+  pub behind : List Reply
+  pub is : held ≡ before ++ r ∷ behind
+  pub own : r.host ≡ host
+  pub none : filter (is_to host) before ≡ []
+
 -- the replies that are kept are those held, without the one that is lent: it stood there
-abbrev pub IsLent : List Reply → List Reply → Option ℕ → Option Reply → Type 0
+abbrev pub IsLent : List Reply → List Reply → Option Lent → Option Reply → Type 0
 IsLent held kept None lent = (lent ≡ None) × (kept ≡ held)
 IsLent held kept (Some at) lent =
     (r : Reply) × (before : List Reply) × (behind : List Reply)
-    × (lent ≡ Some r) × (held ≡ before ++ r ∷ behind) × (kept ≡ before ++ behind) × (length before ≡ at) × (filter (is_to r.host) before ≡ [])
+    × (lent ≡ Some r) × (held ≡ before ++ r ∷ behind) × (kept ≡ before ++ behind) × (length before ≡ at.at) × (r.place ≡ at.place) × (filter (is_to r.host) before ≡ [])
 
-pub record AreFields (setup : Setup) (slots : Slab Slot) (accepted room : ℕ) (kept : List Reply) (place : Option ℕ) (state : HalfState) (lent : Option Reply) : Type 0 where
+pub record AreFields (setup : Setup) (slots : Slab Slot) (accepted room : ℕ) (kept : List Reply) (place : Option Lent) (state : HalfState) (lent : Option Reply) : Type 0 where
   pub slots_are : AreSlots slots state.accepted state.posted
   pub count : accepted ≡ length state.accepted
   pub numbered : AreNumbered state.accepted
   pub room_is : 64 ≤ room
   pub lending : IsLent state.held kept place lent
   pub sound : IsSound setup state
+
+-- why there is no plan of a problem
+abbrev pub StopsBecause : Problem → ℕ → PlanStop → Type 0
+StopsBecause p limit Clock = 2 ^ 62 ≤ horizon p
+StopsBecause p limit (Over opened) = (horizon p < 2 ^ 62) × (opened ≡ limit) × HasMoreNodes p limit
+StopsBecause p limit Memory = horizon p < 2 ^ 62
+
+-- why a half doesn't plan, and what it leaves
+abbrev pub PlanRefused : Setup → HalfState → PlanRefusal → HalfState → Type 0
+PlanRefused s h (Stopped cause) h' = (plan_refusal s h ≡ Some (outcome.Stopped cause)) × (h' ≡ record h { stopped = Some cause })
+PlanRefused s h NothingToPlan h' = (plan_refusal s h ≡ Some outcome.NothingToPlan) × (h' ≡ h)
+PlanRefused s h (IsOver opened) h' = (plan_refusal s h ≡ None) × (opened ≡ s.limit) × HasMoreNodes (next_problem s h) s.limit × (h' ≡ h)
+PlanRefused s h NoMemory h' = (plan_refusal s h ≡ None) × (h' ≡ h)

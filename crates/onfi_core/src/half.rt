@@ -1,14 +1,18 @@
-ghost use Rattle.std.specs.Prelude.{◌≡◌, ◌<◌, ◌≤◌, ◌+◌, ◌++◌, [], length, replicate, None, Some, IfOk, MatchOption};
+ghost use Rattle.std.specs.Prelude.{◌≡◌, ◌<◌, ◌≤◌, ◌+◌, ◌++◌, [], length, replicate, None, Some, IfOk, IfErr, IfSome, IfNone, IsSome, MatchOption};
 ghost use Rattle.onfi_core.specs.Kept.{first_half};
-ghost use Rattle.onfi_core.specs.Steps.{accept_refusal, taken_next};
+ghost use Rattle.onfi_core.specs.State.{Planning};
+ghost use Rattle.onfi_core.specs.Steps.{GoesOut, accept_refusal, held_for, plan_refusal, taken_next, planned_by, Plans};
 ghost use Rattle.onfi_core.specs.Refusals.{fault_outcome};
-ghost use Rattle.onfi_core.specs.View.{IsNext, accepting};
+ghost use Rattle.onfi_core.specs.View.{IsNext, IsOldest, accepting, planning_of, PlanRefused};
 ghost use Rattle.onfi_problem.specs.declared.lun_state.LunState.TheVariants.{Free};
 
 use crate::batch::Batch;
-use crate::finding::item_of;
+use crate::finding::{find, item_of};
 use crate::history::History;
+use crate::lent::Lent;
+use crate::oldest::oldest_for;
 use crate::outcome::Cause;
+use crate::planning::{NextPlan, PlanStop, plan_wants};
 use crate::setup::Setup;
 use crate::slot::Slot;
 use crate::wants::want_of;
@@ -39,7 +43,7 @@ pub struct Half {
     groups: Vec<Placed>,
     last: Option<Batch>,
     held: Vec<Reply>,
-    lent: Option<usize>,
+    lent: Option<Lent>,
     stopped: Option<Cause>,
     history: History,
 }
@@ -87,6 +91,19 @@ pub enum AcceptFault {
     Stopped(Cause),
     /// 64 accepted items have no posted reply.
     WindowFull,
+}
+
+/// Why nothing is planned, in the order in which it is told.
+#[derive(Clone, Copy, Debug, PartialEq, Eq)]
+pub enum PlanRefusal {
+    /// The channel stopped, now or earlier.
+    Stopped(Cause),
+    /// No accepted item is unplanned, or the wants not started fill the batch.
+    NothingToPlan,
+    /// The search opened as many nodes as it may and isn't over; the old plan stands.
+    Over { opened: u32 },
+    /// Memory was refused; the old plan stands.
+    Memory,
 }
 
 impl Half {
@@ -171,6 +188,114 @@ impl Half {
             wants.push(want_of(&self.setup.geometry, place, item_of(&self.slots, place)));
         }
         wants
+    }
+
+    /// Plans the wants not started, and behind them the first unplanned items, up to the batch in all, with the bus and
+    /// the LUNs as they stand. The plan takes the old one's place; its finish is answered, in ns of the channel's clock.
+    ///
+    /// # Errors
+    /// `Stopped` where the channel stopped; `NothingToPlan` where no accepted item is unplanned, or the wants not started
+    /// fill the batch; `Stopped(Clock)` where the plan might end at 2^62 ns or later: the channel stops. Else `Over` or
+    /// `Memory`, and the old plan stands.
+    pub fn plan(&mut self, alloc: Global) -> Result<u64, PlanRefusal>
+        requires settled { self.old.lent ≡ None }
+        ensures planned { IfOk result (λ finish. (plan_refusal self.old.setup self.old.state ≡ None)
+            × (plan : Planning) × (finish ≡ plan.finish) × Plans self.old.setup self.old.state plan
+            × (self.new ≡ record self.old { state = planned_by self.old.state (length (taken_next self.old.setup self.old.state)) plan })) }
+        ensures refused { IfErr result (λ refusal. PlanRefused self.old.setup self.old.state refusal self.new.state
+            × (self.new ≡ record self.old { state = self.new.state })) }
+        ensures settled { self.new.lent ≡ None }
+        ensures setup { self.new.setup ≡ self.old.setup }
+    {
+        if let Some(cause) = self.stopped {
+            return Err(PlanRefusal::Stopped(cause));
+        }
+        let wants = self.next_wants();
+        if wants.len() == self.wants.len() {
+            return Err(PlanRefusal::NothingToPlan);
+        }
+        let next = plan_wants(
+            alloc,
+            &self.setup,
+            self.bus_free,
+            self.luns.as_slice(),
+            wants.as_slice(),
+        );
+        match next {
+            Ok(next) => Ok(self.take_over(wants, next)),
+            Err(PlanStop::Clock) => {
+                self.stopped = Some(Cause::Clock);
+                Err(PlanRefusal::Stopped(Cause::Clock))
+            }
+            Err(PlanStop::Over { opened }) => Err(PlanRefusal::Over { opened }),
+            Err(PlanStop::Memory) => Err(PlanRefusal::Memory),
+        }
+    }
+
+    // The plan of these wants takes the old one's place.
+    fn take_over(&mut self, wants: ArrayVec<Want, 8>, next: NextPlan) -> u64
+        requires wants { wants.items ≡ self.old.state.now.wants ++ taken_next self.old.setup self.old.state }
+        requires plans { Plans self.old.setup self.old.state (planning_of next.batch) }
+        requires rest { next.rest.items ≡ next.batch.plan.schedule.rest }
+        requires groups { next.groups.items ≡ next.batch.plan.schedule.groups }
+        ensures planned { self.new ≡ record self.old { state = planned_by self.old.state (length (taken_next self.old.setup self.old.state)) (planning_of next.batch) } }
+        ensures finish { result ≡ next.batch.plan.finish }
+    {
+        let finish = next.batch.plan.finish;
+        self.planned += (wants.len() - self.wants.len()) as u64;
+        self.wants = wants;
+        self.rest = next.rest;
+        self.groups = next.groups;
+        self.last = Some(next.batch);
+        finish
+    }
+
+    /// Moves out the oldest reply that is held for the host. What follows is [`Half::keep`] or [`Half::posted`]; until
+    /// then the state is as before. It takes no memory.
+    pub fn held(&mut self, host: u8) -> Option<Reply>
+        requires settled { self.old.lent ≡ None }
+        ensures none { IfNone result ((held_for host self.old.state ≡ []) × (self.new ≡ self.old)) }
+        ensures oldest { IfSome result (λ r. IsOldest host self.old.state.held r) }
+        ensures lent { IfSome result (λ r. self.new ≡ record self.old { lent = Some r }) }
+    {
+        let at = oldest_for(host, self.held.as_slice())?;
+        let reply = self.held.remove(at);
+        self.history = self.history.lending(&reply);
+        self.lent = Some(Lent {
+            at,
+            place: reply.place,
+        });
+        Some(reply)
+    }
+
+    /// Puts back the reply that [`Half::held`] gave: nothing happened. It takes no memory.
+    pub fn keep(&mut self, reply: Reply)
+        requires lent { self.old.lent ≡ Some reply }
+        ensures { self.new ≡ record self.old { lent = None } }
+    {
+        let Some(lent) = self.lent else {
+            unreachable!();
+        };
+        self.history = self.history.keeping();
+        self.lent = None;
+        self.held.insert(lent.at, reply).unwrap();
+    }
+
+    /// The reply that [`Half::held`] gave was posted. It takes no memory.
+    pub fn posted(&mut self)
+        requires lent { IsSome self.old.lent }
+        ensures posted { IfSome self.old.lent (λ r. GoesOut self.old.state self.new.state r.host r) }
+        ensures rest { self.new ≡ record self.old { state = self.new.state; lent = None } }
+    {
+        let Some(lent) = self.lent else {
+            unreachable!();
+        };
+        let Some(key) = find(&self.slots, lent.place) else {
+            unreachable!();
+        };
+        self.slots.try_remove(key);
+        self.history = self.history.posting(&self.held);
+        self.lent = None;
     }
 
     /// The problem and the plan of the last accepting planning; none before one.

@@ -8,13 +8,19 @@ mod finding;
 mod half;
 mod history;
 mod laws;
+mod lent;
+mod oldest;
 mod outcome;
+mod planning;
 mod setup;
 mod slot;
 mod wants;
 
 pub use event::Event;
-pub use half::{AcceptFault, Half};
+pub use half::{AcceptFault, Half, PlanRefusal};
 pub use laws::headline;
 pub use outcome::{Cause, Outcome};
 pub use setup::{Setup, SetupFault};
+
+#[cfg(test)]
+mod tests;

@@ -1,4 +1,5 @@
-ghost use Rattle.std.specs.Prelude.{◌≡◌, ℕ, ◌<◌, ◌≤◌, ◌⊎◌, ◌↔◌, IfOk, IfErr, IsErrOf};
+ghost use Rattle.std.specs.Prelude.{◌≡◌, ℕ, ◌≤◌, ◌↔◌, IfOk, IsErrOf};
+ghost use Rattle.onfi_core.specs.Ranges.{IsBetween};
 
 use onfi_addr::Geometry;
 use onfi_group::Rules;
@@ -62,4 +63,66 @@ pub enum SetupFault {
     /// Not 1 to 1,048,576 nodes.
     #[error("a search limit that is not 1 to 1,048,576")]
     Limit,
+}
+
+impl Setup {
+    /// The setup of so many channels with chips of this geometry and timing, so many hosts, a batch of so many wants,
+    /// submission and completion queues of so many places, and so many nodes for one planning.
+    ///
+    /// # Errors
+    /// The first of `Channels`, `Hosts`, `Batch`, `SubmitCap`, `PostCap` and `Limit` whose number is out of range.
+    pub fn new(
+        geometry: Geometry,
+        timing: Timing,
+        rules: Rules,
+        channels: u8,
+        hosts: u8,
+        batch: u8,
+        submit_cap: u16,
+        post_cap: u16,
+        limit: u32,
+    ) -> Result<Setup, SetupFault>
+        ensures device { IfOk result (λ s. (s.geometry ≡ geometry) × (s.timing ≡ timing) × (s.rules ≡ rules)) }
+        ensures counts { IfOk result (λ s. (s.channels ≡ channels) × (s.hosts ≡ hosts) × (s.batch ≡ batch)) }
+        ensures room { IfOk result (λ s. (s.submit_cap ≡ submit_cap) × (s.post_cap ≡ post_cap) × (s.limit ≡ limit)) }
+        ensures channels { IsErrOf result SetupFault.Channels ↔ ¬ IsBetween 1 4 channels }
+        ensures hosts { IsErrOf result SetupFault.Hosts ↔ (IsBetween 1 4 channels × ¬ IsBetween 1 4 hosts) }
+        ensures batch { IsErrOf result SetupFault.Batch ↔ (IsBetween 1 4 channels × IsBetween 1 4 hosts × ¬ IsBetween 1 8 batch) }
+        ensures submit_cap { IsErrOf result SetupFault.SubmitCap
+            ↔ (IsBetween 1 4 channels × IsBetween 1 4 hosts × IsBetween 1 8 batch × ¬ IsBetween 1 1024 submit_cap) }
+        ensures post_cap { IsErrOf result SetupFault.PostCap
+            ↔ (IsBetween 1 4 channels × IsBetween 1 4 hosts × IsBetween 1 8 batch × IsBetween 1 1024 submit_cap × ¬ IsBetween 1 1024 post_cap) }
+        ensures limit { IsErrOf result SetupFault.Limit
+            ↔ (IsBetween 1 4 channels × IsBetween 1 4 hosts × IsBetween 1 8 batch × IsBetween 1 1024 submit_cap × IsBetween 1 1024 post_cap × ¬ IsBetween 1 1048576 limit) }
+    {
+        if channels < 1 || channels > 4 {
+            return Err(SetupFault::Channels);
+        }
+        if hosts < 1 || hosts > 4 {
+            return Err(SetupFault::Hosts);
+        }
+        if batch < 1 || batch > 8 {
+            return Err(SetupFault::Batch);
+        }
+        if submit_cap < 1 || submit_cap > 1024 {
+            return Err(SetupFault::SubmitCap);
+        }
+        if post_cap < 1 || post_cap > 1024 {
+            return Err(SetupFault::PostCap);
+        }
+        if limit < 1 || limit > 1_048_576 {
+            return Err(SetupFault::Limit);
+        }
+        Ok(Setup {
+            geometry,
+            timing,
+            rules,
+            channels,
+            hosts,
+            batch,
+            submit_cap,
+            post_cap,
+            limit,
+        })
+    }
 }

@@ -1,0 +1,111 @@
+ghost use Rattle.std.specs.Prelude.{◌≡◌, ◌<◌, ◌≤◌, ◌^◌, IfOk, IsErrOf, IfErr, ◌↔◌};
+ghost use Rattle.onfi_problem.specs.Problem.{IsSmall, IsProblem};
+ghost use Rattle.onfi_problem.specs.Kept.{problem_of};
+ghost use Rattle.onfi_problem.specs.Left.{horizon};
+ghost use Rattle.onfi_core.specs.Steps.{IsPlanned};
+ghost use Rattle.onfi_core.specs.View.{planning_of, StopsBecause};
+
+use crate::batch::Batch;
+use crate::setup::Setup;
+use onfi_planner::{PlanFault, Planned, plan};
+use onfi_problem::{LunState, Problem, ProblemFault};
+use onfi_request::Want;
+use onfi_schedule::{Placed, Schedule, Starts};
+use std::alloc::{AllocError, Global};
+
+/// A plan, and its starts once more, to be used up phase by phase.
+#[derive(Drop)]
+pub struct NextPlan {
+    pub batch: Batch,
+    pub rest: Vec<Starts>,
+    pub groups: Vec<Placed>,
+}
+
+/// Why nothing was planned.
+#[derive(Clone, Copy, Debug, PartialEq, Eq)]
+pub enum PlanStop {
+    /// The plan might end at 2^62 ns or later.
+    Clock,
+    /// The search opened as many nodes as it may.
+    Over { opened: u32 },
+    /// Memory was refused.
+    Memory,
+}
+
+/// Plans these wants on these LUNs.
+pub fn plan_wants(
+    alloc: Global,
+    setup: &Setup,
+    bus_free: u64,
+    luns: &[LunState],
+    wants: &[Want],
+) -> Result<NextPlan, PlanStop>
+    requires small { IsSmall (problem_of setup.now.timing setup.now.rules bus_free luns.now wants.now) }
+    requires problem { IsProblem (problem_of setup.now.timing setup.now.rules bus_free luns.now wants.now) }
+    ensures problem { IfOk result (λ next. next.batch.problem.problem ≡ problem_of setup.now.timing setup.now.rules bus_free luns.now wants.now) }
+    ensures planned { IfOk result (λ next. IsPlanned (planning_of next.batch)) }
+    ensures in_time { IfOk result (λ next. horizon (problem_of setup.now.timing setup.now.rules bus_free luns.now wants.now) < 2 ^ 62) }
+    ensures rest { IfOk result (λ next. next.rest.items ≡ next.batch.plan.schedule.rest) }
+    ensures groups { IfOk result (λ next. next.groups.items ≡ next.batch.plan.schedule.groups) }
+    ensures stop { IfErr result (λ stop. StopsBecause (problem_of setup.now.timing setup.now.rules bus_free luns.now wants.now) setup.now.limit stop) }
+{
+    let problem = match Problem::new(alloc, setup.timing, setup.rules, bus_free, luns, wants) {
+        Ok(problem) => problem,
+        Err(ProblemFault::Clock) => return Err(PlanStop::Clock),
+        Err(ProblemFault::Memory) => return Err(PlanStop::Memory),
+        Err(ProblemFault::TooMany) => unreachable!(),
+        Err(ProblemFault::BadLun) => unreachable!(),
+    };
+    let plan = match plan(alloc, &problem, setup.limit) {
+        Ok(plan) => plan,
+        Err(PlanFault::Over { opened }) => return Err(PlanStop::Over { opened }),
+        Err(PlanFault::Memory) => return Err(PlanStop::Memory),
+    };
+    with_starts(alloc, problem, plan).map_err(|_| PlanStop::Memory)
+}
+
+fn with_starts(alloc: Global, problem: Problem, plan: Planned) -> Result<NextPlan, AllocError>
+    ensures problem { IfOk result (λ next. next.batch.problem ≡ problem) }
+    ensures plan { IfOk result (λ next. next.batch.plan ≡ plan) }
+    ensures rest { IfOk result (λ next. next.rest.items ≡ plan.schedule.rest) }
+    ensures groups { IfOk result (λ next. next.groups.items ≡ plan.schedule.groups) }
+{
+    let rest = rest_once_more(alloc, &plan.schedule)?;
+    let groups = groups_once_more(alloc, &plan.schedule)?;
+    Ok(NextPlan {
+        batch: Batch { problem, plan },
+        rest,
+        groups,
+    })
+}
+
+fn rest_once_more(alloc: Global, schedule: &Schedule) -> Result<Vec<Starts>, AllocError>
+    ensures { IfOk result (λ v. v.items ≡ schedule.now.rest) }
+{
+    let mut rest = Vec::with_capacity(alloc, schedule.rest().len())?;
+    for starts in schedule.rest() {
+        rest.push(once_more(alloc, starts))?;
+    }
+    Ok(rest)
+}
+
+fn groups_once_more(alloc: Global, schedule: &Schedule) -> Result<Vec<Placed>, AllocError>
+    ensures { IfOk result (λ v. v.items ≡ schedule.now.groups) }
+{
+    let mut groups = Vec::with_capacity(alloc, schedule.groups().len())?;
+    for placed in schedule.groups() {
+        groups.push(Placed::new(placed.members().copy(), once_more(alloc, placed.starts())))?;
+    }
+    Ok(groups)
+}
+
+// The same starts once more; up to eight stand inline, so this takes no memory.
+pub fn once_more(alloc: Global, starts: &Starts) -> Starts
+    ensures { result ≡ starts.now }
+{
+    let mut copy = Starts::new(alloc);
+    for start in starts.as_slice() {
+        copy.push(*start);
+    }
+    copy
+}
