@@ -1,10 +1,12 @@
 ghost use Rattle.std.specs.Prelude.{◌≡◌, length};
 
-use crate::{Setup, SetupFault};
-use onfi_addr::Geometry;
+use crate::{Half, PlanRefusal, Setup, SetupFault};
+use onfi_addr::{Geometry, Place};
 use onfi_group::Rules;
 use onfi_param::{crc16, read_page};
-use onfi_timing::{Spans, Timing};
+use onfi_request::{Bytes, Item, Request, check};
+use onfi_timing::{Kind, Spans, Timing};
+use std::alloc::{AllocError, Global};
 use std::process::Abort;
 
 fn crc_of_front(page: &[u8]) -> u16
@@ -56,6 +58,19 @@ fn sample_timing(rt: &impl Abort) -> Timing {
     )
 }
 
+/// A program of page 0 of a block of LUN 0.
+fn program(alloc: Global, geometry: &Geometry, block: u16) -> Result<Request, AllocError> {
+    Ok(Request {
+        kind: Kind::Program,
+        place: Place {
+            lun: 0,
+            block,
+            page: 0,
+        },
+        bytes: Bytes::of(vec![in alloc; 0xA5; usize::from(geometry.page_bytes())]?),
+    })
+}
+
 #[test]
 fn each_number_of_a_setup_has_its_range(rt: HostRuntime) {
     let geometry = sample_geometry(&rt);
@@ -84,4 +99,45 @@ fn each_number_of_a_setup_has_its_range(rt: HostRuntime) {
         assert!(rt; setup == Err(fault));
     }
     assert!(rt; Setup::new(geometry, timing, rules, 4, 4, 8, 1024, 1024, 1_048_576).is_ok());
+}
+
+#[test]
+fn a_channel_goes_on_after_over(rt: HostRuntime) -> Result<(), AllocError> {
+    let alloc = rt.alloc();
+    let geometry = sample_geometry(&rt);
+    let rules = Rules::new(true, false, false, 1);
+    let setup = Setup::new(geometry, sample_timing(&rt), rules, 1, 4, 8, 1, 1, 2).expect(
+        &rt, "in range",
+    );
+    let mut half = Half::open(alloc, setup)?;
+    let request = program(alloc, &geometry, 0)?;
+    assert!(rt; check(&geometry, &request).is_ok());
+    assert!(rt; half.refuses().is_none());
+    let first = half.accept(Item {
+        host: 0,
+        serial: 0,
+        request,
+    });
+    let request = program(alloc, &geometry, 1)?;
+    assert!(rt; check(&geometry, &request).is_ok());
+    assert!(rt; half.refuses().is_none());
+    let second = half.accept(Item {
+        host: 0,
+        serial: 1,
+        request,
+    });
+    let over = half.plan(alloc);
+    half.set_batch(1);
+    let planned = half.plan(alloc);
+    let again = half.plan(alloc);
+    assert_eq!(rt; (first, second), (0, 1));
+    assert!(rt; over == Err(PlanRefusal::Over { opened: 2 }));
+    assert!(rt; planned == Ok(211_180));
+    assert!(rt; again == Err(PlanRefusal::NothingToPlan));
+    match half.last() {
+        Some((_, plan)) => assert_eq!(rt; plan.finish, 211_180),
+        None => assert!(rt; false),
+    }
+    assert!(rt; half.held(0).is_none());
+    Ok(())
 }
