@@ -18,7 +18,7 @@ pub index_at_length : {A : Type 0} (xs : List A) (x : A) (ys : List A) (d : A) �
 index_at_length [] x ys d = refl
 index_at_length (y ∷ xs) x ys d = index_at_length xs x ys d
 
-get_at_length : {A : Type 0} (xs : List A) (x : A) (ys : List A) → slice_get (xs ++ x ∷ ys) (length xs) ≡ Some x
+pub get_at_length : {A : Type 0} (xs : List A) (x : A) (ys : List A) → slice_get (xs ++ x ∷ ys) (length xs) ≡ Some x
 get_at_length [] x ys = refl
 get_at_length (y ∷ xs) x ys = get_at_length xs x ys
 

@@ -4,3 +4,12 @@ pub mod Startable
 pub mod Members
 pub mod Going
 pub mod Agreement
+pub mod Progress
+pub mod Choosing
+pub mod Turns
+pub mod MayAdvance
+pub mod Driving
+pub mod Steps
+pub mod Running
+pub mod Beginning
+pub mod Opening

@@ -1,3 +1,6 @@
 pub mod Phases
 pub mod Wants
 pub mod Course
+pub mod Drive
+pub mod Least
+pub mod Batch

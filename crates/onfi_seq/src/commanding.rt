@@ -37,6 +37,7 @@ impl Lun<Idle> {
         requires time { now < 2 ^ 63 }
         ensures done { IfOk result (λ _. HasDone (command_of closer (C.state chip.old) request.now now) (C.state chip.new)) }
         ensures commanded { IfOk result (λ commanded. IsCommanded closer (C.state chip.new) self.number commanded) }
+        ensures made { IfOk result (λ commanded. IsMade closer self.number 1 (now + hold closer (spans_of target.now.timing request.now.kind)) commanded) }
         ensures others { IfOk result (λ _. OthersStay self.number (C.state chip.old) (C.state chip.new)) }
         ensures fault { IfErr result (λ refused. AfterFault refused.fault (C.state chip.old) (C.state chip.new)) }
         ensures lun { IfErr result (λ refused. refused.lun ≡ self) }
@@ -71,6 +72,7 @@ impl Lun<Queuing> {
         requires time { now < 2 ^ 63 }
         ensures done { IfOk result (λ _. HasDone (command_of closer (C.state chip.old) request.now now) (C.state chip.new)) }
         ensures commanded { IfOk result (λ commanded. IsCommanded closer (C.state chip.new) self.number commanded) }
+        ensures made { IfOk result (λ commanded. IsMade closer self.number (self.state.commands + 1) (now + hold closer (spans_of target.now.timing request.now.kind)) commanded) }
         ensures others { IfOk result (λ _. OthersStay self.number (C.state chip.old) (C.state chip.new)) }
         ensures fault { IfErr result (λ refused. AfterFault refused.fault (C.state chip.old) (C.state chip.new)) }
         ensures lun { IfErr result (λ refused. refused.lun ≡ self) }

@@ -2,6 +2,7 @@
 //! value, so that what a LUN isn't ready for cannot be written. Alone, it drives a chip through one group.
 #![tactic(auto)]
 
+mod batch;
 mod commanding;
 mod fault;
 mod fetch;
@@ -10,11 +11,14 @@ mod posting;
 mod states;
 mod target;
 
+pub use batch::{BatchFault, run_batch};
 pub use fault::{PostFault, Refused};
 pub use fetch::Fetch;
 pub use lun::{Commanded, Lun, Posted};
 pub use states::{Idle, Phase, Posting, Queuing, Working};
 pub use target::Target;
 
+#[cfg(test)]
+mod batch_tests;
 #[cfg(test)]
 mod tests;

@@ -41,6 +41,7 @@ impl Lun<Posting> {
             → told.1 ≡ post.answer) }
         ensures posted { IfOk result (λ told. (post : APost) (left : List APost) → IsDue target.now.geometry (C.state chip.old) self now fetch post left
             → IsPosted left (C.state chip.new) self.number told.0) }
+        ensures made { IfOk result (λ told. IsBehind self.number self.state.left (now + (spans_of target.now.timing fetch.kind).post) told.0) }
         ensures others { IfOk result (λ _. OthersStay self.number (C.state chip.old) (C.state chip.new)) }
         ensures fault { IfErr result (λ _. IsLost (C.state chip.old) (C.state chip.new)) }
         ensures lun { IfErr result (λ refused. refused.lun ≡ self) }

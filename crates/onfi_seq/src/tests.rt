@@ -20,15 +20,16 @@ fn crc_of_front(page: &[u8]) -> u16
     crc16(front)
 }
 
-/// A small device: 512 + 16 bytes a page, 64 pages a block, programmed in order, 1,000 blocks a LUN, 2 LUNs, 2 planes.
-fn sample_geometry(rt: &impl Abort) -> Geometry {
+/// A small device: 512 + 16 bytes a page, 64 pages a block, 1,000 blocks a LUN, 2 LUNs, 2 planes. `features` is the low
+/// byte of its features: with 4Ah pages of a block are programmed in order, with 4Eh in any order.
+pub(crate) fn sample_geometry(rt: &impl Abort, features: u8) -> Geometry {
     let mut page = [0; 256];
     for (at, byte) in [
         (0usize, 0x4Fu8),
         (1, 0x4E),
         (2, 0x46),
         (3, 0x49),
-        (6, 0x4A),
+        (6, features),
         (8, 0x48),
         (81, 0x02),
     ] {
@@ -54,7 +55,7 @@ fn sample_geometry(rt: &impl Abort) -> Geometry {
     )
 }
 
-fn sample_timing(rt: &impl Abort) -> Timing {
+pub(crate) fn sample_timing(rt: &impl Abort) -> Timing {
     Timing::new(
         Spans::new(140, 600, 25_100, 11_000).expect(rt, "in range"),
         Spans::new(10_800, 600, 200_100, 280).expect(rt, "in range"),
@@ -127,7 +128,7 @@ fn first(
     status: u32,
     kind: Kind,
 ) -> Result<Ended, AllocError> {
-    let geometry = sample_geometry(rt);
+    let geometry = sample_geometry(rt, 0x4A);
     let timing = sample_timing(rt);
     let count = if kind == Kind::Program {
         usize::from(geometry.page_bytes())

@@ -34,3 +34,11 @@ returns-in-Ok-clause-others g c =
     let h = c.requires.due.2 in
     let done = c.in-Ok.ensures.done post left (next_fetch c.args.target.now old c.args.self c.args.now c.args.fetch post left c.requires.device h) in
     subst (λ n. OthersStay n old new) h.lun_is (post_others old new post left c.args.now done)
+
+pub returns-in-Ok-clause-made : goal.returns-in-Ok-clause-made
+returns-in-Ok-clause-made g c =
+    let time : c.args.now + c.spans.result.post ≡ c.args.now + (spans_of c.args.target.now.timing c.args.fetch.kind).post =
+    ap (λ (s : Spans). c.args.now + s.post) c.spans.ensures ∙ ap (λ (k : Kind). c.args.now + (spans_of c.args.target.now.timing k).post) c.kind.ensures in
+    subst (λ t. IsBehind c.args.self.number c.args.self.state.left t c.behind.result) time
+    (subst (λ n. IsBehind n c.args.self.state.left (c.args.now + c.spans.result.post) c.behind.result) c.number.ensures
+    (subst (λ n. IsBehind c.number.result n (c.args.now + c.spans.result.post) c.behind.result) (ap (λ (s : InPosts). s.left) c.state.ensures) c.behind.ensures))

@@ -1,0 +1,46 @@
+use Rattle.std.proofs.Common.{◌≡◌, Some, refl, sym, ◌∙◌}
+use Rattle.std.specs.Prelude.{slice_get}
+use Rattle.std.specs.Vec.{with_item}
+use Rattle.onfi_problem.proofs.Places.{within_get}
+use Rattle.onfi_seq.specs.declared.batch.lane.Lane.TheVariants.{Busy}
+use Rattle.onfi_seq.specs.declared.batch.drive.Drive.{Drive}
+use Rattle.onfi_seq.proofs.Driving.{set_twice}
+use Rattle.onfi_seq.proofs.Steps.{get_of_or, runs_at, can_advance, ran_driven, ran_fewer}
+use Rattle.onfi_seq.proofs.batch.drive.Drive.go_on.Goals as goal
+
+pub advance-requires : goal.advance-requires
+advance-requires g c =
+    let drive = c.args.self.now in
+    let old = g.C.Chip.state c.args.chip.now in
+    let least = c.requires.least in
+    let driven = c.requires.driven.1 in
+    let running = c.in-Busy.running in
+    let there : slice_get drive.lanes.items c.args.lun ≡ Some (Busy running) =
+    get_of_or drive.lanes.items c.args.lun (Busy running) c.index_mut.result.now (within_get drive.lanes.items c.args.lun least.is.0 least.is.1) (sym c.in-Busy.is ∙ c.replace.ensures.value ∙ c.index_mut.ensures.value) in
+    let at = runs_at c.args.target.now c.args.items.now old drive c.requires.driven.0 driven c.args.lun c.args.start running there least in
+    can_advance c.args.target.now c.args.items.now old drive c.requires.driven.0 driven c.args.lun c.args.start running at least.small
+
+pub returns-clause-ok : goal.returns-clause-ok
+returns-clause-ok g c replies driven =
+    let drive = c.args.self.now in
+    let old = g.C.Chip.state c.args.chip.now in
+    let new = g.C.Chip.state c.advance.new.chip in
+    let least = c.requires.least in
+    let running = c.in-Busy.running in
+    let there : slice_get drive.lanes.items c.args.lun ≡ Some (Busy running) =
+    get_of_or drive.lanes.items c.args.lun (Busy running) c.index_mut.result.now (within_get drive.lanes.items c.args.lun least.is.0 least.is.1) (sym c.in-Busy.is ∙ c.replace.ensures.value ∙ c.index_mut.ensures.value) in
+    let at = runs_at c.args.target.now c.args.items.now old drive replies driven c.args.lun c.args.start running there least in
+    ran_driven c.posts_are_alone.ensures c.args.target.now c.args.items.now old new drive replies driven c.args.lun c.args.start running there at _ c.in_ok-lane.lane (set_twice drive.lanes.items c.args.lun c.replace.new.dest c.in_ok-lane.lane) refl c.in_ok-lane.reply c.in_ok-lane.ensures.ok
+
+pub returns-clause-fewer : goal.returns-clause-fewer
+returns-clause-fewer g c =
+    let drive = c.args.self.now in
+    let old = g.C.Chip.state c.args.chip.now in
+    let new = g.C.Chip.state c.advance.new.chip in
+    let least = c.requires.least in
+    let running = c.in-Busy.running in
+    let there : slice_get drive.lanes.items c.args.lun ≡ Some (Busy running) =
+    get_of_or drive.lanes.items c.args.lun (Busy running) c.index_mut.result.now (within_get drive.lanes.items c.args.lun least.is.0 least.is.1) (sym c.in-Busy.is ∙ c.replace.ensures.value ∙ c.index_mut.ensures.value) in
+    let at = runs_at c.args.target.now c.args.items.now old drive c.requires.driven.0 c.requires.driven.1 c.args.lun c.args.start running there least in
+    let drive' : Drive = record { waiting = drive.waiting; lanes = with_item (with_item drive.lanes c.args.lun c.replace.new.dest) c.args.lun c.in_ok-lane.lane } in
+    ran_fewer c.posts_are_alone.ensures c.args.target.now c.args.items.now old new drive c.requires.driven.0 c.requires.driven.1 c.args.lun c.args.start running there at drive' c.in_ok-lane.lane (set_twice drive.lanes.items c.args.lun c.replace.new.dest c.in_ok-lane.lane) refl c.in_ok-lane.reply c.in_ok-lane.ensures.ok

@@ -1,0 +1,58 @@
+use Rattle.std.proofs.Common.{◌≡◌, ◌≤◌, List, ◌∷◌, ◌++◌, [], Some, refl, sym, ap, subst, ◌∙◌, arith}
+use Rattle.onfi_request.specs.declared.reply.Reply.{Reply}
+use Rattle.onfi_request.specs.declared.request.Item.{Item}
+use Rattle.onfi_seq.specs.declared.target.Target.{Target}
+use Rattle.onfi_seq.specs.Drive.{IsDriven, IsLeast, NoneLeft, with_reply}
+use Rattle.onfi_seq.proofs.Opening.{opened_driven, ended_rightful, ended_replied, no_reply, none_is, kept_on, pushed_is}
+use Rattle.onfi_seq.proofs.batch.run_batch.Goals as goal
+
+pub loop-turn-init : goal.loop-turn-init
+loop-turn-init g c =
+    let target : Target = record { geometry = c.args.geometry.now; timing = c.timing.result } in
+    let chip = g.C.Chip.state c.args.chip.now in
+    let opened = c.requires.opened in
+    let driven = opened_driven target c.args.items.items c.args.problem.now.problem c.args.schedule.now opened.0 opened.1 chip c.in-Ok-new.drive c.timing.ensures opened.2 c.requires.batch c.problem_is_one.ensures c.requires.legal c.in-Ok-new.ensures.waiting c.in-Ok-new.ensures.free (c.in-Ok-new.ensures.count ∙ c.lun_count.ensures.value) in
+    record {
+      driven = subst (IsDriven target c.args.items.items chip c.in-Ok-new.drive) (sym c.in-Ok.ensures.items) driven;
+      kept = record { faults = refl; failures = omega arith };
+    }
+
+pub loop-turn-preserved-in_default-2 : goal.loop-turn-preserved-in_default-2
+loop-turn-preserved-in_default-2 g c =
+    let target : Target = record { geometry = c.args.geometry.now; timing = c.timing.result } in
+    let first = g.C.Chip.state c.args.chip.now in
+    let old = g.C.Chip.state c.loop-turn.chip in
+    let new = g.C.Chip.state c.step.new.chip in
+    let items : c.as_slice.result.now ≡ c.args.items.items = c.as_slice.ensures.value in
+    let before = subst (λ xs. IsDriven target xs old c.loop-turn.drive c.loop-turn.replies.items) (sym items) c.loop-turn.invariant.driven in
+    let after = subst (λ xs. IsDriven target xs new c.step.new.self (with_reply c.loop-turn.replies.items c.in_ok-reply.field-0)) items (c.in_ok-reply.ensures.ok c.loop-turn.replies.items before) in
+    record {
+      driven = subst (IsDriven target c.args.items.items new c.step.new.self) (no_reply c.loop-turn.replies.items c.in_ok-reply.field-0 c.in_default-2.not-Some) after;
+      kept = kept_on first old new c.loop-turn.invariant.kept c.in_ok-reply.ensures.kept;
+    }
+
+pub loop-turn-preserved : goal.loop-turn-preserved
+loop-turn-preserved g c =
+    let target : Target = record { geometry = c.args.geometry.now; timing = c.timing.result } in
+    let first = g.C.Chip.state c.args.chip.now in
+    let old = g.C.Chip.state c.loop-turn.chip in
+    let new = g.C.Chip.state c.step.new.chip in
+    let items : c.as_slice.result.now ≡ c.args.items.items = c.as_slice.ensures.value in
+    let before = subst (λ xs. IsDriven target xs old c.loop-turn.drive c.loop-turn.replies.items) (sym items) c.loop-turn.invariant.driven in
+    let after = subst (λ xs. IsDriven target xs new c.step.new.self (with_reply c.loop-turn.replies.items c.in_ok-reply.field-0)) items (c.in_ok-reply.ensures.ok c.loop-turn.replies.items before) in
+    let with_one = subst (λ o. IsDriven target c.args.items.items new c.step.new.self (with_reply c.loop-turn.replies.items o)) c.in-Some-2.is after in
+    let pushed : c.push.new.self.items ≡ c.loop-turn.replies.items ++ c.in-Some-2.reply ∷ [] = pushed_is c.push.result _ c.loop-turn.replies.items c.push.new.self.items (sym c.is_err.ensures.value ∙ c.if-is_err.false) c.push.ensures.items in
+    record {
+      driven = subst (IsDriven target c.args.items.items new c.step.new.self) (sym pushed) with_one;
+      kept = kept_on first old new c.loop-turn.invariant.kept c.in_ok-reply.ensures.kept;
+    }
+
+pub returns-clause-rightful : goal.returns-clause-rightful
+returns-clause-rightful g c =
+    let target : Target = record { geometry = c.args.geometry.now; timing = c.timing.result } in
+    ended_rightful target c.args.items.items (g.C.Chip.state c.loop-turn.chip) c.loop-turn.drive c.loop-turn.replies.items c.loop-turn.invariant.driven (g.C.Chip.state c.args.chip.now).faults c.loop-turn.invariant.kept.faults
+
+pub returns-clause-each : goal.returns-clause-each
+returns-clause-each g c =
+    let target : Target = record { geometry = c.args.geometry.now; timing = c.timing.result } in
+    ended_replied target c.args.items.items (g.C.Chip.state c.loop-turn.chip) c.loop-turn.drive c.loop-turn.replies.items c.loop-turn.invariant.driven (none_is (NoneLeft c.loop-turn.drive) (IsLeast c.loop-turn.drive) c.next_turn.result c.next_turn.ensures c.in_default-next_turn.not-Some)
