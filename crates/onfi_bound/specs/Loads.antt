@@ -1,5 +1,5 @@
 -- What sets of wants take, and what a walk over the LUNs has met.
-use Rattle.std.specs.Prelude.{◌≡◌, ℕ, ◌+◌, ◌^◌, ◌<◌, ◌≤◌, Bool, true, if◌then◌else◌, List, [], ◌∷◌, length, map, drop, Option, Some, None, MatchOption, slice_get, slice_index}
+use Rattle.std.specs.Prelude.{◌≡◌, ℕ, ◌+◌, ◌^◌, ◌<◌, true, if◌then◌else◌, List, [], ◌∷◌, map, drop, Some, MatchOption, slice_get, slice_index}
 use Rattle.std.specs.List.{AllByRecursion as Each, list_any}
 use Rattle.onfi_timing.specs.declared.kind.Kind.{Kind}
 use Rattle.onfi_timing.specs.declared.timing.Timing.{Timing}
@@ -10,11 +10,11 @@ use Rattle.onfi_group.specs.Words.{total}
 use Rattle.onfi_problem.specs.declared.lun_state.LunState.{LunState}
 use Rattle.onfi_problem.specs.Problem.{Problem}
 use Rattle.onfi_problem.specs.Position.{Position, waiting_of}
-use Rattle.onfi_problem.specs.Left.{want_command, want_post, command_time, post_time, all_commands, all_posts, InLimits}
+use Rattle.onfi_problem.specs.Left.{want_command, want_post, command_time, post_time, all_commands, all_posts}
 use Rattle.onfi_bound.specs.declared.chain.Chain.{Chain}
 use Rattle.onfi_bound.specs.declared.load.Load.{Load}
 use Rattle.onfi_bound.specs.declared.tally.Tally.{Tally}
-use Rattle.onfi_bound.specs.Bounds.{on_lun, wants_work, least, least_with, same_kind, commands_next, has_command, post_starts, die, earlier}
+use Rattle.onfi_bound.specs.Bounds.{on_lun, wants_work, least, same_kind, commands_next, has_command, post_starts, die, earlier}
 use Rattle.onfi_bound.specs.Parts.{chain_of, has_kind}
 use Rattle.onfi_bound.specs.Reaching.{IsFirstDie}
 

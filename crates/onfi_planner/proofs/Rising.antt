@@ -1,11 +1,7 @@
 -- The groups of a run's schedule stand by rising first start.
-use Rattle.std.proofs.Common.{◌≡◌, ℕ, ◌+◌, ◌≤◌, ◌<◌, List, [], ◌∷◌, length, Some, arith}
-use Rattle.std.specs.Prelude.{slice_get, max}
+use Rattle.std.proofs.Common.{ℕ, ◌≤◌, ◌<◌, List, [], ◌∷◌, length, arith}
 use Rattle.std.specs.List.{AllByRecursion as All}
-use Rattle.onfi_request.specs.declared.want.Want.{Want}
-use Rattle.onfi_group.specs.Group.{group_spans, lun_of}
-use Rattle.onfi_group.specs.Words.{Pairs}
-use Rattle.onfi_timing.specs.Phases.{phase_length}
+use Rattle.onfi_group.specs.Group.{group_spans}
 use Rattle.onfi_problem.specs.Problem.{Problem}
 use Rattle.onfi_problem.specs.Moves.{Move, Next, Start, IsMove, earliest, placed}
 use Rattle.onfi_problem.proofs.Perm.{All-weaker}

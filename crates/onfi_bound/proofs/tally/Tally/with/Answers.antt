@@ -1,5 +1,5 @@
-use Rattle.std.proofs.Common.{◌≡◌, ◌+◌, ◌≤◌, ◌⊎◌, inl, inr, Bool, true, false, get_or, Some, refl, ◌∙◌, ap, arith, if◌then◌else◌}
-use Rattle.std.specs.Prelude.{max, not}
+use Rattle.std.proofs.Common.{◌≡◌, ◌+◌, ◌≤◌, ◌⊎◌, inl, inr, true, false, get_or, Some, refl, ◌∙◌, ap, arith, if◌then◌else◌}
+use Rattle.std.specs.Prelude.{max}
 use Rattle.onfi_bound.specs.Bounds.{least_with}
 use Rattle.onfi_problem.proofs.Places.{within_get}
 use Rattle.onfi_bound.proofs.Tallying.{done_is, done_small, tally_room, tally_more, tally_idle, idle_done, reached_more, at_small, is_not, is_yes}
