@@ -1,7 +1,7 @@
 -- A bus phase keeps the chip in agreement with what is left of the plan, and its reply is rightful.
 use Rattle.std.proofs.Common.{◌≡◌, ◌≢◌, ℕ, zero, suc, ◌+◌, ◌*◌, ◌-◌, ◌<◌, ◌≤◌, inl, inr, List, [], ◌∷◌, ◌++◌, length, Some, take, drop, refl, sym, ap, ◌∙◌, subst, append-nil, append_assoc, arith}
 use Rattle.std.specs.Prelude.{slice_get, slice_set, map}
-use Rattle.std.specs.List.{AllByRecursion as All, filter}
+use Rattle.std.specs.List.{AllByRecursion as All}
 use Rattle.std.proofs.lemmas.Bool.{lt-ltb, le-ltb, cases_lt}
 use Rattle.std.proofs.lemmas.List.{map-append}
 use Rattle.onfi_addr.specs.declared.geometry.Geometry.{Geometry}
@@ -9,11 +9,10 @@ use Rattle.onfi_timing.specs.Phases.{phase_length, wait_before}
 use Rattle.onfi_request.specs.declared.want.Want.{Want}
 use Rattle.onfi_request.specs.declared.request.Item.{Item}
 use Rattle.onfi_request.specs.declared.request.Request.{Request}
-use Rattle.onfi_request.specs.declared.answer.Answer.{Answer}
 use Rattle.onfi_request.specs.declared.reply.Reply.{Reply}
 use Rattle.onfi_die.specs.Shapes.{Device}
 use Rattle.onfi_die.specs.Contents.{Contents, contents_after, fresh, runs}
-use Rattle.onfi_die.specs.Blocks.{Blocks, is_on, happen}
+use Rattle.onfi_die.specs.Blocks.{Blocks, happen}
 use Rattle.onfi_die.specs.Answers.{answer_at}
 use Rattle.onfi_die.specs.Apart.{AreApart}
 use Rattle.onfi_die.specs.Rightful.{IsRightful}
@@ -23,7 +22,6 @@ use Rattle.onfi_chip.specs.Chip.{Chip, Lun, device_in, taken, posts_of, after_po
 use Rattle.onfi_chip.specs.Chip.Lun.{Commanding, Posting}
 use Rattle.onfi_group.specs.Words.{Has}
 use Rattle.onfi_group.specs.Group.{group_spans, lun_of}
-use Rattle.onfi_problem.specs.declared.lun_state.LunState.{LunState}
 use Rattle.onfi_problem.specs.declared.lun_state.LunState.TheVariants.{Free, Running}
 use Rattle.onfi_problem.specs.Problem.{Problem}
 use Rattle.onfi_problem.specs.Moves.{lun_after}

@@ -1,5 +1,5 @@
 -- A group that waits begins.
-use Rattle.std.proofs.Common.{◌≡◌, ◌≢◌, ℕ, zero, suc, ◌+◌, ◌*◌, ◌-◌, ◌<◌, ◌≤◌, ◌^◌, List, [], ◌∷◌, ◌++◌, length, Option, Some, None, map, drop, get_or, refl, sym, ap, subst, ◌∙◌, arith}
+use Rattle.std.proofs.Common.{◌≡◌, ℕ, ◌+◌, ◌<◌, ◌≤◌, ◌^◌, List, [], ◌∷◌, ◌++◌, length, Option, Some, map, drop, refl, ap, subst, ◌∙◌, arith}
 use Rattle.std.specs.Prelude.{slice_get, slice_set}
 use Rattle.std.specs.List.{AllByRecursion as All, remove}
 use Rattle.onfi_request.specs.declared.want.Want.{Want}
@@ -9,15 +9,14 @@ use Rattle.onfi_chip.specs.Alone.{PostsAreAlone}
 use Rattle.onfi_chip.specs.Chip.{Chip, device_in}
 use Rattle.onfi_chip.specs.Chip.Lun.{Idle}
 use Rattle.onfi_group.specs.Words.{Has, total}
-use Rattle.onfi_group.specs.Group.{IsStartable, lun_of}
+use Rattle.onfi_group.specs.Group.{lun_of}
 use Rattle.onfi_problem.specs.declared.lun_state.LunState.TheVariants.{Free}
-use Rattle.onfi_problem.specs.Problem.{Problem}
 use Rattle.onfi_problem.specs.Moves.{Start, placed, without}
 use Rattle.onfi_problem.proofs.Perm.{All-has, All-each}
 use Rattle.onfi_problem.proofs.Places.{within_get}
 use Rattle.onfi_problem.proofs.Totals.{total_set}
 use Rattle.onfi_problem.proofs.Wants.{total-append}
-use Rattle.onfi_schedule.specs.Schedule.{Schedule, Placed}
+use Rattle.onfi_schedule.specs.Schedule.{Placed}
 use Rattle.onfi_schedule.specs.Laws.{IsFirstMove}
 use Rattle.onfi_schedule.proofs.Following.{first_move_law, next_law, done_law}
 use Rattle.onfi_seq.specs.declared.states.Idle.{Idle as IsIdle}
@@ -27,11 +26,10 @@ use Rattle.onfi_seq.specs.declared.batch.lane.Lane.TheVariants as lane
 use Rattle.onfi_seq.specs.declared.batch.drive.Drive.{Drive}
 use Rattle.onfi_seq.specs.declared.batch.turn.Turn.TheVariants as turn
 use Rattle.onfi_seq.specs.declared.target.Target.{Target}
-use Rattle.onfi_seq.specs.Phases.{IsOf}
 use Rattle.onfi_seq.specs.Wants.{request_at}
 use Rattle.onfi_seq.specs.Course.{IsTaken, LunAgrees}
 use Rattle.onfi_seq.specs.Drive.{starts_left, left_of, IsLeast, IsDriven, LaneIs, CanCommand, HasCommanded, steps_left}
-use Rattle.onfi_seq.proofs.Going.{Going, going_start, lun_there}
+use Rattle.onfi_seq.proofs.Going.{going_start, lun_there}
 use Rattle.onfi_seq.proofs.Startable.{member_there}
 use Rattle.onfi_seq.proofs.Members.{place_lun}
 use Rattle.onfi_seq.proofs.Turns.{TakenOut, take_out, first_is, group_comes_next}

@@ -1,7 +1,6 @@
 -- The one of least start among several.
-use Rattle.std.proofs.Common.{◌≡◌, ℕ, zero, suc, ◌+◌, ◌<◌, ◌≤◌, ◌^◌, inl, inr, List, [], ◌∷◌, ◌++◌, length, Option, Some, None, take, refl, sym, subst, ◌∙◌, arith}
-use Rattle.std.specs.Prelude.{slice_get, nat_le, MatchOption, IfSome}
-use Rattle.std.specs.List.{AllByRecursion as All}
+use Rattle.std.proofs.Common.{◌≡◌, ℕ, ◌+◌, ◌<◌, ◌≤◌, ◌^◌, inl, inr, List, [], ◌∷◌, ◌++◌, Option, Some, None, take, refl, sym, subst, ◌∙◌, arith}
+use Rattle.std.specs.Prelude.{slice_get, MatchOption, IfSome}
 use Rattle.std.proofs.lemmas.Bool.{cases_lt, le-leb, lt-leb}
 use Rattle.onfi_problem.proofs.Perm.{All-append}
 use Rattle.onfi_seq.specs.Drive.{NoneOf, NoneBefore, StartsAt}

@@ -1,55 +1,42 @@
 -- The phase of a turn keeps a drive on course.
-use Rattle.std.proofs.Common.{◌≡◌, ◌≢◌, ℕ, zero, suc, ◌+◌, ◌*◌, ◌-◌, ◌<◌, ◌≤◌, ◌^◌, inl, inr, List, [], ◌∷◌, ◌++◌, length, Option, Some, None, map, take, drop, false, refl, sym, ap, subst, ◌∙◌, arith}
-use Rattle.std.specs.Prelude.{slice_get, slice_set, max, ◌==◌}
+use Rattle.std.proofs.Common.{◌≡◌, ℕ, zero, suc, ◌+◌, ◌-◌, ◌<◌, ◌≤◌, inl, inr, List, [], ◌∷◌, ◌++◌, length, Some, map, drop, false, refl, sym, ap, subst, ◌∙◌, arith}
+use Rattle.std.specs.Prelude.{slice_get, slice_set, ◌==◌}
 use Rattle.std.proofs.lemmas.Bool.Decides.{nat_tests}
-use Rattle.std.specs.List.{AllByRecursion as All, remove}
-use Rattle.std.proofs.lemmas.Bool.{lt-ltb, le-ltb, cases_lt, eq-eqb}
+use Rattle.std.proofs.lemmas.Bool.{lt-ltb, le-ltb, eq-eqb}
 use Rattle.std.proofs.lemmas.List.{map-set}
-use Rattle.onfi_timing.specs.declared.kind.Kind.{Kind}
 use Rattle.onfi_timing.specs.declared.spans.Spans.{Spans}
 use Rattle.onfi_timing.specs.declared.timing.Timing.{Timing}
 use Rattle.onfi_timing.specs.Kinds.{spans_of}
-use Rattle.onfi_timing.specs.Phases.{phase_length, wait_before}
+use Rattle.onfi_timing.specs.Phases.{phase_length}
 use Rattle.onfi_request.specs.declared.want.Want.{Want}
 use Rattle.onfi_request.specs.declared.request.Item.{Item}
 use Rattle.onfi_request.specs.declared.request.Request.{Request}
 use Rattle.onfi_request.specs.declared.reply.Reply.{Reply}
-use Rattle.onfi_die.specs.Apart.{AreApart}
 use Rattle.onfi_die.specs.Blocks.{Blocks, happen}
 use Rattle.onfi_die.specs.Shapes.{Device}
-use Rattle.onfi_die.specs.Rightful.{IsRightful}
 use Rattle.onfi_die.proofs.Apart.{apart}
-use Rattle.onfi_chip.specs.declared.closer.Closer.TheVariants as closer
-use Rattle.onfi_chip.specs.Hold.{hold}
 use Rattle.onfi_chip.specs.declared.post.Post.{Post}
 use Rattle.onfi_chip.specs.Alone.{PostsAreAlone}
 use Rattle.onfi_chip.specs.Chip.{Chip, Lun as ChipLun, device_in, taken, group_with, posts_of, spans_for, after_post, commanded, launched, posted}
-use Rattle.onfi_chip.specs.Chip.Lun.{Idle, Commanding, Posting}
+use Rattle.onfi_chip.specs.Chip.Lun.{Commanding, Posting}
 use Rattle.onfi_chip.specs.Calls.{HasDone}
 use Rattle.onfi_group.specs.Words.{Has}
-use Rattle.onfi_group.specs.Group.{IsGroup, kind_of, lun_of, group_spans}
-use Rattle.onfi_problem.specs.declared.lun_state.LunState.{LunState}
-use Rattle.onfi_problem.specs.declared.lun_state.LunState.TheVariants.{Free, Running}
+use Rattle.onfi_group.specs.Group.{kind_of, group_spans}
+use Rattle.onfi_problem.specs.declared.lun_state.LunState.TheVariants.{Running}
 use Rattle.onfi_problem.specs.Problem.{Problem, IsProblem}
-use Rattle.onfi_problem.specs.Moves.{Next, Start, IsMove, earliest, placed, next_ran, ran, lun_after, without}
+use Rattle.onfi_problem.specs.Moves.{lun_after}
 use Rattle.onfi_problem.proofs.Perm.{All-has}
-use Rattle.onfi_problem.proofs.Places.{get_set_same, get_set_other, length_set, same_place, get_within, within_get}
-use Rattle.onfi_schedule.specs.Schedule.{Schedule, Placed, Legal}
-use Rattle.onfi_schedule.specs.Laws.{ComesNext, IsFirstMove}
-use Rattle.onfi_schedule.proofs.Following.{first_move_law}
-use Rattle.onfi_seq.specs.declared.batch.lane.Stage.{Stage}
-use Rattle.onfi_seq.specs.declared.batch.lane.Stage.TheVariants as stage
-use Rattle.onfi_seq.specs.declared.batch.lane.Running.{Running as Run}
+use Rattle.onfi_problem.proofs.Places.{get_set_same, get_set_other, length_set, same_place}
+use Rattle.onfi_schedule.specs.Schedule.{Placed, Legal}
 use Rattle.onfi_seq.specs.declared.batch.lane.Lane.{Lane}
-use Rattle.onfi_seq.specs.declared.batch.lane.Lane.TheVariants as lane
 use Rattle.onfi_seq.specs.declared.batch.drive.Drive.{Drive}
 use Rattle.onfi_seq.specs.declared.target.Target.{Target}
-use Rattle.onfi_seq.specs.Wants.{item_at, request_at}
+use Rattle.onfi_seq.specs.Wants.{request_at}
 use Rattle.onfi_seq.specs.Course.{IsTaken, IsOnCourse, ChipAgrees, post_for}
 use Rattle.onfi_seq.specs.Drive.{starts_left, left_of, IsDriven, LaneIs, AnswersWant}
 use Rattle.onfi_seq.proofs.Cut.{head_same}
-use Rattle.onfi_seq.proofs.Agreement.{Became, ready_after, drop_next, get_has, runs_here, done_here, member_lun, behind_command, behind_launch, behind_post, given_is, right_reply}
-use Rattle.onfi_seq.proofs.Going.{Going, going_next, going_start}
+use Rattle.onfi_seq.proofs.Agreement.{Became, ready_after, get_has, runs_here, member_lun, behind_command, behind_launch, behind_post, given_is, right_reply}
+use Rattle.onfi_seq.proofs.Going.{Going}
 use Rattle.onfi_seq.proofs.MayAdvance.{kind_is}
 use Rattle.onfi_seq.proofs.Progress.{behind_command_on_course, behind_post_on_course}
 

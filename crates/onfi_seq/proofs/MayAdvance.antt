@@ -1,6 +1,6 @@
 -- Where a drive is on course, the next phase of a group may run.
 use Rattle.std.proofs.Common.{◌≡◌, ◌≢◌, ℕ, zero, suc, ◌+◌, ◌*◌, ◌-◌, ◌<◌, ◌≤◌, ◌^◌, inl, inr, List, [], ◌∷◌, length, Some, map, take, drop, refl, sym, ap, subst, ◌∙◌, arith}
-use Rattle.std.specs.Prelude.{slice_get, max, All as Every}
+use Rattle.std.specs.Prelude.{slice_get, All as Every}
 use Rattle.std.specs.List.{AllByRecursion as All}
 use Rattle.std.proofs.lemmas.List.Elements.{All-from_recursion}
 use Rattle.onfi_addr.specs.declared.geometry.Geometry.{Geometry}
@@ -9,29 +9,21 @@ use Rattle.onfi_timing.specs.declared.kind.Kind.{Kind}
 use Rattle.onfi_timing.specs.declared.kind.Kind.TheVariants as kind
 use Rattle.onfi_request.specs.declared.want.Want.{Want}
 use Rattle.onfi_request.specs.declared.request.Item.{Item}
-use Rattle.onfi_request.specs.declared.request.Request.{Request}
-use Rattle.onfi_request.specs.declared.reply.Reply.{Reply}
 use Rattle.onfi_request.specs.Range.{Fits, IsPageFor}
 use Rattle.onfi_chip.specs.declared.post.Post.{Post}
-use Rattle.onfi_chip.specs.Chip.{Chip, Lun, device_in}
+use Rattle.onfi_chip.specs.Chip.{Chip, device_in}
 use Rattle.onfi_chip.specs.Chip.Lun.{Idle, Commanding, Posting}
 use Rattle.onfi_chip.specs.Calls.{MayJoin, MayTake}
 use Rattle.onfi_group.specs.Words.{Has, Pairs}
 use Rattle.onfi_group.specs.declared.rules.Rules.{Rules}
-use Rattle.onfi_group.specs.Group.{IsGroup, kind_of, lun_of, page_of}
-use Rattle.onfi_problem.specs.declared.lun_state.LunState.TheVariants.{Free, Running}
-use Rattle.onfi_problem.specs.Problem.{Problem}
-use Rattle.onfi_problem.specs.Moves.{Next, Start, IsMove, earliest}
+use Rattle.onfi_group.specs.Group.{IsGroup, kind_of, page_of}
 use Rattle.onfi_problem.proofs.Perm.{All-has}
-use Rattle.onfi_problem.proofs.Places.{get_within, within_get}
-use Rattle.onfi_seq.specs.declared.batch.lane.Stage.{Stage}
-use Rattle.onfi_seq.specs.declared.batch.lane.Stage.TheVariants as stage
-use Rattle.onfi_seq.specs.declared.batch.lane.Running.{Running as Run}
+use Rattle.onfi_problem.proofs.Places.{get_within}
 use Rattle.onfi_seq.specs.declared.target.Target.{Target}
-use Rattle.onfi_seq.specs.Wants.{item_at, request_at}
-use Rattle.onfi_seq.specs.Course.{IsTaken, LunAgrees, ChipAgrees, post_for}
+use Rattle.onfi_seq.specs.Wants.{request_at}
+use Rattle.onfi_seq.specs.Course.{IsTaken, post_for}
 use Rattle.onfi_seq.specs.Phases.{IsOf}
-use Rattle.onfi_seq.specs.Drive.{CanCommand, CanPost, CanAdvance, StageIs}
+use Rattle.onfi_seq.specs.Drive.{CanCommand, CanPost}
 use Rattle.onfi_seq.proofs.Members.{item_of}
 use Rattle.onfi_seq.proofs.Agreement.{drop_next, get_has}
 

@@ -17,7 +17,6 @@ use Rattle.onfi_die.specs.Contents.{runs, fresh, answer_of}
 use Rattle.onfi_die.specs.Answers.{requests_on}
 use Rattle.onfi_die.specs.Blocks.{Blocks, is_on}
 use Rattle.onfi_die.specs.Apart.{OnOthers}
-use Rattle.onfi_chip.specs.declared.post.Post.{Post}
 use Rattle.onfi_chip.specs.Alone.{post_now}
 use Rattle.onfi_seq.specs.Wants.{wants_from, item_at, request_at, no_item}
 use Rattle.onfi_seq.specs.Course.{on, is_want_on, IsTaken, post_for}

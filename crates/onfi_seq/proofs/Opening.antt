@@ -6,7 +6,6 @@ use Rattle.std.specs.List.{AllByRecursion as All, flat_map}
 use Rattle.std.proofs.lemmas.Bool.{cases_Bool}
 use Rattle.std.proofs.lemmas.Bool.Decides.{nat_tests}
 use Rattle.onfi_addr.specs.declared.geometry.Geometry.{Geometry}
-use Rattle.onfi_timing.specs.declared.timing.Timing.{Timing}
 use Rattle.onfi_request.specs.declared.want.Want.{Want}
 use Rattle.onfi_request.specs.declared.fault.Fault.{Fault}
 use Rattle.onfi_request.specs.declared.request.Item.{Item}
@@ -22,7 +21,6 @@ use Rattle.onfi_group.specs.Words.{Has, number}
 use Rattle.onfi_problem.specs.declared.lun_state.LunState.{LunState}
 use Rattle.onfi_problem.specs.declared.lun_state.LunState.TheVariants.{Free, Running}
 use Rattle.onfi_problem.specs.Problem.{Problem, IsProblem, has_id}
-use Rattle.onfi_problem.specs.Moves.{IsDone}
 use Rattle.onfi_problem.proofs.Places.{get_within, within_get}
 use Rattle.onfi_schedule.specs.Schedule.{Schedule, Legal}
 use Rattle.onfi_schedule.proofs.Following.{next_law, done_law}
@@ -31,7 +29,7 @@ use Rattle.onfi_seq.specs.declared.batch.lane.Lane.TheVariants as lane
 use Rattle.onfi_seq.specs.declared.batch.drive.Drive.{Drive}
 use Rattle.onfi_seq.specs.declared.batch.turn.Turn.{Turn}
 use Rattle.onfi_seq.specs.declared.target.Target.{Target}
-use Rattle.onfi_seq.specs.Wants.{want_of, wants_from}
+use Rattle.onfi_seq.specs.Wants.{wants_from}
 use Rattle.onfi_seq.specs.Course.{IsTaken, LunAgrees, commanding, unposted, on, is_of_place}
 use Rattle.onfi_seq.specs.Drive.{starts_left, left_of, IsDriven, LaneIs, AreFree, NoneLeft, KeptSince, with_reply}
 use Rattle.onfi_seq.specs.Batch.{IsBatchOf, EachReplied}

@@ -1,5 +1,5 @@
 -- What a call on the chip made of a group's LUN.
-use Rattle.std.proofs.Common.{◌≡◌, ◌≢◌, ℕ, ◌+◌, ◌-◌, ◌<◌, ◌≤◌, inl, inr, List, ◌∷◌, length, Some, true, refl, sym, ap, subst, ◌∙◌, arith}
+use Rattle.std.proofs.Common.{◌≡◌, ◌≢◌, ℕ, ◌+◌, ◌≤◌, inl, inr, List, length, Some, true, refl, sym, ap, subst, ◌∙◌, arith}
 use Rattle.std.specs.Prelude.{slice_get, ◌==◌, All as Every}
 use Rattle.std.proofs.lemmas.Bool.{cases_Bool}
 use Rattle.std.proofs.lemmas.Bool.Decides.{nat_tests}
@@ -14,7 +14,6 @@ use Rattle.onfi_chip.specs.declared.closer.Closer.{Closer}
 use Rattle.onfi_chip.specs.declared.closer.Closer.TheVariants as closer
 use Rattle.onfi_chip.specs.declared.post.Post.{Post}
 use Rattle.onfi_chip.specs.Chip.{Chip, posted}
-use Rattle.onfi_chip.specs.Chip.Lun.{Commanding}
 use Rattle.onfi_chip.specs.Hold.{hold}
 use Rattle.onfi_chip.specs.Calls.{HasDone, MayJoin, MayTake, command_of}
 use Rattle.onfi_chip.proofs.SimCalls.{in_range}
@@ -29,7 +28,7 @@ use Rattle.onfi_seq.specs.declared.lun.Posted.{Posted}
 use Rattle.onfi_seq.specs.declared.lun.Posted.TheVariants as posts
 use Rattle.onfi_seq.specs.declared.batch.lane.Lane.{Lane}
 use Rattle.onfi_seq.specs.declared.target.Target.{Target}
-use Rattle.onfi_seq.specs.Wants.{item_at, request_at}
+use Rattle.onfi_seq.specs.Wants.{request_at}
 use Rattle.onfi_seq.specs.Phases.{IsQueuing, IsDue, IsMade, IsBehind}
 use Rattle.onfi_seq.specs.Drive.{CanCommand, CanPost, HasCommanded, HasPosted, IsBehindCommand, IsBehindPost, LaneBehind, AnswersWant, closer_for}
 use Rattle.onfi_seq.proofs.Members.{item_of}

@@ -1,35 +1,26 @@
 -- Steps of a drive.
-use Rattle.std.proofs.Common.{◌≡◌, ◌≢◌, ℕ, zero, suc, ◌+◌, ◌*◌, ◌-◌, ◌<◌, ◌≤◌, ◌^◌, ◌⊎◌, inl, inr, List, [], ◌∷◌, ◌++◌, length, Option, Some, None, map, take, drop, get_or, refl, sym, ap, subst, ◌∙◌, arith}
+use Rattle.std.proofs.Common.{◌≡◌, ℕ, zero, suc, ◌+◌, ◌*◌, ◌-◌, ◌<◌, ◌≤◌, ◌^◌, ◌⊎◌, inl, inr, List, [], ◌∷◌, ◌++◌, length, Option, Some, None, map, take, drop, get_or, refl, sym, ap, subst, ◌∙◌, arith}
 use Rattle.std.specs.Prelude.{slice_get, slice_set, max}
-use Rattle.std.specs.List.{AllByRecursion as All, remove}
-use Rattle.std.proofs.lemmas.Bool.{cases_lt}
-use Rattle.onfi_timing.specs.declared.spans.Spans.{Spans}
+use Rattle.std.specs.List.{AllByRecursion as All}
 use Rattle.onfi_timing.specs.declared.timing.Timing.{Timing}
 use Rattle.onfi_timing.specs.Kinds.{spans_of}
 use Rattle.onfi_timing.specs.Phases.{phase_length}
 use Rattle.onfi_request.specs.declared.want.Want.{Want}
 use Rattle.onfi_request.specs.declared.request.Item.{Item}
-use Rattle.onfi_request.specs.declared.request.Request.{Request}
 use Rattle.onfi_request.specs.declared.reply.Reply.{Reply}
-use Rattle.onfi_chip.specs.declared.closer.Closer.TheVariants as closer
-use Rattle.onfi_chip.specs.declared.post.Post.{Post}
 use Rattle.onfi_chip.specs.Alone.{PostsAreAlone}
 use Rattle.onfi_die.proofs.Apart.{apart}
 use Rattle.onfi_chip.specs.Chip.{Chip, device_in, commanded, launched}
-use Rattle.onfi_chip.specs.Chip.Lun.{Idle, Commanding, Posting}
+use Rattle.onfi_chip.specs.Chip.Lun.{Commanding, Posting}
 use Rattle.onfi_chip.specs.Calls.{HasDone}
-use Rattle.onfi_chip.specs.Hold.{hold}
 use Rattle.onfi_group.specs.Words.{Has, total}
 use Rattle.onfi_group.specs.Group.{group_spans, kind_of, lun_of}
-use Rattle.onfi_problem.specs.declared.lun_state.LunState.{LunState}
-use Rattle.onfi_problem.specs.declared.lun_state.LunState.TheVariants.{Free, Running}
+use Rattle.onfi_problem.specs.declared.lun_state.LunState.TheVariants.{Running}
 use Rattle.onfi_problem.specs.Problem.{Problem, IsProblem}
-use Rattle.onfi_problem.specs.Moves.{Next, Start, IsMove, earliest, placed, next_ran, ran, lun_after}
+use Rattle.onfi_problem.specs.Moves.{Next, placed, next_ran, ran, lun_after}
 use Rattle.onfi_problem.proofs.Perm.{All-has}
-use Rattle.onfi_problem.proofs.Places.{within_get}
 use Rattle.onfi_problem.proofs.Totals.{total_set}
-use Rattle.onfi_problem.proofs.Wants.{total-append}
-use Rattle.onfi_schedule.specs.Schedule.{Schedule, Placed, Legal}
+use Rattle.onfi_schedule.specs.Schedule.{Placed, Legal}
 use Rattle.onfi_schedule.specs.Laws.{IsFirstMove}
 use Rattle.onfi_schedule.proofs.Following.{first_move_law, next_law, done_law}
 use Rattle.onfi_seq.specs.declared.batch.lane.Stage.{Stage}
@@ -42,10 +33,10 @@ use Rattle.onfi_seq.specs.declared.batch.turn.Turn.TheVariants as turn
 use Rattle.onfi_seq.specs.declared.target.Target.{Target}
 use Rattle.onfi_seq.specs.Phases.{IsOf}
 use Rattle.onfi_seq.specs.Wants.{request_at}
-use Rattle.onfi_seq.specs.Course.{IsTaken, IsOnCourse, ChipAgrees, LunAgrees, post_for}
+use Rattle.onfi_seq.specs.Course.{IsTaken, LunAgrees, post_for}
 use Rattle.onfi_seq.specs.Drive.{starts_left, left_of, lane_start, IsLeast, IsDriven, LaneIs, StageIs, CanCommand, CanPost, CanAdvance, HasCommanded, HasPosted, StageMade, StageBehind, LaneBehind, Ran, with_reply, steps_left}
-use Rattle.onfi_seq.proofs.Agreement.{ready_after, drop_next, drop_all, get_has, runs_here, done_here}
-use Rattle.onfi_seq.proofs.Going.{Going, going_next, going_start, lun_there}
+use Rattle.onfi_seq.proofs.Agreement.{ready_after, get_has, runs_here, done_here}
+use Rattle.onfi_seq.proofs.Going.{Going, going_next, lun_there}
 use Rattle.onfi_seq.proofs.Members.{place_lun}
 use Rattle.onfi_seq.proofs.Turns.{first_is, map_get, lane_comes_next}
 use Rattle.onfi_seq.proofs.MayAdvance.{kind_is, length_map, can_go_on, can_post}

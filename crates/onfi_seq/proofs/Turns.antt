@@ -1,5 +1,5 @@
 -- The turn of least start is the phase that comes next.
-use Rattle.std.proofs.Common.{◌≡◌, ℕ, zero, suc, ◌+◌, ◌<◌, ◌≤◌, ◌⊎◌, inl, inr, List, [], ◌∷◌, ◌++◌, length, Some, None, map, drop, refl, sym, ap, subst, ◌∙◌, arith}
+use Rattle.std.proofs.Common.{◌≡◌, ℕ, zero, suc, ◌≤◌, ◌⊎◌, inl, inr, List, [], ◌∷◌, ◌++◌, length, Some, None, map, refl, sym, ap, subst, ◌∙◌, arith}
 use Rattle.std.specs.Prelude.{slice_get, slice_set}
 use Rattle.std.specs.List.{AllByRecursion as All, remove}
 use Rattle.onfi_request.specs.declared.want.Want.{Want}
@@ -13,9 +13,8 @@ use Rattle.onfi_schedule.specs.declared.phase.Phase.{Phase}
 use Rattle.onfi_schedule.specs.Laws.{Begins, ComesNext, NextLaw, DoneLaw}
 use Rattle.onfi_seq.specs.declared.batch.lane.Lane.{Lane}
 use Rattle.onfi_seq.specs.declared.batch.drive.Drive.{Drive}
-use Rattle.onfi_seq.specs.declared.batch.turn.Turn.{Turn}
 use Rattle.onfi_seq.specs.declared.batch.turn.Turn.TheVariants as turn
-use Rattle.onfi_seq.specs.Drive.{starts_left, left_of, lane_start, group_start, NoneOf, NoneBefore, NoneLeft, StartsAt, IsLeast, turn_start}
+use Rattle.onfi_seq.specs.Drive.{starts_left, left_of, lane_start, group_start, NoneBefore, NoneLeft, IsLeast}
 use Rattle.onfi_seq.proofs.Agreement.{get_has}
 
 pub get_map : {A B : Type 0} (f : A → B) (xs : List A) (i : ℕ) (y : B) → slice_get (map f xs) i ≡ Some y → (x : A) × (slice_get xs i ≡ Some x) × (f x ≡ y)

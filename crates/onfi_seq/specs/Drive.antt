@@ -18,11 +18,6 @@ use Rattle.onfi_problem.specs.declared.lun_state.LunState.{LunState}
 use Rattle.onfi_problem.specs.declared.lun_state.LunState.TheVariants as state
 use Rattle.onfi_problem.specs.Problem.{Problem}
 use Rattle.onfi_schedule.specs.Schedule.{Schedule, Placed}
-use Rattle.onfi_seq.specs.declared.states.Idle.{Idle}
-use Rattle.onfi_seq.specs.declared.states.Queuing.{Queuing}
-use Rattle.onfi_seq.specs.declared.states.Working.{Working}
-use Rattle.onfi_seq.specs.declared.states.Posting.{Posting}
-use Rattle.onfi_seq.specs.declared.lun.Lun.{Lun}
 use Rattle.onfi_seq.specs.declared.lun.Commanded.{Commanded}
 use Rattle.onfi_seq.specs.declared.lun.Commanded.TheVariants as commanded
 use Rattle.onfi_seq.specs.declared.lun.Posted.{Posted}

@@ -1,5 +1,5 @@
 -- Accepted items as wants of a problem.
-use Rattle.std.specs.Prelude.{◌≡◌, ℕ, ◌+◌, List, [], ◌∷◌, slice_index_or}
+use Rattle.std.specs.Prelude.{ℕ, ◌+◌, List, [], ◌∷◌, slice_index_or}
 use Rattle.onfi_addr.specs.declared.geometry.Geometry.{Geometry}
 use Rattle.onfi_addr.specs.Rows.{plane_of_block}
 use Rattle.onfi_timing.specs.declared.kind.Kind.TheVariants.{Read}

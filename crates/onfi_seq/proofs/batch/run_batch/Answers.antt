@@ -1,6 +1,4 @@
-use Rattle.std.proofs.Common.{◌≡◌, ◌≤◌, List, ◌∷◌, ◌++◌, [], Some, refl, sym, ap, subst, ◌∙◌, arith}
-use Rattle.onfi_request.specs.declared.reply.Reply.{Reply}
-use Rattle.onfi_request.specs.declared.request.Item.{Item}
+use Rattle.std.proofs.Common.{◌≡◌, ◌∷◌, ◌++◌, [], refl, sym, subst, ◌∙◌, arith}
 use Rattle.onfi_seq.specs.declared.target.Target.{Target}
 use Rattle.onfi_seq.specs.Drive.{IsDriven, IsLeast, NoneLeft, with_reply}
 use Rattle.onfi_seq.proofs.Opening.{opened_driven, ended_rightful, ended_replied, no_reply, none_is, kept_on, pushed_is}

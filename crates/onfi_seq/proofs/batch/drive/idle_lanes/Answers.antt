@@ -1,4 +1,4 @@
-use Rattle.std.proofs.Common.{◌≡◌, ◌+◌, ◌++◌, ◌∷◌, [], length, sym, ap, subst, ◌∙◌, arith, length-append}
+use Rattle.std.proofs.Common.{◌≡◌, ◌+◌, ◌∷◌, [], length, sym, ap, subst, ◌∙◌, arith, length-append}
 use Rattle.onfi_seq.specs.declared.batch.lane.Lane.TheVariants.{Free}
 use Rattle.onfi_seq.specs.Drive.{AreFree}
 use Rattle.onfi_seq.proofs.Opening.{free_more}

@@ -1,4 +1,4 @@
-use Rattle.std.proofs.Common.{◌≡◌, ◌+◌, ◌≤◌, length, ap, subst, arith}
+use Rattle.std.proofs.Common.{◌+◌, ap, subst, arith}
 use Rattle.onfi_timing.specs.Kinds.{spans_of}
 use Rattle.onfi_request.specs.declared.request.Request.{Request}
 use Rattle.onfi_chip.specs.Hold.{hold}
