@@ -1,5 +1,5 @@
 -- What a batch asks for, and what it gives.
-use Rattle.std.specs.Prelude.{◌≡◌, ◌≢◌, ℕ, List, Some, slice_get}
+use Rattle.std.specs.Prelude.{◌≡◌, ◌≢◌, ℕ, List, Option, None, Some, slice_get}
 use Rattle.std.specs.List.{AllByRecursion as Each}
 use Rattle.onfi_addr.specs.declared.geometry.Geometry.{Geometry}
 use Rattle.onfi_timing.specs.declared.timing.Timing.{Timing}
@@ -50,3 +50,11 @@ of_chip chip_fault.Memory = Memory
 abbrev pub of_post : PostFault → ℕ → BatchFault
 of_post post_fault.Bus lun = Bus
 of_post post_fault.NotReady lun = NotReady lun
+
+-- the reply rests on these items and faults
+abbrev pub RestsOn : List Item → List Fault → Reply → Type 0
+RestsOn items faults r = (r.basis.accepted ≡ items) × (r.basis.faults ≡ faults)
+
+abbrev pub IfRests : List Item → List Fault → Option Reply → Type 0
+IfRests items faults None = Unit {0}
+IfRests items faults (Some r) = RestsOn items faults r

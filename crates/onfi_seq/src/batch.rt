@@ -1,11 +1,12 @@
 //! A batch: a whole schedule driven on a chip.
 
 ghost use Rattle.std.specs.Prelude.{◌≡◌, IfOk, IfErr};
+ghost use Rattle.std.specs.List.{AllByRecursion as Each};
 ghost use Rattle.onfi_die.specs.Shapes.{device_of};
 ghost use Rattle.onfi_die.specs.Rightful.{AreRightful};
 ghost use Rattle.onfi_problem.specs.Problem.{IsProblem};
 ghost use Rattle.onfi_schedule.specs.Schedule.{Legal};
-ghost use Rattle.onfi_seq.specs.Batch.{IsOpened, IsBatchOf, EachReplied, AfterBatchFault};
+ghost use Rattle.onfi_seq.specs.Batch.{IsOpened, IsBatchOf, EachReplied, RestsOn, AfterBatchFault};
 
 mod drive;
 mod fault;
@@ -25,7 +26,8 @@ use std::alloc::Global;
 use turn::next_turn;
 
 /// Drives a legal schedule of the items on a chip as it opened, each phase at its start, and answers one reply for each
-/// item, in order of post start; the place of a reply is its item's position.
+/// item, in order of post start; the place of a reply is its item's position, and it rests on the items and the chip's
+/// faults.
 ///
 /// The problem has no running group, and its want i is item i, which the device takes.
 ///
@@ -45,6 +47,7 @@ pub fn run_batch<C: Chip>(
     requires legal { Legal problem.now.problem schedule.now }
     ensures rightful { IfOk result (λ replies. AreRightful (device_of geometry.now (C.state chip.old).faults) items.items replies.items) }
     ensures each { IfOk result (λ replies. EachReplied items.items replies.items) }
+    ensures basis { IfOk result (λ replies. Each (RestsOn items.items (C.state chip.old).faults) replies.items) }
     ensures fault { IfErr result (λ fault. AfterBatchFault fault (C.state chip.old) (C.state chip.new)) }
 {
     problem_is_one(problem);

@@ -3,7 +3,7 @@ ghost use Rattle.onfi_request.specs.declared.reply.Reply.{Reply as AReply};
 ghost use Rattle.onfi_seq.specs.Drive.{IsDriven, IsLeast, CanAdvance, Ran, AreFree, with_reply, steps_left, KeptSince};
 ghost use Rattle.onfi_seq.specs.declared.batch.turn.Turn.TheVariants as turn;
 ghost use Rattle.onfi_seq.specs.Phases.{IsOf};
-ghost use Rattle.onfi_seq.specs.Batch.{AfterBatchFault};
+ghost use Rattle.onfi_seq.specs.Batch.{AfterBatchFault, IfRests};
 
 use crate::batch::fault::BatchFault;
 use crate::batch::lane::{Lane, Running, Stage};
@@ -55,6 +55,7 @@ impl Drive {
         ensures ok { IfOk result (λ reply. (replies : List AReply) → IsDriven target.now items.now (C.state chip.old) self.old replies
             → IsDriven target.now items.now (C.state chip.new) self.new (with_reply replies reply)) }
         ensures fewer { IfOk result (λ _. steps_left self.new < steps_left self.old) }
+        ensures basis { IfOk result (λ reply. IfRests items.now (C.state chip.old).faults reply) }
         ensures kept { IfOk result (λ _. KeptSince (C.state chip.old) (C.state chip.new)) }
         ensures err { IfErr result (λ fault. AfterBatchFault fault (C.state chip.old) (C.state chip.new)) }
     {
@@ -82,6 +83,7 @@ impl Drive {
         ensures ok { IfOk result (λ reply. (replies : List AReply) → IsDriven target.now items.now (C.state chip.old) self.old replies
             → IsDriven target.now items.now (C.state chip.new) self.new (with_reply replies reply)) }
         ensures fewer { IfOk result (λ _. steps_left self.new < steps_left self.old) }
+        ensures basis { IfOk result (λ reply. IfRests items.now (C.state chip.old).faults reply) }
         ensures kept { IfOk result (λ _. KeptSince (C.state chip.old) (C.state chip.new)) }
         ensures err { IfErr result (λ fault. AfterBatchFault fault (C.state chip.old) (C.state chip.new)) }
     {
@@ -134,6 +136,7 @@ fn advance<C: Chip>(
 ) -> Result<(Lane, Option<Reply>), BatchFault>
     requires { CanAdvance target.now items.now (C.state chip.old) running start running.stage }
     ensures ok { IfOk result (λ ran. Ran target.now items.now running start (C.state chip.old) (C.state chip.new) running.stage ran.0 ran.1) }
+    ensures basis { IfOk result (λ ran. IfRests items.now (C.state chip.old).faults ran.1) }
     ensures err { IfErr result (λ fault. AfterBatchFault fault (C.state chip.old) (C.state chip.new)) }
 {
     let Running {

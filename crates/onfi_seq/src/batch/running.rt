@@ -8,7 +8,7 @@ ghost use Rattle.onfi_chip.specs.declared.post.Post.{Post as APost};
 ghost use Rattle.onfi_chip.specs.Calls.{IsLost};
 ghost use Rattle.onfi_seq.specs.Phases.{IsIdle, IsQueuing};
 ghost use Rattle.onfi_seq.specs.Drive.{CanCommand, CanPost, HasCommanded, HasPosted, IsBehindCommand, IsBehindPost, closer_for};
-ghost use Rattle.onfi_seq.specs.Batch.{AfterBatchFault, of_chip, of_post};
+ghost use Rattle.onfi_seq.specs.Batch.{AfterBatchFault, RestsOn, of_chip, of_post};
 
 use crate::batch::fault::BatchFault;
 use crate::batch::lane::{Lane, Running, Stage};
@@ -82,7 +82,7 @@ pub(crate) fn post<C: Chip>(
 ) -> Result<(Lane, Reply), BatchFault>
     requires { (m : AWant) × (told : APost) × (others : List APost) × CanPost target.now items.now (C.state chip.old) lun.number lun.state.ready lun.state.left placed.members next start m told others }
     ensures ok { IfOk result (λ posted. HasPosted target.now items.now lun.number lun.state.left placed next start (C.state chip.old) (C.state chip.new) posted.0 posted.1) }
-    ensures basis { IfOk result (λ posted. (posted.1.basis.accepted ≡ items.now) × (posted.1.basis.faults ≡ (C.state chip.old).faults)) }
+    ensures basis { IfOk result (λ posted. RestsOn items.now (C.state chip.old).faults posted.1) }
     ensures err { IfErr result (λ fault. AfterBatchFault fault (C.state chip.old) (C.state chip.new)) }
 {
     let member = next - placed.members().len();

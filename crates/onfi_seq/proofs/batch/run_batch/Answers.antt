@@ -1,5 +1,8 @@
-use Rattle.std.proofs.Common.{◌≡◌, ◌∷◌, ◌++◌, [], refl, sym, subst, ◌∙◌, arith}
+use Rattle.std.proofs.Common.{◌≡◌, ◌∷◌, ◌++◌, [], Some, refl, sym, subst, ◌∙◌, arith}
 use Rattle.onfi_seq.specs.declared.target.Target.{Target}
+use Rattle.std.specs.List.{AllByRecursion as Each}
+use Rattle.onfi_problem.proofs.Perm.{All-append}
+use Rattle.onfi_seq.specs.Batch.{RestsOn, IfRests}
 use Rattle.onfi_seq.specs.Drive.{IsDriven, IsLeast, NoneLeft, with_reply}
 use Rattle.onfi_seq.proofs.Opening.{opened_driven, ended_rightful, ended_replied, no_reply, none_is, kept_on, pushed_is}
 use Rattle.onfi_seq.proofs.batch.run_batch.Goals as goal
@@ -12,6 +15,7 @@ loop-turn-init g c =
     let driven = opened_driven target c.args.items.items c.args.problem.now.problem c.args.schedule.now opened.0 opened.1 chip c.in-Ok-new.drive c.timing.ensures opened.2 c.requires.batch c.problem_is_one.ensures c.requires.legal c.in-Ok-new.ensures.waiting c.in-Ok-new.ensures.free (c.in-Ok-new.ensures.count ∙ c.lun_count.ensures.value) in
     record {
       driven = subst (IsDriven target c.args.items.items chip c.in-Ok-new.drive) (sym c.in-Ok.ensures.items) driven;
+      basis = subst (Each (RestsOn c.args.items.items chip.faults)) (sym c.in-Ok.ensures.items) tt;
       kept = record { faults = refl; failures = omega arith };
     }
 
@@ -26,6 +30,7 @@ loop-turn-preserved-in_default-2 g c =
     let after = subst (λ xs. IsDriven target xs new c.step.new.self (with_reply c.loop-turn.replies.items c.in_ok-reply.field-0)) items (c.in_ok-reply.ensures.ok c.loop-turn.replies.items before) in
     record {
       driven = subst (IsDriven target c.args.items.items new c.step.new.self) (no_reply c.loop-turn.replies.items c.in_ok-reply.field-0 c.in_default-2.not-Some) after;
+      basis = c.loop-turn.invariant.basis;
       kept = kept_on first old new c.loop-turn.invariant.kept c.in_ok-reply.ensures.kept;
     }
 
@@ -39,9 +44,12 @@ loop-turn-preserved g c =
     let before = subst (λ xs. IsDriven target xs old c.loop-turn.drive c.loop-turn.replies.items) (sym items) c.loop-turn.invariant.driven in
     let after = subst (λ xs. IsDriven target xs new c.step.new.self (with_reply c.loop-turn.replies.items c.in_ok-reply.field-0)) items (c.in_ok-reply.ensures.ok c.loop-turn.replies.items before) in
     let with_one = subst (λ o. IsDriven target c.args.items.items new c.step.new.self (with_reply c.loop-turn.replies.items o)) c.in-Some-2.is after in
+    let told : IfRests c.as_slice.result.now old.faults (Some c.in-Some-2.reply) = subst (IfRests c.as_slice.result.now old.faults) c.in-Some-2.is c.in_ok-reply.ensures.basis in
+    let rests : RestsOn c.args.items.items first.faults c.in-Some-2.reply = (told.0 ∙ items, told.1 ∙ c.loop-turn.invariant.kept.faults) in
     let pushed : c.push.new.self.items ≡ c.loop-turn.replies.items ++ c.in-Some-2.reply ∷ [] = pushed_is c.push.result _ c.loop-turn.replies.items c.push.new.self.items (sym c.is_err.ensures.value ∙ c.if-is_err.false) c.push.ensures.items in
     record {
       driven = subst (IsDriven target c.args.items.items new c.step.new.self) (sym pushed) with_one;
+      basis = subst (Each (RestsOn c.args.items.items first.faults)) (sym pushed) (All-append (RestsOn c.args.items.items first.faults) c.loop-turn.replies.items (c.in-Some-2.reply ∷ []) c.loop-turn.invariant.basis (rests, tt));
       kept = kept_on first old new c.loop-turn.invariant.kept c.in_ok-reply.ensures.kept;
     }
 
