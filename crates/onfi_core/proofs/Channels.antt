@@ -3,7 +3,7 @@ use Rattle.std.proofs.Common.{◌≡◌, ℕ, zero, suc, ◌≤◌, inl, inr, Li
 use Rattle.std.specs.Prelude.{slice_get, slice_set}
 use Rattle.std.specs.List.{AllByRecursion as All}
 use Rattle.onfi_problem.proofs.Perm.{All-weaker}
-use Rattle.onfi_core.specs.Core.{Headline, CoreStep, Doing, Did, DidAll, with_batch, channel_of}
+use Rattle.onfi_core.specs.Core.{Headline, RunKeeps, CoreRun, CoreStep, Doing, Did, DidAll, with_batch, channel_of}
 use Rattle.onfi_core.specs.Core.Doing.{Happens, SetsBatch}
 use Rattle.onfi_core.specs.Kept.{IsSound, IsReached}
 use Rattle.onfi_core.specs.State.{HalfState, ChannelState}
@@ -55,3 +55,14 @@ pub headline : Headline
 headline s cs cs' ds open' run =
     All-weaker (IsReached s) _ (λ c r. promise s c r) cs'
     (all_kept s cs ds cs' (All-weaker _ (IsReached s) (λ c (faults, failures, is). subst (IsReached s) (sym is) (opened s faults failures)) cs open') run)
+
+ran : (s : Setup) (cs : List ChannelState) (es : List Event) (os : List Outcome) (cs' : List ChannelState) → All (IsReached s) cs → CoreRun s cs es os cs' → All (IsReached s) cs'
+ran s cs [] [] cs' r h = subst (All (IsReached s)) (sym h) r
+ran s cs [] (o ∷ os) cs' r h = absurd h
+ran s cs (e ∷ es) [] cs' r h = absurd h
+ran s cs (e ∷ es) (o ∷ os) cs' r (mid, one, rest) = ran s mid es os cs' (core_step_kept s cs e o mid r one) rest
+
+pub run_keeps : RunKeeps
+run_keeps s cs cs' events outcomes reached run =
+    let kept = ran s cs events outcomes cs' reached run in
+    (kept, All-weaker (IsReached s) _ (λ c r. promise s c r) cs' kept)

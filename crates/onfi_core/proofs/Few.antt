@@ -1,5 +1,5 @@
 -- At most as many replies are held as items are unanswered.
-use Rattle.std.proofs.Common.{◌≡◌, ℕ, zero, suc, ◌+◌, ◌<◌, ◌≤◌, inl, inr, true, false, List, [], ◌∷◌, length, refl, sym, ap, ◌∙◌, arith}
+use Rattle.std.proofs.Common.{◌≡◌, ℕ, zero, suc, ◌+◌, ◌<◌, ◌≤◌, inl, inr, true, false, List, [], ◌∷◌, length, refl, ◌∙◌, arith}
 use Rattle.std.specs.Prelude.{◌==◌, if◌then◌else◌}
 use Rattle.std.specs.List.{AllByRecursion as All}
 use Rattle.std.proofs.lemmas.Bool.{cases_Bool}
@@ -10,7 +10,7 @@ use Rattle.onfi_group.specs.Words.{number}
 use Rattle.onfi_problem.specs.Problem.{has_id}
 use Rattle.onfi_core.specs.declared.setup.Setup.{Setup}
 use Rattle.onfi_core.specs.State.{HalfState, wants_from}
-use Rattle.onfi_core.specs.Kept.{IsSound, is_of_place, times}
+use Rattle.onfi_core.specs.Kept.{IsSound, is_of_place}
 use Rattle.onfi_core.proofs.Numbered.{below_length, length_wants}
 use Rattle.onfi_core.proofs.Next.{was_accepted}
 

@@ -1,8 +1,7 @@
 -- A held reply goes out, or comes back.
-use Rattle.std.proofs.Common.{◌≡◌, ◌≢◌, ℕ, zero, suc, ◌+◌, ◌<◌, ◌≤◌, inl, inr, true, false, List, [], ◌∷◌, ◌++◌, length, Option, Some, None, take, drop, refl, sym, ap, ◌∙◌, subst, append_assoc, length-append, arith}
+use Rattle.std.proofs.Common.{◌≡◌, ◌≢◌, ℕ, zero, suc, ◌+◌, ◌<◌, ◌≤◌, inl, inr, true, List, [], ◌∷◌, ◌++◌, length, Option, Some, None, take, drop, refl, sym, ap, ◌∙◌, subst, length-append, arith}
 use Rattle.std.specs.Prelude.{slice_get, slice_index_or, ◌==◌, option_to_list}
 use Rattle.std.specs.List.{filter, insert}
-use Rattle.std.proofs.lemmas.Bool.{cases_Bool}
 use Rattle.std.proofs.lemmas.Bool.Decides.{nat_tests}
 use Rattle.onfi_request.specs.declared.request.Item.{Item}
 use Rattle.onfi_request.specs.declared.reply.Reply.{Reply}
@@ -14,7 +13,7 @@ use Rattle.onfi_core.specs.declared.slot.Slot.{Slot}
 use Rattle.onfi_core.specs.declared.lent.Lent.{Lent}
 use Rattle.onfi_core.specs.State.{HalfState, is_to}
 use Rattle.onfi_core.specs.Steps.{GoesOut}
-use Rattle.onfi_core.specs.Kept.{IsSound, is_of_place}
+use Rattle.onfi_core.specs.Kept.{is_of_place}
 use Rattle.onfi_core.specs.View.{HasSlot, AreSlots, IsOldestAt, IsOldest, IsLent, AreFields}
 use Rattle.onfi_core.proofs.Bus.{number-append}
 use Rattle.onfi_core.proofs.Few.{replies_few}

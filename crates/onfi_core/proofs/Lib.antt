@@ -18,4 +18,5 @@ pub mod Next
 pub mod Few
 pub mod Lending
 pub mod Promise
+pub mod InOrder
 pub mod Channels

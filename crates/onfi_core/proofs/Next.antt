@@ -1,23 +1,22 @@
 -- What the next planning takes, item by item.
-use Rattle.std.proofs.Common.{◌≡◌, ℕ, zero, suc, ◌+◌, ◌-◌, ◌<◌, ◌≤◌, ◌⊎◌, inl, inr, true, false, List, [], ◌∷◌, ◌++◌, length, Some, None, ◌^◌, take, drop, refl, sym, ap, ◌∙◌, append_assoc, length-drop, arith}
+use Rattle.std.proofs.Common.{◌≡◌, ℕ, zero, suc, ◌+◌, ◌<◌, ◌≤◌, ◌⊎◌, inl, inr, true, false, List, [], ◌∷◌, ◌++◌, length, Some, None, ◌^◌, take, drop, refl, sym, ap, ◌∙◌, append_assoc, length-drop, arith}
 use Rattle.std.specs.Prelude.{slice_get, ◌==◌, nat_le}
 use Rattle.std.specs.List.{flat_map}
 use Rattle.std.proofs.lemmas.Bool.{cases_Bool}
 use Rattle.std.proofs.lemmas.Bool.Decides.{nat_tests}
 use Rattle.onfi_addr.specs.declared.geometry.Geometry.{Geometry}
 use Rattle.onfi_request.specs.declared.request.Item.{Item}
-use Rattle.onfi_request.specs.declared.reply.Reply.{Reply}
 use Rattle.onfi_request.specs.declared.want.Want.{Want}
 use Rattle.onfi_group.specs.Words.{number}
 use Rattle.onfi_problem.specs.Problem.{has_id}
-use Rattle.slab.specs.Slab.{Slab, get}
+use Rattle.slab.specs.Slab.{Slab}
 use Rattle.onfi_core.specs.declared.setup.Setup.{Setup}
 use Rattle.onfi_core.specs.declared.slot.Slot.{Slot}
 use Rattle.onfi_core.specs.State.{HalfState, want_of, wants_from}
 use Rattle.onfi_core.specs.Steps.{unplanned, is_empty, taken_next, next_problem, plan_refusal}
 use Rattle.onfi_problem.specs.Left.{horizon}
 use Rattle.onfi_core.specs.Kept.{IsSound, is_of_place, unposted}
-use Rattle.onfi_core.specs.View.{HasSlot, AreSlots, AreFields}
+use Rattle.onfi_core.specs.View.{HasSlot, AreSlots}
 use Rattle.onfi_core.proofs.Lists.{take_next}
 use Rattle.onfi_core.proofs.Promise.{one_each}
 

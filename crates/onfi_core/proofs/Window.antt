@@ -1,6 +1,6 @@
 -- The slots of unanswered items.
-use Rattle.std.proofs.Common.{◌≡◌, ◌≢◌, ℕ, ◌+◌, ◌-◌, ◌^◌, ◌<◌, ◌≤◌, ◌⊎◌, inl, inr, Bool, true, false, List, [], ◌∷◌, ◌++◌, length, Option, Some, None, refl, sym, ap, ◌∙◌, subst, length-append, append-nil, arith}
-use Rattle.std.specs.Prelude.{slice_get, nat_le, count_by, is_some, slice_index_or}
+use Rattle.std.proofs.Common.{◌≡◌, ◌≢◌, ℕ, ◌+◌, ◌-◌, ◌^◌, ◌<◌, ◌≤◌, ◌⊎◌, inl, inr, true, false, List, [], ◌∷◌, ◌++◌, length, Option, Some, None, refl, sym, ap, ◌∙◌, subst, length-append, append-nil, arith}
+use Rattle.std.specs.Prelude.{slice_get, count_by, is_some, slice_index_or}
 use Rattle.std.specs.List.{AllByRecursion as All, filter}
 use Rattle.std.proofs.lemmas.Bool.{cases_Bool}
 use Rattle.std.proofs.lemmas.Bool.Decides.{nat_tests}
@@ -9,7 +9,7 @@ use Rattle.onfi_request.specs.declared.request.Item.{Item}
 use Rattle.onfi_request.specs.declared.reply.Reply.{Reply}
 use Rattle.onfi_group.specs.Words.{number}
 use Rattle.onfi_problem.proofs.Perm.{All-append}
-use Rattle.onfi_problem.proofs.Places.{same_place, get_within}
+use Rattle.onfi_problem.proofs.Places.{same_place}
 use Rattle.onfi_die.proofs.Lists.{get_more}
 use Rattle.slab.specs.Slab.{Slab, get, slab_len, Updates}
 use Rattle.onfi_core.specs.declared.setup.Setup.{Setup}
@@ -20,13 +20,13 @@ use Rattle.onfi_core.proofs.Plan.{sound_planned}
 use Rattle.onfi_problem.specs.Problem.{Problem}
 use Rattle.onfi_request.specs.declared.want.Want.{Want}
 use Rattle.onfi_schedule.specs.Schedule.{Placed}
-use Rattle.onfi_core.specs.Steps.{taken_next, next_problem, planned_by, Plans, accept_refusal, refused_where, if_stopped, or_else, unanswered}
+use Rattle.onfi_core.specs.Steps.{taken_next, next_problem, planned_by, Plans, accept_refusal, if_stopped, unanswered}
 use Rattle.onfi_core.specs.Kept.{is_of_place, first_half}
 use Rattle.onfi_core.proofs.Opening.{opened_sound}
-use Rattle.onfi_core.specs.View.{IsNext, AreSlots, AreNumbered, IsLent, AreFields}
+use Rattle.onfi_core.specs.View.{IsNext, AreSlots, AreNumbered, AreFields}
 use Rattle.onfi_core.proofs.Accept.{sound_accepted}
 use Rattle.onfi_core.proofs.Lists.{get_at_length}
-use Rattle.onfi_core.proofs.Reach.{none_first, none_second, not_where, below}
+use Rattle.onfi_core.proofs.Reach.{none_second, not_where, below}
 
 by_hosts : (xs : List Item) → All (λ (x : Item). x.host < 4) xs → length xs ≡ length (filter (is_from 0) xs) + length (filter (is_from 1) xs) + length (filter (is_from 2) xs) + length (filter (is_from 3) xs)
 by_hosts [] h = refl

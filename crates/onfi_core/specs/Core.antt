@@ -8,9 +8,10 @@ use Rattle.onfi_core.specs.declared.event.Event.{Event}
 use Rattle.onfi_core.specs.declared.event.Event.TheVariants.{Submit, Accept, Plan, Bus, Post, Collect}
 use Rattle.onfi_core.specs.declared.outcome.Outcome.{Outcome}
 use Rattle.onfi_core.specs.declared.outcome.Outcome.TheVariants.{NoSuch}
-use Rattle.onfi_core.specs.State.{ChannelState}
+use Rattle.onfi_die.specs.Order.{AreInOrder}
+use Rattle.onfi_core.specs.State.{ChannelState, posted_to}
 use Rattle.onfi_core.specs.Steps.{Step}
-use Rattle.onfi_core.specs.Kept.{first, KeepsPromise}
+use Rattle.onfi_core.specs.Kept.{first, IsReached, KeepsPromise}
 
 abbrev pub channel_of : Event → ℕ
 channel_of (Submit host channel r) = channel
@@ -65,3 +66,23 @@ IsOpened s c = (faults : List Fault) × (failures : ℕ) × (c ≡ first s fault
 -- whatever is done to an opened core, each channel keeps the promise
 abbrev pub Headline : Type 0
 Headline = (s : Setup) (cs cs' : List ChannelState) (ds : List Doing) → Each (IsOpened s) cs → DidAll s cs ds cs' → Each (KeepsPromise s) cs'
+
+-- a channel as it was opened is one that is reached
+abbrev pub OpenedIsReached : Type 0
+OpenedIsReached = (s : Setup) (faults : List Fault) (failures : ℕ) → IsReached s (first s faults failures)
+
+-- each step leads from a channel that is reached to one that is
+abbrev pub StepKeeps : Type 0
+StepKeeps = (s : Setup) (c : ChannelState) (e : Event) (o : Outcome) (c' : ChannelState) → IsReached s c → Step s c e o c' → IsReached s c'
+
+-- what is reached keeps the promise
+abbrev pub ReachedKeeps : Type 0
+ReachedKeeps = (s : Setup) (c : ChannelState) → IsReached s c → KeepsPromise s c
+
+-- what is posted to a host is in order of making: each reply is rightful in what it rests on, and that grows
+abbrev pub PostedInOrder : Type 0
+PostedInOrder = (s : Setup) (c : ChannelState) → IsReached s c → (host : ℕ) → AreInOrder s.geometry c.chip.faults (posted_to host c)
+
+-- these events may give these outcomes: then each channel keeps the promise
+abbrev pub RunKeeps : Type 0
+RunKeeps = (s : Setup) (cs cs' : List ChannelState) (events : List Event) (outcomes : List Outcome) → Each (IsReached s) cs → CoreRun s cs events outcomes cs' → Each (IsReached s) cs' × Each (KeepsPromise s) cs'

@@ -1,5 +1,5 @@
 -- What callers see of a half, and what its fields keep.
-use Rattle.std.specs.Prelude.{◌≡◌, ℕ, ◌+◌, ◌^◌, ◌<◌, ◌≤◌, List, [], ◌∷◌, ◌++◌, length, take, Option, Some, None, option_map, slice_get}
+use Rattle.std.specs.Prelude.{◌≡◌, ℕ, ◌+◌, ◌^◌, ◌<◌, ◌≤◌, List, [], ◌∷◌, ◌++◌, length, take, Option, Some, None, slice_get}
 use Rattle.std.specs.List.{AllByRecursion as Each, filter}
 use Rattle.onfi_request.specs.Range.{Fits}
 use Rattle.onfi_request.specs.declared.request.Item.{Item}

@@ -1,5 +1,6 @@
 ghost use Rattle.std.specs.Prelude.{◌≡◌, ◌<◌, ◌≤◌, ◌+◌, ◌++◌, [], length, replicate, None, Some, IfOk, IfErr, IfSome, IfNone, IsSome, MatchOption};
 ghost use Rattle.onfi_core.specs.Kept.{first_half};
+ghost use Rattle.onfi_request.specs.declared.reply.Reply.{Reply as AReply};
 ghost use Rattle.onfi_core.specs.State.{Planning};
 ghost use Rattle.onfi_core.specs.Steps.{GoesOut, accept_refusal, held_for, plan_refusal, taken_next, planned_by, Plans};
 ghost use Rattle.onfi_core.specs.Refusals.{fault_outcome};
@@ -281,11 +282,12 @@ impl Half {
         self.held.insert(lent.at, reply).unwrap();
     }
 
-    /// The reply that [`Half::held`] gave was posted. It takes no memory.
-    pub fn posted(&mut self)
-        requires lent { IsSome self.old.lent }
-        ensures posted { IfSome self.old.lent (λ r. GoesOut self.old.state self.new.state r.host r) }
-        ensures rest { self.new ≡ record self.old { state = self.new.state; lent = None } }
+    /// The reply that [`Half::held`] gave for the host was posted. It takes no memory.
+    pub fn posted(&mut self, host: u8)
+        requires lent { (r : AReply) × (self.old.lent ≡ Some r) × (r.host ≡ host) }
+        ensures posted { IfSome self.old.lent (λ r. GoesOut self.old.state self.new.state host r) }
+        ensures settled { self.new.lent ≡ None }
+        ensures setup { self.new.setup ≡ self.old.setup }
     {
         let Some(lent) = self.lent else {
             unreachable!();

@@ -18,7 +18,9 @@ mod wants;
 
 pub use event::Event;
 pub use half::{AcceptFault, Half, PlanRefusal};
-pub use laws::headline;
+pub use laws::{
+    headline, opened_is_reached, posted_in_order, reached_keeps, run_keeps, step_keeps,
+};
 pub use outcome::{Cause, Outcome};
 pub use setup::{Setup, SetupFault};
 

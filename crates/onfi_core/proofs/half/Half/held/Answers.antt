@@ -1,5 +1,5 @@
 use Rattle.std.proofs.Common.{◌≡◌, None, sym, subst}
-use Rattle.onfi_core.specs.View.{HalfView, IsOldestAt, IsOldest, IsLent, AreFields}
+use Rattle.onfi_core.specs.View.{HalfView, IsOldestAt, IsOldest, IsLent}
 use Rattle.onfi_core.proofs.Lending.{settled_is, oldest_is, reply_at, fields_lent}
 use Rattle.onfi_core.proofs.half.Half.held.Goals as goal
 

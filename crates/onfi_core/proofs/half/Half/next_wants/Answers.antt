@@ -1,6 +1,6 @@
-use Rattle.std.proofs.Common.{◌≡◌, ◌+◌, ◌-◌, ◌≤◌, [], ◌∷◌, ◌++◌, ◌⊎◌, drop, length, Some, refl, sym, ap, ◌∙◌, subst, length-drop, arith}
+use Rattle.std.proofs.Common.{◌≡◌, ◌+◌, ◌-◌, ◌≤◌, [], ◌∷◌, ◌++◌, ◌⊎◌, drop, length, Some, sym, ap, ◌∙◌, subst, length-drop, arith}
 use Rattle.std.specs.Prelude.{slice_get}
-use Rattle.onfi_core.specs.State.{want_of, wants_from}
+use Rattle.onfi_core.specs.State.{wants_from}
 use Rattle.onfi_core.specs.Steps.{taken_next}
 use Rattle.onfi_core.specs.View.{HalfView}
 use Rattle.onfi_core.proofs.Next.{unplanned_slot, takes_one, takes_all}

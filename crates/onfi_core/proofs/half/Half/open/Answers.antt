@@ -1,4 +1,4 @@
-use Rattle.std.proofs.Common.{refl, ap, ◌∙◌, arith}
+use Rattle.std.proofs.Common.{refl}
 use Rattle.onfi_core.proofs.Window.{fields_opened}
 use Rattle.onfi_core.proofs.half.Half.open.Goals as goal
 

@@ -1,13 +1,13 @@
-use Rattle.std.proofs.Common.{◌≡◌, ◌++◌, ◌+◌, ◌<◌, ◌≤◌, ◌≢◌, ◌^◌, List, length, None, sym, ap, ◌∙◌, subst, length-append, arith}
+use Rattle.std.proofs.Common.{◌≡◌, ◌++◌, ◌<◌, ◌≤◌, ◌≢◌, ◌^◌, List, length, None, sym, ap, ◌∙◌, subst, length-append, arith}
 use Rattle.onfi_request.specs.declared.want.Want.{Want}
 use Rattle.onfi_problem.specs.declared.lun_state.LunState.{LunState}
-use Rattle.onfi_problem.specs.Problem.{Problem, IsProblem}
+use Rattle.onfi_problem.specs.Problem.{IsProblem}
 use Rattle.onfi_problem.specs.Kept.{problem_of}
 use Rattle.onfi_problem.specs.Left.{horizon}
 use Rattle.onfi_core.specs.declared.setup.Setup.{Setup}
-use Rattle.onfi_core.specs.State.{HalfState, Planning}
+use Rattle.onfi_core.specs.State.{HalfState}
 use Rattle.onfi_core.specs.Kept.{IsSound}
-use Rattle.onfi_core.specs.Steps.{taken_next, next_problem, plan_refusal, IsPlanned, Plans}
+use Rattle.onfi_core.specs.Steps.{taken_next, next_problem, plan_refusal, Plans}
 use Rattle.onfi_core.specs.View.{HalfView, planning_of}
 use Rattle.onfi_core.proofs.Plan.{next_is_problem}
 use Rattle.onfi_core.proofs.Next.{plan_goes_on}

@@ -1,4 +1,4 @@
-use Rattle.std.proofs.Common.{◌≡◌, Some, sym, ◌∙◌}
+use Rattle.std.proofs.Common.{◌≡◌, Some, ◌∙◌}
 use Rattle.onfi_core.proofs.Lending.{lent_slot, fields_posted}
 use Rattle.onfi_core.proofs.half.Half.posted.Goals as goal
 

@@ -1,9 +1,7 @@
 use Rattle.onfi_request.specs.declared.want.Want.{Want}
-use Rattle.std.proofs.Common.{List, ◌≤◌, ◌≡◌, ◌+◌, ◌-◌, ◌++◌, length, sym, ap, ◌∙◌, subst, length-append, length-drop, arith}
-use Rattle.onfi_core.specs.Steps.{taken_next, unplanned, Plans}
+use Rattle.std.proofs.Common.{List, ◌≤◌, ◌≡◌, ◌++◌, length, sym, ap, ◌∙◌, subst, length-append, arith}
+use Rattle.onfi_core.specs.Steps.{taken_next, Plans}
 use Rattle.onfi_core.specs.View.{HalfView, planning_of}
-use Rattle.onfi_core.proofs.Lists.{length_least}
-use Rattle.onfi_core.proofs.Numbered.{length_wants}
 use Rattle.onfi_core.proofs.Window.{places_fit, fields_planned}
 use Rattle.onfi_core.proofs.half.Half.take_over.Goals as goal
 

@@ -1,0 +1,5 @@
+use Rattle.onfi_core.proofs.InOrder.{posted_in_order}
+use Rattle.onfi_core.proofs.laws.posted_in_order.Goals as goal
+
+pub returns : goal.returns
+returns c = posted_in_order

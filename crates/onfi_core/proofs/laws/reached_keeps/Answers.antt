@@ -1,0 +1,5 @@
+use Rattle.onfi_core.proofs.Promise.{promise}
+use Rattle.onfi_core.proofs.laws.reached_keeps.Goals as goal
+
+pub returns : goal.returns
+returns c = promise
