@@ -1,5 +1,5 @@
 -- A plan text, read line by line.
-use Rattle.std.proofs.Common.{◌≡◌, ◌<◌, ◌≤◌, ℕ, suc, ◌+◌, Bool, true, false, List, [], ◌∷◌, ◌++◌, length, Ok, Err, Some, None, refl, sym, ap, ◌∙◌, arith, cond, codes, add-one}
+use Rattle.std.proofs.Common.{◌≡◌, ◌<◌, ℕ, ◌+◌, true, false, List, [], ◌∷◌, ◌++◌, length, Ok, Err, Some, None, refl, sym, ap, ◌∙◌, arith, cond, codes, add-one}
 use Rattle.std.specs.Prelude.{Option, Result, OnOk, is_ok}
 use Rattle.std.specs.List.{join_with_byte}
 use Rattle.std.specs.Str.{bytes_eq}
@@ -9,7 +9,7 @@ use Rattle.onfi_sim.specs.declared.plan_line.Line.{Line}
 use Rattle.onfi_sim.specs.declared.plan_line.RestLine.{RestLine}
 use Rattle.onfi_sim.specs.Parts.{parts}
 use Rattle.onfi_sim.specs.PlanLine.{line_of, finish_of}
-use Rattle.onfi_sim.specs.PlanText.{Plan, begun, takes, with_line, next_number, is_certificate, told, grown, plan_after, plan_of_parts, behind_head, behind_finish, rests, starts_on}
+use Rattle.onfi_sim.specs.PlanText.{Plan, takes, with_line, next_number, is_certificate, told, grown, plan_after, plan_of_parts, behind_head, behind_finish, rests, starts_on}
 use Rattle.onfi_sim.proofs.PartsLemmas.{some_parts}
 
 head_taken : (wants : List Want) (head : List ℕ) (more : List (List ℕ)) → 0 < length more → bytes_eq head (codes "ONFIPLAN 1") ≡ true → plan_of_parts wants (head ∷ more) ≡ behind_head wants more

@@ -1,11 +1,10 @@
 -- The text of a schedule is read as that schedule.
-use Rattle.std.proofs.Common.{◌≡◌, ◌<◌, ◌≤◌, ℕ, suc, zero, ◌+◌, ◌^◌, Bool, true, false, List, [], ◌∷◌, ◌++◌, length, map, get_or, take, Ok, Err, Some, None, refl, sym, ap, ◌∙◌, arith, cond, codes, append_assoc, append-nil, length-append, add-one, subst}
-use Rattle.std.specs.Prelude.{◌==◌, ◌&&◌, ◌||◌, not, Option, Result, All, nat_lt, nat_le, nat_eq, find}
-use Rattle.std.specs.List.{flat_map, starts_with, list_all, list_any, AllByRecursion as Each}
+use Rattle.std.proofs.Common.{◌≡◌, ◌<◌, ◌≤◌, ℕ, suc, zero, ◌+◌, ◌^◌, Bool, true, false, List, [], ◌∷◌, ◌++◌, length, map, get_or, take, Ok, Some, refl, sym, ap, ◌∙◌, arith, cond, codes, append_assoc, append-nil, length-append}
+use Rattle.std.specs.Prelude.{◌==◌, ◌&&◌, ◌||◌, nat_lt, nat_le, find}
+use Rattle.std.specs.List.{flat_map, list_all, list_any, AllByRecursion as Each}
 use Rattle.std.specs.Fmt.{decimal}
 use Rattle.std.proofs.Math.Seq.{take-suc}
 use Rattle.std.proofs.lemmas.List.{take_all}
-use Rattle.std.proofs.lemmas.List.Folds.{list_all-append}
 use Rattle.std.proofs.lemmas.Bool.Decides.{nat_tests}
 use Rattle.onfi_request.specs.declared.want.Want.{Want}
 use Rattle.onfi_schedule.specs.Schedule.{Placed, Schedule}
@@ -13,10 +12,10 @@ use Rattle.onfi_sim.specs.declared.plan_line.Line.{Line}
 use Rattle.onfi_sim.specs.declared.plan_line.Line.TheVariants.{Rest, Group}
 use Rattle.onfi_sim.specs.declared.plan_line.RestLine.{RestLine}
 use Rattle.onfi_sim.specs.Parts.{parts}
-use Rattle.onfi_sim.specs.PlanLine.{and_then, number, numbers, want_named, rest_of, group_of, line_of, line_of_words, finish_of, finish_of_words}
-use Rattle.onfi_sim.specs.PlanText.{Plan, begun, takes, rises, with_line, is_certificate, plan_after, plan_of, plan_of_parts, behind_finish, starts_in, starts_on, rests, names_absent, rest_on, schedule_on}
+use Rattle.onfi_sim.specs.PlanLine.{and_then, numbers, want_named, line_of, line_of_words, finish_of, finish_of_words}
+use Rattle.onfi_sim.specs.PlanText.{Plan, takes, with_line, is_certificate, plan_after, plan_of, starts_in, starts_on, rests, names_absent, schedule_on}
 use Rattle.onfi_sim.specs.Laws.{AreStarts, IsLineOf, HasText, rest_written, written}
-use Rattle.onfi_sim.specs.Text.{spaced, joined, ids, group_line, rest_line, rest_lines, schedule_text}
+use Rattle.onfi_sim.specs.Text.{spaced, joined, ids, group_line, rest_lines, schedule_text}
 use Rattle.onfi_sim.proofs.PlanLemmas.{opened, plan_ended, line_taken}
 use Rattle.onfi_sim.proofs.Spelled.{Lacks, decimal_lacks, number_read, numbers_read, part_ended, part_whole, spaced_parts, joined_parts, lacks_both, lacks_by, lacks_more, same, spaced_lacks, joined_lacks, differs}
 

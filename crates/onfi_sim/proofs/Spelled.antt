@@ -1,7 +1,7 @@
 -- Numbers and words as they are written, and the parts that they are read as.
-use Rattle.std.proofs.Common.{◌≡◌, ◌<◌, ◌≤◌, ℕ, suc, zero, ◌+◌, ◌^◌, Bool, true, false, List, [], ◌∷◌, ◌++◌, length, map, get_or, take, Some, None, refl, sym, ap, ◌∙◌, arith, cond, codes, append_assoc, append-nil, length-append}
-use Rattle.std.specs.Prelude.{◌==◌, ◌&&◌, not, Option, All, nat_lt, nat_le, nat_eq}
-use Rattle.std.specs.List.{flat_map, starts_with, list_all, AllByRecursion as Each}
+use Rattle.std.proofs.Common.{◌≡◌, ◌<◌, ◌≤◌, ℕ, suc, zero, ◌+◌, ◌^◌, true, false, List, [], ◌∷◌, ◌++◌, length, map, get_or, Some, None, refl, sym, ap, ◌∙◌, arith, cond, codes, append-nil}
+use Rattle.std.specs.Prelude.{◌==◌, ◌&&◌, not, All, nat_lt, nat_le, nat_eq}
+use Rattle.std.specs.List.{list_all, AllByRecursion as Each}
 use Rattle.std.specs.Char.{is_ascii_digit}
 use Rattle.std.specs.Fmt.{decimal}
 use Rattle.std.specs.Str.Parse.{AllDigits, digits_value}
@@ -12,7 +12,7 @@ use Rattle.std.proofs.lemmas.List.Sums.{AllPass-from_list_all}
 use Rattle.std.proofs.lemmas.List.Splits.{slice_split_at, slice_split_none}
 use Rattle.std.proofs.lemmas.Bool.Decides.{nat_tests}
 use Rattle.onfi_request.specs.declared.want.Want.{Want}
-use Rattle.onfi_timing.specs.Decimal.{is_number, number_of}
+use Rattle.onfi_timing.specs.Decimal.{number_of}
 use Rattle.onfi_sim.specs.Parts.{parts}
 use Rattle.onfi_sim.specs.PlanLine.{and_then, number, each_number, numbers, has_leading_zero, in_range}
 use Rattle.onfi_sim.specs.Text.{spaced, joined}

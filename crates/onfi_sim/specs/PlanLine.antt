@@ -1,13 +1,11 @@
 -- What a line of a plan text says.
 use Rattle.std.specs.Prelude.{ℕ, ◌==◌, ◌&&◌, ◌^◌, nat_eq, nat_le, nat_lt, if◌then◌else◌, Bool, List, [], ◌∷◌, ◌++◌, length, map, find, unwrap_or, Option, Some, None, codes}
-use Rattle.std.specs.List.{list_all, starts_with}
+use Rattle.std.specs.List.{starts_with}
 use Rattle.std.specs.Str.{bytes_eq}
 use Rattle.onfi_timing.specs.Decimal.{number_of}
 use Rattle.onfi_timing.specs.declared.kind.Kind.TheVariants.{Read}
 use Rattle.onfi_request.specs.declared.want.Want.{Want}
-use Rattle.onfi_schedule.specs.Schedule.{Placed}
 use Rattle.onfi_sim.specs.Parts.{parts}
-use Rattle.onfi_sim.specs.declared.plan_line.RestLine.{RestLine}
 use Rattle.onfi_sim.specs.declared.plan_line.Line.{Line}
 use Rattle.onfi_sim.specs.declared.plan_line.Line.TheVariants.{Rest, Group}
 

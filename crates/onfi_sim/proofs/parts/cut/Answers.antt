@@ -1,4 +1,4 @@
-use Rattle.std.proofs.Common.{◌≡◌, ◌∷◌, ◌+◌, length, sym, ap, ◌∙◌, take, drop}
+use Rattle.std.proofs.Common.{◌∷◌, ◌+◌, sym, ap, ◌∙◌, take}
 use Rattle.std.proofs.lemmas.List.{take_rest}
 use Rattle.onfi_sim.specs.Parts.{parts}
 use Rattle.onfi_sim.proofs.PartsLemmas.{parts_at, parts_none}

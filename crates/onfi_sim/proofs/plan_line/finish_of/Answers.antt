@@ -1,5 +1,4 @@
-use Rattle.std.proofs.Common.{◌≡◌, ◌∷◌, length, sym, ap, ◌∙◌, true, false, codes}
-use Rattle.std.specs.Prelude.{not}
+use Rattle.std.proofs.Common.{◌≡◌, ◌∷◌, sym, ap, ◌∙◌, true, false, codes}
 use Rattle.std.specs.Str.{bytes_eq}
 use Rattle.onfi_sim.specs.Parts.{parts}
 use Rattle.onfi_sim.specs.PlanLine.{finish_of_words}

@@ -1,4 +1,3 @@
-use Rattle.std.proofs.Common.{◌≡◌}
 use Rattle.onfi_sim.proofs.NumbersLemmas.{Read}
 use Rattle.onfi_sim.proofs.plan_line.numbers.Given as goal
 

@@ -1,4 +1,4 @@
-use Rattle.std.proofs.Common.{◌≡◌, sym, ap, ◌∙◌}
+use Rattle.std.proofs.Common.{ap}
 use Rattle.std.specs.Prelude.{unwrap_or}
 use Rattle.onfi_sim.specs.PlanLine.{stranger}
 use Rattle.onfi_sim.proofs.plan_line.want_named.Goals as goal

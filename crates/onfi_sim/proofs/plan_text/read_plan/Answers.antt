@@ -1,4 +1,4 @@
-use Rattle.std.proofs.Common.{◌≡◌, sym, ◌∙◌}
+use Rattle.std.proofs.Common.{sym, ◌∙◌}
 use Rattle.onfi_sim.specs.PlanText.{plan_of}
 use Rattle.onfi_sim.proofs.PlanLemmas.{on_ok, wrong, plan_ended, no_line, line_refused, line_taken, text_ended}
 use Rattle.onfi_sim.proofs.plan_text.read_plan.Goals as goal

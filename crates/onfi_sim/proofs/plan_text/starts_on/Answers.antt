@@ -1,4 +1,4 @@
-use Rattle.std.proofs.Common.{◌≡◌, sym, ap, ◌∙◌}
+use Rattle.std.proofs.Common.{ap, ◌∙◌}
 use Rattle.onfi_sim.specs.PlanText.{starts_in}
 use Rattle.onfi_sim.proofs.plan_text.starts_on.Goals as goal
 
