@@ -17,6 +17,9 @@ pub mod Window
 pub mod Next
 pub mod Few
 pub mod Lending
+pub mod Dues
+pub mod First
+pub mod Becoming
 pub mod Promise
 pub mod InOrder
 pub mod Channels

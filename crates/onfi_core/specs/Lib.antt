@@ -5,3 +5,4 @@ pub mod Kept
 pub mod Core
 pub mod View
 pub mod Refusals
+pub mod Dues

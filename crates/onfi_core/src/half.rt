@@ -2,12 +2,15 @@ ghost use Rattle.std.specs.Prelude.{◌≡◌, ◌<◌, ◌≤◌, ◌+◌, ◌+
 ghost use Rattle.onfi_core.specs.Kept.{first_half};
 ghost use Rattle.onfi_request.specs.declared.reply.Reply.{Reply as AReply};
 ghost use Rattle.onfi_core.specs.State.{Planning};
-ghost use Rattle.onfi_core.specs.Steps.{GoesOut, accept_refusal, held_for, plan_refusal, taken_next, planned_by, Plans};
+ghost use Rattle.onfi_core.specs.Steps.{GoesOut, accept_refusal, bus_refusal, held_for, plan_refusal, taken_next, planned_by, Plans};
+ghost use Rattle.onfi_core.specs.Dues.{IsDue, IsTurn, due_outcome};
+ghost use Rattle.onfi_core.specs.declared.starting.Turn.TheVariants as turn;
 ghost use Rattle.onfi_core.specs.Refusals.{fault_outcome};
 ghost use Rattle.onfi_core.specs.View.{IsNext, IsOldest, accepting, planning_of, PlanRefused};
 ghost use Rattle.onfi_problem.specs.declared.lun_state.LunState.TheVariants.{Free};
 
 use crate::batch::Batch;
+use crate::due::{Due, behind_first, lun_after, wants_again, wants_without};
 use crate::finding::{find, item_of};
 use crate::history::History;
 use crate::lent::Lent;
@@ -16,6 +19,7 @@ use crate::outcome::Cause;
 use crate::planning::{NextPlan, PlanStop, plan_wants};
 use crate::setup::Setup;
 use crate::slot::Slot;
+use crate::starting::{Start, Turn, next_turn};
 use crate::wants::want_of;
 use arrayvec::ArrayVec;
 use onfi_planner::Planned;
@@ -105,6 +109,15 @@ pub enum PlanRefusal {
     Over { opened: u32 },
     /// Memory was refused; the old plan stands.
     Memory,
+}
+
+/// Why no phase is due, in the order in which it is told.
+#[derive(Clone, Copy, Debug, PartialEq, Eq)]
+pub enum DueRefusal {
+    /// The channel stopped.
+    Stopped(Cause),
+    /// No phase of the plan is left.
+    NoPlan,
 }
 
 impl Half {
@@ -249,6 +262,78 @@ impl Half {
         self.groups = next.groups;
         self.last = Some(next.batch);
         finish
+    }
+
+    /// The undone phase of least start, with all that stands when it is done. This takes no memory.
+    ///
+    /// # Errors
+    /// `Stopped` where the channel stopped; else `NoPlan` where no phase of the plan is left.
+    pub fn due(&self, alloc: Global) -> Result<Due, DueRefusal>
+        ensures due { IfOk result (λ due. IsDue self.now.state due) }
+        ensures open { IfOk result (λ due. bus_refusal self.now.state ≡ None) }
+        ensures refused { IfErr result (λ refusal. bus_refusal self.now.state ≡ Some (due_outcome refusal)) }
+    {
+        if let Some(cause) = self.stopped {
+            return Err(DueRefusal::Stopped(cause));
+        }
+        match next_turn(self.rest.as_slice(), self.groups.as_slice()) {
+            Some(Turn::Next(next)) => Ok(self.next_due(alloc, next)),
+            Some(Turn::First(first)) => Ok(self.first_due(alloc, first)),
+            None => Err(DueRefusal::NoPlan),
+        }
+    }
+
+    // The next phase of the group that runs on that LUN.
+    fn next_due(&self, alloc: Global, next: Start) -> Due
+        requires { IsTurn self.now.state.left.rest self.now.state.left.groups (turn.Next next) }
+        ensures { IsDue self.now.state result }
+    {
+        let LunState::Running {
+            group,
+            next: phase,
+            ..
+        } = &self.luns[next.at]
+        else {
+            unreachable!();
+        };
+        let starts = &self.rest[next.at];
+        let start = starts.as_slice()[0];
+        let spans = self.setup.timing.spans(group.kind());
+        let ended = start + spans.phase_length(group.len(), usize::from(*phase));
+        Due {
+            start,
+            group: group.copy(),
+            phase: *phase,
+            lun: group.lun(),
+            next: lun_after(&self.setup.timing, group, *phase, ended),
+            rest: behind_first(alloc, starts),
+            place: None,
+            bus_free: ended,
+            wants: wants_again(self.wants.as_slice()),
+        }
+    }
+
+    // The first phase of the group at that place.
+    fn first_due(&self, alloc: Global, first: Start) -> Due
+        requires { IsTurn self.now.state.left.rest self.now.state.left.groups (turn.First first) }
+        ensures { IsDue self.now.state result }
+    {
+        let placed = &self.groups[first.at];
+        let group = placed.members();
+        let start = placed.starts().as_slice()[0];
+        let spans = self.setup.timing.spans(group.kind());
+        let ended = start + spans.phase_length(group.len(), 0);
+        Due {
+            start,
+            group: group.copy(),
+            phase: 0,
+            lun: group.lun(),
+            next: lun_after(&self.setup.timing, group, 0, ended),
+            rest: behind_first(alloc, placed.starts()),
+            place: Some(first.at),
+            bus_free: ended,
+            wants: wants_without(group, self.wants.as_slice()),
+        }
     }
 
     /// Moves out the oldest reply that is held for the host. What follows is [`Half::keep`] or [`Half::posted`]; until

@@ -3,6 +3,7 @@
 #![tactic(auto)]
 
 mod batch;
+mod due;
 mod event;
 mod finding;
 mod half;
@@ -14,10 +15,12 @@ mod outcome;
 mod planning;
 mod setup;
 mod slot;
+mod starting;
 mod wants;
 
+pub use due::Due;
 pub use event::Event;
-pub use half::{AcceptFault, Half, PlanRefusal};
+pub use half::{AcceptFault, DueRefusal, Half, PlanRefusal};
 pub use laws::{
     headline, opened_is_reached, posted_in_order, reached_keeps, run_keeps, step_keeps,
 };

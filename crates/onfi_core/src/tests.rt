@@ -1,9 +1,10 @@
 ghost use Rattle.std.specs.Prelude.{◌≡◌, length};
 
-use crate::{Half, PlanRefusal, Setup, SetupFault};
+use crate::{DueRefusal, Half, PlanRefusal, Setup, SetupFault};
 use onfi_addr::{Geometry, Place};
 use onfi_group::Rules;
 use onfi_param::{crc16, read_page};
+use onfi_problem::LunState;
 use onfi_request::{Bytes, Item, Request, check};
 use onfi_timing::{Kind, Spans, Timing};
 use std::alloc::{AllocError, Global};
@@ -139,5 +140,45 @@ fn a_channel_goes_on_after_over(rt: HostRuntime) -> Result<(), AllocError> {
         None => assert!(rt; false),
     }
     assert!(rt; half.held(0).is_none());
+    Ok(())
+}
+
+#[test]
+fn the_first_command_is_due(rt: HostRuntime) -> Result<(), AllocError> {
+    let alloc = rt.alloc();
+    let geometry = sample_geometry(&rt);
+    let rules = Rules::new(true, false, false, 1);
+    let setup = Setup::new(geometry, sample_timing(&rt), rules, 1, 4, 8, 1, 1, 1_000).expect(
+        &rt, "in range",
+    );
+    let mut half = Half::open(alloc, setup)?;
+    assert!(rt; matches!(half.due(alloc), Err(DueRefusal::NoPlan)));
+    let request = program(alloc, &geometry, 0)?;
+    assert!(rt; check(&geometry, &request).is_ok());
+    assert!(rt; half.refuses().is_none());
+    half.accept(Item {
+        host: 0,
+        serial: 0,
+        request,
+    });
+    assert!(rt; half.plan(alloc) == Ok(211_180));
+    match half.due(alloc) {
+        Ok(due) => {
+            assert_eq!(rt;
+                (due.start, due.phase, due.lun, due.bus_free),
+                (0, 0, 0, 10_800)
+            );
+            assert_eq!(rt; due.place, Some(0));
+            assert_eq!(rt; due.rest.as_slice(), [210_900].as_slice());
+            assert!(rt; due.wants.is_empty());
+            match due.next {
+                LunState::Running { next, ready, .. } => {
+                    assert_eq!(rt; (next, ready), (1, 210_900));
+                }
+                LunState::Free { .. } => assert!(rt; false),
+            }
+        }
+        Err(_) => assert!(rt; false),
+    }
     Ok(())
 }

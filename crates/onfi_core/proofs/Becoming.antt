@@ -1,0 +1,174 @@
+-- The turn of least start is the phase that comes next, and what it leaves.
+use Rattle.std.proofs.Common.{◌≡◌, ℕ, zero, suc, ◌+◌, ◌<◌, ◌⊎◌, inl, inr, true, false, List, [], ◌∷◌, ◌++◌, length, take, drop, Some, None, refl, sym, ap, ◌∙◌, subst, arith}
+use Rattle.std.specs.Prelude.{slice_get, slice_set, slice_index_or}
+use Rattle.onfi_timing.specs.Phases.{phase_length}
+use Rattle.onfi_timing.specs.Kinds.{spans_of}
+use Rattle.onfi_timing.specs.declared.kind.Kind.{Kind}
+use Rattle.onfi_timing.specs.declared.spans.Spans.{Spans}
+use Rattle.onfi_timing.specs.declared.timing.Timing.{Timing}
+use Rattle.onfi_request.specs.declared.want.Want.{Want}
+use Rattle.onfi_group.specs.Group.{lun_of, kind_of, group_spans}
+use Rattle.onfi_problem.specs.declared.lun_state.LunState.{LunState}
+use Rattle.onfi_problem.specs.declared.lun_state.LunState.TheVariants.{Free, Running}
+use Rattle.onfi_problem.specs.Problem.{Problem, IsProblem}
+use Rattle.onfi_problem.proofs.Places.{within_get}
+use Rattle.onfi_problem.specs.Moves.{Move, Next, Start, lun_after, next_ran, ran, placed, without}
+use Rattle.onfi_schedule.specs.Schedule.{Placed, Schedule, Legal, phases}
+use Rattle.onfi_schedule.specs.Laws.{Begins, ComesNext}
+use Rattle.onfi_schedule.proofs.Following.{first_move_law, next_law, done_law}
+use Rattle.onfi_schedule.proofs.Exchange.{not_done}
+use Rattle.onfi_core.specs.declared.setup.Setup.{Setup}
+use Rattle.onfi_core.specs.declared.starting.Start.{Start as AStart}
+use Rattle.onfi_core.specs.declared.starting.Turn.TheVariants as turn
+use Rattle.onfi_core.specs.declared.due.Due.{Due}
+use Rattle.onfi_core.specs.State.{HalfState}
+use Rattle.onfi_core.specs.Steps.{is_empty, none_left, bus_refusal}
+use Rattle.onfi_core.specs.Kept.{IsSound}
+use Rattle.onfi_core.specs.View.{HalfView}
+use Rattle.onfi_core.specs.declared.starting.Turn.{Turn}
+use Rattle.onfi_core.specs.declared.outcome.Outcome.TheVariants as outcome
+use Rattle.onfi_core.specs.Dues.{NoneStart, IsTurn, IsDue, starts_in}
+use Rattle.onfi_core.proofs.Lists.{take_drop, drop_next}
+use Rattle.onfi_core.proofs.Dues.{map_get}
+use Rattle.onfi_core.proofs.First.{phases_start}
+
+get_map : (groups : List Placed) (i : ℕ) (starts : List ℕ) → slice_get (starts_in groups) i ≡ Some starts → (g : Placed) × (slice_get groups i ≡ Some g) × (g.starts ≡ starts)
+get_map [] i starts h = cc
+get_map (x ∷ groups) zero starts h = (x, refl, cc)
+get_map (x ∷ groups) (suc i) starts h = get_map groups i starts h
+
+get_middle : (before : List Placed) (g : Placed) (behind : List Placed) → slice_get (before ++ g ∷ behind) (length before) ≡ Some g
+get_middle [] g behind = refl
+get_middle (x ∷ before) g behind = get_middle before g behind
+
+pub within_groups : (groups : List Placed) (i : ℕ) (starts : List ℕ) → slice_get (starts_in groups) i ≡ Some starts → i < length groups
+within_groups groups i starts h = let g = get_map groups i starts h in within_get groups i g.0 g.1
+
+pub cut_there : {A : Type 0} (xs : List A) (i : ℕ) (x : A) → slice_get xs i ≡ Some x → xs ≡ take i xs ++ x ∷ drop (i + 1) xs
+cut_there xs i x h = sym (take_drop i xs) ∙ ap (λ zs. take i xs ++ zs) (drop_next xs i x h)
+
+first_of : (starts : List ℕ) (t : ℕ) (ts : List ℕ) → starts ≡ t ∷ ts → drop 1 starts ≡ ts
+first_of starts t ts e = ap (drop 1) e
+
+-- where nothing starts no move begins
+none_begins : (s : Schedule) → NoneStart s.rest → NoneStart (starts_in s.groups) → (move : Move) (start : ℕ) (left : Schedule) → Begins s move start left → ⊥
+none_begins s rest groups (Next lun) start left (starts, at, is) = let e = rest lun (start ∷ starts) at in cc
+none_begins s rest groups (Start group) start left (starts, before, behind, are, is) =
+    let g : Placed = record { members = group; starts = start ∷ starts } in
+    let there : slice_get s.groups (length before) ≡ Some g = subst (λ gs. slice_get gs (length before) ≡ Some g) (sym are) (get_middle before g behind) in
+    let e = groups (length before) (start ∷ starts) (map_get s.groups (length before) g there) in cc
+
+some_or_none : {A : Type 0} (xs : List A) → (xs ≡ []) ⊎ (is_empty xs ≡ false)
+some_or_none [] = inl refl
+some_or_none (x ∷ xs) = inr refl
+
+empty_is : {A : Type 0} (xs : List A) → is_empty xs ≡ false → xs ≡ [] → ⊥
+empty_is [] h e = cc
+empty_is (x ∷ xs) h e = cc
+
+-- .. so nothing is left
+pub nothing_left : (p : Problem) (s : Schedule) → IsProblem p → Legal p s → NoneStart s.rest → NoneStart (starts_in s.groups) → is_empty (phases p s) ≡ true
+nothing_left p s ip lg rest groups =
+    elim (some_or_none (phases p s)) [
+      | inl e ↦ rw e refl
+      | inr some ↦ absurd (
+          let n = next_law p s ip lg (λ over. empty_is (phases p s) some ((done_law p s ip lg).0 over)) in
+          none_begins s rest groups n.0 n.1 n.2 n.3.begins)
+    ]
+
+-- where a phase comes next something is left
+pub something_left : (p : Problem) (s : Schedule) (move : Move) (start : ℕ) (left : Schedule) → IsProblem p → Legal p s → ComesNext p s move start left → is_empty (phases p s) ≡ false
+something_left p s move start left ip lg next =
+    elim (some_or_none (phases p s)) [
+      | inl e ↦ absurd (not_done p move ((done_law p s ip lg).1 e) (first_move_law p s move start left ip lg next).is_move)
+      | inr some ↦ some
+    ]
+
+pub no_plan : (s : Setup) (h : HalfState) → IsSound s h → h.stopped ≡ None → NoneStart h.left.rest → NoneStart (starts_in h.left.groups) → none_left h ≡ true
+no_plan s h sound going rest groups = nothing_left h.now h.left sound.problem sound.legal rest groups
+
+pub some_plan : (s : Setup) (h : HalfState) (due : Due) → IsSound s h → IsDue h due → none_left h ≡ false
+some_plan s h due sound is = something_left h.now h.left is.move due.start is.left sound.problem sound.legal is.next
+
+pub goes_on : (s : Setup) (h : HalfState) (due : Due) → IsSound s h → h.stopped ≡ None → IsDue h due → bus_refusal h ≡ None
+goes_on s h due sound going is = let e = some_plan s h due sound is in rw (going, e) refl
+
+-- of a group that runs
+pub next_runs : (s : Setup) (h : HalfState) → IsSound s h → (next : AStart) → IsTurn h.left.rest h.left.groups (turn.Next next) → (state : LunState) → slice_get h.now.luns next.at ≡ Some state → (group : List Want) × (phase : ℕ) × (ready : ℕ) × (state ≡ Running group phase ready)
+next_runs s h sound next is (Free since) there = absurd (let e = sound.legal.shape.no_rest next.at since (next.time ∷ is.0.0) there is.0.1 in cc)
+next_runs s h sound next is (Running group phase ready) there = (group, phase, ready, refl)
+
+pub next_is_due : (s : Setup) (h : HalfState) → IsSound s h → (next : AStart) → IsTurn h.left.rest h.left.groups (turn.Next next)
+    → (group : List Want) (phase ready : ℕ) → slice_get h.now.luns next.at ≡ Some (Running group phase ready)
+    → (due : Due) (starts : List ℕ) → slice_get h.left.rest next.at ≡ Some starts → due.start ≡ next.time → due.group ≡ group → due.phase ≡ phase → due.lun ≡ lun_of group
+    → due.bus_free ≡ next.time + phase_length (group_spans h.now.timing group) (length group) phase → due.next ≡ lun_after h.now.timing group phase due.bus_free
+    → due.rest ≡ drop 1 starts → due.place ≡ None → due.wants.items ≡ h.now.wants → IsDue h due
+next_is_due s h sound next is group phase ready there due starts starts_there start_is group_is phase_is lun_is bus_is next_is rest_is place_is wants_is =
+    let runs = sound.problem.running next.at group phase ready there in
+    let lun : due.lun ≡ next.at = lun_is ∙ runs.lun in
+    let some : Some starts ≡ Some (next.time ∷ is.0.0) = sym starts_there ∙ is.0.1 in
+    let behind : is.0.0 ≡ due.rest = sym (first_of starts next.time is.0.0 cc) ∙ sym rest_is in
+    let least = phases_start h.now h.left next.time sound.legal is.1 is.2 in
+    let after : placed h.now (Next next.at) next.time ≡ ran h.now next.at group phase next.time = ap (λ o. next_ran h.now next.at o next.time) there in
+    record {
+      move = Next next.at;
+      left = record { rest = slice_set h.left.rest next.at is.0.0; groups = h.left.groups };
+      next = rw start_is (record { begins = (is.0.0, is.0.1, refl); least = least });
+      is = rw (group_is, phase_is) (ready, there);
+      now_is = rw (start_is, lun, next_is, wants_is, bus_is) after;
+      left_is = rw (lun, place_is, behind) refl;
+    }
+
+-- of a group that starts
+pub first_is_due : (s : Setup) (h : HalfState) → IsSound s h → (first : AStart) → IsTurn h.left.rest h.left.groups (turn.First first)
+    → (g : Placed) → slice_get h.left.groups first.at ≡ Some g
+    → (due : Due) → due.start ≡ first.time → due.group ≡ g.members → due.phase ≡ 0 → due.lun ≡ lun_of g.members
+    → due.bus_free ≡ first.time + phase_length (group_spans h.now.timing g.members) (length g.members) 0 → due.next ≡ lun_after h.now.timing g.members 0 due.bus_free
+    → due.rest ≡ drop 1 g.starts → due.place ≡ Some first.at → due.wants.items ≡ without g.members h.now.wants → IsDue h due
+first_is_due s h sound first is g there due start_is group_is phase_is lun_is bus_is next_is rest_is place_is wants_is =
+    let some : Some g.starts ≡ Some (first.time ∷ is.0.0) = sym (map_get h.left.groups first.at g there) ∙ is.0.1 in
+    let starts : g.starts ≡ first.time ∷ is.0.0 = cc in
+    let behind : is.0.0 ≡ due.rest = sym (first_of g.starts first.time is.0.0 starts) ∙ sym rest_is in
+    let whole : g ≡ record { members = g.members; starts = first.time ∷ is.0.0 } = ap (λ us. record { members = g.members; starts = us }) starts in
+    let are = cut_there h.left.groups first.at g there ∙ ap (λ z. take first.at h.left.groups ++ z ∷ drop (first.at + 1) h.left.groups) whole in
+    let least = phases_start h.now h.left first.time sound.legal is.1 is.2 in
+    record {
+      move = Start g.members;
+      left = record { rest = slice_set h.left.rest (lun_of g.members) is.0.0; groups = take first.at h.left.groups ++ drop (first.at + 1) h.left.groups };
+      next = rw start_is (record { begins = (is.0.0, take first.at h.left.groups, drop (first.at + 1) h.left.groups, are, refl); least = least });
+      is = (sym group_is, phase_is);
+      now_is = rw (start_is, lun_is, next_is, wants_is, bus_is) refl;
+      left_is = rw (lun_is, place_is, behind) refl;
+    }
+
+-- What callers see of a half is what its fields say
+
+pub turn_inside : (inside h : HalfView) (t : Turn) → inside ≡ h → IsTurn h.state.left.rest h.state.left.groups t → IsTurn inside.state.left.rest inside.state.left.groups t
+turn_inside inside h t v is = subst (λ (x : HalfView). IsTurn x.state.left.rest x.state.left.groups t) (sym v) is
+
+pub due_outside : (inside h : HalfView) (due : Due) → inside ≡ h → IsDue inside.state due → IsDue h.state due
+due_outside inside h due v is = subst (λ (x : HalfView). IsDue x.state due) v is
+
+pub open_outside : (inside h : HalfView) (due : Due) → inside ≡ h → IsSound inside.setup inside.state → inside.state.stopped ≡ None → IsDue h.state due → bus_refusal h.state ≡ None
+open_outside inside h due v sound going is =
+    subst (λ (x : HalfView). bus_refusal x.state ≡ None) v (goes_on inside.setup inside.state due sound going (subst (λ (x : HalfView). IsDue x.state due) (sym v) is))
+
+pub none_outside : (inside h : HalfView) → inside ≡ h → IsSound inside.setup inside.state → inside.state.stopped ≡ None → NoneStart inside.state.left.rest → NoneStart (starts_in inside.state.left.groups) → bus_refusal h.state ≡ Some outcome.NoPlan
+none_outside inside h v sound going rest groups =
+    let e = no_plan inside.setup inside.state sound going rest groups in
+    let inner : bus_refusal inside.state ≡ Some outcome.NoPlan = rw (going, e) refl in
+    subst (λ (x : HalfView). bus_refusal x.state ≡ Some outcome.NoPlan) v inner
+
+-- the first start of those that stand there
+pub starts_then : (lists : List (List ℕ)) (i t : ℕ) (ts starts read : List ℕ) → slice_get lists i ≡ Some (t ∷ ts) → slice_get lists i ≡ Some starts → read ≡ starts → slice_index_or read 0 0 ≡ t
+starts_then lists i t ts starts read a b e =
+    let s : Some starts ≡ Some (t ∷ ts) = sym b ∙ a in
+    let q : starts ≡ t ∷ ts = cc in
+    ap (λ (us : List ℕ). slice_index_or us 0 0) (e ∙ q)
+
+pub length_is : (timing : Timing) (spans : Spans) (kind : Kind) (group : List Want) (k n phase r : ℕ) → r ≡ phase_length spans k n → spans ≡ spans_of timing kind → kind ≡ kind_of group → k ≡ length group → n ≡ phase → r ≡ phase_length (group_spans timing group) (length group) phase
+length_is timing spans kind group k n phase r a b c d e =
+    a ∙ ap (λ s. phase_length s k n) (b ∙ ap (spans_of timing) c) ∙ ap (λ m. phase_length (group_spans timing group) m n) d ∙ ap (λ m. phase_length (group_spans timing group) (length group) m) e
+
+pub sum_is : (a b c d : ℕ) → a ≡ b → c ≡ d → a + c ≡ b + d
+sum_is a b c d e f = omega arith
