@@ -13,3 +13,5 @@ pub mod Steps
 pub mod Running
 pub mod Beginning
 pub mod Opening
+pub mod Order
+pub mod Posts

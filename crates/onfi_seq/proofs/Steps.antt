@@ -145,7 +145,7 @@ module _ (target : Target) (accepted : List Item) (chip : Chip) (drive : Drive) 
 
 -- Behind a phase
 
-drop_tail : {A : Type 0} (n : ℕ) (xs : List A) (y : A) (ys : List A) → drop n xs ≡ y ∷ ys → drop (n + 1) xs ≡ ys
+pub drop_tail : {A : Type 0} (n : ℕ) (xs : List A) (y : A) (ys : List A) → drop n xs ≡ y ∷ ys → drop (n + 1) xs ≡ ys
 drop_tail zero [] y ys h = absurd (let e : [] ≡ y ∷ ys = h in cc)
 drop_tail zero (x ∷ xs) y ys h = cc
 drop_tail (suc n) [] y ys h = absurd (let e : [] ≡ y ∷ ys = h in cc)

@@ -89,6 +89,11 @@ pub record IsLeast (drive : Drive) (turn : Turn) : Type 0 where
 
 -- Where the LUNs are
 
+abbrev pub number_of : Stage → ℕ
+number_of (stage.Queuing lun) = lun.number
+number_of (stage.Working lun) = lun.number
+number_of (stage.Posting lun) = lun.number
+
 -- the phase of a LUN whose group has this phase next, which may start at `ready`
 abbrev pub StageIs : ℕ → ℕ → ℕ → ℕ → Stage → Type 0
 StageIs number members next ready (stage.Queuing lun) = (lun.number ≡ number) × (lun.state.ready ≡ ready) × (lun.state.commands ≡ next) × (next < members)

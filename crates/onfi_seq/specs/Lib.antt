@@ -4,3 +4,5 @@ pub mod Course
 pub mod Drive
 pub mod Least
 pub mod Batch
+pub mod Order
+pub mod Part

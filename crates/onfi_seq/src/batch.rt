@@ -1,12 +1,13 @@
 //! A batch: a whole schedule driven on a chip.
 
-ghost use Rattle.std.specs.Prelude.{◌≡◌, IfOk, IfErr};
+ghost use Rattle.std.specs.Prelude.{◌≡◌, ℕ, IfOk, IfErr};
 ghost use Rattle.std.specs.List.{AllByRecursion as Each};
 ghost use Rattle.onfi_die.specs.Shapes.{device_of};
 ghost use Rattle.onfi_die.specs.Rightful.{AreRightful};
 ghost use Rattle.onfi_problem.specs.Problem.{IsProblem};
 ghost use Rattle.onfi_schedule.specs.Schedule.{Legal};
 ghost use Rattle.onfi_seq.specs.Batch.{IsOpened, IsBatchOf, EachReplied, RestsOn, AfterBatchFault};
+ghost use Rattle.onfi_seq.specs.Order.{AreInPostOrder, TellsStatus};
 
 mod drive;
 mod fault;
@@ -26,14 +27,15 @@ use std::alloc::Global;
 use turn::next_turn;
 
 /// Drives a legal schedule of the items on a chip as it opened, each phase at its start, and answers one reply for each
-/// item, in order of post start; the place of a reply is its item's position, and it rests on the items and the chip's
-/// faults.
+/// item, in order of post start, which rises; the place of a reply is its item's position, and it rests on the items and
+/// the chip's faults.
 ///
 /// The problem has no running group, and its want i is item i, which the device takes.
 ///
 /// # Errors
-/// `Bus`, or `NotReady` with the LUN that told so, only where the chip's count of failures rose; nothing more is then
-/// known of the chip. `Memory` where a growth was refused; calls may have been made, and the chip is as they left it.
+/// `Bus`, or `NotReady` with the LUN whose status told so, one on which the schedule has a program or an erase; both only
+/// where the chip's count of failures rose, and nothing more is then known of the chip. `Memory` where a growth was
+/// refused; calls may have been made, and the chip is as they left it.
 pub fn run_batch<C: Chip>(
     alloc: Global,
     chip: &mut C,
@@ -47,8 +49,10 @@ pub fn run_batch<C: Chip>(
     requires legal { Legal problem.now.problem schedule.now }
     ensures rightful { IfOk result (λ replies. AreRightful (device_of geometry.now (C.state chip.old).faults) items.items replies.items) }
     ensures each { IfOk result (λ replies. EachReplied items.items replies.items) }
+    ensures order { IfOk result (λ replies. AreInPostOrder schedule.now replies.items) }
     ensures basis { IfOk result (λ replies. Each (RestsOn items.items (C.state chip.old).faults) replies.items) }
     ensures fault { IfErr result (λ fault. AfterBatchFault fault (C.state chip.old) (C.state chip.new)) }
+    ensures told { IfErr result (λ fault. (start : ℕ) × TellsStatus schedule.now start fault) }
 {
     problem_is_one(problem);
     let target = Target {

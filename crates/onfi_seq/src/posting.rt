@@ -22,8 +22,8 @@ impl Lun<Posting> {
     /// The next post of the group, at `now`, in ns: the data output of a read, the status of a program or an erase.
     ///
     /// # Errors
-    /// `Bus`, or `NotReady` where the status told so, with the LUN as it was; only where the chip's count of failures
-    /// rose.
+    /// `Bus`, or `NotReady` where the status of a program or an erase told so, with the LUN as it was; only where the
+    /// chip's count of failures rose.
     pub fn post<C: Chip>(
         self,
         chip: &mut C,
@@ -44,6 +44,7 @@ impl Lun<Posting> {
         ensures made { IfOk result (λ told. IsBehind self.number self.state.left (now + (spans_of target.now.timing fetch.kind).post) told.0) }
         ensures others { IfOk result (λ _. OthersStay self.number (C.state chip.old) (C.state chip.new)) }
         ensures fault { IfErr result (λ _. IsLost (C.state chip.old) (C.state chip.new)) }
+        ensures told { IfErr result (λ refused. refused.fault ≡ PostFault.NotReady → fetch.kind ≢ Kind.Read) }
         ensures lun { IfErr result (λ refused. refused.lun ≡ self) }
     {
         let ready = now + target.timing.spans(fetch.kind()).post;
@@ -91,6 +92,7 @@ impl<S: Phase> Lun<S> {
             → IsNextFetch target.now.geometry (C.state chip.old) now fetch post left
             → HasDone (posted (C.state chip.old) post left now) (C.state chip.new)) }
         ensures err { IfErr result (λ _. IsLost (C.state chip.old) (C.state chip.new)) }
+        ensures told { IfErr result (λ fault. fault ≡ PostFault.NotReady → fetch.kind ≢ Kind.Read) }
     {
         let row = target.geometry.row(&fetch.place());
         match fetch.kind() {
@@ -109,6 +111,7 @@ fn read_out<C: Chip>(chip: &mut C, now: u64, row: u64, room: Vec<u8>) -> Result<
     ensures done { IfOk result (λ _. (post : APost) (left : List APost) → IsNextPost (C.state chip.old) now row post left
         → HasDone (posted (C.state chip.old) post left now) (C.state chip.new)) }
     ensures err { IfErr result (λ _. IsLost (C.state chip.old) (C.state chip.new)) }
+    ensures told { IfErr result (λ fault. fault ≡ PostFault.Bus) }
 {
     let mut room = room;
     match chip.data_out(now, row, room.as_mut_slice()) {

@@ -1,6 +1,9 @@
-ghost use Rattle.std.specs.Prelude.{◌≡◌, ◌≤◌, ◌<◌, List, IfOk, IfErr, length};
+ghost use Rattle.std.specs.Prelude.{◌≡◌, ◌≤◌, ◌<◌, List, IfOk, IfErr, IfSome, length};
 ghost use Rattle.onfi_request.specs.declared.reply.Reply.{Reply as AReply};
-ghost use Rattle.onfi_seq.specs.Drive.{IsDriven, IsLeast, CanAdvance, Ran, AreFree, with_reply, steps_left, KeptSince};
+ghost use Rattle.onfi_schedule.specs.Schedule.{Schedule as ASchedule};
+ghost use Rattle.onfi_seq.specs.Drive.{IsDriven, IsLeast, CanAdvance, Ran, AreFree, with_reply, steps_left, turn_start, number_of, KeptSince};
+ghost use Rattle.onfi_seq.specs.Order.{RepliesAt, TellsStatus};
+ghost use Rattle.onfi_seq.specs.Part.{IsPartOf, StartsBehind, IsToldAt};
 ghost use Rattle.onfi_seq.specs.declared.batch.turn.Turn.TheVariants as turn;
 ghost use Rattle.onfi_seq.specs.Phases.{IsOf};
 ghost use Rattle.onfi_seq.specs.Batch.{AfterBatchFault, IfRests};
@@ -57,7 +60,11 @@ impl Drive {
         ensures fewer { IfOk result (λ _. steps_left self.new < steps_left self.old) }
         ensures basis { IfOk result (λ reply. IfRests items.now (C.state chip.old).faults reply) }
         ensures kept { IfOk result (λ _. KeptSince (C.state chip.old) (C.state chip.new)) }
+        ensures part { IfOk result (λ reply. (schedule : ASchedule) → IsPartOf schedule self.old
+            → IsPartOf schedule self.new × IfSome reply (λ r. RepliesAt schedule r (turn_start turn))) }
+        ensures behind { IfOk result (λ _. StartsBehind (turn_start turn) self.new) }
         ensures err { IfErr result (λ fault. AfterBatchFault fault (C.state chip.old) (C.state chip.new)) }
+        ensures told { IfErr result (λ fault. (schedule : ASchedule) → IsPartOf schedule self.old → TellsStatus schedule (turn_start turn) fault) }
     {
         match turn {
             Turn::Next { lun, start } => self.go_on(alloc, chip, target, items, lun, start),
@@ -85,7 +92,11 @@ impl Drive {
         ensures fewer { IfOk result (λ _. steps_left self.new < steps_left self.old) }
         ensures basis { IfOk result (λ reply. IfRests items.now (C.state chip.old).faults reply) }
         ensures kept { IfOk result (λ _. KeptSince (C.state chip.old) (C.state chip.new)) }
+        ensures part { IfOk result (λ reply. (schedule : ASchedule) → IsPartOf schedule self.old
+            → IsPartOf schedule self.new × IfSome reply (λ r. RepliesAt schedule r start)) }
+        ensures behind { IfOk result (λ _. StartsBehind start self.new) }
         ensures err { IfErr result (λ fault. AfterBatchFault fault (C.state chip.old) (C.state chip.new)) }
+        ensures told { IfErr result (λ fault. (schedule : ASchedule) → IsPartOf schedule self.old → TellsStatus schedule start fault) }
     {
         posts_are_alone();
         let Lane::Busy(running) = mem::replace(&mut self.lanes[lun], Lane::Moving) else {
@@ -112,7 +123,10 @@ impl Drive {
             → IsDriven target.now items.now (C.state chip.new) self.new replies) }
         ensures fewer { IfOk result (λ _. steps_left self.new < steps_left self.old) }
         ensures kept { IfOk result (λ _. KeptSince (C.state chip.old) (C.state chip.new)) }
+        ensures part { IfOk result (λ _. (schedule : ASchedule) → IsPartOf schedule self.old → IsPartOf schedule self.new) }
+        ensures behind { IfOk result (λ _. StartsBehind start self.new) }
         ensures err { IfErr result (λ fault. AfterBatchFault fault (C.state chip.old) (C.state chip.new)) }
+        ensures told { IfErr result (λ fault. (schedule : ASchedule) → IsPartOf schedule self.old → TellsStatus schedule start fault) }
     {
         posts_are_alone();
         let placed = self.waiting.remove(place);
@@ -138,6 +152,7 @@ fn advance<C: Chip>(
     ensures ok { IfOk result (λ ran. Ran target.now items.now running start (C.state chip.old) (C.state chip.new) running.stage ran.0 ran.1) }
     ensures basis { IfOk result (λ ran. IfRests items.now (C.state chip.old).faults ran.1) }
     ensures err { IfErr result (λ fault. AfterBatchFault fault (C.state chip.old) (C.state chip.new)) }
+    ensures told { IfErr result (λ fault. IsToldAt (number_of running.stage) running.placed.members running.next fault) }
 {
     let Running {
         stage,

@@ -9,6 +9,7 @@ ghost use Rattle.onfi_chip.specs.Calls.{IsLost};
 ghost use Rattle.onfi_seq.specs.Phases.{IsIdle, IsQueuing};
 ghost use Rattle.onfi_seq.specs.Drive.{CanCommand, CanPost, HasCommanded, HasPosted, IsBehindCommand, IsBehindPost, closer_for};
 ghost use Rattle.onfi_seq.specs.Batch.{AfterBatchFault, RestsOn, of_chip, of_post};
+ghost use Rattle.onfi_seq.specs.Part.{IsToldAt};
 
 use crate::batch::fault::BatchFault;
 use crate::batch::lane::{Lane, Running, Stage};
@@ -36,6 +37,7 @@ pub(crate) fn begin<C: Chip>(
     requires ready { (m : AWant) × CanCommand target.now items.now (C.state chip.old) lun.number placed.members 0 start m }
     ensures ok { IfOk result (λ lane. HasCommanded target.now items.now lun.number placed 0 start (C.state chip.old) (C.state chip.new) lane) }
     ensures err { IfErr result (λ fault. AfterBatchFault fault (C.state chip.old) (C.state chip.new)) }
+    ensures told { IfErr result (λ fault. IsToldAt lun.number placed.members 0 fault) }
 {
     let item = member_item(items, &placed, 0);
     let closer = closer_of(&placed, 0);
@@ -59,6 +61,7 @@ pub(crate) fn go_on<C: Chip>(
     requires ready { (m : AWant) × CanCommand target.now items.now (C.state chip.old) lun.number placed.members lun.state.commands start m }
     ensures ok { IfOk result (λ lane. HasCommanded target.now items.now lun.number placed lun.state.commands start (C.state chip.old) (C.state chip.new) lane) }
     ensures err { IfErr result (λ fault. AfterBatchFault fault (C.state chip.old) (C.state chip.new)) }
+    ensures told { IfErr result (λ fault. IsToldAt lun.number placed.members lun.state.commands fault) }
 {
     let next = usize::from(lun.state().commands);
     let item = member_item(items, &placed, next);
@@ -84,6 +87,7 @@ pub(crate) fn post<C: Chip>(
     ensures ok { IfOk result (λ posted. HasPosted target.now items.now lun.number lun.state.left placed next start (C.state chip.old) (C.state chip.new) posted.0 posted.1) }
     ensures basis { IfOk result (λ posted. RestsOn items.now (C.state chip.old).faults posted.1) }
     ensures err { IfErr result (λ fault. AfterBatchFault fault (C.state chip.old) (C.state chip.new)) }
+    ensures told { IfErr result (λ fault. IsToldAt lun.number placed.members next fault) }
 {
     let member = next - placed.members().len();
     let place = placed.members().members()[member].id;
