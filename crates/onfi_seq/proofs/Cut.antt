@@ -67,6 +67,17 @@ cut_here geometry l b all n pre x xs (v ∷ before) w behind e f k rest h =
       there = c.there;
     }
 
+-- the requests of all wants of a block are those of its items
+pub whole : (geometry : Geometry) (l b : ℕ) (all : List Item) (n : ℕ) (pre xs : List Item) → all ≡ pre ++ xs → n ≡ length pre → map (request_at all) (on l b (wants_from geometry n xs)) ≡ requests_on l b xs
+whole geometry l b all n pre [] e f = refl
+whole geometry l b all n pre (x ∷ xs) e f =
+    let r = whole geometry l b all (n + 1) (pre ++ x ∷ []) xs (e ∙ sym (append_assoc pre (x ∷ []) xs)) (omega (arith, length-append pre (x ∷ []))) in
+    let i : request_at all (want_of geometry n x) ≡ x.request = ap (λ (y : Item). y.request) (ap (item_at all) f ∙ item_behind all pre x xs e) in
+    elim (cases_Bool (is_on l b x.request)) [
+      | inl k ↦ rw k (ap (λ rs. request_at all (want_of geometry n x) ∷ rs) r ∙ ap (λ q. q ∷ requests_on l b xs) i)
+      | inr k ↦ rw k r
+    ]
+
 pub cut : (geometry : Geometry) (l b : ℕ) (all : List Item) (n : ℕ) (pre xs : List Item) (before : List Want) (w : Want) (behind : List Want) → all ≡ pre ++ xs → n ≡ length pre → on l b (wants_from geometry n xs) ≡ before ++ w ∷ behind → CutAt l b all pre before w
 cut geometry l b all n pre [] before w behind e f h = absurd (not_nil before w behind h)
 cut geometry l b all n pre (x ∷ xs) before w behind e f h =

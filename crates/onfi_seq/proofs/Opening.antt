@@ -13,7 +13,8 @@ use Rattle.onfi_request.specs.declared.reply.Reply.{Reply}
 use Rattle.onfi_request.specs.Range.{Fits}
 use Rattle.onfi_request.specs.Words.{Pairs}
 use Rattle.onfi_die.specs.Shapes.{Device, device_of}
-use Rattle.onfi_die.specs.Contents.{fresh}
+use Rattle.onfi_die.specs.Contents.{fresh, runs}
+use Rattle.onfi_die.specs.Answers.{requests_on}
 use Rattle.onfi_die.specs.Rightful.{IsRightful, AreRightful}
 use Rattle.onfi_chip.specs.Chip.{Chip, Lun, device_in, opened}
 use Rattle.onfi_chip.specs.Chip.Lun.{Idle}
@@ -29,11 +30,11 @@ use Rattle.onfi_seq.specs.declared.batch.lane.Lane.TheVariants as lane
 use Rattle.onfi_seq.specs.declared.batch.drive.Drive.{Drive}
 use Rattle.onfi_seq.specs.declared.batch.turn.Turn.{Turn}
 use Rattle.onfi_seq.specs.declared.target.Target.{Target}
-use Rattle.onfi_seq.specs.Wants.{wants_from}
+use Rattle.onfi_seq.specs.Wants.{wants_from, request_at}
 use Rattle.onfi_seq.specs.Course.{IsTaken, LunAgrees, commanding, unposted, on, is_of_place}
 use Rattle.onfi_seq.specs.Drive.{starts_left, left_of, IsDriven, LaneIs, AreFree, NoneLeft, KeptSince, with_reply}
-use Rattle.onfi_seq.specs.Batch.{IsBatchOf, EachReplied}
-use Rattle.onfi_seq.proofs.Cut.{get_at_length}
+use Rattle.onfi_seq.specs.Batch.{IsBatchOf, EachReplied, HoldsItems}
+use Rattle.onfi_seq.proofs.Cut.{get_at_length, whole}
 use Rattle.onfi_seq.proofs.Turns.{all_done}
 
 pub free_more : (n : ℕ) (xs : List Lane) (x : Lane) → AreFree n xs → AreFree (n + length xs) (x ∷ []) → AreFree n (xs ++ x ∷ [])
@@ -218,6 +219,17 @@ module _ (target : Target) (items : List Item) (chip : Chip) (drive : Drive) (re
       let z : 0 + place ≡ place = omega arith in
       let b' : 1 ≤ number (has_id place) (wants_from target.geometry 0 items) = subst (λ j. 1 ≤ number (has_id j) (wants_from target.geometry 0 items)) z b in
       reply_there replies place (omega (arith, wants, posts, a, b'))
+
+  pub ended_blocks : NoneLeft drive → (faults : List Fault) → chip.faults ≡ faults → HoldsItems (device_of target.geometry faults) items chip
+  ended_blocks none faults e lun block =
+      let done = all_done next_law done_law driven.now drive driven.course.problem driven.course.legal none in
+      let b = driven.agrees.blocks lun block in
+      let c = none_commanding (slice_get driven.now.luns lun) (λ g n r. done.free lun g n r) in
+      let w = done.wants in
+      let ran : on lun block (wants_from target.geometry 0 items) ≡ b.ran ++ [] = rw (c, w) at b.order in
+      let requests : map (request_at items) b.ran ≡ requests_on lun block items = ap (map (request_at items)) (sym (ran ∙ append-nil b.ran)) ∙ whole target.geometry lun block items 0 [] items refl refl in
+      let device : device_in chip ≡ device_of target.geometry faults = ap (λ (g : Geometry). device_of g chip.faults) driven.agrees.geometry_is ∙ ap (device_of target.geometry) e in
+      subst (λ (d : Device). chip.blocks lun block ≡ runs d (requests_on lun block items) (fresh d)) device (b.contents ∙ ap (λ rs. runs (device_in chip) rs (fresh (device_in chip))) requests)
 
 -- Results of the loop
 

@@ -8,6 +8,9 @@ use Rattle.onfi_request.specs.declared.fault.Fault.{Fault}
 use Rattle.onfi_request.specs.declared.request.Item.{Item}
 use Rattle.onfi_request.specs.declared.reply.Reply.{Reply}
 use Rattle.onfi_request.specs.Range.{Fits}
+use Rattle.onfi_die.specs.Shapes.{Device}
+use Rattle.onfi_die.specs.Contents.{fresh, runs}
+use Rattle.onfi_die.specs.Answers.{requests_on}
 use Rattle.onfi_chip.specs.Chip.{Chip, opened}
 use Rattle.onfi_chip.specs.declared.fault.ChipFault.{ChipFault}
 use Rattle.onfi_chip.specs.declared.fault.ChipFault.TheVariants as chip_fault
@@ -35,6 +38,10 @@ pub record IsBatchOf (geometry : Geometry) (items : List Item) (problem : Proble
 -- each item has its reply
 abbrev pub EachReplied : List Item → List Reply → Type 0
 EachReplied items replies = (place : ℕ) (item : Item) → slice_get items place ≡ Some item → (r : Reply) × Has replies r × (r.place ≡ place)
+
+-- each block holds what the items on it, run in their order, leave of an erased one
+abbrev pub HoldsItems : Device → List Item → Chip → Type 0
+HoldsItems device items chip = (lun block : ℕ) → chip.blocks lun block ≡ runs device (requests_on lun block items) (fresh device)
 
 -- what a fault leaves of the chip
 abbrev pub AfterBatchFault : BatchFault → Chip → Chip → Type 0

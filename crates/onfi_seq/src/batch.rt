@@ -6,7 +6,7 @@ ghost use Rattle.onfi_die.specs.Shapes.{device_of};
 ghost use Rattle.onfi_die.specs.Rightful.{AreRightful};
 ghost use Rattle.onfi_problem.specs.Problem.{IsProblem};
 ghost use Rattle.onfi_schedule.specs.Schedule.{Legal};
-ghost use Rattle.onfi_seq.specs.Batch.{IsOpened, IsBatchOf, EachReplied, RestsOn, AfterBatchFault};
+ghost use Rattle.onfi_seq.specs.Batch.{IsOpened, IsBatchOf, EachReplied, HoldsItems, RestsOn, AfterBatchFault};
 ghost use Rattle.onfi_seq.specs.Order.{AreInPostOrder, TellsStatus};
 
 mod drive;
@@ -28,7 +28,7 @@ use turn::next_turn;
 
 /// Drives a legal schedule of the items on a chip as it opened, each phase at its start, and answers one reply for each
 /// item, in order of post start, which rises; the place of a reply is its item's position, and it rests on the items and
-/// the chip's faults.
+/// the chip's faults. The chip's blocks are then as the items leave them.
 ///
 /// The problem has no running group, and its want i is item i, which the device takes.
 ///
@@ -50,6 +50,7 @@ pub fn run_batch<C: Chip>(
     ensures rightful { IfOk result (λ replies. AreRightful (device_of geometry.now (C.state chip.old).faults) items.items replies.items) }
     ensures each { IfOk result (λ replies. EachReplied items.items replies.items) }
     ensures order { IfOk result (λ replies. AreInPostOrder schedule.now replies.items) }
+    ensures blocks { IfOk result (λ _. HoldsItems (device_of geometry.now (C.state chip.old).faults) items.items (C.state chip.new)) }
     ensures basis { IfOk result (λ replies. Each (RestsOn items.items (C.state chip.old).faults) replies.items) }
     ensures fault { IfErr result (λ fault. AfterBatchFault fault (C.state chip.old) (C.state chip.new)) }
     ensures told { IfErr result (λ fault. (start : ℕ) × TellsStatus schedule.now start fault) }

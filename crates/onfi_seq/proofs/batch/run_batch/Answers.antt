@@ -5,7 +5,7 @@ use Rattle.std.proofs.lemmas.Result.{err_from_is_err_and}
 use Rattle.onfi_problem.proofs.Perm.{All-append}
 use Rattle.onfi_seq.specs.Batch.{RestsOn, IfRests}
 use Rattle.onfi_seq.specs.Drive.{IsDriven, IsLeast, NoneLeft, turn_start, with_reply}
-use Rattle.onfi_seq.proofs.Opening.{opened_driven, ended_rightful, ended_replied, no_reply, none_is, kept_on, pushed_is}
+use Rattle.onfi_seq.proofs.Opening.{opened_driven, ended_rightful, ended_replied, ended_blocks, no_reply, none_is, kept_on, pushed_is}
 use Rattle.onfi_seq.specs.Part.{IsInOrder}
 use Rattle.onfi_seq.proofs.Order.{order_opens, order_kept, order_ended}
 use Rattle.onfi_seq.proofs.batch.run_batch.Goals as goal
@@ -71,6 +71,12 @@ pub returns-clause-each : goal.returns-clause-each
 returns-clause-each g c =
     let target : Target = record { geometry = c.args.geometry.now; timing = c.timing.result } in
     ended_replied target c.args.items.items (g.C.Chip.state c.loop-turn.chip) c.loop-turn.drive c.loop-turn.replies.items c.loop-turn.invariant.driven (none_is (NoneLeft c.loop-turn.drive) (IsLeast c.loop-turn.drive) c.next_turn.result c.next_turn.ensures c.in_default-next_turn.not-Some)
+
+pub returns-clause-blocks : goal.returns-clause-blocks
+returns-clause-blocks g c =
+    let target : Target = record { geometry = c.args.geometry.now; timing = c.timing.result } in
+    let none = none_is (NoneLeft c.loop-turn.drive) (IsLeast c.loop-turn.drive) c.next_turn.result c.next_turn.ensures c.in_default-next_turn.not-Some in
+    ended_blocks target c.args.items.items (g.C.Chip.state c.loop-turn.chip) c.loop-turn.drive c.loop-turn.replies.items c.loop-turn.invariant.driven none (g.C.Chip.state c.args.chip.now).faults c.loop-turn.invariant.kept.faults
 
 pub returns-clause-order : goal.returns-clause-order
 returns-clause-order g c = order_ended c.args.schedule.now c.loop-turn.drive c.loop-turn.replies.items c.loop-turn.invariant.order
