@@ -115,6 +115,8 @@ next_is_due s h sound next is group phase ready there due starts starts_there st
       left = record { rest = slice_set h.left.rest next.at is.0.0; groups = h.left.groups };
       next = rw start_is (record { begins = (is.0.0, is.0.1, refl); least = least });
       is = rw (group_is, phase_is) (ready, there);
+      lun_is = lun;
+      place_there = λ at e. absurd (let z : Some at ≡ None = sym e ∙ place_is in cc);
       now_is = rw (start_is, lun, next_is, wants_is, bus_is) after;
       left_is = rw (lun, place_is, behind) refl;
     }
@@ -137,6 +139,12 @@ first_is_due s h sound first is g there due start_is group_is phase_is lun_is bu
       left = record { rest = slice_set h.left.rest (lun_of g.members) is.0.0; groups = take first.at h.left.groups ++ drop (first.at + 1) h.left.groups };
       next = rw start_is (record { begins = (is.0.0, take first.at h.left.groups, drop (first.at + 1) h.left.groups, are, refl); least = least });
       is = (sym group_is, phase_is);
+      lun_is = lun_is;
+      place_there = λ at e. (
+          let z : Some at ≡ Some first.at = sym e ∙ place_is in
+          let q : at ≡ first.at = cc in
+          let low = within_get h.left.groups first.at g there in
+          omega arith);
       now_is = rw (start_is, lun_is, next_is, wants_is, bus_is) refl;
       left_is = rw (lun_is, place_is, behind) refl;
     }
@@ -172,3 +180,6 @@ length_is timing spans kind group k n phase r a b c d e =
 
 pub sum_is : (a b c d : ℕ) → a ≡ b → c ≡ d → a + c ≡ b + d
 sum_is a b c d e f = omega arith
+
+pub due_inside : (inside h : HalfView) (due : Due) → inside ≡ h → IsDue h.state due → IsDue inside.state due
+due_inside inside h due v is = subst (λ (x : HalfView). IsDue x.state due) (sym v) is

@@ -23,3 +23,6 @@ pub mod Becoming
 pub mod Promise
 pub mod InOrder
 pub mod Channels
+pub mod Done
+pub mod Driving
+pub mod Told

@@ -1,7 +1,10 @@
 -- The phase that is due, and what it leaves.
-use Rattle.std.specs.Prelude.{◌≡◌, ℕ, ◌+◌, ◌<◌, ◌≤◌, ◌⊎◌, List, [], ◌∷◌, ◌++◌, map, take, drop, Option, Some, None, slice_get, slice_set}
+use Rattle.std.specs.Prelude.{◌≡◌, ℕ, ◌+◌, ◌<◌, ◌≤◌, ◌-◌, ◌⊎◌, nat_lt, if◌then◌else◌, List, [], ◌∷◌, ◌++◌, length, map, take, drop, Option, Some, None, option_to_list, slice_get, slice_set}
 use Rattle.onfi_request.specs.declared.reply.Reply.{Reply}
-use Rattle.onfi_problem.specs.Moves.{Move, placed}
+use Rattle.onfi_request.specs.declared.want.Want.{Want}
+use Rattle.onfi_request.specs.declared.request.Item.{Item}
+use Rattle.onfi_request.specs.declared.fault.Fault.{Fault}
+use Rattle.onfi_problem.specs.Moves.{Move, move_lun, placed}
 use Rattle.onfi_schedule.specs.Schedule.{Placed, Schedule}
 use Rattle.onfi_schedule.specs.Laws.{ComesNext}
 use Rattle.onfi_core.specs.declared.starting.Start.{Start}
@@ -13,7 +16,9 @@ use Rattle.onfi_core.specs.declared.half.DueRefusal.TheVariants as refusal
 use Rattle.onfi_core.specs.declared.outcome.Outcome.{Outcome}
 use Rattle.onfi_core.specs.declared.outcome.Outcome.TheVariants as outcome
 use Rattle.onfi_core.specs.State.{HalfState}
-use Rattle.onfi_core.specs.Steps.{IsPhase}
+use Rattle.onfi_core.specs.declared.ran.Ran.{Ran}
+use Rattle.onfi_core.specs.declared.ran.Ran.TheVariants as ran
+use Rattle.onfi_core.specs.Steps.{IsPhase, reply_to}
 
 -- of two starts the sooner, of equals the first
 abbrev pub SoonerIs : Option Start → Start → Option Start → Type 0
@@ -76,5 +81,21 @@ pub record IsDue (h : HalfState) (due : Due) : Type 0 where
   pub left : Schedule
   pub next : ComesNext h.now h.left move due.start left
   pub is : IsPhase h.now move due.group due.phase
+  pub lun_is : due.lun ≡ move_lun move
+  pub place_there : (at : ℕ) → due.place ≡ Some at → at < length h.left.groups
   pub now_is : placed h.now move due.start ≡ record h.now { bus_free = due.bus_free; luns = slice_set h.now.luns due.lun due.next; wants = due.wants.items }
   pub left_is : left ≡ record { rest = slice_set h.left.rest due.lun due.rest; groups = groups_left due.place h.left.groups }
+
+-- the member of a group that its phase is of: commands first, then posts
+abbrev pub member_of : List Want → ℕ → Option Want
+member_of group phase = slice_get group (if nat_lt phase (length group) then phase else phase - length group)
+
+-- the chip gives an answer at a post, and nothing at a command
+abbrev pub IsRan : Due → Ran → Type 0
+IsRan due ran.Command = due.phase < length due.group
+IsRan due (ran.Post answer) = length due.group ≤ due.phase
+
+-- the reply that the phase makes: at a post that to its member
+abbrev pub replies_of : List Item → List Fault → Due → Ran → List Reply
+replies_of accepted faults due ran.Command = []
+replies_of accepted faults due (ran.Post answer) = map (λ m. reply_to accepted faults m answer) (option_to_list (slice_get due.group (due.phase - length due.group)))

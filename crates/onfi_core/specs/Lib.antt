@@ -6,3 +6,4 @@ pub mod Core
 pub mod View
 pub mod Refusals
 pub mod Dues
+pub mod Drive

@@ -30,6 +30,8 @@ use slab::Slab;
 use std::alloc::{AllocError, Global};
 use std::marker::Model;
 
+mod phase;
+
 /// At most this many accepted items have no posted reply.
 const WINDOW: usize = 64;
 

@@ -49,9 +49,9 @@ impl History {
         History::of(self, item)
     }
 
-    /// With one reply more that is held.
-    pub fn holding(&self, reply: &Reply) -> History
-        ensures { (result.accepted ≡ self.now.accepted) × (result.held ≡ self.now.held ++ reply.now ∷ []) × (result.posted ≡ self.now.posted) × (result.lent ≡ self.now.lent) }
+    /// With one reply more that is held, if there is one.
+    pub fn holding(&self, reply: &Option<Reply>) -> History
+        ensures { (result.accepted ≡ self.now.accepted) × (result.held ≡ self.now.held ++ option_to_list reply.now) × (result.posted ≡ self.now.posted) × (result.lent ≡ self.now.lent) }
     {
         History::of(self, reply)
     }

@@ -3,6 +3,7 @@
 #![tactic(auto)]
 
 mod batch;
+mod drive;
 mod due;
 mod event;
 mod finding;
@@ -13,6 +14,7 @@ mod lent;
 mod oldest;
 mod outcome;
 mod planning;
+mod ran;
 mod setup;
 mod slot;
 mod starting;
@@ -25,6 +27,7 @@ pub use laws::{
     headline, opened_is_reached, posted_in_order, reached_keeps, run_keeps, step_keeps,
 };
 pub use outcome::{Cause, Outcome};
+pub use ran::Ran;
 pub use setup::{Setup, SetupFault};
 
 #[cfg(test)]

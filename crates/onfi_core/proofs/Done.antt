@@ -1,0 +1,229 @@
+-- What a phase that is done leaves of a half.
+use Rattle.std.proofs.Common.{◌≡◌, ℕ, zero, suc, ◌+◌, ◌*◌, ◌-◌, ◌<◌, ◌≤◌, ◌⊎◌, inl, inr, Bool, true, List, [], ◌∷◌, ◌++◌, length, Some, None, Option, drop, refl, sym, ap, ◌∙◌, subst, append-nil, length-append, arith}
+use Rattle.std.specs.Prelude.{slice_get, slice_index_or, slice_set, nat_lt, ◌==◌, if◌then◌else◌}
+use Rattle.std.specs.List.{AllByRecursion as All, flat_map}
+use Rattle.std.proofs.lemmas.Bool.{lt-ltb, le-ltb, cases_lt}
+use Rattle.std.proofs.lemmas.Bool.Decides.{nat_tests}
+use Rattle.onfi_timing.specs.Phases.{phase_length}
+use Rattle.onfi_request.specs.declared.answer.Answer.{Answer}
+use Rattle.onfi_request.specs.declared.basis.Basis.{Basis}
+use Rattle.onfi_request.specs.declared.fault.Fault.{Fault}
+use Rattle.onfi_request.specs.declared.request.Item.{Item}
+use Rattle.onfi_request.specs.declared.reply.Reply.{Reply}
+use Rattle.onfi_request.specs.declared.want.Want.{Want}
+use Rattle.onfi_group.specs.Group.{group_spans, lun_of}
+use Rattle.onfi_group.specs.Words.{number}
+use Rattle.onfi_problem.specs.Moves.{Move, Next, Start, IsMove, move_lun, lun_after, placed, without, next_ran}
+use Rattle.onfi_problem.specs.Problem.{Problem, IsProblem, has_id}
+use Rattle.onfi_problem.specs.declared.lun_state.LunState.{LunState}
+use Rattle.onfi_problem.specs.declared.lun_state.LunState.TheVariants.{Running}
+use Rattle.onfi_problem.proofs.Places.{get_within, within_get}
+use Rattle.onfi_schedule.specs.Laws.{ComesNext}
+use Rattle.onfi_schedule.specs.Schedule.{Placed, Schedule, Legal}
+use Rattle.onfi_schedule.proofs.Following.{first_move_law}
+use Rattle.slab.specs.Slab.{Slab}
+use Rattle.onfi_core.specs.declared.due.Due.{Due}
+use Rattle.onfi_core.specs.declared.lent.Lent.{Lent}
+use Rattle.onfi_core.specs.declared.ran.Ran.{Ran}
+use Rattle.onfi_core.specs.declared.ran.Ran.TheVariants as ran
+use Rattle.onfi_core.specs.declared.setup.Setup.{Setup}
+use Rattle.onfi_core.specs.declared.slot.Slot.{Slot}
+use Rattle.onfi_core.specs.Dues.{IsDue, IsRan, after_due, groups_left, member_of, replies_of}
+use Rattle.onfi_core.specs.Kept.{IsSound, is_of_place, unposted}
+use Rattle.onfi_core.specs.State.{HalfState, item_at, no_item}
+use Rattle.onfi_core.specs.Steps.{IsPhase, half_after_phase, reply_to}
+use Rattle.onfi_core.specs.View.{AreFields, AreSlots, HasSlot}
+use Rattle.onfi_core.proofs.Bus.{number-append, sound_kept, counts_command, counts_post}
+use Rattle.onfi_core.proofs.Few.{replies_few}
+use Rattle.onfi_core.proofs.Going.{Going, going_next, going_start}
+use Rattle.onfi_core.proofs.Lists.{drop_next, index_get}
+use Rattle.onfi_core.proofs.Next.{not_posted, was_accepted}
+
+-- a phase makes the reply to its member at a post, and none at a command
+abbrev pub Makes : List Item → List Want → ℕ → List Reply → Type 0
+Makes accepted g n replies =
+    ((n < length g) × (replies ≡ []))
+    ⊎ ((faults : List Fault) × (m : Want) × (answer : Answer) × (length g ≤ n) × (slice_get g (n - length g) ≡ Some m) × (replies ≡ reply_to accepted faults m answer ∷ []))
+
+module _ (s : Setup) (h : HalfState) (half : IsSound s h) (l : ℕ) (g : List Want) (n start : ℕ) (wants : List Want) (going : Going s h l g n wants) (now : Problem) (left : Schedule)
+    (timing_is : now.timing ≡ h.now.timing) (rules_are : now.rules ≡ h.now.rules) (luns_are : now.luns ≡ slice_set h.now.luns l (lun_after h.now.timing g n (start + phase_length (group_spans h.now.timing g) (length g) n))) (wants_are : now.wants ≡ wants) (problem : IsProblem now) (legal : Legal now left) where
+  sound_phase : (replies : List Reply) → Makes h.accepted g n replies → IsSound s (record h { now = now; left = left; held = h.held ++ replies })
+  sound_phase replies (inl (lt, none)) =
+      let P : List Reply → Type 0 = λ rs. IsSound s (record h { now = now; left = left; held = rs }) in
+      subst P (sym (ap (λ rs. h.held ++ rs) none ∙ append-nil h.held))
+      (sound_kept s h half l g n start wants going now left h.held timing_is rules_are luns_are wants_are problem legal
+      (counts_command s h half l g n start wants going now left h.held timing_is rules_are luns_are wants_are lt))
+  sound_phase replies (inr (faults, m, answer, le, at, one)) =
+      let held = h.held ++ reply_to h.accepted faults m answer ∷ [] in
+      let P : List Reply → Type 0 = λ rs. IsSound s (record h { now = now; left = left; held = h.held ++ rs }) in
+      subst P (sym one)
+      (sound_kept s h half l g n start wants going now left held timing_is rules_are luns_are wants_are problem legal
+      (counts_post s h half l g n start wants going now left held timing_is rules_are luns_are wants_are faults m answer le at))
+
+-- a half whose phase is done is sound
+sound_move : (s : Setup) (h : HalfState) → IsSound s h → (move : Move) (start : ℕ) (left : Schedule) → ComesNext h.now h.left move start left → (g : List Want) (n : ℕ) → IsPhase h.now move g n → (replies : List Reply) → Makes h.accepted g n replies → IsSound s (half_after_phase h move start left replies)
+sound_move s h sound (Next l) start left next g n (ready, at) replies makes =
+    let m = first_move_law h.now h.left (Next l) start left sound.problem sound.legal next in
+    let e : placed h.now (Next l) start ≡ next_ran h.now l (Some (Running g n ready)) start = ap (λ o. next_ran h.now l o start) at in
+    sound_phase s h sound l g n start h.now.wants (going_next s h sound l g n ready at) (placed h.now (Next l) start) left
+    (ap (λ (p : Problem). p.timing) e) (ap (λ (p : Problem). p.rules) e) (ap (λ (p : Problem). p.luns) e) (ap (λ (p : Problem). p.wants) e) m.problem m.legal replies makes
+sound_move s h sound (Start members) start left next g n (same, zero') replies makes =
+    let m = first_move_law h.now h.left (Start members) start left sound.problem sound.legal next in
+    let P : List Want → ℕ → Type 0 = λ x k. Makes h.accepted x k replies in
+    let makes' : P members 0 = subst (λ x. P x 0) (sym same) (subst (P g) zero' makes) in
+    sound_phase s h sound (lun_of members) members 0 start (without members h.now.wants) (going_start s h sound members m.is_move) (placed h.now (Start members) start) left
+    refl refl refl refl m.problem m.legal replies makes'
+
+-- what stands beside a due phase is what it leaves
+pub after_due_is : (h : HalfState) (due : Due) → (is : IsDue h due) → (replies : List Reply) → after_due h due replies ≡ half_after_phase h is.move due.start is.left replies
+after_due_is h due is replies =
+    sym (ap (λ (p : Problem). let z : HalfState = record h { now = p; left = is.left; held = h.held ++ replies } in z) is.now_is
+    ∙ ap (λ (x : Schedule). let z : HalfState = record h { now = record h.now { bus_free = due.bus_free; luns = slice_set h.now.luns due.lun due.next; wants = due.wants.items }; left = x; held = h.held ++ replies } in z) is.left_is)
+
+pub sound_due : (s : Setup) (h : HalfState) (due : Due) → IsSound s h → IsDue h due → (replies : List Reply) → Makes h.accepted due.group due.phase replies → IsSound s (after_due h due replies)
+sound_due s h due sound is replies makes = subst (IsSound s) (sym (after_due_is h due is replies)) (sound_move s h sound is.move due.start is.left is.next due.group due.phase is.is replies makes)
+
+-- The member of the phase
+
+goes_by : (s : Setup) (h : HalfState) → IsSound s h → (move : Move) → IsMove h.now move → (g : List Want) (n : ℕ) → IsPhase h.now move g n → (wants : List Want) × Going s h (move_lun move) g n wants
+goes_by s h sound (Next l) m g n (ready, at) = (h.now.wants, going_next s h sound l g n ready at)
+goes_by s h sound (Start members) m g n (same, none) =
+    let P : List Want → ℕ → Type 0 = λ x k. (wants : List Want) × Going s h (lun_of members) x k wants in
+    let base : P members 0 = (without members h.now.wants, going_start s h sound members m) in
+    subst (P g) (sym none) (subst (λ x. P x 0) same base)
+
+-- the group of the due phase goes on
+pub goes : (s : Setup) (h : HalfState) (due : Due) → IsSound s h → IsDue h due → (wants : List Want) × Going s h due.lun due.group due.phase wants
+goes s h due sound is =
+    let m = first_move_law h.now h.left is.move due.start is.left sound.problem sound.legal is.next in
+    subst (λ l. (wants : List Want) × Going s h l due.group due.phase wants) (sym is.lun_is) (goes_by s h sound is.move m.is_move due.group due.phase is.is)
+
+number_within : (i : ℕ) (xs : List LunState) (l : ℕ) (x : LunState) → slice_get xs l ≡ Some x → number (has_id i) (unposted x) ≤ number (has_id i) (flat_map unposted xs)
+number_within i [] l x h = cc
+number_within i (z ∷ xs) zero x h =
+    let e : z ≡ x = cc in
+    let a = number-append (has_id i) (unposted z) (flat_map unposted xs) in
+    let c : number (has_id i) (unposted z) ≡ number (has_id i) (unposted x) = ap (λ w. number (has_id i) (unposted w)) e in
+    omega arith
+number_within i (z ∷ xs) (suc l) x h =
+    let a = number_within i xs l x h in
+    let b = number-append (has_id i) (unposted z) (flat_map unposted xs) in
+    omega arith
+
+one_more : (i : ℕ) (m : Want) (ms : List Want) → m.id ≡ i → 1 ≤ number (has_id i) (m ∷ ms)
+one_more i m ms e = let t : (m.id == i) ≡ true = grind (arith, nat_tests) in rw t (omega arith)
+
+later_number : (g : List Want) (n : ℕ) (m : Want) → slice_get g n ≡ Some m → 1 ≤ number (has_id m.id) g
+later_number [] n m h = cc
+later_number (x ∷ g) zero m h = let e : x ≡ m = cc in one_more m.id x g (ap (λ (w : Want). w.id) e)
+later_number (x ∷ g) (suc n) m h = let k = later_number g n m h in let a = number-append (has_id m.id) (x ∷ []) g in omega arith
+
+-- the member is of those that have no reply
+member_left : (g : List Want) (n : ℕ) (m : Want) → member_of g n ≡ Some m → 1 ≤ number (has_id m.id) (drop (n - length g) g)
+member_left g n m at = elim (cases_lt n (length g)) [
+  | inl lt ↦ (
+      let z : n - length g ≡ 0 = omega arith in
+      let at' : slice_get g n ≡ Some m = rw (lt-ltb n (length g) lt) at at in
+      let k = later_number g n m at' in
+      rw z k)
+  | inr ge ↦ (
+      let at' : slice_get g (n - length g) ≡ Some m = rw (le-ltb n (length g) ge) at at in
+      let d = drop_next g (n - length g) m at' in
+      rw d (one_more m.id m (drop (n - length g + 1) g) refl))
+]
+
+-- .. so it stands in a slot
+slot_of : (s : Setup) (slots : Slab Slot) (h : HalfState) (due : Due) → AreSlots slots h.accepted h.posted → IsSound s h → IsDue h due → (m : Want) → 1 ≤ number (has_id m.id) (drop (due.phase - length due.group) due.group) → HasSlot slots m.id
+slot_of s slots h due a sound is m one =
+    let g = goes s h due sound is in
+    let c = g.1.counts m.id in
+    let w = number_within m.id h.now.luns due.lun g.1.state g.1.there in
+    let o = sound.once m.id in
+    let there = was_accepted s.geometry 0 m.id h.accepted (omega arith) in
+    a.kept m.id (omega (arith, there)) (not_posted s h m.id sound (omega arith))
+
+pub member_slot : (s : Setup) (slots : Slab Slot) (h : HalfState) (due : Due) → AreSlots slots h.accepted h.posted → IsSound s h → IsDue h due → (m : Want) → member_of due.group due.phase ≡ Some m → HasSlot slots m.id
+member_slot s slots h due a sound is m at = slot_of s slots h due a sound is m (member_left due.group due.phase m at)
+
+-- the replies of a phase are those that it makes
+pub makes_of : (accepted : List Item) (faults : List Fault) (due : Due) (given : Ran) → IsRan due given → due.phase < 2 * length due.group → Makes accepted due.group due.phase (replies_of accepted faults due given)
+makes_of accepted faults due ran.Command lt within = inl (lt, refl)
+makes_of accepted faults due (ran.Post answer) le within =
+    let m = get_within due.group (due.phase - length due.group) (omega arith) in
+    let at = m.1 in
+    inr (faults, m.0, answer, le, m.1, rw at refl)
+
+-- there is room for the reply
+pub room_for : (s : Setup) (slots : Slab Slot) (n room : ℕ) (kept : List Reply) (h : HalfState) (lent : Option Reply) (due : Due) (replies : List Reply) → AreFields s slots n room kept None h lent → IsDue h due → Makes h.accepted due.group due.phase replies → length kept + length replies ≤ room
+room_for s slots n room kept h lent due replies f is makes =
+    let few = replies_few s (after_due h due replies) (sound_due s h due f.sound is replies makes) in
+    let l = length-append h.held replies in
+    let k = ap length f.lending.1 in
+    let a = f.slots_are.total in
+    let b = f.slots_are.few in
+    let c = f.room_is in
+    omega arith
+
+-- the fields once the phase is done
+pub fields_done : (s : Setup) (slots : Slab Slot) (n room room' : ℕ) (kept kept' : List Reply) (h : HalfState) (lent lent' : Option Reply) (due : Due) (replies : List Reply) (accepted' : List Item) (held' posted' : List Reply) (luns' : List LunState) (rest' : List (List ℕ)) (groups' : List Placed)
+    → AreFields s slots n room kept None h lent → IsDue h due → Makes h.accepted due.group due.phase replies → kept' ≡ kept ++ replies → room' ≡ room
+    → accepted' ≡ h.accepted → held' ≡ h.held ++ replies → posted' ≡ h.posted → lent' ≡ lent
+    → luns' ≡ slice_set h.now.luns due.lun due.next → rest' ≡ slice_set h.left.rest due.lun due.rest → groups' ≡ groups_left due.place h.left.groups
+    → AreFields s slots n room' kept' None (record h { accepted = accepted'; now = record h.now { bus_free = due.bus_free; luns = luns'; wants = due.wants.items }; left = record { rest = rest'; groups = groups' }; held = held'; posted = posted' }) lent'
+fields_done s slots n room room' kept kept' h lent lent' due replies accepted' held' posted' luns' rest' groups' f is makes k c e0 e1 e2 e3 el er eg =
+    let l = f.lending in
+    let same : kept' ≡ h.held ++ replies = k ∙ ap (λ rs. rs ++ replies) l.1 in
+    rw (e0, e1, e2, e3, el, er, eg, c) (record {
+      slots_are = f.slots_are;
+      count = f.count;
+      numbered = f.numbered;
+      room_is = f.room_is;
+      lending = (l.0, same);
+      sound = sound_due s h due f.sound is replies makes;
+    })
+
+-- the LUN of the due phase is there
+pub lun_there : (s : Setup) (h : HalfState) (due : Due) → IsSound s h → IsDue h due → due.lun < length h.now.luns
+lun_there s h due sound is = let g = goes s h due sound is in within_get h.now.luns due.lun g.1.state g.1.there
+
+-- the member of the due phase
+pub member_is : (s : Setup) (h : HalfState) (due : Due) → IsSound s h → IsDue h due → (members : List Want) (number : ℕ) (d : Want) → members ≡ due.group → number ≡ (if nat_lt due.phase (length due.group) then due.phase else due.phase - length due.group)
+    → member_of due.group due.phase ≡ Some (slice_index_or members number d)
+member_is s h due sound is members number d em en =
+    let w = (goes s h due sound is).1.within in
+    let low : (if nat_lt due.phase (length due.group) then due.phase else due.phase - length due.group) < length due.group = elim (cases_lt due.phase (length due.group)) [
+      | inl lt ↦ rw (lt-ltb due.phase (length due.group) lt) lt
+      | inr ge ↦ rw (le-ltb due.phase (length due.group) ge) (omega arith)
+    ] in
+    let m = get_within due.group (if nat_lt due.phase (length due.group) then due.phase else due.phase - length due.group) low in
+    rw (em, en) (m.1 ∙ ap Some (sym (index_get due.group (if nat_lt due.phase (length due.group) then due.phase else due.phase - length due.group) m.0 d m.1)))
+
+-- the reply of a post
+pub reply_made : (accepted : List Item) (faults : List Fault) (due : Due) (given : Ran) (answer : Answer) (members : List Want) (number : ℕ) (d : Want) (item : Item) (basis : Basis)
+    → given ≡ ran.Post answer → members ≡ due.group → number ≡ due.phase - length due.group → number < length due.group
+    → item ≡ item_at accepted (slice_index_or members number d).id → basis.accepted ≡ accepted → basis.faults ≡ faults
+    → (let r : Reply = record { host = item.host; serial = item.serial; place = (slice_index_or members number d).id; answer = answer; basis = basis } in r) ∷ [] ≡ replies_of accepted faults due given
+reply_made accepted faults due given answer members number d item basis eg em en within ei ea ef =
+    let m = get_within due.group number within in
+    let w : slice_index_or members number d ≡ m.0 = ap (λ ms. slice_index_or ms number d) em ∙ index_get due.group number m.0 d m.1 in
+    let at : slice_get due.group (due.phase - length due.group) ≡ Some m.0 = ap (slice_get due.group) (sym en) ∙ m.1 in
+    let it : item ≡ item_at accepted m.0.id = ei ∙ ap (λ (x : Want). item_at accepted x.id) w in
+    let b : basis ≡ record { accepted = accepted; faults = faults } = ap (λ xs. let z : Basis = record { accepted = xs; faults = basis.faults } in z) ea ∙ ap (λ fs. let z : Basis = record { accepted = accepted; faults = fs } in z) ef in
+    rw (eg, at, w, b, it) refl
+
+-- a post's member stands in a slot
+pub member_here : (s : Setup) (slots : Slab Slot) (h : HalfState) (due : Due) → AreSlots slots h.accepted h.posted → IsSound s h → IsDue h due → (given : Ran) → IsRan due given → (m : Want) → slice_get due.group (due.phase - length due.group) ≡ Some m → HasSlot slots m.id
+member_here s slots h due a sound is ran.Command lt m at =
+    let z : due.phase - length due.group ≡ 0 = omega arith in
+    let w = within_get due.group (due.phase - length due.group) m at in
+    let one = later_number due.group (due.phase - length due.group) m at in
+    slot_of s slots h due a sound is m (rw z one)
+member_here s slots h due a sound is (ran.Post answer) le m at = member_slot s slots h due a sound is m (rw (le-ltb due.phase (length due.group) le) at)
+
+-- the item that a slot keeps
+pub item_in_slot : (accepted : List Item) (p : ℕ) (slot : Slot) (item : Item) → slice_get accepted slot.place ≡ Some slot.item → slot.place ≡ p → item ≡ slot.item → item ≡ item_at accepted p
+item_in_slot accepted p slot item there e is = is ∙ sym (index_get accepted p slot.item no_item (subst (λ i. slice_get accepted i ≡ Some slot.item) e there))
+
+pub member_told : (s : Setup) (h : HalfState) (due : Due) → IsSound s h → IsDue h due → (members : List Want) (number : ℕ) (d : Want) → members ≡ due.group → number ≡ (if nat_lt due.phase (length due.group) then due.phase else due.phase - length due.group)
+    → (item : Item) → item ≡ item_at h.accepted (slice_index_or members number d).id → (m : Want) × (member_of due.group due.phase ≡ Some m) × (item ≡ item_at h.accepted m.id)
+member_told s h due sound is members number d em en item e = (slice_index_or members number d, member_is s h due sound is members number d em en, e)

@@ -1,0 +1,130 @@
+//! What a bus phase leaves of a half.
+
+ghost use Rattle.std.specs.Prelude.{◌≡◌, ℕ, ◌+◌, ◌*◌, ◌-◌, ◌<◌, ◌≤◌, ◌++◌, List, length, Some, None, option_to_list, slice_get, vec_len, vec_capacity};
+ghost use Rattle.slab.specs.Slab.{get};
+ghost use Rattle.onfi_request.specs.declared.fault.Fault.{Fault as AFault};
+ghost use Rattle.onfi_request.specs.declared.want.Want.{Want as AWant};
+ghost use Rattle.onfi_core.specs.declared.slot.Slot.{Slot as ASlot};
+ghost use Rattle.onfi_core.specs.State.{item_at};
+ghost use Rattle.onfi_core.specs.Steps.{half_after_phase};
+ghost use Rattle.onfi_core.specs.Dues.{IsDue, IsRan, member_of, replies_of, after_due, groups_left};
+ghost use Rattle.onfi_core.specs.View.{HasSlot};
+
+use crate::due::Due;
+use crate::finding::item_of;
+use crate::half::Half;
+use crate::history::History;
+use crate::outcome::Cause;
+use crate::ran::Ran;
+use crate::slot::Slot;
+use onfi_request::{Basis, Item, Reply};
+use onfi_schedule::Placed;
+use slab::Slab;
+
+impl Half {
+    /// The item of the member that the due phase is of: what its command carries, or what its post answers.
+    pub fn member<'a>(&'a self, due: &Due) -> &'a Item
+        requires { IsDue self.now.state due.now }
+        ensures { (m : AWant) × (member_of due.now.group due.now.phase ≡ Some m) × (result.now ≡ item_at self.now.state.accepted m.id) }
+    {
+        let members = due.group.len();
+        let phase = usize::from(due.phase);
+        let number = if phase < members {
+            phase
+        } else {
+            phase - members
+        };
+        item_of(&self.slots, due.group.members()[number].id)
+    }
+
+    /// The phase that [`Half::due`] told is done, and the chip gave `ran` at it; the reply of a post is held behind all
+    /// others. It takes no memory. The chip is shown for the caller's proof alone, which picks the faults that the reply
+    /// rests on.
+    pub fn done<T>(&mut self, due: Due, ran: Ran, chip: &T)
+        ghost faults: { List AFault }
+        requires settled { self.old.lent ≡ None }
+        requires due { IsDue self.old.state due }
+        requires ran { IsRan due ran }
+        ensures done { self.new ≡ record self.old { state = after_due self.old.state due (replies_of self.old.state.accepted faults due ran) } }
+        ensures phase { (is : IsDue self.old.state due)
+            → self.new.state ≡ half_after_phase self.old.state is.move due.start is.left (replies_of self.old.state.accepted faults due ran) }
+    {
+        let reply = reply_of(&self.slots, &self.history, &due, ran, chip);
+        self.history = self.history.holding(&reply);
+        hold(&mut self.held, reply);
+        let Due {
+            lun,
+            next,
+            rest,
+            place,
+            bus_free,
+            wants,
+            ..
+        } = due;
+        let lun = usize::from(lun);
+        self.bus_free = bus_free;
+        self.luns[lun] = next;
+        self.rest[lun] = rest;
+        self.wants = wants;
+        leave(&mut self.groups, place);
+    }
+
+    /// Stops the channel for that cause: from now on it accepts, plans and runs nothing.
+    pub fn stop(&mut self, cause: Cause)
+        requires settled { self.old.lent ≡ None }
+        requires going { self.old.state.stopped ≡ None }
+        ensures { self.new ≡ record self.old { state = record self.old.state { stopped = Some cause } } }
+    {
+        self.stopped = Some(cause);
+    }
+}
+
+// The reply that a phase makes, if it is a post.
+fn reply_of<T>(
+    slots: &Slab<Slot>,
+    history: &History,
+    due: &Due,
+    ran: Ran,
+    chip: &T,
+) -> Option<Reply>
+    ghost faults: { List AFault }
+    requires ran { IsRan due.now ran }
+    requires within { due.now.phase < 2 * length due.now.group }
+    requires slot { (m : AWant) → slice_get due.now.group (due.now.phase - length due.now.group) ≡ Some m → HasSlot slots.now m.id }
+    requires items { (key : ℕ) (slot : ASlot) → get slots.now key ≡ Some slot → slice_get history.now.accepted slot.place ≡ Some slot.item }
+    ensures { option_to_list result ≡ replies_of history.now.accepted faults due.now ran }
+{
+    let Ran::Post(answer) = ran else {
+        return None;
+    };
+    let place = due.group.members()[usize::from(due.phase) - due.group.len()].id;
+    let item = item_of(slots, place);
+    Some(Reply {
+        host: item.host,
+        serial: item.serial,
+        place,
+        answer,
+        basis: Basis::of(history, chip),
+    })
+}
+
+// A reply more at the end, if there is one.
+fn hold(held: &mut Vec<Reply>, reply: Option<Reply>)
+    requires { vec_len held.old + length (option_to_list reply) ≤ vec_capacity held.old }
+    ensures items { held.new.items ≡ held.old.items ++ option_to_list reply }
+    ensures capacity { vec_capacity held.new ≡ vec_capacity held.old }
+{
+    if let Some(reply) = reply {
+        held.push_reserved(reply);
+    }
+}
+
+// The group at the place starts, if one does.
+fn leave(groups: &mut Vec<Placed>, place: Option<usize>)
+    requires { (at : ℕ) → place ≡ Some at → at < vec_len groups.old }
+    ensures { groups.new.items ≡ groups_left place groups.old.items }
+{
+    if let Some(at) = place {
+        groups.remove(at);
+    }
+}
