@@ -1,7 +1,8 @@
 -- A held reply goes out, or comes back.
-use Rattle.std.proofs.Common.{◌≡◌, ◌≢◌, ℕ, zero, suc, ◌+◌, ◌<◌, ◌≤◌, inl, inr, true, List, [], ◌∷◌, ◌++◌, length, Option, Some, None, take, drop, refl, sym, ap, ◌∙◌, subst, length-append, arith}
+use Rattle.std.proofs.Common.{◌≡◌, ◌≢◌, ℕ, zero, suc, ◌+◌, ◌<◌, ◌≤◌, inl, inr, true, false, List, [], ◌∷◌, ◌++◌, length, Option, Some, None, take, drop, refl, sym, ap, ◌∙◌, subst, length-append, arith}
 use Rattle.std.specs.Prelude.{slice_get, slice_index_or, ◌==◌, option_to_list}
 use Rattle.std.specs.List.{filter, insert}
+use Rattle.std.proofs.lemmas.Bool.{ne_eqb}
 use Rattle.std.proofs.lemmas.Bool.Decides.{nat_tests}
 use Rattle.onfi_request.specs.declared.request.Item.{Item}
 use Rattle.onfi_request.specs.declared.reply.Reply.{Reply}
@@ -124,6 +125,16 @@ module _ (slots slots' : Slab Slot) (key : ℕ) (accepted : List Item) (posted :
       let other : old.0 ≢ key = λ e. (let z : Some old.1 ≡ Some slot = sym old.3 ∙ ap (get slots) e ∙ at in let same : old.1 ≡ slot = cc in apart (sym place ∙ ap (λ (x : Slot). x.place) (sym same) ∙ old.4)) in
       (old.0, old.1, omega (arith, cap, old.2), u.others old.0 other ∙ old.3, old.4)
 
+  -- another slot has another place
+  waits_on : (k : ℕ) (z : Slot) → k ≢ key → get slots k ≡ Some z → number (is_of_place z.place) (posted ++ r ∷ []) ≡ 0
+  waits_on k z d h =
+      let old = were.waits k z h in
+      let a = number-append (is_of_place z.place) posted (r ∷ []) in
+      let other : r.place ≢ z.place = λ e. d (were.apart k key z slot h at (sym e ∙ sym place)) in
+      let t : (r.place == z.place) ≡ false = ne_eqb r.place z.place other in
+      let b : number (is_of_place z.place) (r ∷ []) ≡ 0 = rw t refl in
+      omega arith
+
   pub slots_fewer : AreSlots slots' accepted (posted ++ r ∷ [])
   slots_fewer =
       let a = were.reserved in
@@ -139,6 +150,17 @@ module _ (slots slots' : Slab Slot) (key : ℕ) (accepted : List Item) (posted :
           | inr d ↦ were.items k z (sym (u.others k d) ∙ h)
         ];
         kept = kept_on;
+        waits = λ k z h. elim (same_place k key) [
+          | inl e ↦ (let q : None ≡ Some z = sym u.changed ∙ ap (get slots') (sym e) ∙ h in cc)
+          | inr d ↦ waits_on k z d (sym (u.others k d) ∙ h)
+        ];
+        apart = λ k j y z h i e. elim (same_place k key) [
+          | inl q ↦ (let w : None ≡ Some y = sym u.changed ∙ ap (get slots') (sym q) ∙ h in cc)
+          | inr d ↦ elim (same_place j key) [
+            | inl q ↦ (let w : None ≡ Some z = sym u.changed ∙ ap (get slots') (sym q) ∙ i in cc)
+            | inr o ↦ were.apart k j y z (sym (u.others k d) ∙ h) (sym (u.others j o) ∙ i) e
+          ]
+        ];
       }
 
 pub goes_out : (h : HalfState) (kept held' posted' : List Reply) (at : Lent) (lent : Option Reply) (r : Reply) → IsLent h.held kept (Some at) lent → lent ≡ Some r → held' ≡ kept → posted' ≡ h.posted ++ option_to_list lent → GoesOut h (record h { held = held'; posted = posted' }) r.host r

@@ -26,3 +26,4 @@ pub mod Channels
 pub mod Done
 pub mod Driving
 pub mod Told
+pub mod Nearest

@@ -2,30 +2,32 @@
 use Rattle.std.proofs.Common.{◌≡◌, ◌≢◌, ℕ, ◌+◌, ◌-◌, ◌^◌, ◌<◌, ◌≤◌, ◌⊎◌, inl, inr, true, false, List, [], ◌∷◌, ◌++◌, length, Option, Some, None, refl, sym, ap, ◌∙◌, subst, length-append, append-nil, arith}
 use Rattle.std.specs.Prelude.{slice_get, count_by, is_some, slice_index_or}
 use Rattle.std.specs.List.{AllByRecursion as All, filter}
-use Rattle.std.proofs.lemmas.Bool.{cases_Bool}
+use Rattle.std.proofs.lemmas.Bool.{cases_Bool, cases_lt}
 use Rattle.std.proofs.lemmas.Bool.Decides.{nat_tests}
 use Rattle.std.proofs.lemmas.List.Elements.{filter-append}
 use Rattle.onfi_request.specs.declared.request.Item.{Item}
 use Rattle.onfi_request.specs.declared.reply.Reply.{Reply}
 use Rattle.onfi_group.specs.Words.{number}
 use Rattle.onfi_problem.proofs.Perm.{All-append}
-use Rattle.onfi_problem.proofs.Places.{same_place}
+use Rattle.onfi_problem.proofs.Places.{same_place, within_get}
+use Rattle.onfi_problem.specs.Problem.{has_id}
 use Rattle.onfi_die.proofs.Lists.{get_more}
 use Rattle.slab.specs.Slab.{Slab, get, slab_len, Updates}
 use Rattle.onfi_core.specs.declared.setup.Setup.{Setup}
 use Rattle.onfi_core.specs.declared.slot.Slot.{Slot}
 use Rattle.onfi_core.specs.declared.lent.Lent.{Lent}
-use Rattle.onfi_core.specs.State.{Planning, HalfState, is_from}
+use Rattle.onfi_core.specs.State.{Planning, HalfState, is_from, wants_from}
 use Rattle.onfi_core.proofs.Plan.{sound_planned}
 use Rattle.onfi_problem.specs.Problem.{Problem}
 use Rattle.onfi_request.specs.declared.want.Want.{Want}
 use Rattle.onfi_schedule.specs.Schedule.{Placed}
 use Rattle.onfi_core.specs.Steps.{taken_next, next_problem, planned_by, Plans, accept_refusal, if_stopped, unanswered}
-use Rattle.onfi_core.specs.Kept.{is_of_place, first_half}
+use Rattle.onfi_core.specs.Kept.{IsSound, is_of_place, first_half}
 use Rattle.onfi_core.proofs.Opening.{opened_sound}
 use Rattle.onfi_core.specs.View.{IsNext, AreSlots, AreNumbered, AreFields}
 use Rattle.onfi_core.proofs.Accept.{sound_accepted}
 use Rattle.onfi_core.proofs.Lists.{get_at_length}
+use Rattle.onfi_core.proofs.Next.{was_accepted}
 use Rattle.onfi_core.proofs.Reach.{none_second, not_where, below}
 
 by_hosts : (xs : List Item) → All (λ (x : Item). x.host < 4) xs → length xs ≡ length (filter (is_from 0) xs) + length (filter (is_from 1) xs) + length (filter (is_from 2) xs) + length (filter (is_from 3) xs)
@@ -76,7 +78,7 @@ numbered_more s h x n next =
           ]));
     }
 
-module _ (slots slots' : Slab Slot) (n key : ℕ) (accepted : List Item) (posted : List Reply) (x : Item) (were : AreSlots slots accepted posted) (count : n ≡ length accepted) (u : Updates slots slots' key (Some (record { place = n; item = x }))) (cap : slots'.capacity ≡ slots.capacity) (len : slab_len slots' ≡ slab_len slots + 1) (within : key < slots'.capacity) (vacant : get slots key ≡ None) where
+module _ (slots slots' : Slab Slot) (n key : ℕ) (accepted : List Item) (posted : List Reply) (x : Item) (were : AreSlots slots accepted posted) (count : n ≡ length accepted) (u : Updates slots slots' key (Some (record { place = n; item = x }))) (cap : slots'.capacity ≡ slots.capacity) (len : slab_len slots' ≡ slab_len slots + 1) (within : key < slots'.capacity) (vacant : get slots key ≡ None) (fresh : number (is_of_place n) posted ≡ 0) where
   items_more : (k : ℕ) (slot : Slot) → get slots' k ≡ Some slot → slice_get (accepted ++ x ∷ []) slot.place ≡ Some slot.item
   items_more k slot at =
       elim (same_place k key) [
@@ -99,6 +101,32 @@ module _ (slots slots' : Slab Slot) (n key : ℕ) (accepted : List Item) (posted
             (old.0, old.1, omega (arith, cap, old.2), u.others old.0 apart ∙ old.3, old.4))
       ]
 
+  -- the new slot, or one of before, whose place is lower
+  from_slot : (k : ℕ) (slot : Slot) → get slots' k ≡ Some slot → ((k ≡ key) × (slot.place ≡ n)) ⊎ ((get slots k ≡ Some slot) × (slot.place < n))
+  from_slot k slot at =
+      elim (same_place k key) [
+        | inl e ↦ (
+            let q : Some (let z : Slot = record { place = n; item = x } in z) ≡ Some slot = sym u.changed ∙ ap (get slots') (sym e) ∙ at in
+            let same : (let z : Slot = record { place = n; item = x } in z) ≡ slot = cc in
+            inl (e, ap (λ (z : Slot). z.place) (sym same)))
+        | inr d ↦ (
+            let old = sym (u.others k d) ∙ at in
+            let low = within_get accepted slot.place slot.item (were.items k slot old) in
+            inr (old, omega arith))
+      ]
+
+  waits_more : (k : ℕ) (slot : Slot) → get slots' k ≡ Some slot → number (is_of_place slot.place) posted ≡ 0
+  waits_more k slot at = elim (from_slot k slot at) [
+    | inl new ↦ ap (λ i. number (is_of_place i) posted) new.1 ∙ fresh
+    | inr old ↦ were.waits k slot old.0
+  ]
+
+  apart_more : (k j : ℕ) (slot another : Slot) → get slots' k ≡ Some slot → get slots' j ≡ Some another → slot.place ≡ another.place → k ≡ j
+  apart_more k j slot another a b e = elim (from_slot k slot a) [
+    | inl new ↦ elim (from_slot j another b) [ inl other ↦ new.0 ∙ sym other.0 | inr other ↦ absurd (let low = other.1 in let p = new.1 in omega arith) ]
+    | inr old ↦ elim (from_slot j another b) [ inl other ↦ absurd (let low = old.1 in let p = other.1 in omega arith) | inr other ↦ were.apart k j slot another old.0 other.0 e ]
+  ]
+
   pub slots_more : slab_len slots < 64 → AreSlots slots' (accepted ++ x ∷ []) posted
   slots_more room =
       let a = were.reserved in
@@ -110,7 +138,18 @@ module _ (slots slots' : Slab Slot) (n key : ℕ) (accepted : List Item) (posted
         few = omega arith;
         items = items_more;
         kept = kept_more;
+        waits = waits_more;
+        apart = apart_more;
       }
+
+-- the place that comes next has no reply yet
+fresh_place : (s : Setup) (h : HalfState) → IsSound s h → number (is_of_place (length h.accepted)) h.posted ≡ 0
+fresh_place s h sound =
+    let o = sound.once (length h.accepted) in
+    elim (cases_lt (number (has_id (length h.accepted)) (wants_from s.geometry 0 h.accepted)) 1) [
+      | inl lt ↦ omega arith
+      | inr ge ↦ absurd (let k = was_accepted s.geometry 0 (length h.accepted) h.accepted ge in omega arith)
+    ]
 
 -- an item is taken in
 pub fields_accepted : (s : Setup) (slots slots' : Slab Slot) (n key room : ℕ) (kept : List Reply) (at : Option Lent) (h : HalfState) (lent lent' : Option Reply) (x : Item) (accepted' : List Item) (held' posted' : List Reply)
@@ -124,7 +163,7 @@ fields_accepted s slots slots' n key room kept at h lent lent' x accepted' held'
     let c = f.count in
     let l = length-append h.accepted (x ∷ []) in
     rw (e0, e1, e2, e3) (record {
-      slots_are = slots_more slots slots' n key h.accepted h.posted x f.slots_are c u cap len within vacant (omega arith);
+      slots_are = slots_more slots slots' n key h.accepted h.posted x f.slots_are c u cap len within vacant (ap (λ i. number (is_of_place i) h.posted) c ∙ fresh_place s h f.sound) (omega arith);
       count = omega arith;
       numbered = numbered_more s h x f.numbered next;
       room_is = f.room_is;
@@ -142,6 +181,8 @@ fields_opened s slots room kept lent h empty reserved has none unlent is =
         few = let e = ap (count_by is_some) empty in omega (arith, e);
         items = λ key slot at. (let e = ap (λ xs. slice_index_or xs key None) empty in let z : None ≡ Some slot = sym e ∙ at in cc);
         kept = λ place low q. absurd (omega (arith, low));
+        waits = λ key slot at. (let e = ap (λ xs. slice_index_or xs key None) empty in let z : None ≡ Some slot = sym e ∙ at in cc);
+        apart = λ key other slot another at. (let e = ap (λ xs. slice_index_or xs key None) empty in let z : None ≡ Some slot = sym e ∙ at in cc);
       };
       count = refl;
       numbered = record { hosts = tt; few = λ host. omega arith };

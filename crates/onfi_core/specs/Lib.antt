@@ -7,3 +7,4 @@ pub mod View
 pub mod Refusals
 pub mod Dues
 pub mod Drive
+pub mod Unanswered

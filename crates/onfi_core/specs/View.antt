@@ -45,13 +45,15 @@ accepting h x = record h { accepted = h.accepted ++ x ∷ [] }
 abbrev pub HasSlot : Slab Slot → ℕ → Type 0
 HasSlot slots place = (key : ℕ) × (slot : Slot) × (key < slots.capacity) × (get slots key ≡ Some slot) × (slot.place ≡ place)
 
--- each unanswered item stands in a slot, with its place
+-- each unanswered item stands in one slot, with its place
 pub record AreSlots (slots : Slab Slot) (accepted : List Item) (posted : List Reply) : Type 0 where
   pub reserved : 64 ≤ slots.capacity
   pub total : slab_len slots + length posted ≡ length accepted
   pub few : slab_len slots ≤ 64
   pub items : (key : ℕ) (slot : Slot) → get slots key ≡ Some slot → slice_get accepted slot.place ≡ Some slot.item
   pub kept : (place : ℕ) → place < length accepted → number (is_of_place place) posted ≡ 0 → HasSlot slots place
+  pub waits : (key : ℕ) (slot : Slot) → get slots key ≡ Some slot → number (is_of_place slot.place) posted ≡ 0
+  pub apart : (key other : ℕ) (slot another : Slot) → get slots key ≡ Some slot → get slots other ≡ Some another → slot.place ≡ another.place → key ≡ other
 
 -- the items are numbered, by at most four hosts
 pub record AreNumbered (accepted : List Item) : Type 0 where

@@ -1,6 +1,7 @@
 ghost use Rattle.std.specs.Prelude.{◌≡◌, ◌≢◌, ℕ, ◌<◌, Some, MatchOption};
 ghost use Rattle.slab.specs.Slab.{get};
 ghost use Rattle.onfi_core.specs.View.{HasSlot};
+ghost use Rattle.onfi_core.specs.Unanswered.{IsNearest, nearer};
 ghost use Rattle.onfi_core.specs.declared.slot.Slot.{Slot as ASlot};
 
 use crate::slot::Slot;
@@ -35,4 +36,30 @@ pub fn item_of(slots: &Slab<Slot>, place: u64) -> &Item
         unreachable!();
     };
     &slot.item
+}
+
+/// The least place of a slot that isn't below this one.
+pub fn next_place(slots: &Slab<Slot>, from: u64) -> Option<u64>
+    ensures { IsNearest slots.now slots.now.capacity from result }
+{
+    let mut least = None;
+    for key in 0..slots.capacity() {
+        if let Some(slot) = slots.get(key) {
+            least = nearer(least, from, slot.place);
+        }
+    }
+    least
+}
+
+// Of one place so far and another, the lesser that isn't below the first.
+fn nearer(least: Option<u64>, from: u64, place: u64) -> Option<u64>
+    ensures { result ≡ nearer least from place }
+{
+    if place < from {
+        return least;
+    }
+    match least {
+        Some(least) => Some(least.min(place)),
+        None => Some(place),
+    }
 }

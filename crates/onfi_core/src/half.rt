@@ -31,6 +31,7 @@ use std::alloc::{AllocError, Global};
 use std::marker::Model;
 
 mod phase;
+mod unanswered;
 
 /// At most this many accepted items have no posted reply.
 const WINDOW: usize = 64;

@@ -1,11 +1,11 @@
-ghost use Rattle.std.specs.Prelude.{◌≡◌, length};
+ghost use Rattle.std.specs.Prelude.{◌≡◌, length, None, IfOk};
 
-use crate::{DueRefusal, Half, PlanRefusal, Setup, SetupFault};
+use crate::{AcceptFault, Cause, DueRefusal, Half, PlanRefusal, Ran, Setup, SetupFault};
 use onfi_addr::{Geometry, Place};
 use onfi_group::Rules;
 use onfi_param::{crc16, read_page};
 use onfi_problem::LunState;
-use onfi_request::{Bytes, Item, Request, check};
+use onfi_request::{Answer, Bytes, Item, Request, check};
 use onfi_timing::{Kind, Spans, Timing};
 use std::alloc::{AllocError, Global};
 use std::process::Abort;
@@ -180,5 +180,128 @@ fn the_first_command_is_due(rt: HostRuntime) -> Result<(), AllocError> {
         }
         Err(_) => assert!(rt; false),
     }
+    Ok(())
+}
+
+// The command that is due was taken; its start, and the host of its member.
+fn command_done(rt: &impl Abort, alloc: Global, half: &mut Half) -> (u64, u8)
+    requires { half.old.lent ≡ None }
+    ensures { half.new.lent ≡ None }
+{
+    let due = half.due(alloc).expect(rt, "a phase is due");
+    let start = due.start;
+    let host = half.member(&due).host;
+    assert!(rt; usize::from(due.phase) < due.group.len());
+    half.done(due, Ran::Command, &());
+    (start, host)
+}
+
+// The post that is due gave this answer; its start, and the host of its member.
+fn post_done(rt: &impl Abort, alloc: Global, half: &mut Half, answer: Answer) -> (u64, u8)
+    requires { half.old.lent ≡ None }
+    ensures { half.new.lent ≡ None }
+{
+    let due = half.due(alloc).expect(rt, "a phase is due");
+    let start = due.start;
+    let host = half.member(&due).host;
+    assert!(rt; due.group.len() <= usize::from(due.phase));
+    half.done(due, Ran::Post(answer), &());
+    (start, host)
+}
+
+// The oldest reply held for the host came back: its host, serial and place.
+fn kept(rt: &impl Abort, half: &mut Half, host: u8) -> (u8, u32, u64)
+    requires { half.old.lent ≡ None }
+    ensures { half.new.lent ≡ None }
+{
+    let reply = half.held(host).expect(rt, "a reply is held");
+    let names = (reply.host, reply.serial, reply.place);
+    half.keep(reply);
+    names
+}
+
+// The oldest reply held for the host was posted: its place, and whether it told a failure.
+fn posted(rt: &impl Abort, half: &mut Half, host: u8) -> (u64, bool)
+    requires { half.old.lent ≡ None }
+    ensures { half.new.lent ≡ None }
+{
+    let reply = half.held(host).expect(rt, "a reply is held");
+    assert_eq!(rt; reply.host, host);
+    let told = (reply.place, matches!(&reply.answer, Answer::Failed));
+    half.posted(host);
+    told
+}
+
+// Two programs of LUN 0 on two planes, of hosts 2 and 1, are planned as one group.
+fn two_programs(rt: &impl Abort, alloc: Global) -> Result<Half, AllocError>
+    ensures { IfOk result (λ half. half.lent ≡ None) }
+{
+    let geometry = sample_geometry(rt);
+    let rules = Rules::new(true, true, false, 1);
+    let setup = Setup::new(geometry, sample_timing(rt), rules, 1, 4, 8, 1, 1, 1_000).expect(
+        rt, "in range",
+    );
+    let mut half = Half::open(alloc, setup)?;
+    let request = program(alloc, &geometry, 0)?;
+    assert!(rt; check(&geometry, &request).is_ok());
+    assert!(rt; half.refuses().is_none());
+    half.accept(Item {
+        host: 2,
+        serial: 0,
+        request,
+    });
+    let request = program(alloc, &geometry, 1)?;
+    assert!(rt; check(&geometry, &request).is_ok());
+    assert!(rt; half.refuses().is_none());
+    half.accept(Item {
+        host: 1,
+        serial: 0,
+        request,
+    });
+    assert!(rt; half.plan(alloc) == Ok(222_860));
+    Ok(half)
+}
+
+#[test]
+fn a_reply_is_kept_and_posted(rt: HostRuntime) -> Result<(), AllocError> {
+    let alloc = rt.alloc();
+    let mut half = two_programs(&rt, alloc)?;
+    assert_eq!(rt; command_done(&rt, alloc, &mut half), (0, 2));
+    assert_eq!(rt; command_done(&rt, alloc, &mut half), (11_400, 1));
+    assert_eq!(rt;
+        post_done(&rt, alloc, &mut half, Answer::Done),
+        (222_300, 2)
+    );
+    let both = half.unanswered(alloc)?;
+    assert_eq!(rt; both.as_slice(), [(2, 0), (1, 0)].as_slice());
+    assert_eq!(rt; kept(&rt, &mut half, 2), (2, 0, 0));
+    assert_eq!(rt; posted(&rt, &mut half, 2), (0, false));
+    let one = half.unanswered(alloc)?;
+    assert_eq!(rt; one.as_slice(), [(1, 0)].as_slice());
+    let end = post_done(&rt, alloc, &mut half, Answer::Failed);
+    assert_eq!(rt; end, (222_580, 1));
+    assert_eq!(rt; posted(&rt, &mut half, 1), (1, true));
+    assert!(rt; half.unanswered(alloc)?.is_empty());
+    Ok(())
+}
+
+#[test]
+fn a_stopped_channel_stays_stopped(rt: HostRuntime) -> Result<(), AllocError> {
+    let alloc = rt.alloc();
+    let geometry = sample_geometry(&rt);
+    let rules = Rules::new(true, true, false, 1);
+    let setup = Setup::new(geometry, sample_timing(&rt), rules, 1, 4, 8, 1, 1, 1_000).expect(
+        &rt, "in range",
+    );
+    let mut half = Half::open(alloc, setup)?;
+    half.stop(Cause::NotReady(1));
+    assert!(rt; half.refuses() == Some(AcceptFault::Stopped(Cause::NotReady(1))));
+    assert!(rt; half.plan(alloc) == Err(PlanRefusal::Stopped(Cause::NotReady(1))));
+    assert!(rt;
+        matches!(
+            half.due(alloc),
+            Err(DueRefusal::Stopped(Cause::NotReady(1)))
+        )
+    );
     Ok(())
 }
