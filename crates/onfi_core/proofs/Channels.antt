@@ -14,12 +14,12 @@ use Rattle.onfi_core.proofs.Opening.{opened}
 use Rattle.onfi_core.proofs.Promise.{promise}
 use Rattle.onfi_core.proofs.Reach.{step_kept}
 
-All-at : {A : Type 0} (P : A → Type 0) (xs : List A) (i : ℕ) (x : A) → All P xs → slice_get xs i ≡ Some x → P x
+pub All-at : {A : Type 0} (P : A → Type 0) (xs : List A) (i : ℕ) (x : A) → All P xs → slice_get xs i ≡ Some x → P x
 All-at P [] i x h e = cc
 All-at P (y ∷ xs) zero x h e = let q : y ≡ x = cc in subst P q h.0
 All-at P (y ∷ xs) (suc i) x h e = All-at P xs i x h.1 e
 
-All-set : {A : Type 0} (P : A → Type 0) (xs : List A) (i : ℕ) (x : A) → All P xs → P x → All P (slice_set xs i x)
+pub All-set : {A : Type 0} (P : A → Type 0) (xs : List A) (i : ℕ) (x : A) → All P xs → P x → All P (slice_set xs i x)
 All-set P [] i x h p = tt
 All-set P (y ∷ xs) zero x h p = (p, h.1)
 All-set P (y ∷ xs) (suc i) x h p = (h.0, All-set P xs i x h.1 p)
@@ -27,7 +27,7 @@ All-set P (y ∷ xs) (suc i) x h p = (h.0, All-set P xs i x h.1 p)
 pub sound_batch : (s : Setup) (batch : ℕ) (h : HalfState) → 1 ≤ batch → batch ≤ 8 → IsSound s h → IsSound s (record h { batch = batch })
 sound_batch s batch h some few r = record { planned = r.planned; some_batch = some; few_batch = few; timing = r.timing; rules = r.rules; problem = r.problem; few = r.few; luns = r.luns; legal = r.legal; in_range = r.in_range; wants = r.wants; running = r.running; once = r.once; last = r.last }
 
-batch_kept : (s : Setup) (batch : ℕ) (c : ChannelState) → 1 ≤ batch → batch ≤ 8 → IsReached s c → IsReached s (with_batch batch c)
+pub batch_kept : (s : Setup) (batch : ℕ) (c : ChannelState) → 1 ≤ batch → batch ≤ 8 → IsReached s c → IsReached s (with_batch batch c)
 batch_kept s batch c some few r = record {
   half = record { sound = sound_batch s batch c.half some few r.half.sound; held = r.half.held; posted = r.half.posted; made = r.half.made };
   chip = λ going. (let g = r.chip going in record { geometry = g.geometry; timing = g.timing; blocks = λ l b. (let o = g.blocks l b in record { ran = o.ran; contents = o.contents; order = o.order }); luns = g.luns });

@@ -1,7 +1,7 @@
 -- What a phase that is done leaves of a half.
-use Rattle.std.proofs.Common.{◌≡◌, ℕ, zero, suc, ◌+◌, ◌*◌, ◌-◌, ◌<◌, ◌≤◌, ◌⊎◌, inl, inr, Bool, true, List, [], ◌∷◌, ◌++◌, length, Some, None, Option, drop, refl, sym, ap, ◌∙◌, subst, append-nil, length-append, arith}
+use Rattle.std.proofs.Common.{◌≡◌, ℕ, zero, suc, ◌+◌, ◌*◌, ◌-◌, ◌<◌, ◌≤◌, ◌⊎◌, inl, inr, true, List, [], ◌∷◌, ◌++◌, length, Some, None, Option, drop, refl, sym, ap, ◌∙◌, subst, append-nil, length-append, arith}
 use Rattle.std.specs.Prelude.{slice_get, slice_index_or, slice_set, nat_lt, ◌==◌, if◌then◌else◌}
-use Rattle.std.specs.List.{AllByRecursion as All, flat_map}
+use Rattle.std.specs.List.{flat_map}
 use Rattle.std.proofs.lemmas.Bool.{lt-ltb, le-ltb, cases_lt}
 use Rattle.std.proofs.lemmas.Bool.Decides.{nat_tests}
 use Rattle.onfi_timing.specs.Phases.{phase_length}
@@ -23,13 +23,12 @@ use Rattle.onfi_schedule.specs.Schedule.{Placed, Schedule, Legal}
 use Rattle.onfi_schedule.proofs.Following.{first_move_law}
 use Rattle.slab.specs.Slab.{Slab}
 use Rattle.onfi_core.specs.declared.due.Due.{Due}
-use Rattle.onfi_core.specs.declared.lent.Lent.{Lent}
 use Rattle.onfi_core.specs.declared.ran.Ran.{Ran}
 use Rattle.onfi_core.specs.declared.ran.Ran.TheVariants as ran
 use Rattle.onfi_core.specs.declared.setup.Setup.{Setup}
 use Rattle.onfi_core.specs.declared.slot.Slot.{Slot}
 use Rattle.onfi_core.specs.Dues.{IsDue, IsRan, after_due, groups_left, member_of, replies_of}
-use Rattle.onfi_core.specs.Kept.{IsSound, is_of_place, unposted}
+use Rattle.onfi_core.specs.Kept.{IsSound, unposted}
 use Rattle.onfi_core.specs.State.{HalfState, item_at, no_item}
 use Rattle.onfi_core.specs.Steps.{IsPhase, half_after_phase, reply_to}
 use Rattle.onfi_core.specs.View.{AreFields, AreSlots, HasSlot}

@@ -1,11 +1,10 @@
 -- The due phase may run on a chip that agrees with the half, and what ran is the phase.
-use Rattle.std.proofs.Common.{◌≡◌, ◌≢◌, ℕ, zero, suc, ◌+◌, ◌*◌, ◌-◌, ◌<◌, ◌≤◌, ◌⊎◌, inl, inr, true, false, List, [], ◌∷◌, ◌++◌, length, Some, None, map, take, drop, refl, sym, ap, ◌∙◌, subst, arith}
-use Rattle.std.specs.Prelude.{slice_get, All as Every, nat_lt, ◌==◌, if◌then◌else◌, max}
+use Rattle.std.proofs.Common.{◌≡◌, ◌≢◌, ℕ, zero, suc, ◌+◌, ◌-◌, ◌<◌, ◌≤◌, ◌⊎◌, inl, inr, true, false, List, [], ◌∷◌, length, Some, map, take, drop, refl, sym, ap, ◌∙◌, subst, arith}
+use Rattle.std.specs.Prelude.{slice_get, nat_lt, ◌==◌, if◌then◌else◌, max}
 use Rattle.std.specs.List.{AllByRecursion as All}
 use Rattle.std.proofs.lemmas.Bool.{lt-ltb, le-ltb, eq-eqb, ne_eqb, cases_lt}
 use Rattle.std.proofs.lemmas.List.Elements.{All-from_recursion}
 use Rattle.onfi_addr.specs.declared.geometry.Geometry.{Geometry}
-use Rattle.onfi_addr.specs.declared.place.Place.{Place}
 use Rattle.onfi_addr.specs.Rows.{IsInRange, row_of, plane_of_block}
 use Rattle.onfi_timing.specs.declared.kind.Kind.{Kind}
 use Rattle.onfi_timing.specs.declared.kind.Kind.TheVariants as kind
@@ -16,15 +15,12 @@ use Rattle.onfi_request.specs.declared.want.Want.{Want}
 use Rattle.onfi_group.specs.Group.{IsGroup, kind_of, lun_of, page_of}
 use Rattle.onfi_group.specs.Words.{Has, Pairs}
 use Rattle.onfi_problem.specs.Moves.{Move, Next, Start, IsMove, earliest}
-use Rattle.onfi_problem.specs.declared.lun_state.LunState.TheVariants.{Free, Running}
+use Rattle.onfi_problem.specs.declared.lun_state.LunState.TheVariants.{Running}
 use Rattle.onfi_problem.proofs.Perm.{All-has}
-use Rattle.onfi_schedule.specs.Laws.{IsFirstMove}
-use Rattle.onfi_schedule.specs.Schedule.{Schedule}
 use Rattle.onfi_schedule.proofs.Following.{first_move_law}
-use Rattle.onfi_chip.specs.declared.closer.Closer.TheVariants as closer
 use Rattle.onfi_chip.specs.declared.post.Post.{Post}
 use Rattle.onfi_chip.specs.Calls.{HasDone, IsNextCommand, IsNextPost, MayJoin, MayTake, command_of}
-use Rattle.onfi_chip.specs.Chip.{Chip, commanded, launched, posted}
+use Rattle.onfi_chip.specs.Chip.{Chip, commanded, launched}
 use Rattle.onfi_chip.specs.Chip.Lun.{Idle, Commanding, Posting}
 use Rattle.onfi_chip.proofs.SimCalls.{in_range}
 use Rattle.onfi_core.specs.declared.due.Due.{Due}
@@ -35,7 +31,7 @@ use Rattle.onfi_core.specs.Drive.{MayRun, HasRun, closer_of}
 use Rattle.onfi_core.specs.Dues.{IsDue, IsRan, member_of, replies_of}
 use Rattle.onfi_core.specs.Kept.{IsSound, IsTaken, ChipAgrees, LunAgrees, post_for}
 use Rattle.onfi_core.specs.State.{HalfState, device_for, item_at, request_of}
-use Rattle.onfi_core.specs.Steps.{IsPhase, RunsOnChip, Commands, Launches, Posts}
+use Rattle.onfi_core.specs.Steps.{IsPhase, RunsOnChip, Commands, Launches}
 use Rattle.onfi_core.proofs.Going.{going_start}
 use Rattle.onfi_core.proofs.Lists.{drop_next, get_has}
 use Rattle.onfi_core.proofs.Members.{item_of, place_lun, place_kind, place_page}

@@ -27,3 +27,7 @@ pub mod Done
 pub mod Driving
 pub mod Told
 pub mod Nearest
+pub mod Refused
+pub mod Queueing
+pub mod Running
+pub mod Cores

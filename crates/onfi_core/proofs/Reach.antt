@@ -32,7 +32,7 @@ pub none_second : (x y : Option Outcome) → or_else x y ≡ None → y ≡ None
 none_second None y h = h
 none_second (Some o) y h = cc
 
-not_stopped : (o : Option Cause) → if_stopped o ≡ None → o ≡ None
+pub not_stopped : (o : Option Cause) → if_stopped o ≡ None → o ≡ None
 not_stopped None h = refl
 not_stopped (Some cause) h = cc
 

@@ -8,3 +8,4 @@ pub mod Refusals
 pub mod Dues
 pub mod Drive
 pub mod Unanswered
+pub mod Queues

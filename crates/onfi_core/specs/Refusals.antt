@@ -1,4 +1,7 @@
 -- The refusals of a half's calls, as outcomes.
+use Rattle.std.specs.Prelude.{ℕ, None, Result, Ok, Err}
+use Rattle.onfi_core.specs.declared.half.PlanRefusal.{PlanRefusal}
+use Rattle.onfi_core.specs.declared.half.PlanRefusal.TheVariants as refused
 use Rattle.onfi_core.specs.declared.outcome.Outcome.{Outcome}
 use Rattle.onfi_core.specs.declared.outcome.Outcome.TheVariants as outcome
 use Rattle.onfi_core.specs.declared.half.AcceptFault.{AcceptFault}
@@ -7,3 +10,14 @@ use Rattle.onfi_core.specs.declared.half.AcceptFault.TheVariants.{Stopped, Windo
 abbrev pub fault_outcome : AcceptFault → Outcome
 fault_outcome (Stopped cause) = outcome.Stopped cause
 fault_outcome WindowFull = outcome.WindowFull
+
+abbrev pub refusal_outcome : PlanRefusal → Outcome
+refusal_outcome (refused.Stopped cause) = outcome.Stopped cause
+refusal_outcome refused.NothingToPlan = outcome.NothingToPlan
+refusal_outcome (refused.Over opened) = outcome.Over opened
+refusal_outcome refused.Memory = outcome.Memory None
+
+-- what a planning came to
+abbrev pub planned_outcome : Result ℕ PlanRefusal → Outcome
+planned_outcome (Ok finish) = outcome.Planned finish
+planned_outcome (Err refusal) = refusal_outcome refusal

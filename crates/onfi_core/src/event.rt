@@ -1,3 +1,6 @@
+ghost use Rattle.std.specs.Prelude.{◌≡◌};
+ghost use Rattle.onfi_core.specs.Core.{channel_of, request_in};
+
 use onfi_request::Request;
 
 /// One atomic step of a core. Channels and hosts are numbered from 0.
@@ -31,4 +34,30 @@ pub enum Event {
         channel: u8,
         host: u8,
     },
+}
+
+impl Event {
+    /// The channel that it changes.
+    pub(crate) fn channel(&self) -> u8
+        ensures { result ≡ channel_of self.now }
+    {
+        match self {
+            Event::Submit { channel, .. }
+            | Event::Accept { channel }
+            | Event::Plan { channel }
+            | Event::Bus { channel }
+            | Event::Post { channel, .. }
+            | Event::Collect { channel, .. } => *channel,
+        }
+    }
+
+    /// The request that it hands back where it is refused.
+    pub(crate) fn into_request(self) -> Option<Request>
+        ensures { result ≡ request_in self }
+    {
+        match self {
+            Event::Submit { request, .. } => Some(request),
+            _ => None,
+        }
+    }
 }

@@ -154,6 +154,13 @@ impl Half {
         })
     }
 
+    /// What it was opened with.
+    pub(crate) fn setup(&self) -> Setup
+        ensures { result ≡ self.now.setup }
+    {
+        self.setup
+    }
+
     /// Why no item is accepted, if so: told before the intake's queue is popped.
     pub fn refuses(&self) -> Option<AcceptFault>
         requires settled { self.now.lent ≡ None }

@@ -3,14 +3,17 @@
 #![tactic(auto)]
 
 mod batch;
+mod channel;
 mod drive;
 mod due;
 mod event;
 mod finding;
 mod half;
 mod history;
+mod host_queue;
 mod laws;
 mod lent;
+mod machine;
 mod oldest;
 mod outcome;
 mod planning;
@@ -18,6 +21,7 @@ mod ran;
 mod setup;
 mod slot;
 mod starting;
+mod traffic;
 mod wants;
 
 pub use due::Due;
@@ -26,6 +30,7 @@ pub use half::{AcceptFault, DueRefusal, Half, PlanRefusal};
 pub use laws::{
     headline, opened_is_reached, posted_in_order, reached_keeps, run_keeps, step_keeps,
 };
+pub use machine::{Core, CoreFault};
 pub use outcome::{Cause, Outcome};
 pub use ran::Ran;
 pub use setup::{Setup, SetupFault};

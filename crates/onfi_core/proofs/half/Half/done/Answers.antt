@@ -1,6 +1,6 @@
 use Rattle.std.proofs.Common.{◌≡◌, ◌++◌, length, None, sym, ap, ◌∙◌, subst, arith}
 use Rattle.std.specs.Prelude.{slice_set}
-use Rattle.onfi_core.specs.View.{HalfView, AreFields}
+use Rattle.onfi_core.specs.View.{HalfView}
 use Rattle.onfi_core.proofs.Becoming.{due_inside}
 use Rattle.onfi_core.proofs.Done.{goes, lun_there, makes_of, member_here, room_for, fields_done}
 use Rattle.onfi_core.proofs.Lending.{settled_is}

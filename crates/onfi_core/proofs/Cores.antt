@@ -1,0 +1,199 @@
+-- The channels of a core from event to event.
+use Rattle.std.proofs.Common.{◌≡◌, ℕ, zero, suc, ◌<◌, ◌≤◌, inl, inr, true, false, List, [], ◌∷◌, ◌++◌, length, Some, None, map, refl, sym, ap, ◌∙◌, subst, append_assoc, append-nil, arith}
+use Rattle.std.proofs.lemmas.Bool.{false≢true}
+use Rattle.std.specs.Prelude.{IfSome, slice_get, slice_set}
+use Rattle.std.specs.List.{AllByRecursion as All}
+use Rattle.onfi_problem.proofs.Places.{length_set}
+use Rattle.onfi_problem.proofs.Perm.{All-append, All-weaker}
+use Rattle.onfi_problem.specs.Problem.{has_id}
+use Rattle.onfi_group.specs.Words.{number}
+use Rattle.onfi_die.specs.Rightful.{AreRightful}
+use Rattle.onfi_die.specs.Order.{IsBeginning}
+use Rattle.onfi_core.specs.declared.event.Event.{Event}
+use Rattle.onfi_core.specs.declared.outcome.Outcome.{Outcome}
+use Rattle.onfi_core.specs.declared.outcome.Outcome.TheVariants as outcome
+use Rattle.onfi_core.specs.declared.setup.Setup.{Setup}
+use Rattle.onfi_core.specs.Core.{CoreRun, CoreStep, Did, channel_of, request_in, with_batch}
+use Rattle.onfi_core.specs.Core.Doing.{SetsBatch}
+use Rattle.onfi_core.specs.Kept.{IsReached, KeepsPromise, SerialsFrom, times}
+use Rattle.onfi_chip.specs.Chip.{Chip}
+use Rattle.onfi_core.specs.Queues.{ChannelView, AreChannels, AreOpened, opened_with, state_in}
+use Rattle.onfi_core.specs.State.{ChannelState, collected_by, device_for, posted_to, sent_by, wants_from}
+use Rattle.onfi_core.specs.Steps.{IsPlanned, Step}
+use Rattle.onfi_core.proofs.Channels.{All-at, All-set, run_keeps}
+use Rattle.onfi_core.proofs.Lists.{head_same, tail_same}
+use Rattle.onfi_core.proofs.Opening.{opened}
+use Rattle.onfi_core.proofs.Promise.{promise}
+use Rattle.onfi_core.proofs.Reach.{step_kept}
+
+get_map : {A B : Type 0} (f : A → B) (xs : List A) (i : ℕ) (x : A) → slice_get xs i ≡ Some x → slice_get (map f xs) i ≡ Some (f x)
+get_map f [] i x h = cc
+get_map f (y ∷ xs) zero x h = let e : y ≡ x = cc in ap (λ z. Some (f z)) e
+get_map f (y ∷ xs) (suc i) x h = get_map f xs i x h
+
+map_set : {A B : Type 0} (f : A → B) (xs : List A) (i : ℕ) (x : A) → map f (slice_set xs i x) ≡ slice_set (map f xs) i (f x)
+map_set f [] i x = refl
+map_set f (y ∷ xs) zero x = refl
+map_set f (y ∷ xs) (suc i) x = ap (λ zs. f y ∷ zs) (map_set f xs i x)
+
+length_map : {A B : Type 0} (f : A → B) (xs : List A) → length (map f xs) ≡ length xs
+length_map f [] = refl
+length_map f (x ∷ xs) = ap suc (length_map f xs)
+
+get_none : {A : Type 0} (xs : List A) (i : ℕ) → length xs ≤ i → slice_get xs i ≡ None
+get_none [] i h = refl
+get_none (x ∷ xs) zero h = absurd (omega arith)
+get_none (x ∷ xs) (suc i) h = get_none xs i (omega arith)
+
+module _ {C : Type 0} (state : C → Chip) where
+  abbrev states : List (ChannelView C) → List ChannelState
+  states views = map (state_in state) views
+
+  -- an event of a channel that isn't there
+  pub no_channel : (s : Setup) (views : List (ChannelView C)) (e : Event) (o : Outcome) → length views ≤ channel_of e → o ≡ outcome.NoSuch (request_in e) → CoreStep s (states views) e o (states views)
+  no_channel s views e o h is = inl (get_none (states views) (channel_of e) (let l = length_map (state_in state) views in omega arith), is, refl)
+
+  -- an event changes its channel
+  pub channel_steps : (s : Setup) (views : List (ChannelView C)) (e : Event) (o : Outcome) (at : ℕ) (v v' : ChannelView C) → at ≡ channel_of e → slice_get views at ≡ Some v → v.0.setup ≡ s → Step v.0.setup (state_in state v) e o (state_in state v') → CoreStep s (states views) e o (states (slice_set views at v'))
+  channel_steps s views e o at v v' is there same step =
+      let there' : slice_get views (channel_of e) ≡ Some v = subst (λ i. slice_get views i ≡ Some v) is there in
+      inr (
+        state_in state v,
+        state_in state v',
+        get_map (state_in state) views (channel_of e) v there',
+        subst (λ (x : Setup). Step x (state_in state v) e o (state_in state v')) same step,
+        ap (λ i. states (slice_set views i v')) is ∙ map_set (state_in state) views (channel_of e) v',
+      )
+
+  -- the channels stay those of the setup, and reached
+  pub channels_kept : (s : Setup) (views : List (ChannelView C)) (at : ℕ) (v v' : ChannelView C) → AreChannels state s views → slice_get views at ≡ Some v → v'.0.setup ≡ v.0.setup → IsReached s (state_in state v') → AreChannels state s (slice_set views at v')
+  channels_kept s views at v v' a there same reached = record {
+    count = length_set views at v' ∙ a.count;
+    each = All-set (λ (x : ChannelView C). (x.0.setup ≡ s) × IsReached s (state_in state x)) views at v' a.each (same ∙ (All-at (λ (x : ChannelView C). (x.0.setup ≡ s) × IsReached s (state_in state x)) views at v a.each there).0, reached);
+  }
+
+  pub setup_at : (s : Setup) (views : List (ChannelView C)) (at : ℕ) (v : ChannelView C) → AreChannels state s views → slice_get views at ≡ Some v → v.0.setup ≡ s
+  setup_at s views at v a there = (All-at (λ (x : ChannelView C). (x.0.setup ≡ s) × IsReached s (state_in state x)) views at v a.each there).0
+
+  pub reached_at : (s : Setup) (views : List (ChannelView C)) (at : ℕ) (v : ChannelView C) → AreChannels state s views → slice_get views at ≡ Some v → IsReached s (state_in state v)
+  reached_at s views at v a there = (All-at (λ (x : ChannelView C). (x.0.setup ≡ s) × IsReached s (state_in state x)) views at v a.each there).1
+
+  pub reached_behind : (s : Setup) (views : List (ChannelView C)) (at : ℕ) (v v' : ChannelView C) (e : Event) (o : Outcome) → AreChannels state s views → slice_get views at ≡ Some v → Step v.0.setup (state_in state v) e o (state_in state v') → IsReached s (state_in state v')
+  reached_behind s views at v v' e o a there step = step_kept s (state_in state v) e o (state_in state v') (reached_at s views at v a there) (subst (λ (x : Setup). Step x (state_in state v) e o (state_in state v')) (setup_at s views at v a there) step)
+
+  -- the batch of a channel is set
+  pub batch_set : (s : Setup) (views : List (ChannelView C)) (at batch : ℕ) (v v' : ChannelView C) → 1 ≤ batch → batch ≤ 8 → slice_get views at ≡ Some v → state_in state v' ≡ with_batch batch (state_in state v) → Did s (states views) (SetsBatch at batch) (states (slice_set views at v'))
+  batch_set s views at batch v v' some few there is =
+      (some, few, state_in state v, get_map (state_in state) views at v there, map_set (state_in state) views at v' ∙ ap (slice_set (states views) at) is)
+
+-- so far these events happened, and those are left
+pub record Halfway (s : Setup) (cs : List ChannelState) (events left : List Event) (outcomes : List Outcome) (now : List ChannelState) : Type 0 where
+  pub done : List Event
+  pub parts : events ≡ done ++ left
+  pub run : CoreRun s cs done outcomes now
+
+-- one event more
+pub run_more : (s : Setup) (cs : List ChannelState) (es : List Event) (os : List Outcome) (mid cs' : List ChannelState) (e : Event) (o : Outcome) → CoreRun s cs es os mid → CoreStep s mid e o cs' → CoreRun s cs (es ++ e ∷ []) (os ++ o ∷ []) cs'
+run_more s cs [] [] mid cs' e o run step = (cs', subst (λ (x : List ChannelState). CoreStep s x e o cs') run step, refl)
+run_more s cs [] (p ∷ os) mid cs' e o run step = absurd run
+run_more s cs (d ∷ es) [] mid cs' e o run step = absurd run
+run_more s cs (d ∷ es) (p ∷ os) mid cs' e o (first, one, rest) step = (first, one, run_more s first es os mid cs' e o rest step)
+
+All-map : {A B : Type 0} (P : B → Type 0) (f : A → B) (xs : List A) → All (λ x. P (f x)) xs → All P (map f xs)
+All-map P f [] h = tt
+All-map P f (x ∷ xs) h = (h.0, All-map P f xs h.1)
+
+pub all_reached : {C : Type 0} (state : C → Chip) (s : Setup) (views : List (ChannelView C)) → AreChannels state s views → All (IsReached s) (map (state_in state) views)
+all_reached {C} state s views a = All-map (IsReached s) (state_in state) views (All-weaker (λ (v : ChannelView C). (v.0.setup ≡ s) × IsReached s (state_in state v)) (λ (v : ChannelView C). IsReached s (state_in state v)) (λ v h. h.1) views a.each)
+
+pub all_promised : (s : Setup) (cs : List ChannelState) → All (IsReached s) cs → All (KeepsPromise s) cs
+all_promised s cs h = All-weaker (IsReached s) (KeepsPromise s) (λ c r. promise s c r) cs h
+
+pub halfway_more : (s : Setup) (cs : List ChannelState) (events left left' : List Event) (outcomes : List Outcome) (mid now : List ChannelState) (e : Event) (o : Outcome) → Halfway s cs events left outcomes mid → left ≡ e ∷ left' → CoreStep s mid e o now → Halfway s cs events left' (outcomes ++ o ∷ []) now
+halfway_more s cs events left left' outcomes mid now e o h is step = record {
+  done = h.done ++ e ∷ [];
+  parts = h.parts ∙ ap (λ es. h.done ++ es) is ∙ sym (append_assoc h.done (e ∷ []) left');
+  run = run_more s cs h.done outcomes mid now e o h.run step;
+}
+
+pub halfway_end : (s : Setup) (cs : List ChannelState) (events left : List Event) (outcomes : List Outcome) (now : List ChannelState) → Halfway s cs events left outcomes now → left ≡ [] → CoreRun s cs events outcomes now
+halfway_end s cs events left outcomes now h none = let P : List Event → Type 0 = λ es. CoreRun s cs es outcomes now in subst P (sym (h.parts ∙ ap (λ es. h.done ++ es) none ∙ append-nil h.done)) h.run
+
+-- so far those chips have their channels, and these are left
+pub record OpenedSoFar {C : Type 0} (state : C → Chip) (s : Setup) (chips left : List C) (views : List (ChannelView C)) : Type 0 where
+  pub done : List C
+  pub parts : chips ≡ done ++ left
+  pub are : AreOpened state s done views
+
+map_append : {A B : Type 0} (f : A → B) (xs ys : List A) → map f (xs ++ ys) ≡ map f xs ++ map f ys
+map_append f [] ys = refl
+map_append f (x ∷ xs) ys = ap (λ zs. f x ∷ zs) (map_append f xs ys)
+
+-- one chip more
+pub opened_more : {C : Type 0} (state : C → Chip) (s : Setup) (chips left left' : List C) (views : List (ChannelView C)) (chip : C) (v : ChannelView C) → OpenedSoFar state s chips left views → left ≡ chip ∷ left' → v.0.setup ≡ s → state_in state v ≡ opened_with s (state chip) → OpenedSoFar state s chips left' (views ++ v ∷ [])
+opened_more {C} state s chips left left' views chip v h is setup same = record {
+  done = h.done ++ chip ∷ [];
+  parts = h.parts ∙ ap (λ cs. h.done ++ cs) is ∙ sym (append_assoc h.done (chip ∷ []) left');
+  are = record {
+    setups = All-append (λ (x : ChannelView C). x.0.setup ≡ s) views (v ∷ []) h.are.setups (setup, tt);
+    states = map_append (state_in state) views (v ∷ []) ∙ ap (λ cs. map (state_in state) views ++ cs ∷ []) same ∙ ap (λ cs. cs ++ opened_with s (state chip) ∷ []) h.are.states ∙ sym (map_append (λ x. opened_with s (state x)) h.done (chip ∷ []));
+  };
+}
+
+pub opened_all : {C : Type 0} (state : C → Chip) (s : Setup) (chips left : List C) (views : List (ChannelView C)) → OpenedSoFar state s chips left views → left ≡ [] → AreOpened state s chips views
+opened_all {C} state s chips left views h none = let P : List C → Type 0 = λ cs. AreOpened state s cs views in subst P (sym (h.parts ∙ ap (λ cs. h.done ++ cs) none ∙ append-nil h.done)) h.are
+
+paired : {A B D : Type 0} (f : A → D) (k : B → D) (P : D → Type 0) → ((b : B) → P (k b)) → (xs : List A) (ys : List B) → map f xs ≡ map k ys → All (λ x. P (f x)) xs
+paired f k P h [] ys e = tt
+paired f k P h (x ∷ xs) [] e = cc
+paired f k P h (x ∷ xs) (y ∷ ys) e = (subst P (sym (head_same (f x) (k y) (map f xs) (map k ys) e)) (h y), paired f k P h xs ys (tail_same (f x) (k y) (map f xs) (map k ys) e))
+
+All-both : {A : Type 0} (P Q : A → Type 0) (xs : List A) → All P xs → All Q xs → All (λ x. P x × Q x) xs
+All-both P Q [] p q = tt
+All-both P Q (x ∷ xs) p q = ((p.0, q.0), All-both P Q xs p.1 q.1)
+
+same_length : {A B D : Type 0} (f : A → D) (k : B → D) (xs : List A) (ys : List B) → map f xs ≡ map k ys → length xs ≡ length ys
+same_length f k xs ys e = sym (length_map f xs) ∙ ap length e ∙ length_map k ys
+
+opened_reached : (s : Setup) (chip : Chip) → IsReached s (opened_with s chip)
+opened_reached s chip = opened s chip.faults chip.failures
+
+pub channels_opened : {C : Type 0} (state : C → Chip) (s : Setup) (chips : List C) (views : List (ChannelView C)) → AreOpened state s chips views → length chips ≡ s.channels → AreChannels state s views
+channels_opened {C} state s chips views a count = record {
+  count = same_length (state_in state) (λ x. opened_with s (state x)) views chips a.states ∙ count;
+  each = All-both (λ (v : ChannelView C). v.0.setup ≡ s) (λ (v : ChannelView C). IsReached s (state_in state v)) views a.setups (paired (state_in state) (λ x. opened_with s (state x)) (IsReached s) (λ x. opened_reached s (state x)) views chips a.states);
+}
+
+pub none_left : {A : Type 0} (n : ℕ) (xs : List A) → (0 < n → false ≡ true) → n ≡ length xs → xs ≡ []
+none_left n [] h e = refl
+none_left n (x ∷ xs) h e = absurd (false≢true (h (omega arith)))
+
+-- The promise of each channel, clause by clause
+
+module _ (s : Setup) (cs : List ChannelState) (reached : All (IsReached s) cs) where
+  each_promise : (P : ChannelState → Type 0) → ((c : ChannelState) → KeepsPromise s c → P c) → All P cs
+  each_promise P f = All-weaker (KeepsPromise s) P f cs (all_promised s cs reached)
+
+  pub all_rightful : All (λ c. AreRightful (device_for s c.chip) c.half.accepted c.half.posted) cs
+  all_rightful = each_promise (λ c. AreRightful (device_for s c.chip) c.half.accepted c.half.posted) (λ c k. k.rightful)
+
+  pub all_sent : All (λ c. c.sent ≡ c.half.accepted ++ c.waiting) cs
+  all_sent = each_promise (λ c. c.sent ≡ c.half.accepted ++ c.waiting) (λ c k. k.sent)
+
+  pub all_serials : All (λ c. (host : ℕ) → SerialsFrom 0 (sent_by host c)) cs
+  all_serials = each_promise (λ c. (host : ℕ) → SerialsFrom 0 (sent_by host c)) (λ c k. k.serials)
+
+  pub all_collected : All (λ c. (host : ℕ) → IsBeginning (collected_by host c) (posted_to host c)) cs
+  all_collected = each_promise (λ c. (host : ℕ) → IsBeginning (collected_by host c) (posted_to host c)) (λ c k. k.collected)
+
+  pub all_once : All (λ c. (place : ℕ) → times s c.half place ≡ number (has_id place) (wants_from s.geometry 0 c.half.accepted)) cs
+  all_once = each_promise (λ c. (place : ℕ) → times s c.half place ≡ number (has_id place) (wants_from s.geometry 0 c.half.accepted)) (λ c k. k.once)
+
+  pub all_last : All (λ c. IfSome c.half.last IsPlanned) cs
+  all_last = each_promise (λ c. IfSome c.half.last IsPlanned) (λ c k. k.last)
+
+-- where nothing is left each channel is reached
+pub ends_reached : (s s' : Setup) (cs : List ChannelState) (events left : List Event) (outcomes : List Outcome) (now : List ChannelState) → All (IsReached s) cs → Halfway s cs events left outcomes now → left ≡ [] → s' ≡ s → All (IsReached s') now
+ends_reached s s' cs events left outcomes now reached h none same =
+    let P : Setup → Type 0 = λ x. All (IsReached x) now in
+    subst P (sym same) (run_keeps s cs now events outcomes reached (halfway_end s cs events left outcomes now h none)).0

@@ -1,0 +1,154 @@
+-- Which events are refused, and what an event does that isn't.
+use Rattle.std.proofs.Common.{◌≡◌, ℕ, ◌<◌, ◌≤◌, ◌^◌, inl, inr, true, false, List, [], ◌∷◌, ◌++◌, length, Option, Some, None, refl, sym, ap, ◌∙◌, subst, arith}
+use Rattle.std.specs.Prelude.{nat_le, ◌==◌}
+use Rattle.std.specs.List.{filter}
+use Rattle.std.proofs.lemmas.Bool.{cases_Bool}
+use Rattle.std.proofs.lemmas.Bool.Decides.{nat_tests}
+use Rattle.onfi_request.specs.declared.checking.RequestFault.{RequestFault}
+use Rattle.onfi_request.specs.declared.reply.Reply.{Reply}
+use Rattle.onfi_request.specs.declared.request.Item.{Item}
+use Rattle.onfi_request.specs.declared.request.Request.{Request}
+use Rattle.onfi_core.specs.declared.event.Event.{Event}
+use Rattle.onfi_core.specs.declared.event.Event.TheVariants as event
+use Rattle.onfi_core.specs.declared.outcome.Cause.{Cause}
+use Rattle.onfi_core.specs.declared.outcome.Outcome.{Outcome}
+use Rattle.onfi_core.specs.declared.outcome.Outcome.TheVariants as outcome
+use Rattle.onfi_core.specs.declared.setup.Setup.{Setup}
+use Rattle.onfi_core.specs.State.{ChannelState, sent_by, posted_to, collected_by, is_to}
+use Rattle.onfi_core.specs.Steps.{Step, StepBy, Does, refusal, after_refusal, stopped_by, fault_of, is_empty, held_for, not_collected, accept_refusal, bus_refusal, or_else, if_stopped, refused_where, unanswered}
+use Rattle.onfi_core.specs.View.{IsOldest}
+
+pub step_refused : (s : Setup) (c : ChannelState) (e : Event) (o : Outcome) (c' : ChannelState) → refusal s c e ≡ Some o → c' ≡ after_refusal o c → Step s c e o c'
+step_refused s c e o c' r a = let P : Option Outcome → Type 0 = λ q. StepBy q s c e o c' in subst P (sym r) (refl, a)
+
+pub step_does : (s : Setup) (c : ChannelState) (e : Event) (o : Outcome) (c' : ChannelState) → refusal s c e ≡ None → Does s c e o c' → Step s c e o c'
+step_does s c e o c' r d = let P : Option Outcome → Type 0 = λ q. StepBy q s c e o c' in subst P (sym r) d
+
+-- Submit
+
+module _ (s : Setup) (c : ChannelState) (host channel : ℕ) (r : Request) where
+  pub no_such_host : s.hosts ≤ host → Step s c (event.Submit host channel r) (outcome.NoSuch (Some r)) c
+  no_such_host h = let t : nat_le s.hosts host ≡ true = grind (arith, nat_tests) in step_refused s c (event.Submit host channel r) (outcome.NoSuch (Some r)) c (rw t refl) refl
+
+  module _ (known : host < s.hosts) where
+    there : nat_le s.hosts host ≡ false
+    there = grind (arith, nat_tests)
+
+    pub refused : (fault : RequestFault) → fault_of s.geometry r ≡ Some fault → Step s c (event.Submit host channel r) (outcome.Refused fault r) c
+    refused fault f = let t = there in step_refused s c (event.Submit host channel r) (outcome.Refused fault r) c (rw (t, f) refl) refl
+
+    pub serials_spent : fault_of s.geometry r ≡ None → 2 ^ 32 ≤ length (sent_by host c) → Step s c (event.Submit host channel r) (outcome.SerialsSpent r) c
+    serials_spent f h =
+        let t = there in
+        let u : nat_le (2 ^ 32) (length (sent_by host c)) ≡ true = grind (arith, nat_tests) in
+        step_refused s c (event.Submit host channel r) (outcome.SerialsSpent r) c (rw (t, f, u) refl) refl
+
+    pub submit_full : fault_of s.geometry r ≡ None → length (sent_by host c) < 2 ^ 32 → s.submit_cap ≤ length c.waiting → Step s c (event.Submit host channel r) (outcome.SubmitFull r) c
+    submit_full f low h =
+        let t = there in
+        let u : nat_le (2 ^ 32) (length (sent_by host c)) ≡ false = grind (arith, nat_tests) in
+        let v : nat_le s.submit_cap (length c.waiting) ≡ true = grind (arith, nat_tests) in
+        step_refused s c (event.Submit host channel r) (outcome.SubmitFull r) c (rw (t, f, u, v) refl) refl
+
+    pub submit_open : fault_of s.geometry r ≡ None → length (sent_by host c) < 2 ^ 32 → length c.waiting < s.submit_cap → refusal s c (event.Submit host channel r) ≡ None
+    submit_open f low h =
+        let t = there in
+        let u : nat_le (2 ^ 32) (length (sent_by host c)) ≡ false = grind (arith, nat_tests) in
+        let v : nat_le s.submit_cap (length c.waiting) ≡ false = grind (arith, nat_tests) in
+        rw (t, f, u, v) refl
+
+-- A stop that stands
+
+same_stop : (c : ChannelState) (cause : Cause) → c.half.stopped ≡ Some cause → c ≡ stopped_by cause c
+same_stop c cause e = ap (λ (o : Option Cause). let z : ChannelState = record c { half = record c.half { stopped = o } } in z) e
+
+-- what is told of a half's acceptance leaves it
+accept_leaves : (c : ChannelState) (stop : Option Cause) (o : Outcome) → c.half.stopped ≡ stop → or_else (if_stopped stop) (refused_where (nat_le 64 (unanswered c.half)) outcome.WindowFull) ≡ Some o → c ≡ after_refusal o c
+accept_leaves c (Some cause) o e h =
+    let q : outcome.Stopped cause ≡ o = cc in
+    subst (λ (p : Outcome). c ≡ after_refusal p c) q (same_stop c cause e)
+accept_leaves c None o e h = window (nat_le 64 (unanswered c.half)) h
+  where
+    window : (b : _) → refused_where b outcome.WindowFull ≡ Some o → c ≡ after_refusal o c
+    window true h = (let q : outcome.WindowFull ≡ o = cc in subst (λ (p : Outcome). c ≡ after_refusal p c) q refl)
+    window false h = cc
+
+pub not_accepted : (s : Setup) (c : ChannelState) (channel : ℕ) (o : Outcome) → accept_refusal c.half ≡ Some o → Step s c (event.Accept channel) o c
+not_accepted s c channel o h =
+    let f = refused_where (is_empty c.waiting) outcome.NothingToAccept in
+    step_refused s c (event.Accept channel) o c (ap (λ (x : Option Outcome). or_else x f) h) (accept_leaves c c.half.stopped o refl h)
+
+pub nothing_to_accept : (s : Setup) (c : ChannelState) (channel : ℕ) → accept_refusal c.half ≡ None → c.waiting ≡ [] → Step s c (event.Accept channel) outcome.NothingToAccept c
+nothing_to_accept s c channel h e =
+    let f = refused_where (is_empty c.waiting) outcome.NothingToAccept in
+    let z : f ≡ Some outcome.NothingToAccept = ap (λ (xs : List Item). refused_where (is_empty xs) outcome.NothingToAccept) e in
+    step_refused s c (event.Accept channel) outcome.NothingToAccept c (ap (λ (x : Option Outcome). or_else x f) h ∙ z) refl
+
+-- the front of what waits is accepted
+pub accepts : (s : Setup) (c c' : ChannelState) (channel : ℕ) (x : Item) (behind : List Item) → accept_refusal c.half ≡ None → c.waiting ≡ x ∷ behind → c' ≡ record c { half = record c.half { accepted = c.half.accepted ++ x ∷ [] }; waiting = behind }
+    → Step s c (event.Accept channel) (outcome.Accepted (length c.half.accepted)) c'
+accepts s c c' channel x behind h e is =
+    let f = refused_where (is_empty c.waiting) outcome.NothingToAccept in
+    let z : f ≡ None = ap (λ (xs : List Item). refused_where (is_empty xs) outcome.NothingToAccept) e in
+    step_does s c (event.Accept channel) (outcome.Accepted (length c.half.accepted)) c' (ap (λ (x : Option Outcome). or_else x f) h ∙ z) (refl, (x, behind, e, is))
+
+-- Bus
+
+bus_leaves : (c : ChannelState) (stop : Option Cause) (b : _) (o : Outcome) → c.half.stopped ≡ stop → or_else (if_stopped stop) (refused_where b outcome.NoPlan) ≡ Some o → c ≡ after_refusal o c
+bus_leaves c (Some cause) b o e h =
+    let q : outcome.Stopped cause ≡ o = cc in
+    subst (λ (p : Outcome). c ≡ after_refusal p c) q (same_stop c cause e)
+bus_leaves c None true o e h = let q : outcome.NoPlan ≡ o = cc in subst (λ (p : Outcome). c ≡ after_refusal p c) q refl
+bus_leaves c None false o e h = cc
+
+pub not_run : (s : Setup) (c : ChannelState) (channel : ℕ) (o : Outcome) → bus_refusal c.half ≡ Some o → Step s c (event.Bus channel) o c
+not_run s c channel o h = step_refused s c (event.Bus channel) o c h (bus_leaves c c.half.stopped _ o refl h)
+
+-- Post and Collect
+
+some_held : (host : ℕ) (before behind : List Reply) (r : Reply) → r.host ≡ host → is_empty (filter (is_to host) (before ++ r ∷ behind)) ≡ false
+some_held host [] behind r own = let t : (r.host == host) ≡ true = grind (arith, nat_tests) in rw t refl
+some_held host (x ∷ before) behind r own = elim (cases_Bool (x.host == host)) [ inl k ↦ rw k refl | inr k ↦ rw k (some_held host before behind r own) ]
+
+module _ (s : Setup) (c : ChannelState) (host channel : ℕ) where
+  pub no_such_poster : s.hosts ≤ host → Step s c (event.Post channel host) (outcome.NoSuch None) c
+  no_such_poster h = let t : nat_le s.hosts host ≡ true = grind (arith, nat_tests) in step_refused s c (event.Post channel host) (outcome.NoSuch None) c (rw t refl) refl
+
+  pub no_such_collector : s.hosts ≤ host → Step s c (event.Collect channel host) (outcome.NoSuch None) c
+  no_such_collector h = let t : nat_le s.hosts host ≡ true = grind (arith, nat_tests) in step_refused s c (event.Collect channel host) (outcome.NoSuch None) c (rw t refl) refl
+
+  module _ (known : host < s.hosts) where
+    is_there : nat_le s.hosts host ≡ false
+    is_there = grind (arith, nat_tests)
+
+    pub nothing_to_post : held_for host c.half ≡ [] → Step s c (event.Post channel host) outcome.NothingToPost c
+    nothing_to_post e = let t = is_there in step_refused s c (event.Post channel host) outcome.NothingToPost c (rw (t, e) refl) refl
+
+    held_is : (r : Reply) → IsOldest host c.half.held r → is_empty (held_for host c.half) ≡ false
+    held_is r o = ap (λ (rs : List Reply). is_empty (filter (is_to host) rs)) o.is ∙ some_held host o.before o.behind r o.own
+
+    pub post_full : (r : Reply) → IsOldest host c.half.held r → s.post_cap ≤ not_collected host c → Step s c (event.Post channel host) outcome.PostFull c
+    post_full r o h =
+        let t = is_there in
+        let u = held_is r o in
+        let v : nat_le s.post_cap (not_collected host c) ≡ true = grind (arith, nat_tests) in
+        step_refused s c (event.Post channel host) outcome.PostFull c (rw (t, u, v) refl) refl
+
+    pub post_open : (r : Reply) → IsOldest host c.half.held r → not_collected host c < s.post_cap → refusal s c (event.Post channel host) ≡ None
+    post_open r o h =
+        let t = is_there in
+        let u = held_is r o in
+        let v : nat_le s.post_cap (not_collected host c) ≡ false = grind (arith, nat_tests) in
+        rw (t, u, v) refl
+
+    pub nothing_to_collect : length (posted_to host c) ≤ length (collected_by host c) → Step s c (event.Collect channel host) outcome.NothingToCollect c
+    nothing_to_collect h =
+        let t = is_there in
+        let v : nat_le (length (posted_to host c)) (length (collected_by host c)) ≡ true = grind (arith, nat_tests) in
+        step_refused s c (event.Collect channel host) outcome.NothingToCollect c (rw (t, v) refl) refl
+
+    pub collect_open : length (collected_by host c) < length (posted_to host c) → refusal s c (event.Collect channel host) ≡ None
+    collect_open h =
+        let t = is_there in
+        let v : nat_le (length (posted_to host c)) (length (collected_by host c)) ≡ false = grind (arith, nat_tests) in
+        rw (t, v) refl

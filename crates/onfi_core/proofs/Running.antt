@@ -1,0 +1,113 @@
+-- What a planning and a bus phase of a channel come to.
+use Rattle.std.proofs.Common.{◌≡◌, ℕ, inl, inr, List, length, Some, None, Result, Ok, Err, IfOk, IfErr, refl, sym, ap, ◌∙◌, subst}
+use Rattle.onfi_request.specs.declared.reply.Reply.{Reply}
+use Rattle.onfi_request.specs.declared.request.Item.{Item}
+use Rattle.onfi_request.specs.declared.want.Want.{Want}
+use Rattle.onfi_chip.specs.Calls.{IsLost}
+use Rattle.onfi_chip.specs.Chip.{Chip}
+use Rattle.onfi_core.specs.declared.due.Due.{Due}
+use Rattle.onfi_core.specs.declared.event.Event.TheVariants as event
+use Rattle.onfi_core.specs.declared.half.PlanRefusal.{PlanRefusal}
+use Rattle.onfi_core.specs.declared.half.PlanRefusal.TheVariants as refused
+use Rattle.onfi_core.specs.declared.outcome.Cause.{Cause}
+use Rattle.onfi_core.specs.declared.outcome.Cause.TheVariants as cause
+use Rattle.onfi_core.specs.declared.outcome.Outcome.TheVariants as outcome
+use Rattle.onfi_core.specs.declared.ran.Ran.{Ran}
+use Rattle.onfi_core.specs.declared.setup.Setup.{Setup}
+use Rattle.onfi_core.specs.Drive.{MayRun, HasRun}
+use Rattle.onfi_core.specs.Dues.{IsDue, after_due, member_of, replies_of}
+use Rattle.onfi_core.specs.Kept.{IsReached}
+use Rattle.onfi_core.specs.State.{HalfState, ChannelState, Planning, item_at}
+use Rattle.onfi_core.specs.Steps.{Step, Plans, Runs, RunsOnChip, IsCauseOf, bus_refusal, plan_refusal, planned_by, taken_next, half_after_phase, stopped_by}
+use Rattle.onfi_core.specs.Refusals.{planned_outcome, refusal_outcome}
+use Rattle.onfi_core.specs.View.{HalfView, PlanRefused}
+use Rattle.onfi_core.proofs.Done.{after_due_is}
+use Rattle.onfi_core.proofs.Driving.{may_run, ran_on_chip}
+use Rattle.onfi_core.proofs.Reach.{none_first, not_stopped}
+use Rattle.onfi_core.proofs.Refused.{step_refused, step_does}
+
+-- Plan
+
+pub planned_step : (s : Setup) (c : ChannelState) (channel finish : ℕ) (plan : Planning) → plan_refusal s c.half ≡ None → finish ≡ plan.finish → Plans s c.half plan → Step s c (event.Plan channel) (outcome.Planned finish) (record c { half = planned_by c.half (length (taken_next s c.half)) plan })
+planned_step s c channel finish plan open' e plans =
+    step_does s c (event.Plan channel) (outcome.Planned finish) (record c { half = planned_by c.half (length (taken_next s c.half)) plan }) open' (inl (plan, ap outcome.Planned e, plans, refl))
+
+pub not_planned : (s : Setup) (c : ChannelState) (channel : ℕ) (refusal : PlanRefusal) (h : HalfState) → PlanRefused s c.half refusal h → Step s c (event.Plan channel) (refusal_outcome refusal) (record c { half = h })
+not_planned s c channel (refused.Stopped cause) h (e, is) = step_refused s c (event.Plan channel) (outcome.Stopped cause) (record c { half = h }) e (ap (λ (x : HalfState). let z : ChannelState = record c { half = x } in z) is)
+not_planned s c channel refused.NothingToPlan h (e, is) = step_refused s c (event.Plan channel) outcome.NothingToPlan (record c { half = h }) e (ap (λ (x : HalfState). let z : ChannelState = record c { half = x } in z) is)
+not_planned s c channel (refused.Over opened) h (e, count, more, is) =
+    step_does s c (event.Plan channel) (outcome.Over opened) (record c { half = h }) e (inr (inl (ap outcome.Over count, more, ap (λ (x : HalfState). let z : ChannelState = record c { half = x } in z) is)))
+not_planned s c channel refused.Memory h (e, is) =
+    step_does s c (event.Plan channel) (outcome.Memory None) (record c { half = h }) e (inr (inr (refl, ap (λ (x : HalfState). let z : ChannelState = record c { half = x } in z) is)))
+
+-- what a planning came to
+pub after_planning : (s : Setup) (c : ChannelState) (channel : ℕ) (old : HalfView) (result : Result ℕ PlanRefusal) (h : HalfView)
+    → IfOk result (λ finish. (plan_refusal s c.half ≡ None) × (plan : Planning) × (finish ≡ plan.finish) × Plans s c.half plan × (h ≡ record old { state = planned_by c.half (length (taken_next s c.half)) plan }))
+    → IfErr result (λ refusal. PlanRefused s c.half refusal h.state) → Step s c (event.Plan channel) (planned_outcome result) (record c { half = h.state })
+after_planning s c channel old (Ok finish) h (open', plan, e, plans, is) none =
+    let P : HalfState → Type 0 = λ x. Step s c (event.Plan channel) (outcome.Planned finish) (record c { half = x }) in
+    subst P (sym (ap (λ (v : HalfView). v.state) is)) (planned_step s c channel finish plan open' e plans)
+after_planning s c channel old (Err refusal) h none r = not_planned s c channel refusal h.state r
+
+-- .. and it posts nothing
+pub nothing_posted : (s : Setup) (c : ChannelState) (old : HalfView) (result : Result ℕ PlanRefusal) (h : HalfView)
+    → IfOk result (λ finish. (plan_refusal s c.half ≡ None) × (plan : Planning) × (finish ≡ plan.finish) × Plans s c.half plan × (h ≡ record old { state = planned_by c.half (length (taken_next s c.half)) plan }))
+    → IfErr result (λ refusal. PlanRefused s c.half refusal h.state) → h.state.posted ≡ c.half.posted
+nothing_posted s c old (Ok finish) h (open', plan, e, plans, is) none = ap (λ (v : HalfView). v.state.posted) is
+nothing_posted s c old (Err (refused.Stopped cause)) h none (e, is) = ap (λ (x : HalfState). x.posted) is
+nothing_posted s c old (Err refused.NothingToPlan) h none (e, is) = ap (λ (x : HalfState). x.posted) is
+nothing_posted s c old (Err (refused.Over opened)) h none (e, count, more, is) = ap (λ (x : HalfState). x.posted) is
+nothing_posted s c old (Err refused.Memory) h none (e, is) = ap (λ (x : HalfState). x.posted) is
+
+-- Bus
+
+run_faults : (accepted : List Item) (group : List Want) (phase start : ℕ) (chip chip' : Chip) (replies : List Reply) → RunsOnChip accepted group phase start chip chip' replies → chip'.faults ≡ chip.faults
+run_faults accepted group phase start chip chip' replies (inl (inl c, none)) = ap (λ (x : Chip). x.faults) c.done.state
+run_faults accepted group phase start chip chip' replies (inl (inr c, none)) = ap (λ (x : Chip). x.faults) c.done.state
+run_faults accepted group phase start chip chip' replies (inr (member, answer, c, one)) = ap (λ (x : Chip). x.faults) c.done.state
+
+going_on : (h : HalfState) → bus_refusal h ≡ None → h.stopped ≡ None
+going_on h open' = not_stopped h.stopped (none_first _ _ open')
+
+module _ (s : Setup) (c : ChannelState) (reached : IsReached s c) (due : Due) (is : IsDue c.half due) (open' : bus_refusal c.half ≡ None) (item : Item) (member : (m : Want) × (member_of due.group due.phase ≡ Some m) × (item ≡ item_at c.half.accepted m.id)) where
+  pub may_drive : MayRun c.chip s.geometry due item
+  may_drive = may_run s c.half c.chip reached.half.sound (reached.chip (going_on c.half open')) due is member.0 member.1 item member.2
+
+  pub ran_step : (channel : ℕ) (chip' : Chip) (given : Ran) (h : HalfState) → HasRun c.chip s.geometry due item given chip' → h ≡ after_due c.half due (replies_of c.half.accepted chip'.faults due given) → Step s c (event.Bus channel) (outcome.Phase due.start) (record c { half = h; chip = chip' })
+  ran_step channel chip' given h has_run is_after =
+      let on = ran_on_chip s c.half c.chip reached.half.sound (reached.chip (going_on c.half open')) due is member.0 member.1 item member.2 chip' given has_run in
+      let faults = run_faults c.half.accepted due.group due.phase due.start c.chip chip' _ on in
+      let e : h ≡ half_after_phase c.half is.move due.start is.left (replies_of c.half.accepted c.chip.faults due given) =
+      is_after ∙ ap (λ fs. after_due c.half due (replies_of c.half.accepted fs due given)) faults ∙ after_due_is c.half due is (replies_of c.half.accepted c.chip.faults due given) in
+      let c' : ChannelState = record c { half = h; chip = chip' } in
+      let runs : Runs c c' due.start = record {
+        move = is.move;
+        left = is.left;
+        next = is.next;
+        group = due.group;
+        phase = due.phase;
+        is = is.is;
+        chip = chip';
+        replies = replies_of c.half.accepted c.chip.faults due given;
+        on_chip = on;
+        after = ap (λ (x : HalfState). let z : ChannelState = record c { half = x; chip = chip' } in z) e;
+      } in
+      step_does s c (event.Bus channel) (outcome.Phase due.start) c' open' (inl (due.start, refl, runs))
+
+-- the channel stops
+pub stop_step : (s : Setup) (c : ChannelState) (channel : ℕ) (stop : Cause) (chip' : Chip) (h : HalfState) → bus_refusal c.half ≡ None → IsCauseOf c.half stop → IsLost c.chip chip' → h ≡ record c.half { stopped = Some stop } → Step s c (event.Bus channel) (outcome.Stopped stop) (record c { half = h; chip = chip' })
+stop_step s c channel stop chip' h open' why lost is =
+    let after : (let z : ChannelState = record c { half = h; chip = chip' } in z) ≡ record (stopped_by stop c) { chip = chip' } = ap (λ (x : HalfState). let z : ChannelState = record c { half = x; chip = chip' } in z) is in
+    step_does s c (event.Bus channel) (outcome.Stopped stop) (record c { half = h; chip = chip' }) open' (inr (inl (stop, why, refl, record { chip = chip'; lost = lost; after = after })))
+
+pub not_ready : (h : HalfState) (due : Due) → IsDue h due → IsCauseOf h (cause.NotReady due.lun)
+not_ready h due is = (is.move, due.start, is.left, is.next, sym is.lun_is)
+
+pub no_memory : (s : Setup) (c : ChannelState) (channel : ℕ) (chip' : Chip) → bus_refusal c.half ≡ None → chip' ≡ c.chip → Step s c (event.Bus channel) (outcome.Memory None) (record c { chip = chip' })
+no_memory s c channel chip' open' e =
+    step_does s c (event.Bus channel) (outcome.Memory None) (record c { chip = chip' }) open' (inr (inr (refl, ap (λ (x : Chip). let z : ChannelState = record c { chip = x } in z) e)))
+
+-- why nothing was planned
+pub refused_alone : (s : Setup) (c : HalfState) (result : Result ℕ PlanRefusal) (h old : HalfView) → IfErr result (λ refusal. PlanRefused s c refusal h.state × (h ≡ record old { state = h.state })) → IfErr result (λ refusal. PlanRefused s c refusal h.state)
+refused_alone s c (Ok finish) h old r = tt
+refused_alone s c (Err refusal) h old r = r.0

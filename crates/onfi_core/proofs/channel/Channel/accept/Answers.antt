@@ -1,0 +1,23 @@
+use Rattle.std.proofs.Common.{refl}
+use Rattle.onfi_core.specs.State.{ChannelState}
+use Rattle.onfi_core.proofs.Accept.{accept_kept}
+use Rattle.onfi_core.proofs.Queueing.{front_is_next, queues_same}
+use Rattle.onfi_core.specs.View.{accepting}
+use Rattle.onfi_core.proofs.channel.Channel.accept.Goals as goal
+
+pub accept-requires-clause-next : goal.accept-requires-clause-next
+accept-requires-clause-next g c =
+    let i = c.self.invariant in
+    let f = c.self.inside in
+    let now : ChannelState = record { half = f.half.state; chip = g.C.Chip.state f.chip; sent = f.traffic.sent; waiting = f.waiting.items; collected = f.traffic.collected } in
+    front_is_next f.half.setup now c.in-Some.item c.pop_front.new.self.items i.reached c.in-Some.ensures.items
+
+pub invariant_of-self-2 : goal.invariant_of-self-2
+invariant_of-self-2 g c =
+    let i = c.self.invariant in
+    let f = c.self.inside in
+    let now : ChannelState = record { half = f.half.state; chip = g.C.Chip.state f.chip; sent = f.traffic.sent; waiting = f.waiting.items; collected = f.traffic.collected } in
+    let after : ChannelState = record now { half = accepting f.half.state c.in-Some.item; waiting = c.pop_front.new.self.items } in
+    let reached = accept_kept f.half.setup now after i.reached (c.in-Some.item, c.pop_front.new.self.items, c.in-Some.ensures.items, refl) in
+    let q = queues_same f.half.setup _ f.half.lent _ _ f.hosts.items now after i reached refl refl refl i.settled c.pop_front.ensures.capacity in
+    rw c.accept.ensures.accepted q

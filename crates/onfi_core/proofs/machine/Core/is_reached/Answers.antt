@@ -1,0 +1,11 @@
+use Rattle.std.proofs.Common.{subst}
+use Rattle.std.specs.List.{AllByRecursion as Each}
+use Rattle.onfi_core.specs.Kept.{IsReached}
+use Rattle.onfi_core.specs.Queues.{CoreView, states_in}
+use Rattle.onfi_core.proofs.Cores.{all_reached}
+use Rattle.onfi_core.proofs.machine.Core.is_reached.Goals as goal
+
+pub returns : goal.returns
+returns g c =
+    let P : CoreView g.row.C.Denot → Type 0 = λ v. Each (IsReached v.0) (states_in g.C.Chip.state v) in
+    subst P c.self.view_is (all_reached g.C.Chip.state c.self.inside.setup c.self.inside.channels.items c.self.invariant)

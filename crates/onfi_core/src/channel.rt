@@ -1,0 +1,301 @@
+//! One channel of a core: its half, its chip and its queues.
+
+ghost use Rattle.std.specs.Prelude.{◌≡◌, ℕ, ◌≤◌, ◌<◌, [], length, None, Some, Option, IfOk, MatchOption};
+ghost use Rattle.std.specs.List.{AllByRecursion as Each};
+ghost use Rattle.std.specs.VecDeque.{deque_capacity};
+ghost use Rattle.onfi_core.specs.Dues.{IsDue};
+ghost use Rattle.onfi_core.specs.declared.event.Event.TheVariants as event;
+ghost use Rattle.onfi_core.specs.Steps.{Step, bus_refusal, fault_of};
+ghost use Rattle.onfi_core.specs.Core.{with_batch};
+ghost use Rattle.onfi_core.specs.Refusals.{planned_outcome};
+ghost use Rattle.onfi_core.specs.Queues.{IsFresh, opened_with, IsEmptyQueue, state_in};
+
+use crate::drive::{DriveFault, drive};
+use crate::due::Due;
+use crate::event::Event;
+use crate::half::{AcceptFault, DueRefusal, Half, PlanRefusal};
+use crate::host_queue::HostQueue;
+use crate::outcome::{Cause, Outcome};
+use crate::setup::Setup;
+use crate::traffic::Traffic;
+use onfi_addr::Geometry;
+use onfi_chip::Chip;
+use onfi_planner::Planned;
+use onfi_problem::Problem;
+use onfi_request::{Item, Request, RequestFault, check};
+use std::alloc::{AllocError, Global};
+use std::collections::VecDeque;
+use std::marker::Model;
+
+/// A host sends at most this many items to a channel.
+const SERIALS: u64 = 1 << 32;
+
+/// One channel of a core.
+#[derive(Drop)]
+pub struct Channel<C: Chip> {
+    half: Half,
+    chip: C,
+    /// The submission queue: what was submitted and is not accepted, the oldest first.
+    waiting: VecDeque<Item>,
+    /// By host.
+    hosts: Vec<HostQueue>,
+    traffic: Traffic,
+}
+
+impl<C: Chip> Model for Channel<C> {
+    ghost use Rattle.std.specs.VecDeque.{deque_capacity};
+    ghost use Rattle.onfi_core.specs.Queues.{ChannelView, AreQueues};
+
+    ghost Value = { ChannelView C };
+
+    ghost view = { λ c. (
+      record {
+        setup = c.half.setup;
+        half = c.half.state;
+        sent = c.traffic.sent;
+        waiting = c.waiting.items;
+        collected = c.traffic.collected;
+      },
+      c.chip,
+    ) };
+
+    ghost invariant = { λ c. AreQueues c.half.setup c.half.lent (deque_capacity c.waiting) c.hosts.items
+        (record { half = c.half.state; chip = C.state c.chip; sent = c.traffic.sent; waiting = c.waiting.items; collected = c.traffic.collected }) };
+}
+
+impl<C: Chip> Channel<C> {
+    /// A channel with nothing sent, accepted or planned. Its queues' room is made here, once for all.
+    ///
+    /// # Errors
+    /// Want of memory.
+    pub fn open(alloc: Global, setup: Setup, chip: C) -> Result<Channel<C>, AllocError>
+    where
+        C: Drop,
+        requires { IsFresh setup (C.state chip) }
+        ensures { IfOk result (λ c. (c.0.setup ≡ setup) × (state_in C.state c ≡ opened_with setup (C.state chip))) }
+    {
+        let half = Half::open(alloc, setup)?;
+        let waiting = VecDeque::with_capacity(alloc, usize::from(setup.submit_cap))?;
+        let hosts = host_queues(alloc, setup.hosts, setup.post_cap)?;
+        Ok(Channel {
+            half,
+            chip,
+            waiting,
+            hosts,
+            traffic: Traffic::new(),
+        })
+    }
+
+    /// A host pushes a request into the submission queue.
+    pub fn submit(&mut self, host: u8, request: Request) -> Outcome
+        ensures step { (channel : ℕ) → Step self.old.0.setup (state_in C.state self.old) (event.Submit host channel request) result (state_in C.state self.new) }
+        ensures setup { self.new.0.setup ≡ self.old.0.setup }
+    {
+        let setup = self.half.setup();
+        let at = usize::from(host);
+        if at >= self.hosts.len() {
+            return Outcome::NoSuch(Some(request));
+        }
+        if let Some(fault) = fault_of(&setup.geometry, &request) {
+            return Outcome::Refused(fault, request);
+        }
+        let sent = self.hosts[at].sent;
+        if sent >= SERIALS {
+            return Outcome::SerialsSpent(request);
+        }
+        if self.waiting.len() >= usize::from(setup.submit_cap) {
+            return Outcome::SubmitFull(request);
+        }
+        let serial = sent as u32;
+        let item = Item {
+            host,
+            serial,
+            request,
+        };
+        self.traffic = self.traffic.sending(&item);
+        self.hosts[at].sent = sent + 1;
+        self.waiting.push_back_reserved(item);
+        Outcome::Submitted { serial }
+    }
+
+    /// The sequencer pops the front of the submission queue.
+    pub fn accept(&mut self) -> Outcome
+        ensures step { (channel : ℕ) → Step self.old.0.setup (state_in C.state self.old) (event.Accept channel) result (state_in C.state self.new) }
+        ensures setup { self.new.0.setup ≡ self.old.0.setup }
+    {
+        match self.half.refuses() {
+            Some(AcceptFault::Stopped(cause)) => return Outcome::Stopped(cause),
+            Some(AcceptFault::WindowFull) => return Outcome::WindowFull,
+            None => {}
+        }
+        let Some(item) = self.waiting.pop_front() else {
+            return Outcome::NothingToAccept;
+        };
+        Outcome::Accepted {
+            place: self.half.accept(item),
+        }
+    }
+
+    /// The sequencer plans.
+    pub fn plan(&mut self, alloc: Global) -> Outcome
+        ensures step { (channel : ℕ) → Step self.old.0.setup (state_in C.state self.old) (event.Plan channel) result (state_in C.state self.new) }
+        ensures setup { self.new.0.setup ≡ self.old.0.setup }
+    {
+        let planned = self.half.plan(alloc);
+        planned_outcome(planned)
+    }
+
+    /// The undone phase of least start happens on the chip.
+    pub fn bus(&mut self, alloc: Global) -> Outcome
+        ensures step { (channel : ℕ) → Step self.old.0.setup (state_in C.state self.old) (event.Bus channel) result (state_in C.state self.new) }
+        ensures setup { self.new.0.setup ≡ self.old.0.setup }
+    {
+        match self.half.due(alloc) {
+            Ok(due) => self.run(alloc, due),
+            Err(DueRefusal::Stopped(cause)) => Outcome::Stopped(cause),
+            Err(DueRefusal::NoPlan) => Outcome::NoPlan,
+        }
+    }
+
+    // The due phase happens on the chip, or stops the channel.
+    fn run(&mut self, alloc: Global, due: Due) -> Outcome
+        requires due { IsDue self.old.0.half due }
+        requires open { bus_refusal self.old.0.half ≡ None }
+        ensures step { (channel : ℕ) → Step self.old.0.setup (state_in C.state self.old) (event.Bus channel) result (state_in C.state self.new) }
+        ensures setup { self.new.0.setup ≡ self.old.0.setup }
+    {
+        let start = due.start;
+        let geometry = self.half.setup().geometry;
+        match drive(
+            alloc,
+            &mut self.chip,
+            &geometry,
+            &due,
+            self.half.member(&due),
+        ) {
+            Ok(ran) => {
+                self.half.done(due, ran, &self.chip);
+                Outcome::Phase { start }
+            }
+            Err(DriveFault::Memory) => Outcome::Memory(None),
+            Err(DriveFault::Bus) => {
+                self.half.stop(Cause::Bus);
+                Outcome::Stopped(Cause::Bus)
+            }
+            Err(DriveFault::NotReady) => {
+                self.half.stop(Cause::NotReady(due.lun));
+                Outcome::Stopped(Cause::NotReady(due.lun))
+            }
+        }
+    }
+
+    /// The sequencer pushes the oldest reply held for the host into the host's completion queue.
+    pub fn post(&mut self, host: u8) -> Outcome
+        ensures step { (channel : ℕ) → Step self.old.0.setup (state_in C.state self.old) (event.Post channel host) result (state_in C.state self.new) }
+        ensures setup { self.new.0.setup ≡ self.old.0.setup }
+    {
+        let at = usize::from(host);
+        if at >= self.hosts.len() {
+            return Outcome::NoSuch(None);
+        }
+        let Some(reply) = self.half.held(host) else {
+            return Outcome::NothingToPost;
+        };
+        if self.hosts[at].completions.len() >= usize::from(self.half.setup().post_cap) {
+            self.half.keep(reply);
+            return Outcome::PostFull;
+        }
+        let place = reply.place;
+        self.half.posted(host);
+        self.hosts[at].completions.push_back_reserved(reply);
+        Outcome::Posted { place }
+    }
+
+    /// The host pops the front of its completion queue.
+    pub fn collect(&mut self, host: u8) -> Outcome
+        ensures step { (channel : ℕ) → Step self.old.0.setup (state_in C.state self.old) (event.Collect channel host) result (state_in C.state self.new) }
+        ensures setup { self.new.0.setup ≡ self.old.0.setup }
+    {
+        let at = usize::from(host);
+        if at >= self.hosts.len() {
+            return Outcome::NoSuch(None);
+        }
+        let Some(reply) = self.hosts[at].completions.pop_front() else {
+            return Outcome::NothingToCollect;
+        };
+        self.traffic = self.traffic.collecting(&reply);
+        Outcome::Collected(reply)
+    }
+
+    /// The problem and the plan of the last accepting planning; none before one.
+    pub fn last(&self) -> Option<(&Problem, &Planned)>
+        ensures { MatchOption result (self.now.0.half.last ≡ None)
+            (λ r. self.now.0.half.last ≡ Some (record { problem = r.0.now.problem; schedule = r.1.now.schedule; finish = r.1.now.finish; cert = r.1.now.cert.items })) }
+    {
+        self.half.last()
+    }
+
+    /// Sets the batch of later plannings, 1 to 8, and nothing else.
+    pub fn set_batch(&mut self, batch: u8)
+        requires some { 1 ≤ batch }
+        requires few { batch ≤ 8 }
+        ensures set { state_in C.state self.new ≡ with_batch batch (state_in C.state self.old) }
+        ensures setup { self.new.0.setup ≡ self.old.0.setup }
+    {
+        self.half.set_batch(batch);
+    }
+
+    /// The event, whichever channel it names.
+    pub fn step(&mut self, alloc: Global, event: Event) -> Outcome
+        ensures step { Step self.old.0.setup (state_in C.state self.old) event result (state_in C.state self.new) }
+        ensures setup { self.new.0.setup ≡ self.old.0.setup }
+    {
+        match event {
+            Event::Submit {
+                host,
+                request,
+                channel: _,
+            } => self.submit(host, request),
+            Event::Accept { channel: _ } => self.accept(),
+            Event::Plan { channel: _ } => self.plan(alloc),
+            Event::Bus { channel: _ } => self.bus(alloc),
+            Event::Post { host, channel: _ } => self.post(host),
+            Event::Collect { host, channel: _ } => self.collect(host),
+        }
+    }
+}
+
+// What a planning came to.
+fn planned_outcome(planned: Result<u64, PlanRefusal>) -> Outcome
+    ensures { result ≡ planned_outcome planned }
+{
+    match planned {
+        Ok(finish) => Outcome::Planned { finish },
+        Err(PlanRefusal::Stopped(cause)) => Outcome::Stopped(cause),
+        Err(PlanRefusal::NothingToPlan) => Outcome::NothingToPlan,
+        Err(PlanRefusal::Over { opened }) => Outcome::Over { opened },
+        Err(PlanRefusal::Memory) => Outcome::Memory(None),
+    }
+}
+
+// So many hosts that sent nothing, with room for so many replies each.
+fn host_queues(alloc: Global, count: u8, room: u16) -> Result<Vec<HostQueue>, AllocError>
+    ensures count { IfOk result (λ hosts. length hosts.items ≡ count) }
+    ensures empty { IfOk result (λ hosts. Each (IsEmptyQueue room) hosts.items) }
+{
+    let mut hosts = Vec::with_capacity(alloc, usize::from(count))?;
+    for _host in 0..count {
+        hosts.push(HostQueue {
+            sent: 0,
+            completions: VecDeque::with_capacity(alloc, usize::from(room))?,
+        })?;
+    }
+    Ok(hosts)
+}
+
+// The first fault of a request, if it has one.
+fn fault_of(geometry: &Geometry, request: &Request) -> Option<RequestFault>
+    ensures { result ≡ fault_of geometry.now request.now }
+{
+    check(geometry, request).err()
+}

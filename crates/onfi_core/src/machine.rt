@@ -1,0 +1,160 @@
+//! Several channels, over events.
+
+ghost use Rattle.std.specs.Prelude.{◌≡◌, ℕ, ◌+◌, ◌<◌, ◌≤◌, ◌++◌, ◌↔◌, length, map, None, Some, Option, IfOk, IfSome, OnErr, IsErrOf, MatchOption, slice_get};
+ghost use Rattle.std.specs.List.{AllByRecursion as Each};
+ghost use Rattle.onfi_problem.specs.Problem.{has_id};
+ghost use Rattle.onfi_group.specs.Words.{number};
+ghost use Rattle.onfi_die.specs.Rightful.{AreRightful};
+ghost use Rattle.onfi_die.specs.Order.{IsBeginning};
+ghost use Rattle.onfi_core.specs.Core.{CoreStep, CoreRun, Did};
+ghost use Rattle.onfi_core.specs.Core.Doing.{SetsBatch};
+ghost use Rattle.onfi_core.specs.State.{ChannelState, device_for, wants_from, sent_by, posted_to, collected_by};
+ghost use Rattle.onfi_core.specs.Steps.{IsPlanned};
+ghost use Rattle.onfi_core.specs.Kept.{IsReached, SerialsFrom, times};
+ghost use Rattle.onfi_core.specs.Queues.{IsFresh, AreOpened, opened_with, state_in, states_in};
+
+use crate::channel::Channel;
+use crate::event::Event;
+use crate::outcome::Outcome;
+use crate::setup::Setup;
+use onfi_chip::Chip;
+use onfi_planner::Planned;
+use onfi_problem::Problem;
+use std::alloc::{AllocError, Global};
+use std::marker::Model;
+use thiserror::Error;
+
+/// The channels of a setup with their hosts, in one thread.
+///
+/// Contracts see the setup and, by `states_in`, the state of each channel.
+#[derive(Drop)]
+pub struct Core<C: Chip> {
+    setup: Setup,
+    channels: Vec<Channel<C>>,
+}
+
+impl<C: Chip> Model for Core<C> {
+    ghost use Rattle.onfi_core.specs.Queues.{CoreView, AreChannels};
+
+    ghost Value = { CoreView C };
+
+    ghost view = { λ c. (c.setup, c.channels.items) };
+
+    ghost invariant = { λ c. AreChannels C.state c.setup c.channels.items };
+}
+
+/// Why a core doesn't open, in the order in which it is told.
+#[derive(Clone, Copy, Debug, PartialEq, Eq, Error)]
+pub enum CoreFault {
+    /// Not one chip for each channel of the setup.
+    #[error("not one chip for each channel")]
+    Chips,
+    /// Want of memory.
+    #[error("out of memory")]
+    Memory,
+}
+
+impl<C: Chip> Core<C> {
+    /// A core of these chips, one for each channel in order: nothing is sent, accepted or planned.
+    ///
+    /// # Errors
+    /// `Chips` exactly where there is not one chip for each channel of the setup; else `Memory`. The chips are dropped.
+    pub fn open(alloc: Global, setup: Setup, chips: Vec<C>) -> Result<Core<C>, CoreFault>
+    where
+        C: Drop,
+        requires { Each (λ chip. IsFresh setup (C.state chip)) chips.items }
+        ensures opened { IfOk result (λ core. (core.0 ≡ setup) × (states_in C.state core ≡ map (λ chip. opened_with setup (C.state chip)) chips.items)) }
+        ensures chips { IsErrOf result CoreFault.Chips ↔ ¬ (length chips.items ≡ setup.channels) }
+    {
+        if chips.len() != usize::from(setup.channels) {
+            return Err(CoreFault::Chips);
+        }
+        match open_channels(alloc, setup, chips) {
+            Ok(channels) => Ok(Core { setup, channels }),
+            Err(_) => Err(CoreFault::Memory),
+        }
+    }
+
+    /// One event, and what it came to.
+    pub fn step(&mut self, alloc: Global, event: Event) -> Outcome
+        ensures step { CoreStep self.old.0 (states_in C.state self.old) event result (states_in C.state self.new) }
+        ensures setup { self.new.0 ≡ self.old.0 }
+    {
+        let at = usize::from(event.channel());
+        if at >= self.channels.len() {
+            return Outcome::NoSuch(event.into_request());
+        }
+        let channel = &mut self.channels[at];
+        channel.step(alloc, event)
+    }
+
+    /// The events one after another, and what each came to.
+    ///
+    /// # Errors
+    /// Want of memory for the answer: then nothing was done.
+    pub fn run(&mut self, alloc: Global, events: Vec<Event>) -> Result<Vec<Outcome>, AllocError>
+        ensures run { IfOk result (λ outcomes. CoreRun self.old.0 (states_in C.state self.old) events.items outcomes.items (states_in C.state self.new)) }
+        ensures nothing { OnErr result (self.new ≡ self.old) }
+        ensures setup { self.new.0 ≡ self.old.0 }
+        ensures reached { Each (IsReached self.new.0) (states_in C.state self.new) }
+        ensures rightful { Each (λ c. AreRightful (device_for self.new.0 c.chip) c.half.accepted c.half.posted) (states_in C.state self.new) }
+        ensures sent { Each (λ c. c.sent ≡ c.half.accepted ++ c.waiting) (states_in C.state self.new) }
+        ensures serials { Each (λ c. (host : ℕ) → SerialsFrom 0 (sent_by host c)) (states_in C.state self.new) }
+        ensures collected { Each (λ c. (host : ℕ) → IsBeginning (collected_by host c) (posted_to host c)) (states_in C.state self.new) }
+        ensures once { Each (λ c. (place : ℕ) → times self.new.0 c.half place ≡ number (has_id place) (wants_from self.new.0.geometry 0 c.half.accepted)) (states_in C.state self.new) }
+        ensures last { Each (λ c. IfSome c.half.last IsPlanned) (states_in C.state self.new) }
+    {
+        self.is_reached();
+        let mut outcomes = Vec::with_capacity(alloc, events.len())?;
+        let mut left = events.into_iter();
+        while let Some(event) = left.next() {
+            outcomes.push_reserved(self.step(alloc, event));
+        }
+        Ok(outcomes)
+    }
+
+    // Each channel is one that is reached.
+    fn is_reached(&self)
+        ensures { Each (IsReached self.now.0) (states_in C.state self.now) }
+    {
+        let _setup = self.setup;
+    }
+
+    /// The problem and the plan of the channel's last accepting planning; none before one.
+    pub fn last(&self, channel: u8) -> Option<(&Problem, &Planned)>
+        requires { channel < length self.now.1 }
+        ensures { (c : ChannelState) → slice_get (states_in C.state self.now) channel ≡ Some c → MatchOption result (c.half.last ≡ None)
+            (λ r. c.half.last ≡ Some (record { problem = r.0.now.problem; schedule = r.1.now.schedule; finish = r.1.now.finish; cert = r.1.now.cert.items })) }
+    {
+        self.channels[usize::from(channel)].last()
+    }
+
+    /// Sets the batch of the channel's later plannings, 1 to 8, and nothing else.
+    pub fn set_batch(&mut self, channel: u8, batch: u8)
+        requires there { channel < length self.old.1 }
+        requires some { 1 ≤ batch }
+        requires few { batch ≤ 8 }
+        ensures set { Did self.old.0 (states_in C.state self.old) (SetsBatch channel batch) (states_in C.state self.new) }
+        ensures setup { self.new.0 ≡ self.old.0 }
+    {
+        let channel = &mut self.channels[usize::from(channel)];
+        channel.set_batch(batch);
+    }
+}
+
+// A channel for each chip, in order.
+fn open_channels<C: Chip + Drop>(
+    alloc: Global,
+    setup: Setup,
+    chips: Vec<C>,
+) -> Result<Vec<Channel<C>>, AllocError>
+    requires { Each (λ chip. IsFresh setup (C.state chip)) chips.items }
+    ensures { IfOk result (λ channels. AreOpened C.state setup chips.items channels.items) }
+{
+    let mut channels = Vec::with_capacity(alloc, chips.len())?;
+    let mut left = chips.into_iter();
+    while let Some(chip) = left.next() {
+        channels.push_reserved(Channel::open(alloc, setup, chip)?);
+    }
+    Ok(channels)
+}
