@@ -1,7 +1,7 @@
 -- In which order posts come.
 use Rattle.std.proofs.Common.{◌≡◌, ℕ, zero, suc, ◌+◌, ◌-◌, ◌<◌, ◌≤◌, inl, inr, List, [], ◌∷◌, ◌++◌, length, Option, Some, None, map, drop, refl, sym, ap, subst, ◌∙◌, arith}
 use Rattle.std.specs.Prelude.{slice_get, slice_set, IfSome}
-use Rattle.std.specs.List.{AllByRecursion as All, AllZip}
+use Rattle.std.specs.List.{AllByRecursion as Each, AllZip}
 use Rattle.onfi_request.specs.declared.want.Want.{Want}
 use Rattle.onfi_request.specs.declared.request.Item.{Item}
 use Rattle.onfi_request.specs.declared.reply.Reply.{Reply}
@@ -36,11 +36,11 @@ use Rattle.onfi_seq.proofs.Turns.{first_is, map_get}
 
 -- Lists
 
-each_at : {A : Type 0} (P : A → Type 0) (xs : List A) → ((i : ℕ) (x : A) → slice_get xs i ≡ Some x → P x) → All P xs
+each_at : {A : Type 0} (P : A → Type 0) (xs : List A) → ((i : ℕ) (x : A) → slice_get xs i ≡ Some x → P x) → Each P xs
 each_at P [] h = tt
 each_at P (x ∷ xs) h = (h 0 x refl, each_at P xs (λ i y e. h (suc i) y e))
 
-pub all_set : {A : Type 0} (P : A → Type 0) (xs : List A) (i : ℕ) (a : A) → All P xs → P a → All P (slice_set xs i a)
+pub all_set : {A : Type 0} (P : A → Type 0) (xs : List A) (i : ℕ) (a : A) → Each P xs → P a → Each P (slice_set xs i a)
 all_set P [] i a h p = tt
 all_set P (x ∷ xs) zero a h p = (p, h.1)
 all_set P (x ∷ xs) (suc i) a h p = (h.0, all_set P xs i a h.1 p)
@@ -78,7 +78,7 @@ module _ (p : Problem) (s : Schedule) (ip : IsProblem p) (lg : Legal p s) where
   group_waits h t here first =
       let is = first_is h.starts t first in
       let all = of_group p s ip lg (λ (x : Phase). p.bus_free ≤ x.start) h here lg.from_bus_free in
-      let here = subst (λ us. All (λ (x : Phase). p.bus_free ≤ x.start) (phases_from (lun_of h.members) (group_spans p.timing h.members) (length h.members) 0 us)) is.1 all in
+      let here = subst (λ us. Each (λ (x : Phase). p.bus_free ≤ x.start) (phases_from (lun_of h.members) (group_spans p.timing h.members) (length h.members) 0 us)) is.1 all in
       here.0
 
 -- What is left behind a phase
@@ -191,10 +191,10 @@ still_behind drive sooner later lt behind = record {
 }
 
 module _ (schedule : Schedule) (old new : Drive) (turn : Turn) (replies : List Reply) (order : IsInOrder schedule old replies) (least : IsLeast old turn) (behind : StartsBehind (turn_start turn) new) where
-  sooner_ones : All (λ t. t < turn_start turn) order.starts
+  sooner_ones : Each (λ t. t < turn_start turn) order.starts
   sooner_ones = All-weaker (λ t. StartsBehind t old) (λ t. t < turn_start turn) (λ t h. turn_behind old turn t least h) order.starts order.behind
 
-  behind_them : All (λ t. StartsBehind t new) order.starts
+  behind_them : Each (λ t. StartsBehind t new) order.starts
   behind_them = All-weaker (λ t. t < turn_start turn) (λ t. StartsBehind t new) (λ t h. still_behind new t (turn_start turn) h behind) order.starts sooner_ones
 
   -- a phase keeps them in order
@@ -208,7 +208,7 @@ module _ (schedule : Schedule) (old new : Drive) (turn : Turn) (replies : List R
     behind = All-append (λ t. StartsBehind t new) order.starts (turn_start turn ∷ []) behind_them (behind, tt);
   }
 
-free_part : (schedule : Schedule) (n : ℕ) (xs : List Lane) → AreFree n xs → All (IsLaneOf schedule) xs
+free_part : (schedule : Schedule) (n : ℕ) (xs : List Lane) → AreFree n xs → Each (IsLaneOf schedule) xs
 free_part schedule n [] h = tt
 free_part schedule n (lane.Free lun ∷ xs) h = (tt, free_part schedule (n + 1) xs h.1)
 free_part schedule n (lane.Busy run ∷ xs) h = absurd h
@@ -219,7 +219,7 @@ pub order_opens : (schedule : Schedule) (drive : Drive) → drive.waiting.items 
 order_opens schedule drive waiting free = record {
   part = record {
     running = free_part schedule 0 drive.lanes.items free;
-    waiting = subst (All (Has schedule.groups)) (sym waiting) (All-each (Has schedule.groups) schedule.groups (λ h here. here));
+    waiting = subst (Each (Has schedule.groups)) (sym waiting) (All-each (Has schedule.groups) schedule.groups (λ h here. here));
   };
   starts = [];
   posts = tt;

@@ -1,7 +1,7 @@
 -- A phase keeps the order of posts.
 use Rattle.std.proofs.Common.{◌≡◌, ℕ, ◌+◌, ◌<◌, List, ◌∷◌, ◌++◌, length, Option, Some, drop, sym, ap, subst, ◌∙◌, arith}
 use Rattle.std.specs.Prelude.{slice_get, slice_set, IfSome}
-use Rattle.std.specs.List.{AllByRecursion as All, remove}
+use Rattle.std.specs.List.{AllByRecursion as Each, remove}
 use Rattle.onfi_timing.specs.Phases.{phase_length}
 use Rattle.onfi_request.specs.declared.want.Want.{Want}
 use Rattle.onfi_request.specs.declared.request.Item.{Item}
@@ -66,8 +66,8 @@ module _ (target : Target) (accepted : List Item) (old : Chip) (drive : Drive) (
     ran_part schedule part =
         let k = planned schedule part in (
           record {
-            running = subst (All (IsLaneOf schedule)) (sym lanes_are) (all_set (IsLaneOf schedule) drive.lanes.items l lane' part.running (ran_of_plan schedule target accepted running start old new lane' running.stage reply k ran));
-            waiting = subst (All (Has schedule.groups)) (sym waiting_are) part.waiting;
+            running = subst (Each (IsLaneOf schedule)) (sym lanes_are) (all_set (IsLaneOf schedule) drive.lanes.items l lane' part.running (ran_of_plan schedule target accepted running start old new lane' running.stage reply k ran));
+            waiting = subst (Each (Has schedule.groups)) (sym waiting_are) part.waiting;
           },
           ran_replies schedule target accepted running l at.ready start old new lane' at.rest running.stage reply k at.rest_is at.stage_is ran,
         )
@@ -77,8 +77,8 @@ module _ (target : Target) (accepted : List Item) (old : Chip) (drive : Drive) (
   group_is : group ≡ record { members = group.members; starts = start ∷ at.starts }
   group_is = ap (λ us. record { members = group.members; starts = us }) at.starts_are
 
-  waiting_all : (schedule : Schedule) → IsPartOf schedule drive → All (Has schedule.groups) (at.out.before ++ record { members = group.members; starts = start ∷ at.starts } ∷ at.out.behind)
-  waiting_all schedule part = subst (All (Has schedule.groups)) at.out.is part.waiting
+  waiting_all : (schedule : Schedule) → IsPartOf schedule drive → Each (Has schedule.groups) (at.out.before ++ record { members = group.members; starts = start ∷ at.starts } ∷ at.out.behind)
+  waiting_all schedule part = subst (Each (Has schedule.groups)) at.out.is part.waiting
 
   planned_next : (schedule : Schedule) → IsPartOf schedule drive → Has schedule.groups group
   planned_next schedule part = subst (Has schedule.groups) (sym group_is) (All-back (Has schedule.groups) at.out.before (record { members = group.members; starts = start ∷ at.starts } ∷ at.out.behind) (waiting_all schedule part)).0
@@ -96,6 +96,6 @@ module _ (target : Target) (accepted : List Item) (old : Chip) (drive : Drive) (
         let all = waiting_all schedule part in
         let behind = All-back (Has schedule.groups) at.out.before (record { members = group.members; starts = start ∷ at.starts } ∷ at.out.behind) all in
         record {
-          running = subst (All (IsLaneOf schedule)) (sym lanes_are) (all_set (IsLaneOf schedule) drive.lanes.items (lun_of group.members) lane' part.running (command_of_plan schedule target accepted (lun_of group.members) group 0 start old new lane' (planned_next schedule part) commanded));
-          waiting = subst (All (Has schedule.groups)) (sym (waiting_are ∙ at.out.others)) (All-append (Has schedule.groups) at.out.before at.out.behind (All-front (Has schedule.groups) at.out.before (record { members = group.members; starts = start ∷ at.starts } ∷ at.out.behind) all) behind.1);
+          running = subst (Each (IsLaneOf schedule)) (sym lanes_are) (all_set (IsLaneOf schedule) drive.lanes.items (lun_of group.members) lane' part.running (command_of_plan schedule target accepted (lun_of group.members) group 0 start old new lane' (planned_next schedule part) commanded));
+          waiting = subst (Each (Has schedule.groups)) (sym (waiting_are ∙ at.out.others)) (All-append (Has schedule.groups) at.out.before at.out.behind (All-front (Has schedule.groups) at.out.before (record { members = group.members; starts = start ∷ at.starts } ∷ at.out.behind) all) behind.1);
         }
