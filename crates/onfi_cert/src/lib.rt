@@ -9,7 +9,6 @@
 //! `ONFICERT 2 strict` where the strict option is on.
 #![tactic(auto)]
 
-mod checked_tokens;
 mod fault;
 mod header;
 mod joining;
@@ -28,7 +27,6 @@ mod width;
 mod word;
 mod writing;
 
-pub use checked_tokens::CheckedTokens;
 pub use fault::CertTextFault;
 pub use joining::join;
 pub use laws::{one_reading, read_back};

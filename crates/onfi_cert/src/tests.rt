@@ -1,6 +1,5 @@
 use crate::{
-    CertTextFault, CheckedTokens, LunNumber, Token, TokenList, TokenSource, Tokens, Width, join,
-    read, write,
+    CertTextFault, LunNumber, Token, TokenList, TokenSource, Tokens, Width, join, read, write,
 };
 use std::alloc::Global;
 
@@ -63,7 +62,7 @@ fn reads_what_was_written(rt: HostRuntime) {
     );
 }
 
-/// The fault that `read`, `Tokens` and `CheckedTokens` tell of a text, and how many tokens `Tokens` gives before it.
+/// The fault that `read`, `Tokens` and its `finish` tell of a text, and how many tokens `Tokens` gives before it.
 fn faults(
     alloc: Global,
     text: &[u8],
@@ -74,12 +73,14 @@ fn faults(
     usize,
 ) {
     let (told, given) = walk(text);
-    (
-        read(alloc, text).err(),
-        told,
-        CheckedTokens::new(text).err(),
-        given,
-    )
+    (read(alloc, text).err(), told, finished(text), given)
+}
+
+fn finished(text: &[u8]) -> Option<CertTextFault> {
+    match Tokens::new(text) {
+        Ok(mut source) => source.finish().err(),
+        Err(fault) => Some(fault),
+    }
 }
 
 fn walk(text: &[u8]) -> (Option<CertTextFault>, usize) {
@@ -159,7 +160,7 @@ fn gives<S: TokenSource + Drop>(mut source: S, tokens: &[Token]) -> bool {
 #[test]
 fn sources_give_all_tokens(rt: HostRuntime) {
     assert!(rt; gives(TokenList::new(&three()), &three()));
-    match CheckedTokens::new(b"ONFICERT 2 strict\nB2 Y1 D1\n") {
+    match Tokens::new(b"ONFICERT 2 strict\nB2 Y1 D1\n") {
         Ok(source) => {
             assert!(rt; source.strict());
             assert!(rt; gives(source, &three()));

@@ -30,7 +30,11 @@ impl<'a> TokenList<'a> {
 }
 
 impl<'a> TokenSource for TokenList<'a> {
+    ghost use Rattle.std.specs.Prelude.{None};
+
     ghost left = { λ l. l };
+
+    ghost behind = { λ l. None };
 
     fn next(&mut self) -> Option<Token> {
         match self.rest {

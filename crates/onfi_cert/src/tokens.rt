@@ -1,10 +1,11 @@
 //! A reader of the text of a certificate.
-ghost use Rattle.std.specs.Prelude.{◌≡◌, IfOk, IfErr};
+ghost use Rattle.std.specs.Prelude.{◌≡◌, None, Some, IfOk, IfErr, OnOk};
 ghost use Rattle.onfi_cert.specs.Ahead.{later, next_of};
 ghost use Rattle.onfi_cert.specs.Reading.{Holds, NoHeader};
 
 use crate::fault::CertTextFault;
 use crate::header::header_of;
+use crate::source::TokenSource;
 use crate::step::step;
 use crate::token::Token;
 use std::marker::Model;
@@ -77,5 +78,28 @@ impl<'a> Tokens<'a> {
             Ok(None) => Ok(None),
             Err(fault) => Err(fault),
         }
+    }
+
+    /// Reads on to the end of the text.
+    ///
+    /// # Errors
+    /// The fault of the text behind the tokens that are left: `BadToken` or `TooLong`.
+    pub fn finish(&mut self) -> Result<(), CertTextFault>
+        ensures ok { OnOk result (self.old.fault ≡ None) }
+        ensures err { IfErr result (λ e. self.old.fault ≡ Some e) }
+    {
+        while let Some(_) = self.next()? {}
+        Ok(())
+    }
+}
+
+impl<'a> TokenSource for Tokens<'a> {
+    ghost left = { λ t. t.tokens };
+
+    ghost behind = { λ t. t.fault };
+
+    /// The next good token; None at the end of the text and at its fault, which `finish` tells.
+    fn next(&mut self) -> Option<Token> {
+        Tokens::next(self).unwrap_or(None)
     }
 }
