@@ -10,3 +10,4 @@ pub mod DieBound
 pub mod LeadBound
 pub mod TrailBound
 pub mod Ends
+pub mod Counting

@@ -28,7 +28,7 @@ use Rattle.onfi_bound.specs.Loads.{IsLoad, IsLeast, commands_to_post, IsChainAt,
 use Rattle.onfi_bound.specs.Reaching.{IsFirstDie}
 use Rattle.onfi_bound.proofs.DieBound.{no_work}
 use Rattle.onfi_bound.proofs.Parts.{next_kind}
-use Rattle.onfi_bound.proofs.Whole.{die_at_is, die_idle}
+use Rattle.onfi_bound.proofs.Whole.{die_working, die_idle}
 use Rattle.onfi_bound.proofs.Ends.{bus_small, die_small}
 
 drop_at : {A : Type 0} (xs : List A) (i : ℕ) (x : A) → slice_get xs i ≡ Some x → drop i xs ≡ x ∷ drop (i + 1) xs
@@ -118,10 +118,7 @@ reached_more p e lun done None met there d m k y n = elim (cases_lt done e) [
 
 -- when a LUN is done that has something left
 pub done_is : (p : Problem) (lun : ℕ) (load : Load) (chain : Chain) → IsLoad p.timing p.rules p.wants load → IsChainAt p lun chain → lun < 8 → (chain.running ≡ true) ⊎ (1 ≤ get_or load.work lun 0) → max p.bus_free chain.from + chain.commands + chain.posts + chain.waits + get_or load.work lun 0 ≡ die p lun
-done_is p lun load chain h (x, at, q) small b =
-    let w = h.work lun small in
-    let b' : ((chain_of p.timing x).running ≡ true) ⊎ (1 ≤ wants_work p.timing p.rules (on_lun lun p.wants)) = rw (q, w) at b in
-    rw (q, w, at) (die_at_is p lun x (on_lun lun p.wants) at b')
+done_is p lun load chain h at small b = die_working p lun chain (get_or load.work lun 0) at (h.work lun small) b
 
 pub done_small : (p : Problem) (lun : ℕ) (load : Load) (chain : Chain) → InLimits p → IsLoad p.timing p.rules p.wants load → IsChainAt p lun chain → lun < 8 → (chain.running ≡ true) ⊎ (1 ≤ get_or load.work lun 0) → max p.bus_free chain.from + chain.commands + chain.posts + chain.waits + get_or load.work lun 0 < 2 ^ 62
 done_small p lun load chain lim h c small b =

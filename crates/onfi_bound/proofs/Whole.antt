@@ -8,10 +8,16 @@ use Rattle.onfi_group.specs.declared.rules.Rules.{Rules}
 use Rattle.onfi_problem.specs.declared.lun_state.LunState.{LunState}
 use Rattle.onfi_problem.specs.declared.lun_state.LunState.TheVariants.{Free, Running}
 use Rattle.onfi_problem.specs.Problem.{Problem}
-use Rattle.onfi_problem.specs.Left.{all_posts}
+use Rattle.onfi_problem.specs.Left.{all_posts, InLimits}
+use Rattle.onfi_problem.specs.declared.moves.Lun.{Lun}
+use Rattle.onfi_problem.specs.Position.{state_of}
+use Rattle.onfi_problem.proofs.Places.{get_within}
+use Rattle.onfi_problem.proofs.Lists.{map_found}
 use Rattle.onfi_bound.specs.declared.chain.Chain.{Chain}
 use Rattle.onfi_bound.specs.Bounds.{on_lun, post_starts, least, lead, wants_work, die_at, die}
-use Rattle.onfi_bound.specs.Parts.{chain_of, chain_starts}
+use Rattle.onfi_bound.specs.Parts.{chain_of, chain_starts, IsShort}
+use Rattle.onfi_bound.specs.Loads.{IsChainAt}
+use Rattle.onfi_bound.proofs.Parts.{short_at}
 use Rattle.onfi_bound.proofs.DieBound.{no_work}
 
 -- the first posts
@@ -41,26 +47,23 @@ die_idle p lun (Running g n r) ws e z = cc
 die_idle p lun (Free since) [] e z = refl
 die_idle p lun (Free since) (w ∷ ws) e z = let r = (spans_of p.timing w.kind).in_range in absurd (omega arith)
 
-found : (p : Problem) (lun : ℕ) (chains : List Chain) (d : Chain) → lun < length p.luns → chains ≡ map (chain_of p.timing) p.luns → (x : LunState) × (slice_get p.luns lun ≡ Some x) × (get_or chains lun d ≡ chain_of p.timing x)
-found p lun chains d h e = let x = go p.luns lun h in (x.0, x.1, rw e x.2)
-  where
-    go : (luns : List LunState) (l : ℕ) → l < length luns → (x : LunState) × (slice_get luns l ≡ Some x) × (get_or (map (chain_of p.timing) luns) l d ≡ chain_of p.timing x)
-    go [] l h = absurd (omega arith)
-    go (x ∷ luns) zero h = (x, refl, refl)
-    go (x ∷ luns) (suc l) h = go luns l (omega arith)
+pub die_working : (p : Problem) (lun : ℕ) (c : Chain) (work : ℕ) → IsChainAt p lun c → work ≡ wants_work p.timing p.rules (on_lun lun p.wants) → (c.running ≡ true) ⊎ (1 ≤ work) → max p.bus_free c.from + c.commands + c.posts + c.waits + work ≡ die p lun
+die_working p lun c work (x, at, q) w h =
+    let h' : ((chain_of p.timing x).running ≡ true) ⊎ (1 ≤ wants_work p.timing p.rules (on_lun lun p.wants)) = rw (q, w) at h in
+    rw (q, w, at) (die_at_is p lun x (on_lun lun p.wants) at h')
 
-pub die_working : (p : Problem) (lun : ℕ) (chains : List Chain) (c d : Chain) (work : ℕ) → lun < length p.luns → chains ≡ map (chain_of p.timing) p.luns → c ≡ get_or chains lun d → work ≡ wants_work p.timing p.rules (on_lun lun p.wants) → (c.running ≡ true) ⊎ (1 ≤ work) → max p.bus_free c.from + c.commands + c.posts + c.waits + work ≡ die p lun
-die_working p lun chains c d work within e at w h =
-    let x = found p lun chains d within e in
-    let q : c ≡ chain_of p.timing x.0 = at ∙ x.2 in
-    let h' : ((chain_of p.timing x.0).running ≡ true) ⊎ (1 ≤ wants_work p.timing p.rules (on_lun lun p.wants)) = rw (q, w) at h in
-    rw (q, w, x.1) (die_at_is p lun x.0 (on_lun lun p.wants) x.1 h')
+pub die_nothing : (p : Problem) (lun : ℕ) (c : Chain) (work : ℕ) → IsChainAt p lun c → work ≡ wants_work p.timing p.rules (on_lun lun p.wants) → c.running ≡ false → work ≡ 0 → p.bus_free ≡ die p lun
+die_nothing p lun c work (x, at, q) w idle z = rw at (sym (die_idle p lun x (on_lun lun p.wants) (sym (ap (λ (y : Chain). y.running) q) ∙ idle) (sym w ∙ z)))
 
-pub die_nothing : (p : Problem) (lun : ℕ) (chains : List Chain) (c d : Chain) (work : ℕ) → lun < length p.luns → chains ≡ map (chain_of p.timing) p.luns → c ≡ get_or chains lun d → work ≡ wants_work p.timing p.rules (on_lun lun p.wants) → c.running ≡ false → work ≡ 0 → p.bus_free ≡ die p lun
-die_nothing p lun chains c d work within e at w idle z =
-    let x = found p lun chains d within e in
-    let q : c ≡ chain_of p.timing x.0 = at ∙ x.2 in
-    rw x.1 (sym (die_idle p lun x.0 (on_lun lun p.wants) (sym (ap (λ (y : Chain). y.running) q) ∙ idle) (sym w ∙ z)))
+-- the chain of a LUN
+pub chain_at : (p : Problem) (timing : Timing) (groups gs : List (List Want)) (luns : List Lun) (lun : ℕ) (d : Lun) (c : Chain) → map (state_of groups) luns ≡ p.luns → lun < length p.luns → timing ≡ p.timing → gs ≡ groups → c ≡ chain_of timing (state_of gs (get_or luns lun d)) → IsChainAt p lun c
+chain_at p timing groups gs luns lun d c e h t g q =
+    let x = get_within p.luns lun h in
+    let s = map_found (state_of groups) luns lun d x.0 (subst (λ z. slice_get z lun ≡ Some x.0) (sym e) x.1) in
+    (x.0, x.1, q ∙ rw (t, g, s) refl)
+
+pub short_chain : (p : Problem) (lun : ℕ) (c : Chain) → InLimits p → IsChainAt p lun c → IsShort c
+short_chain p lun c lim (x, at, q) = rw q (short_at p lim lun x at)
 
 -- and of its first post
 pub lead_some : (p : Problem) (start posts : ℕ) (o : Option ℕ) → o ≡ least (post_starts p 0 p.luns) → Some start ≡ o → posts ≡ all_posts p → start + posts ≡ lead p
@@ -71,10 +74,3 @@ lead_none p o a b = let e : least (post_starts p 0 p.luns) ≡ None = sym (b ∙
 
 pub work_is : (p : Problem) (lun : ℕ) (timing : Timing) (rules : Rules) (wants ws : List Want) (work : ℕ) → timing ≡ p.timing → rules ≡ p.rules → wants ≡ p.wants → ws ≡ wants → work ≡ wants_work timing rules (on_lun lun ws) → work ≡ wants_work p.timing p.rules (on_lun lun p.wants)
 work_is p lun timing rules wants ws work t r a b w = w ∙ rw (b, a, t, r) refl
-
-pub there : (p : Problem) (lun : ℕ) (chains : List Chain) → lun < length p.luns → chains ≡ map (chain_of p.timing) p.luns → lun < length chains
-there p lun chains h e = rw (e, length_map (chain_of p.timing) p.luns) h
-  where
-    length_map : (f : LunState → Chain) (xs : List LunState) → length (map f xs) ≡ length xs
-    length_map f [] = refl
-    length_map f (x ∷ xs) = ap suc (length_map f xs)

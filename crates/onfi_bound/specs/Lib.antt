@@ -2,3 +2,4 @@ pub mod Bounds
 pub mod Parts
 pub mod Reaching
 pub mod Loads
+pub mod Commands

@@ -1,10 +1,15 @@
 ghost use Rattle.std.specs.Prelude.{◌≡◌, ℕ, ◌+◌, ◌^◌, ◌<◌, ◌≤◌, length, Option, Some, None, if◌then◌else◌, IfSome};
-ghost use Rattle.onfi_bound.specs.Bounds.{bus, lead, trail, die, least, least_with, post_starts};
-ghost use Rattle.onfi_bound.specs.Parts.{AreSums, IsLeft};
+ghost use Rattle.onfi_bound.specs.Bounds.{bus, lead, trail, die, least, least_with, post_starts, has_command};
+ghost use Rattle.onfi_timing.specs.declared.kind.Kind.{Kind as AnyKind};
+ghost use Rattle.onfi_problem.specs.Left.{all_commands};
+ghost use Rattle.onfi_bound.specs.Parts.{AreSums, IsLeft, has_kind};
 
-use crate::left::{Left, Sums};
+use crate::chain::Chain;
+use crate::kinds::Kinds;
+use crate::left::{Left, Sums, list_marked};
 use crate::posts::{first_post, least_of};
 use crate::waits::work_of_wants;
+use arrayvec::ArrayVec;
 use onfi_problem::Problem;
 use onfi_timing::Spans;
 
@@ -45,7 +50,16 @@ pub fn die(problem: &Problem, lun: u8) -> u64
     ensures value { result ≡ die problem.now.problem lun }
     ensures small { result < 2 ^ 62 }
 {
-    Left::of(problem).die(problem, lun)
+    let (timing, rules) = (problem.timing(), problem.rules());
+    let bus_free = problem.bus_free();
+    let chain = Chain::of(&timing, problem.groups(), problem.luns()[lun as usize]);
+    let mut wants = ArrayVec::new();
+    list_marked(problem.wants(), problem.waiting(), &mut wants);
+    let work = work_of_wants(&timing, &rules, &wants, lun);
+    if !chain.running && work == 0 {
+        return bus_free;
+    }
+    chain.done_by(bus_free, work)
 }
 
 impl Sums {
@@ -78,14 +92,23 @@ impl Sums {
         ensures value { result ≡ trail problem.now.problem }
         ensures small { IfSome result (λ t. t < 2 ^ 62) }
     {
-        let bus_free = problem.bus_free();
-        let timing = problem.timing();
-        let kinds = self.kinds;
-        let rest = behind_command(kinds.erase, &timing.erase, None);
-        let rest = behind_command(kinds.program, &timing.program, rest);
-        let rest = behind_command(kinds.read, &timing.read, rest)?;
-        Some(bus_free + self.commands + rest)
+        trail_of(problem, self.commands, self.kinds)
     }
+}
+
+/// The trail bound of a problem to which commands of these kinds are left, with the sum of their lengths in ns.
+pub fn trail_of(problem: &Problem, commands: u64, kinds: Kinds) -> Option<u64>
+    requires commands { commands ≡ all_commands problem.now.problem }
+    requires kinds { (kind : AnyKind) → has_kind kinds kind ≡ has_command problem.now.problem kind }
+    ensures value { result ≡ trail problem.now.problem }
+    ensures small { IfSome result (λ t. t < 2 ^ 62) }
+{
+    let bus_free = problem.bus_free();
+    let timing = problem.timing();
+    let rest = behind_command(kinds.erase, &timing.erase, None);
+    let rest = behind_command(kinds.program, &timing.program, rest);
+    let rest = behind_command(kinds.read, &timing.read, rest)?;
+    Some(bus_free + commands + rest)
 }
 
 impl Left {
@@ -98,22 +121,6 @@ impl Left {
         let timing = problem.timing();
         let first = first_post(&timing, self.bus_free, &self.chains, &self.wants);
         self.sums.lead(problem, first)
-    }
-
-    /// The die bound of a LUN.
-    pub fn die(&self, problem: &Problem, lun: u8) -> u64
-        requires left { IsLeft problem.now.problem self.now }
-        requires there { lun < length problem.now.problem.luns }
-        ensures value { result ≡ die problem.now.problem lun }
-        ensures small { result < 2 ^ 62 }
-    {
-        let chain = self.chains[lun as usize];
-        let (timing, rules) = (problem.timing(), problem.rules());
-        let work = work_of_wants(&timing, &rules, &self.wants, lun);
-        if !chain.running && work == 0 {
-            return self.bus_free;
-        }
-        chain.done_by(self.bus_free, work)
     }
 }
 

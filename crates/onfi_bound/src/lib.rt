@@ -5,6 +5,7 @@
 mod bound;
 mod bounds;
 mod chain;
+mod commands;
 mod kinds;
 pub mod laws;
 mod left;
@@ -17,6 +18,7 @@ mod waits;
 
 pub use bound::Bound;
 pub use bounds::{bus, die, lead, trail};
+pub use commands::Commands;
 pub use loads::Loads;
 pub use reaching::{closing, reaches};
 

@@ -6,22 +6,24 @@ ghost use Rattle.onfi_check.specs.Faults.{IsCertFault, IsTextFault};
 ghost use Rattle.onfi_check.specs.Tree.{AcceptsTokens};
 
 use crate::fault::{CertFault, TextFault};
+use crate::numbered::Numbered;
 use crate::walk::read_whole;
-use onfi_cert::{CheckedTokens, Token, TokenList, TokenSource};
+use onfi_cert::{Token, TokenList, TokenSource, Tokens};
 use onfi_problem::Problem;
 use onfi_schedule::{Schedule, finish, legal};
 use std::alloc::Global;
 
 // Checks a schedule by the tokens of a source.
-fn check_source<S: TokenSource + Drop>(
+fn check_source<S: TokenSource>(
     alloc: Global,
     problem: &Problem,
     schedule: &Schedule,
-    source: S,
+    tokens: &mut Numbered<S>,
 ) -> Result<u64, CertFault>
     ensures optimal { IfOk result (λ e. Optimal problem.now.problem schedule.now × (finish problem.now.problem schedule.now ≡ e)) }
-    ensures accepted { IfOk result (λ e. AcceptsTokens (S.left source) problem.now.problem e) }
-    ensures fault { IfErr result (IsCertFault problem.now.problem schedule.now (S.left source)) }
+    ensures accepted { IfOk result (λ e. AcceptsTokens (S.left tokens.old.source) problem.now.problem e) }
+    ensures behind { S.behind tokens.new.source ≡ S.behind tokens.old.source }
+    ensures fault { IfErr result (IsCertFault problem.now.problem schedule.now (S.left tokens.old.source)) }
 {
     if !legal(problem, schedule) {
         return Err(CertFault::Illegal);
@@ -30,7 +32,7 @@ fn check_source<S: TokenSource + Drop>(
         return Err(CertFault::Memory);
     };
     let e = finish(problem, schedule);
-    read_whole(&mut copy, e, source)?;
+    read_whole(&mut copy, e, tokens)?;
     Ok(e)
 }
 
@@ -52,11 +54,12 @@ pub fn check(
     ensures illegal { (result ≡ Err CertFault.Illegal) ↔ (Legal problem.now.problem schedule.now → ⊥) }
     ensures fault { IfErr result (IsCertFault problem.now.problem schedule.now tokens.now) }
 {
-    check_source(alloc, problem, schedule, TokenList::new(tokens))
+    let mut tokens = Numbered::of(TokenList::new(tokens));
+    check_source(alloc, problem, schedule, &mut tokens)
 }
 
-/// The same by the text of a certificate, which is read twice: once for its faults, once for its tokens. No list of
-/// tokens is built.
+/// The same by the text of a certificate, which is read once: a fault of the text is told before all others, so behind
+/// another fault the text is read on to its end. No list of tokens is built.
 ///
 /// # Errors
 /// `Text` where the text is no certificate, with its fault, never `Memory`. Else `Option` where its header names
@@ -71,14 +74,20 @@ pub fn check_text(
     ensures accepted { IfOk result (λ e. (tokens : List OneToken) × IsCertificate text.now problem.now.problem.rules.strict tokens × AcceptsTokens tokens problem.now.problem e) }
     ensures fault { IfErr result (IsTextFault problem.now.problem schedule.now text.now) }
 {
-    let tokens = match CheckedTokens::new(text) {
-        Ok(tokens) => tokens,
+    let source = match Tokens::new(text) {
+        Ok(source) => source,
         Err(fault) => return Err(TextFault::Text(fault)),
     };
-    if tokens.strict() != problem.rules().strict {
+    let strict = source.strict();
+    let mut tokens = Numbered::of(source);
+    let checked = check_source(alloc, problem, schedule, &mut tokens);
+    if let Err(fault) = tokens.source.finish() {
+        return Err(TextFault::Text(fault));
+    }
+    if strict != problem.rules().strict {
         return Err(TextFault::Option);
     }
-    match check_source(alloc, problem, schedule, tokens) {
+    match checked {
         Ok(e) => Ok(e),
         Err(fault) => Err(TextFault::Cert(fault)),
     }

@@ -1,19 +1,21 @@
 ghost use Rattle.std.specs.Prelude.{◌≡◌, ◌↔◌, IsTrue};
+ghost use Rattle.onfi_bound.specs.Commands.{AreCommands};
 ghost use Rattle.onfi_check.specs.Tree.{Closes, Closing, AtEnd, token_of};
 
-use onfi_bound::{Bound, reaches};
+use onfi_bound::{Bound, Commands, reaches};
 use onfi_cert::Token;
 use onfi_problem::Problem;
 
 /// Whether a token closes the node of a problem for the finish `e`, in ns: its bound reaches it, or nothing is left and
 /// so much time has passed.
-pub(crate) fn closes(problem: &Problem, token: &Token, e: u64) -> bool
+pub(crate) fn closes(problem: &Problem, left: Commands, token: &Token, e: u64) -> bool
+    requires { AreCommands problem.now.problem left }
     ensures { IsTrue result ↔ ((c : Closing) × (token_of c ≡ token.now) × Closes problem.now.problem e c) }
 {
     match *token {
         Token::Bus => reaches(problem, Bound::Bus, e),
         Token::Lead => reaches(problem, Bound::Lead, e),
-        Token::Trail => reaches(problem, Bound::Trail, e),
+        Token::Trail => left.trail_reaches(problem, e),
         Token::Die(lun) => reaches(problem, Bound::Die(lun.get()), e),
         Token::End => is_over(problem, e),
         Token::Branch(_) | Token::Yield(_) => false,

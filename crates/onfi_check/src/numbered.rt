@@ -11,10 +11,18 @@ pub struct Numbered<S> {
 }
 
 impl<S: TokenSource> Numbered<S> {
+    /// All tokens of a source.
+    pub fn of(source: S) -> Numbered<S>
+        ensures { result.source ≡ source }
+    {
+        Numbered { source, place: 0 }
+    }
+
     /// The next token and its place, or None where no token is left.
     pub fn take(&mut self) -> Option<(Token, usize)>
         ensures token { IfSome result (λ r. S.left self.old.source ≡ r.0 ∷ S.left self.new.source) }
         ensures end { IfNone result (S.left self.old.source ≡ []) }
+        ensures behind { S.behind self.new.source ≡ S.behind self.old.source }
     {
         let token = self.source.next()?;
         let place = self.place;

@@ -5,6 +5,7 @@ ghost use Rattle.onfi_problem.specs.Moves.{AreMoves, IsMove, after};
 ghost use Rattle.onfi_problem.specs.Position.{move_of, moves_of};
 ghost use Rattle.onfi_problem.specs.Starts.{IsNamed};
 ghost use Rattle.std.specs.List.{AllByRecursion as Each};
+ghost use Rattle.onfi_bound.specs.Commands.{AreCommands};
 ghost use Rattle.onfi_cert.specs.declared.token.Token.{Token as OneToken};
 ghost use Rattle.onfi_check.specs.Faults.{IsOfTokens};
 ghost use Rattle.onfi_check.specs.Reading.{Begins, BeginsEach, ReadsChild, RefusesChild};
@@ -15,7 +16,8 @@ use crate::ends::last_ends;
 use crate::fault::CertFault;
 use crate::numbered::Numbered;
 use crate::yields::{Standing, take_yield};
-use onfi_cert::{Token, TokenSource};
+use onfi_bound::Commands;
+use onfi_cert::{Token, TokenSource, Width};
 use onfi_problem::{Move, Moves, Problem};
 
 // What speaks against a token that closes no node, told at that place.
@@ -30,12 +32,19 @@ fn closing_fault(token: Token, place: usize) -> CertFault
 }
 
 // Reads a token that closes a node.
-fn read_closing(problem: &Problem, e: u64, token: Token, place: usize) -> Result<(), CertFault>
+fn read_closing(
+    problem: &Problem,
+    e: u64,
+    left: Commands,
+    token: Token,
+    place: usize,
+) -> Result<(), CertFault>
+    requires counts { AreCommands problem.now.problem left }
     ensures ok { OnOk result ((c : Closing) × (token_of c ≡ token) × Closes problem.now.problem e c) }
     ensures err { IfErr result (λ _. ((c : Closing) × (token_of c ≡ token) × Closes problem.now.problem e c) → ⊥) }
     ensures kind { IfErr result IsOfTokens }
 {
-    if closes(problem, &token, e) {
+    if closes(problem, left, &token, e) {
         Ok(())
     } else {
         Err(closing_fault(token, place))
@@ -52,24 +61,49 @@ fn read_closing(problem: &Problem, e: u64, token: Token, place: usize) -> Result
 fn read_tree<S: TokenSource>(
     problem: &mut Problem,
     e: u64,
+    left: Commands,
     token: Token,
     place: usize,
     tokens: &mut Numbered<S>,
 ) -> Result<(), CertFault>
+    requires counts { AreCommands problem.old.problem left }
     ensures problem { OnOk result (problem.new ≡ problem.old) }
     ensures fewer { OnOk result (length (S.left tokens.new.source) ≤ length (S.left tokens.old.source)) }
+    ensures behind { S.behind tokens.new.source ≡ S.behind tokens.old.source }
     ensures ok { OnOk result (Begins problem.old.problem e (token ∷ S.left tokens.old.source) (S.left tokens.new.source)) }
     ensures err { IfErr result (λ _. (rest : List OneToken) → Begins problem.old.problem e (token ∷ S.left tokens.old.source) rest → ⊥) }
     ensures kind { IfErr result IsOfTokens }
 {
-    let Token::Branch(width) = token else {
-        return read_closing(problem, e, token, place);
-    };
+    match token {
+        Token::Branch(width) => read_branch(problem, e, left, width, place, tokens),
+        _ => read_closing(problem, e, left, token, place),
+    }
+}
+
+// Reads the tree of a branch, which was taken already. A function of its own, so that a token that closes a node
+// makes no room for moves.
+#[cycle(read)]
+fn read_branch<S: TokenSource>(
+    problem: &mut Problem,
+    e: u64,
+    left: Commands,
+    width: Width,
+    place: usize,
+    tokens: &mut Numbered<S>,
+) -> Result<(), CertFault>
+    requires counts { AreCommands problem.old.problem left }
+    ensures problem { OnOk result (problem.new ≡ problem.old) }
+    ensures fewer { OnOk result (length (S.left tokens.new.source) ≤ length (S.left tokens.old.source)) }
+    ensures behind { S.behind tokens.new.source ≡ S.behind tokens.old.source }
+    ensures ok { OnOk result (Begins problem.old.problem e (Token.Branch width ∷ S.left tokens.old.source) (S.left tokens.new.source)) }
+    ensures err { IfErr result (λ _. (rest : List OneToken) → Begins problem.old.problem e (Token.Branch width ∷ S.left tokens.old.source) rest → ⊥) }
+    ensures kind { IfErr result IsOfTokens }
+{
     let moves = problem.steps();
     if moves.len() != width.get() as usize {
         return Err(CertFault::Width(place));
     }
-    read_children(problem, e, &moves, tokens)
+    read_children(problem, e, left, &moves, tokens)
 }
 
 // Reads a child for each move of a node.
@@ -77,13 +111,16 @@ fn read_tree<S: TokenSource>(
 fn read_children<S: TokenSource>(
     problem: &mut Problem,
     e: u64,
+    left: Commands,
     moves: &Moves,
     tokens: &mut Numbered<S>,
 ) -> Result<(), CertFault>
+    requires counts { AreCommands problem.old.problem left }
     requires moves { AreMoves problem.old.problem (moves_of problem.old.groups moves.now) }
     requires named { Each (IsNamed problem.old.groups) moves.now }
     ensures problem { OnOk result (problem.new ≡ problem.old) }
     ensures fewer { OnOk result (length (S.left tokens.new.source) ≤ length (S.left tokens.old.source)) }
+    ensures behind { S.behind tokens.new.source ≡ S.behind tokens.old.source }
     ensures ok { OnOk result (BeginsEach problem.old.problem e (moves_of problem.old.groups moves.now) (S.left tokens.old.source) (S.left tokens.new.source)) }
     ensures err { IfErr result (λ _. (rest : List OneToken) → BeginsEach problem.old.problem e (moves_of problem.old.groups moves.now) (S.left tokens.old.source) rest → ⊥) }
     ensures kind { IfErr result IsOfTokens }
@@ -95,7 +132,7 @@ fn read_children<S: TokenSource>(
         leaving: [false; 8],
     };
     for m in listed {
-        read_child(problem, e, *m, &mut standing, tokens)?;
+        read_child(problem, e, left, *m, &mut standing, tokens)?;
     }
     Ok(())
 }
@@ -105,14 +142,17 @@ fn read_children<S: TokenSource>(
 fn read_child<S: TokenSource>(
     problem: &mut Problem,
     e: u64,
+    left: Commands,
     m: Move,
     standing: &mut Standing,
     tokens: &mut Numbered<S>,
 ) -> Result<(), CertFault>
+    requires counts { AreCommands problem.old.problem left }
     requires step { IsMove problem.old.problem (move_of problem.old.groups m) }
     requires named { IsNamed problem.old.groups m }
     ensures problem { OnOk result (problem.new ≡ problem.old) }
     ensures fewer { OnOk result (length (S.left tokens.new.source) ≤ length (S.left tokens.old.source)) }
+    ensures behind { S.behind tokens.new.source ≡ S.behind tokens.old.source }
     ensures ends { standing.new.ends ≡ standing.old.ends }
     ensures ok { OnOk result (ReadsChild problem.old.problem e (move_of problem.old.groups m) standing.old standing.new (S.left tokens.old.source) (S.left tokens.new.source)) }
     ensures err { IfErr result (λ _. RefusesChild problem.old.problem e (move_of problem.old.groups m) standing.old (S.left tokens.old.source)) }
@@ -123,7 +163,7 @@ fn read_child<S: TokenSource>(
     };
     match token {
         Token::Yield(lun) => take_yield(problem, standing, m.lun(), lun.get(), place),
-        _ => read_below(problem, e, m, token, place, tokens),
+        _ => read_below(problem, e, left, m, token, place, tokens),
     }
 }
 
@@ -132,21 +172,25 @@ fn read_child<S: TokenSource>(
 fn read_below<S: TokenSource>(
     problem: &mut Problem,
     e: u64,
+    left: Commands,
     m: Move,
     token: Token,
     place: usize,
     tokens: &mut Numbered<S>,
 ) -> Result<(), CertFault>
+    requires counts { AreCommands problem.old.problem left }
     requires step { IsMove problem.old.problem (move_of problem.old.groups m) }
     requires named { IsNamed problem.old.groups m }
     ensures problem { OnOk result (problem.new ≡ problem.old) }
     ensures fewer { OnOk result (length (S.left tokens.new.source) ≤ length (S.left tokens.old.source)) }
+    ensures behind { S.behind tokens.new.source ≡ S.behind tokens.old.source }
     ensures ok { OnOk result (Begins (after problem.old.problem (move_of problem.old.groups m)) e (token ∷ S.left tokens.old.source) (S.left tokens.new.source)) }
     ensures err { IfErr result (λ _. (rest : List OneToken) → Begins (after problem.old.problem (move_of problem.old.groups m)) e (token ∷ S.left tokens.old.source) rest → ⊥) }
     ensures kind { IfErr result IsOfTokens }
 {
+    let left = left.after(problem, m);
     let undo = problem.advance(m);
-    read_tree(problem, e, token, place, tokens)?;
+    read_tree(problem, e, left, token, place, tokens)?;
     problem.undo(undo);
     Ok(())
 }
@@ -156,21 +200,22 @@ fn read_below<S: TokenSource>(
 /// # Errors
 /// The first fault in reading order: `Short`, `Width`, `BoundLow`, `YieldLoop`, `YieldNoFit` or `NotEnd`, else
 /// `Trailing` at the first token behind the tree. Then the problem may be one within the tree.
-pub(crate) fn read_whole<S: TokenSource + Drop>(
+pub(crate) fn read_whole<S: TokenSource>(
     problem: &mut Problem,
     e: u64,
-    source: S,
+    tokens: &mut Numbered<S>,
 ) -> Result<(), CertFault>
     ensures problem { OnOk result (problem.new ≡ problem.old) }
-    ensures ok { OnOk result (AcceptsTokens (S.left source) problem.old.problem e) }
-    ensures err { IfErr result (λ _. AcceptsTokens (S.left source) problem.old.problem e → ⊥) }
+    ensures behind { S.behind tokens.new.source ≡ S.behind tokens.old.source }
+    ensures ok { OnOk result (AcceptsTokens (S.left tokens.old.source) problem.old.problem e) }
+    ensures err { IfErr result (λ _. AcceptsTokens (S.left tokens.old.source) problem.old.problem e → ⊥) }
     ensures kind { IfErr result IsOfTokens }
 {
-    let mut tokens = Numbered { source, place: 0 };
+    let left = Commands::of(problem);
     let Some((token, place)) = tokens.take() else {
         return Err(CertFault::Short);
     };
-    read_tree(problem, e, token, place, &mut tokens)?;
+    read_tree(problem, e, left, token, place, tokens)?;
     match tokens.take() {
         Some((_, place)) => Err(CertFault::Trailing(place)),
         None => Ok(()),

@@ -1,7 +1,7 @@
 use Rattle.std.proofs.Common.{sym, arith}
 use Rattle.std.proofs.lemmas.Grind.{common_steps}
 use Rattle.onfi_bound.proofs.Ends.{bus_small, trail_small}
-use Rattle.onfi_bound.proofs.left.Sums.trail.Goals as goal
+use Rattle.onfi_bound.proofs.bounds.trail_of.Goals as goal
 
 pub overflow_add-result : goal.overflow_add-result
 overflow_add-result c = let h = bus_small c.args.problem.now.problem c.bus_free-bus_free.ensures.limits in omega arith

@@ -10,7 +10,7 @@ returns-clause-optimal g c =
     let x = c.args.problem.now in
     let same = c.in_ok-read_whole.ensures.problem ∙ c.in-Ok.ensures in
     let kept = subst (λ (z : Position). IsProblem z.problem) (c.copy-2.view_is ∙ same) c.copy-2.invariant.0.limits.problem in
-    let accepted = subst (λ (z : Position). AcceptsTokens (g.S.TokenSource.left c.args.source) z.problem c.finish-e.result) c.in-Ok.ensures c.in_ok-read_whole.ensures.ok in
+    let accepted = subst (λ (z : Position). AcceptsTokens (g.S.TokenSource.left c.args.tokens.now.source) z.problem c.finish-e.result) c.in-Ok.ensures c.in_ok-read_whole.ensures.ok in
     let legal = c.if-not-legal.ensures.0 refl in
     let e = c.finish-e.ensures in
     (certified x.problem c.args.schedule.now accepted.0 kept legal (subst (Accepts accepted.0 x.problem) e accepted.2), sym e)

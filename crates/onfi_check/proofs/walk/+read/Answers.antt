@@ -5,7 +5,10 @@ use Rattle.onfi_problem.specs.declared.moves.Move.TheVariants.{Next}
 use Rattle.onfi_problem.specs.Moves.{IsMove, AreMoves}
 use Rattle.onfi_problem.specs.Position.{Position, move_of, moves_of}
 use Rattle.onfi_problem.specs.Starts.{IsNamed}
+use Rattle.std.specs.Prelude.{OnOk, IfErr}
 use Rattle.onfi_cert.specs.declared.token.Token.{Token}
+use Rattle.onfi_cert.specs.declared.token.Token.TheVariants.{Branch}
+use Rattle.onfi_bound.specs.Commands.{AreCommands}
 use Rattle.onfi_check.specs.Reading.{Begins, BeginsEach, ReadsChild, RefusesChild}
 use Rattle.onfi_check.specs.Ends.{AreLastEnds}
 use Rattle.onfi_check.proofs.LastEnds.{move_at, at_place}
@@ -16,6 +19,11 @@ pub read_below-returns-in_err-read_tree-clause-err : goal.read_below-returns-in_
 read_below-returns-in_err-read_tree-clause-err g t c =
     let p = err_from_is_err_and c.from_residual.result c.from_residual.ensures.1 in
     rw p.1 (subst (λ (z : Position). (rest : List Token) → Begins z.problem c.args.e (c.args.token ∷ g.S.TokenSource.left c.args.tokens.now.source) rest → ⊥) c.advance-undo.ensures.moved c.in_err-read_tree.ensures.err)
+
+pub read_below-read_tree-requires : goal.read_below-read_tree-requires
+read_below-read_tree-requires g t c κs within =
+    let counts = subst (λ (z : Position). AreCommands z.problem c.after-left.result) (sym c.advance-undo.ensures.moved) c.after-left.ensures in
+    (omega (arith, c.decreases), (within, counts))
 
 pub read_child-returns-in_default-clause-err : goal.read_child-returns-in_default-clause-err
 read_child-returns-in_default-clause-err g t c = none_left c.args.problem.now.problem c.args.e (move_of c.args.problem.now.groups c.args.m) c.args.standing.now (g.S.TokenSource.left c.args.tokens.now.source) c.in_default.ensures.end
@@ -47,6 +55,7 @@ read_child-returns-in_default-token g t c =
     record {
       problem = c.read_below.ensures.problem;
       fewer = fewer_left tokens left next c.in-Some.token c.read_below.result c.in-Some.ensures.token c.read_below.ensures.fewer;
+      behind = c.read_below.ensures.behind ∙ c.take.ensures.behind;
       ends = refl;
       ok = child_taken p c.args.e m c.args.standing.now tokens left next c.in-Some.token c.read_below.result c.in-Some.ensures.token c.read_below.ensures.ok;
       err = child_refused p c.args.e m c.args.standing.now tokens left c.in-Some.token c.read_below.result c.in-Some.ensures.token c.in_default-token.not-Yield c.read_below.ensures.err;
@@ -66,6 +75,7 @@ read_children-loop-m-init g t c =
     record {
       problem = refl;
       fewer = omega arith;
+      behind = refl;
       ends = c.last_ends.ensures.ends;
       same = λ rest. begun x c.args.e items (g.S.TokenSource.left c.args.tokens.now.source) rest (subst (All (IsNamed x.groups)) (sym c.as_slice-listed.ensures.value) c.requires.named);
     }
@@ -83,8 +93,11 @@ read_children-read_child-requires g t c κs within =
       (
         within,
         (
-          subst (λ (z : Position). IsMove z.problem (move_of z.groups (get_or items i (Next 0)))) same (move_at x.problem x.groups items i (Next 0) c.loop-m-test.true are.moves_only),
-          subst (λ (z : Position). IsNamed z.groups (get_or items i (Next 0))) same (at_place (IsNamed x.groups) items i (Next 0) c.loop-m-test.true named),
+          subst (λ (z : Position). AreCommands z.problem c.args.left) same c.requires.counts,
+          (
+            subst (λ (z : Position). IsMove z.problem (move_of z.groups (get_or items i (Next 0)))) same (move_at x.problem x.groups items i (Next 0) c.loop-m-test.true are.moves_only),
+            subst (λ (z : Position). IsNamed z.groups (get_or items i (Next 0))) same (at_place (IsNamed x.groups) items i (Next 0) c.loop-m-test.true named),
+          ),
         ),
       ),
     )
@@ -114,6 +127,7 @@ read_children-loop-m-preserved g t c =
     record {
       problem = c.in_ok-read_child.ensures.problem ∙ c.loop-m.invariant.problem;
       fewer = omega arith;
+      behind = c.read_child.ensures.behind ∙ c.loop-m.invariant.behind;
       ends = subst (AreLastEnds x.problem (moves_of x.groups items)) (sym c.read_child.ensures.ends) c.loop-m.invariant.ends;
       same = λ rest. one_more_child x c.args.e items i (Next 0) c.loop-m.standing c.read_child.new.standing tokens left begun rest c.loop-m-test.true c.loop-m.invariant.ends reads (c.loop-m.invariant.same rest);
     }
@@ -126,6 +140,20 @@ read_children-returns-clause-ok g t c =
     let begun = g.S.TokenSource.left c.args.tokens.now.source in
     subst (λ z. BeginsEach x.problem c.args.e (moves_of x.groups z) begun left) c.as_slice-listed.ensures.value (all_children x c.args.e items c.loop-m.m-index c.loop-m.standing.awaited c.loop-m.standing.leaving left begun c.loop-m-test.false (c.loop-m.invariant.same left))
 
+pub read_tree-returns-in-Branch : goal.read_tree-returns-in-Branch
+read_tree-returns-in-Branch g t c =
+    let p = c.args.problem.now.problem in
+    let left = g.S.TokenSource.left c.args.tokens.now.source in
+    let next = g.S.TokenSource.left c.read_branch.new.tokens.source in
+    record {
+      problem = c.read_branch.ensures.problem;
+      fewer = c.read_branch.ensures.fewer;
+      behind = c.read_branch.ensures.behind;
+      ok = subst (λ z. OnOk c.read_branch.result (Begins p c.args.e (z ∷ left) next)) (sym c.in-Branch.is) c.read_branch.ensures.ok;
+      err = subst (λ z. IfErr c.read_branch.result (λ _. (rest : List Token) → Begins p c.args.e (z ∷ left) rest → ⊥)) (sym c.in-Branch.is) c.read_branch.ensures.err;
+      kind = c.read_branch.ensures.kind;
+    }
+
 pub read_tree-returns-in_default : goal.read_tree-returns-in_default
 read_tree-returns-in_default g t c =
     let p = c.args.problem.now.problem in
@@ -133,29 +161,30 @@ read_tree-returns-in_default g t c =
     record {
       problem = on_ok c.read_closing.result refl;
       fewer = on_ok c.read_closing.result (omega arith);
+      behind = refl;
       ok = closing_taken p c.args.e c.args.token left c.read_closing.result c.read_closing.ensures.ok;
       err = closing_refused p c.args.e c.args.token left c.read_closing.result c.in_default.not-Branch c.read_closing.ensures.err;
       kind = c.read_closing.ensures.kind;
     }
 
-pub read_tree-returns-then-len-get-clause-err : goal.read_tree-returns-then-len-get-clause-err
-read_tree-returns-then-len-get-clause-err g t c = λ rest b.
+pub read_branch-returns-then-len-get-clause-err : goal.read_branch-returns-then-len-get-clause-err
+read_branch-returns-then-len-get-clause-err g t c = λ rest b.
     let x = c.args.problem.now in
     let left = g.S.TokenSource.left c.args.tokens.now.source in
-    let wide = branch_width x c.args.e c.in-Branch.width c.get.result c.steps-moves.result c.args.token left rest c.steps-moves.ensures.moves c.in-Branch.is c.get.ensures.value b in
+    let wide = branch_width x c.args.e c.args.width c.get.result c.steps-moves.result (Branch c.args.width) left rest c.steps-moves.ensures.moves refl c.get.ensures.value b in
     let long = c.len.ensures.value in
     omega (arith, c.if-len-get.true)
 
-pub read_tree-returns-clause-ok : goal.read_tree-returns-clause-ok
-read_tree-returns-clause-ok g t c =
+pub read_branch-returns-clause-ok : goal.read_branch-returns-clause-ok
+read_branch-returns-clause-ok g t c =
     let x = c.args.problem.now in
     let left = g.S.TokenSource.left c.args.tokens.now.source in
     let next = g.S.TokenSource.left c.read_children.new.tokens.source in
     let long = c.len.ensures.value in
-    branch_taken x c.args.e c.in-Branch.width c.get.result c.steps-moves.result c.args.token left next c.read_children.result c.steps-moves.ensures.moves c.in-Branch.is c.get.ensures.value c.get.ensures.low (omega (arith, c.if-len-get.false)) c.read_children.ensures.ok
+    branch_taken x c.args.e c.args.width c.get.result c.steps-moves.result (Branch c.args.width) left next c.read_children.result c.steps-moves.ensures.moves refl c.get.ensures.value c.get.ensures.low (omega (arith, c.if-len-get.false)) c.read_children.ensures.ok
 
-pub read_tree-returns-clause-err : goal.read_tree-returns-clause-err
-read_tree-returns-clause-err g t c =
+pub read_branch-returns-clause-err : goal.read_branch-returns-clause-err
+read_branch-returns-clause-err g t c =
     let x = c.args.problem.now in
     let left = g.S.TokenSource.left c.args.tokens.now.source in
-    branch_refused x c.args.e c.in-Branch.width c.steps-moves.result c.args.token left c.read_children.result c.steps-moves.ensures.moves c.in-Branch.is c.read_children.ensures.err
+    branch_refused x c.args.e c.args.width c.steps-moves.result (Branch c.args.width) left c.read_children.result c.steps-moves.ensures.moves refl c.read_children.ensures.err

@@ -6,16 +6,19 @@ use Rattle.onfi_check.specs.Reading.{BeginsEach, BeginsRest}
 use Rattle.onfi_check.proofs.walk.+read.Given as goal
 
 abbrev pub decreases-read_tree : goal.decreases-read_tree
-decreases-read_tree g l = 4 * length (g.S.TokenSource.left l.tokens.now.source) + 2
+decreases-read_tree g l = 5 * length (g.S.TokenSource.left l.tokens.now.source) + 3
+
+abbrev pub decreases-read_branch : goal.decreases-read_branch
+decreases-read_branch g l = 5 * length (g.S.TokenSource.left l.tokens.now.source) + 2
 
 abbrev pub decreases-read_children : goal.decreases-read_children
-decreases-read_children g l = 4 * length (g.S.TokenSource.left l.tokens.now.source) + 1
+decreases-read_children g l = 5 * length (g.S.TokenSource.left l.tokens.now.source) + 1
 
 abbrev pub decreases-read_child : goal.decreases-read_child
-decreases-read_child g l = 4 * length (g.S.TokenSource.left l.tokens.now.source)
+decreases-read_child g l = 5 * length (g.S.TokenSource.left l.tokens.now.source)
 
 abbrev pub decreases-read_below : goal.decreases-read_below
-decreases-read_below g l = 4 * length (g.S.TokenSource.left l.tokens.now.source) + 3
+decreases-read_below g l = 5 * length (g.S.TokenSource.left l.tokens.now.source) + 4
 
 abbrev pub invariant-read_children-loop-m : goal.invariant-read_children-loop-m
 invariant-read_children-loop-m g l =
@@ -26,6 +29,7 @@ invariant-read_children-loop-m g l =
     record {
       problem : l.problem ≡ l.fn.problem;
       fewer : length left ≤ length begun;
+      behind : g.S.TokenSource.behind l.tokens.source ≡ g.S.TokenSource.behind l.fn.tokens.source;
       ends : AreLastEnds p all l.standing.ends;
       same : (rest : List Token) → BeginsRest p l.e (moves_of l.fn.problem.groups (drop l.m-index l.listed)) all l.standing.awaited l.standing.leaving left rest ↔ BeginsEach p l.e all begun rest;
     }

@@ -1,0 +1,31 @@
+use Rattle.std.proofs.Common.{◌≡◌, ◌≤◌, ◌<◌, ◌+◌, ◌∙◌, length, take, subst, ap, sym, arith}
+use Rattle.onfi_request.specs.declared.want.Want.{Want}
+use Rattle.onfi_group.specs.Words.{total}
+use Rattle.onfi_problem.specs.declared.moves.Lun.{Lun}
+use Rattle.onfi_problem.specs.Position.{state_of, waiting_of}
+use Rattle.onfi_bound.specs.Commands.{commands_on, one_of, count_of}
+use Rattle.onfi_bound.proofs.Parts.{placed}
+use Rattle.onfi_bound.proofs.Steps.{all_at}
+use Rattle.onfi_bound.proofs.Counting.{luns_counted, one_lun, all_counted}
+use Rattle.onfi_bound.proofs.commands.Commands.of.Goals as goal
+
+pub with_lun-counts-requires-clause-place : goal.with_lun-counts-requires-clause-place
+with_lun-counts-requires-clause-place c =
+    let x = c.args.problem.now in
+    let blank : Lun = record { next = 0; place = 0; time = 0 } in
+    rw c.groups-groups.ensures.value (all_at (λ (lun : Lun). 1 ≤ lun.next → lun.place < length x.groups) c.luns-lun-items.result.now c.loop-lun.lun-index blank c.loop-lun-test.true (placed x.problem x.groups c.luns-lun-items.result.now c.bus_free-limits.ensures.limits c.luns-lun-items.ensures.states))
+
+pub loop-lun-preserved : goal.loop-lun-preserved
+loop-lun-preserved c =
+    let x = c.args.problem.now in
+    let blank : Lun = record { next = 0; place = 0; time = 0 } in
+    record {
+      same = λ kind. one_lun kind x.groups _ c.luns-lun-items.result.now c.loop-lun.lun-index blank _ _ _ c.loop-lun-test.true c.groups-groups.ensures.value (c.loop-lun.invariant.same kind) (c.with_lun-counts.ensures.counts kind);
+      few = λ kind. (let f = c.loop-lun.invariant.few kind in let g = c.with_lun-counts.ensures.few kind in omega arith);
+    }
+
+pub returns : goal.returns
+returns c = λ kind.
+    let x = c.args.problem.now in
+    let first = c.of_wants-counts.ensures.counts kind ∙ (ap (λ z. total (one_of kind) (waiting_of c.waiting.result.now z)) c.wants.ensures.value ∙ ap (total (one_of kind)) c.waiting.ensures.value) in
+    all_counted kind x.problem x.groups c.luns-lun-items.result.now c.luns-lun-items.ensures.states c.loop-lun.lun-index _ _ c.loop-lun-test.false (c.loop-lun.invariant.same kind) first

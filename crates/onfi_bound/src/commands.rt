@@ -1,0 +1,182 @@
+//! How many commands of each kind are left, kept from node to node of a walk.
+
+ghost use Rattle.std.specs.Prelude.{◌≡◌, ℕ, ◌+◌, ◌^◌, ◌<◌, ◌≤◌, ◌↔◌, IsTrue, if◌then◌else◌, length, slice_index_or, []};
+ghost use Rattle.onfi_timing.specs.declared.kind.Kind.{Kind as AnyKind};
+ghost use Rattle.onfi_group.specs.Words.{total};
+ghost use Rattle.onfi_problem.specs.Moves.{IsMove, after, Next, Start};
+ghost use Rattle.onfi_problem.specs.Position.{move_of, state_of, waiting_of};
+ghost use Rattle.onfi_bound.specs.Bounds.{same_kind, trail};
+ghost use Rattle.onfi_bound.specs.Commands.{AreCommands, count_of, commands_on, one_of};
+ghost use Rattle.onfi_bound.specs.Reaching.{Reaches};
+
+use crate::bound::Bound;
+use crate::bounds::trail_of;
+use crate::kinds::Kinds;
+use crate::reaching::is_reached;
+use onfi_group::Group;
+use onfi_problem::{Lun, Move, Problem};
+use onfi_request::Want;
+use onfi_timing::Kind;
+
+/// How many commands of each kind are left to a problem, of its running groups and its wants.
+///
+/// A walk that makes moves keeps them by [`Commands::after`], and asks for the trail bound without a look at each LUN.
+#[derive(Clone, Copy, Debug, PartialEq, Eq)]
+pub struct Commands {
+    pub read: u8,
+    pub program: u8,
+    pub erase: u8,
+}
+
+impl Commands {
+    /// Those of a problem.
+    pub fn of(problem: &Problem) -> Commands
+        ensures { AreCommands problem.now.problem result }
+    {
+        let _limits = problem.bus_free();
+        let groups = problem.groups();
+        let mut counts = Commands::of_wants(problem.wants(), problem.waiting());
+        for lun in problem.luns() {
+            counts = counts.with_lun(groups, *lun);
+        }
+        counts
+    }
+
+    // Those of the marked wants.
+    fn of_wants(wants: &[Want], marks: &[bool; 8]) -> Commands
+        requires { length wants.now ≤ 8 }
+        ensures counts { (kind : AnyKind) → count_of result kind ≡ total (one_of kind) (waiting_of marks.now wants.now) }
+        ensures few { (kind : AnyKind) → count_of result kind ≤ 8 }
+    {
+        let mut counts = Commands {
+            read: 0,
+            program: 0,
+            erase: 0,
+        };
+        for (i, want) in wants.iter().enumerate() {
+            if marks[i] {
+                counts = counts.with(want.kind, 1);
+            }
+        }
+        counts
+    }
+
+    // These and those of a LUN's running group.
+    fn with_lun(self, groups: &[Group], lun: Lun) -> Commands
+        requires place { 1 ≤ lun.next → lun.place < length groups.now }
+        requires room { (kind : AnyKind) → count_of self kind ≤ 40 }
+        ensures counts { (kind : AnyKind) → count_of result kind ≡ count_of self kind + commands_on kind (state_of groups.now lun) }
+        ensures few { (kind : AnyKind) → count_of result kind ≤ count_of self kind + 4 }
+    {
+        if lun.next == 0 {
+            return self;
+        }
+        let group = &groups[lun.place as usize];
+        let left = group.len().saturating_sub(lun.next as usize);
+        self.with(group.kind(), left as u8)
+    }
+
+    // These and so many more of a kind.
+    fn with(self, more: Kind, number: u8) -> Commands
+        requires { (kind : AnyKind) → count_of self kind + number < 2 ^ 8 }
+        ensures { (kind : AnyKind) → count_of result kind ≡ count_of self kind + (if same_kind kind more then number else 0) }
+    {
+        match more {
+            Kind::Read => Commands {
+                read: self.read + number,
+                ..self
+            },
+            Kind::Program => Commands {
+                program: self.program + number,
+                ..self
+            },
+            Kind::Erase => Commands {
+                erase: self.erase + number,
+                ..self
+            },
+        }
+    }
+
+    // One of a kind less.
+    fn less_one(self, less: Kind) -> Commands
+        requires { 1 ≤ count_of self less }
+        ensures { (kind : AnyKind) → count_of result kind + (if same_kind kind less then 1 else 0) ≡ count_of self kind }
+    {
+        match less {
+            Kind::Read => Commands {
+                read: self.read - 1,
+                ..self
+            },
+            Kind::Program => Commands {
+                program: self.program - 1,
+                ..self
+            },
+            Kind::Erase => Commands {
+                erase: self.erase - 1,
+                ..self
+            },
+        }
+    }
+
+    /// Those that are left to what a move leaves of the problem.
+    pub fn after(self, problem: &Problem, m: Move) -> Commands
+        requires counts { AreCommands problem.now.problem self }
+        requires step { IsMove problem.now.problem (move_of problem.now.groups m) }
+        ensures { AreCommands (after problem.now.problem (move_of problem.now.groups m)) result }
+    {
+        match m {
+            Move::Next { lun } => self.after_next(problem, lun),
+            Move::Start { place, .. } => self.after_start(problem, place),
+        }
+    }
+
+    fn after_next(self, problem: &Problem, lun: u8) -> Commands
+        requires counts { AreCommands problem.now.problem self }
+        requires step { IsMove problem.now.problem (Next lun) }
+        ensures { AreCommands (after problem.now.problem (Next lun)) result }
+    {
+        let _limits = problem.bus_free();
+        let state = problem.luns()[lun as usize];
+        let group = &problem.groups()[state.place as usize];
+        if (state.next as usize) < group.len() {
+            self.less_one(group.kind())
+        } else {
+            self
+        }
+    }
+
+    fn after_start(self, problem: &Problem, place: u8) -> Commands
+        requires counts { AreCommands problem.now.problem self }
+        requires step { IsMove problem.now.problem (Start (slice_index_or problem.now.groups place [])) }
+        ensures { AreCommands (after problem.now.problem (Start (slice_index_or problem.now.groups place []))) result }
+    {
+        let _limits = problem.bus_free();
+        self.less_one(problem.group(place).kind())
+    }
+
+    /// The trail bound of a problem to which these are left, in ns of the channel's clock; None where none is left.
+    pub fn trail(self, problem: &Problem) -> Option<u64>
+        requires { AreCommands problem.now.problem self }
+        ensures { result ≡ trail problem.now.problem }
+    {
+        let _limits = problem.bus_free();
+        let timing = problem.timing();
+        let kinds = Kinds {
+            read: self.read > 0,
+            program: self.program > 0,
+            erase: self.erase > 0,
+        };
+        let reads = self.read as u64 * timing.read.cmd;
+        let programs = self.program as u64 * timing.program.cmd;
+        let erases = self.erase as u64 * timing.erase.cmd;
+        trail_of(problem, reads + programs + erases, kinds)
+    }
+
+    /// Whether the trail bound of a problem to which these are left is at least `e` ns.
+    pub fn trail_reaches(self, problem: &Problem, e: u64) -> bool
+        requires { AreCommands problem.now.problem self }
+        ensures { IsTrue result ↔ Reaches problem.now.problem e Bound.Trail }
+    {
+        is_reached(self.trail(problem), e)
+    }
+}
