@@ -1,4 +1,4 @@
-use crate::{Bound, Loads, bus, closing, die, lead, reaches, trail};
+use crate::{Bound, Commands, Loads, bus, closing, die, lead, reaches, trail};
 use onfi_group::{Group, Rules};
 use onfi_problem::{LunState, Problem};
 use onfi_request::Want;
@@ -85,16 +85,19 @@ fn bounds_of_an_output_and_a_status(rt: HostRuntime) -> Result<(), Fail> {
     Ok(())
 }
 
-#[test]
-fn bounds_of_programs_apart(rt: HostRuntime) -> Result<(), Fail> {
-    let alloc = rt.alloc();
+/// Two programs that may not be grouped wait, and an erase's status is next.
+fn programs_apart(alloc: Global) -> Result<Problem, Fail> {
     let luns = [free(), waits(alloc, want(0, Kind::Erase, 1, 0, 0), 100_000)];
     let wants = [
         want(0, Kind::Program, 0, 0, 0),
         want(1, Kind::Program, 0, 1, 0),
     ];
-    let apart = Rules::new(true, false, false, 1);
-    let problem = problem(alloc, apart, &luns, &wants)?;
+    problem(alloc, Rules::new(true, false, false, 1), &luns, &wants)
+}
+
+#[test]
+fn bounds_of_programs_apart(rt: HostRuntime) -> Result<(), Fail> {
+    let problem = programs_apart(rt.alloc())?;
     assert_eq!(rt; bus(&problem), 22_440);
     assert_eq!(rt; lead(&problem), 100_840);
     assert_eq!(rt; trail(&problem), Some(221_980));
@@ -193,5 +196,20 @@ fn a_table_finds_the_same_bound(rt: HostRuntime) -> Result<(), Fail> {
     assert_eq!(rt; loads.closing(&problem, 1_500_480), Some(Bound::Trail));
     assert_eq!(rt; loads.closing(&problem, 1_500_810), Some(Bound::Die(1)));
     assert_eq!(rt; loads.closing(&problem, 1_500_811), None);
+    Ok(())
+}
+
+#[test]
+fn commands_are_counted_down(rt: HostRuntime) -> Result<(), Fail> {
+    let problem = programs_apart(rt.alloc())?;
+    let left = Commands::of(&problem);
+    assert_eq!(rt; (left.read, left.program, left.erase), (0, 2, 0));
+    assert_eq!(rt; left.trail(&problem), Some(221_980));
+    assert!(rt; left.trail_reaches(&problem, 221_980));
+    assert!(rt; !left.trail_reaches(&problem, 221_981));
+    let program = problem.move_at(0).ok_or("a move")?;
+    assert_eq!(rt; left.after(&problem, program).program, 1);
+    let status = problem.move_at(2).ok_or("a move")?;
+    assert_eq!(rt; left.after(&problem, status), left);
     Ok(())
 }
