@@ -323,11 +323,14 @@ fn broken_texts(rt: HostRuntime) -> Result<(), Fail> {
     let (problem, schedule) = status_and_read(alloc)?;
     let header = check_text(alloc, &problem, &schedule, b"ONFICERT 2 loose\nT\n");
     assert!(rt; matches!(header, Err(TextFault::Text(CertTextFault::Header))));
+    // The last two break off behind a branch that is too wide: the fault of the text is told first.
     let table = [
         ("ONFICERT 1\nB2 Y1 D1", 3),
         ("ONFICERT 1\nB2 Y1 D1\n\n", 3),
         ("ONFICERT 1\nB2 Y1 ", 2),
         ("ONFICERT 1\nB2 Y1 D", 2),
+        ("ONFICERT 1\nB3 Y1 D1", 3),
+        ("ONFICERT 1\nB3 Y1 D1 Z\n", 3),
     ];
     for (text, place) in table {
         let found = check_text(alloc, &problem, &schedule, text.as_bytes());
