@@ -36,4 +36,6 @@ pub use ran::Ran;
 pub use setup::{Setup, SetupFault};
 
 #[cfg(test)]
+mod core_tests;
+#[cfg(test)]
 mod tests;

@@ -122,7 +122,7 @@ impl<C: Chip> Core<C> {
 
     /// The problem and the plan of the channel's last accepting planning; none before one.
     pub fn last(&self, channel: u8) -> Option<(&Problem, &Planned)>
-        requires { channel < length self.now.1 }
+        requires { channel < self.now.0.channels }
         ensures { (c : ChannelState) → slice_get (states_in C.state self.now) channel ≡ Some c → MatchOption result (c.half.last ≡ None)
             (λ r. c.half.last ≡ Some (record { problem = r.0.now.problem; schedule = r.1.now.schedule; finish = r.1.now.finish; cert = r.1.now.cert.items })) }
     {
@@ -131,7 +131,7 @@ impl<C: Chip> Core<C> {
 
     /// Sets the batch of the channel's later plannings, 1 to 8, and nothing else.
     pub fn set_batch(&mut self, channel: u8, batch: u8)
-        requires there { channel < length self.old.1 }
+        requires there { channel < self.old.0.channels }
         requires some { 1 ≤ batch }
         requires few { batch ≤ 8 }
         ensures set { Did self.old.0 (states_in C.state self.old) (SetsBatch channel batch) (states_in C.state self.new) }

@@ -18,7 +18,7 @@ fn crc_of_front(page: &[u8]) -> u16
 }
 
 /// A small device: 512 + 16 bytes a page, 64 pages a block, 1,000 blocks a LUN, 2 LUNs, 2 planes.
-fn sample_geometry(rt: &impl Abort) -> Geometry {
+pub(crate) fn sample_geometry(rt: &impl Abort) -> Geometry {
     let mut page = [0; 256];
     for (at, byte) in [
         (0usize, 0x4Fu8),
@@ -51,7 +51,7 @@ fn sample_geometry(rt: &impl Abort) -> Geometry {
     )
 }
 
-fn sample_timing(rt: &impl Abort) -> Timing {
+pub(crate) fn sample_timing(rt: &impl Abort) -> Timing {
     Timing::new(
         Spans::new(140, 600, 25_100, 11_000).expect(rt, "in range"),
         Spans::new(10_800, 600, 200_100, 280).expect(rt, "in range"),
