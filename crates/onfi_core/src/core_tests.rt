@@ -12,7 +12,7 @@ use std::process::Abort;
 
 /// What a test does to channel 0, for host 0.
 #[derive(Clone, Copy, Debug)]
-enum Act {
+pub(crate) enum Act {
     Submit(Kind, u8, u16),
     Accept,
     Plan,
@@ -23,7 +23,7 @@ enum Act {
 
 /// What an outcome tells, but for the request that it hands back.
 #[derive(Clone, Copy, Debug, PartialEq, Eq)]
-enum Told {
+pub(crate) enum Told {
     Submitted(u32),
     Accepted(u64),
     Planned(u64),
@@ -55,7 +55,7 @@ fn first_byte(answer: &Answer) -> Option<u8> {
     }
 }
 
-fn named(outcome: &Outcome) -> Told {
+pub(crate) fn named(outcome: &Outcome) -> Told {
     match outcome {
         Outcome::Submitted { serial } => Told::Submitted(*serial),
         Outcome::Accepted { place } => Told::Accepted(*place),
@@ -83,7 +83,7 @@ fn named(outcome: &Outcome) -> Told {
     }
 }
 
-fn event_of(alloc: Global, geometry: &Geometry, act: Act) -> Result<Event, AllocError> {
+pub(crate) fn event_of(alloc: Global, geometry: &Geometry, act: Act) -> Result<Event, AllocError> {
     Ok(match act {
         Act::Submit(kind, lun, block) => Event::Submit {
             host: 0,
@@ -145,7 +145,7 @@ fn play(
 }
 
 /// A core of one channel and one host, whose chip fails at these calls and statuses.
-fn open_core(
+pub(crate) fn open_core(
     rt: &impl Abort,
     alloc: Global,
     setup: Setup,

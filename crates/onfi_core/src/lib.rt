@@ -38,4 +38,6 @@ pub use setup::{Setup, SetupFault};
 #[cfg(test)]
 mod core_tests;
 #[cfg(test)]
+mod plain_tests;
+#[cfg(test)]
 mod tests;
