@@ -2,23 +2,34 @@
 # make try:  the same script with the program unproved, within a minute.
 # make test: what must not compile, then the whole gate.
 
-CRATES := $(shell sed -n 's/^\([a-z_0-9]*\)[^:]*:.*/\1/p' crates.txt)
-LIBRARIES := $(filter $(shell sed -n 's/^onfi_sim://p' crates.txt),$(CRATES))
+# The crates that a line of crates.txt says a crate stands on.
+below = $(filter onfi_%,$(shell sed -n 's/^$(1)\( [^:]*\)\{0,1\}://p' crates.txt))
+LIBRARIES := $(call below,onfi_sim)
+
+# One job for each processor, up to four; a job takes about a gigabyte of memory.
+JOBS ?= $(shell n=$$(nproc); echo $$((n < 4 ? n : 4)))
 
 .PHONY: plan try test
 
-plan: bin/onfi_sim
+# Crates that don't stand on each other are proved side by side.
+plan:
+	@$(MAKE) --no-print-directory -j2 bin/onfi_sim
 	bin/onfi_sim plan < examples/one-read.onfi
 
-bin/onfi_sim: $(shell find crates -name '*.rt' -o -name '*.antt' | grep -v /out/) crates.txt
-	@for crate in $(LIBRARIES); do \
-	  echo "proving $$crate"; \
-	  (cd crates/$$crate && rt lib > out.log 2>&1) || { tail -n 40 crates/$$crate/out.log; exit 1; }; \
-	  rm -f crates/$$crate/out.log; \
-	done
+# A library is proved once those that it stands on are.
+define library
+crates/$(1)/out/proved: $(patsubst %,crates/%/out/proved,$(call below,$(1))) $(shell find crates/$(1)/src crates/$(1)/specs crates/$(1)/proofs -type f)
+	@echo "proving $(1)"
+	@cd crates/$(1) && { rt lib --jobs $(JOBS) > out.log 2>&1 || { tail -n 40 out.log; exit 1; }; }
+	@rm -f crates/$(1)/out.log
+	@touch $$@
+endef
+$(foreach crate,$(LIBRARIES),$(eval $(call library,$(crate))))
+
+bin/onfi_sim: $(LIBRARIES:%=crates/%/out/proved) $(shell find crates/onfi_sim/src crates/onfi_sim/specs crates/onfi_sim/proofs -type f) crates.txt
 	@echo "proving onfi_sim"
 	@mkdir -p bin
-	@cd crates/onfi_sim && { rt run -- plan < ../../examples/one-read.onfi > /dev/null 2> out.log || { tail -n 40 out.log; exit 1; }; }
+	@cd crates/onfi_sim && { rt run --jobs $(JOBS) -- plan < ../../examples/one-read.onfi > /dev/null 2> out.log || { tail -n 40 out.log; exit 1; }; }
 	@rm -f crates/onfi_sim/out.log
 	@cp crates/onfi_sim/out/onfi_sim bin/onfi_sim
 
