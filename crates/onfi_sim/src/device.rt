@@ -3,7 +3,7 @@ ghost use Rattle.std.specs.Prelude.{◌≤◌};
 use onfi_timing::Timing;
 
 /// What a script tells of its device.
-#[derive(Clone, Copy, Debug, PartialEq, Eq)]
+#[derive(Clone, Copy)]
 pub struct Device {
     /// How many LUNs there are, 1 to 8.
     pub luns: u8,

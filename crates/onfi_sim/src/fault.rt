@@ -6,36 +6,35 @@ use onfi_addr::GeometryFault;
 use onfi_param::PageFault;
 use onfi_problem::ProblemFault;
 use onfi_timing::SheetFault;
-use thiserror::Error;
 
 /// Why a script is refused.
-#[derive(Clone, Copy, Debug, PartialEq, Eq, Error)]
+#[derive(Clone, Copy)]
 pub enum ScriptFault {
-    #[error("no line `end`")]
+    /// No line `end`.
     NoEnd,
-    #[error("a row of no known name")]
+    /// A row of no known name.
     UnknownRow,
-    #[error("a row with more or fewer fields than its name has")]
+    /// A row with more or fewer fields than its name has.
     FieldCount,
-    #[error("a field that is not one or more digits")]
+    /// A field that is not one or more digits.
     NotANumber,
-    #[error("a field out of its range")]
+    /// A field out of its range.
     OutOfRange,
-    #[error("a row that says again what an earlier one said")]
+    /// A row that says again what an earlier one said.
     Repeated,
-    #[error("a row that the script needs is not there")]
+    /// A row that the script needs is not there.
     Missing,
-    #[error("a field that is not bytes in hexadecimal")]
+    /// A field that is not bytes in hexadecimal.
     Hex,
-    #[error("the bytes of the script hold no parameter page")]
+    /// The bytes of the script hold no parameter page.
     Page(PageFault),
-    #[error("a device that can't be driven")]
+    /// A device that can't be driven.
     Geometry(GeometryFault),
-    #[error("a timing sheet that gives no phase lengths")]
+    /// A timing sheet that gives no phase lengths.
     Sheet(SheetFault),
-    #[error("what the rows set up is no problem")]
+    /// What the rows set up is no problem.
     Problem(ProblemFault),
-    #[error("a row that the command or the form of the script does not take")]
+    /// A row that the command or the form of the script does not take.
     NotHere,
 }
 
@@ -114,14 +113,14 @@ impl ScriptFault {
 }
 
 /// A fault of a script and the row that it is told of, counted from 1; 0 where it is of no row.
-#[derive(Clone, Copy, Debug, PartialEq, Eq)]
+#[derive(Clone, Copy)]
 pub struct Refusal {
     pub row: u64,
     pub fault: ScriptFault,
 }
 
 /// What stands in the way of reading a row.
-#[derive(Clone, Copy, Debug, PartialEq, Eq)]
+#[derive(Clone, Copy)]
 pub enum RowStop {
     /// The row is refused.
     Fault(ScriptFault),
@@ -130,7 +129,7 @@ pub enum RowStop {
 }
 
 /// What stands in the way of an answer.
-#[derive(Clone, Copy, Debug, PartialEq, Eq)]
+#[derive(Clone, Copy)]
 pub enum Stop {
     /// The script is refused.
     Refused(Refusal),

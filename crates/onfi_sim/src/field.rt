@@ -1,5 +1,6 @@
 //! What stands in the fields of a row.
 ghost use Rattle.std.specs.Prelude.{◌≡◌, ◌≤◌, ◌<◌, ◌-◌, ◌^◌, IfOk};
+ghost use Rattle.std.specs.Str.{bytes_eq};
 ghost use Rattle.csv.specs.Records.{fields_of};
 ghost use Rattle.onfi_sim.specs.Field as spec;
 
@@ -12,6 +13,13 @@ pub fn field(row: &ByteRecord, at: usize) -> &[u8]
     ensures { result.now ≡ spec.field (fields_of row.now) at }
 {
     row.get(at).unwrap_or(b"")
+}
+
+/// Whether the text is that word.
+pub fn is_word(text: &[u8], word: &str) -> bool
+    ensures { result ≡ bytes_eq text.now word.now }
+{
+    text == word.as_bytes()
 }
 
 /// A number from `least` to `most`.
@@ -51,11 +59,11 @@ pub fn flag(text: &[u8]) -> Result<bool, ScriptFault>
 pub fn kind(text: &[u8]) -> Result<Kind, ScriptFault>
     ensures { result ≡ spec.kind text.now }
 {
-    if text == b"read".as_slice() {
+    if is_word(text, "read") {
         Ok(Kind::Read)
-    } else if text == b"program".as_slice() {
+    } else if is_word(text, "program") {
         Ok(Kind::Program)
-    } else if text == b"erase".as_slice() {
+    } else if is_word(text, "erase") {
         Ok(Kind::Erase)
     } else {
         Err(ScriptFault::OutOfRange)

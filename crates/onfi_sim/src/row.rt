@@ -160,7 +160,7 @@ pub enum Row {
 }
 
 /// What a row settles for a script; two rows that settle the same don't go together.
-#[derive(Clone, Copy, Debug, PartialEq, Eq)]
+#[derive(Clone, Copy)]
 pub enum Subject {
     Shape,
     Spans(Kind),

@@ -2,9 +2,10 @@ ghost use Rattle.std.specs.Prelude.{◌≡◌};
 ghost use Rattle.onfi_sim.specs.RowName as spec;
 
 use crate::command::Command;
+use crate::field::is_word;
 
 /// The name that a row of a script begins with.
-#[derive(Clone, Copy, Debug, PartialEq, Eq)]
+#[derive(Clone, Copy)]
 pub enum RowName {
     Shape,
     Spans,
@@ -27,7 +28,7 @@ pub enum RowName {
 }
 
 /// The two forms of a script.
-#[derive(Clone, Copy, Debug, PartialEq, Eq)]
+#[derive(Clone, Copy)]
 pub enum Form {
     /// Phase lengths stand in the script.
     First,
@@ -52,23 +53,23 @@ impl RowName {
     pub fn of(text: &[u8]) -> Option<RowName>
         ensures { result ≡ spec.name_of text.now }
     {
-        if text == b"shape".as_slice() {
+        if is_word(text, "shape") {
             Some(RowName::Shape)
-        } else if text == b"spans".as_slice() {
+        } else if is_word(text, "spans") {
             Some(RowName::Spans)
-        } else if text == b"page".as_slice() {
+        } else if is_word(text, "page") {
             Some(RowName::Page)
-        } else if text == b"sheet".as_slice() {
+        } else if is_word(text, "sheet") {
             Some(RowName::Sheet)
-        } else if text == b"bus".as_slice() {
+        } else if is_word(text, "bus") {
             Some(RowName::Bus)
-        } else if text == b"free".as_slice() {
+        } else if is_word(text, "free") {
             Some(RowName::Free)
-        } else if text == b"running".as_slice() {
+        } else if is_word(text, "running") {
             Some(RowName::Running)
-        } else if text == b"want".as_slice() {
+        } else if is_word(text, "want") {
             Some(RowName::Want)
-        } else if text == b"strict".as_slice() {
+        } else if is_word(text, "strict") {
             Some(RowName::Strict)
         } else {
             RowName::of_run(text)
@@ -79,23 +80,23 @@ impl RowName {
     fn of_run(text: &[u8]) -> Option<RowName>
         ensures { result ≡ spec.run_name_of text.now }
     {
-        if text == b"channels".as_slice() {
+        if is_word(text, "channels") {
             Some(RowName::Channels)
-        } else if text == b"hosts".as_slice() {
+        } else if is_word(text, "hosts") {
             Some(RowName::Hosts)
-        } else if text == b"batch".as_slice() {
+        } else if is_word(text, "batch") {
             Some(RowName::Batch)
-        } else if text == b"submitcap".as_slice() {
+        } else if is_word(text, "submitcap") {
             Some(RowName::SubmitCap)
-        } else if text == b"postcap".as_slice() {
+        } else if is_word(text, "postcap") {
             Some(RowName::PostCap)
-        } else if text == b"op".as_slice() {
+        } else if is_word(text, "op") {
             Some(RowName::Op)
-        } else if text == b"fault".as_slice() {
+        } else if is_word(text, "fault") {
             Some(RowName::Fault)
-        } else if text == b"chipfail".as_slice() {
+        } else if is_word(text, "chipfail") {
             Some(RowName::ChipFail)
-        } else if text == b"notready".as_slice() {
+        } else if is_word(text, "notready") {
             Some(RowName::NotReady)
         } else {
             None

@@ -6,7 +6,7 @@ use crate::row_name::Form;
 use onfi_timing::Sheet;
 
 /// What the rows so far show of a script.
-#[derive(Clone, Copy, Debug, PartialEq, Eq)]
+#[derive(Clone, Copy)]
 pub struct Seen {
     /// The form of the script, where a row told it.
     pub form: Option<Form>,

@@ -1,6 +1,6 @@
 //! The command line.
-ghost use Rattle.std.specs.Prelude.{◌≡◌, ◌≤◌, IfOk, map, string_bytes, codes};
-ghost use Rattle.clap.specs.Words.{app_of, first_value, found_of, subcommand_of, subcommand_rows_of};
+ghost use Rattle.std.specs.Prelude.{◌≡◌, ◌≤◌, IfOk, false, map, string_bytes, codes};
+ghost use Rattle.clap.specs.Words.{app_of, first_value, found_of, rule_of, subcommand_of, subcommand_rows_of};
 ghost use Rattle.onfi_sim.specs.Words as spec;
 ghost use Rattle.onfi_sim.specs.Limit.{IsLimited};
 
@@ -23,17 +23,32 @@ pub enum WordsFault {
 /// The greatest limit of a search, and the one where none is named.
 const MOST: u32 = 1_048_576;
 
+/// `--limit N`
+fn limit<'a>(alloc: Global) -> Arg<'a>
+    ensures rule { rule_of result ≡ spec.limit }
+    ensures local { result.global ≡ false }
+{
+    Arg::new(alloc, "limit")
+        .long("limit")
+        .action(ArgAction::Set)
+}
+
+/// `--trace`
+fn trace<'a>(alloc: Global) -> Arg<'a>
+    ensures rule { rule_of result ≡ spec.trace }
+    ensures local { result.global ≡ false }
+{
+    Arg::new(alloc, "trace")
+        .long("trace")
+        .action(ArgAction::SetTrue)
+}
+
 /// The program with the command `plan [--limit N] [--trace]`.
 fn with_plan<'a>(alloc: Global) -> Result<App<'a>, AllocError>
     ensures { IfOk result (λ a. app_of a ≡ spec.with_plan) }
 {
-    let limit = Arg::new(alloc, "limit")
-        .long("limit")
-        .action(ArgAction::Set);
-    let trace = Arg::new(alloc, "trace")
-        .long("trace")
-        .action(ArgAction::SetTrue);
-    let plan = App::new(alloc, "plan").arg(limit)?.arg(trace)?;
+    let plan = App::new(alloc, "plan").arg(limit(alloc))?;
+    let plan = plan.arg(trace(alloc))?;
     App::new(alloc, "onfi_sim").subcommand(plan)
 }
 
