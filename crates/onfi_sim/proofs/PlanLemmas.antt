@@ -7,9 +7,12 @@ use Rattle.std.proofs.lemmas.List.Splits.{join_with_byte-slice_split}
 use Rattle.onfi_request.specs.declared.want.Want.{Want}
 use Rattle.onfi_sim.specs.declared.plan_line.Line.{Line}
 use Rattle.onfi_sim.specs.declared.plan_line.RestLine.{RestLine}
+use Rattle.onfi_sim.specs.declared.plan_text.PlanStop.{PlanStop}
+use Rattle.onfi_sim.specs.declared.plan_text.PlanStop.TheVariants.{Wrong, Memory}
 use Rattle.onfi_sim.specs.Parts.{parts}
 use Rattle.onfi_sim.specs.PlanLine.{line_of, finish_of}
 use Rattle.onfi_sim.specs.PlanText.{Plan, takes, with_line, next_number, is_certificate, told, grown, plan_after, plan_of_parts, behind_head, behind_finish, rests, starts_on}
+use Rattle.onfi_sim.specs.Wrong.{IfWrong}
 use Rattle.onfi_sim.proofs.PartsLemmas.{some_parts}
 
 head_taken : (wants : List Want) (head : List ℕ) (more : List (List ℕ)) → 0 < length more → bytes_eq head (codes "ONFIPLAN 1") ≡ true → plan_of_parts wants (head ∷ more) ≡ behind_head wants more
@@ -58,15 +61,15 @@ gone_on wants plan left line behind o all cut is said e =
     ∙ ap (λ b. cond b (Ok (plan, join_with_byte 10 (line ∷ parts 10 behind))) (told (next_number plan) (grown plan (line_of wants line)) (λ plan. plan_after wants plan (parts 10 behind)))) is
     ∙ ap (λ o. told (next_number plan) (grown plan o) (λ plan. plan_after wants plan (parts 10 behind))) (sym said)
 
-pub no_line : (wants : List Want) (plan : Plan) (left line behind : List ℕ) (all : Result (Plan × List ℕ) ℕ) → parts 10 left ≡ line ∷ parts 10 behind → is_certificate line ≡ false
-    → None ≡ line_of wants line → all ≡ plan_after wants plan (parts 10 left) → all ≡ Err (next_number plan)
-no_line wants plan left line behind all cut is said e = gone_on wants plan left line behind None all cut is said e
+pub read_on : (wants : List Want) (plan : Plan) (left line behind : List ℕ) (next : Plan) (all : Result (Plan × List ℕ) ℕ) → parts 10 left ≡ line ∷ parts 10 behind → is_certificate line ≡ false
+    → grown plan (line_of wants line) ≡ Some next → all ≡ plan_after wants plan (parts 10 left) → all ≡ plan_after wants next (parts 10 behind)
+read_on wants plan left line behind next all cut is more e =
+    gone_on wants plan left line behind (line_of wants line) all cut is refl e ∙ ap (λ o. told (next_number plan) o (λ plan. plan_after wants plan (parts 10 behind))) more
 
-pub line_refused : (wants : List Want) (plan : Plan) (left line behind : List ℕ) (l : Line) (all : Result (Plan × List ℕ) ℕ) → parts 10 left ≡ line ∷ parts 10 behind → is_certificate line ≡ false
-    → Some l ≡ line_of wants line → takes plan l ≡ false → all ≡ plan_after wants plan (parts 10 left) → all ≡ Err (next_number plan)
-line_refused wants plan left line behind l all cut is said not e =
-    gone_on wants plan left line behind (Some l) all cut is said e
-    ∙ ap (λ b. told (next_number plan) (cond b (Some (with_line plan l)) None) (λ plan. plan_after wants plan (parts 10 behind))) not
+pub read_wrong : (wants : List Want) (plan : Plan) (left line behind : List ℕ) (number : ℕ) (all : Result (Plan × List ℕ) ℕ) → parts 10 left ≡ line ∷ parts 10 behind → is_certificate line ≡ false
+    → grown plan (line_of wants line) ≡ None → number ≡ next_number plan → all ≡ plan_after wants plan (parts 10 left) → all ≡ Err number
+read_wrong wants plan left line behind number all cut is none same e =
+    gone_on wants plan left line behind (line_of wants line) all cut is refl e ∙ ap (λ o. told (next_number plan) o (λ plan. plan_after wants plan (parts 10 behind))) none ∙ ap Err (sym same)
 
 pub line_taken : (wants : List Want) (plan : Plan) (left line behind : List ℕ) (l : Line) (next : Plan) (all : Result (Plan × List ℕ) ℕ) → parts 10 left ≡ line ∷ parts 10 behind → is_certificate line ≡ false
     → Some l ≡ line_of wants line → takes plan l ≡ true → next ≡ with_line plan l → all ≡ plan_after wants plan (parts 10 left) → all ≡ plan_after wants next (parts 10 behind)
@@ -96,3 +99,7 @@ wrong n m e = ap Err e
 pub on_ok : {A E : Type 0} (r : Result A E) (P : Type 0) → is_ok r ≡ true → OnOk r P → P
 on_ok (Ok x) P e h = h
 on_ok (Err f) P e h = cc
+
+pub if_wrong : (stop : PlanStop) (P Q : ℕ → Type 0) → ((n : ℕ) → P n → Q n) → IfWrong stop P → IfWrong stop Q
+if_wrong (Wrong n) P Q f h = f n h
+if_wrong Memory P Q f h = tt

@@ -148,55 +148,45 @@ fn judges_one_token_changed(rt: HostRuntime) {
 #[test]
 fn judges_other_schedules(rt: HostRuntime) {
     let alloc = rt.alloc();
-    assert!(rt;
-        refused(
-            alloc,
-            "want,read,0,0,0\nwant,read,1,0,0\n",
-            "ONFIPLAN 1\nfinish 47240\ngroup 0 0 25240\ngroup 1 140 36240\n",
-            "B2 Y1 D1",
-            "6 YieldNoFit 1"
-        )
-    );
-    assert!(rt;
-        refused(
-            alloc,
-            "want,read,0,0,0\n",
-            "ONFIPLAN 1\nfinish 36239\ngroup 0 0 25239\n",
-            "L",
-            "1 Illegal"
-        )
-    );
-    assert!(rt; refused(alloc, TWO_READS, READS_APART, "D0", "5 BoundLow 0"));
     let certificate = "ONFICERT 1\nD0\n";
-    assert!(rt;
-        told(
-            alloc,
-            LONG_GAP,
-            TWO_READS,
-            READS_APART,
-            certificate,
-            "accepted 72480\n",
-            0
-        )
-    );
     let turned = "ONFIPLAN 1\nfinish 72480\ngroup 1 36240 61480\ngroup 0 0 25240\n";
-    assert!(rt;
-        told(
-            alloc,
-            LONG_GAP,
-            TWO_READS,
-            turned,
-            certificate,
-            "accepted 72480\n",
-            0
-        )
-    );
+    for plan in [READS_APART, turned] {
+        assert!(rt;
+            told(
+                alloc,
+                LONG_GAP,
+                TWO_READS,
+                plan,
+                certificate,
+                "accepted 72480\n",
+                0
+            ),
+            "at {plan}"
+        );
+    }
     let grouped = "ONFIPLAN 1\nfinish 47980\ngroup 0+1 0 740 25980 36980\n";
     assert!(rt; accepted(alloc, TWO_READS, grouped, "D0", "47980"));
     let sooner = "ONFIPLAN 1\nfinish 47979\ngroup 0+1 0 740 25980 36980\n";
-    assert!(rt; refused(alloc, TWO_READS, sooner, "D0", "finish"));
     let falling = "ONFIPLAN 1\nfinish 47980\ngroup 1+0 0 740 25980 36980\n";
-    assert!(rt; refused(alloc, TWO_READS, falling, "D0", "1 Illegal"));
+    for (rows, plan, tokens, why) in [
+        (
+            "want,read,0,0,0\nwant,read,1,0,0\n",
+            "ONFIPLAN 1\nfinish 47240\ngroup 0 0 25240\ngroup 1 140 36240\n",
+            "B2 Y1 D1",
+            "6 YieldNoFit 1",
+        ),
+        (
+            "want,read,0,0,0\n",
+            "ONFIPLAN 1\nfinish 36239\ngroup 0 0 25239\n",
+            "L",
+            "1 Illegal",
+        ),
+        (TWO_READS, READS_APART, "D0", "5 BoundLow 0"),
+        (TWO_READS, sooner, "D0", "finish"),
+        (TWO_READS, falling, "D0", "1 Illegal"),
+    ] {
+        assert!(rt; refused(alloc, rows, plan, tokens, why), "at {why}");
+    }
 }
 
 #[test]
@@ -249,45 +239,27 @@ fn judges_strict_groups(rt: HostRuntime) {
     let alloc = rt.alloc();
     let strict = "strict,1\nwant,read,0,0,0\nwant,read,0,3,0\n";
     let with_option = "ONFICERT 2 strict\nD0\n";
-    assert!(rt;
-        told(
-            alloc,
-            BASE,
-            strict,
-            READS_APART,
-            with_option,
-            "accepted 72480\n",
-            0
-        )
-    );
-    assert!(rt;
-        told(
-            alloc,
-            BASE,
-            FAR_READS,
-            READS_APART,
-            with_option,
-            "refused cert Option\n",
-            2
-        )
-    );
-    assert!(rt; refused(alloc, FAR_READS, READS_APART, "D0", "5 BoundLow 0"));
-    assert!(rt; refused(alloc, strict, READS_APART, "D0", "cert Option"));
+
     // The option is told before an illegal schedule, and what is no certificate before both.
     let illegal = "ONFIPLAN 1\nfinish 72480\ngroup 0 0 25240\n";
-    assert!(rt;
-        told(
-            alloc,
-            BASE,
-            FAR_READS,
-            illegal,
-            with_option,
-            "refused cert Option\n",
-            2
-        )
-    );
-    assert!(rt; refused(alloc, FAR_READS, illegal, "D0", "1 Illegal"));
-    assert!(rt; refused(alloc, FAR_READS, illegal, "D8", "cert BadToken 0"));
+    for (rows, plan, text, status) in [
+        (strict, READS_APART, "accepted 72480\n", 0),
+        (FAR_READS, READS_APART, "refused cert Option\n", 2),
+        (FAR_READS, illegal, "refused cert Option\n", 2),
+    ] {
+        assert!(rt;
+            told(alloc, BASE, rows, plan, with_option, text, status),
+            "at {text}"
+        );
+    }
+    for (rows, plan, tokens, why) in [
+        (FAR_READS, READS_APART, "D0", "5 BoundLow 0"),
+        (strict, READS_APART, "D0", "cert Option"),
+        (FAR_READS, illegal, "D0", "1 Illegal"),
+        (FAR_READS, illegal, "D8", "cert BadToken 0"),
+    ] {
+        assert!(rt; refused(alloc, rows, plan, tokens, why), "at {why}");
+    }
 }
 
 #[test]
@@ -443,27 +415,25 @@ fn reads_the_text_behind_the_script(rt: HostRuntime) {
     let alloc = rt.alloc();
     let plan =
         "\nwant,read,0,0,0\nend\r\nONFIPLAN 1\nfinish 36240\ngroup 0 0 25240\nONFICERT 1\nL\n";
-    assert!(rt; told_whole(alloc, plan, "accepted 36240\n", 0));
-    assert!(rt; told_whole(alloc, "want,read,0,0,0\nend", "refused plan 1\n", 2));
-    assert!(rt; told_whole(alloc, "want,read,0,0,0\nend\r\n", "refused plan 1\n", 2));
-    assert!(rt;
-        told_whole(
-            alloc,
+    for (behind, text, status) in [
+        (plan, "accepted 36240\n", 0),
+        ("want,read,0,0,0\nend", "refused plan 1\n", 2),
+        ("want,read,0,0,0\nend\r\n", "refused plan 1\n", 2),
+        (
             "want,read,0,0,0\nend\n\nONFIPLAN 1\n",
             "refused plan 1\n",
-            2
-        )
-    );
-    assert!(rt;
-        told_whole(
-            alloc,
+            2,
+        ),
+        (
             "want,read,2,0,0\nend\n",
             "script refused 0 Problem BadLun\n",
-            1
-        )
-    );
-    assert!(rt; told_whole(alloc, "hosts,1\nend\n", "script refused 5 NotHere\n", 1));
-    assert!(rt; told_whole(alloc, "want,read,0,0,0\n", "script refused 0 NoEnd\n", 1));
+            1,
+        ),
+        ("hosts,1\nend\n", "script refused 5 NotHere\n", 1),
+        ("want,read,0,0,0\n", "script refused 0 NoEnd\n", 1),
+    ] {
+        assert!(rt; told_whole(alloc, behind, text, status), "at {behind}");
+    }
 }
 
 // The answer to an input that goes on so behind the base script.

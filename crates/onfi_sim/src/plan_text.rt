@@ -1,7 +1,8 @@
 //! Plan texts: a schedule, its finish, and the text of a certificate behind them.
-ghost use Rattle.std.specs.Prelude.{◌≡◌, ◌==◌, ◌<◌, ◌≤◌, ◌^◌, length, find, option_map, IfOk, OnOk, IsTrue, MatchResult, Ok, Err};
+ghost use Rattle.std.specs.Prelude.{◌≡◌, ◌==◌, ◌<◌, ◌≤◌, ◌^◌, length, find, option_map, IfOk, IfErr, OnOk, IsTrue, MatchResult, Ok, Err, Some, None};
 ghost use Rattle.std.specs.List.{AllByRecursion as Each};
 ghost use Rattle.onfi_sim.specs.Parts.{parts};
+ghost use Rattle.onfi_sim.specs.PlanLine.{line_of};
 ghost use Rattle.onfi_sim.specs.PlanText as spec;
 ghost use Rattle.onfi_sim.specs.Wrong.{IfWrong};
 
@@ -32,7 +33,7 @@ impl Model for Plan {
 }
 
 /// What stands in the way of reading a plan text.
-#[derive(Clone, Copy, Debug, PartialEq, Eq)]
+#[derive(Clone, Copy)]
 pub enum PlanStop {
     /// This line, counted from 1, is the first wrong one.
     Wrong(u64),
@@ -95,6 +96,23 @@ impl Plan {
             Line::Group(group) => self.groups.push(group)?,
         }
         Ok(())
+    }
+
+    /// Reads the line that comes next, and puts it behind the others.
+    ///
+    /// # Errors
+    /// `Wrong` where it is not of its form or may not come next; `Memory` where a growth was refused.
+    fn read_line(&mut self, alloc: Global, wants: &[Want], line: &[u8]) -> Result<(), PlanStop>
+        ensures read { OnOk result (spec.grown self.old (line_of wants.now line.now) ≡ Some self.new) }
+        ensures wrong { IfErr result (λ stop. IfWrong stop (λ number. (spec.grown self.old (line_of wants.now line.now) ≡ None) × (number ≡ spec.next_number self.old))) }
+    {
+        match line_of(alloc, wants, line) {
+            Some(line) if self.takes(&line) => match self.put(line) {
+                Ok(()) => Ok(()),
+                Err(AllocError) => Err(PlanStop::Memory),
+            },
+            _ => Err(PlanStop::Wrong(self.next_number())),
+        }
     }
 
     /// The schedule that the plan says of a problem with so many LUNs.
@@ -212,14 +230,8 @@ pub fn read_plan<'a>(
         if is_certificate(line) {
             return Ok((plan, left));
         }
-        let Some(line) = line_of(alloc, wants, line) else {
-            return Err(PlanStop::Wrong(plan.next_number()));
-        };
-        if !plan.takes(&line) {
-            return Err(PlanStop::Wrong(plan.next_number()));
-        }
-        if plan.put(line).is_err() {
-            return Err(PlanStop::Memory);
+        if let Err(stop) = plan.read_line(alloc, wants, line) {
+            return Err(stop);
         }
         left = behind;
     }

@@ -156,85 +156,55 @@ fn refused(alloc: Global, base: &str, rows: &str, why: &str) -> bool {
 #[test]
 fn plans_at_most_one_want(rt: HostRuntime) {
     let alloc = rt.alloc();
-    assert!(rt; told_behind(alloc, BASE, "want,read,0,0,0\n", ONE_READ, 0));
-    assert!(rt; told_behind(alloc, BASE, "", "ONFIPLAN 1\nfinish 0\nONFICERT 1\nU\n", 0));
-    assert!(rt;
-        told_behind(
-            alloc,
+    for (base, rows, text) in [
+        (BASE, "want,read,0,0,0\n", ONE_READ),
+        (BASE, "", "ONFIPLAN 1\nfinish 0\nONFICERT 1\nU\n"),
+        (
             BASE,
             "bus,4611686018427387903\n",
             "ONFIPLAN 1\nfinish 4611686018427387903\nONFICERT 1\nU\n",
-            0
-        )
-    );
-    assert!(rt;
-        told_behind(
-            alloc,
+        ),
+        (
             BASE,
             "free,0,1000\nwant,read,0,0,0\n",
             "ONFIPLAN 1\nfinish 37240\ngroup 0 1000 26240\nONFICERT 1\nL\n",
-            0
-        )
-    );
-    assert!(rt;
-        told_behind(
-            alloc,
-            BASE,
-            "bus,7\n",
-            "ONFIPLAN 1\nfinish 7\nONFICERT 1\nU\n",
-            0
-        )
-    );
-    assert!(rt;
-        told_behind(
-            alloc,
+        ),
+        (BASE, "bus,7\n", "ONFIPLAN 1\nfinish 7\nONFICERT 1\nU\n"),
+        (
             NO_ARRAY,
             "want,read,0,0,0\n",
             "ONFIPLAN 1\nfinish 11140\ngroup 0 0 140\nONFICERT 1\nU\n",
-            0
-        )
-    );
-    assert!(rt;
-        told_behind(
-            alloc,
+        ),
+        (
             NO_ARRAY,
             "free,0,1000\nwant,read,0,0,0\n",
             "ONFIPLAN 1\nfinish 12140\ngroup 0 1000 1140\nONFICERT 1\nL\n",
-            0
-        )
-    );
-    assert!(rt;
-        told_behind(
-            alloc,
+        ),
+        (
             BASE,
             "strict,1\nwant,read,0,0,0\n",
             "ONFIPLAN 1\nfinish 36240\ngroup 0 0 25240\nONFICERT 2 strict\nL\n",
-            0
-        )
-    );
+        ),
+    ] {
+        assert!(rt; told_behind(alloc, base, rows, text, 0), "at {rows}");
+    }
 }
 
 #[test]
 fn plans_reads_and_programs_on_two_luns(rt: HostRuntime) {
     let alloc = rt.alloc();
-    assert!(rt;
-        told_behind(
-            alloc,
-            BASE,
+    for (rows, text) in [
+        (
             "want,read,0,0,0\nwant,read,1,0,0\n",
             "ONFIPLAN 1\nfinish 47240\ngroup 0 0 25240\ngroup 1 140 36240\nONFICERT 1\nL\n",
-            0
-        )
-    );
-    assert!(rt;
-        told_behind(
-            alloc,
-            BASE,
+        ),
+        (
             "want,program,0,0,0\nwant,program,1,0,0\n",
             "ONFIPLAN 1\nfinish 221980\ngroup 0 0 210900\ngroup 1 10800 221700\nONFICERT 1\nT\n",
-            0
-        )
-    );
+        ),
+    ] {
+        assert!(rt; told_behind(alloc, BASE, rows, text, 0), "at {rows}");
+    }
 }
 
 #[test]
@@ -338,61 +308,29 @@ fn traces_each_phase(rt: HostRuntime) {
 #[test]
 fn refuses_problems(rt: HostRuntime) {
     let alloc = rt.alloc();
-    assert!(rt; refused(alloc, BASE, "want,read,2,0,0\n", "0 Problem BadLun"));
-    assert!(rt; refused(alloc, BASE, "want,erase,0,0,1\n", "0 Problem BadLun"));
-    assert!(rt;
-        refused(
-            alloc,
-            BASE,
+    for (rows, why) in [
+        ("want,read,2,0,0\n", "0 Problem BadLun"),
+        ("want,erase,0,0,1\n", "0 Problem BadLun"),
+        (
             "bus,4611686018427387903\nwant,read,0,0,0\n",
-            "0 Problem Clock"
-        )
-    );
-    assert!(rt; refused(alloc, BASE, "running,0,2,0,read,0,0\n", "0 Problem BadLun"));
+            "0 Problem Clock",
+        ),
+        ("running,0,2,0,read,0,0\n", "0 Problem BadLun"),
+    ] {
+        assert!(rt; refused(alloc, BASE, rows, why), "at {rows}");
+    }
 }
 
 #[test]
 fn tells_the_first_fault(rt: HostRuntime) {
     let alloc = rt.alloc();
-    assert!(rt;
-        told(
-            alloc,
-            b"shape,2,1,1,1\nendx\n end\n",
-            "script refused 0 NoEnd\n",
-            1
-        )
-    );
-    assert!(rt;
-        told(
-            alloc,
-            b"want,read\nfoo\nend",
-            "script refused 1 FieldCount\n",
-            1
-        )
-    );
-    assert!(rt;
-        told(
-            alloc,
-            b"want,read,0,0,0\r\nend\r\n",
-            "script refused 0 Missing\n",
-            1
-        )
-    );
-    assert!(rt; refused(alloc, BASE, "foo\nbus,x\n", "5 UnknownRow"));
-    assert!(rt; refused(alloc, BASE, "op,0,0,read,0,0,0\n", "5 NotHere"));
-    assert!(rt; refused(alloc, BASE, "page,00\n", "5 NotHere"));
-    assert!(rt; refused(alloc, BASE, "bus,\n", "5 NotANumber"));
-    assert!(rt; refused(alloc, BASE, "bus,+1\n", "5 NotANumber"));
-    assert!(rt; refused(alloc, BASE, "bus,4611686018427387904\n", "5 OutOfRange"));
-    assert!(rt; refused(alloc, BASE, "bus,18446744073709551616\n", "5 OutOfRange"));
-    assert!(rt;
-        refused(
-            alloc,
-            BASE,
-            "bus,99999999999999999999999999999999\n",
-            "5 OutOfRange"
-        )
-    );
+    for (input, text) in [
+        ("shape,2,1,1,1\nendx\n end\n", "script refused 0 NoEnd\n"),
+        ("want,read\nfoo\nend", "script refused 1 FieldCount\n"),
+        ("want,read,0,0,0\r\nend\r\n", "script refused 0 Missing\n"),
+    ] {
+        assert!(rt; told(alloc, input.as_bytes(), text, 1), "at {input}");
+    }
     assert!(rt;
         told_behind(
             alloc,
@@ -402,25 +340,31 @@ fn tells_the_first_fault(rt: HostRuntime) {
             0
         )
     );
-    assert!(rt; refused(alloc, BASE, "want,reads,x,0,0\n", "5 OutOfRange"));
-    assert!(rt; refused(alloc, BASE, "bus,1\nbus,1\nbus,x\n", "6 Repeated"));
-    assert!(rt;
-        refused(
-            alloc,
+    for (base, rows, why) in [
+        (BASE, "foo\nbus,x\n", "5 UnknownRow"),
+        (BASE, "op,0,0,read,0,0,0\n", "5 NotHere"),
+        (BASE, "page,00\n", "5 NotHere"),
+        (BASE, "bus,\n", "5 NotANumber"),
+        (BASE, "bus,+1\n", "5 NotANumber"),
+        (BASE, "bus,4611686018427387904\n", "5 OutOfRange"),
+        (BASE, "bus,18446744073709551616\n", "5 OutOfRange"),
+        (
             BASE,
-            "free,0,1\nrunning,0,1,0,read,0,0\n",
-            "6 Repeated"
-        )
-    );
-    assert!(rt; refused(alloc, "", "shape,2,1,1,1\nfree,2,0\n", "0 Missing"));
-    assert!(rt;
-        refused(
-            alloc,
+            "bus,99999999999999999999999999999999\n",
+            "5 OutOfRange",
+        ),
+        (BASE, "want,reads,x,0,0\n", "5 OutOfRange"),
+        (BASE, "bus,1\nbus,1\nbus,x\n", "6 Repeated"),
+        (BASE, "free,0,1\nrunning,0,1,0,read,0,0\n", "6 Repeated"),
+        ("", "shape,2,1,1,1\nfree,2,0\n", "0 Missing"),
+        (
             BASE,
             "free,0,0\nfree,2,0\nwant,read,7,0,0\n",
-            "6 OutOfRange"
-        )
-    );
+            "6 OutOfRange",
+        ),
+    ] {
+        assert!(rt; refused(alloc, base, rows, why), "at {rows}");
+    }
 }
 
 // The worked parameter page without its check value.
@@ -493,31 +437,43 @@ fn takes_page_and_sheet(rt: HostRuntime) -> Result<(), Fail> {
     spoiled[100] ^= 1;
     let spoiled = page_row(alloc, spoiled.as_slice()).ok_or("a page")?;
     assert!(rt; refused(alloc, spoiled.as_str(), SHEET, "0 Page NoCopy"));
-    assert!(rt; refused(alloc, "page,00\n", SHEET, "0 Page Short"));
-    assert!(rt; refused(alloc, "", SHEET, "0 Missing"));
-    assert!(rt; refused(alloc, SHEET, BASE, "10 NotHere"));
-    assert!(rt; refused(alloc, "page,0x\n", SHEET, "1 Hex"));
-    assert!(rt; refused(alloc, "page,000\n", SHEET, "1 Hex"));
-    assert!(rt; refused(alloc, SHEET, "sheet,tWC,1\n", "10 Sheet Repeated"));
-    assert!(rt; refused(alloc, "sheet,tXY,1\n", "", "1 Sheet Unknown"));
-    assert!(rt; refused(alloc, "sheet,tWC,x\n", "", "1 Sheet NotANumber"));
-    assert!(rt; refused(alloc, "sheet,tWC,4294967296\n", "", "1 Sheet TooLong"));
+    for (base, rows, why) in [
+        ("page,00\n", SHEET, "0 Page Short"),
+        ("", SHEET, "0 Missing"),
+        (SHEET, BASE, "10 NotHere"),
+        ("page,0x\n", SHEET, "1 Hex"),
+        ("page,000\n", SHEET, "1 Hex"),
+        (SHEET, "sheet,tWC,1\n", "10 Sheet Repeated"),
+        ("sheet,tXY,1\n", "", "1 Sheet Unknown"),
+        ("sheet,tWC,x\n", "", "1 Sheet NotANumber"),
+        ("sheet,tWC,4294967296\n", "", "1 Sheet TooLong"),
+    ] {
+        assert!(rt; refused(alloc, base, rows, why), "at {why}");
+    }
     Ok(())
 }
 
 #[test]
 fn refuses_devices(rt: HostRuntime) {
     let alloc = rt.alloc();
-    assert!(rt; page_refused(alloc, &[(6, 0x4B), (8, 0x40)], "0 Geometry WideBus"));
-    assert!(rt; page_refused(alloc, &[(8, 0x40)], "0 Geometry NoStatusEnhanced"));
-    assert!(rt; page_refused(alloc, &[(8, 0x08)], "0 Geometry NoColumnEnhanced"));
-    assert!(rt; page_refused(alloc, &[(6, 0x48)], "0 Geometry NoMultiLun"));
-    assert!(rt; page_refused(alloc, &[(100, 0)], "0 Geometry LunCount"));
-    assert!(rt; page_refused(alloc, &[(113, 3)], "0 Geometry PlaneBits"));
-    assert!(rt; page_refused(alloc, &[(92, 0)], "0 Geometry Zero"));
-    assert!(rt; page_refused(alloc, &[(101, 0x22)], "0 Geometry RowTooWide"));
-    assert!(rt; page_refused(alloc, &[(101, 0x13)], "0 Geometry ColumnTooWide"));
-    assert!(rt; page_refused(alloc, &[(82, 1), (101, 0x43)], "0 Geometry TooLarge"));
+    for (at, value, why) in [
+        (8, 0x40, "0 Geometry NoStatusEnhanced"),
+        (8, 0x08, "0 Geometry NoColumnEnhanced"),
+        (6, 0x48, "0 Geometry NoMultiLun"),
+        (100, 0, "0 Geometry LunCount"),
+        (113, 3, "0 Geometry PlaneBits"),
+        (92, 0, "0 Geometry Zero"),
+        (101, 0x22, "0 Geometry RowTooWide"),
+        (101, 0x13, "0 Geometry ColumnTooWide"),
+    ] {
+        assert!(rt; page_refused(alloc, &[(at, value)], why), "at {why}");
+    }
+    for (changes, why) in [
+        ([(6, 0x4B), (8, 0x40)], "0 Geometry WideBus"),
+        ([(82, 1), (101, 0x43)], "0 Geometry TooLarge"),
+    ] {
+        assert!(rt; page_refused(alloc, changes.as_slice(), why), "at {why}");
+    }
 }
 
 fn asked(alloc: Global, line: &str) -> Option<Result<Command, WordsFault>> {
