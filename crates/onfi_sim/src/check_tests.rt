@@ -58,6 +58,30 @@ fn refused(alloc: Global, rows: &str, plan: &str, tokens: &str, why: &str) -> bo
     }
 }
 
+// Whether tokens are refused for a reason: a row `TOKENS;REASON`.
+fn refused_as(alloc: Global, rows: &str, plan: &str, row: &str) -> bool {
+    match row.split_once(';') {
+        Some((tokens, why)) => refused(alloc, rows, plan, tokens, why),
+        None => false,
+    }
+}
+
+// Whether what stands behind the plan of a status and a read gets an answer: a row `TEXT;ANSWER`.
+fn refused_behind(alloc: Global, row: &str) -> bool {
+    match row.split_once(';') {
+        Some((behind, text)) => told(alloc, BASE, STATUS_AND_READ, ITS_PLAN, behind, text, 2),
+        None => false,
+    }
+}
+
+// Whether a text behind the script of a status and a read is refused for a reason: a row `TEXT;REASON`.
+fn refused_text_as(alloc: Global, row: &str) -> bool {
+    match row.split_once(';') {
+        Some((plan, why)) => refused_text(alloc, plan, why),
+        None => false,
+    }
+}
+
 // The answer to a text behind the script of a status and a read.
 fn refused_text(alloc: Global, plan: &str, why: &str) -> bool {
     match format!(in alloc; "refused {why}\n") {
@@ -69,29 +93,33 @@ fn refused_text(alloc: Global, plan: &str, why: &str) -> bool {
 #[test]
 fn judges_a_status_and_a_read(rt: HostRuntime) {
     let alloc = rt.alloc();
-    for tokens in ["T", "B2 Y1 D1", "B2 L B2 L U"] {
+    let table = "\
+        T\n\
+        B2 Y1 D1\n\
+        B2 L B2 L U";
+    for row in table.lines() {
         assert!(rt;
-            accepted(alloc, STATUS_AND_READ, ITS_PLAN, tokens, "36240"),
-            "at {tokens}"
+            accepted(alloc, STATUS_AND_READ, ITS_PLAN, row, "36240"),
+            "at {row}"
         );
     }
-    for (tokens, why) in [
-        ("B2 Y1 Y0", "7 YieldLoop 2"),
-        ("B1 D1", "4 Width 0"),
-        ("B2 Y1 U", "5 BoundLow 2"),
-        ("B2 Y1", "2 Short"),
-        ("T T", "3 Trailing 1"),
-        ("X", "8 NotEnd 0"),
-        ("B2 L", "2 Short"),
-        ("B2 L B2 L U X", "3 Trailing 5"),
-        ("B1 L", "4 Width 0"),
-        ("B2 L L", "5 BoundLow 2"),
-        ("B2 X U", "8 NotEnd 1"),
-        ("", "2 Short"),
-    ] {
+    let table = "\
+        B2 Y1 Y0;7 YieldLoop 2\n\
+        B1 D1;4 Width 0\n\
+        B2 Y1 U;5 BoundLow 2\n\
+        B2 Y1;2 Short\n\
+        T T;3 Trailing 1\n\
+        X;8 NotEnd 0\n\
+        B2 L;2 Short\n\
+        B2 L B2 L U X;3 Trailing 5\n\
+        B1 L;4 Width 0\n\
+        B2 L L;5 BoundLow 2\n\
+        B2 X U;8 NotEnd 1\n\
+        ;2 Short";
+    for row in table.lines() {
         assert!(rt;
-            refused(alloc, STATUS_AND_READ, ITS_PLAN, tokens, why),
-            "at {tokens}"
+            refused_as(alloc, STATUS_AND_READ, ITS_PLAN, row),
+            "at {row}"
         );
     }
 }
@@ -99,48 +127,52 @@ fn judges_a_status_and_a_read(rt: HostRuntime) {
 #[test]
 fn judges_one_token_changed(rt: HostRuntime) {
     let alloc = rt.alloc();
-    for tokens in ["B2 L D1", "B2 T D1", "B2 D1 D1"] {
+    let table = "\
+        B2 L D1\n\
+        B2 T D1\n\
+        B2 D1 D1";
+    for row in table.lines() {
         assert!(rt;
-            accepted(alloc, STATUS_AND_READ, ITS_PLAN, tokens, "36240"),
-            "at {tokens}"
+            accepted(alloc, STATUS_AND_READ, ITS_PLAN, row, "36240"),
+            "at {row}"
         );
     }
-    for (tokens, why) in [
-        ("B1 Y1 D1", "4 Width 0"),
-        ("B3 Y1 D1", "4 Width 0"),
-        ("U Y1 D1", "5 BoundLow 0"),
-        ("L Y1 D1", "5 BoundLow 0"),
-        ("D0 Y1 D1", "5 BoundLow 0"),
-        ("D7 Y1 D1", "5 BoundLow 0"),
-        ("T Y1 D1", "3 Trailing 1"),
-        ("D1 Y1 D1", "3 Trailing 1"),
-        ("Y0 Y1 D1", "6 YieldNoFit 0"),
-        ("Y1 Y1 D1", "6 YieldNoFit 0"),
-        ("Y7 Y1 D1", "6 YieldNoFit 0"),
-        ("X Y1 D1", "8 NotEnd 0"),
-        ("B2 U D1", "5 BoundLow 1"),
-        ("B2 D0 D1", "5 BoundLow 1"),
-        ("B2 D7 D1", "5 BoundLow 1"),
-        ("B2 B1 D1", "2 Short"),
-        ("B2 B2 D1", "4 Width 1"),
-        ("B2 Y0 D1", "7 YieldLoop 1"),
-        ("B2 Y7 D1", "6 YieldNoFit 1"),
-        ("B2 X D1", "8 NotEnd 1"),
-        ("B2 Y1 U", "5 BoundLow 2"),
-        ("B2 Y1 L", "5 BoundLow 2"),
-        ("B2 Y1 T", "5 BoundLow 2"),
-        ("B2 Y1 D0", "5 BoundLow 2"),
-        ("B2 Y1 D7", "5 BoundLow 2"),
-        ("B2 Y1 B1", "4 Width 2"),
-        ("B2 Y1 B2", "2 Short"),
-        ("B2 Y1 Y0", "7 YieldLoop 2"),
-        ("B2 Y1 Y1", "7 YieldLoop 2"),
-        ("B2 Y1 Y7", "7 YieldLoop 2"),
-        ("B2 Y1 X", "8 NotEnd 2"),
-    ] {
+    let table = "\
+        B1 Y1 D1;4 Width 0\n\
+        B3 Y1 D1;4 Width 0\n\
+        U Y1 D1;5 BoundLow 0\n\
+        L Y1 D1;5 BoundLow 0\n\
+        D0 Y1 D1;5 BoundLow 0\n\
+        D7 Y1 D1;5 BoundLow 0\n\
+        T Y1 D1;3 Trailing 1\n\
+        D1 Y1 D1;3 Trailing 1\n\
+        Y0 Y1 D1;6 YieldNoFit 0\n\
+        Y1 Y1 D1;6 YieldNoFit 0\n\
+        Y7 Y1 D1;6 YieldNoFit 0\n\
+        X Y1 D1;8 NotEnd 0\n\
+        B2 U D1;5 BoundLow 1\n\
+        B2 D0 D1;5 BoundLow 1\n\
+        B2 D7 D1;5 BoundLow 1\n\
+        B2 B1 D1;2 Short\n\
+        B2 B2 D1;4 Width 1\n\
+        B2 Y0 D1;7 YieldLoop 1\n\
+        B2 Y7 D1;6 YieldNoFit 1\n\
+        B2 X D1;8 NotEnd 1\n\
+        B2 Y1 U;5 BoundLow 2\n\
+        B2 Y1 L;5 BoundLow 2\n\
+        B2 Y1 T;5 BoundLow 2\n\
+        B2 Y1 D0;5 BoundLow 2\n\
+        B2 Y1 D7;5 BoundLow 2\n\
+        B2 Y1 B1;4 Width 2\n\
+        B2 Y1 B2;2 Short\n\
+        B2 Y1 Y0;7 YieldLoop 2\n\
+        B2 Y1 Y1;7 YieldLoop 2\n\
+        B2 Y1 Y7;7 YieldLoop 2\n\
+        B2 Y1 X;8 NotEnd 2";
+    for row in table.lines() {
         assert!(rt;
-            refused(alloc, STATUS_AND_READ, ITS_PLAN, tokens, why),
-            "at {tokens}"
+            refused_as(alloc, STATUS_AND_READ, ITS_PLAN, row),
+            "at {row}"
         );
     }
 }
@@ -197,12 +229,12 @@ fn judges_statuses(rt: HostRuntime) {
     for tokens in ["B2 B1 X Y0", "B2 D1 Y0"] {
         assert!(rt; accepted(alloc, rows, plan, tokens, "2280"), "at {tokens}");
     }
-    for (tokens, why) in [
-        ("B2 Y1 D1", "6 YieldNoFit 1"),
-        ("B2 D1 Y1", "7 YieldLoop 2"),
-        ("Y0", "6 YieldNoFit 0"),
-    ] {
-        assert!(rt; refused(alloc, rows, plan, tokens, why), "at {tokens}");
+    let table = "\
+        B2 Y1 D1;6 YieldNoFit 1\n\
+        B2 D1 Y1;7 YieldLoop 2\n\
+        Y0;6 YieldNoFit 0";
+    for row in table.lines() {
+        assert!(rt; refused_as(alloc, rows, plan, row), "at {row}");
     }
 }
 
@@ -265,97 +297,64 @@ fn judges_strict_groups(rt: HostRuntime) {
 #[test]
 fn refuses_what_is_no_certificate(rt: HostRuntime) {
     let alloc = rt.alloc();
-    for (behind, why) in [
-        ("ONFICERT 1\nB2 Y1 D1", "refused cert BadToken 3\n"),
-        ("ONFICERT 1\nB2 Y1 ", "refused cert BadToken 2\n"),
-        ("ONFICERT 1\nB2 Y1 D", "refused cert BadToken 2\n"),
-        ("ONFICERT 1\nB2 Y1 D1\n\n", "refused cert BadToken 3\n"),
-        ("ONFICERT 1\n", "refused cert BadToken 0\n"),
-        ("ONFICERT 2\nT\n", "refused cert Header\n"),
-        ("ONFICERT 2 loose\nT\n", "refused cert Header\n"),
-        ("ONFICERT 1\r\nT\n", "refused cert Header\n"),
-        ("ONFICERT\n", "refused cert Header\n"),
-        ("ONFICERT 1", "refused plan 5\n"),
-        ("ONFICERT", "refused plan 5\n"),
-        ("", "refused plan 5\n"),
-        ("\nONFICERT 1\nT\n", "refused plan 5\n"),
-    ] {
-        assert!(rt;
-            told(alloc, BASE, STATUS_AND_READ, ITS_PLAN, behind, why, 2),
-            "at {behind}"
-        );
+    let table = "\
+        ONFICERT 1\nB2 Y1 D1;refused cert BadToken 3\n|\
+        ONFICERT 1\nB2 Y1 ;refused cert BadToken 2\n|\
+        ONFICERT 1\nB2 Y1 D;refused cert BadToken 2\n|\
+        ONFICERT 1\nB2 Y1 D1\n\n;refused cert BadToken 3\n|\
+        ONFICERT 1\n;refused cert BadToken 0\n|\
+        ONFICERT 2\nT\n;refused cert Header\n|\
+        ONFICERT 2 loose\nT\n;refused cert Header\n|\
+        ONFICERT 1\r\nT\n;refused cert Header\n|\
+        ONFICERT\n;refused cert Header\n|\
+        ONFICERT 1;refused plan 5\n|\
+        ONFICERT;refused plan 5\n|\
+        ;refused plan 5\n|\
+        \nONFICERT 1\nT\n;refused plan 5\n";
+    for row in table.split('|') {
+        assert!(rt; refused_behind(alloc, row), "at {row}");
     }
 }
 
 #[test]
 fn refuses_wrong_lines(rt: HostRuntime) {
     let alloc = rt.alloc();
-    for (plan, why) in [
-        ("", "plan 1"),
-        ("ONFIPLAN 1", "plan 1"),
-        ("ONFIPLAN 2\nfinish 0\n", "plan 1"),
-        ("ONFIPLAN 1 \nfinish 0\n", "plan 1"),
-        ("ONFICERT 1\nT\n", "plan 1"),
-        ("ONFIPLAN 1\n", "plan 2"),
-        ("ONFIPLAN 1\nONFICERT 1\nT\n", "plan 2"),
-        ("ONFIPLAN 1\nfinish 5", "plan 2"),
-        ("ONFIPLAN 1\nfinish\nONFICERT 1\nT\n", "plan 2"),
-        ("ONFIPLAN 1\nfinish \nONFICERT 1\nT\n", "plan 2"),
-        ("ONFIPLAN 1\nfinish 05\nONFICERT 1\nT\n", "plan 2"),
-        ("ONFIPLAN 1\nfinish 5 \nONFICERT 1\nT\n", "plan 2"),
-        ("ONFIPLAN 1\nfinish 5 5\nONFICERT 1\nT\n", "plan 2"),
-        (
-            "ONFIPLAN 1\nfinish 9223372036854775808\nONFICERT 1\nT\n",
-            "plan 2",
-        ),
-        (
-            "ONFIPLAN 1\nfinish 99999999999999999999999\nONFICERT 1\nT\n",
-            "plan 2",
-        ),
-        ("ONFIPLAN 1\nrest 0 1000\n", "plan 2"),
-        ("ONFIPLAN 1\nfinish 5\n", "plan 3"),
-        ("ONFIPLAN 1\nfinish 5\n\nONFICERT 1\nT\n", "plan 3"),
-        ("ONFIPLAN 1\nfinish 5\nrest 0\nONFICERT 1\nT\n", "plan 3"),
-        ("ONFIPLAN 1\nfinish 5\nrest 0 \nONFICERT 1\nT\n", "plan 3"),
-        ("ONFIPLAN 1\nfinish 5\nrest  0 1\nONFICERT 1\nT\n", "plan 3"),
-        ("ONFIPLAN 1\nfinish 5\nrest 00 1\nONFICERT 1\nT\n", "plan 3"),
-        ("ONFIPLAN 1\nfinish 5\nrest 0 1 \nONFICERT 1\nT\n", "plan 3"),
-        (
-            "ONFIPLAN 1\nfinish 5\nrest 0 1 2 3 4 5 6 7 8 9\nONFICERT 1\nT\n",
-            "plan 3",
-        ),
-        ("ONFIPLAN 1\nfinish 5\nrests 0 1\nONFICERT 1\nT\n", "plan 3"),
-        ("ONFIPLAN 1\nfinish 5\ngroup 0\nONFICERT 1\nT\n", "plan 3"),
-        (
-            "ONFIPLAN 1\nfinish 5\ngroup 0+ 1 2\nONFICERT 1\nT\n",
-            "plan 3",
-        ),
-        (
-            "ONFIPLAN 1\nfinish 5\ngroup 0+1+2+3+4 1 2\nONFICERT 1\nT\n",
-            "plan 3",
-        ),
-        (
-            "ONFIPLAN 1\nfinish 5\ngroup 0 1 2 3 4 5 6 7 8 9\nONFICERT 1\nT\n",
-            "plan 3",
-        ),
-        (
-            "ONFIPLAN 1\nfinish 5\ngroup 0 +1 2\nONFICERT 1\nT\n",
-            "plan 3",
-        ),
-        (
-            "ONFIPLAN 1\nfinish 5\nrest 0 1\nrest 0 1\nONFICERT 1\nT\n",
-            "plan 4",
-        ),
-        (
-            "ONFIPLAN 1\nfinish 5\nrest 1 1\nrest 0 1\nONFICERT 1\nT\n",
-            "plan 4",
-        ),
-        (
-            "ONFIPLAN 1\nfinish 5\ngroup 0 1\nrest 0 1\nONFICERT 1\nT\n",
-            "plan 4",
-        ),
-    ] {
-        assert!(rt; refused_text(alloc, plan, why), "at {plan}");
+    let table = "\
+        ;plan 1|\
+        ONFIPLAN 1;plan 1|\
+        ONFIPLAN 2\nfinish 0\n;plan 1|\
+        ONFIPLAN 1 \nfinish 0\n;plan 1|\
+        ONFICERT 1\nT\n;plan 1|\
+        ONFIPLAN 1\n;plan 2|\
+        ONFIPLAN 1\nONFICERT 1\nT\n;plan 2|\
+        ONFIPLAN 1\nfinish 5;plan 2|\
+        ONFIPLAN 1\nfinish\nONFICERT 1\nT\n;plan 2|\
+        ONFIPLAN 1\nfinish \nONFICERT 1\nT\n;plan 2|\
+        ONFIPLAN 1\nfinish 05\nONFICERT 1\nT\n;plan 2|\
+        ONFIPLAN 1\nfinish 5 \nONFICERT 1\nT\n;plan 2|\
+        ONFIPLAN 1\nfinish 5 5\nONFICERT 1\nT\n;plan 2|\
+        ONFIPLAN 1\nfinish 9223372036854775808\nONFICERT 1\nT\n;plan 2|\
+        ONFIPLAN 1\nfinish 99999999999999999999999\nONFICERT 1\nT\n;plan 2|\
+        ONFIPLAN 1\nrest 0 1000\n;plan 2|\
+        ONFIPLAN 1\nfinish 5\n;plan 3|\
+        ONFIPLAN 1\nfinish 5\n\nONFICERT 1\nT\n;plan 3|\
+        ONFIPLAN 1\nfinish 5\nrest 0\nONFICERT 1\nT\n;plan 3|\
+        ONFIPLAN 1\nfinish 5\nrest 0 \nONFICERT 1\nT\n;plan 3|\
+        ONFIPLAN 1\nfinish 5\nrest  0 1\nONFICERT 1\nT\n;plan 3|\
+        ONFIPLAN 1\nfinish 5\nrest 00 1\nONFICERT 1\nT\n;plan 3|\
+        ONFIPLAN 1\nfinish 5\nrest 0 1 \nONFICERT 1\nT\n;plan 3|\
+        ONFIPLAN 1\nfinish 5\nrest 0 1 2 3 4 5 6 7 8 9\nONFICERT 1\nT\n;plan 3|\
+        ONFIPLAN 1\nfinish 5\nrests 0 1\nONFICERT 1\nT\n;plan 3|\
+        ONFIPLAN 1\nfinish 5\ngroup 0\nONFICERT 1\nT\n;plan 3|\
+        ONFIPLAN 1\nfinish 5\ngroup 0+ 1 2\nONFICERT 1\nT\n;plan 3|\
+        ONFIPLAN 1\nfinish 5\ngroup 0+1+2+3+4 1 2\nONFICERT 1\nT\n;plan 3|\
+        ONFIPLAN 1\nfinish 5\ngroup 0 1 2 3 4 5 6 7 8 9\nONFICERT 1\nT\n;plan 3|\
+        ONFIPLAN 1\nfinish 5\ngroup 0 +1 2\nONFICERT 1\nT\n;plan 3|\
+        ONFIPLAN 1\nfinish 5\nrest 0 1\nrest 0 1\nONFICERT 1\nT\n;plan 4|\
+        ONFIPLAN 1\nfinish 5\nrest 1 1\nrest 0 1\nONFICERT 1\nT\n;plan 4|\
+        ONFIPLAN 1\nfinish 5\ngroup 0 1\nrest 0 1\nONFICERT 1\nT\n;plan 4";
+    for row in table.split('|') {
+        assert!(rt; refused_text_as(alloc, row), "at {row}");
     }
 }
 
@@ -389,23 +388,23 @@ fn refuses_a_ninth_line(rt: HostRuntime) -> Result<(), Fail> {
 #[test]
 fn refuses_illegal_schedules(rt: HostRuntime) {
     let alloc = rt.alloc();
-    for plan in [
-        "ONFIPLAN 1\nfinish 36240\ngroup 0 0 25240\n",
-        "ONFIPLAN 1\nfinish 36240\nrest 0 1000\n",
-        "ONFIPLAN 1\nfinish 36240\nrest 0 1000\ngroup 1 0 25240\n",
-        "ONFIPLAN 1\nfinish 36240\nrest 0 1000\ngroup 9223372036854775807 0 25240\n",
-        "ONFIPLAN 1\nfinish 36240\nrest 0 1000\ngroup 0+0 0 25240\n",
-        "ONFIPLAN 1\nfinish 36240\nrest 0 1000\ngroup 0 0\n",
-        "ONFIPLAN 1\nfinish 36240\nrest 0 1000 2000\ngroup 0 0 25240\n",
-        "ONFIPLAN 1\nfinish 36240\nrest 0 1000\nrest 1 2000\ngroup 0 0 25240\n",
-        "ONFIPLAN 1\nfinish 36240\nrest 0 1000\nrest 2 2000\ngroup 0 0 25240\n",
-        "ONFIPLAN 1\nfinish 36240\nrest 0 1000\nrest 9 2000\ngroup 0 0 25240\n",
-        "ONFIPLAN 1\nfinish 36240\nrest 0 999\ngroup 0 0 25240\n",
-        "ONFIPLAN 1\nfinish 36240\nrest 0 1000\ngroup 0 0 25240\ngroup 0 40000 70000\n",
-    ] {
+    let table = "\
+        ONFIPLAN 1\nfinish 36240\ngroup 0 0 25240\n|\
+        ONFIPLAN 1\nfinish 36240\nrest 0 1000\n|\
+        ONFIPLAN 1\nfinish 36240\nrest 0 1000\ngroup 1 0 25240\n|\
+        ONFIPLAN 1\nfinish 36240\nrest 0 1000\ngroup 9223372036854775807 0 25240\n|\
+        ONFIPLAN 1\nfinish 36240\nrest 0 1000\ngroup 0+0 0 25240\n|\
+        ONFIPLAN 1\nfinish 36240\nrest 0 1000\ngroup 0 0\n|\
+        ONFIPLAN 1\nfinish 36240\nrest 0 1000 2000\ngroup 0 0 25240\n|\
+        ONFIPLAN 1\nfinish 36240\nrest 0 1000\nrest 1 2000\ngroup 0 0 25240\n|\
+        ONFIPLAN 1\nfinish 36240\nrest 0 1000\nrest 2 2000\ngroup 0 0 25240\n|\
+        ONFIPLAN 1\nfinish 36240\nrest 0 1000\nrest 9 2000\ngroup 0 0 25240\n|\
+        ONFIPLAN 1\nfinish 36240\nrest 0 999\ngroup 0 0 25240\n|\
+        ONFIPLAN 1\nfinish 36240\nrest 0 1000\ngroup 0 0 25240\ngroup 0 40000 70000\n";
+    for row in table.split('|') {
         assert!(rt;
-            refused(alloc, STATUS_AND_READ, plan, "T", "1 Illegal"),
-            "at {plan}"
+            refused(alloc, STATUS_AND_READ, row, "T", "1 Illegal"),
+            "at {row}"
         );
     }
 }

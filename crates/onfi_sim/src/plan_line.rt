@@ -3,6 +3,7 @@ ghost use Rattle.std.specs.Prelude.{◌≡◌, ◌==◌, ◌+◌, ◌<◌, ◌�
 ghost use Rattle.onfi_sim.specs.Parts.{parts};
 ghost use Rattle.onfi_sim.specs.PlanLine as spec;
 
+use crate::field::is_word;
 use crate::parts::cut;
 use onfi_group::Group;
 use onfi_request::Want;
@@ -138,9 +139,9 @@ pub fn line_of(alloc: Global, wants: &[Want], line: &[u8]) -> Option<Line>
     ensures { result ≡ spec.line_of wants.now line.now }
 {
     let (name, words) = cut(line, b' ')?;
-    if name == b"rest".as_slice() {
+    if is_word(name, "rest") {
         rest_of(alloc, words)
-    } else if name == b"group".as_slice() {
+    } else if is_word(name, "group") {
         group_of(alloc, wants, words)
     } else {
         None
@@ -152,7 +153,7 @@ pub fn finish_of(line: &[u8]) -> Option<u64>
     ensures { result ≡ spec.finish_of line.now }
 {
     let (name, text) = cut(line, b' ')?;
-    if name != b"finish".as_slice() {
+    if !is_word(name, "finish") {
         return None;
     }
     match cut(text, b' ') {

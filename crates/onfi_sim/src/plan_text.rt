@@ -6,6 +6,7 @@ ghost use Rattle.onfi_sim.specs.PlanLine.{line_of};
 ghost use Rattle.onfi_sim.specs.PlanText as spec;
 ghost use Rattle.onfi_sim.specs.Wrong.{IfWrong};
 
+use crate::field::is_word;
 use crate::parts::cut;
 use crate::plan_line::{Line, RestLine, finish_of, line_of};
 use onfi_request::Want;
@@ -197,7 +198,7 @@ fn opening(text: &[u8]) -> Result<(u64, &[u8]), u64>
     let Some((head, rest)) = cut(text, b'\n') else {
         return Err(1);
     };
-    if head != b"ONFIPLAN 1".as_slice() {
+    if !is_word(head, "ONFIPLAN 1") {
         return Err(1);
     }
     let Some((line, behind)) = cut(rest, b'\n') else {

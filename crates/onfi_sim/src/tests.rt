@@ -153,57 +153,51 @@ fn refused(alloc: Global, base: &str, rows: &str, why: &str) -> bool {
     }
 }
 
+// Whether rows behind a base are planned so: a row `ROWS;TEXT`.
+fn told_as(alloc: Global, base: &str, row: &str) -> bool {
+    match row.split_once(';') {
+        Some((rows, text)) => told_behind(alloc, base, rows, text, 0),
+        None => false,
+    }
+}
+
+// Whether rows behind a base are refused for a reason: a row `ROWS;REASON`.
+fn refused_as(alloc: Global, base: &str, row: &str) -> bool {
+    match row.split_once(';') {
+        Some((rows, why)) => refused(alloc, base, rows, why),
+        None => false,
+    }
+}
+
 #[test]
 fn plans_at_most_one_want(rt: HostRuntime) {
     let alloc = rt.alloc();
-    for (base, rows, text) in [
-        (BASE, "want,read,0,0,0\n", ONE_READ),
-        (BASE, "", "ONFIPLAN 1\nfinish 0\nONFICERT 1\nU\n"),
-        (
-            BASE,
-            "bus,4611686018427387903\n",
-            "ONFIPLAN 1\nfinish 4611686018427387903\nONFICERT 1\nU\n",
-        ),
-        (
-            BASE,
-            "free,0,1000\nwant,read,0,0,0\n",
-            "ONFIPLAN 1\nfinish 37240\ngroup 0 1000 26240\nONFICERT 1\nL\n",
-        ),
-        (BASE, "bus,7\n", "ONFIPLAN 1\nfinish 7\nONFICERT 1\nU\n"),
-        (
-            NO_ARRAY,
-            "want,read,0,0,0\n",
-            "ONFIPLAN 1\nfinish 11140\ngroup 0 0 140\nONFICERT 1\nU\n",
-        ),
-        (
-            NO_ARRAY,
-            "free,0,1000\nwant,read,0,0,0\n",
-            "ONFIPLAN 1\nfinish 12140\ngroup 0 1000 1140\nONFICERT 1\nL\n",
-        ),
-        (
-            BASE,
-            "strict,1\nwant,read,0,0,0\n",
-            "ONFIPLAN 1\nfinish 36240\ngroup 0 0 25240\nONFICERT 2 strict\nL\n",
-        ),
-    ] {
-        assert!(rt; told_behind(alloc, base, rows, text, 0), "at {rows}");
+    let table = "\
+        want,read,0,0,0\n;ONFIPLAN 1\nfinish 36240\ngroup 0 0 25240\nONFICERT 1\nL\n|\
+        ;ONFIPLAN 1\nfinish 0\nONFICERT 1\nU\n|\
+        bus,4611686018427387903\n;ONFIPLAN 1\nfinish 4611686018427387903\nONFICERT 1\nU\n|\
+        free,0,1000\nwant,read,0,0,0\n;ONFIPLAN 1\nfinish 37240\ngroup 0 1000 26240\nONFICERT 1\nL\n|\
+        bus,7\n;ONFIPLAN 1\nfinish 7\nONFICERT 1\nU\n|\
+        strict,1\nwant,read,0,0,0\n;ONFIPLAN 1\nfinish 36240\ngroup 0 0 25240\nONFICERT 2 strict\nL\n";
+    for row in table.split('|') {
+        assert!(rt; told_as(alloc, BASE, row), "at {row}");
+    }
+    let table = "\
+        want,read,0,0,0\n;ONFIPLAN 1\nfinish 11140\ngroup 0 0 140\nONFICERT 1\nU\n|\
+        free,0,1000\nwant,read,0,0,0\n;ONFIPLAN 1\nfinish 12140\ngroup 0 1000 1140\nONFICERT 1\nL\n";
+    for row in table.split('|') {
+        assert!(rt; told_as(alloc, NO_ARRAY, row), "at {row}");
     }
 }
 
 #[test]
 fn plans_reads_and_programs_on_two_luns(rt: HostRuntime) {
     let alloc = rt.alloc();
-    for (rows, text) in [
-        (
-            "want,read,0,0,0\nwant,read,1,0,0\n",
-            "ONFIPLAN 1\nfinish 47240\ngroup 0 0 25240\ngroup 1 140 36240\nONFICERT 1\nL\n",
-        ),
-        (
-            "want,program,0,0,0\nwant,program,1,0,0\n",
-            "ONFIPLAN 1\nfinish 221980\ngroup 0 0 210900\ngroup 1 10800 221700\nONFICERT 1\nT\n",
-        ),
-    ] {
-        assert!(rt; told_behind(alloc, BASE, rows, text, 0), "at {rows}");
+    let table = "\
+        want,read,0,0,0\nwant,read,1,0,0\n;ONFIPLAN 1\nfinish 47240\ngroup 0 0 25240\ngroup 1 140 36240\nONFICERT 1\nL\n|\
+        want,program,0,0,0\nwant,program,1,0,0\n;ONFIPLAN 1\nfinish 221980\ngroup 0 0 210900\ngroup 1 10800 221700\nONFICERT 1\nT\n";
+    for row in table.split('|') {
+        assert!(rt; told_as(alloc, BASE, row), "at {row}");
     }
 }
 
@@ -308,16 +302,13 @@ fn traces_each_phase(rt: HostRuntime) {
 #[test]
 fn refuses_problems(rt: HostRuntime) {
     let alloc = rt.alloc();
-    for (rows, why) in [
-        ("want,read,2,0,0\n", "0 Problem BadLun"),
-        ("want,erase,0,0,1\n", "0 Problem BadLun"),
-        (
-            "bus,4611686018427387903\nwant,read,0,0,0\n",
-            "0 Problem Clock",
-        ),
-        ("running,0,2,0,read,0,0\n", "0 Problem BadLun"),
-    ] {
-        assert!(rt; refused(alloc, BASE, rows, why), "at {rows}");
+    let table = "\
+        want,read,2,0,0\n;0 Problem BadLun|\
+        want,erase,0,0,1\n;0 Problem BadLun|\
+        bus,4611686018427387903\nwant,read,0,0,0\n;0 Problem Clock|\
+        running,0,2,0,read,0,0\n;0 Problem BadLun";
+    for row in table.split('|') {
+        assert!(rt; refused_as(alloc, BASE, row), "at {row}");
     }
 }
 
@@ -340,31 +331,23 @@ fn tells_the_first_fault(rt: HostRuntime) {
             0
         )
     );
-    for (base, rows, why) in [
-        (BASE, "foo\nbus,x\n", "5 UnknownRow"),
-        (BASE, "op,0,0,read,0,0,0\n", "5 NotHere"),
-        (BASE, "page,00\n", "5 NotHere"),
-        (BASE, "bus,\n", "5 NotANumber"),
-        (BASE, "bus,+1\n", "5 NotANumber"),
-        (BASE, "bus,4611686018427387904\n", "5 OutOfRange"),
-        (BASE, "bus,18446744073709551616\n", "5 OutOfRange"),
-        (
-            BASE,
-            "bus,99999999999999999999999999999999\n",
-            "5 OutOfRange",
-        ),
-        (BASE, "want,reads,x,0,0\n", "5 OutOfRange"),
-        (BASE, "bus,1\nbus,1\nbus,x\n", "6 Repeated"),
-        (BASE, "free,0,1\nrunning,0,1,0,read,0,0\n", "6 Repeated"),
-        ("", "shape,2,1,1,1\nfree,2,0\n", "0 Missing"),
-        (
-            BASE,
-            "free,0,0\nfree,2,0\nwant,read,7,0,0\n",
-            "6 OutOfRange",
-        ),
-    ] {
-        assert!(rt; refused(alloc, base, rows, why), "at {rows}");
+    let table = "\
+        foo\nbus,x\n;5 UnknownRow|\
+        op,0,0,read,0,0,0\n;5 NotHere|\
+        page,00\n;5 NotHere|\
+        bus,\n;5 NotANumber|\
+        bus,+1\n;5 NotANumber|\
+        bus,4611686018427387904\n;5 OutOfRange|\
+        bus,18446744073709551616\n;5 OutOfRange|\
+        bus,99999999999999999999999999999999\n;5 OutOfRange|\
+        want,reads,x,0,0\n;5 OutOfRange|\
+        bus,1\nbus,1\nbus,x\n;6 Repeated|\
+        free,0,1\nrunning,0,1,0,read,0,0\n;6 Repeated|\
+        free,0,0\nfree,2,0\nwant,read,7,0,0\n;6 OutOfRange";
+    for row in table.split('|') {
+        assert!(rt; refused_as(alloc, BASE, row), "at {row}");
     }
+    assert!(rt; refused(alloc, "", "shape,2,1,1,1\nfree,2,0\n", "0 Missing"));
 }
 
 // The worked parameter page without its check value.
@@ -500,22 +483,22 @@ fn reads_the_command_line(rt: HostRuntime) {
         }))
     );
     assert_eq!(rt; asked(alloc, "onfi_sim check"), Some(Ok(Command::Check)));
-    for line in [
-        "onfi_sim",
-        "onfi_sim --limit 7 plan",
-        "onfi_sim plan --limit 0",
-        "onfi_sim plan --limit 1048577",
-        "onfi_sim plan --limit +7",
-        "onfi_sim plan --limit 7 --limit 7",
-        "onfi_sim plan extra",
-        "onfi_sim plan --trace --trace",
-        "onfi_sim plan --tracer",
-        "onfi_sim check --trace",
-        "onfi_sim check --limit 7",
-        "onfi_sim check extra",
-        "onfi_sim run",
-        "onfi_sim --help",
-    ] {
+    let table = "\
+        onfi_sim\n\
+        onfi_sim --limit 7 plan\n\
+        onfi_sim plan --limit 0\n\
+        onfi_sim plan --limit 1048577\n\
+        onfi_sim plan --limit +7\n\
+        onfi_sim plan --limit 7 --limit 7\n\
+        onfi_sim plan extra\n\
+        onfi_sim plan --trace --trace\n\
+        onfi_sim plan --tracer\n\
+        onfi_sim check --trace\n\
+        onfi_sim check --limit 7\n\
+        onfi_sim check extra\n\
+        onfi_sim run\n\
+        onfi_sim --help";
+    for line in table.lines() {
         assert_eq!(rt; asked(alloc, line), Some(Err(WordsFault::Refused)));
     }
 }

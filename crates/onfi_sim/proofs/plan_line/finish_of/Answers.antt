@@ -3,13 +3,13 @@ use Rattle.std.specs.Str.{bytes_eq}
 use Rattle.onfi_sim.specs.Parts.{parts}
 use Rattle.onfi_sim.specs.PlanLine.{finish_of_words}
 use Rattle.onfi_sim.proofs.PartsLemmas.{some_parts}
-use Rattle.onfi_sim.proofs.LineLemmas.{finish_other, finish_longer, not_so}
+use Rattle.onfi_sim.proofs.LineLemmas.{finish_other, finish_longer}
 use Rattle.onfi_sim.proofs.plan_line.finish_of.Goals as goal
 
-pub returns-then-ne : goal.returns-then-ne
-returns-then-ne c =
+pub returns-then-not-is_word : goal.returns-then-not-is_word
+returns-then-not-is_word c =
     let name = c.in_ok-name.name.now in
-    let other : bytes_eq name (codes "finish") ≡ false = not_so _ (rw c.as_slice.ensures at (sym c.ne.ensures ∙ c.if-ne.true)) in
+    let other : bytes_eq name (codes "finish") ≡ false = sym c.is_word.ensures ∙ c.if-not-is_word.true in
     sym (ap finish_of_words c.in_ok-name.ensures.some ∙ finish_other name (parts 32 c.in_ok-name.text.now) other)
 
 pub returns-in-Some : goal.returns-in-Some
