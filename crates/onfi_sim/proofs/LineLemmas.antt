@@ -48,7 +48,3 @@ members_more wants at ids made want h e told =
 pub not_so : (b : Bool) → not b ≡ true → b ≡ false
 not_so true e = cc
 not_so false e = refl
-
-pub is_so : (b : Bool) → not b ≡ false → b ≡ true
-is_so true e = refl
-is_so false e = cc

@@ -1,6 +1,6 @@
 -- A plan text, read line by line.
 use Rattle.std.proofs.Common.{◌≡◌, ◌<◌, ℕ, ◌+◌, true, false, List, [], ◌∷◌, ◌++◌, length, Ok, Err, Some, None, refl, sym, ap, ◌∙◌, arith, cond, codes, add-one}
-use Rattle.std.specs.Prelude.{Option, Result, OnOk, is_ok}
+use Rattle.std.specs.Prelude.{Option, Result}
 use Rattle.std.specs.List.{join_with_byte}
 use Rattle.std.specs.Str.{bytes_eq}
 use Rattle.std.proofs.lemmas.List.Splits.{join_with_byte-slice_split}
@@ -95,10 +95,6 @@ rests_more lines lun made starts e h = ap (λ l. l ++ starts ∷ []) e ∙ ap (�
 -- the same number of a wrong line
 pub wrong : (n m : ℕ) → n ≡ m → (let r : Result (Plan × List ℕ) ℕ = Err n in r) ≡ Err m
 wrong n m e = ap Err e
-
-pub on_ok : {A E : Type 0} (r : Result A E) (P : Type 0) → is_ok r ≡ true → OnOk r P → P
-on_ok (Ok x) P e h = h
-on_ok (Err f) P e h = cc
 
 pub if_wrong : (stop : PlanStop) (P Q : ℕ → Type 0) → ((n : ℕ) → P n → Q n) → IfWrong stop P → IfWrong stop Q
 if_wrong (Wrong n) P Q f h = f n h

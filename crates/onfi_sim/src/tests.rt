@@ -415,25 +415,40 @@ fn takes_page_and_sheet(rt: HostRuntime) -> Result<(), Fail> {
     let (_, behind) = SHEET.split_at("sheet,tWC,20\n".len());
     let late = format!(in alloc; "{late}{behind}")?;
     assert!(rt; refused(alloc, row, late.as_str(), "0 Sheet ZeroCycle"));
+    Ok(())
+}
+
+#[test]
+fn refuses_a_spoiled_page(rt: HostRuntime) -> Result<(), Fail> {
+    let alloc = rt.alloc();
     // One bit of byte 100 is changed, and the check value is as it was.
-    let mut spoiled = bytes;
+    let mut spoiled = checked_page(&[]);
     spoiled[100] ^= 1;
     let spoiled = page_row(alloc, spoiled.as_slice()).ok_or("a page")?;
     assert!(rt; refused(alloc, spoiled.as_str(), SHEET, "0 Page NoCopy"));
-    for (base, rows, why) in [
-        ("page,00\n", SHEET, "0 Page Short"),
-        ("", SHEET, "0 Missing"),
-        (SHEET, BASE, "10 NotHere"),
-        ("page,0x\n", SHEET, "1 Hex"),
-        ("page,000\n", SHEET, "1 Hex"),
-        (SHEET, "sheet,tWC,1\n", "10 Sheet Repeated"),
-        ("sheet,tXY,1\n", "", "1 Sheet Unknown"),
-        ("sheet,tWC,x\n", "", "1 Sheet NotANumber"),
-        ("sheet,tWC,4294967296\n", "", "1 Sheet TooLong"),
-    ] {
-        assert!(rt; refused(alloc, base, rows, why), "at {why}");
-    }
     Ok(())
+}
+
+#[test]
+fn refuses_pages_and_sheets(rt: HostRuntime) {
+    let alloc = rt.alloc();
+    for (page, why) in [
+        ("page,00\n", "0 Page Short"),
+        ("", "0 Missing"),
+        ("page,0x\n", "1 Hex"),
+        ("page,000\n", "1 Hex"),
+    ] {
+        assert!(rt; refused(alloc, page, SHEET, why), "at {page}");
+    }
+    assert!(rt; refused(alloc, SHEET, BASE, "10 NotHere"));
+    assert!(rt; refused(alloc, SHEET, "sheet,tWC,1\n", "10 Sheet Repeated"));
+    let table = "\
+        sheet,tXY,1\n;1 Sheet Unknown|\
+        sheet,tWC,x\n;1 Sheet NotANumber|\
+        sheet,tWC,4294967296\n;1 Sheet TooLong";
+    for row in table.split('|') {
+        assert!(rt; refused_as(alloc, "", row), "at {row}");
+    }
 }
 
 #[test]
