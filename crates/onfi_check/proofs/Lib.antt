@@ -8,3 +8,4 @@ pub mod Fitting
 pub mod ByDie
 pub mod Walking
 pub mod Tokens
+pub mod Refused

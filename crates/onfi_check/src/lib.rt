@@ -19,4 +19,4 @@ mod yields;
 pub use checking::{check, check_text};
 pub use ends::last_ends;
 pub use fault::{CertFault, TextFault};
-pub use laws::accepted_is_optimal;
+pub use laws::{accepted_is_optimal, accepted_is_refused_for_memory_alone};
