@@ -51,14 +51,20 @@ own_more p ms m lun (Some e) q h =
           subst (λ z. IsLastEnd p (ms ++ m ∷ []) lun (Some z)) s whole)
     ]
 
+-- behind one more item, for its own LUN
+pub end_own : (p : Problem) (groups : List (List Want)) (items : List KeptMove) (i lun end : ℕ) (d : KeptMove) (o : Option ℕ) → i < length items → move_lun (move_of groups (get_or items i d)) ≡ lun → end ≡ (after p (move_of groups (get_or items i d))).bus_free → IsLastEnd p (moves_of groups (take i items)) lun o → IsLastEnd p (moves_of groups (take (i + 1) items)) lun (later_of o end)
+end_own p groups items i lun end d o h q e inv = rw (one_more groups items i d h, e) (own_more p (moves_of groups (take i items)) (move_of groups (get_or items i d)) lun o q inv)
+
+-- .. and for another
+pub end_other : (p : Problem) (groups : List (List Want)) (items : List KeptMove) (i lun : ℕ) (d : KeptMove) (o : Option ℕ) → i < length items → move_lun (move_of groups (get_or items i d)) ≢ lun → IsLastEnd p (moves_of groups (take i items)) lun o → IsLastEnd p (moves_of groups (take (i + 1) items)) lun o
+end_other p groups items i lun d o h n inv = rw (one_more groups items i d h) (other_more p (moves_of groups (take i items)) (move_of groups (get_or items i d)) lun o n inv)
+
 pub ends_more : (p : Problem) (groups : List (List Want)) (items : List KeptMove) (i own end : ℕ) (d : KeptMove) (ends : List (Option ℕ)) → i < length items → own < length ends → move_lun (move_of groups (get_or items i d)) ≡ own → end ≡ (after p (move_of groups (get_or items i d))).bus_free
     → ((lun : ℕ) → lun < 8 → IsLastEnd p (moves_of groups (take i items)) lun (get_or ends lun None))
     → (lun : ℕ) → lun < 8 → IsLastEnd p (moves_of groups (take (i + 1) items)) lun (get_or (slice_set ends own (later_of (get_or ends own None) end)) lun None)
 ends_more p groups items i own end d ends h within q e inv lun small =
-    let m = move_of groups (get_or items i d) in
-    let old = moves_of groups (take i items) in
     let here = inv lun small in
-    rw (one_more groups items i d h) (elim (cases_eq lun own) [
-      | inl s ↦ rw (s, get_or-set_same ends own (later_of (get_or ends own None) end) None within, e) (own_more p old m own (get_or ends own None) q (subst (λ z. IsLastEnd p old z (get_or ends z None)) s here))
-      | inr s ↦ rw (get_or-set_other ends own lun (later_of (get_or ends own None) end) None s) (other_more p old m lun (get_or ends lun None) (λ z. s (sym z ∙ q)) here)
-    ])
+    elim (cases_eq lun own) [
+      | inl s ↦ rw (s, get_or-set_same ends own (later_of (get_or ends own None) end) None within) (end_own p groups items i own end d (get_or ends own None) h q e (subst (λ z. IsLastEnd p (moves_of groups (take i items)) z (get_or ends z None)) s here))
+      | inr s ↦ rw (get_or-set_other ends own lun (later_of (get_or ends own None) end) None s) (end_other p groups items i lun d (get_or ends lun None) h (λ z. s (sym z ∙ q)) here)
+    ]

@@ -7,14 +7,13 @@ use Rattle.onfi_group.specs.Group.{lun_of}
 use Rattle.onfi_problem.specs.Problem.{Problem}
 use Rattle.onfi_problem.specs.Moves.{Move, Next, Start, IsMove, AreMoves, move_lun, after}
 use Rattle.onfi_problem.specs.declared.moves.Move.{Move as KeptMove}
-use Rattle.onfi_problem.specs.Position.{Position, move_of, moves_of, lun_named}
+use Rattle.onfi_problem.specs.Position.{Position, move_of, moves_of}
 use Rattle.onfi_problem.specs.Starts.{IsNamed}
 use Rattle.onfi_problem.proofs.Places.{within_get}
 use Rattle.onfi_cert.specs.declared.token.Token.{Token}
 use Rattle.onfi_cert.specs.declared.token.Token.TheVariants.{Branch, Yield}
 use Rattle.onfi_check.specs.declared.fault.CertFault.{CertFault}
 use Rattle.onfi_check.specs.declared.yields.Standing.{Standing}
-use Rattle.onfi_check.specs.Ends.{AreLastEnds}
 use Rattle.onfi_check.specs.Tree.{Closing, Closes, token_of}
 use Rattle.onfi_check.specs.Reading.{Begins, BeginsEach, BeginsRest, IsYield, ReadsChild, RefusesChild}
 use Rattle.onfi_check.proofs.OneList.{branch_each, each_branch, closed_begins, not_closed, map_length}
@@ -28,48 +27,40 @@ small_named : (groups : List (List Want)) (items : List KeptMove) → All (IsNam
 small_named groups [] a = tt
 small_named groups (s ∷ items) a = (subst (λ z. z < 8) (sym a.0.lun) a.0.few, small_named groups items a.1)
 
-pub luns_named : (groups : List (List Want)) (items : List KeptMove) → All (IsNamed groups) items → All (λ m. move_lun (move_of groups m) ≡ lun_named m) items
-luns_named groups [] a = tt
-luns_named groups (s ∷ items) a = (a.0.lun, luns_named groups items a.1)
-
-pub few_named : (groups : List (List Want)) (items : List KeptMove) → All (IsNamed groups) items → All (λ m. lun_named m < 8) items
-few_named groups [] a = tt
-few_named groups (s ∷ items) a = (a.0.few, few_named groups items a.1)
-
 pub on_ok : {A P : Type 0} (r : Result A CertFault) → P → OnOk r P
 on_ok (Ok x) h = h
 on_ok (Err f) h = tt
 
-pub yield_taken : {A : Type 0} (p : Problem) (e : ℕ) (m : Move) (before behind : Standing) (tokens left : List Token) (own l n : ℕ) (token : Token) (r : Result A CertFault) → token ≡ Yield l → n ≡ l → own ≡ move_lun m → tokens ≡ token ∷ left → OnOk r ((moves : List Move) → AreLastEnds p moves before.ends → IsYield p moves before.awaited before.leaving own n) → OnOk r (behind.awaited ≡ slice_set before.awaited n true) → OnOk r (behind.leaving ≡ slice_set before.leaving own true) → OnOk r (ReadsChild p e m before behind tokens left)
-yield_taken p e m before behind tokens left own l n token (Err f) t q o ts y a b = tt
-yield_taken p e m before behind tokens left own l n token (Ok x) t q o ts y a b = λ moves later rest ends.
+pub yield_taken : {A : Type 0} (p : Problem) (e : ℕ) (moves : List Move) (m : Move) (before behind : Standing) (tokens left : List Token) (own l n : ℕ) (token : Token) (r : Result A CertFault) → token ≡ Yield l → n ≡ l → own ≡ move_lun m → tokens ≡ token ∷ left → OnOk r (IsYield p moves before.awaited before.leaving own n) → OnOk r (behind.awaited ≡ slice_set before.awaited n true) → OnOk r (behind.leaving ≡ slice_set before.leaving own true) → OnOk r (ReadsChild p e moves m before behind tokens left)
+yield_taken p e moves m before behind tokens left own l n token (Err f) t q o ts y a b = tt
+yield_taken p e moves m before behind tokens left own l n token (Ok x) t q o ts y a b = λ later rest.
     let s : tokens ≡ Yield n ∷ left = ts ∙ ap (λ z. z ∷ left) (t ∙ ap Yield (sym q)) in
-    let r = read_yield p e n m later moves before.awaited before.leaving left rest (subst (λ z. IsYield p moves before.awaited before.leaving z n) o (y moves ends)) in
+    let r = read_yield p e n m later moves before.awaited before.leaving left rest (subst (λ z. IsYield p moves before.awaited before.leaving z n) o y) in
     subst (λ z. BeginsRest p e later moves behind.awaited behind.leaving left rest ↔ BeginsRest p e (m ∷ later) moves before.awaited before.leaving z rest) (sym s)
     (subst (λ z. BeginsRest p e later moves z behind.leaving left rest ↔ BeginsRest p e (m ∷ later) moves before.awaited before.leaving (Yield n ∷ left) rest) (sym a)
     (subst (λ z. BeginsRest p e later moves (slice_set before.awaited n true) z left rest ↔ BeginsRest p e (m ∷ later) moves before.awaited before.leaving (Yield n ∷ left) rest) (sym b)
     (subst (λ z. BeginsRest p e later moves (slice_set before.awaited n true) (slice_set before.leaving z true) left rest ↔ BeginsRest p e (m ∷ later) moves before.awaited before.leaving (Yield n ∷ left) rest) (sym o) r)))
 
-pub yield_refused : {A : Type 0} (p : Problem) (e : ℕ) (m : Move) (before : Standing) (tokens left : List Token) (own l n : ℕ) (token : Token) (r : Result A CertFault) → token ≡ Yield l → n ≡ l → own ≡ move_lun m → tokens ≡ token ∷ left → IfErr r (λ _. (moves : List Move) → AreLastEnds p moves before.ends → IsYield p moves before.awaited before.leaving own n → ⊥) → IfErr r (λ _. RefusesChild p e m before tokens)
-yield_refused p e m before tokens left own l n token (Ok x) t q o ts y = tt
-yield_refused p e m before tokens left own l n token (Err f) t q o ts y = λ moves later rest ends b.
+pub yield_refused : {A : Type 0} (p : Problem) (e : ℕ) (moves : List Move) (m : Move) (before : Standing) (tokens left : List Token) (own l n : ℕ) (token : Token) (r : Result A CertFault) → token ≡ Yield l → n ≡ l → own ≡ move_lun m → tokens ≡ token ∷ left → IfErr r (λ _. IsYield p moves before.awaited before.leaving own n → ⊥) → IfErr r (λ _. RefusesChild p e moves m before tokens)
+yield_refused p e moves m before tokens left own l n token (Ok x) t q o ts y = tt
+yield_refused p e moves m before tokens left own l n token (Err f) t q o ts y = λ later rest b.
     let s : tokens ≡ Yield n ∷ left = ts ∙ ap (λ z. z ∷ left) (t ∙ ap Yield (sym q)) in
     let kept = yield_kept p e n m later moves before.awaited before.leaving left rest (subst (λ z. BeginsRest p e (m ∷ later) moves before.awaited before.leaving z rest) s b) in
-    y moves ends (subst (λ z. IsYield p moves before.awaited before.leaving z n) (sym o) kept)
+    y (subst (λ z. IsYield p moves before.awaited before.leaving z n) (sym o) kept)
 
-pub child_taken : {A : Type 0} (p : Problem) (e : ℕ) (m : Move) (standing : Standing) (tokens left next : List Token) (token : Token) (r : Result A CertFault) → tokens ≡ token ∷ left → OnOk r (Begins (after p m) e (token ∷ left) next) → OnOk r (ReadsChild p e m standing standing tokens next)
-child_taken p e m standing tokens left next token (Err f) s b = tt
-child_taken p e m standing tokens left next token (Ok x) s b = λ moves later rest ends.
+pub child_taken : {A : Type 0} (p : Problem) (e : ℕ) (moves : List Move) (m : Move) (standing : Standing) (tokens left next : List Token) (token : Token) (r : Result A CertFault) → tokens ≡ token ∷ left → OnOk r (Begins (after p m) e (token ∷ left) next) → OnOk r (ReadsChild p e moves m standing standing tokens next)
+child_taken p e moves m standing tokens left next token (Err f) s b = tt
+child_taken p e moves m standing tokens left next token (Ok x) s b = λ later rest.
     subst (λ z. BeginsRest p e later moves standing.awaited standing.leaving next rest ↔ BeginsRest p e (m ∷ later) moves standing.awaited standing.leaving z rest) (sym s)
     (read_child p e m later moves standing.awaited standing.leaving (token ∷ left) next rest b)
 
-pub child_refused : {A : Type 0} (p : Problem) (e : ℕ) (m : Move) (standing : Standing) (tokens left : List Token) (token : Token) (r : Result A CertFault) → tokens ≡ token ∷ left → ((l : ℕ) → token ≡ Yield l → ⊥) → IfErr r (λ _. (rest : List Token) → Begins (after p m) e (token ∷ left) rest → ⊥) → IfErr r (λ _. RefusesChild p e m standing tokens)
-child_refused p e m standing tokens left token (Ok x) s ny h = tt
-child_refused p e m standing tokens left token (Err f) s ny h = λ moves later rest ends b.
+pub child_refused : {A : Type 0} (p : Problem) (e : ℕ) (moves : List Move) (m : Move) (standing : Standing) (tokens left : List Token) (token : Token) (r : Result A CertFault) → tokens ≡ token ∷ left → ((l : ℕ) → token ≡ Yield l → ⊥) → IfErr r (λ _. (rest : List Token) → Begins (after p m) e (token ∷ left) rest → ⊥) → IfErr r (λ _. RefusesChild p e moves m standing tokens)
+child_refused p e moves m standing tokens left token (Ok x) s ny h = tt
+child_refused p e moves m standing tokens left token (Err f) s ny h = λ later rest b.
     no_child p e m later moves standing.awaited standing.leaving tokens rest (λ l ts k. ny l (let q : token ∷ left ≡ Yield l ∷ ts = sym s ∙ k in cc)) (λ next g. h next (subst (λ z. Begins (after p m) e z next) s g)) b
 
-pub none_left : (p : Problem) (e : ℕ) (m : Move) (standing : Standing) (tokens : List Token) → tokens ≡ [] → RefusesChild p e m standing tokens
-none_left p e m standing tokens s = λ moves later rest ends b. no_token p e m later moves standing.awaited standing.leaving rest (subst (λ z. BeginsRest p e (m ∷ later) moves standing.awaited standing.leaving z rest) s b)
+pub none_left : (p : Problem) (e : ℕ) (moves : List Move) (m : Move) (standing : Standing) (tokens : List Token) → tokens ≡ [] → RefusesChild p e moves m standing tokens
+none_left p e moves m standing tokens s = λ later rest b. no_token p e m later moves standing.awaited standing.leaving rest (subst (λ z. BeginsRest p e (m ∷ later) moves standing.awaited standing.leaving z rest) s b)
 
 pub fewer_left : {A : Type 0} (tokens left next : List Token) (token : Token) (r : Result A CertFault) → tokens ≡ token ∷ left → OnOk r (length next ≤ length left) → OnOk r (length next ≤ length tokens)
 fewer_left tokens left next token (Err f) s h = tt
@@ -80,19 +71,19 @@ pub begun : (x : Position) (e : ℕ) (items : List KeptMove) (tokens rest : List
 begun x e items tokens rest named = rest_each x.problem e 8 (moves_of x.groups items) _ _ tokens rest (small_named x.groups items named) refl refl none_marked none_marked
 
 -- behind one more child
-pub one_more_child : (x : Position) (e : ℕ) (items : List KeptMove) (i : ℕ) (d : KeptMove) (before behind : Standing) (tokens left begun rest : List Token) → i < length items → AreLastEnds x.problem (moves_of x.groups items) before.ends → ReadsChild x.problem e (move_of x.groups (get_or items i d)) before behind tokens left → BeginsRest x.problem e (moves_of x.groups (drop i items)) (moves_of x.groups items) before.awaited before.leaving tokens rest ↔ BeginsEach x.problem e (moves_of x.groups items) begun rest → BeginsRest x.problem e (moves_of x.groups (drop (i + 1) items)) (moves_of x.groups items) behind.awaited behind.leaving left rest ↔ BeginsEach x.problem e (moves_of x.groups items) begun rest
-one_more_child x e items i d before behind tokens left begun rest lt ends reads same =
+pub one_more_child : (x : Position) (e : ℕ) (items : List KeptMove) (i : ℕ) (d : KeptMove) (before behind : Standing) (tokens left begun rest : List Token) → i < length items → ReadsChild x.problem e (moves_of x.groups items) (move_of x.groups (get_or items i d)) before behind tokens left → BeginsRest x.problem e (moves_of x.groups (drop i items)) (moves_of x.groups items) before.awaited before.leaving tokens rest ↔ BeginsEach x.problem e (moves_of x.groups items) begun rest → BeginsRest x.problem e (moves_of x.groups (drop (i + 1) items)) (moves_of x.groups items) behind.awaited behind.leaving left rest ↔ BeginsEach x.problem e (moves_of x.groups items) begun rest
+one_more_child x e items i d before behind tokens left begun rest lt reads same =
     let all = moves_of x.groups items in
     let later = moves_of x.groups (drop (i + 1) items) in
     trans_same
-    (subst (λ z. BeginsRest x.problem e later all behind.awaited behind.leaving left rest ↔ BeginsRest x.problem e z all before.awaited before.leaving tokens rest) (sym (drop_step x items i d lt)) (reads all later rest ends))
+    (subst (λ z. BeginsRest x.problem e later all behind.awaited behind.leaving left rest ↔ BeginsRest x.problem e z all before.awaited before.leaving tokens rest) (sym (drop_step x items i d lt)) (reads later rest))
     same
 
 -- where a child was refused
-pub refused_child : (x : Position) (e : ℕ) (items : List KeptMove) (i : ℕ) (d : KeptMove) (before : Standing) (tokens begun rest : List Token) → i < length items → AreLastEnds x.problem (moves_of x.groups items) before.ends → RefusesChild x.problem e (move_of x.groups (get_or items i d)) before tokens → BeginsRest x.problem e (moves_of x.groups (drop i items)) (moves_of x.groups items) before.awaited before.leaving tokens rest ↔ BeginsEach x.problem e (moves_of x.groups items) begun rest → BeginsEach x.problem e (moves_of x.groups items) begun rest → ⊥
-refused_child x e items i d before tokens begun rest lt ends refuses same b =
+pub refused_child : (x : Position) (e : ℕ) (items : List KeptMove) (i : ℕ) (d : KeptMove) (before : Standing) (tokens begun rest : List Token) → i < length items → RefusesChild x.problem e (moves_of x.groups items) (move_of x.groups (get_or items i d)) before tokens → BeginsRest x.problem e (moves_of x.groups (drop i items)) (moves_of x.groups items) before.awaited before.leaving tokens rest ↔ BeginsEach x.problem e (moves_of x.groups items) begun rest → BeginsEach x.problem e (moves_of x.groups items) begun rest → ⊥
+refused_child x e items i d before tokens begun rest lt refuses same b =
     let all = moves_of x.groups items in
-    refuses all (moves_of x.groups (drop (i + 1) items)) rest ends (subst (λ z. BeginsRest x.problem e z all before.awaited before.leaving tokens rest) (drop_step x items i d lt) (same.1 b))
+    refuses (moves_of x.groups (drop (i + 1) items)) rest (subst (λ z. BeginsRest x.problem e z all before.awaited before.leaving tokens rest) (drop_step x items i d lt) (same.1 b))
 
 -- behind the last child
 pub all_children : (x : Position) (e : ℕ) (items : List KeptMove) (i : ℕ) (ys ls : List Bool) (left begun : List Token) → length items ≤ i → BeginsRest x.problem e (moves_of x.groups (drop i items)) (moves_of x.groups items) ys ls left left ↔ BeginsEach x.problem e (moves_of x.groups items) begun left → BeginsEach x.problem e (moves_of x.groups items) begun left

@@ -5,7 +5,6 @@ use Rattle.onfi_problem.specs.Moves.{Move, move_lun, after, may_go}
 use Rattle.onfi_cert.specs.declared.token.Token.{Token}
 use Rattle.onfi_group.specs.Words.{Has}
 use Rattle.onfi_problem.specs.Problem.{Problem}
-use Rattle.onfi_check.specs.Ends.{AreLastEnds}
 use Rattle.onfi_check.specs.declared.yields.Standing.{Standing}
 use Rattle.onfi_check.specs.Tree.{Tree, Forest, NoMore, Child, Yields, preorder, preorders, Accepts, AcceptsEach}
 
@@ -43,10 +42,10 @@ Rest (Yields l f) p e (m ∷ ms) all ys ls = IsYield p all ys ls (move_lun m) l 
 abbrev pub BeginsRest : Problem → ℕ → List Move → List Move → List Bool → List Bool → List Token → List Token → Type 0
 BeginsRest p e ms all ys ls tokens rest = (f : Forest) × (tokens ≡ preorders f ++ rest) × Rest f p e ms all ys ls
 
--- what is left behind a child is accepted exactly where what stood before it is
-abbrev pub ReadsChild : Problem → ℕ → Move → Standing → Standing → List Token → List Token → Type 0
-ReadsChild p e m before behind tokens left = (moves later : List Move) (rest : List Token) → AreLastEnds p moves before.ends → BeginsRest p e later moves behind.awaited behind.leaving left rest ↔ BeginsRest p e (m ∷ later) moves before.awaited before.leaving tokens rest
+-- what is left behind the child of a node's move is accepted exactly where what stood before it is
+abbrev pub ReadsChild : Problem → ℕ → List Move → Move → Standing → Standing → List Token → List Token → Type 0
+ReadsChild p e moves m before behind tokens left = (later : List Move) (rest : List Token) → BeginsRest p e later moves behind.awaited behind.leaving left rest ↔ BeginsRest p e (m ∷ later) moves before.awaited before.leaving tokens rest
 
--- no accepted child of the move stands there
-abbrev pub RefusesChild : Problem → ℕ → Move → Standing → List Token → Type 0
-RefusesChild p e m standing tokens = (moves later : List Move) (rest : List Token) → AreLastEnds p moves standing.ends → BeginsRest p e (m ∷ later) moves standing.awaited standing.leaving tokens rest → ⊥
+-- no accepted child of the node's move stands there
+abbrev pub RefusesChild : Problem → ℕ → List Move → Move → Standing → List Token → Type 0
+RefusesChild p e moves m standing tokens = (later : List Move) (rest : List Token) → BeginsRest p e (m ∷ later) moves standing.awaited standing.leaving tokens rest → ⊥

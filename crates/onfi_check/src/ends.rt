@@ -2,7 +2,8 @@ ghost use Rattle.std.specs.Prelude.{◌≡◌, ◌<◌, length};
 ghost use Rattle.std.specs.List.{AllByRecursion as Each};
 ghost use Rattle.onfi_problem.specs.Moves.{IsMove, move_lun};
 ghost use Rattle.onfi_problem.specs.Position.{move_of, moves_of, lun_named};
-ghost use Rattle.onfi_check.specs.Ends.{AreLastEnds, later_of};
+ghost use Rattle.onfi_problem.specs.Starts.{IsNamed};
+ghost use Rattle.onfi_check.specs.Ends.{AreLastEnds, IsLastEnd, later_of};
 
 use onfi_problem::{Move, Problem};
 
@@ -21,6 +22,21 @@ pub fn last_ends(problem: &Problem, moves: &[Move]) -> [Option<u64>; 8]
         ends[lun] = later(ends[lun], end);
     }
     ends
+}
+
+/// By when the moves of one LUN end, in ns, where each starts at its earliest; None where it has no move.
+pub(crate) fn last_end(problem: &Problem, moves: &[Move], lun: u8) -> Option<u64>
+    requires moves { Each (IsMove problem.now.problem) (moves_of problem.now.groups moves.now) }
+    requires named { Each (IsNamed problem.now.groups) moves.now }
+    ensures { IsLastEnd problem.now.problem (moves_of problem.now.groups moves.now) lun result }
+{
+    let mut last = None;
+    for m in moves {
+        if m.lun() == lun {
+            last = later(last, problem.end_of(*m));
+        }
+    }
+    last
 }
 
 // The later of two ends, where there are two.

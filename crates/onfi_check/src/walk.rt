@@ -12,7 +12,6 @@ ghost use Rattle.onfi_check.specs.Reading.{Begins, BeginsEach, ReadsChild, Refus
 ghost use Rattle.onfi_check.specs.Tree.{AcceptsTokens, Closes, Closing, token_of};
 
 use crate::closes::closes;
-use crate::ends::last_ends;
 use crate::fault::CertFault;
 use crate::numbered::Numbered;
 use crate::yields::{Standing, take_yield};
@@ -127,42 +126,43 @@ fn read_children<S: TokenSource>(
 {
     let listed = moves.as_slice();
     let mut standing = Standing {
-        ends: last_ends(problem, listed),
         awaited: [false; 8],
         leaving: [false; 8],
     };
     for m in listed {
-        read_child(problem, e, left, *m, &mut standing, tokens)?;
+        read_child(problem, e, left, *m, listed, &mut standing, tokens)?;
     }
     Ok(())
 }
 
-// Reads the child of one move: a yield, or a tree.
+// Reads the child of one of the moves of a node: a yield, or a tree.
 #[cycle(read)]
 fn read_child<S: TokenSource>(
     problem: &mut Problem,
     e: u64,
     left: Commands,
     m: Move,
+    moves: &[Move],
     standing: &mut Standing,
     tokens: &mut Numbered<S>,
 ) -> Result<(), CertFault>
     requires counts { AreCommands problem.old.problem left }
     requires step { IsMove problem.old.problem (move_of problem.old.groups m) }
     requires named { IsNamed problem.old.groups m }
+    requires moves { Each (IsMove problem.old.problem) (moves_of problem.old.groups moves.now) }
+    requires all_named { Each (IsNamed problem.old.groups) moves.now }
     ensures problem { OnOk result (problem.new ≡ problem.old) }
     ensures fewer { OnOk result (length (S.left tokens.new.source) ≤ length (S.left tokens.old.source)) }
     ensures behind { S.behind tokens.new.source ≡ S.behind tokens.old.source }
-    ensures ends { standing.new.ends ≡ standing.old.ends }
-    ensures ok { OnOk result (ReadsChild problem.old.problem e (move_of problem.old.groups m) standing.old standing.new (S.left tokens.old.source) (S.left tokens.new.source)) }
-    ensures err { IfErr result (λ _. RefusesChild problem.old.problem e (move_of problem.old.groups m) standing.old (S.left tokens.old.source)) }
+    ensures ok { OnOk result (ReadsChild problem.old.problem e (moves_of problem.old.groups moves.now) (move_of problem.old.groups m) standing.old standing.new (S.left tokens.old.source) (S.left tokens.new.source)) }
+    ensures err { IfErr result (λ _. RefusesChild problem.old.problem e (moves_of problem.old.groups moves.now) (move_of problem.old.groups m) standing.old (S.left tokens.old.source)) }
     ensures kind { IfErr result IsOfTokens }
 {
     let Some((token, place)) = tokens.take() else {
         return Err(CertFault::Short);
     };
     match token {
-        Token::Yield(lun) => take_yield(problem, standing, m.lun(), lun.get(), place),
+        Token::Yield(lun) => take_yield(problem, moves, standing, m.lun(), lun.get(), place),
         _ => read_below(problem, e, left, m, token, place, tokens),
     }
 }

@@ -10,9 +10,8 @@ use Rattle.onfi_cert.specs.declared.token.Token.{Token}
 use Rattle.onfi_cert.specs.declared.token.Token.TheVariants.{Branch}
 use Rattle.onfi_bound.specs.Commands.{AreCommands}
 use Rattle.onfi_check.specs.Reading.{Begins, BeginsEach, ReadsChild, RefusesChild}
-use Rattle.onfi_check.specs.Ends.{AreLastEnds}
 use Rattle.onfi_check.proofs.LastEnds.{move_at, at_place}
-use Rattle.onfi_check.proofs.Walking.{lun_there, luns_named, few_named, on_ok, yield_taken, yield_refused, child_taken, child_refused, none_left, fewer_left, begun, one_more_child, refused_child, all_children, closing_taken, closing_refused, branch_width, branch_taken, branch_refused}
+use Rattle.onfi_check.proofs.Walking.{lun_there, on_ok, yield_taken, yield_refused, child_taken, child_refused, none_left, fewer_left, begun, one_more_child, refused_child, all_children, closing_taken, closing_refused, branch_width, branch_taken, branch_refused}
 use Rattle.onfi_check.proofs.walk.+read.Goals as goal
 
 pub read_below-returns-in_err-read_tree-clause-err : goal.read_below-returns-in_err-read_tree-clause-err
@@ -26,7 +25,7 @@ read_below-read_tree-requires g t c κs within =
     (omega (arith, c.decreases), (within, counts))
 
 pub read_child-returns-in_default-clause-err : goal.read_child-returns-in_default-clause-err
-read_child-returns-in_default-clause-err g t c = none_left c.args.problem.now.problem c.args.e (move_of c.args.problem.now.groups c.args.m) c.args.standing.now (g.S.TokenSource.left c.args.tokens.now.source) c.in_default.ensures.end
+read_child-returns-in_default-clause-err g t c = none_left c.args.problem.now.problem c.args.e (moves_of c.args.problem.now.groups c.args.moves.now) (move_of c.args.problem.now.groups c.args.m) c.args.standing.now (g.S.TokenSource.left c.args.tokens.now.source) c.in_default.ensures.end
 
 pub read_child-take_yield-requires-clause-own : goal.read_child-take_yield-requires-clause-own
 read_child-take_yield-requires-clause-own g t c =
@@ -37,17 +36,18 @@ read_child-take_yield-requires-clause-own g t c =
 
 pub read_child-returns-in-Yield-clause-ok : goal.read_child-returns-in-Yield-clause-ok
 read_child-returns-in-Yield-clause-ok g t c =
-    yield_taken c.args.problem.now.problem c.args.e (move_of c.args.problem.now.groups c.args.m) c.args.standing.now c.take_yield.new.standing (g.S.TokenSource.left c.args.tokens.now.source) (g.S.TokenSource.left c.take.new.self.source) c.lun.result c.in-Yield.lun c.get.result c.in-Some.token c.take_yield.result
+    yield_taken c.args.problem.now.problem c.args.e (moves_of c.args.problem.now.groups c.args.moves.now) (move_of c.args.problem.now.groups c.args.m) c.args.standing.now c.take_yield.new.standing (g.S.TokenSource.left c.args.tokens.now.source) (g.S.TokenSource.left c.take.new.self.source) c.lun.result c.in-Yield.lun c.get.result c.in-Some.token c.take_yield.result
     c.in-Yield.is c.get.ensures.value (c.lun.ensures ∙ sym c.requires.named.lun) c.in-Some.ensures.token c.take_yield.ensures.ok c.take_yield.ensures.awaited c.take_yield.ensures.leaving
 
 pub read_child-returns-in-Yield-clause-err : goal.read_child-returns-in-Yield-clause-err
 read_child-returns-in-Yield-clause-err g t c =
-    yield_refused c.args.problem.now.problem c.args.e (move_of c.args.problem.now.groups c.args.m) c.args.standing.now (g.S.TokenSource.left c.args.tokens.now.source) (g.S.TokenSource.left c.take.new.self.source) c.lun.result c.in-Yield.lun c.get.result c.in-Some.token c.take_yield.result
+    yield_refused c.args.problem.now.problem c.args.e (moves_of c.args.problem.now.groups c.args.moves.now) (move_of c.args.problem.now.groups c.args.m) c.args.standing.now (g.S.TokenSource.left c.args.tokens.now.source) (g.S.TokenSource.left c.take.new.self.source) c.lun.result c.in-Yield.lun c.get.result c.in-Some.token c.take_yield.result
     c.in-Yield.is c.get.ensures.value (c.lun.ensures ∙ sym c.requires.named.lun) c.in-Some.ensures.token c.take_yield.ensures.err
 
 pub read_child-returns-in_default-token : goal.read_child-returns-in_default-token
 read_child-returns-in_default-token g t c =
     let p = c.args.problem.now.problem in
+    let all = moves_of c.args.problem.now.groups c.args.moves.now in
     let m = move_of c.args.problem.now.groups c.args.m in
     let tokens = g.S.TokenSource.left c.args.tokens.now.source in
     let left = g.S.TokenSource.left c.take.new.self.source in
@@ -56,17 +56,10 @@ read_child-returns-in_default-token g t c =
       problem = c.read_below.ensures.problem;
       fewer = fewer_left tokens left next c.in-Some.token c.read_below.result c.in-Some.ensures.token c.read_below.ensures.fewer;
       behind = c.read_below.ensures.behind ∙ c.take.ensures.behind;
-      ends = refl;
-      ok = child_taken p c.args.e m c.args.standing.now tokens left next c.in-Some.token c.read_below.result c.in-Some.ensures.token c.read_below.ensures.ok;
-      err = child_refused p c.args.e m c.args.standing.now tokens left c.in-Some.token c.read_below.result c.in-Some.ensures.token c.in_default-token.not-Yield c.read_below.ensures.err;
+      ok = child_taken p c.args.e all m c.args.standing.now tokens left next c.in-Some.token c.read_below.result c.in-Some.ensures.token c.read_below.ensures.ok;
+      err = child_refused p c.args.e all m c.args.standing.now tokens left c.in-Some.token c.read_below.result c.in-Some.ensures.token c.in_default-token.not-Yield c.read_below.ensures.err;
       kind = c.read_below.ensures.kind;
     }
-
-pub read_children-last_ends-requires-clause-luns : goal.read_children-last_ends-requires-clause-luns
-read_children-last_ends-requires-clause-luns g t c = luns_named c.args.problem.now.groups c.as_slice-listed.result.now (subst (All (IsNamed c.args.problem.now.groups)) (sym c.as_slice-listed.ensures.value) c.requires.named)
-
-pub read_children-last_ends-requires-clause-few : goal.read_children-last_ends-requires-clause-few
-read_children-last_ends-requires-clause-few g t c = few_named c.args.problem.now.groups c.as_slice-listed.result.now (subst (All (IsNamed c.args.problem.now.groups)) (sym c.as_slice-listed.ensures.value) c.requires.named)
 
 pub read_children-loop-m-init : goal.read_children-loop-m-init
 read_children-loop-m-init g t c =
@@ -76,7 +69,6 @@ read_children-loop-m-init g t c =
       problem = refl;
       fewer = omega arith;
       behind = refl;
-      ends = c.last_ends.ensures.ends;
       same = λ rest. begun x c.args.e items (g.S.TokenSource.left c.args.tokens.now.source) rest (subst (All (IsNamed x.groups)) (sym c.as_slice-listed.ensures.value) c.requires.named);
     }
 
@@ -96,7 +88,13 @@ read_children-read_child-requires g t c κs within =
           subst (λ (z : Position). AreCommands z.problem c.args.left) same c.requires.counts,
           (
             subst (λ (z : Position). IsMove z.problem (move_of z.groups (get_or items i (Next 0)))) same (move_at x.problem x.groups items i (Next 0) c.loop-m-test.true are.moves_only),
-            subst (λ (z : Position). IsNamed z.groups (get_or items i (Next 0))) same (at_place (IsNamed x.groups) items i (Next 0) c.loop-m-test.true named),
+            (
+              subst (λ (z : Position). IsNamed z.groups (get_or items i (Next 0))) same (at_place (IsNamed x.groups) items i (Next 0) c.loop-m-test.true named),
+              (
+                subst (λ (z : Position). All (IsMove z.problem) (moves_of z.groups items)) same are.moves_only,
+                subst (λ (z : Position). All (IsNamed z.groups) items) same named,
+              ),
+            ),
           ),
         ),
       ),
@@ -110,8 +108,8 @@ read_children-returns-in_err-read_child-clause-err g t c =
     let tokens = g.S.TokenSource.left c.loop-m.tokens.source in
     let begun = g.S.TokenSource.left c.args.tokens.now.source in
     let p = err_from_is_err_and c.from_residual.result c.from_residual.ensures.1 in
-    let refuses = subst (λ (z : Position). RefusesChild z.problem c.args.e (move_of z.groups (get_or items i (Next 0))) c.loop-m.standing tokens) c.loop-m.invariant.problem c.in_err-read_child.ensures.err in
-    rw p.1 (λ rest b. refused_child x c.args.e items i (Next 0) c.loop-m.standing tokens begun rest c.loop-m-test.true c.loop-m.invariant.ends refuses (c.loop-m.invariant.same rest) (subst (λ z. BeginsEach x.problem c.args.e (moves_of x.groups z) begun rest) (sym c.as_slice-listed.ensures.value) b))
+    let refuses = subst (λ (z : Position). RefusesChild z.problem c.args.e (moves_of z.groups items) (move_of z.groups (get_or items i (Next 0))) c.loop-m.standing tokens) c.loop-m.invariant.problem c.in_err-read_child.ensures.err in
+    rw p.1 (λ rest b. refused_child x c.args.e items i (Next 0) c.loop-m.standing tokens begun rest c.loop-m-test.true refuses (c.loop-m.invariant.same rest) (subst (λ z. BeginsEach x.problem c.args.e (moves_of x.groups z) begun rest) (sym c.as_slice-listed.ensures.value) b))
 
 pub read_children-loop-m-preserved : goal.read_children-loop-m-preserved
 read_children-loop-m-preserved g t c =
@@ -121,15 +119,14 @@ read_children-loop-m-preserved g t c =
     let tokens = g.S.TokenSource.left c.loop-m.tokens.source in
     let left = g.S.TokenSource.left c.read_child.new.tokens.source in
     let begun = g.S.TokenSource.left c.args.tokens.now.source in
-    let reads = subst (λ (z : Position). ReadsChild z.problem c.args.e (move_of z.groups (get_or items i (Next 0))) c.loop-m.standing c.read_child.new.standing tokens left) c.loop-m.invariant.problem c.in_ok-read_child.ensures.ok in
+    let reads = subst (λ (z : Position). ReadsChild z.problem c.args.e (moves_of z.groups items) (move_of z.groups (get_or items i (Next 0))) c.loop-m.standing c.read_child.new.standing tokens left) c.loop-m.invariant.problem c.in_ok-read_child.ensures.ok in
     let less = c.in_ok-read_child.ensures.fewer in
     let fewer = c.loop-m.invariant.fewer in
     record {
       problem = c.in_ok-read_child.ensures.problem ∙ c.loop-m.invariant.problem;
       fewer = omega arith;
       behind = c.read_child.ensures.behind ∙ c.loop-m.invariant.behind;
-      ends = subst (AreLastEnds x.problem (moves_of x.groups items)) (sym c.read_child.ensures.ends) c.loop-m.invariant.ends;
-      same = λ rest. one_more_child x c.args.e items i (Next 0) c.loop-m.standing c.read_child.new.standing tokens left begun rest c.loop-m-test.true c.loop-m.invariant.ends reads (c.loop-m.invariant.same rest);
+      same = λ rest. one_more_child x c.args.e items i (Next 0) c.loop-m.standing c.read_child.new.standing tokens left begun rest c.loop-m-test.true reads (c.loop-m.invariant.same rest);
     }
 
 pub read_children-returns-clause-ok : goal.read_children-returns-clause-ok
