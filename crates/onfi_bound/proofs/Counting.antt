@@ -1,5 +1,5 @@
 -- How many commands of each kind are left, and what a move takes from them.
-use Rattle.std.proofs.Common.{◌≡◌, ℕ, suc, ◌+◌, ◌*◌, ◌-◌, ◌^◌, ◌≤◌, ◌<◌, inl, inr, Bool, true, false, if◌then◌else◌, List, [], ◌∷◌, ◌++◌, length, map, take, get_or, Some, refl, sym, ap, ◌∙◌, subst, arith, add-mul}
+use Rattle.std.proofs.Common.{◌≡◌, ℕ, suc, ◌+◌, ◌*◌, ◌-◌, ◌^◌, ◌≤◌, ◌<◌, inl, inr, Bool, true, false, if◌then◌else◌, List, [], ◌∷◌, ◌++◌, length, map, take, get_or, Option, None, Some, refl, sym, ap, ◌∙◌, subst, arith, add-mul}
 use Rattle.std.specs.Prelude.{slice_get, slice_set, slice_index_or, nat_lt, max}
 use Rattle.std.specs.List.{AllByRecursion as All, list_any}
 use Rattle.std.proofs.lemmas.Bool.{cases_Bool, cases_lt, lt-ltb, le-ltb}
@@ -15,7 +15,7 @@ use Rattle.onfi_group.specs.Group.{kind_of, lun_of, group_spans}
 use Rattle.onfi_problem.specs.declared.lun_state.LunState.{LunState}
 use Rattle.onfi_problem.specs.declared.lun_state.LunState.TheVariants.{Free, Running}
 use Rattle.onfi_problem.specs.Problem.{Problem, IsProblem}
-use Rattle.onfi_problem.specs.Moves.{Next, Start, IsMove, after, earliest, lun_after, without}
+use Rattle.onfi_problem.specs.Moves.{Move, Next, Start, IsMove, after, earliest, next_ran, lun_after, without}
 use Rattle.onfi_problem.specs.Left.{commands_left, command_time, want_command, all_commands, InLimits}
 use Rattle.onfi_problem.specs.declared.moves.Lun.{Lun}
 use Rattle.onfi_problem.specs.Position.{state_of, waiting_of}
@@ -246,3 +246,13 @@ all_counted kind p groups luns states i first all h a w =
     let t = luns_counted p groups luns states kind in
     let q = ap (total (λ x. commands_on kind (state_of groups x))) (take_all i luns h) in
     omega arith
+
+-- a move leaves the phase lengths as they are
+pub timing_after : (p : Problem) (m : Move) → p.timing ≡ (after p m).timing
+timing_after p (Start group) = refl
+timing_after p (Next lun) = go (slice_get p.luns lun) (earliest p (Next lun))
+  where
+    go : (state : Option LunState) (start : ℕ) → p.timing ≡ (next_ran p lun state start).timing
+    go None start = refl
+    go (Some (Free since)) start = refl
+    go (Some (Running group next ready)) start = refl

@@ -1,6 +1,6 @@
 -- Each problem has a run, and within the limits one that ends below 2^62: so do the bounds.
-use Rattle.std.proofs.Common.{◌≡◌, ◌≢◌, ℕ, zero, suc, ◌+◌, ◌*◌, ◌-◌, ◌^◌, ◌≤◌, ◌<◌, ◌⊎◌, inl, inr, List, [], ◌∷◌, length, Some, refl, ap, arith}
-use Rattle.std.specs.Prelude.{slice_get, max}
+use Rattle.std.proofs.Common.{◌≡◌, ◌≢◌, ℕ, zero, suc, ◌+◌, ◌*◌, ◌-◌, ◌^◌, ◌≤◌, ◌<◌, ◌⊎◌, inl, inr, List, [], ◌∷◌, length, Option, Some, None, refl, sym, ap, arith}
+use Rattle.std.specs.Prelude.{slice_get, max, IfSome}
 use Rattle.std.proofs.lemmas.Bool.{eq-eqb}
 use Rattle.onfi_request.specs.declared.want.Want.{Want}
 use Rattle.onfi_group.specs.declared.rules.Rules.{Rules}
@@ -141,3 +141,7 @@ trail_small p v lim q = let e = ended (work p) p (omega arith) lim in let a = e.
 
 pub die_small : (p : Problem) (lun : ℕ) → InLimits p → lun < length p.luns → die p lun < 2 ^ 62
 die_small p lun lim within = let e = ended (work p) p (omega arith) lim in let a = e.small in let b = die_bound e.steps p e.finish lun lim.problem within e.run in omega arith
+
+pub trail_all_small : (p : Problem) (o : Option ℕ) → InLimits p → o ≡ trail p → IfSome o (λ t. t < 2 ^ 62)
+trail_all_small p None limits is = tt
+trail_all_small p (Some t) limits is = trail_small p t limits (sym is)

@@ -2,6 +2,7 @@ ghost use Rattle.std.specs.Prelude.{◌≡◌, ℕ, ◌+◌, ◌^◌, ◌<◌, �
 ghost use Rattle.onfi_bound.specs.Bounds.{bus, lead, trail, die, least, least_with, post_starts, has_command};
 ghost use Rattle.onfi_timing.specs.declared.kind.Kind.{Kind as AnyKind};
 ghost use Rattle.onfi_problem.specs.Left.{all_commands};
+ghost use Rattle.onfi_problem.specs.Problem.{Problem as AnyProblem};
 ghost use Rattle.onfi_bound.specs.Parts.{AreSums, IsLeft, has_kind};
 
 use crate::chain::Chain;
@@ -11,7 +12,7 @@ use crate::posts::{first_post, least_of};
 use crate::waits::work_of_wants;
 use arrayvec::ArrayVec;
 use onfi_problem::Problem;
-use onfi_timing::Spans;
+use onfi_timing::{Spans, Timing};
 
 /// The bus bound, in ns of the channel's clock: when the bus is free, plus all phases that are left.
 pub fn bus(problem: &Problem) -> u64
@@ -103,8 +104,18 @@ pub fn trail_of(problem: &Problem, commands: u64, kinds: Kinds) -> Option<u64>
     ensures value { result ≡ trail problem.now.problem }
     ensures small { IfSome result (λ t. t < 2 ^ 62) }
 {
-    let bus_free = problem.bus_free();
-    let timing = problem.timing();
+    let (timing, bus_free) = (problem.timing(), problem.bus_free());
+    trail_by(&timing, bus_free, commands, kinds)
+}
+
+/// The trail bound, in ns, of any problem with these phase lengths whose bus is free from `bus_free` on and to which
+/// commands of these kinds are left, with the sum of their lengths.
+pub fn trail_by(timing: &Timing, bus_free: u64, commands: u64, kinds: Kinds) -> Option<u64>
+    requires bus_free { bus_free < 2 ^ 62 }
+    requires commands { commands < 2 ^ 62 }
+    ensures { (p : AnyProblem) → timing.now ≡ p.timing → bus_free ≡ p.bus_free → commands ≡ all_commands p
+        → ((kind : AnyKind) → has_kind kinds kind ≡ has_command p kind) → result ≡ trail p }
+{
     let rest = behind_command(kinds.erase, &timing.erase, None);
     let rest = behind_command(kinds.program, &timing.program, rest);
     let rest = behind_command(kinds.read, &timing.read, rest)?;

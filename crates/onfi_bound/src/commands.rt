@@ -3,20 +3,21 @@
 ghost use Rattle.std.specs.Prelude.{◌≡◌, ℕ, ◌+◌, ◌^◌, ◌<◌, ◌≤◌, ◌↔◌, IsTrue, if◌then◌else◌, length, slice_index_or, []};
 ghost use Rattle.onfi_timing.specs.declared.kind.Kind.{Kind as AnyKind};
 ghost use Rattle.onfi_group.specs.Words.{total};
-ghost use Rattle.onfi_problem.specs.Moves.{IsMove, after, Next, Start};
-ghost use Rattle.onfi_problem.specs.Position.{move_of, state_of, waiting_of};
+ghost use Rattle.onfi_problem.specs.Moves.{IsMove, after, move_lun, Next, Start};
+ghost use Rattle.onfi_problem.specs.Position.{lun_named, move_of, state_of, waiting_of};
+ghost use Rattle.onfi_problem.specs.Problem.{Problem as AnyProblem};
 ghost use Rattle.onfi_bound.specs.Bounds.{same_kind, trail};
 ghost use Rattle.onfi_bound.specs.Commands.{AreCommands, count_of, commands_on, one_of};
 ghost use Rattle.onfi_bound.specs.Reaching.{Reaches};
 
 use crate::bound::Bound;
-use crate::bounds::trail_of;
+use crate::bounds::trail_by;
 use crate::kinds::Kinds;
 use crate::reaching::is_reached;
 use onfi_group::Group;
 use onfi_problem::{Lun, Move, Problem};
 use onfi_request::Want;
-use onfi_timing::Kind;
+use onfi_timing::{Kind, Timing};
 
 /// How many commands of each kind are left to a problem, of its running groups and its wants.
 ///
@@ -159,8 +160,16 @@ impl Commands {
         requires { AreCommands problem.now.problem self }
         ensures { result ≡ trail problem.now.problem }
     {
-        let _limits = problem.bus_free();
         let timing = problem.timing();
+        self.trail_from(&timing, problem.bus_free())
+    }
+
+    // The trail bound, in ns, of any problem with these phase lengths whose bus is free from `bus_free` on and to which
+    // these are left.
+    fn trail_from(self, timing: &Timing, bus_free: u64) -> Option<u64>
+        requires { bus_free < 2 ^ 62 }
+        ensures { (p : AnyProblem) → timing.now ≡ p.timing → bus_free ≡ p.bus_free → AreCommands p self → result ≡ trail p }
+    {
         let kinds = Kinds {
             read: self.read > 0,
             program: self.program > 0,
@@ -169,7 +178,7 @@ impl Commands {
         let reads = self.read as u64 * timing.read.cmd;
         let programs = self.program as u64 * timing.program.cmd;
         let erases = self.erase as u64 * timing.erase.cmd;
-        trail_of(problem, reads + programs + erases, kinds)
+        trail_by(timing, bus_free, reads + programs + erases, kinds)
     }
 
     /// Whether the trail bound of a problem to which these are left is at least `e` ns.
@@ -178,5 +187,18 @@ impl Commands {
         ensures { IsTrue result ↔ Reaches problem.now.problem e Bound.Trail }
     {
         is_reached(self.trail(problem), e)
+    }
+
+    /// Whether the trail bound of what a move leaves is at least `e` ns, where these are left before the move. The move
+    /// isn't made.
+    pub fn trail_reaches_after(self, problem: &Problem, m: Move, e: u64) -> bool
+        requires counts { AreCommands problem.now.problem self }
+        requires step { IsMove problem.now.problem (move_of problem.now.groups m) }
+        requires lun { move_lun (move_of problem.now.groups m) ≡ lun_named m }
+        ensures { IsTrue result ↔ Reaches (after problem.now.problem (move_of problem.now.groups m)) e Bound.Trail }
+    {
+        let timing = problem.timing();
+        let left = self.after(problem, m);
+        is_reached(left.trail_from(&timing, problem.end_of(m)), e)
     }
 }

@@ -1,16 +1,12 @@
-use Rattle.std.proofs.Common.{sym, arith}
-use Rattle.std.proofs.lemmas.Grind.{common_steps}
-use Rattle.onfi_bound.proofs.Ends.{bus_small, trail_small}
+use Rattle.std.proofs.Common.{arith}
+use Rattle.onfi_bound.proofs.Ends.{bus_small, trail_all_small}
 use Rattle.onfi_bound.proofs.bounds.trail_of.Goals as goal
 
-pub overflow_add-result : goal.overflow_add-result
-overflow_add-result c = let h = bus_small c.args.problem.now.problem c.bus_free-bus_free.ensures.limits in omega arith
-
-pub overflow_add-result-2 : goal.overflow_add-result-2
-overflow_add-result-2 c = let h = bus_small c.args.problem.now.problem c.bus_free-bus_free.ensures.limits in let r = c.in_ok-rest.ensures.short in omega arith
+pub trail_by-requires-clause-commands : goal.trail_by-requires-clause-commands
+trail_by-requires-clause-commands c = let h = bus_small c.args.problem.now.problem c.bus_free-bus_free.ensures.limits in let q = c.requires.commands in omega arith
 
 pub returns-clause-value : goal.returns-clause-value
-returns-clause-value c = grind (arith, common_steps)
+returns-clause-value c = c.trail_by.ensures c.args.problem.now.problem c.timing-timing.ensures c.bus_free-bus_free.ensures.value c.requires.commands c.requires.kinds
 
 pub returns-clause-small : goal.returns-clause-small
-returns-clause-small c = trail_small c.args.problem.now.problem _ c.bus_free-bus_free.ensures.limits (sym (returns-clause-value c))
+returns-clause-small c = trail_all_small c.args.problem.now.problem c.trail_by.result c.bus_free-bus_free.ensures.limits (returns-clause-value c)
