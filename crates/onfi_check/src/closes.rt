@@ -1,10 +1,13 @@
 ghost use Rattle.std.specs.Prelude.{◌≡◌, ◌↔◌, IsTrue};
 ghost use Rattle.onfi_bound.specs.Commands.{AreCommands};
+ghost use Rattle.onfi_problem.specs.Moves.{IsMove, after};
+ghost use Rattle.onfi_problem.specs.Position.{move_of};
+ghost use Rattle.onfi_problem.specs.Starts.{IsNamed};
 ghost use Rattle.onfi_check.specs.Tree.{Closes, Closing, AtEnd, token_of};
 
 use onfi_bound::{Bound, Commands, reaches};
 use onfi_cert::Token;
-use onfi_problem::Problem;
+use onfi_problem::{Move, Problem};
 
 /// Whether a token closes the node of a problem for the finish `e`, in ns: its bound reaches it, or nothing is left and
 /// so much time has passed.
@@ -20,6 +23,17 @@ pub(crate) fn closes(problem: &Problem, left: Commands, token: &Token, e: u64) -
         Token::End => is_over(problem, e),
         Token::Branch(_) | Token::Yield(_) => false,
     }
+}
+
+/// Whether the trail token closes the node behind a move for the finish `e`, in ns, where `left` are the commands before
+/// the move. Most leaves are such, so the move isn't made for them.
+pub(crate) fn trail_closes_after(problem: &Problem, left: Commands, m: Move, e: u64) -> bool
+    requires counts { AreCommands problem.now.problem left }
+    requires step { IsMove problem.now.problem (move_of problem.now.groups m) }
+    requires named { IsNamed problem.now.groups m }
+    ensures { IsTrue result ↔ ((c : Closing) × (token_of c ≡ Token.Trail) × Closes (after problem.now.problem (move_of problem.now.groups m)) e c) }
+{
+    left.trail_reaches_after(problem, m, e)
 }
 
 // Whether nothing is left and so much time has passed.

@@ -7,11 +7,12 @@ ghost use Rattle.onfi_problem.specs.Starts.{IsNamed};
 ghost use Rattle.std.specs.List.{AllByRecursion as Each};
 ghost use Rattle.onfi_bound.specs.Commands.{AreCommands};
 ghost use Rattle.onfi_cert.specs.declared.token.Token.{Token as OneToken};
+ghost use Rattle.onfi_check.specs.Ends.{IsAsked};
 ghost use Rattle.onfi_check.specs.Faults.{IsOfTokens};
 ghost use Rattle.onfi_check.specs.Reading.{Begins, BeginsEach, ReadsChild, RefusesChild};
 ghost use Rattle.onfi_check.specs.Tree.{AcceptsTokens, Closes, Closing, token_of};
 
-use crate::closes::closes;
+use crate::closes::{closes, trail_closes_after};
 use crate::fault::CertFault;
 use crate::numbered::Numbered;
 use crate::yields::{Standing, take_yield};
@@ -47,6 +48,28 @@ fn read_closing(
         Ok(())
     } else {
         Err(closing_fault(token, place))
+    }
+}
+
+// Reads the trail token behind a move.
+fn read_trail(
+    problem: &Problem,
+    e: u64,
+    left: Commands,
+    m: Move,
+    place: usize,
+) -> Result<(), CertFault>
+    requires counts { AreCommands problem.now.problem left }
+    requires step { IsMove problem.now.problem (move_of problem.now.groups m) }
+    requires named { IsNamed problem.now.groups m }
+    ensures ok { OnOk result ((c : Closing) × (token_of c ≡ Token.Trail) × Closes (after problem.now.problem (move_of problem.now.groups m)) e c) }
+    ensures err { IfErr result (λ _. ((c : Closing) × (token_of c ≡ Token.Trail) × Closes (after problem.now.problem (move_of problem.now.groups m)) e c) → ⊥) }
+    ensures kind { IfErr result IsOfTokens }
+{
+    if trail_closes_after(problem, left, m, e) {
+        Ok(())
+    } else {
+        Err(CertFault::BoundLow(place))
     }
 }
 
@@ -126,6 +149,7 @@ fn read_children<S: TokenSource>(
 {
     let listed = moves.as_slice();
     let mut standing = Standing {
+        asked: None,
         awaited: [false; 8],
         leaving: [false; 8],
     };
@@ -151,9 +175,11 @@ fn read_child<S: TokenSource>(
     requires named { IsNamed problem.old.groups m }
     requires moves { Each (IsMove problem.old.problem) (moves_of problem.old.groups moves.now) }
     requires all_named { Each (IsNamed problem.old.groups) moves.now }
+    requires asked { IsAsked problem.old.problem (moves_of problem.old.groups moves.now) standing.old.asked }
     ensures problem { OnOk result (problem.new ≡ problem.old) }
     ensures fewer { OnOk result (length (S.left tokens.new.source) ≤ length (S.left tokens.old.source)) }
     ensures behind { S.behind tokens.new.source ≡ S.behind tokens.old.source }
+    ensures asked { IsAsked problem.old.problem (moves_of problem.old.groups moves.now) standing.new.asked }
     ensures ok { OnOk result (ReadsChild problem.old.problem e (moves_of problem.old.groups moves.now) (move_of problem.old.groups m) standing.old standing.new (S.left tokens.old.source) (S.left tokens.new.source)) }
     ensures err { IfErr result (λ _. RefusesChild problem.old.problem e (moves_of problem.old.groups moves.now) (move_of problem.old.groups m) standing.old (S.left tokens.old.source)) }
     ensures kind { IfErr result IsOfTokens }
@@ -163,6 +189,7 @@ fn read_child<S: TokenSource>(
     };
     match token {
         Token::Yield(lun) => take_yield(problem, moves, standing, m.lun(), lun.get(), place),
+        Token::Trail => read_trail(problem, e, left, m, place),
         _ => read_below(problem, e, left, m, token, place, tokens),
     }
 }

@@ -1,15 +1,16 @@
-use Rattle.std.proofs.Common.{◌∷◌, List, get_or, refl, sym, ◌∙◌, subst, arith}
+use Rattle.std.proofs.Common.{◌≡◌, ◌∷◌, List, get_or, refl, sym, ap, ◌∙◌, subst, arith}
 use Rattle.std.proofs.lemmas.Result.{err_from_is_err_and}
 use Rattle.std.specs.List.{AllByRecursion as All}
 use Rattle.onfi_problem.specs.declared.moves.Move.TheVariants.{Next}
-use Rattle.onfi_problem.specs.Moves.{IsMove, AreMoves}
+use Rattle.onfi_problem.specs.Moves.{IsMove, AreMoves, after}
 use Rattle.onfi_problem.specs.Position.{Position, move_of, moves_of}
 use Rattle.onfi_problem.specs.Starts.{IsNamed}
 use Rattle.std.specs.Prelude.{OnOk, IfErr}
 use Rattle.onfi_cert.specs.declared.token.Token.{Token}
-use Rattle.onfi_cert.specs.declared.token.Token.TheVariants.{Branch}
+use Rattle.onfi_cert.specs.declared.token.Token.TheVariants.{Branch, Trail, Yield}
 use Rattle.onfi_bound.specs.Commands.{AreCommands}
 use Rattle.onfi_check.specs.Reading.{Begins, BeginsEach, ReadsChild, RefusesChild}
+use Rattle.onfi_check.specs.Ends.{IsAsked}
 use Rattle.onfi_check.proofs.LastEnds.{move_at, at_place}
 use Rattle.onfi_check.proofs.Walking.{lun_there, on_ok, yield_taken, yield_refused, child_taken, child_refused, none_left, fewer_left, begun, one_more_child, refused_child, all_children, closing_taken, closing_refused, branch_width, branch_taken, branch_refused}
 use Rattle.onfi_check.proofs.walk.+read.Goals as goal
@@ -56,9 +57,28 @@ read_child-returns-in_default-token g t c =
       problem = c.read_below.ensures.problem;
       fewer = fewer_left tokens left next c.in-Some.token c.read_below.result c.in-Some.ensures.token c.read_below.ensures.fewer;
       behind = c.read_below.ensures.behind ∙ c.take.ensures.behind;
+      asked = c.requires.asked;
       ok = child_taken p c.args.e all m c.args.standing.now tokens left next c.in-Some.token c.read_below.result c.in-Some.ensures.token c.read_below.ensures.ok;
       err = child_refused p c.args.e all m c.args.standing.now tokens left c.in-Some.token c.read_below.result c.in-Some.ensures.token c.in_default-token.not-Yield c.read_below.ensures.err;
       kind = c.read_below.ensures.kind;
+    }
+
+pub read_child-returns-in-Trail : goal.read_child-returns-in-Trail
+read_child-returns-in-Trail g t c =
+    let p = c.args.problem.now.problem in
+    let all = moves_of c.args.problem.now.groups c.args.moves.now in
+    let m = move_of c.args.problem.now.groups c.args.m in
+    let tokens = g.S.TokenSource.left c.args.tokens.now.source in
+    let left = g.S.TokenSource.left c.take.new.self.source in
+    let first = c.in-Some.ensures.token ∙ ap (λ z. z ∷ left) c.in-Trail.is in
+    record {
+      problem = on_ok c.read_trail.result refl;
+      fewer = fewer_left tokens left left Trail c.read_trail.result first (on_ok c.read_trail.result (omega arith));
+      behind = c.take.ensures.behind;
+      asked = c.requires.asked;
+      ok = child_taken p c.args.e all m c.args.standing.now tokens left left Trail c.read_trail.result first (closing_taken (after p m) c.args.e Trail left c.read_trail.result c.read_trail.ensures.ok);
+      err = child_refused p c.args.e all m c.args.standing.now tokens left Trail c.read_trail.result first (λ l q. let k : Trail ≡ Yield l = q in cc) (closing_refused (after p m) c.args.e Trail left c.read_trail.result (λ w q. let k : Trail ≡ Branch w = q in cc) c.read_trail.ensures.err);
+      kind = c.read_trail.ensures.kind;
     }
 
 pub read_children-loop-m-init : goal.read_children-loop-m-init
@@ -69,6 +89,7 @@ read_children-loop-m-init g t c =
       problem = refl;
       fewer = omega arith;
       behind = refl;
+      asked = tt;
       same = λ rest. begun x c.args.e items (g.S.TokenSource.left c.args.tokens.now.source) rest (subst (All (IsNamed x.groups)) (sym c.as_slice-listed.ensures.value) c.requires.named);
     }
 
@@ -92,7 +113,10 @@ read_children-read_child-requires g t c κs within =
               subst (λ (z : Position). IsNamed z.groups (get_or items i (Next 0))) same (at_place (IsNamed x.groups) items i (Next 0) c.loop-m-test.true named),
               (
                 subst (λ (z : Position). All (IsMove z.problem) (moves_of z.groups items)) same are.moves_only,
-                subst (λ (z : Position). All (IsNamed z.groups) items) same named,
+                (
+                  subst (λ (z : Position). All (IsNamed z.groups) items) same named,
+                  subst (λ (z : Position). IsAsked z.problem (moves_of z.groups items) c.loop-m.standing.asked) same c.loop-m.invariant.asked,
+                ),
               ),
             ),
           ),
@@ -126,6 +150,7 @@ read_children-loop-m-preserved g t c =
       problem = c.in_ok-read_child.ensures.problem ∙ c.loop-m.invariant.problem;
       fewer = omega arith;
       behind = c.read_child.ensures.behind ∙ c.loop-m.invariant.behind;
+      asked = subst (λ (z : Position). IsAsked z.problem (moves_of z.groups items) c.read_child.new.standing.asked) c.loop-m.invariant.problem c.read_child.ensures.asked;
       same = λ rest. one_more_child x c.args.e items i (Next 0) c.loop-m.standing c.read_child.new.standing tokens left begun rest c.loop-m-test.true reads (c.loop-m.invariant.same rest);
     }
 

@@ -1,6 +1,7 @@
 use Rattle.std.proofs.Common.{◌≡◌, ◌+◌, ◌*◌, ◌≤◌, ◌↔◌, List, length, drop}
 use Rattle.onfi_problem.specs.Position.{moves_of}
 use Rattle.onfi_cert.specs.declared.token.Token.{Token}
+use Rattle.onfi_check.specs.Ends.{IsAsked}
 use Rattle.onfi_check.specs.Reading.{BeginsEach, BeginsRest}
 use Rattle.onfi_check.proofs.walk.+read.Given as goal
 
@@ -29,5 +30,6 @@ invariant-read_children-loop-m g l =
       problem : l.problem ≡ l.fn.problem;
       fewer : length left ≤ length begun;
       behind : g.S.TokenSource.behind l.tokens.source ≡ g.S.TokenSource.behind l.fn.tokens.source;
+      asked : IsAsked p all l.standing.asked;
       same : (rest : List Token) → BeginsRest p l.e (moves_of l.fn.problem.groups (drop l.m-index l.listed)) all l.standing.awaited l.standing.leaving left rest ↔ BeginsEach p l.e all begun rest;
     }
