@@ -1,4 +1,5 @@
 pub mod AtPlace
+pub mod Appending
 pub mod Chains
 pub mod Rests
 pub mod OneTrace
