@@ -17,19 +17,12 @@ use Rattle.onfi_planner.specs.Nodes.{HasNodes, HasMoreNodes}
 use Rattle.onfi_planner.specs.Planning.{Searched, Written, IsOver, Bounded, run_of, AreRising}
 use Rattle.onfi_planner.proofs.Rising.{run_rises}
 use Rattle.onfi_planner.proofs.Beginning.{first_is_run}
-use Rattle.std.specs.Prelude.{Result, Ok, Err, MatchResult, IfOk}
-use Rattle.onfi_planner.specs.declared.fault.PlanFault.{PlanFault}
 
 pub still_run : (x : Position) (old new : Best) (improved : Bool) → Run x.problem (run_of x.groups old.steps.items) old.finish → Searched x old new improved → Run x.problem (run_of x.groups new.steps.items) new.finish
 still_run x old new improved r s = elim (cases_Bool improved) [
   | inl k ↦ s.run k
   | inr k ↦ (let q = s.kept k in subst (λ (b : Best). Run x.problem (run_of x.groups b.steps.items) b.finish) (sym q) r)
 ]
-
--- what is promised of a call holds of the value that it passed on
-pub known : {T E : Type 0} (r : Result T E) (y : T) (P : T → Type 0) → MatchResult r (λ x. ◌≡◌ {A = Result T PlanFault} (Ok y) (Ok x)) (λ e. ⊥) → IfOk r P → P y
-known (Ok x) y P h k = let e : y ≡ x = cc in subst P (sym e) k
-known (Err x) y P h k = absurd h
 
 -- a search that begins with the first schedule of a problem
 pub record Ready (x now : Position) (first : Best) : Type 0 where

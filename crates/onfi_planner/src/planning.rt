@@ -29,11 +29,17 @@ pub fn plan(alloc: Global, problem: &Problem, limit: u32) -> Result<Planned, Pla
     ensures cert { IfOk result (λ plan. AcceptsTokens plan.cert.items problem.now.problem plan.finish) }
     ensures over { IfErr result (λ fault. (opened : ℕ) → fault ≡ PlanFault.Over opened → (opened ≡ limit) × HasMoreNodes problem.now.problem limit) }
 {
-    let mut at = problem.copy(alloc).map_err(|_| PlanFault::Memory)?;
+    let Ok(mut at) = problem.copy(alloc) else {
+        return Err(PlanFault::Memory);
+    };
     let mut steps = Vec::new(alloc);
-    let finish = first_run(&mut at, &mut steps).map_err(|_| PlanFault::Memory)?;
+    let Ok(finish) = first_run(&mut at, &mut steps) else {
+        return Err(PlanFault::Memory);
+    };
     let mut best = Best { finish, steps };
-    let loads = Loads::new(alloc, &at).map_err(|_| PlanFault::Memory)?;
+    let Ok(loads) = Loads::new(alloc, &at) else {
+        return Err(PlanFault::Memory);
+    };
     let mut opened = 0;
     match search::search(&mut at, &loads, &mut best, &mut opened, limit) {
         Ok(_) => {}
@@ -41,10 +47,15 @@ pub fn plan(alloc: Global, problem: &Problem, limit: u32) -> Result<Planned, Pla
         Err(Stop::Memory) => return Err(PlanFault::Memory),
     }
     let mut cert = Vec::new(alloc);
-    certificate::write(&mut at, &loads, best.finish, &mut cert).map_err(|_| PlanFault::Memory)?;
+    let Ok(_) = certificate::write(&mut at, &loads, best.finish, &mut cert) else {
+        return Err(PlanFault::Memory);
+    };
     let schedule = schedule_of(alloc, problem, best.steps.as_slice());
+    let Ok(schedule) = schedule else {
+        return Err(PlanFault::Memory);
+    };
     Ok(Planned {
-        schedule: schedule.map_err(|_| PlanFault::Memory)?,
+        schedule,
         finish: best.finish,
         cert,
     })
