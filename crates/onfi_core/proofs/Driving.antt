@@ -89,7 +89,7 @@ module _ (s : Setup) (h : HalfState) (sound : IsSound s h) where
   abbrev Taken : Want → Type 0
   Taken w = IsTaken s h.planned h.accepted w
 
-  fits_is : (w : Want) → Taken w → Fits s.geometry (request_of h.accepted w)
+  pub fits_is : (w : Want) → Taken w → Fits s.geometry (request_of h.accepted w)
   fits_is w t = subst (λ (x : Item). Fits s.geometry x.request) (sym (item_of s h w t)) (All-get (λ (x : Item). Fits s.geometry x.request) h.accepted w.id t.item sound.in_range t.there)
 
   plane_is : (w : Want) → Taken w → plane_of_block s.geometry (request_of h.accepted w).place.block ≡ w.plane
@@ -128,11 +128,11 @@ module _ (s : Setup) (h : HalfState) (sound : IsSound s h) where
         )
 
     -- those before a member join it
-    all_join : (m : Want) → Has g m → (vs : List Want) → ((v : Want) → Has vs v → Has g v × (v.plane < m.plane)) → All (MayJoin s.geometry (request_of h.accepted m)) (map (request_of h.accepted) vs)
+    pub all_join : (m : Want) → Has g m → (vs : List Want) → ((v : Want) → Has vs v → Has g v × (v.plane < m.plane)) → All (MayJoin s.geometry (request_of h.accepted m)) (map (request_of h.accepted) vs)
     all_join m hm [] k = tt
     all_join m hm (v ∷ vs) k = let q = k v (inl refl) in (may_join v m q.0 hm q.1, all_join m hm vs (λ w r. k w (inr r)))
 
-below_next : (g : List Want) (n : ℕ) (m : Want) → Pairs (λ (a b : Want). a.plane < b.plane) g → slice_get g n ≡ Some m → (v : Want) → Has (take n g) v → Has g v × (v.plane < m.plane)
+pub below_next : (g : List Want) (n : ℕ) (m : Want) → Pairs (λ (a b : Want). a.plane < b.plane) g → slice_get g n ≡ Some m → (v : Want) → Has (take n g) v → Has g v × (v.plane < m.plane)
 below_next [] n m p at v h = absurd (let e : slice_get [] n ≡ Some m = at in cc)
 below_next (w ∷ g) zero m p at v h = absurd h
 below_next (w ∷ g) (suc n) m p at v (inl e) = (inl e, let q = All-has (λ (b : Want). w.plane < b.plane) g m p.0 (get_has g n m at) in subst (λ (x : Want). x.plane < m.plane) e q)

@@ -54,7 +54,7 @@ get_wants geometry n [] i x h = cc
 get_wants geometry n (y ∷ xs) zero x h = let e : y ≡ x = cc in let z : n + 0 ≡ n = omega arith in rw z (ap (λ v. Some (want_of geometry n v)) e)
 get_wants geometry n (y ∷ xs) (suc i) x h = let z : n + suc i ≡ n + 1 + i = omega arith in rw z (get_wants geometry (n + 1) xs i x h)
 
-get_drop : {A : Type 0} (n : ℕ) (xs : List A) (i : ℕ) → slice_get (drop n xs) i ≡ slice_get xs (n + i)
+pub get_drop : {A : Type 0} (n : ℕ) (xs : List A) (i : ℕ) → slice_get (drop n xs) i ≡ slice_get xs (n + i)
 get_drop zero xs i = let z : 0 + i ≡ i = omega arith in rw z refl
 get_drop (suc n) [] i = refl
 get_drop (suc n) (x ∷ xs) i = let z : suc n + i ≡ suc (n + i) = omega arith in rw z (get_drop n xs i)

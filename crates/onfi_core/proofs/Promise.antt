@@ -34,7 +34,7 @@ not_there r (q ∷ rs) h =
       | inr k ↦ (let h' : 0 + number (is_of_place r.place) rs ≡ 0 = rw k at h in ((λ e. let t : (q.place == r.place) ≡ true = grind (arith, nat_tests) in cc), not_there r rs (omega arith)))
     ]
 
-places_apart : (rs : List Reply) → ((i : ℕ) → number (is_of_place i) rs ≤ 1) → Pairs (λ (a b : Reply). a.place ≢ b.place) rs
+pub places_apart : (rs : List Reply) → ((i : ℕ) → number (is_of_place i) rs ≤ 1) → Pairs (λ (a b : Reply). a.place ≢ b.place) rs
 places_apart [] h = tt
 places_apart (r ∷ rs) h =
     let t : (r.place == r.place) ≡ true = grind (arith, nat_tests) in

@@ -5,7 +5,7 @@ use Rattle.std.proofs.lemmas.Bool.{cases_lt, le-leb, lt-leb}
 use Rattle.onfi_problem.proofs.Perm.{All-append}
 use Rattle.onfi_seq.specs.Drive.{NoneOf, NoneBefore, StartsAt}
 use Rattle.onfi_seq.specs.Least.{sooner}
-use Rattle.onfi_seq.proofs.Agreement.{take_next}
+use Rattle.onfi_core.proofs.Lists.{take_next}
 
 -- of those that were looked at, none starts, or this is the one of least start
 abbrev pub LeastSoFar : {A : Type 0} → (A → Option ℕ) → List A → List A → Option (ℕ × ℕ) → Type 0

@@ -1,10 +1,4 @@
 pub mod Phases
-pub mod Cut
-pub mod Startable
-pub mod Members
-pub mod Going
-pub mod Agreement
-pub mod Progress
 pub mod Choosing
 pub mod Turns
 pub mod MayAdvance

@@ -31,7 +31,8 @@ use Rattle.onfi_seq.specs.declared.target.Target.{Target}
 use Rattle.onfi_seq.specs.Drive.{starts_left, lane_start, group_start, NoneBefore, IsLeast, turn_start, AreFree, HasCommanded, LaneBehind, Ran, StageIs, with_reply}
 use Rattle.onfi_seq.specs.Order.{PostStarts, RepliesAt, AreInPostOrder, TellsStatus}
 use Rattle.onfi_seq.specs.Part.{IsLaneOf, IsPartOf, StartsBehind, IsInOrder, IsToldAt}
-use Rattle.onfi_seq.proofs.Agreement.{get_has}
+use Rattle.onfi_core.proofs.Lists.{get_has}
+use Rattle.onfi_core.proofs.Next.{get_drop}
 use Rattle.onfi_seq.proofs.Turns.{first_is, map_get}
 
 -- Lists
@@ -50,12 +51,6 @@ zip_more R [] [] x y h r = (r, tt)
 zip_more R [] (v ∷ ys) x y h r = absurd h
 zip_more R (u ∷ xs) [] x y h r = absurd h
 zip_more R (u ∷ xs) (v ∷ ys) x y h r = (h.0, zip_more R xs ys x y h.1 r)
-
-get_drop : {A : Type 0} (n : ℕ) (xs : List A) (y : A) (ys : List A) → drop n xs ≡ y ∷ ys → slice_get xs n ≡ Some y
-get_drop zero [] y ys h = absurd (let e : [] ≡ y ∷ ys = h in cc)
-get_drop zero (x ∷ xs) y ys h = cc
-get_drop (suc n) [] y ys h = absurd (let e : [] ≡ y ∷ ys = h in cc)
-get_drop (suc n) (x ∷ xs) y ys h = get_drop n xs y ys h
 
 -- What is left of a legal schedule starts once the bus is free
 
@@ -154,12 +149,14 @@ module _ (schedule : Schedule) (placed : Placed) (planned : Has schedule.groups 
   pub post_starts : (m : Want) → length placed.members ≤ next → slice_get placed.members (next - length placed.members) ≡ Some m → PostStarts schedule m start
   post_starts m le at =
       let e : next ≡ length placed.members + (next - length placed.members) = omega arith in
+      let z : next ≡ next + 0 = omega arith in
+      let here : slice_get placed.starts next ≡ Some start = ap (slice_get placed.starts) z ∙ sym (get_drop next placed.starts 0) ∙ ap (λ us. slice_get us 0) left in
       record {
         group = placed;
         planned = planned;
         member = next - length placed.members;
         is_member = at;
-        starts = subst (λ i. slice_get placed.starts i ≡ Some start) e (get_drop next placed.starts start rest left);
+        starts = subst (λ i. slice_get placed.starts i ≡ Some start) e here;
       }
 
   -- a LUN that told that it isn't ready is that of the status
@@ -174,9 +171,9 @@ ran_replies schedule target accepted running number ready start old new x rest (
 ran_replies schedule target accepted running number ready start old new x rest (stage.Working lun) None k left is h = absurd h
 ran_replies schedule target accepted running number ready start old new x rest (stage.Working lun) (Some r) k left is h =
     let e = is.3 in
-    (h.m, sym h.reply.place, post_starts schedule running.placed k running.next start rest left h.m (omega arith) h.member)
+    (h.m, sym (ap (λ (x : Reply). x.place) h.reply), post_starts schedule running.placed k running.next start rest left h.m (omega arith) h.member)
 ran_replies schedule target accepted running number ready start old new x rest (stage.Posting lun) None k left is h = absurd h
-ran_replies schedule target accepted running number ready start old new x rest (stage.Posting lun) (Some r) k left is h = (h.m, sym h.reply.place, post_starts schedule running.placed k running.next start rest left h.m is.3 h.member)
+ran_replies schedule target accepted running number ready start old new x rest (stage.Posting lun) (Some r) k left is h = (h.m, sym (ap (λ (x : Reply). x.place) h.reply), post_starts schedule running.placed k running.next start rest left h.m is.3 h.member)
 
 -- The replies so far
 

@@ -1,5 +1,5 @@
 -- The moves of a LUN on the chip.
-use Rattle.std.proofs.Common.{◌≡◌, ℕ, suc, ◌+◌, List, [], ◌∷◌, ◌++◌, length, Option, Some, Result, Ok, Err, IfOk, IsBitSet, refl, sym, ap, subst, ◌∙◌, arith, length-append}
+use Rattle.std.proofs.Common.{◌≡◌, ℕ, suc, ◌+◌, List, [], ◌∷◌, ◌++◌, length, Option, Some, refl, sym, ap, subst, ◌∙◌, arith, length-append}
 use Rattle.std.specs.Prelude.{slice_get}
 use Rattle.onfi_addr.specs.declared.geometry.Geometry.{Geometry}
 use Rattle.onfi_addr.specs.declared.place.Place.{Place}
@@ -8,7 +8,6 @@ use Rattle.onfi_timing.specs.declared.kind.Kind.{Kind}
 use Rattle.onfi_timing.specs.declared.spans.Spans.{Spans}
 use Rattle.onfi_timing.specs.declared.timing.Timing.{Timing}
 use Rattle.onfi_timing.specs.Kinds.{spans_of}
-use Rattle.onfi_request.specs.declared.answer.Answer.{Answer}
 use Rattle.onfi_request.specs.declared.request.Request.{Request}
 use Rattle.onfi_die.specs.Shapes.{Device}
 use Rattle.onfi_die.specs.Blocks.{Blocks, changed}
@@ -19,8 +18,7 @@ use Rattle.onfi_chip.specs.declared.post.Post.{Post}
 use Rattle.onfi_chip.specs.Chip.{Chip, Lun, device_in, taken, posts_of, group_with, spans_for, after_post, posted}
 use Rattle.onfi_chip.specs.Chip.Lun.{Commanding, Posting}
 use Rattle.onfi_chip.specs.Hold.{hold}
-use Rattle.onfi_chip.specs.Calls.{command_of, HasDone, TellsAnswer}
-use Rattle.onfi_seq.specs.declared.fault.PostFault.{PostFault}
+use Rattle.onfi_chip.specs.Calls.{command_of, HasDone}
 use Rattle.onfi_seq.specs.declared.fetch.Fetch.{Fetch}
 use Rattle.onfi_seq.specs.declared.states.Posting.{Posting as InPosts}
 use Rattle.onfi_seq.specs.declared.lun.Lun.{Lun as Typed}
@@ -122,23 +120,6 @@ post_made target old new lun now ready fetch post (x ∷ left) (behind.More l) o
       },
     )
 post_made target old new lun now ready fetch post (x ∷ left) (behind.Last l) of due done time made = absurd (let c = due.posting.count in let m = made.1 in omega (arith, c, m))
-
--- Results
-
-pub if_ok_map : {A E : Type 0} (P Q : A → Type 0) (r : Result A E) → ((x : A) → P x → Q x) → IfOk r P → IfOk r Q
-if_ok_map P Q (Ok x) f h = f x h
-if_ok_map P Q (Err e) f h = tt
-
--- a status byte that tells of a ready LUN, and what it tells
-pub told_by_chip : (P : Post → List Post → Type 0) (Q : Post → List Post → Type 0) (r : Result Answer PostFault) (byte : ℕ) → IfOk r (λ _. IsBitSet byte 6) → (IsBitSet byte 6 → (post : Post) (left : List Post) → P post left → TellsAnswer byte post.answer × Q post left) →
-    IfOk r (λ _. (post : Post) (left : List Post) → P post left → TellsAnswer byte post.answer × Q post left)
-told_by_chip P Q (Ok x) byte ready told = told ready
-told_by_chip P Q (Err e) byte ready told = tt
-
-pub answer_by_chip : (P : Post → List Post → Type 0) (Q : Post → List Post → Type 0) (r : Result Answer PostFault) (byte : ℕ) → IfOk r (λ _. (post : Post) (left : List Post) → P post left → TellsAnswer byte post.answer × Q post left) →
-    IfOk r (λ answer. (other : Answer) → TellsAnswer byte other → answer ≡ other) → IfOk r (λ answer. (post : Post) (left : List Post) → P post left → answer ≡ post.answer)
-answer_by_chip P Q (Ok x) byte told same = λ post left h. same post.answer (told post left h).0
-answer_by_chip P Q (Err e) byte told same = tt
 
 -- What is known of the chip tells what the typed LUN has
 

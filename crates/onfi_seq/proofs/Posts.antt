@@ -26,7 +26,7 @@ use Rattle.onfi_seq.specs.declared.target.Target.{Target}
 use Rattle.onfi_seq.specs.Drive.{IsDriven, HasCommanded, Ran, StageIs, number_of}
 use Rattle.onfi_seq.specs.Order.{RepliesAt, TellsStatus}
 use Rattle.onfi_seq.specs.Part.{IsLaneOf, IsPartOf, StartsBehind, IsToldAt}
-use Rattle.onfi_seq.proofs.Agreement.{get_has}
+use Rattle.onfi_core.proofs.Lists.{get_has}
 use Rattle.onfi_seq.proofs.Steps.{RunsAt, drop_tail}
 use Rattle.onfi_seq.proofs.Beginning.{BeginsAt}
 use Rattle.onfi_seq.proofs.Order.{all_set, starts_behind, command_goes_on, ran_goes_on, command_of_plan, ran_of_plan, ran_replies, status_told}
@@ -50,7 +50,7 @@ module _ (target : Target) (accepted : List Item) (old : Chip) (drive : Drive) (
   -- the LUN that isn't ready is that of the phase
   pub running_told : (schedule : Schedule) → IsPartOf schedule drive → (fault : BatchFault) → IsToldAt (number_of running.stage) running.placed.members running.next fault → TellsStatus schedule start fault
   running_told schedule part fault h =
-      let r = driven.course.problem.running l running.placed.members running.next at.ready at.state in
+      let r = driven.half.sound.problem.running l running.placed.members running.next at.ready at.state in
       status_told schedule running.placed (planned schedule part) running.next start at.rest at.rest_is l
       (λ m k. All-has (λ (v : Want). v.lun ≡ lun_of running.placed.members) running.placed.members m r.group.lun k ∙ r.lun)
       fault (subst (λ i. IsToldAt i running.placed.members running.next fault) (number_is running.stage at.stage_is) h)

@@ -15,7 +15,7 @@ use Rattle.onfi_seq.specs.declared.batch.lane.Lane.{Lane}
 use Rattle.onfi_seq.specs.declared.batch.drive.Drive.{Drive}
 use Rattle.onfi_seq.specs.declared.batch.turn.Turn.TheVariants as turn
 use Rattle.onfi_seq.specs.Drive.{starts_left, left_of, lane_start, group_start, NoneBefore, NoneLeft, IsLeast}
-use Rattle.onfi_seq.proofs.Agreement.{get_has}
+use Rattle.onfi_core.proofs.Lists.{get_has}
 
 pub get_map : {A B : Type 0} (f : A → B) (xs : List A) (i : ℕ) (y : B) → slice_get (map f xs) i ≡ Some y → (x : A) × (slice_get xs i ≡ Some x) × (f x ≡ y)
 get_map f [] i y h = cc

@@ -22,7 +22,7 @@ use Rattle.onfi_problem.specs.declared.lun_state.LunState.TheVariants.{Running}
 use Rattle.onfi_problem.specs.Problem.{Problem}
 use Rattle.onfi_seq.specs.declared.batch.fault.BatchFault.{BatchFault}
 use Rattle.onfi_seq.specs.declared.batch.fault.BatchFault.TheVariants.{Bus, NotReady, Memory}
-use Rattle.onfi_seq.specs.Wants.{wants_from}
+use Rattle.onfi_core.specs.State.{wants_from}
 use Rattle.onfi_seq.specs.Drive.{KeptSince}
 
 -- a chip as it opened

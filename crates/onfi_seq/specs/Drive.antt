@@ -1,15 +1,17 @@
 -- A batch on the way: groups that wait, and LUNs in the phases of groups that run.
 use Rattle.std.specs.Prelude.{◌≡◌, ℕ, ◌+◌, ◌*◌, ◌-◌, ◌<◌, ◌≤◌, ◌^◌, ◌==◌, if◌then◌else◌, List, [], ◌∷◌, ◌++◌, length, map, drop, Option, Some, None, slice_get}
 use Rattle.std.specs.List.{AllByRecursion as Each}
+use Rattle.onfi_addr.specs.declared.geometry.Geometry.{Geometry}
 use Rattle.onfi_timing.specs.Kinds.{spans_of}
 use Rattle.onfi_request.specs.declared.want.Want.{Want}
 use Rattle.onfi_request.specs.declared.request.Request.{Request}
 use Rattle.onfi_request.specs.declared.request.Item.{Item}
 use Rattle.onfi_request.specs.declared.reply.Reply.{Reply}
+use Rattle.onfi_request.specs.Range.{Fits}
 use Rattle.onfi_chip.specs.declared.closer.Closer.{Closer}
 use Rattle.onfi_chip.specs.declared.closer.Closer.TheVariants as closer
 use Rattle.onfi_chip.specs.declared.post.Post.{Post}
-use Rattle.onfi_chip.specs.Chip.{Chip, device_in, commanded as queued_by, launched, posted}
+use Rattle.onfi_chip.specs.Chip.{Chip, commanded as queued_by, launched, posted}
 use Rattle.onfi_chip.specs.Chip.Lun.{Posting as HasPosts}
 use Rattle.onfi_chip.specs.Calls.{HasDone, MayTake}
 use Rattle.onfi_chip.specs.Hold.{hold}
@@ -32,8 +34,10 @@ use Rattle.onfi_seq.specs.declared.batch.drive.Drive.{Drive}
 use Rattle.onfi_seq.specs.declared.batch.turn.Turn.{Turn}
 use Rattle.onfi_seq.specs.declared.batch.turn.Turn.TheVariants.{Next, Begin}
 use Rattle.onfi_seq.specs.Phases.{IsOf, IsQueuing}
-use Rattle.onfi_seq.specs.Wants.{item_at, request_at}
-use Rattle.onfi_seq.specs.Course.{IsTaken, IsOnCourse, ChipAgrees, post_for}
+use Rattle.onfi_core.specs.declared.setup.Setup.{Setup}
+use Rattle.onfi_core.specs.State.{HalfState, device_for, request_of}
+use Rattle.onfi_core.specs.Steps.{reply_to}
+use Rattle.onfi_core.specs.Kept.{IsHalf, ChipAgrees}
 
 -- the starts of a LUN's group that are left
 abbrev pub starts_left : Lane → List ℕ
@@ -113,24 +117,47 @@ LaneIs number (Some (state.Running group next ready)) (Some (Busy running)) =
 LaneIs number (Some (state.Running group next ready)) (Some Moving) = ⊥
 LaneIs number (Some (state.Running group next ready)) None = ⊥
 
+-- a channel that planned all items at once, with what is left of that plan, and holds the replies
+abbrev pub half_of : List Item → Problem → Schedule → List Reply → HalfState
+half_of accepted now left replies = record {
+  accepted = accepted;
+  planned = length accepted;
+  batch = 8;
+  now = now;
+  left = left;
+  last = None;
+  held = replies;
+  posted = [];
+  stopped = None;
+}
+
 -- the drive is on course: there is a problem of which it holds what is left, and the chip and the replies are where that says
 pub record IsDriven (target : Target) (accepted : List Item) (chip : Chip) (drive : Drive) (replies : List Reply) : Type 0 where
+  pub setup : Setup
+  pub geometry : setup.geometry ≡ target.geometry
+  pub timing : setup.timing ≡ target.timing
   pub now : Problem
-  pub course : IsOnCourse target.geometry (device_in chip) accepted [] now (left_of drive) replies
-  pub agrees : ChipAgrees target.geometry accepted [] now chip
-  pub timing : chip.timing ≡ target.timing
+  pub half : IsHalf setup (device_for setup chip) (half_of accepted now (left_of drive) replies)
+  pub agrees : ChipAgrees setup (half_of accepted now (left_of drive) replies) chip
   pub lanes : (lun : ℕ) → LaneIs lun (slice_get now.luns lun) (slice_get drive.lanes.items lun)
   pub lane_count : length drive.lanes.items ≡ length now.luns
 
 -- What a phase did
 
+-- the item at a want's place, which is of its kind, and which the device takes
+pub record HasItem (geometry : Geometry) (accepted : List Item) (m : Want) : Type 0 where
+  pub item : Item
+  pub there : slice_get accepted m.id ≡ Some item
+  pub kind : m.kind ≡ item.request.kind
+  pub fits : Fits geometry item.request
+
 -- the command of a member may be given
 pub record CanCommand (target : Target) (accepted : List Item) (chip : Chip) (number : ℕ) (members : List Want) (next start : ℕ) (m : Want) : Type 0 where
   pub of : IsOf target chip
   pub member : slice_get members next ≡ Some m
-  pub taken : IsTaken target.geometry accepted m
-  pub number_is : (request_at accepted m).place.lun ≡ number
-  pub may_take : MayTake target.geometry start (request_at accepted m) (slice_get chip.luns number)
+  pub taken : HasItem target.geometry accepted m
+  pub number_is : (request_of accepted m).place.lun ≡ number
+  pub may_take : MayTake target.geometry start (request_of accepted m) (slice_get chip.luns number)
   pub few : length members ≤ 4
   pub time : start < 2 ^ 63
 
@@ -138,9 +165,10 @@ pub record CanCommand (target : Target) (accepted : List Item) (chip : Chip) (nu
 pub record CanPost (target : Target) (accepted : List Item) (chip : Chip) (number ready left : ℕ) (members : List Want) (next start : ℕ) (m : Want) (post : Post) (others : List Post) : Type 0 where
   pub of : IsOf target chip
   pub member : slice_get members (next - length members) ≡ Some m
-  pub taken : IsTaken target.geometry accepted m
-  pub number_is : (request_at accepted m).place.lun ≡ number
-  pub post_is : post ≡ post_for (device_in chip) accepted m
+  pub taken : HasItem target.geometry accepted m
+  pub number_is : (request_of accepted m).place.lun ≡ number
+  pub post_kind : post.kind ≡ (request_of accepted m).kind
+  pub post_place : post.place ≡ (request_of accepted m).place
   pub there : slice_get chip.luns number ≡ Some (HasPosts (post ∷ others) ready)
   pub count : left ≡ length (post ∷ others)
   pub over : ready ≤ start
@@ -151,9 +179,9 @@ pub record CanPost (target : Target) (accepted : List Item) (chip : Chip) (numbe
 -- a LUN behind the command of a member
 abbrev pub StageMade : Target → List Item → ℕ → ℕ → ℕ → ℕ → Chip → Chip → Want → Stage → Type 0
 StageMade target accepted number members next start old new m (stage.Queuing lun) =
-    (lun.number ≡ number) × (lun.state.ready ≡ start + hold closer.More (spans_of target.timing (request_at accepted m).kind)) × (lun.state.commands ≡ next + 1) × (next + 1 < members) × HasDone (queued_by old (request_at accepted m) start) new
+    (lun.number ≡ number) × (lun.state.ready ≡ start + hold closer.More (spans_of target.timing (request_of accepted m).kind)) × (lun.state.commands ≡ next + 1) × (next + 1 < members) × HasDone (queued_by old (request_of accepted m) start) new
 StageMade target accepted number members next start old new m (stage.Working lun) =
-    (lun.number ≡ number) × (lun.state.ready ≡ start + hold closer.Last (spans_of target.timing (request_at accepted m).kind)) × (lun.state.members ≡ members) × (next + 1 ≡ members) × HasDone (launched old (request_at accepted m) start) new
+    (lun.number ≡ number) × (lun.state.ready ≡ start + hold closer.Last (spans_of target.timing (request_of accepted m).kind)) × (lun.state.members ≡ members) × (next + 1 ≡ members) × HasDone (launched old (request_of accepted m) start) new
 StageMade target accepted number members next start old new m (stage.Posting lun) = ⊥
 
 -- .. of a group
@@ -174,13 +202,6 @@ LaneBehind placed next number left ready (Free lun) = (lun.number ≡ number) ×
 LaneBehind placed next number left ready (Busy running) = (running.placed ≡ placed) × (running.next ≡ next + 1) × StageBehind number left ready running.stage
 LaneBehind placed next number left ready Moving = ⊥
 
--- a reply to the item at a want's place
-pub record AnswersWant (accepted : List Item) (m : Want) (post : Post) (r : Reply) : Type 0 where
-  pub place : r.place ≡ m.id
-  pub host : r.host ≡ (item_at accepted m.id).host
-  pub serial : r.serial ≡ (item_at accepted m.id).serial
-  pub answer : r.answer ≡ post.answer
-
 -- the post of a member
 pub record HasPosted (target : Target) (accepted : List Item) (number left : ℕ) (placed : Placed) (next start : ℕ) (old new : Chip) (lane : Lane) (r : Reply) : Type 0 where
   pub m : Want
@@ -190,9 +211,10 @@ pub record HasPosted (target : Target) (accepted : List Item) (number left : ℕ
   pub ready : ℕ
   pub there : slice_get old.luns number ≡ Some (HasPosts (post ∷ others) ready)
   pub post_lun : post.place.lun ≡ number
+  pub post_kind : post.kind ≡ (request_of accepted m).kind
   pub done : HasDone (posted old post others start) new
   pub lane_is : LaneBehind placed next number left (start + (spans_of target.timing post.kind).post) lane
-  pub reply : AnswersWant accepted m post r
+  pub reply : r ≡ reply_to accepted old.faults m post.answer
 
 -- a LUN made of what a typed move answered
 abbrev pub IsBehindCommand : Commanded → Placed → ℕ → Lane → Type 0

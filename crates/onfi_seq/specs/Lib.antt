@@ -1,6 +1,4 @@
 pub mod Phases
-pub mod Wants
-pub mod Course
 pub mod Drive
 pub mod Least
 pub mod Batch

@@ -1,6 +1,6 @@
 //! A batch: a whole schedule driven on a chip.
 
-ghost use Rattle.std.specs.Prelude.{◌≡◌, ℕ, IfOk, IfErr};
+ghost use Rattle.std.specs.Prelude.{◌≡◌, ℕ, ◌≤◌, length, IfOk, IfErr};
 ghost use Rattle.std.specs.List.{AllByRecursion as Each};
 ghost use Rattle.onfi_die.specs.Shapes.{device_of};
 ghost use Rattle.onfi_die.specs.Rightful.{AreRightful};
@@ -63,7 +63,7 @@ pub fn run_batch<C: Chip>(
     let Ok(mut replies) = Vec::with_capacity(alloc, items.len()) else {
         return Err(BatchFault::Memory);
     };
-    let Ok(mut drive) = Drive::new(alloc, schedule, problem.lun_count() as u8) else {
+    let Ok(mut drive) = Drive::new(alloc, schedule, geometry.lun_count) else {
         return Err(BatchFault::Memory);
     };
     while let Some(turn) = next_turn(&drive) {
@@ -79,7 +79,8 @@ pub fn run_batch<C: Chip>(
 
 // A problem is what its definition says.
 fn problem_is_one(problem: &Problem)
-    ensures { IsProblem problem.now.problem }
+    ensures problem { IsProblem problem.now.problem }
+    ensures few { length problem.now.problem.wants ≤ 8 }
 {
     let _limits = problem.bus_free();
 }

@@ -2,7 +2,7 @@ ghost use Rattle.std.specs.Prelude.{◌≡◌, ◌+◌, ◌^◌, ◌<◌, ◌↔
 ghost use Rattle.std.specs.List.{AllByRecursion as Each};
 ghost use Rattle.onfi_request.specs.Range.{Fits};
 ghost use Rattle.onfi_problem.specs.declared.lun_state.LunState.TheVariants as state;
-ghost use Rattle.onfi_seq.specs.Wants.{wants_from};
+ghost use Rattle.onfi_core.specs.State.{wants_from};
 
 use crate::tests::{sample_geometry, sample_timing};
 use crate::{BatchFault, run_batch};

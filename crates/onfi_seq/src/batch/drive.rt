@@ -14,7 +14,7 @@ use crate::batch::running::{begin, go_on, post};
 use crate::batch::turn::Turn;
 use crate::lun::Lun;
 use crate::target::Target;
-use onfi_chip::{Chip, posts_are_alone};
+use onfi_chip::Chip;
 use onfi_request::{Item, Reply};
 use onfi_schedule::{Placed, Schedule, Starts};
 use std::alloc::{AllocError, Global};
@@ -98,7 +98,6 @@ impl Drive {
         ensures err { IfErr result (λ fault. AfterBatchFault fault (C.state chip.old) (C.state chip.new)) }
         ensures told { IfErr result (λ fault. (schedule : ASchedule) → IsPartOf schedule self.old → TellsStatus schedule start fault) }
     {
-        posts_are_alone();
         let Lane::Busy(running) = mem::replace(&mut self.lanes[lun], Lane::Moving) else {
             unreachable!();
         };
@@ -128,7 +127,6 @@ impl Drive {
         ensures err { IfErr result (λ fault. AfterBatchFault fault (C.state chip.old) (C.state chip.new)) }
         ensures told { IfErr result (λ fault. (schedule : ASchedule) → IsPartOf schedule self.old → TellsStatus schedule start fault) }
     {
-        posts_are_alone();
         let placed = self.waiting.remove(place);
         let lun = usize::from(placed.members().lun());
         let Lane::Free(idle) = mem::replace(&mut self.lanes[lun], Lane::Moving) else {

@@ -15,7 +15,7 @@ loop-turn-init g c =
     let target : Target = record { geometry = c.args.geometry.now; timing = c.timing.result } in
     let chip = g.C.Chip.state c.args.chip.now in
     let opened = c.requires.opened in
-    let driven = opened_driven target c.args.items.items c.args.problem.now.problem c.args.schedule.now opened.0 opened.1 chip c.in-Ok-new.drive c.timing.ensures opened.2 c.requires.batch c.problem_is_one.ensures c.requires.legal c.in-Ok-new.ensures.waiting c.in-Ok-new.ensures.free (c.in-Ok-new.ensures.count ∙ c.lun_count.ensures.value) in
+    let driven = opened_driven target c.args.items.items c.args.problem.now.problem c.args.schedule.now opened.0 opened.1 chip c.in-Ok-new.drive c.timing.ensures opened.2 c.requires.batch c.problem_is_one.ensures.problem c.problem_is_one.ensures.few c.requires.legal c.in-Ok-new.ensures.waiting c.in-Ok-new.ensures.free c.in-Ok-new.ensures.count in
     record {
       driven = subst (IsDriven target c.args.items.items chip c.in-Ok-new.drive) (sym c.in-Ok.ensures.items) driven;
       order = subst (IsInOrder c.args.schedule.now c.in-Ok-new.drive) (sym c.in-Ok.ensures.items) (order_opens c.args.schedule.now c.in-Ok-new.drive c.in-Ok-new.ensures.waiting c.in-Ok-new.ensures.free);

@@ -9,7 +9,7 @@ use Rattle.onfi_chip.specs.Chip.{opened}
 use Rattle.onfi_problem.specs.declared.lun_state.LunState.{LunState}
 use Rattle.onfi_problem.specs.declared.lun_state.LunState.TheVariants.{Free, Running}
 use Rattle.onfi_problem.specs.Problem.{Problem}
-use Rattle.onfi_seq.specs.Wants.{wants_from}
+use Rattle.onfi_core.specs.State.{wants_from}
 use Rattle.onfi_seq.proofs.batch_tests.drive.Goals as goal
 
 none_runs : (n i : ℕ) (g : List Want) (k r : ℕ) → slice_get (replicate n (Free 0)) i ≢ Some (Running g k r)

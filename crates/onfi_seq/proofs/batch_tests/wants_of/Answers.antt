@@ -3,8 +3,8 @@ use Rattle.std.specs.Prelude.{slice_get}
 use Rattle.onfi_addr.specs.declared.geometry.Geometry.{Geometry}
 use Rattle.onfi_request.specs.declared.request.Item.{Item}
 use Rattle.onfi_request.specs.declared.want.Want.{Want}
-use Rattle.onfi_seq.specs.Wants.{want_of, wants_from}
-use Rattle.onfi_seq.proofs.Agreement.{take_next}
+use Rattle.onfi_core.specs.State.{want_of, wants_from}
+use Rattle.onfi_core.proofs.Lists.{take_next}
 use Rattle.onfi_seq.proofs.Steps.{get_of_or}
 use Rattle.onfi_seq.proofs.batch_tests.wants_of.Goals as goal
 

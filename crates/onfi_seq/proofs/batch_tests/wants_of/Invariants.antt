@@ -1,5 +1,5 @@
 use Rattle.std.proofs.Common.{◌≡◌, take}
-use Rattle.onfi_seq.specs.Wants.{wants_from}
+use Rattle.onfi_core.specs.State.{wants_from}
 use Rattle.onfi_seq.proofs.batch_tests.wants_of.Given as goal
 
 abbrev pub invariant-loop-id : goal.invariant-loop-id

@@ -2,7 +2,7 @@ use Rattle.std.proofs.Common.{List}
 use Rattle.onfi_chip.specs.declared.post.Post.{Post}
 use Rattle.onfi_chip.specs.Chip.{posted}
 use Rattle.onfi_chip.specs.Calls.{HasDone, IsNextPost}
-use Rattle.onfi_seq.proofs.Phases.{told_by_chip, answer_by_chip, if_ok_map}
+use Rattle.onfi_core.proofs.Told.{told_by_chip, answer_by_chip, if_ok_map}
 use Rattle.onfi_seq.proofs.posting.ask_status.Goals as goal
 
 pub returns-in-Ok-clause-answer : goal.returns-in-Ok-clause-answer

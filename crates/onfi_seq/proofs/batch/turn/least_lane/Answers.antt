@@ -2,7 +2,7 @@ use Rattle.std.proofs.Common.{◌≡◌, ◌+◌, length, Some, take, sym, ap, s
 use Rattle.std.specs.Prelude.{slice_get}
 use Rattle.onfi_seq.specs.Drive.{lane_start}
 use Rattle.onfi_seq.specs.Least.{sooner}
-use Rattle.onfi_seq.proofs.Agreement.{take_whole}
+use Rattle.onfi_core.proofs.Lists.{take_whole}
 use Rattle.onfi_seq.proofs.Steps.{get_of_or}
 use Rattle.onfi_seq.proofs.Choosing.{LeastSoFar, sooner_keeps, small_start}
 use Rattle.onfi_seq.proofs.batch.turn.least_lane.Goals as goal

@@ -2,7 +2,7 @@ use Rattle.std.proofs.Common.{◌≡◌, sym, ap, subst, ◌∙◌}
 use Rattle.onfi_addr.specs.declared.place.Place.{Place}
 use Rattle.onfi_addr.specs.Rows.{row_of}
 use Rattle.onfi_chip.specs.Calls.{IsNextPost}
-use Rattle.onfi_seq.proofs.Phases.{if_ok_map}
+use Rattle.onfi_core.proofs.Told.{if_ok_map}
 use Rattle.onfi_seq.proofs.lun.Lun.fetch.Goals as goal
 
 pub returns-in-Read-clause-answer : goal.returns-in-Read-clause-answer

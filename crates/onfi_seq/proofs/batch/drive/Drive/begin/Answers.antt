@@ -107,7 +107,7 @@ returns-clause-ok g c replies driven =
     let lanes_are : drive'.lanes.items ≡ slice_set drive.lanes.items (lun_of group.members) c.in_ok-self.field-0 =
     set_twice drive.lanes.items c.from-lun.result c.replace.new.dest c.in_ok-self.field-0 ∙ ap (λ i. slice_set drive.lanes.items i c.in_ok-self.field-0) lun in
     let commanded = subst (λ n. HasCommanded c.args.target.now c.args.items.now n group 0 c.args.start old new c.in_ok-self.field-0) number c.in_ok-self.ensures.ok in
-    begun_driven c.args.target.now c.args.items.now old drive replies driven c.args.place c.args.start group begins c.posts_are_alone.ensures new drive' c.in-Free.idle there c.in_ok-self.field-0 lanes_are c.remove-placed.ensures.items commanded
+    begun_driven c.args.target.now c.args.items.now old drive replies driven c.args.place c.args.start group begins new drive' c.in-Free.idle there c.in_ok-self.field-0 lanes_are c.remove-placed.ensures.items commanded
 
 pub returns-clause-fewer : goal.returns-clause-fewer
 returns-clause-fewer g c =
@@ -128,7 +128,7 @@ returns-clause-fewer g c =
     let lanes_are : drive'.lanes.items ≡ slice_set drive.lanes.items (lun_of group.members) c.in_ok-self.field-0 =
     set_twice drive.lanes.items c.from-lun.result c.replace.new.dest c.in_ok-self.field-0 ∙ ap (λ i. slice_set drive.lanes.items i c.in_ok-self.field-0) lun in
     let commanded = subst (λ n. HasCommanded c.args.target.now c.args.items.now n group 0 c.args.start old new c.in_ok-self.field-0) number c.in_ok-self.ensures.ok in
-    begun_fewer c.args.target.now c.args.items.now old drive c.requires.driven.0 c.requires.driven.1 c.args.place c.args.start group begins c.posts_are_alone.ensures new drive' c.in-Free.idle there c.in_ok-self.field-0 lanes_are c.remove-placed.ensures.items commanded
+    begun_fewer c.args.target.now c.args.items.now old drive c.requires.driven.0 c.requires.driven.1 c.args.place c.args.start group begins new drive' c.in-Free.idle there c.in_ok-self.field-0 lanes_are c.remove-placed.ensures.items commanded
 
 pub returns-clause-part : goal.returns-clause-part
 returns-clause-part g c schedule part =

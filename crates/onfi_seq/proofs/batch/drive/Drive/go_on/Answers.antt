@@ -33,7 +33,7 @@ returns-clause-ok g c replies driven =
     let there : slice_get drive.lanes.items c.args.lun ≡ Some (Busy running) =
     get_of_or drive.lanes.items c.args.lun (Busy running) c.index_mut.result.now (within_get drive.lanes.items c.args.lun least.is.0 least.is.1) (sym c.in-Busy.is ∙ c.replace.ensures.value ∙ c.index_mut.ensures.value) in
     let at = runs_at c.args.target.now c.args.items.now old drive replies driven c.args.lun c.args.start running there least in
-    ran_driven c.posts_are_alone.ensures c.args.target.now c.args.items.now old new drive replies driven c.args.lun c.args.start running there at _ c.in_ok-lane.lane (set_twice drive.lanes.items c.args.lun c.replace.new.dest c.in_ok-lane.lane) refl c.in_ok-lane.reply c.in_ok-lane.ensures.ok
+    ran_driven c.args.target.now c.args.items.now old new drive replies driven c.args.lun c.args.start running there at _ c.in_ok-lane.lane (set_twice drive.lanes.items c.args.lun c.replace.new.dest c.in_ok-lane.lane) refl c.in_ok-lane.reply c.in_ok-lane.ensures.ok
 
 pub returns-clause-fewer : goal.returns-clause-fewer
 returns-clause-fewer g c =
@@ -46,7 +46,7 @@ returns-clause-fewer g c =
     get_of_or drive.lanes.items c.args.lun (Busy running) c.index_mut.result.now (within_get drive.lanes.items c.args.lun least.is.0 least.is.1) (sym c.in-Busy.is ∙ c.replace.ensures.value ∙ c.index_mut.ensures.value) in
     let at = runs_at c.args.target.now c.args.items.now old drive c.requires.driven.0 c.requires.driven.1 c.args.lun c.args.start running there least in
     let drive' : Drive = record { waiting = drive.waiting; lanes = with_item (with_item drive.lanes c.args.lun c.replace.new.dest) c.args.lun c.in_ok-lane.lane } in
-    ran_fewer c.posts_are_alone.ensures c.args.target.now c.args.items.now old new drive c.requires.driven.0 c.requires.driven.1 c.args.lun c.args.start running there at drive' c.in_ok-lane.lane (set_twice drive.lanes.items c.args.lun c.replace.new.dest c.in_ok-lane.lane) refl c.in_ok-lane.reply c.in_ok-lane.ensures.ok
+    ran_fewer c.args.target.now c.args.items.now old new drive c.requires.driven.0 c.requires.driven.1 c.args.lun c.args.start running there at drive' c.in_ok-lane.lane (set_twice drive.lanes.items c.args.lun c.replace.new.dest c.in_ok-lane.lane) refl c.in_ok-lane.reply c.in_ok-lane.ensures.ok
 
 pub returns-clause-part : goal.returns-clause-part
 returns-clause-part g c schedule part =
