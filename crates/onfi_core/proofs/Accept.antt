@@ -2,6 +2,7 @@
 use Rattle.std.proofs.Common.{◌≡◌, ℕ, ◌+◌, ◌-◌, ◌<◌, inl, inr, List, [], ◌∷◌, ◌++◌, length, Some, None, take, drop, refl, sym, ap, ◌∙◌, subst, append_assoc, length-append, length-drop, arith}
 use Rattle.std.specs.Prelude.{slice_get, map}
 use Rattle.std.specs.List.{AllByRecursion as All}
+use Rattle.std.proofs.lemmas.List.{drop-append-le}
 use Rattle.std.proofs.lemmas.List.Elements.{filter-append}
 use Rattle.onfi_request.specs.Range.{Fits}
 use Rattle.onfi_request.specs.declared.answer.Answer.{Answer}
@@ -28,7 +29,7 @@ use Rattle.onfi_core.specs.State.{HalfState, ChannelState, device_for, want_of, 
 use Rattle.onfi_core.specs.Steps.{unplanned, Accepts}
 use Rattle.onfi_core.specs.declared.setup.Setup.{Setup}
 use Rattle.onfi_core.proofs.Bus.{number-append}
-use Rattle.onfi_core.proofs.Lists.{All-drop, All-take, drop_more, index_get}
+use Rattle.onfi_core.proofs.Lists.{All-drop, All-take, index_get}
 use Rattle.onfi_core.proofs.Made.{made_more}
 use Rattle.onfi_core.proofs.Numbered.{wants_from-append, below_length}
 
@@ -73,7 +74,7 @@ module _ (s : Setup) (h : HalfState) (half : IsSound s h) (x : Item) where
       let a = length-drop h.planned h.accepted in
       let b = half.planned in
       let e : h.planned + length (drop h.planned h.accepted) ≡ length h.accepted = omega arith in
-      ap (wants_from s.geometry h.planned) (drop_more h.planned h.accepted (x ∷ []) half.planned)
+      ap (wants_from s.geometry h.planned) (drop-append-le h.planned h.accepted (x ∷ []) half.planned)
       ∙ wants_from-append s.geometry h.planned (drop h.planned h.accepted) (x ∷ [])
       ∙ ap (λ n. unplanned s h ++ want_of s.geometry n x ∷ []) e
 

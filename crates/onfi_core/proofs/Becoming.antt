@@ -11,6 +11,7 @@ use Rattle.onfi_group.specs.Group.{lun_of, kind_of, group_spans}
 use Rattle.onfi_problem.specs.declared.lun_state.LunState.{LunState}
 use Rattle.onfi_problem.specs.declared.lun_state.LunState.TheVariants.{Free, Running}
 use Rattle.onfi_problem.specs.Problem.{Problem, IsProblem}
+use Rattle.onfi_problem.proofs.Lists.{map_get}
 use Rattle.onfi_problem.proofs.Places.{within_get}
 use Rattle.onfi_problem.specs.Moves.{Move, Next, Start, lun_after, next_ran, ran, placed, without}
 use Rattle.onfi_schedule.specs.Schedule.{Placed, Schedule, Legal, phases}
@@ -28,24 +29,16 @@ use Rattle.onfi_core.specs.View.{HalfView}
 use Rattle.onfi_core.specs.declared.starting.Turn.{Turn}
 use Rattle.onfi_core.specs.declared.outcome.Outcome.TheVariants as outcome
 use Rattle.onfi_core.specs.Dues.{NoneStart, IsTurn, IsDue, starts_in}
-use Rattle.onfi_core.proofs.Lists.{take_drop, drop_next}
-use Rattle.onfi_core.proofs.Dues.{map_get}
+use Rattle.onfi_core.proofs.Lists.{cut_there, get_at_length}
 use Rattle.onfi_core.proofs.First.{phases_start}
 
-get_map : (groups : List Placed) (i : ℕ) (starts : List ℕ) → slice_get (starts_in groups) i ≡ Some starts → (g : Placed) × (slice_get groups i ≡ Some g) × (g.starts ≡ starts)
-get_map [] i starts h = cc
-get_map (x ∷ groups) zero starts h = (x, refl, cc)
-get_map (x ∷ groups) (suc i) starts h = get_map groups i starts h
-
-get_middle : (before : List Placed) (g : Placed) (behind : List Placed) → slice_get (before ++ g ∷ behind) (length before) ≡ Some g
-get_middle [] g behind = refl
-get_middle (x ∷ before) g behind = get_middle before g behind
+group_at : (groups : List Placed) (i : ℕ) (starts : List ℕ) → slice_get (starts_in groups) i ≡ Some starts → (g : Placed) × (slice_get groups i ≡ Some g) × (g.starts ≡ starts)
+group_at [] i starts h = cc
+group_at (x ∷ groups) zero starts h = (x, refl, cc)
+group_at (x ∷ groups) (suc i) starts h = group_at groups i starts h
 
 pub within_groups : (groups : List Placed) (i : ℕ) (starts : List ℕ) → slice_get (starts_in groups) i ≡ Some starts → i < length groups
-within_groups groups i starts h = let g = get_map groups i starts h in within_get groups i g.0 g.1
-
-pub cut_there : {A : Type 0} (xs : List A) (i : ℕ) (x : A) → slice_get xs i ≡ Some x → xs ≡ take i xs ++ x ∷ drop (i + 1) xs
-cut_there xs i x h = sym (take_drop i xs) ∙ ap (λ zs. take i xs ++ zs) (drop_next xs i x h)
+within_groups groups i starts h = let g = group_at groups i starts h in within_get groups i g.0 g.1
 
 first_of : (starts : List ℕ) (t : ℕ) (ts : List ℕ) → starts ≡ t ∷ ts → drop 1 starts ≡ ts
 first_of starts t ts e = ap (drop 1) e
@@ -55,8 +48,8 @@ none_begins : (s : Schedule) → NoneStart s.rest → NoneStart (starts_in s.gro
 none_begins s rest groups (Next lun) start left (starts, at, is) = let e = rest lun (start ∷ starts) at in cc
 none_begins s rest groups (Start group) start left (starts, before, behind, are, is) =
     let g : Placed = record { members = group; starts = start ∷ starts } in
-    let there : slice_get s.groups (length before) ≡ Some g = subst (λ gs. slice_get gs (length before) ≡ Some g) (sym are) (get_middle before g behind) in
-    let e = groups (length before) (start ∷ starts) (map_get s.groups (length before) g there) in cc
+    let there : slice_get s.groups (length before) ≡ Some g = subst (λ gs. slice_get gs (length before) ≡ Some g) (sym are) (get_at_length before g behind) in
+    let e = groups (length before) (start ∷ starts) (map_get (λ (x : Placed). x.starts) s.groups (length before) g there) in cc
 
 some_or_none : {A : Type 0} (xs : List A) → (xs ≡ []) ⊎ (is_empty xs ≡ false)
 some_or_none [] = inl refl
@@ -128,7 +121,7 @@ pub first_is_due : (s : Setup) (h : HalfState) → IsSound s h → (first : ASta
     → due.bus_free ≡ first.time + phase_length (group_spans h.now.timing g.members) (length g.members) 0 → due.next ≡ lun_after h.now.timing g.members 0 due.bus_free
     → due.rest ≡ drop 1 g.starts → due.place ≡ Some first.at → due.wants.items ≡ without g.members h.now.wants → IsDue h due
 first_is_due s h sound first is g there due start_is group_is phase_is lun_is bus_is next_is rest_is place_is wants_is =
-    let some : Some g.starts ≡ Some (first.time ∷ is.0.0) = sym (map_get h.left.groups first.at g there) ∙ is.0.1 in
+    let some : Some g.starts ≡ Some (first.time ∷ is.0.0) = sym (map_get (λ (x : Placed). x.starts) h.left.groups first.at g there) ∙ is.0.1 in
     let starts : g.starts ≡ first.time ∷ is.0.0 = cc in
     let behind : is.0.0 ≡ due.rest = sym (first_of g.starts first.time is.0.0 starts) ∙ sym rest_is in
     let whole : g ≡ record { members = g.members; starts = first.time ∷ is.0.0 } = ap (λ us. record { members = g.members; starts = us }) starts in

@@ -3,6 +3,7 @@ use Rattle.std.proofs.Common.{◌≡◌, ℕ, zero, suc, ◌+◌, ◌*◌, ◌-�
 use Rattle.std.specs.Prelude.{slice_get, slice_set, if◌then◌else◌}
 use Rattle.std.specs.List.{AllByRecursion as All, flat_map}
 use Rattle.std.proofs.lemmas.Bool.{cases_lt}
+use Rattle.std.proofs.lemmas.List.{drop_all}
 use Rattle.onfi_timing.specs.Phases.{phase_length}
 use Rattle.onfi_request.specs.declared.answer.Answer.{Answer}
 use Rattle.onfi_request.specs.declared.reply.Reply.{Reply}
@@ -29,7 +30,7 @@ use Rattle.onfi_core.specs.State.{HalfState, ChannelState, device_for}
 use Rattle.onfi_core.specs.Steps.{reply_to, Commands, Launches, Posts, RunsOnChip, Runs, IsPhase, half_after_phase}
 use Rattle.onfi_core.specs.declared.setup.Setup.{Setup}
 use Rattle.onfi_core.proofs.Going.{Going, OnLun, going_next, going_start, on_next, on_start}
-use Rattle.onfi_core.proofs.Lists.{drop_all, drop_next}
+use Rattle.onfi_core.proofs.Lists.{drop_next}
 use Rattle.onfi_core.proofs.Made.{made_push}
 use Rattle.onfi_core.proofs.Phase.{after_command, after_launch, after_post, right_reply}
 
@@ -105,7 +106,7 @@ module _ (s : Setup) (h : HalfState) (half : IsSound s h) (l : ℕ) (g : List Wa
       elim (cases_lt (n + 1) (2 * length g)) [
         | inl lt ↦ (let e = lun_after_running h.now.timing g n (start + phase_length (group_spans h.now.timing g) (length g) n) lt in rw (e, z) (omega arith))
         | inr ge ↦ (let e = lun_after_free h.now.timing g n (start + phase_length (group_spans h.now.timing g) (length g) n) ge in
-            let none = ap (number (has_id i)) (drop_all g (n - length g + 1) (omega arith)) in rw e (omega arith))
+            let none = ap (number (has_id i)) (drop_all (n - length g + 1) g (omega arith)) in rw e (omega arith))
       ]
 
 -- the half and the chip after a phase

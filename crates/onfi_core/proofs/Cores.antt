@@ -1,8 +1,10 @@
 -- The channels of a core from event to event.
 use Rattle.std.proofs.Common.{◌≡◌, ℕ, zero, suc, ◌<◌, ◌≤◌, inl, inr, true, false, List, [], ◌∷◌, ◌++◌, length, Some, None, map, refl, sym, ap, ◌∙◌, subst, append_assoc, append-nil, arith}
 use Rattle.std.proofs.lemmas.Bool.{false≢true}
+use Rattle.std.proofs.lemmas.List.{length-map, map-append}
 use Rattle.std.specs.Prelude.{IfSome, slice_get, slice_set}
 use Rattle.std.specs.List.{AllByRecursion as All}
+use Rattle.onfi_problem.proofs.Lists.{map_get, map_set}
 use Rattle.onfi_problem.proofs.Places.{length_set}
 use Rattle.onfi_problem.proofs.Perm.{All-append, All-weaker}
 use Rattle.onfi_problem.specs.Problem.{has_id}
@@ -26,20 +28,6 @@ use Rattle.onfi_core.proofs.Opening.{opened}
 use Rattle.onfi_core.proofs.Promise.{promise}
 use Rattle.onfi_core.proofs.Reach.{step_kept}
 
-get_map : {A B : Type 0} (f : A → B) (xs : List A) (i : ℕ) (x : A) → slice_get xs i ≡ Some x → slice_get (map f xs) i ≡ Some (f x)
-get_map f [] i x h = cc
-get_map f (y ∷ xs) zero x h = let e : y ≡ x = cc in ap (λ z. Some (f z)) e
-get_map f (y ∷ xs) (suc i) x h = get_map f xs i x h
-
-map_set : {A B : Type 0} (f : A → B) (xs : List A) (i : ℕ) (x : A) → map f (slice_set xs i x) ≡ slice_set (map f xs) i (f x)
-map_set f [] i x = refl
-map_set f (y ∷ xs) zero x = refl
-map_set f (y ∷ xs) (suc i) x = ap (λ zs. f y ∷ zs) (map_set f xs i x)
-
-length_map : {A B : Type 0} (f : A → B) (xs : List A) → length (map f xs) ≡ length xs
-length_map f [] = refl
-length_map f (x ∷ xs) = ap suc (length_map f xs)
-
 get_none : {A : Type 0} (xs : List A) (i : ℕ) → length xs ≤ i → slice_get xs i ≡ None
 get_none [] i h = refl
 get_none (x ∷ xs) zero h = absurd (omega arith)
@@ -51,7 +39,7 @@ module _ {C : Type 0} (state : C → Chip) where
 
   -- an event of a channel that isn't there
   pub no_channel : (s : Setup) (views : List (ChannelView C)) (e : Event) (o : Outcome) → length views ≤ channel_of e → o ≡ outcome.NoSuch (request_in e) → CoreStep s (states views) e o (states views)
-  no_channel s views e o h is = inl (get_none (states views) (channel_of e) (let l = length_map (state_in state) views in omega arith), is, refl)
+  no_channel s views e o h is = inl (get_none (states views) (channel_of e) (let l = length-map views (state_in state) in omega arith), is, refl)
 
   -- an event changes its channel
   pub channel_steps : (s : Setup) (views : List (ChannelView C)) (e : Event) (o : Outcome) (at : ℕ) (v v' : ChannelView C) → at ≡ channel_of e → slice_get views at ≡ Some v → v.0.setup ≡ s → Step v.0.setup (state_in state v) e o (state_in state v') → CoreStep s (states views) e o (states (slice_set views at v'))
@@ -60,7 +48,7 @@ module _ {C : Type 0} (state : C → Chip) where
       inr (
         state_in state v,
         state_in state v',
-        get_map (state_in state) views (channel_of e) v there',
+        map_get (state_in state) views (channel_of e) v there',
         subst (λ (x : Setup). Step x (state_in state v) e o (state_in state v')) same step,
         ap (λ i. states (slice_set views i v')) is ∙ map_set (state_in state) views (channel_of e) v',
       )
@@ -84,7 +72,7 @@ module _ {C : Type 0} (state : C → Chip) where
   -- the batch of a channel is set
   pub batch_set : (s : Setup) (views : List (ChannelView C)) (at batch : ℕ) (v v' : ChannelView C) → 1 ≤ batch → batch ≤ 8 → slice_get views at ≡ Some v → state_in state v' ≡ with_batch batch (state_in state v) → Did s (states views) (SetsBatch at batch) (states (slice_set views at v'))
   batch_set s views at batch v v' some few there is =
-      (some, few, state_in state v, get_map (state_in state) views at v there, map_set (state_in state) views at v' ∙ ap (slice_set (states views) at) is)
+      (some, few, state_in state v, map_get (state_in state) views at v there, map_set (state_in state) views at v' ∙ ap (slice_set (states views) at) is)
 
 -- so far these events happened, and those are left
 pub record Halfway (s : Setup) (cs : List ChannelState) (events left : List Event) (outcomes : List Outcome) (now : List ChannelState) : Type 0 where
@@ -125,10 +113,6 @@ pub record OpenedSoFar {C : Type 0} (state : C → Chip) (s : Setup) (chips left
   pub parts : chips ≡ done ++ left
   pub are : AreOpened state s done views
 
-map_append : {A B : Type 0} (f : A → B) (xs ys : List A) → map f (xs ++ ys) ≡ map f xs ++ map f ys
-map_append f [] ys = refl
-map_append f (x ∷ xs) ys = ap (λ zs. f x ∷ zs) (map_append f xs ys)
-
 -- one chip more
 pub opened_more : {C : Type 0} (state : C → Chip) (s : Setup) (chips left left' : List C) (views : List (ChannelView C)) (chip : C) (v : ChannelView C) → OpenedSoFar state s chips left views → left ≡ chip ∷ left' → v.0.setup ≡ s → state_in state v ≡ opened_with s (state chip) → OpenedSoFar state s chips left' (views ++ v ∷ [])
 opened_more {C} state s chips left left' views chip v h is setup same = record {
@@ -136,7 +120,7 @@ opened_more {C} state s chips left left' views chip v h is setup same = record {
   parts = h.parts ∙ ap (λ cs. h.done ++ cs) is ∙ sym (append_assoc h.done (chip ∷ []) left');
   are = record {
     setups = All-append (λ (x : ChannelView C). x.0.setup ≡ s) views (v ∷ []) h.are.setups (setup, tt);
-    states = map_append (state_in state) views (v ∷ []) ∙ ap (λ cs. map (state_in state) views ++ cs ∷ []) same ∙ ap (λ cs. cs ++ opened_with s (state chip) ∷ []) h.are.states ∙ sym (map_append (λ x. opened_with s (state x)) h.done (chip ∷ []));
+    states = map-append (state_in state) views (v ∷ []) ∙ ap (λ cs. map (state_in state) views ++ cs ∷ []) same ∙ ap (λ cs. cs ++ opened_with s (state chip) ∷ []) h.are.states ∙ sym (map-append (λ x. opened_with s (state x)) h.done (chip ∷ []));
   };
 }
 
@@ -153,7 +137,7 @@ All-both P Q [] p q = tt
 All-both P Q (x ∷ xs) p q = ((p.0, q.0), All-both P Q xs p.1 q.1)
 
 same_length : {A B D : Type 0} (f : A → D) (k : B → D) (xs : List A) (ys : List B) → map f xs ≡ map k ys → length xs ≡ length ys
-same_length f k xs ys e = sym (length_map f xs) ∙ ap length e ∙ length_map k ys
+same_length f k xs ys e = sym (length-map xs f) ∙ ap length e ∙ length-map ys k
 
 opened_reached : (s : Setup) (chip : Chip) → IsReached s (opened_with s chip)
 opened_reached s chip = opened s chip.faults chip.failures

@@ -3,6 +3,7 @@ use Rattle.std.proofs.Common.{◌≡◌, ℕ, ◌+◌, inl, inr, true, false, Li
 use Rattle.std.specs.Prelude.{slice_get, map}
 use Rattle.std.specs.List.{filter}
 use Rattle.std.proofs.lemmas.Bool.{cases_Bool}
+use Rattle.std.proofs.lemmas.List.{map-append, take_at}
 use Rattle.std.proofs.lemmas.List.Elements.{filter-append}
 use Rattle.onfi_request.specs.declared.request.Item.{Item}
 use Rattle.onfi_request.specs.declared.want.Want.{Want}
@@ -11,16 +12,16 @@ use Rattle.onfi_die.specs.Blocks.{is_on}
 use Rattle.onfi_core.specs.Kept.{on}
 use Rattle.onfi_addr.specs.declared.geometry.Geometry.{Geometry}
 use Rattle.onfi_core.specs.State.{want_of, wants_from, item_at, request_of, no_item}
-use Rattle.onfi_core.proofs.Lists.{get_at_length, head_same, index_at_length, map_append, not_nil, tail_same, take_at_length}
+use Rattle.onfi_core.proofs.Lists.{get_at_length, head_same, index_at_length, not_nil, tail_same}
 
 pub request_at : (all pre : List Item) (x : Item) (xs : List Item) → all ≡ pre ++ x ∷ xs → item_at all (length pre) ≡ x
 request_at all pre x xs e = ap (λ zs. item_at zs (length pre)) e ∙ index_at_length pre x xs no_item
 
 requests_more : (l b : ℕ) (pre : List Item) (x : Item) → is_on l b x.request ≡ true → requests_on l b (pre ++ x ∷ []) ≡ requests_on l b pre ++ x.request ∷ []
-requests_more l b pre x k = ap (filter (is_on l b)) (map_append (λ (x : Item). x.request) pre (x ∷ [])) ∙ filter-append (is_on l b) (map (λ (x : Item). x.request) pre) (x.request ∷ []) ∙ rw k refl
+requests_more l b pre x k = ap (filter (is_on l b)) (map-append (λ (x : Item). x.request) pre (x ∷ [])) ∙ filter-append (is_on l b) (map (λ (x : Item). x.request) pre) (x.request ∷ []) ∙ rw k refl
 
 requests_same : (l b : ℕ) (pre : List Item) (x : Item) → is_on l b x.request ≡ false → requests_on l b (pre ++ x ∷ []) ≡ requests_on l b pre
-requests_same l b pre x k = ap (filter (is_on l b)) (map_append (λ (x : Item). x.request) pre (x ∷ [])) ∙ filter-append (is_on l b) (map (λ (x : Item). x.request) pre) (x.request ∷ []) ∙ rw k (append-nil (requests_on l b pre))
+requests_same l b pre x k = ap (filter (is_on l b)) (map-append (λ (x : Item). x.request) pre (x ∷ [])) ∙ filter-append (is_on l b) (map (λ (x : Item). x.request) pre) (x.request ∷ []) ∙ rw k (append-nil (requests_on l b pre))
 
 -- what stands before the item of a want
 pub record CutAt (l b : ℕ) (all pre : List Item) (before : List Want) (w : Want) : Type 0 where
@@ -32,7 +33,7 @@ cut_here : (geometry : Geometry) (l b : ℕ) (all : List Item) (n : ℕ) (pre : 
 cut_here geometry l b all n pre x xs [] w behind e f k rest h =
     let i : n ≡ w.id = ap (λ (v : Want). v.id) (head_same _ _ _ _ h) in
     let j : w.id ≡ length pre = sym i ∙ f in
-    let t : take (length pre) all ≡ pre = ap (take (length pre)) e ∙ take_at_length pre (x ∷ xs) in
+    let t : take (length pre) all ≡ pre = ap (take (length pre)) e ∙ take_at pre (x ∷ xs) (length pre) refl in
     let g : slice_get all (length pre) ≡ Some x = ap (λ zs. slice_get zs (length pre)) e ∙ get_at_length pre x xs in
     record {
       requests = rw (j, t) (sym (append-nil (requests_on l b pre)));

@@ -109,12 +109,12 @@ number_within i (z ∷ xs) (suc l) x h =
     let b = number-append (has_id i) (unposted z) (flat_map unposted xs) in
     omega arith
 
-one_more : (i : ℕ) (m : Want) (ms : List Want) → m.id ≡ i → 1 ≤ number (has_id i) (m ∷ ms)
-one_more i m ms e = let t : (m.id == i) ≡ true = grind (arith, nat_tests) in rw t (omega arith)
+first_counts : (i : ℕ) (m : Want) (ms : List Want) → m.id ≡ i → 1 ≤ number (has_id i) (m ∷ ms)
+first_counts i m ms e = let t : (m.id == i) ≡ true = grind (arith, nat_tests) in rw t (omega arith)
 
 later_number : (g : List Want) (n : ℕ) (m : Want) → slice_get g n ≡ Some m → 1 ≤ number (has_id m.id) g
 later_number [] n m h = cc
-later_number (x ∷ g) zero m h = let e : x ≡ m = cc in one_more m.id x g (ap (λ (w : Want). w.id) e)
+later_number (x ∷ g) zero m h = let e : x ≡ m = cc in first_counts m.id x g (ap (λ (w : Want). w.id) e)
 later_number (x ∷ g) (suc n) m h = let k = later_number g n m h in let a = number-append (has_id m.id) (x ∷ []) g in omega arith
 
 -- the member is of those that have no reply
@@ -128,7 +128,7 @@ member_left g n m at = elim (cases_lt n (length g)) [
   | inr ge ↦ (
       let at' : slice_get g (n - length g) ≡ Some m = rw (le-ltb n (length g) ge) at at in
       let d = drop_next g (n - length g) m at' in
-      rw d (one_more m.id m (drop (n - length g + 1) g) refl))
+      rw d (first_counts m.id m (drop (n - length g + 1) g) refl))
 ]
 
 -- .. so it stands in a slot

@@ -69,8 +69,3 @@ so_far_one lists n least r (t ∷ ts) h e k = so_far_some lists n least r t ts h
 pub sooner_first : (least r : Option Start) (at : ℕ) (starts : List ℕ) (time : ℕ) → 1 ≤ length starts → time ≡ slice_index_or starts 0 0 → SoonerIs least (record { at = at; time = time }) r → SoonerOf least at starts r
 sooner_first least r at [] time some e k = absurd (omega arith)
 sooner_first least r at (t ∷ ts) time some e k = subst (λ (u : ℕ). SoonerIs least (record { at = at; time = u }) r) e k
-
-pub map_get : (groups : List Placed) (i : ℕ) (g : Placed) → slice_get groups i ≡ Some g → slice_get (map (λ (x : Placed). x.starts) groups) i ≡ Some g.starts
-map_get [] i g h = cc
-map_get (x ∷ groups) zero g h = let e : x ≡ g = cc in ap (λ (y : Placed). Some y.starts) e
-map_get (x ∷ groups) (suc i) g h = map_get groups i g h

@@ -4,6 +4,7 @@ use Rattle.std.specs.Prelude.{slice_get, slice_index_or, ◌==◌, option_to_lis
 use Rattle.std.specs.List.{filter, insert}
 use Rattle.std.proofs.lemmas.Bool.{ne_eqb}
 use Rattle.std.proofs.lemmas.Bool.Decides.{nat_tests}
+use Rattle.std.proofs.lemmas.List.{length-take-le}
 use Rattle.onfi_request.specs.declared.request.Item.{Item}
 use Rattle.onfi_request.specs.declared.reply.Reply.{Reply}
 use Rattle.onfi_group.specs.Words.{number}
@@ -19,7 +20,7 @@ use Rattle.onfi_core.specs.View.{HasSlot, AreSlots, IsOldestAt, IsOldest, IsLent
 use Rattle.onfi_core.proofs.Bus.{number-append}
 use Rattle.onfi_core.proofs.Few.{replies_few}
 use Rattle.onfi_core.proofs.Hosts.{sound_posted}
-use Rattle.onfi_core.proofs.Lists.{index_get, length_take, drop_next, take_drop}
+use Rattle.onfi_core.proofs.Lists.{cut_there, index_get}
 use Rattle.onfi_core.proofs.Next.{not_posted, was_accepted}
 
 get_below : {A : Type 0} (xs : List A) (i : ℕ) (x : A) → slice_get xs i ≡ Some x → i < length xs
@@ -27,15 +28,11 @@ get_below [] i x h = cc
 get_below (y ∷ xs) zero x h = omega arith
 get_below (y ∷ xs) (suc i) x h = let k = get_below xs i x h in omega arith
 
--- what stands at a place, and around it
-parted : {A : Type 0} (xs : List A) (i : ℕ) (x : A) → slice_get xs i ≡ Some x → xs ≡ take i xs ++ x ∷ drop (i + 1) xs
-parted xs i x h = sym (take_drop i xs) ∙ ap (λ zs. take i xs ++ zs) (drop_next xs i x h)
-
 pub oldest_is : (host at : ℕ) (held kept : List Reply) (r : Reply) → (o : IsOldestAt host kept at) → kept ≡ held → r ≡ o.reply → IsOldest host held r
 oldest_is host at held kept r o same is = record {
   before = take at kept;
   behind = drop (at + 1) kept;
-  is = sym same ∙ parted kept at r (o.there ∙ ap Some (sym is));
+  is = sym same ∙ cut_there kept at r (o.there ∙ ap Some (sym is));
   own = ap (λ (x : Reply). x.host) is ∙ o.own;
   none = o.before;
 }
@@ -63,7 +60,7 @@ fields_lent s slots n room room' kept kept' h lent lent' host at r accepted' hel
       count = f.count;
       numbered = f.numbered;
       room_is = f.room_is;
-      lending = (r, take at kept, drop (at + 1) kept, refl, sym f.lending.1 ∙ parted kept at r there, k, length_take at kept (omega arith), refl, none);
+      lending = (r, take at kept, drop (at + 1) kept, refl, sym f.lending.1 ∙ cut_there kept at r there, k, length-take-le at kept (omega arith), refl, none);
       sound = f.sound;
     })
 

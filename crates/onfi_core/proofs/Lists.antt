@@ -1,20 +1,13 @@
 -- Lists and their places.
-use Rattle.std.proofs.Common.{◌≡◌, ℕ, zero, suc, ◌+◌, ◌≤◌, inl, inr, List, [], ◌∷◌, ◌++◌, length, Some, take, drop, refl, ap, arith}
-use Rattle.std.specs.Prelude.{slice_get, slice_index_or, map}
+use Rattle.std.proofs.Common.{◌≡◌, ℕ, zero, suc, ◌+◌, ◌≤◌, inl, inr, List, [], ◌∷◌, ◌++◌, length, Some, take, drop, refl, sym, ap, ◌∙◌, arith}
+use Rattle.std.specs.Prelude.{slice_get, slice_index_or}
 use Rattle.std.specs.List.{AllByRecursion as All}
+use Rattle.std.proofs.lemmas.List.{take-append-drop}
 use Rattle.onfi_group.specs.Words.{Has}
 
 pub get_at_length : {A : Type 0} (xs : List A) (x : A) (ys : List A) → slice_get (xs ++ x ∷ ys) (length xs) ≡ Some x
 get_at_length [] x ys = refl
 get_at_length (y ∷ xs) x ys = get_at_length xs x ys
-
-pub take_at_length : {A : Type 0} (xs ys : List A) → take (length xs) (xs ++ ys) ≡ xs
-take_at_length [] ys = refl
-take_at_length (y ∷ xs) ys = ap (λ zs. y ∷ zs) (take_at_length xs ys)
-
-pub map_append : {A B : Type 0} (f : A → B) (xs ys : List A) → map f (xs ++ ys) ≡ map f xs ++ map f ys
-map_append f [] ys = refl
-map_append f (x ∷ xs) ys = ap (λ zs. f x ∷ zs) (map_append f xs ys)
 
 pub index_at_length : {A : Type 0} (xs : List A) (x : A) (ys : List A) (d : A) → slice_index_or (xs ++ x ∷ ys) (length xs) d ≡ x
 index_at_length [] x ys d = refl
@@ -51,43 +44,13 @@ drop_suc (y ∷ xs) (suc i) x h = drop_suc xs i x h
 pub drop_next : {A : Type 0} (xs : List A) (i : ℕ) (x : A) → slice_get xs i ≡ Some x → drop i xs ≡ x ∷ drop (i + 1) xs
 drop_next xs i x h = let e : i + 1 ≡ suc i = omega arith in rw e (drop_suc xs i x h)
 
-pub take_whole : {A : Type 0} (xs : List A) (n : ℕ) → n ≡ length xs → take n xs ≡ xs
-take_whole [] n h = rw h refl
-take_whole (x ∷ xs) zero h = absurd (omega arith)
-take_whole (x ∷ xs) (suc n) h = ap (λ zs. x ∷ zs) (take_whole xs n (omega arith))
-
-pub drop_all : {A : Type 0} (xs : List A) (n : ℕ) → length xs ≤ n → drop n xs ≡ []
-drop_all [] zero h = refl
-drop_all [] (suc n) h = refl
-drop_all (x ∷ xs) zero h = absurd (omega arith)
-drop_all (x ∷ xs) (suc n) h = drop_all xs n (omega arith)
+pub cut_there : {A : Type 0} (xs : List A) (i : ℕ) (x : A) → slice_get xs i ≡ Some x → xs ≡ take i xs ++ x ∷ drop (i + 1) xs
+cut_there xs i x h = sym (take-append-drop i xs) ∙ ap (λ zs. take i xs ++ zs) (drop_next xs i x h)
 
 pub get_has : {A : Type 0} (xs : List A) (i : ℕ) (x : A) → slice_get xs i ≡ Some x → Has xs x
 get_has [] i x h = cc
 get_has (y ∷ xs) zero x h = let e : y ≡ x = cc in inl e
 get_has (y ∷ xs) (suc i) x h = inr (get_has xs i x h)
-
-pub take_drop : {A : Type 0} (n : ℕ) (xs : List A) → take n xs ++ drop n xs ≡ xs
-take_drop zero [] = refl
-take_drop zero (x ∷ xs) = refl
-take_drop (suc n) [] = refl
-take_drop (suc n) (x ∷ xs) = ap (λ zs. x ∷ zs) (take_drop n xs)
-
-pub drop_twice : {A : Type 0} (n k : ℕ) (xs : List A) → drop k (drop n xs) ≡ drop (n + k) xs
-drop_twice zero k xs = let e : 0 + k ≡ k = omega arith in rw e refl
-drop_twice (suc n) zero [] = let e : suc n + 0 ≡ suc n = omega arith in rw e refl
-drop_twice (suc n) (suc k) [] = let e : suc n + suc k ≡ suc (suc (n + k)) = omega arith in rw e refl
-drop_twice (suc n) k (x ∷ xs) = let e : suc n + k ≡ suc (n + k) = omega arith in rw e (drop_twice n k xs)
-
-pub length_take : {A : Type 0} (n : ℕ) (xs : List A) → n ≤ length xs → length (take n xs) ≡ n
-length_take zero xs h = refl
-length_take (suc n) [] h = absurd (omega arith)
-length_take (suc n) (x ∷ xs) h = ap suc (length_take n xs (omega arith))
-
-pub drop_more : {A : Type 0} (n : ℕ) (xs ys : List A) → n ≤ length xs → drop n (xs ++ ys) ≡ drop n xs ++ ys
-drop_more zero xs ys h = refl
-drop_more (suc n) [] ys h = absurd (omega arith)
-drop_more (suc n) (x ∷ xs) ys h = drop_more n xs ys (omega arith)
 
 pub length_least : {A : Type 0} (m : ℕ) (xs : List A) → length (take m xs) ≤ length xs
 length_least zero xs = omega arith

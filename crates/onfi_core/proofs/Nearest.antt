@@ -2,6 +2,7 @@
 use Rattle.std.proofs.Common.{◌≡◌, ℕ, zero, suc, ◌+◌, ◌-◌, ◌<◌, ◌≤◌, ◌⊎◌, inl, inr, true, false, List, [], ◌∷◌, ◌++◌, length, Option, Some, None, drop, refl, sym, ap, ◌∙◌, subst, append_assoc, append-nil, arith}
 use Rattle.std.specs.Prelude.{slice_get, ◌==◌, min}
 use Rattle.std.proofs.lemmas.Bool.{lt-ltb, le-ltb, cases_lt, eq-eqb, ne_eqb}
+use Rattle.std.proofs.lemmas.List.{drop_all}
 use Rattle.onfi_request.specs.declared.request.Item.{Item}
 use Rattle.onfi_request.specs.declared.reply.Reply.{Reply}
 use Rattle.onfi_group.specs.Words.{number}
@@ -11,7 +12,7 @@ use Rattle.onfi_core.specs.declared.slot.Slot.{Slot}
 use Rattle.onfi_core.specs.Kept.{is_of_place}
 use Rattle.onfi_core.specs.Unanswered.{senders_from, nearer, IsNearest}
 use Rattle.onfi_core.specs.View.{AreSlots, HasSlot}
-use Rattle.onfi_core.proofs.Lists.{drop_next, drop_all}
+use Rattle.onfi_core.proofs.Lists.{drop_next}
 
 next_cases : (at n : ℕ) → at < n + 1 → (at < n) ⊎ (at ≡ n)
 next_cases at n h = grind arith
@@ -136,5 +137,5 @@ no_more accepted posted slots a from done all within near so =
     let n = length accepted - from in
     let e : from + n ≡ length accepted = omega arith in
     let p = passed accepted posted slots a n from (omega arith) (λ key slot k at above. absurd (let z = near key slot k at in omega arith)) in
-    let z : senders_from posted from (drop from accepted) ≡ [] = p ∙ (rw (drop_all accepted (from + n) (omega arith)) refl) in
+    let z : senders_from posted from (drop from accepted) ≡ [] = p ∙ (rw (drop_all (from + n) accepted (omega arith)) refl) in
     sym (append-nil done) ∙ ap (λ zs. done ++ zs) (sym z) ∙ so

@@ -3,6 +3,7 @@ use Rattle.std.proofs.Common.{◌≡◌, ◌≢◌, ℕ, ◌+◌, ◌*◌, ◌-�
 use Rattle.std.specs.Prelude.{slice_get, slice_set, map, ◌==◌}
 use Rattle.std.specs.List.{AllByRecursion as All}
 use Rattle.std.proofs.lemmas.Bool.{lt-ltb, le-ltb, cases_lt, eq-eqb, ne_eqb}
+use Rattle.std.proofs.lemmas.List.{drop_all, map-append, take_all}
 use Rattle.onfi_timing.specs.Kinds.{spans_of}
 use Rattle.onfi_timing.specs.Phases.{phase_length}
 use Rattle.onfi_timing.specs.declared.spans.Spans.{Spans}
@@ -36,7 +37,7 @@ use Rattle.onfi_core.specs.State.{HalfState, wants_from, request_of, device_for}
 use Rattle.onfi_core.specs.Steps.{unplanned, reply_to, Commands, Launches, Posts}
 use Rattle.onfi_core.specs.declared.setup.Setup.{Setup}
 use Rattle.onfi_core.proofs.Going.{Going, OnLun, ready_after, front, none_elsewhere}
-use Rattle.onfi_core.proofs.Lists.{drop_all, drop_next, get_has, head_same, map_append, tail_same, take_next, take_whole}
+use Rattle.onfi_core.proofs.Lists.{drop_next, get_has, head_same, tail_same, take_next}
 use Rattle.onfi_core.proofs.Members.{item_of, place_lun, place_kind, runs-append, posts_alone, requests_of_on, members_apart, own_block, front_answer}
 
 swap_front : {A : Type 0} (c w c' w' u : List A) → c ++ w ≡ c' ++ w' → c ++ (w ++ u) ≡ c' ++ (w' ++ u)
@@ -140,7 +141,7 @@ module _ (s : Setup) (h : HalfState) (timing : h.now.timing ≡ s.timing) (chip 
       let r = requests_of_on s h j b g going.members in
       record {
         ran = old.ran ++ on j b g;
-        contents = rw (d, e) (own ∙ ap (λ rs. runs (device_for s chip) rs (chip.blocks j b)) r ∙ ap (runs (device_for s chip) (map (request_of h.accepted) (on j b g))) old.contents ∙ sym (runs-append (device_for s chip) (map (request_of h.accepted) old.ran) (map (request_of h.accepted) (on j b g)) (fresh (device_for s chip))) ∙ ap (λ rs. runs (device_for s chip) rs (fresh (device_for s chip))) (sym (map_append (request_of h.accepted) old.ran (on j b g))));
+        contents = rw (d, e) (own ∙ ap (λ rs. runs (device_for s chip) rs (chip.blocks j b)) r ∙ ap (runs (device_for s chip) (map (request_of h.accepted) (on j b g))) old.contents ∙ sym (runs-append (device_for s chip) (map (request_of h.accepted) old.ran) (map (request_of h.accepted) (on j b g)) (fresh (device_for s chip))) ∙ ap (λ rs. runs (device_for s chip) rs (fresh (device_for s chip))) (sym (map-append (request_of h.accepted) old.ran (on j b g))));
         order = elim (same_place j l) [
           | inl i ↦ subst (λ i. Order ((agrees.blocks i b).ran ++ on i b g) i b) (sym i) (order_launched b q)
           | inr i ↦ (let z = none_elsewhere g l j b (subst (λ i. All (λ (m : Want). m.lun ≡ i) g) going.is_lun going.group.lun) i in rw (z, append-nil old.ran) (order_other j b i))
@@ -184,7 +185,7 @@ module _ (s : Setup) (h : HalfState) (timing : h.now.timing ≡ s.timing) (chip 
 
   -- the commands with the member's
   with_member : (m : Want) → slice_get g n ≡ Some m → n < length g → taken (slice_get chip.luns l) ++ request_of h.accepted m ∷ [] ≡ map (request_of h.accepted) (take (n + 1) g)
-  with_member m at lt = ap (λ rs. rs ++ request_of h.accepted m ∷ []) (lane.commands lt) ∙ sym (map_append (request_of h.accepted) (take n g) (m ∷ [])) ∙ ap (map (request_of h.accepted)) (sym (take_next g n m at))
+  with_member m at lt = ap (λ rs. rs ++ request_of h.accepted m ∷ []) (lane.commands lt) ∙ sym (map-append (request_of h.accepted) (take n g) (m ∷ [])) ∙ ap (map (request_of h.accepted)) (sym (take_next g n m at))
 
   -- a member's phases have the lengths of its group
   spans_are : (m : Want) → Has g m → spans_of chip.timing (request_of h.accepted m).kind ≡ group_spans h.now.timing g
@@ -240,7 +241,7 @@ module _ (s : Setup) (h : HalfState) (timing : h.now.timing ≡ s.timing) (chip 
       let d = c.done.state in
       let faults = ap (λ (x : Chip). device_for s x) d in
       let own : device_in chip ≡ device_for s chip = ap (λ g. device_of g chip.faults) agrees.geometry in
-      let group : taken (slice_get chip.luns l) ++ r ∷ [] ≡ map (request_of h.accepted) g = with_member m c.is lt ∙ ap (map (request_of h.accepted)) (take_whole g (n + 1) last) in
+      let group : taken (slice_get chip.luns l) ++ r ∷ [] ≡ map (request_of h.accepted) g = with_member m c.is lt ∙ ap (map (request_of h.accepted)) (take_all (n + 1) g (omega (arith, last))) in
       let group' : group_with chip r ≡ map (request_of h.accepted) g = ap (λ i. taken (slice_get chip.luns i) ++ r ∷ []) ml ∙ group in
       let blocks : chip'.blocks ≡ happen (device_for s chip) (map (request_of h.accepted) g) chip.blocks =
       ap (λ (x : Chip). x.blocks) d ∙ ap (λ v. happen v (group_with chip r) chip.blocks) own ∙ ap (λ rs. happen (device_for s chip) rs chip.blocks) group' in
@@ -317,6 +318,6 @@ module _ (s : Setup) (h : HalfState) (timing : h.now.timing ≡ s.timing) (chip 
         luns = luns_agree chip' _ faults luns
             (elim (cases_lt (n + 1) (2 * length g)) [
               | inl lt ↦ (let r = runs_here lt in rw r (inr (omega arith, ap Some (posting_goes_on c.others le lt q))))
-              | inr ge ↦ (let r = done_here ge in let z : c.others ≡ [] = q ∙ ap (map (post_for (device_for s chip) h.accepted)) (drop_all g (n - length g + 1) (omega arith)) in rw (r, z) refl)
+              | inr ge ↦ (let r = done_here ge in let z : c.others ≡ [] = q ∙ ap (map (post_for (device_for s chip) h.accepted)) (drop_all (n - length g + 1) g (omega arith)) in rw (r, z) refl)
             ]);
       }

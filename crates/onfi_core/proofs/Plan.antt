@@ -3,6 +3,7 @@ use Rattle.std.proofs.Common.{◌≡◌, ℕ, zero, suc, ◌+◌, ◌-◌, ◌<�
 use Rattle.std.specs.Prelude.{slice_get, ◌%◌, ◌^◌}
 use Rattle.std.specs.List.{AllByRecursion as All}
 use Rattle.std.proofs.Math.Nat.{mod-lt}
+use Rattle.std.proofs.lemmas.List.{drop-drop, length-take-le, take-append-drop}
 use Rattle.std.proofs.lemmas.List.Elements.{filter-append}
 use Rattle.onfi_addr.specs.Rows.{plane_of_block}
 use Rattle.onfi_timing.specs.declared.kind.Kind.{Kind}
@@ -19,7 +20,7 @@ use Rattle.onfi_core.specs.State.{HalfState, ChannelState, Planning, want_of, wa
 use Rattle.onfi_core.specs.Steps.{unplanned, taken_next, next_problem, planned_by, Plans}
 use Rattle.onfi_core.specs.declared.setup.Setup.{Setup}
 use Rattle.onfi_core.proofs.Bus.{number-append}
-use Rattle.onfi_core.proofs.Lists.{All-drop, drop_twice, length_least, length_take, take_drop}
+use Rattle.onfi_core.proofs.Lists.{All-drop, length_least}
 use Rattle.onfi_core.proofs.Numbered.{length_wants, split_at, taken_are, not_below, numbers_rise, Rising-append}
 
 -- an item in range is a want of a problem
@@ -72,7 +73,7 @@ module _ (s : Setup) (h : HalfState) (half : IsSound s h) where
   pub new_wants : All (IsTaken s (h.planned + length (taken_next s h)) h.accepted) (h.now.wants ++ taken_next s h)
   new_wants = All-append (IsTaken s (h.planned + length (taken_next s h)) h.accepted) h.now.wants (taken_next s h)
       (All-weaker _ _ weaker h.now.wants half.wants)
-      (taken_are s h.accepted h.planned (h.batch - length h.now.wants) (h.planned + length (taken_next s h)) (take h.planned h.accepted) (drop h.planned h.accepted) (sym (take_drop h.planned h.accepted)) (sym (length_take h.planned h.accepted half.planned)) refl)
+      (taken_are s h.accepted h.planned (h.batch - length h.now.wants) (h.planned + length (taken_next s h)) (take h.planned h.accepted) (drop h.planned h.accepted) (sym (take-append-drop h.planned h.accepted)) (sym (length-take-le h.planned h.accepted half.planned)) refl)
 
   pub next_is_problem : IsProblem (next_problem s h)
   next_is_problem = record {
@@ -111,7 +112,7 @@ module _ (s : Setup) (h : HalfState) (half : IsSound s h) (plan : Planning) (pla
   unplanned_splits : unplanned s h ≡ taken_next s h ++ unplanned s (planned_by h (length (taken_next s h)) plan)
   unplanned_splits =
       split_at s.geometry h.planned (h.batch - length h.now.wants) (drop h.planned h.accepted)
-      ∙ ap (λ xs. taken_next s h ++ wants_from s.geometry (h.planned + length (taken_next s h)) xs) (drop_twice h.planned (length (taken_next s h)) h.accepted)
+      ∙ ap (λ xs. taken_next s h ++ wants_from s.geometry (h.planned + length (taken_next s h)) xs) (drop-drop (length (taken_next s h)) h.planned h.accepted)
 
   few : h.planned + length (taken_next s h) ≤ length h.accepted
   few =

@@ -2,9 +2,10 @@ use Rattle.std.proofs.Common.{◌≡◌, ◌<◌, length, drop, Some, refl, ap, 
 use Rattle.std.specs.Prelude.{slice_get}
 use Rattle.std.proofs.lemmas.Option.{slice_get_read}
 use Rattle.onfi_group.specs.Group.{lun_of}
+use Rattle.onfi_problem.proofs.Lists.{map_get}
 use Rattle.onfi_problem.specs.Moves.{without}
+use Rattle.onfi_schedule.specs.Schedule.{Placed}
 use Rattle.onfi_core.specs.declared.starting.Turn.TheVariants as turn
-use Rattle.onfi_core.proofs.Dues.{map_get}
 use Rattle.onfi_core.proofs.Becoming.{first_is_due, within_groups, turn_inside, due_outside, starts_then, length_is, sum_is}
 use Rattle.onfi_core.proofs.half.Half.first_due.Goals as goal
 
@@ -21,7 +22,7 @@ returns c =
     let kind = rw m at c.kind.ensures in
     let len = rw m at c.len.ensures.value in
     let after = rw m at c.lun_after.ensures in
-    let start = starts_then _ at c.args.first.time is.0.0 _ _ is.0.1 (map_get groups at g there) (c.as_slice.ensures.value ∙ c.starts.ensures) in
+    let start = starts_then _ at c.args.first.time is.0.0 _ _ is.0.1 (map_get (λ (x : Placed). x.starts) groups at g there) (c.as_slice.ensures.value ∙ c.starts.ensures) in
     let span = length_is c.self.inside.setup.timing _ _ g.members _ _ 0 _ c.phase_length.ensures.length c.spans-spans.ensures kind len refl in
     due_outside _ _ _ c.self.view_is
     (first_is_due c.self.inside.setup _ sound c.args.first is g there _ start (c.copy.ensures ∙ m) refl (c.lun.ensures ∙ ap lun_of m) (sum_is _ _ _ _ start span)
