@@ -14,7 +14,7 @@ use crate::drive::{DriveFault, drive};
 use crate::due::Due;
 use crate::event::Event;
 use crate::half::{AcceptFault, DueRefusal, Half, PlanRefusal};
-use crate::host_queue::HostQueue;
+use crate::host_queue::{HostQueue, host_queues};
 use crate::outcome::{Cause, Outcome};
 use crate::setup::Setup;
 use crate::traffic::Traffic;
@@ -26,9 +26,6 @@ use onfi_request::{Item, Request, RequestFault, check};
 use std::alloc::{AllocError, Global};
 use std::collections::VecDeque;
 use std::marker::Model;
-
-/// A host sends at most this many items to a channel.
-const SERIALS: u64 = 1 << 32;
 
 /// One channel of a core.
 #[derive(Drop)]
@@ -99,21 +96,19 @@ impl<C: Chip> Channel<C> {
         if let Some(fault) = fault_of(&setup.geometry, &request) {
             return Outcome::Refused(fault, request);
         }
-        let sent = self.hosts[at].sent;
-        if sent >= SERIALS {
+        let Some(serial) = self.hosts[at].next_serial() else {
             return Outcome::SerialsSpent(request);
-        }
+        };
         if self.waiting.len() >= usize::from(setup.submit_cap) {
             return Outcome::SubmitFull(request);
         }
-        let serial = sent as u32;
         let item = Item {
             host,
             serial,
             request,
         };
         self.traffic = self.traffic.sending(&item);
-        self.hosts[at].sent = sent + 1;
+        self.hosts[at].sent += 1;
         self.waiting.push_back_reserved(item);
         Outcome::Submitted { serial }
     }
@@ -276,21 +271,6 @@ fn planned_outcome(planned: Result<u64, PlanRefusal>) -> Outcome
         Err(PlanRefusal::Over { opened }) => Outcome::Over { opened },
         Err(PlanRefusal::Memory) => Outcome::Memory(None),
     }
-}
-
-// So many hosts that sent nothing, with room for so many replies each.
-fn host_queues(alloc: Global, count: u8, room: u16) -> Result<Vec<HostQueue>, AllocError>
-    ensures count { IfOk result (λ hosts. length hosts.items ≡ count) }
-    ensures empty { IfOk result (λ hosts. Each (IsEmptyQueue room) hosts.items) }
-{
-    let mut hosts = Vec::with_capacity(alloc, usize::from(count))?;
-    for _host in 0..count {
-        hosts.push(HostQueue {
-            sent: 0,
-            completions: VecDeque::with_capacity(alloc, usize::from(room))?,
-        })?;
-    }
-    Ok(hosts)
 }
 
 // The first fault of a request, if it has one.

@@ -1,5 +1,6 @@
 ghost use Rattle.std.specs.Prelude.{◌≡◌, length, None, IfOk};
 
+use crate::host_queue::HostQueue;
 use crate::{AcceptFault, Cause, DueRefusal, Half, PlanRefusal, Ran, Setup, SetupFault};
 use onfi_addr::{Geometry, Place};
 use onfi_group::Rules;
@@ -8,6 +9,7 @@ use onfi_problem::LunState;
 use onfi_request::{Answer, Bytes, Item, Request, check};
 use onfi_timing::{Kind, Spans, Timing};
 use std::alloc::{AllocError, Global};
+use std::collections::VecDeque;
 use std::process::Abort;
 
 fn crc_of_front(page: &[u8]) -> u16
@@ -100,6 +102,21 @@ fn each_number_of_a_setup_has_its_range(rt: HostRuntime) {
         assert!(rt; setup == Err(fault));
     }
     assert!(rt; Setup::new(geometry, timing, rules, 4, 4, 8, 1024, 1024, 1_048_576).is_ok());
+}
+
+#[test]
+fn a_host_has_2_to_the_32_serials(rt: HostRuntime) {
+    for (sent, serial) in [
+        (0, Some(0)),
+        (4_294_967_295, Some(u32::MAX)),
+        (4_294_967_296, None),
+    ] {
+        let queue = HostQueue {
+            sent,
+            completions: VecDeque::new(rt.alloc()),
+        };
+        assert_eq!(rt; queue.next_serial(), serial);
+    }
 }
 
 #[test]

@@ -1,7 +1,7 @@
 use Rattle.std.proofs.Common.{◌≡◌, length}
 use Rattle.std.specs.List.{AllByRecursion as Each}
 use Rattle.onfi_core.specs.Queues.{IsEmptyQueue}
-use Rattle.onfi_core.proofs.channel.host_queues.Given as goal
+use Rattle.onfi_core.proofs.host_queue.host_queues.Given as goal
 
 abbrev pub invariant-loop-host : goal.invariant-loop-host
 invariant-loop-host l = record {
