@@ -1,16 +1,18 @@
 ghost use Rattle.std.specs.Prelude.{◌≡◌, ◌<◌, IfOk};
+ghost use Rattle.onfi_chip.specs.SimChip.{chip_in};
+ghost use Rattle.onfi_core.specs.Queues.{IsFresh};
 
 use crate::tests::{sample_geometry, sample_timing};
 use crate::{Cause, Core, CoreFault, Event, Outcome, Setup};
 use onfi_addr::{Geometry, Place};
-use onfi_chip::SimChip;
+use onfi_chip::{Chip, ChipFault, Closer, SimChip};
 use onfi_group::Rules;
 use onfi_request::{Answer, Bytes, Request, RequestFault};
-use onfi_timing::Kind;
+use onfi_timing::{Kind, Spans, Timing};
 use std::alloc::{AllocError, Global};
 use std::process::Abort;
 
-/// What a test does to channel 0, for host 0.
+/// What a test does to channel 0, for one host.
 #[derive(Clone, Copy, Debug)]
 pub(crate) enum Act {
     Submit(Kind, u8, u16),
@@ -83,24 +85,23 @@ pub(crate) fn named(outcome: &Outcome) -> Told {
     }
 }
 
-pub(crate) fn event_of(alloc: Global, geometry: &Geometry, act: Act) -> Result<Event, AllocError> {
+pub(crate) fn event_of(
+    alloc: Global,
+    geometry: &Geometry,
+    host: u8,
+    act: Act,
+) -> Result<Event, AllocError> {
     Ok(match act {
         Act::Submit(kind, lun, block) => Event::Submit {
-            host: 0,
+            host,
             channel: 0,
             request: request_of(alloc, geometry, kind, lun, block)?,
         },
         Act::Accept => Event::Accept { channel: 0 },
         Act::Plan => Event::Plan { channel: 0 },
         Act::Bus => Event::Bus { channel: 0 },
-        Act::Post => Event::Post {
-            channel: 0,
-            host: 0,
-        },
-        Act::Collect => Event::Collect {
-            channel: 0,
-            host: 0,
-        },
+        Act::Post => Event::Post { channel: 0, host },
+        Act::Collect => Event::Collect { channel: 0, host },
     })
 }
 
@@ -127,24 +128,25 @@ fn request_of(
     })
 }
 
-fn play(
+// Plays a table of events for host 0, each with what it comes to.
+fn play<C: Chip>(
     rt: &impl Abort,
     alloc: Global,
-    core: &mut Core<SimChip>,
+    core: &mut Core<C>,
     geometry: &Geometry,
     table: &[(Act, Told)],
 ) -> Result<(), AllocError>
     ensures { core.new.0 ≡ core.old.0 }
 {
     for (act, want) in table {
-        let event = event_of(alloc, geometry, *act)?;
+        let event = event_of(alloc, geometry, 0, *act)?;
         let outcome = core.step(alloc, event);
         assert_eq!(rt; named(&outcome), *want, "{act:?}");
     }
     Ok(())
 }
 
-/// A core of one channel and one host, whose chip fails at these calls and statuses.
+/// A core of one channel, whose chip fails at these calls and statuses.
 pub(crate) fn open_core(
     rt: &impl Abort,
     alloc: Global,
@@ -155,19 +157,80 @@ pub(crate) fn open_core(
     requires { setup.channels ≡ 1 }
     ensures { IfOk result (λ core. core.0 ≡ setup) }
 {
+    let chip = fresh_chip(alloc, setup, calls, statuses)?;
+    open_with(rt, alloc, setup, chip)
+}
+
+// A chip of the setup that fails at these calls and statuses.
+fn fresh_chip(
+    alloc: Global,
+    setup: Setup,
+    calls: &[u32],
+    statuses: &[u32],
+) -> Result<SimChip, AllocError>
+    ensures { IfOk result (λ chip. IsFresh setup (chip_in chip)) }
+{
     let calls = Vec::from_slice(alloc, calls)?;
     let statuses = Vec::from_slice(alloc, statuses)?;
-    let chip = SimChip::new(
+    SimChip::new(
         alloc,
         setup.geometry,
         setup.timing,
         Vec::new(alloc),
         calls,
         statuses,
-    )?;
+    )
+}
+
+// A core of one channel, with that chip.
+fn open_with<C: Chip + Drop>(
+    rt: &impl Abort,
+    alloc: Global,
+    setup: Setup,
+    chip: C,
+) -> Result<Core<C>, AllocError>
+    requires channel { setup.channels ≡ 1 }
+    requires fresh { IsFresh setup (C.state chip) }
+    ensures { IfOk result (λ core. core.0 ≡ setup) }
+{
     let mut chips = Vec::new(alloc);
     chips.push(chip)?;
     Ok(Core::open(alloc, setup, chips).expect(rt, "one chip"))
+}
+
+/// A chip to which memory is refused at its first command.
+#[derive(Drop)]
+struct Starved {
+    chip: SimChip,
+    refused: bool,
+}
+
+impl Chip for Starved {
+    ghost state = { λ starved. chip_in starved.chip };
+
+    fn command(
+        &mut self,
+        alloc: Global,
+        now: u64,
+        row: u64,
+        opener: Kind,
+        closer: Closer,
+        bytes: &[u8],
+    ) -> Result<(), ChipFault> {
+        if !self.refused {
+            self.refused = true;
+            return Err(ChipFault::Memory);
+        }
+        self.chip.command(alloc, now, row, opener, closer, bytes)
+    }
+
+    fn data_out(&mut self, now: u64, row: u64, out: &mut [u8]) -> Result<(), ChipFault> {
+        self.chip.data_out(now, row, out)
+    }
+
+    fn status(&mut self, now: u64, row: u64) -> Result<u8, ChipFault> {
+        self.chip.status(now, row)
+    }
 }
 
 #[test]
@@ -199,16 +262,32 @@ fn reads_of_one_host_one_after_another(rt: HostRuntime) -> Result<(), AllocError
     play(&rt, alloc, &mut core, &geometry, &first)?;
     let outcome = core.step(alloc, Event::Accept { channel: 1 });
     assert_eq!(rt; named(&outcome), Told::NoSuch);
-    let second = [
-        (read, Told::Submitted(1)),
-        (Act::Accept, Told::Accepted(1)),
-        (Act::Plan, Told::Planned(72_480)),
-        (Act::Bus, Told::Phase(36_240)),
-        (Act::Bus, Told::Phase(61_480)),
-        (Act::Post, Told::Posted(1)),
-        (Act::Collect, Told::Collected(1, 1, Some(0xFF))),
+    for number in 1..10 {
+        one_read(&rt, alloc, &mut core, &geometry, number)?;
+    }
+    Ok(())
+}
+
+// Of reads that come one after another, the one of that number, from its submission until it is collected.
+fn one_read(
+    rt: &impl Abort,
+    alloc: Global,
+    core: &mut Core<SimChip>,
+    geometry: &Geometry,
+    number: u32,
+) -> Result<(), AllocError> {
+    let place = u64::from(number);
+    let start = 36_240 * place;
+    let table = [
+        (Act::Submit(Kind::Read, 0, 0), Told::Submitted(number)),
+        (Act::Accept, Told::Accepted(place)),
+        (Act::Plan, Told::Planned(start + 36_240)),
+        (Act::Bus, Told::Phase(start)),
+        (Act::Bus, Told::Phase(start + 25_240)),
+        (Act::Post, Told::Posted(place)),
+        (Act::Collect, Told::Collected(place, number, Some(0xFF))),
     ];
-    play(&rt, alloc, &mut core, &geometry, &second)
+    play(rt, alloc, core, geometry, &table)
 }
 
 #[test]
@@ -328,9 +407,9 @@ fn a_list_of_events_is_run(rt: HostRuntime) -> Result<(), AllocError> {
         Act::Bus,
         Act::Post,
     ] {
-        events.push(event_of(alloc, &geometry, act)?)?;
+        events.push(event_of(alloc, &geometry, 0, act)?)?;
     }
-    events.push(event_of(alloc, &geometry, Act::Submit(Kind::Read, 7, 3))?)?;
+    events.push(event_of(alloc, &geometry, 0, Act::Submit(Kind::Read, 7, 3))?)?;
     let outcomes = core.run(alloc, events)?;
     let wants = [
         Told::Submitted(0),
@@ -439,4 +518,71 @@ fn a_program_of_a_written_page_fails(rt: HostRuntime) -> Result<(), AllocError> 
         play(&rt, alloc, &mut core, &geometry, &table)?;
     }
     Ok(())
+}
+
+#[test]
+fn memory_that_is_refused_changes_nothing(rt: HostRuntime) -> Result<(), AllocError> {
+    let alloc = rt.alloc();
+    let geometry = sample_geometry(&rt);
+    let rules = Rules::new(true, true, false, 1);
+    let setup = Setup::new(geometry, sample_timing(&rt), rules, 1, 1, 8, 1, 1, 1_000).expect(
+        &rt, "in range",
+    );
+    let chip = Starved {
+        chip: fresh_chip(alloc, setup, &[], &[])?,
+        refused: false,
+    };
+    let mut core = open_with(&rt, alloc, setup, chip)?;
+    let table = [
+        (Act::Submit(Kind::Program, 0, 4), Told::Submitted(0)),
+        (Act::Accept, Told::Accepted(0)),
+        (Act::Plan, Told::Planned(211_180)),
+        (Act::Bus, Told::Memory),
+        (Act::Bus, Told::Phase(0)),
+        (Act::Bus, Told::Phase(210_900)),
+        (Act::Post, Told::Posted(0)),
+        (Act::Collect, Told::Collected(0, 0, None)),
+    ];
+    play(&rt, alloc, &mut core, &geometry, &table)
+}
+
+#[test]
+fn a_spent_clock_stops_its_channel(rt: HostRuntime) -> Result<(), AllocError> {
+    let alloc = rt.alloc();
+    let geometry = sample_geometry(&rt);
+    // The longest phases and waits: 1,365 erases end before 2^62 ns, one more would not.
+    let longest = (1u64 << 50) - 1;
+    let spans = Spans::new(longest, 0, longest, longest).expect(&rt, "in range");
+    let timing = Timing::new(spans, spans, spans);
+    let rules = Rules::new(true, true, false, 1);
+    let setup = Setup::new(geometry, timing, rules, 1, 1, 8, 1, 1, 1_000).expect(&rt, "in range");
+    let erase = Act::Submit(Kind::Erase, 0, 0);
+    let mut core = open_core(&rt, alloc, setup, &[], &[])?;
+    for number in 0..1_365u32 {
+        let start = 3 * longest * u64::from(number);
+        let table = [
+            (erase, Told::Submitted(number)),
+            (Act::Accept, Told::Accepted(u64::from(number))),
+            (Act::Plan, Told::Planned(start + 3 * longest)),
+            (Act::Bus, Told::Phase(start)),
+            (Act::Bus, Told::Phase(start + 2 * longest)),
+            (Act::Post, Told::Posted(u64::from(number))),
+            (
+                Act::Collect,
+                Told::Collected(u64::from(number), number, None),
+            ),
+        ];
+        play(&rt, alloc, &mut core, &geometry, &table)?;
+    }
+    let stopped = Told::Stopped(Cause::Clock);
+    let table = [
+        (erase, Told::Submitted(1_365)),
+        (Act::Accept, Told::Accepted(1_365)),
+        (Act::Plan, stopped),
+        (Act::Plan, stopped),
+        (Act::Bus, stopped),
+        (Act::Accept, stopped),
+        (Act::Post, Told::NothingToPost),
+    ];
+    play(&rt, alloc, &mut core, &geometry, &table)
 }

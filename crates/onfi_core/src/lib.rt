@@ -38,6 +38,8 @@ pub use setup::{Setup, SetupFault};
 #[cfg(test)]
 mod core_tests;
 #[cfg(test)]
+mod plain;
+#[cfg(test)]
 mod plain_tests;
 #[cfg(test)]
 mod tests;
