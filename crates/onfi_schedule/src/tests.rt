@@ -12,6 +12,9 @@ type WantRow = (Kind, u8, u16, u16);
 // The first want of a group and the one behind its last, and the starts.
 type GroupRow = (usize, usize, &'static [u64]);
 
+// What a LUN does at first: it is free since a time, or runs the operation of a want that is ready at a time.
+type LunRow = (Option<WantRow>, u64);
+
 // What is tried, on which wants, with which rest and groups, and when that ends if it is legal.
 type Case = (
     &'static str,
@@ -50,10 +53,6 @@ fn wants_of(alloc: Global, rows: &[WantRow]) -> Result<Vec<Want>, AllocError> {
     Ok(wants)
 }
 
-fn free() -> [LunState; 2] {
-    [LunState::Free { since: 0 }, LunState::Free { since: 0 }]
-}
-
 // A LUN on which the command of an operation is over.
 fn running(alloc: Global, row: WantRow, ready: u64) -> LunState {
     LunState::Running {
@@ -61,6 +60,18 @@ fn running(alloc: Global, row: WantRow, ready: u64) -> LunState {
         next: 1,
         ready,
     }
+}
+
+fn luns_of(alloc: Global, rows: &[LunRow]) -> Result<Vec<LunState>, AllocError> {
+    let mut luns = Vec::new(alloc);
+    for (row, time) in rows {
+        let lun = match row {
+            None => LunState::Free { since: *time },
+            Some(row) => running(alloc, *row, *time),
+        };
+        luns.push(lun)?;
+    }
+    Ok(luns)
 }
 
 fn starts_of(alloc: Global, times: &[u64]) -> Starts {
@@ -100,11 +111,13 @@ fn first_wrong(
     timing: Timing,
     rules: Rules,
     bus_free: u64,
-    luns: &[LunState],
+    luns: &[LunRow],
     cases: &[Case],
 ) -> Result<Option<&'static str>, Fail> {
+    let luns = luns_of(alloc, luns)?;
     for (name, rows, rest, groups, finish) in cases {
         let wants = wants_of(alloc, rows)?;
+        let luns = luns.as_slice();
         let begun = Problem::new(alloc, timing, rules, bus_free, luns, wants.as_slice())?;
         let planned = schedule(alloc, wants.as_slice(), rest, groups)?;
         if finish_if_legal(&begun, &planned) != *finish {
@@ -121,6 +134,8 @@ fn finish_if_legal(problem: &Problem, schedule: &Schedule) -> Option<u64> {
         None
     }
 }
+
+const FREE: [LunRow; 2] = [(None, 0), (None, 0)];
 
 const READ: WantRow = (Kind::Read, 0, 0, 0);
 
@@ -252,7 +267,7 @@ const FREE_LUNS: [Case; 16] = [
 #[test]
 fn on_free_luns(rt: HostRuntime) -> Result<(), Fail> {
     let rules = Rules::new(true, true, false, 1);
-    let wrong = first_wrong(rt.alloc(), timing(600)?, rules, 0, &free(), &FREE_LUNS)?;
+    let wrong = first_wrong(rt.alloc(), timing(600)?, rules, 0, &FREE, &FREE_LUNS)?;
     assert_eq!(rt; wrong, None);
     Ok(())
 }
@@ -300,7 +315,7 @@ const ODD_SHAPES: [Case; 7] = [
 #[test]
 fn each_want_once_and_each_phase_once(rt: HostRuntime) -> Result<(), Fail> {
     let rules = Rules::new(true, true, false, 1);
-    let wrong = first_wrong(rt.alloc(), timing(600)?, rules, 0, &free(), &ODD_SHAPES)?;
+    let wrong = first_wrong(rt.alloc(), timing(600)?, rules, 0, &FREE, &ODD_SHAPES)?;
     assert_eq!(rt; wrong, None);
     Ok(())
 }
@@ -375,21 +390,31 @@ fn by_gap_and_rules(rt: HostRuntime) -> Result<(), Fail> {
     let alloc = rt.alloc();
     let rules = Rules::new(true, true, false, 1);
     assert_eq!(rt;
-        first_wrong(alloc, timing(30100)?, rules, 0, &free(), &LONG_GAP)?,
+        first_wrong(alloc, timing(30100)?, rules, 0, &FREE, &LONG_GAP)?,
         None
     );
     let rules = Rules::new(true, false, false, 1);
-    let wrong = first_wrong(alloc, timing(600)?, rules, 0, &free(), &NO_GROUPED_WRITES)?;
+    let wrong = first_wrong(alloc, timing(600)?, rules, 0, &FREE, &NO_GROUPED_WRITES)?;
     assert_eq!(rt; wrong, None);
     let rules = Rules::new(true, true, true, 1);
     assert_eq!(rt;
-        first_wrong(alloc, timing(600)?, rules, 0, &free(), &STRICT)?,
+        first_wrong(alloc, timing(600)?, rules, 0, &FREE, &STRICT)?,
         None
     );
     Ok(())
 }
 
 const ERASE: WantRow = (Kind::Erase, 1, 1, 0);
+
+const BOTH_RUN: [LunRow; 2] = [(Some(READ), 0), (Some((Kind::Erase, 1, 0, 0)), 50)];
+
+const FIRST_ERASES: [LunRow; 2] = [(Some((Kind::Erase, 0, 0, 0)), 1000), (None, 0)];
+
+const SECOND_ERASES: [LunRow; 2] = [(None, 0), (Some((Kind::Erase, 1, 0, 0)), 100000)];
+
+const FREE_FROM_ONE: [LunRow; 2] = [(None, 1), (None, 0)];
+
+const FREE_FROM_TWO: [LunRow; 2] = [(None, 2), (None, 0)];
 
 // Behind a data output that is due and a status that is due at 50.
 const TWO_RUNNING: [Case; 5] = [
@@ -442,18 +467,12 @@ const STATUS_LATER: [Case; 1] = [(
 fn behind_running_groups(rt: HostRuntime) -> Result<(), Fail> {
     let alloc = rt.alloc();
     let rules = Rules::new(true, true, false, 1);
-    let luns = [
-        running(alloc, READ, 0),
-        running(alloc, (Kind::Erase, 1, 0, 0), 50),
-    ];
     assert_eq!(rt;
-        first_wrong(alloc, timing(600)?, rules, 0, &luns, &TWO_RUNNING)?,
+        first_wrong(alloc, timing(600)?, rules, 0, &BOTH_RUN, &TWO_RUNNING)?,
         None
     );
-    let erasing = running(alloc, (Kind::Erase, 0, 0, 0), 1000);
-    let luns = [erasing, LunState::Free { since: 0 }];
     assert_eq!(rt;
-        first_wrong(alloc, timing(600)?, rules, 0, &luns, &STATUS_LATER)?,
+        first_wrong(alloc, timing(600)?, rules, 0, &FIRST_ERASES, &STATUS_LATER)?,
         None
     );
     Ok(())
@@ -483,33 +502,38 @@ const LATEST: [Case; 1] = [("nothing", &[], &NONE, &[], Some(4611686018427387903
 fn from_when_bus_and_luns_are_free(rt: HostRuntime) -> Result<(), Fail> {
     let alloc = rt.alloc();
     let rules = Rules::new(true, true, false, 1);
-    let luns = [LunState::Free { since: 1 }, LunState::Free { since: 0 }];
     assert_eq!(rt;
-        first_wrong(alloc, timing(600)?, rules, 1, &luns, &FROM_ONE)?,
+        first_wrong(alloc, timing(600)?, rules, 1, &FREE_FROM_ONE, &FROM_ONE)?,
         None
     );
     assert_eq!(rt;
-        first_wrong(alloc, timing(600)?, rules, 2, &luns, &TOO_EARLY)?,
+        first_wrong(alloc, timing(600)?, rules, 2, &FREE_FROM_ONE, &TOO_EARLY)?,
         None
     );
-    let luns = [LunState::Free { since: 2 }, LunState::Free { since: 0 }];
     assert_eq!(rt;
-        first_wrong(alloc, timing(600)?, rules, 0, &luns, &TOO_EARLY)?,
+        first_wrong(alloc, timing(600)?, rules, 0, &FREE_FROM_TWO, &TOO_EARLY)?,
         None
     );
     let latest = 4611686018427387903;
     assert_eq!(rt;
-        first_wrong(alloc, timing(600)?, rules, latest, &free(), &LATEST)?,
+        first_wrong(alloc, timing(600)?, rules, latest, &FREE, &LATEST)?,
         None
     );
-    let erasing = running(alloc, (Kind::Erase, 1, 0, 0), 100000);
-    let luns = [LunState::Free { since: 0 }, erasing];
     assert_eq!(rt;
-        first_wrong(alloc, timing(600)?, rules, 0, &luns, &STATUS_AT_LAST)?,
+        first_wrong(
+            alloc,
+            timing(600)?,
+            rules,
+            0,
+            &SECOND_ERASES,
+            &STATUS_AT_LAST
+        )?,
         None
     );
     Ok(())
 }
+
+const EIGHT_FREE: [LunRow; 8] = [(None, 0); 8];
 
 const ALL_LUNS: [Case; 1] = [(
     "a read on each",
@@ -541,11 +565,7 @@ const ALL_LUNS: [Case; 1] = [(
 fn eight_luns(rt: HostRuntime) -> Result<(), Fail> {
     let alloc = rt.alloc();
     let rules = Rules::new(true, true, false, 1);
-    let mut luns = Vec::new(alloc);
-    for _ in 0..8u8 {
-        luns.push(LunState::Free { since: 0 })?;
-    }
-    let wrong = first_wrong(alloc, timing(600)?, rules, 0, luns.as_slice(), &ALL_LUNS)?;
+    let wrong = first_wrong(alloc, timing(600)?, rules, 0, &EIGHT_FREE, &ALL_LUNS)?;
     assert_eq!(rt; wrong, None);
     Ok(())
 }
@@ -553,14 +573,22 @@ fn eight_luns(rt: HostRuntime) -> Result<(), Fail> {
 // The trace of a schedule, nothing where it is not legal.
 fn traced(
     alloc: Global,
-    luns: &[LunState],
+    luns: &[LunRow],
     rows: &[WantRow],
     rest: &[&[u64]],
     groups: &[GroupRow],
 ) -> Result<Vec<u8>, Fail> {
     let rules = Rules::new(true, true, false, 1);
     let wants = wants_of(alloc, rows)?;
-    let begun = Problem::new(alloc, timing(600)?, rules, 0, luns, wants.as_slice())?;
+    let luns = luns_of(alloc, luns)?;
+    let begun = Problem::new(
+        alloc,
+        timing(600)?,
+        rules,
+        0,
+        luns.as_slice(),
+        wants.as_slice(),
+    )?;
     let planned = schedule(alloc, wants.as_slice(), rest, groups)?;
     if !legal(&begun, &planned) {
         return Ok(Vec::new(alloc));
@@ -585,19 +613,15 @@ fn traces(rt: HostRuntime) -> Result<(), Fail> {
     let alloc = rt.alloc();
     let text = traced(
         alloc,
-        &free(),
+        &FREE,
         &READS,
         &NONE,
         &[(0, 2, &[0, 740, 25980, 36980])],
     )?;
     assert_eq!(rt; text.as_slice(), TWO_READS);
-    let luns = [
-        running(alloc, READ, 0),
-        running(alloc, (Kind::Erase, 1, 0, 0), 50),
-    ];
     let text = traced(
         alloc,
-        &luns,
+        &BOTH_RUN,
         &[ERASE],
         &[&[430], &[50]],
         &[(0, 1, &[330, 1500530])],
@@ -624,7 +648,7 @@ fn traces_of_grouped_writes(rt: HostRuntime) -> Result<(), Fail> {
     let rows = [(Kind::Program, 0, 4, 7), (Kind::Program, 0, 9, 7)];
     let text = traced(
         alloc,
-        &free(),
+        &FREE,
         &rows,
         &NONE,
         &[(0, 2, &[0, 11400, 222300, 222580])],
@@ -633,7 +657,7 @@ fn traces_of_grouped_writes(rt: HostRuntime) -> Result<(), Fail> {
     let rows = [(Kind::Erase, 1, 2, 0), (Kind::Erase, 1, 3, 0)];
     let text = traced(
         alloc,
-        &free(),
+        &FREE,
         &rows,
         &NONE,
         &[(0, 2, &[0, 700, 1500900, 1501180])],
