@@ -5,6 +5,7 @@ use Rattle.std.specs.Result.{is_ok, is_err}
 use Rattle.std.specs.List.{AllByRecursion as All, flat_map}
 use Rattle.std.proofs.lemmas.Bool.{cases_Bool}
 use Rattle.std.proofs.lemmas.Bool.Decides.{nat_tests}
+use Rattle.std.proofs.lemmas.List.{drop_all}
 use Rattle.onfi_addr.specs.declared.geometry.Geometry.{Geometry}
 use Rattle.onfi_timing.specs.declared.timing.Timing.{Timing}
 use Rattle.onfi_request.specs.declared.want.Want.{Want}
@@ -40,7 +41,7 @@ use Rattle.onfi_core.specs.Steps.{unplanned}
 use Rattle.onfi_core.specs.Kept.{IsTaken, IsSound, LunAgrees, commanding, unposted, on, is_of_place}
 use Rattle.onfi_seq.specs.Drive.{starts_left, left_of, half_of, IsDriven, LaneIs, AreFree, NoneLeft, KeptSince, with_reply}
 use Rattle.onfi_seq.specs.Batch.{IsBatchOf, EachReplied, HoldsItems}
-use Rattle.onfi_core.proofs.Lists.{get_at_length, drop_all}
+use Rattle.onfi_core.proofs.Lists.{get_at_length}
 use Rattle.onfi_core.proofs.Cut.{request_at}
 use Rattle.onfi_core.proofs.Promise.{one_each, places_apart}
 use Rattle.onfi_seq.proofs.Turns.{all_done}
@@ -241,7 +242,7 @@ module _ (target : Target) (items : List Item) (p : Problem) (s : Schedule) (fau
   lane_opens lun (Some (Running g n r)) e = absurd (nothing lun g n r e)
 
   none_unplanned : unplanned setup (half_of items now (left_of drive) []) ≡ []
-  none_unplanned = ap (wants_from target.geometry (length items)) (drop_all items (length items) (omega arith))
+  none_unplanned = ap (wants_from target.geometry (length items)) (drop_all (length items) items (omega arith))
 
   chip_timing : chip.timing ≡ target.timing
   chip_timing = ap (λ (c : Chip). c.timing) is ∙ sym timing
@@ -325,7 +326,7 @@ reply_there (r ∷ rs) i h =
 
 module _ (target : Target) (items : List Item) (chip : Chip) (drive : Drive) (replies : List Reply) (driven : IsDriven target items chip drive replies) where
   none_unplanned_of : unplanned driven.setup (half_of items driven.now (left_of drive) replies) ≡ []
-  none_unplanned_of = ap (wants_from driven.setup.geometry (length items)) (drop_all items (length items) (omega arith))
+  none_unplanned_of = ap (wants_from driven.setup.geometry (length items)) (drop_all (length items) items (omega arith))
 
   device_is : (faults : List Fault) → chip.faults ≡ faults → device_for driven.setup chip ≡ device_of target.geometry faults
   device_is faults e = ap (λ (g : Geometry). device_of g chip.faults) driven.geometry ∙ ap (device_of target.geometry) e

@@ -2,6 +2,7 @@
 use Rattle.std.proofs.Common.{◌≡◌, ℕ, zero, suc, ◌+◌, ◌*◌, ◌-◌, ◌<◌, ◌≤◌, ◌^◌, inl, inr, List, [], ◌∷◌, ◌++◌, length, Option, Some, None, map, take, drop, get_or, sym, ap, subst, ◌∙◌, arith}
 use Rattle.std.specs.Prelude.{slice_get, slice_set, max}
 use Rattle.std.specs.List.{AllByRecursion as All}
+use Rattle.std.proofs.lemmas.List.{length-take-le}
 use Rattle.onfi_request.specs.declared.want.Want.{Want}
 use Rattle.onfi_request.specs.declared.request.Item.{Item}
 use Rattle.onfi_request.specs.declared.reply.Reply.{Reply}
@@ -29,7 +30,6 @@ use Rattle.onfi_seq.specs.Phases.{IsOf}
 use Rattle.onfi_core.specs.State.{device_for, request_of}
 use Rattle.onfi_core.specs.Kept.{IsTaken, LunAgrees, post_for}
 use Rattle.onfi_seq.specs.Drive.{starts_left, left_of, half_of, lane_start, IsLeast, IsDriven, LaneIs, StageIs, CanCommand, CanPost, CanAdvance, HasCommanded, HasPosted, LaneBehind, Ran, with_reply, steps_left}
-use Rattle.onfi_core.proofs.Lists.{length_take}
 use Rattle.onfi_seq.proofs.Turns.{first_is, map_get, lane_comes_next}
 use Rattle.onfi_seq.proofs.MayAdvance.{length_map, can_go_on, can_post}
 use Rattle.onfi_seq.proofs.Driving.{command_driven, post_driven}
@@ -112,7 +112,7 @@ module _ (target : Target) (accepted : List Item) (chip : Chip) (drive : Drive) 
           map (request_of accepted) (take running.next running.placed.members),
           record {
             there = subst (λ n. slice_get chip.luns n ≡ Some (Commanding (map (request_of accepted) (take running.next running.placed.members)) lun.state.ready)) (sym is.0) (there ∙ ap (λ t. Some (Commanding (map (request_of accepted) (take running.next running.placed.members)) t)) (sym is.1));
-            count = is.2 ∙ sym (length_map (request_of accepted) (take running.next running.placed.members) ∙ length_take running.next running.placed.members (let z = is.3 in omega arith));
+            count = is.2 ∙ sym (length_map (request_of accepted) (take running.next running.placed.members) ∙ length-take-le running.next running.placed.members (let z = is.3 in omega arith));
           },
         ),
         (can.0, subst (λ n. CanCommand target accepted chip n running.placed.members running.next start can.0) (sym is.0) can.1),

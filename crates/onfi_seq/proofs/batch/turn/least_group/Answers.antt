@@ -1,8 +1,8 @@
-use Rattle.std.proofs.Common.{◌≡◌, ◌+◌, length, Some, take, sym, ap, subst, ◌∙◌, arith}
+use Rattle.std.proofs.Common.{◌≡◌, ◌≤◌, ◌+◌, length, Some, take, sym, ap, subst, ◌∙◌, arith}
 use Rattle.std.specs.Prelude.{slice_get}
+use Rattle.std.proofs.lemmas.List.{take_all}
 use Rattle.onfi_seq.specs.Drive.{group_start}
 use Rattle.onfi_seq.specs.Least.{sooner}
-use Rattle.onfi_core.proofs.Lists.{take_whole}
 use Rattle.onfi_seq.proofs.Steps.{get_of_or}
 use Rattle.onfi_seq.proofs.Choosing.{LeastSoFar, sooner_keeps, small_start}
 use Rattle.onfi_seq.proofs.batch.turn.least_group.Goals as goal
@@ -19,5 +19,5 @@ loop-place-preserved c =
 pub returns : goal.returns
 returns c =
     let xs = c.args.waiting.now in
-    let all : c.loop-place.place ≡ length xs = (let a = c.loop-place-test.false in let b = c.loop-place.auto.place-end in omega (arith, a, b)) in
-    subst (λ seen. LeastSoFar group_start xs seen c.loop-place.least) (take_whole xs c.loop-place.place all) c.loop-place.invariant
+    let all : length xs ≤ c.loop-place.place = (let a = c.loop-place-test.false in let b = c.loop-place.auto.place-end in omega (arith, a, b)) in
+    subst (λ seen. LeastSoFar group_start xs seen c.loop-place.least) (take_all c.loop-place.place xs all) c.loop-place.invariant

@@ -1,8 +1,8 @@
-use Rattle.std.proofs.Common.{◌≡◌, ◌+◌, length, Some, take, sym, ap, subst, ◌∙◌, arith}
+use Rattle.std.proofs.Common.{◌≡◌, ◌≤◌, ◌+◌, length, Some, take, sym, ap, subst, ◌∙◌, arith}
 use Rattle.std.specs.Prelude.{slice_get}
+use Rattle.std.proofs.lemmas.List.{take_all}
 use Rattle.onfi_seq.specs.Drive.{lane_start}
 use Rattle.onfi_seq.specs.Least.{sooner}
-use Rattle.onfi_core.proofs.Lists.{take_whole}
 use Rattle.onfi_seq.proofs.Steps.{get_of_or}
 use Rattle.onfi_seq.proofs.Choosing.{LeastSoFar, sooner_keeps, small_start}
 use Rattle.onfi_seq.proofs.batch.turn.least_lane.Goals as goal
@@ -19,5 +19,5 @@ loop-lun-preserved c =
 pub returns : goal.returns
 returns c =
     let xs = c.args.lanes.now in
-    let all : c.loop-lun.lun ≡ length xs = (let a = c.loop-lun-test.false in let b = c.loop-lun.auto.lun-end in omega (arith, a, b)) in
-    subst (λ seen. LeastSoFar lane_start xs seen c.loop-lun.least) (take_whole xs c.loop-lun.lun all) c.loop-lun.invariant
+    let all : length xs ≤ c.loop-lun.lun = (let a = c.loop-lun-test.false in let b = c.loop-lun.auto.lun-end in omega (arith, a, b)) in
+    subst (λ seen. LeastSoFar lane_start xs seen c.loop-lun.least) (take_all c.loop-lun.lun xs all) c.loop-lun.invariant
