@@ -25,7 +25,9 @@ impl Model for Moves {
 }
 
 impl Moves {
-    pub(crate) fn new() -> Moves
+    /// No move.
+    #[inline(always)]
+    pub fn new() -> Moves
         ensures { result ≡ [] }
     {
         Moves {

@@ -1,6 +1,6 @@
 //! The moves of a problem, in their order.
 
-ghost use Rattle.std.specs.Prelude.{◌≡◌, ◌+◌, ◌≤◌, ◌<◌, ◌++◌, IfOk, IfSome, List, length, slice_range, slice_get};
+ghost use Rattle.std.specs.Prelude.{◌≡◌, ◌+◌, ◌≤◌, ◌<◌, ◌++◌, [], IfOk, IfSome, List, length, slice_range, slice_get};
 ghost use Rattle.std.specs.List.{AllByRecursion as Each};
 ghost use Rattle.std.specs.Option.{option_map};
 ghost use Rattle.onfi_group.specs.Group.{lun_of, on_block};
@@ -23,15 +23,26 @@ impl Problem {
         ensures few { length result ≤ 87 }
     {
         let mut moves = Moves::new();
+        self.list_steps(&mut moves);
+        moves
+    }
+
+    /// Lists all moves, in their order, without memory, where none is listed yet. A walk lists them where they stand,
+    /// since they are long to copy.
+    pub fn list_steps(&self, moves: &mut Moves)
+        requires empty { moves.old ≡ [] }
+        ensures moves { AreMoves self.now.problem (moves_of self.now.groups moves.new) }
+        ensures named { Each (IsNamed self.now.groups) moves.new }
+        ensures few { length moves.new ≤ 87 }
+    {
         for (at, state) in self.luns.iter().enumerate() {
             let lun = at as u8;
             if state.next == 0 {
-                self.starts(lun, self.first[at], self.first[at + 1], &mut moves);
+                self.starts(lun, self.first[at], self.first[at + 1], moves);
             } else {
                 moves.push(Move::Next { lun });
             }
         }
-        moves
     }
 
     /// All moves, in their order.

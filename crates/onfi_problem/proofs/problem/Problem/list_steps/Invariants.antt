@@ -4,7 +4,7 @@ use Rattle.onfi_problem.specs.Position.{moves_of}
 use Rattle.onfi_problem.specs.Starts.{IsNamed, can_start}
 use Rattle.onfi_problem.proofs.Ordered.{moves_from}
 use Rattle.onfi_problem.proofs.Steps.{own_groups}
-use Rattle.onfi_problem.proofs.problem.Problem.steps.Given as goal
+use Rattle.onfi_problem.proofs.problem.Problem.list_steps.Given as goal
 
 abbrev pub invariant-loop-at : goal.invariant-loop-at
 invariant-loop-at l = record {

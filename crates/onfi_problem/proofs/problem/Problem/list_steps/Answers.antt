@@ -3,8 +3,8 @@ use Rattle.std.proofs.lemmas.List.{length-map}
 use Rattle.onfi_problem.specs.declared.moves.Lun.{Lun}
 use Rattle.onfi_problem.specs.Position.{state_of}
 use Rattle.onfi_problem.proofs.Steps.{places_few, luns_of_own, free_room, run_room, free_more, run_more, named_next, end_moves, end_few}
-use Rattle.onfi_problem.proofs.problem.Problem.steps.Goals as goal
-use Rattle.onfi_problem.proofs.problem.Problem.steps.Goals.{then-state-eq0, else-state-eq0}
+use Rattle.onfi_problem.proofs.problem.Problem.list_steps.Goals as goal
+use Rattle.onfi_problem.proofs.problem.Problem.list_steps.Goals.{then-state-eq0, else-state-eq0}
 
 pub starts-requires-clause-places : goal.starts-requires-clause-places
 starts-requires-clause-places c =
