@@ -121,7 +121,8 @@ fn read_branch<S: TokenSource>(
     ensures err { IfErr result (λ _. (rest : List OneToken) → Begins problem.old.problem e (Token.Branch width ∷ S.left tokens.old.source) rest → ⊥) }
     ensures kind { IfErr result IsOfTokens }
 {
-    let moves = problem.steps();
+    let mut moves = Moves::new();
+    problem.list_steps(&mut moves);
     if moves.len() != width.get() as usize {
         return Err(CertFault::Width(place));
     }

@@ -70,11 +70,11 @@ skip_unmarked bs ws m i b d h k e =
     rw (p, q, e) refl
 
 -- .. and so is one on another block
-pub skip_other : (bs : List Bool) (ws : List Want) (m : Want) (i : ℕ) (b : Bool) (d : Want) → i < length bs → i < length ws → get_or bs i b ≡ true → on_block m (get_or ws i d) ≡ false → waits_first (waiting_of (drop i bs) (drop i ws)) m ≡ waits_first (waiting_of (drop (i + 1) bs) (drop (i + 1) ws)) m
-skip_other bs ws m i b d h k e o =
-    let p = drop_more bs i b h in
-    let q = drop_more ws i d k in
-    rw (p, q, e) (rw o refl)
+pub skip_other : (bs : List Bool) (ws : List Want) (m : Want) (i : ℕ) (b : Bool) (d : Want) → i < length bs → i < length ws → on_block m (get_or ws i d) ≡ false → waits_first (waiting_of (drop i bs) (drop i ws)) m ≡ waits_first (waiting_of (drop (i + 1) bs) (drop (i + 1) ws)) m
+skip_other bs ws m i b d h k o = elim (cases_Bool (get_or bs i b)) [
+  | inl e ↦ rw (drop_more bs i b h, drop_more ws i d k, e) (rw o refl)
+  | inr e ↦ skip_unmarked bs ws m i b d h k e
+]
 
 -- .. and the first on its block tells
 pub tell_first : (bs : List Bool) (ws : List Want) (m : Want) (i : ℕ) (b : Bool) (d : Want) → i < length bs → i < length ws → get_or bs i b ≡ true → on_block m (get_or ws i d) ≡ true → waits_first (waiting_of (drop i bs) (drop i ws)) m ≡ ((get_or ws i d).id == m.id)

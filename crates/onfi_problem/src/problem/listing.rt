@@ -29,6 +29,7 @@ impl Problem {
 
     /// Lists all moves, in their order, without memory, where none is listed yet. A walk lists them where they stand,
     /// since they are long to copy.
+    #[inline(always)]
     pub fn list_steps(&self, moves: &mut Moves)
         requires empty { moves.old ≡ [] }
         ensures moves { AreMoves self.now.problem (moves_of self.now.groups moves.new) }
@@ -115,7 +116,7 @@ fn waits_first(waiting: &[bool; 8], wants: &[Want], member: &Want) -> bool
     ensures { result ≡ waits_first (waiting_of waiting.now wants.now) member.now }
 {
     for (i, want) in wants.iter().enumerate() {
-        if waiting[i] && is_on_block(member, want) {
+        if is_on_block(member, want) && waiting[i] {
             return want.id == member.id;
         }
     }

@@ -193,7 +193,7 @@ pub read_branch-returns-then-len-get-clause-err : goal.read_branch-returns-then-
 read_branch-returns-then-len-get-clause-err g t c = λ rest b.
     let x = c.args.problem.now in
     let left = g.S.TokenSource.left c.args.tokens.now.source in
-    let wide = branch_width x c.args.e c.args.width c.get.result c.steps-moves.result (Branch c.args.width) left rest c.steps-moves.ensures.moves refl c.get.ensures.value b in
+    let wide = branch_width x c.args.e c.args.width c.get.result c.list_steps.new.moves (Branch c.args.width) left rest c.list_steps.ensures.moves refl c.get.ensures.value b in
     let long = c.len.ensures.value in
     omega (arith, c.if-len-get.true)
 
@@ -203,10 +203,10 @@ read_branch-returns-clause-ok g t c =
     let left = g.S.TokenSource.left c.args.tokens.now.source in
     let next = g.S.TokenSource.left c.read_children.new.tokens.source in
     let long = c.len.ensures.value in
-    branch_taken x c.args.e c.args.width c.get.result c.steps-moves.result (Branch c.args.width) left next c.read_children.result c.steps-moves.ensures.moves refl c.get.ensures.value c.get.ensures.low (omega (arith, c.if-len-get.false)) c.read_children.ensures.ok
+    branch_taken x c.args.e c.args.width c.get.result c.list_steps.new.moves (Branch c.args.width) left next c.read_children.result c.list_steps.ensures.moves refl c.get.ensures.value c.get.ensures.low (omega (arith, c.if-len-get.false)) c.read_children.ensures.ok
 
 pub read_branch-returns-clause-err : goal.read_branch-returns-clause-err
 read_branch-returns-clause-err g t c =
     let x = c.args.problem.now in
     let left = g.S.TokenSource.left c.args.tokens.now.source in
-    branch_refused x c.args.e c.args.width c.steps-moves.result (Branch c.args.width) left c.read_children.result c.steps-moves.ensures.moves refl c.read_children.ensures.err
+    branch_refused x c.args.e c.args.width c.list_steps.new.moves (Branch c.args.width) left c.read_children.result c.list_steps.ensures.moves refl c.read_children.ensures.err
