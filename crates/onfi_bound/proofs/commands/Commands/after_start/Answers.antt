@@ -1,6 +1,6 @@
 use Rattle.std.proofs.Common.{[], ◌≡◌, ◌∙◌, slice_index_or, ap, arith}
 use Rattle.onfi_group.specs.Group.{kind_of}
-use Rattle.onfi_bound.specs.Commands.{commands_of, count_of}
+use Rattle.onfi_bound.specs.Commands.{commands_of}
 use Rattle.onfi_bound.proofs.Counting.{start_counts, some_there, one_left}
 use Rattle.onfi_bound.proofs.commands.Commands.after_start.Goals as goal
 

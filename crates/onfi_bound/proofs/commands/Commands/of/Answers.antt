@@ -1,12 +1,11 @@
-use Rattle.std.proofs.Common.{◌≡◌, ◌≤◌, ◌<◌, ◌+◌, ◌∙◌, length, take, subst, ap, sym, arith}
-use Rattle.onfi_request.specs.declared.want.Want.{Want}
+use Rattle.std.proofs.Common.{◌≤◌, ◌<◌, ◌∙◌, length, ap, arith}
 use Rattle.onfi_group.specs.Words.{total}
 use Rattle.onfi_problem.specs.declared.moves.Lun.{Lun}
-use Rattle.onfi_problem.specs.Position.{state_of, waiting_of}
-use Rattle.onfi_bound.specs.Commands.{commands_on, one_of, count_of}
+use Rattle.onfi_problem.specs.Position.{waiting_of}
+use Rattle.onfi_bound.specs.Commands.{one_of}
 use Rattle.onfi_bound.proofs.Parts.{placed}
 use Rattle.onfi_bound.proofs.Steps.{all_at}
-use Rattle.onfi_bound.proofs.Counting.{luns_counted, one_lun, all_counted}
+use Rattle.onfi_bound.proofs.Counting.{one_lun, all_counted}
 use Rattle.onfi_bound.proofs.commands.Commands.of.Goals as goal
 
 pub with_lun-counts-requires-clause-place : goal.with_lun-counts-requires-clause-place

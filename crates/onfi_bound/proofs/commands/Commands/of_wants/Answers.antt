@@ -1,4 +1,4 @@
-use Rattle.std.proofs.Common.{◌∙◌, sym, ap, ◌+◌, arith}
+use Rattle.std.proofs.Common.{◌∙◌, sym, ap, arith}
 use Rattle.onfi_group.specs.Words.{total}
 use Rattle.onfi_bound.specs.Bounds.{same_kind}
 use Rattle.onfi_bound.specs.Commands.{one_of}
