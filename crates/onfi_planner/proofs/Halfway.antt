@@ -5,6 +5,7 @@ use Rattle.std.specs.Option.{is_some}
 use Rattle.std.specs.List.{AllByRecursion as All}
 use Rattle.std.proofs.lemmas.List.{take_more}
 use Rattle.std.proofs.lemmas.List.{map-append}
+use Rattle.std.proofs.lemmas.List.Elements.{All-from_recursion}
 use Rattle.std.proofs.lemmas.Bool.{eq-eqb, false≢true}
 use Rattle.onfi_request.specs.declared.want.Want.{Want}
 use Rattle.onfi_problem.specs.Moves.{Move, Next as NextPhase, Start as StartGroup, IsMove, IsDone, move_lun, AreMoves, ComesBefore}
@@ -261,3 +262,9 @@ luns_of groups items named = All-weaker (IsNamed groups) (λ s. move_lun (move_o
 
 pub luns_small : (groups : List (List Want)) (items : List KeptMove) → All (IsNamed groups) items → All (λ s. lun_named s < 8) items
 luns_small groups items named = All-weaker (IsNamed groups) (λ s. lun_named s < 8) (λ s n. n.few) items named
+
+-- and each is one of eight
+pub lun_in : (groups : List (List Want)) (steps items : List KeptMove) (i : ℕ) (d : KeptMove) (lun : ℕ) → items ≡ steps → All (IsNamed groups) steps → lun ≡ lun_named (get_or items i d) → i < length items → lun < 8
+lun_in groups steps items i d lun same named is within =
+    let small = subst (λ z. All (λ s. lun_named s < 8) z) (sym same) (luns_small groups steps named) in
+    subst (λ l. l < 8) (sym is) (All-from_recursion (λ s. lun_named s < 8) items small i d within)

@@ -11,3 +11,4 @@ pub mod Deciding
 pub mod Choosing
 pub mod Beginning
 pub mod Stacking
+pub mod Below

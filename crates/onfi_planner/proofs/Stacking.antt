@@ -118,7 +118,7 @@ room_at (x ∷ front) s back p f ip (mv, on_time, run) =
     subst (λ e. Room s (stacked e back) f) (empty_same p x.move x.start mv) (room_at front s back (placed p x.move x.start) f (kept p x.move x.start ip mv) run)
 
 -- steps are kept last first
-run_split : (groups : List (List Want)) (xs : List Begun) (b : Begun) (ys : List Begun) → run_of groups (xs ++ b ∷ ys) ≡ run_of groups ys ++ taken groups b ∷ run_of groups xs
+pub run_split : (groups : List (List Want)) (xs : List Begun) (b : Begun) (ys : List Begun) → run_of groups (xs ++ b ∷ ys) ≡ run_of groups ys ++ taken groups b ∷ run_of groups xs
 run_split groups xs b ys =
     let m = map (taken groups) xs in
     let n = map (taken groups) ys in

@@ -1,4 +1,5 @@
 use Rattle.std.proofs.Common.{length, get_or, ap, ◌∙◌, arith, length-set}
+use Rattle.std.proofs.lemmas.Result.{err_from_is_err_and}
 use Rattle.onfi_group.specs.Group.{lun_of}
 use Rattle.onfi_problem.specs.declared.moves.Move.TheVariants.{Next}
 use Rattle.onfi_schedule.specs.Schedule.{Schedule}
@@ -111,3 +112,9 @@ pub returns : goal.returns
 returns c =
     let x = c.args.problem.now in
     stacked_all x.problem x.groups c.args.steps.now c.loop-begun.begun-index c.requires.run.0 (record { rest = c.loop-begun.rest.items; groups = c.loop-begun.groups.items }) c.new-2.result c.requires.run.2 c.loop-begun-test.false c.loop-begun.invariant c.new-2.ensures.rest c.new-2.ensures.groups
+
+pub returns-in_err-rest : goal.returns-in_err-rest
+returns-in_err-rest c = rw (err_from_is_err_and c.from_residual.result c.from_residual.ensures.1).1 tt
+
+pub returns-in_err-insert-in-Start : goal.returns-in_err-insert-in-Start
+returns-in_err-insert-in-Start c = rw (err_from_is_err_and c.from_residual-in_err-insert-in-Start.result c.from_residual-in_err-insert-in-Start.ensures.1).1 tt

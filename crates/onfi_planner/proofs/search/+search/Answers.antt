@@ -1,4 +1,4 @@
-use Rattle.std.proofs.Common.{◌≡◌, true, false, length, get_or, arith, sym, ◌∙◌, subst, ap}
+use Rattle.std.proofs.Common.{◌≡◌, true, false, length, get_or, arith, sym, ◌∙◌, subst, ap, refl, ◌<◌}
 use Rattle.std.specs.Prelude.{◌==◌}
 use Rattle.std.specs.List.{AllByRecursion as All}
 use Rattle.std.proofs.lemmas.List.{get_or_default}
@@ -7,13 +7,14 @@ use Rattle.std.proofs.lemmas.Result.{err_from_is_err_and}
 use Rattle.onfi_problem.specs.Moves.{IsMove, move_lun, after}
 use Rattle.onfi_problem.specs.Left.{InLimits}
 use Rattle.onfi_problem.specs.declared.moves.Move.TheVariants.{Next}
-use Rattle.onfi_problem.specs.Position.{Position, move_of, moved, lun_named}
+use Rattle.onfi_problem.specs.Position.{Position, move_of, moved, lun_named, restored}
 use Rattle.onfi_schedule.specs.Runs.{Run}
 use Rattle.onfi_bound.specs.Loads.{AreLoads}
 use Rattle.onfi_bound.proofs.Loading.{loads_after}
 use Rattle.onfi_planner.specs.declared.search.Best.{Best}
 use Rattle.onfi_planner.specs.Planning.{work, IsOver, Bounded, HasOpened, run_of}
-use Rattle.onfi_planner.proofs.Halfway.{step_of_lun, yields_some, one_over, one_opened, closed_node, open_node, done_node, step_moves, given_up, skipped, visited, ended, ended_count, steps_same, not_empty, luns_of}
+use Rattle.onfi_planner.proofs.Halfway.{step_of_lun, yields_some, one_over, one_opened, closed_node, open_node, done_node, step_moves, given_up, skipped, visited, ended, ended_count, steps_same, not_empty, luns_of, luns_small, lun_in, started}
+use Rattle.onfi_planner.proofs.Below.{run_more, handed_back}
 use Rattle.onfi_planner.proofs.BusWork.{work_after}
 use Rattle.onfi_problem.proofs.Limits.{after_limits}
 use Rattle.onfi_planner.proofs.search.+search.Goals as goal
@@ -148,3 +149,107 @@ visit-search-requires t c =
       omega (arith, c.decreases, w, less),
       (subst (λ (z : Position). InLimits z.problem) (sym c.advance-undo.ensures.moved) (after_limits x.problem m c.requires.limits c.requires.step), (subst (λ (z : Position). AreLoads z c.args.loads.now.of.items) (sym c.advance-undo.ensures.moved) (loads_after x c.args.step c.args.loads.now.of.items c.requires.step c.requires.loads), c.requires.opened)),
     )
+
+pub visit-returns-else-improved-clause-problem : goal.visit-returns-else-improved-clause-problem
+visit-returns-else-improved-clause-problem t c = handed_back c.args.problem.now _ c.search.new.problem _ c.advance-undo.result c.in_ok-improved.ensures.problem c.advance-undo.ensures.undo c.undo.ensures
+
+pub visit-returns-else-improved-clause-sooner : goal.visit-returns-else-improved-clause-sooner
+visit-returns-else-improved-clause-sooner t c = c.in_ok-improved.ensures.found.sooner
+
+pub visit-returns-else-improved-clause-least : goal.visit-returns-else-improved-clause-least
+visit-returns-else-improved-clause-least t c = subst (λ (z : Position). Bounded z.problem c.search.new.best.finish) c.advance-undo.ensures.moved c.in_ok-improved.ensures.found.least
+
+pub visit-returns-else-improved-clause-run : goal.visit-returns-else-improved-clause-run
+visit-returns-else-improved-clause-run t c = λ q. absurd (false≢true (sym c.if-improved.false ∙ q))
+
+pub visit-returns-else-improved-clause-kept : goal.visit-returns-else-improved-clause-kept
+visit-returns-else-improved-clause-kept t c = λ q. c.in_ok-improved.ensures.found.kept q
+
+pub visit-returns-else-improved-clause-opened : goal.visit-returns-else-improved-clause-opened
+visit-returns-else-improved-clause-opened t c = (subst (λ (z : Position). HasOpened z.problem c.args.best.now.finish c.args.opened.now c.search.new.opened) c.advance-undo.ensures.moved c.in_ok-improved.ensures.opened.0, c.in_ok-improved.ensures.opened.1)
+
+pub visit-returns-in-Ok-clause-problem : goal.visit-returns-in-Ok-clause-problem
+visit-returns-in-Ok-clause-problem t c = handed_back c.args.problem.now _ c.search.new.problem _ c.advance-undo.result c.in_ok-improved.ensures.problem c.advance-undo.ensures.undo c.undo.ensures
+
+pub visit-returns-in-Ok-clause-sooner : goal.visit-returns-in-Ok-clause-sooner
+visit-returns-in-Ok-clause-sooner t c = c.in_ok-improved.ensures.found.sooner
+
+pub visit-returns-in-Ok-clause-least : goal.visit-returns-in-Ok-clause-least
+visit-returns-in-Ok-clause-least t c = subst (λ (z : Position). Bounded z.problem c.search.new.best.finish) c.advance-undo.ensures.moved c.in_ok-improved.ensures.found.least
+
+pub visit-returns-in-Ok-clause-run : goal.visit-returns-in-Ok-clause-run
+visit-returns-in-Ok-clause-run t c = λ q.
+    let x = c.args.problem.now in
+    let run = subst (λ (z : Position). Run z.problem (run_of z.groups c.search.new.best.steps.items) c.search.new.best.finish) c.advance-undo.ensures.moved (c.in_ok-improved.ensures.found.run q) in
+    run_more x (record { step = c.args.step; start = c.earliest-start.result }) c.search.new.best.steps.items _ c.search.new.best.finish c.requires.step c.earliest-start.ensures c.in-Ok.ensures.items run
+
+pub visit-returns-in-Ok-clause-kept : goal.visit-returns-in-Ok-clause-kept
+visit-returns-in-Ok-clause-kept t c = λ q. absurd (false≢true (sym q ∙ c.if-improved.true))
+
+pub visit-returns-in-Ok-clause-opened : goal.visit-returns-in-Ok-clause-opened
+visit-returns-in-Ok-clause-opened t c = (subst (λ (z : Position). HasOpened z.problem c.args.best.now.finish c.args.opened.now c.search.new.opened) c.advance-undo.ensures.moved c.in_ok-improved.ensures.opened.0, c.in_ok-improved.ensures.opened.1)
+
+pub visit-undo-requires-clause-limits : goal.visit-undo-requires-clause-limits
+visit-undo-requires-clause-limits t c = subst (λ (z : Position). InLimits (restored z c.advance-undo.result).problem) (sym c.in_ok-improved.ensures.problem) c.advance-undo.ensures.limits
+
+pub visit-undo-requires-clause-lun : goal.visit-undo-requires-clause-lun
+visit-undo-requires-clause-lun t c = subst (λ (z : Position). c.advance-undo.result.lun < length z.problem.luns) (sym c.in_ok-improved.ensures.problem) c.advance-undo.ensures.within
+
+pub visit-returns-in_err-improved-clause-problem : goal.visit-returns-in_err-improved-clause-problem
+visit-returns-in_err-improved-clause-problem t c = rw (err_from_is_err_and c.from_residual.result c.from_residual.ensures.1).1 tt
+
+pub visit-returns-in_err-improved-clause-sooner : goal.visit-returns-in_err-improved-clause-sooner
+visit-returns-in_err-improved-clause-sooner t c = rw (err_from_is_err_and c.from_residual.result c.from_residual.ensures.1).1 tt
+
+pub visit-returns-in_err-improved-clause-least : goal.visit-returns-in_err-improved-clause-least
+visit-returns-in_err-improved-clause-least t c = rw (err_from_is_err_and c.from_residual.result c.from_residual.ensures.1).1 tt
+
+pub visit-returns-in_err-improved-clause-run : goal.visit-returns-in_err-improved-clause-run
+visit-returns-in_err-improved-clause-run t c = rw (err_from_is_err_and c.from_residual.result c.from_residual.ensures.1).1 tt
+
+pub visit-returns-in_err-improved-clause-kept : goal.visit-returns-in_err-improved-clause-kept
+visit-returns-in_err-improved-clause-kept t c = rw (err_from_is_err_and c.from_residual.result c.from_residual.ensures.1).1 tt
+
+pub visit-returns-in_err-improved-clause-opened : goal.visit-returns-in_err-improved-clause-opened
+visit-returns-in_err-improved-clause-opened t c = rw (err_from_is_err_and c.from_residual.result c.from_residual.ensures.1).1 tt
+
+pub visit-returns-in_err-improved-clause-over : goal.visit-returns-in_err-improved-clause-over
+visit-returns-in_err-improved-clause-over t c =
+    let p = err_from_is_err_and c.from_residual.result c.from_residual.ensures.1 in
+    rw (p.1, p.2) (λ q. subst (λ (z : Position). IsOver z.problem c.args.best.now.finish c.args.opened.now c.search.new.opened c.args.limit) c.advance-undo.ensures.moved (c.in_err-improved.ensures.over q))
+
+pub search-returns-in_err-visit-clause-problem : goal.search-returns-in_err-visit-clause-problem
+search-returns-in_err-visit-clause-problem t c = rw (err_from_is_err_and c.from_residual.result c.from_residual.ensures.1).1 tt
+
+pub search-returns-in_err-visit-clause-found : goal.search-returns-in_err-visit-clause-found
+search-returns-in_err-visit-clause-found t c = rw (err_from_is_err_and c.from_residual.result c.from_residual.ensures.1).1 tt
+
+pub search-returns-in_err-visit-clause-opened : goal.search-returns-in_err-visit-clause-opened
+search-returns-in_err-visit-clause-opened t c = rw (err_from_is_err_and c.from_residual.result c.from_residual.ensures.1).1 tt
+
+pub search-returns-clause-problem : goal.search-returns-clause-problem
+search-returns-clause-problem t c = c.loop-step.invariant.problem
+
+pub search-returns-then-is_empty-clause-problem : goal.search-returns-then-is_empty-clause-problem
+search-returns-then-is_empty-clause-problem t c = refl
+
+pub search-returns-then-is_some-clause-problem : goal.search-returns-then-is_some-clause-problem
+search-returns-then-is_some-clause-problem t c = refl
+
+pub search-loop-step-init : goal.search-loop-step-init
+search-loop-step-init t c = record { problem = refl; half = started c.args.problem.now c.as_slice-steps.result.now c.yields_of-yields.result c.args.best.now c.args.opened.now c.args.limit (omega (arith, c.if-opened-limit.false)) }
+
+pub search-last_ends-ends-requires-clause-moves : goal.search-last_ends-ends-requires-clause-moves
+search-last_ends-ends-requires-clause-moves t c = (steps_same c.args.problem.now c.as_slice-steps.result.now _ c.as_slice-steps.ensures.value c.steps-moves.ensures.moves).moves_only
+
+pub search-last_ends-ends-requires-clause-luns : goal.search-last_ends-ends-requires-clause-luns
+search-last_ends-ends-requires-clause-luns t c = subst (λ z. All (λ s. move_lun (move_of c.args.problem.now.groups s) ≡ lun_named s) z) (sym c.as_slice-steps.ensures.value) (luns_of c.args.problem.now.groups c.steps-moves.result c.steps-moves.ensures.named)
+
+pub search-last_ends-ends-requires-clause-few : goal.search-last_ends-ends-requires-clause-few
+search-last_ends-ends-requires-clause-few t c = subst (λ z. All (λ s. lun_named s < 8) z) (sym c.as_slice-steps.ensures.value) (luns_small c.args.problem.now.groups c.steps-moves.result c.steps-moves.ensures.named)
+
+pub search-yields_of-yields-requires : goal.search-yields_of-yields-requires
+search-yields_of-yields-requires t c = record { ends = c.last_ends-ends.ensures.ends }
+
+pub search-bounds-yields-lun : goal.search-bounds-yields-lun
+search-bounds-yields-lun t c = lun_in c.args.problem.now.groups c.steps-moves.result c.as_slice-steps.result.now c.loop-step.step-index (Next 0) c.lun.result c.as_slice-steps.ensures.value c.steps-moves.ensures.named c.lun.ensures c.loop-step-test.true
