@@ -1,6 +1,7 @@
 -- One more element of the list that a loop goes over.
-use Rattle.std.proofs.Common.{◌≡◌, ℕ, zero, suc, ◌+◌, ◌<◌, Bool, true, false, if◌then◌else◌, List, [], ◌∷◌, ◌++◌, length, None, get_or, take, refl, ap, add-one, arith}
+use Rattle.std.proofs.Common.{◌≡◌, ℕ, zero, suc, ◌+◌, ◌<◌, Bool, true, false, if◌then◌else◌, List, [], ◌∷◌, ◌++◌, length, None, map, get_or, take, refl, sym, ap, ◌∙◌, add-one, arith}
 use Rattle.std.specs.List.{AllByRecursion as All, list_any}
+use Rattle.std.proofs.lemmas.List.{map-append, take_more}
 use Rattle.std.proofs.lemmas.List.Folds.{list_any_more}
 use Rattle.onfi_timing.specs.declared.kind.Kind.TheVariants.{Read}
 use Rattle.onfi_request.specs.declared.want.Want.{Want}
@@ -61,3 +62,9 @@ waiting_yes marks ws i d h m = rw add-one (yes_at marks ws i d h m)
 
 pub waiting_no : (marks : List Bool) (ws : List Want) (i : ℕ) → get_or marks i false ≡ false → waiting_of marks (take (i + 1) ws) ≡ waiting_of marks (take i ws)
 waiting_no marks ws i m = rw add-one (no_at marks ws i m)
+
+-- a list of what two functions make of each, with one more
+pub both_mapped : {A B C : Type 0} (f : B → C) (g : A → B) (xs : List A) (i : ℕ) (d : A) (before now : List C) (x : C) → i < length xs → before ≡ map f (map g (take i xs)) → now ≡ before ++ x ∷ [] → x ≡ f (g (get_or xs i d)) → now ≡ map f (map g (take (i + 1) xs))
+both_mapped f g xs i d before now x h so_far made is =
+    let more = ap (λ z. map f (map g z)) (take_more xs i d h) ∙ (ap (map f) (map-append g (take i xs) (get_or xs i d ∷ [])) ∙ map-append f (map g (take i xs)) (g (get_or xs i d) ∷ [])) in
+    made ∙ (ap (λ z. z ++ x ∷ []) so_far ∙ (ap (λ z. map f (map g (take i xs)) ++ z ∷ []) is ∙ sym more))

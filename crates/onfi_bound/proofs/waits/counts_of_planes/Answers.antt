@@ -1,6 +1,9 @@
-use Rattle.std.proofs.Common.{sym, arith, get_or}
+use Rattle.std.proofs.Common.{sym, arith, get_or, ap, ◌∙◌}
+use Rattle.std.proofs.lemmas.List.{take_all}
 use Rattle.std.proofs.Math.Facts.{Fits-of_lt}
 use Rattle.onfi_problem.specs.Problem.{IsWant}
+use Rattle.onfi_bound.specs.Bounds.{on_lun}
+use Rattle.onfi_bound.specs.Parts.{plane_counts}
 use Rattle.onfi_bound.proofs.Steps.{no_want, all_at}
 use Rattle.onfi_bound.proofs.Counts.{counts_more, counts_same, counts_other, counts_fit}
 use Rattle.onfi_bound.proofs.waits.counts_of_planes.Goals as goal
@@ -26,3 +29,18 @@ loop-other-preserved c =
         | else-other-want-via-else-other-want w' ↦ counts_other c.args.rules.now c.args.want.now c.args.before.now c.loop-other.other-index no_want c.loop-other.counts c.loop-other-test.true w'.if-other-want.false c.loop-other.invariant
       ])
     ]
+
+pub bounds-counts-other : goal.bounds-counts-other
+bounds-counts-other c = let plane = (all_at IsWant c.args.before.now c.loop-other.other-index no_want c.loop-other-test.true c.requires.wants).plane in omega (arith, plane)
+
+pub bounds-counts-other-then-has : goal.bounds-counts-other-then-has
+bounds-counts-other-then-has c = let plane = (all_at IsWant c.args.before.now c.loop-other.other-index no_want c.loop-other-test.true c.requires.wants).plane in omega (arith, plane)
+
+pub returns-clause-value : goal.returns-clause-value
+returns-clause-value c = c.loop-other.invariant ∙ ap (λ z. plane_counts c.args.rules.now c.args.want.now (on_lun c.args.want.now.lun z)) (take_all c.loop-other.other-index c.args.before.now c.loop-other-test.false)
+
+pub returns-clause-page_fits : goal.returns-clause-page_fits
+returns-clause-page_fits c = c.of-class.ensures.page_fits
+
+pub returns-clause-above_fits : goal.returns-clause-above_fits
+returns-clause-above_fits c = c.of-class.ensures.above_fits
