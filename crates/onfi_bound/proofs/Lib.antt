@@ -11,3 +11,4 @@ pub mod LeadBound
 pub mod TrailBound
 pub mod Ends
 pub mod Counting
+pub mod FirstBound

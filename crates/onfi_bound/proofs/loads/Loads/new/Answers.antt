@@ -1,9 +1,10 @@
-use Rattle.std.proofs.Common.{[], ◌∷◌, sym, subst}
+use Rattle.std.proofs.Common.{List, [], ◌∷◌, sym, subst}
 use Rattle.std.specs.List.{AllByRecursion as All}
 use Rattle.std.proofs.lemmas.Result.{err_from_is_err_and}
 use Rattle.onfi_problem.specs.Problem.{IsWant}
 use Rattle.onfi_problem.specs.Position.{waiting_of}
 use Rattle.onfi_problem.proofs.Perm.{All-append}
+use Rattle.onfi_bound.specs.declared.load.Load.{Load}
 use Rattle.onfi_bound.specs.Loads.{IsLoad, AreLoads}
 use Rattle.onfi_bound.proofs.Loading.{fewer_wait}
 use Rattle.onfi_bound.proofs.loads.Loads.new.Goals as goal
@@ -26,7 +27,7 @@ pub loop-at-preserved : goal.loop-at-preserved
 loop-at-preserved c =
     let x = c.args.problem.now in
     let load = subst (λ marks. IsLoad x.problem.timing x.problem.rules (waiting_of marks x.all) c.of.result) (sym c.of.ensures.marks) c.of.ensures.load in
-    subst (λ z. AreLoads x z) (sym c.in_ok-push.ensures.items) (All-append _ c.loop-at.of.items (c.of.result ∷ []) c.loop-at.invariant (load, tt))
+    subst (λ (z : List Load). AreLoads x z) (sym {A = List Load} c.in_ok-push.ensures.items) (All-append _ c.loop-at.of.items (c.of.result ∷ []) c.loop-at.invariant (load, tt))
 
 pub returns : goal.returns
 returns c = c.loop-at.invariant
