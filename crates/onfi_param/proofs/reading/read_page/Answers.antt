@@ -1,6 +1,6 @@
-use Rattle.std.proofs.Common.{arith, inl, inr, refl}
-use Rattle.std.proofs.lemmas.Bool.{cases_lt}
-use Rattle.onfi_param.proofs.CopyLemmas.{none_behind}
+use Rattle.std.proofs.Common.{arith, inl, inr, refl, sym, ◌∙◌}
+use Rattle.std.proofs.lemmas.Bool.{cases_lt, false≢true}
+use Rattle.onfi_param.proofs.CopyLemmas.{none_behind, none_here, copy_size}
 use Rattle.onfi_param.proofs.reading.read_page.Goals as goal
 
 pub returns-clause-no_copy : goal.returns-clause-no_copy
@@ -14,3 +14,18 @@ returns-clause-no_copy c = (
   ),
   λ _. refl,
 )
+
+pub is_copy-requires : goal.is_copy-requires
+is_copy-requires c = copy_size c.args.bytes.now c.loop-number.number c.loop-number-test.true
+
+pub of-requires : goal.of-requires
+of-requires c = copy_size c.args.bytes.now c.loop-number.number c.loop-number-test.true
+
+pub returns-then-is_copy-clause-short : goal.returns-then-is_copy-clause-short
+returns-then-is_copy-clause-short c = (λ e. absurd (let no : ⊥ = cc in no), λ k. absurd (omega (arith, k, c.if-bytes-lt-PAGE_BYTES.false)))
+
+pub returns-then-is_copy-clause-no_copy : goal.returns-then-is_copy-clause-no_copy
+returns-then-is_copy-clause-no_copy c = (λ e. absurd (let no : ⊥ = cc in no), λ h. absurd (h.1 c.loop-number.number (c.is_copy.ensures.0 c.if-is_copy.true)))
+
+pub loop-number-preserved : goal.loop-number-preserved
+loop-number-preserved c = none_here c.args.bytes.now c.loop-number.number c.loop-number.invariant (λ page. false≢true (sym c.if-is_copy.false ∙ c.is_copy.ensures.1 page))
