@@ -14,7 +14,7 @@ use Rattle.onfi_bound.proofs.Loading.{loads_after}
 use Rattle.onfi_planner.specs.declared.search.Best.{Best}
 use Rattle.onfi_planner.specs.Planning.{work, IsOver, Bounded, HasOpened, run_of}
 use Rattle.onfi_planner.proofs.Halfway.{step_of_lun, yields_some, one_over, one_opened, closed_node, open_node, done_node, step_moves, given_up, skipped, visited, ended, ended_count, steps_same, not_empty, luns_of, luns_small, lun_in, started}
-use Rattle.onfi_planner.proofs.Below.{run_more, handed_back}
+use Rattle.onfi_planner.proofs.Below.{handed_back}
 use Rattle.onfi_planner.proofs.BusWork.{work_after}
 use Rattle.onfi_problem.proofs.Limits.{after_limits}
 use Rattle.onfi_planner.proofs.search.+search.Goals as goal
@@ -159,9 +159,6 @@ visit-returns-else-improved-clause-sooner t c = c.in_ok-improved.ensures.found.s
 pub visit-returns-else-improved-clause-least : goal.visit-returns-else-improved-clause-least
 visit-returns-else-improved-clause-least t c = subst (λ (z : Position). Bounded z.problem c.search.new.best.finish) c.advance-undo.ensures.moved c.in_ok-improved.ensures.found.least
 
-pub visit-returns-else-improved-clause-run : goal.visit-returns-else-improved-clause-run
-visit-returns-else-improved-clause-run t c = λ q. absurd (false≢true (sym c.if-improved.false ∙ q))
-
 pub visit-returns-else-improved-clause-kept : goal.visit-returns-else-improved-clause-kept
 visit-returns-else-improved-clause-kept t c = λ q. c.in_ok-improved.ensures.found.kept q
 
@@ -176,15 +173,6 @@ visit-returns-in-Ok-clause-sooner t c = c.in_ok-improved.ensures.found.sooner
 
 pub visit-returns-in-Ok-clause-least : goal.visit-returns-in-Ok-clause-least
 visit-returns-in-Ok-clause-least t c = subst (λ (z : Position). Bounded z.problem c.search.new.best.finish) c.advance-undo.ensures.moved c.in_ok-improved.ensures.found.least
-
-pub visit-returns-in-Ok-clause-run : goal.visit-returns-in-Ok-clause-run
-visit-returns-in-Ok-clause-run t c = λ q.
-    let x = c.args.problem.now in
-    let run = subst (λ (z : Position). Run z.problem (run_of z.groups c.search.new.best.steps.items) c.search.new.best.finish) c.advance-undo.ensures.moved (c.in_ok-improved.ensures.found.run q) in
-    run_more x (record { step = c.args.step; start = c.earliest-start.result }) c.search.new.best.steps.items _ c.search.new.best.finish c.requires.step c.earliest-start.ensures c.in-Ok.ensures.items run
-
-pub visit-returns-in-Ok-clause-kept : goal.visit-returns-in-Ok-clause-kept
-visit-returns-in-Ok-clause-kept t c = λ q. absurd (false≢true (sym q ∙ c.if-improved.true))
 
 pub visit-returns-in-Ok-clause-opened : goal.visit-returns-in-Ok-clause-opened
 visit-returns-in-Ok-clause-opened t c = (subst (λ (z : Position). HasOpened z.problem c.args.best.now.finish c.args.opened.now c.search.new.opened) c.advance-undo.ensures.moved c.in_ok-improved.ensures.opened.0, c.in_ok-improved.ensures.opened.1)
