@@ -30,12 +30,6 @@ loop-other-preserved c =
       ])
     ]
 
-pub bounds-counts-other : goal.bounds-counts-other
-bounds-counts-other c = let plane = (all_at IsWant c.args.before.now c.loop-other.other-index no_want c.loop-other-test.true c.requires.wants).plane in omega (arith, plane)
-
-pub bounds-counts-other-then-has : goal.bounds-counts-other-then-has
-bounds-counts-other-then-has c = let plane = (all_at IsWant c.args.before.now c.loop-other.other-index no_want c.loop-other-test.true c.requires.wants).plane in omega (arith, plane)
-
 pub returns-clause-value : goal.returns-clause-value
 returns-clause-value c = c.loop-other.invariant ∙ ap (λ z. plane_counts c.args.rules.now c.args.want.now (on_lun c.args.want.now.lun z)) (take_all c.loop-other.other-index c.args.before.now c.loop-other-test.false)
 

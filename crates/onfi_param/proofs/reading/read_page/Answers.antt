@@ -16,13 +16,10 @@ returns-clause-no_copy c = (
 )
 
 pub is_copy-requires : goal.is_copy-requires
-is_copy-requires c = copy_size c.args.bytes.now c.loop-number.number c.loop-number-test.true
+is_copy-requires c = copy_size c.args.bytes.now c.loop-number.number (omega (arith, c.loop-number-test.true))
 
 pub of-requires : goal.of-requires
-of-requires c = copy_size c.args.bytes.now c.loop-number.number c.loop-number-test.true
-
-pub returns-then-is_copy-clause-short : goal.returns-then-is_copy-clause-short
-returns-then-is_copy-clause-short c = (λ e. absurd (let no : ⊥ = cc in no), λ k. absurd (omega (arith, k, c.if-bytes-lt-PAGE_BYTES.false)))
+of-requires c = copy_size c.args.bytes.now c.loop-number.number (omega (arith, c.loop-number-test.true))
 
 pub returns-then-is_copy-clause-no_copy : goal.returns-then-is_copy-clause-no_copy
 returns-then-is_copy-clause-no_copy c = (λ e. absurd (let no : ⊥ = cc in no), λ h. absurd (h.1 c.loop-number.number (c.is_copy.ensures.0 c.if-is_copy.true)))
