@@ -1,14 +1,13 @@
 //! One channel of a core: its half, its chip and its queues.
 
-ghost use Rattle.std.specs.Prelude.{◌≡◌, ℕ, ◌≤◌, ◌<◌, [], length, None, Some, Option, IfOk, MatchOption};
-ghost use Rattle.std.specs.List.{AllByRecursion as Each};
+ghost use Rattle.std.specs.Prelude.{◌≡◌, ℕ, ◌≤◌, ◌<◌, None, Some, Option, IfOk, MatchOption};
 ghost use Rattle.std.specs.VecDeque.{deque_capacity};
 ghost use Rattle.onfi_core.specs.Dues.{IsDue};
 ghost use Rattle.onfi_core.specs.declared.event.Event.TheVariants as event;
 ghost use Rattle.onfi_core.specs.Steps.{Step, bus_refusal, fault_of};
 ghost use Rattle.onfi_core.specs.Core.{with_batch};
 ghost use Rattle.onfi_core.specs.Refusals.{planned_outcome};
-ghost use Rattle.onfi_core.specs.Queues.{IsFresh, opened_with, IsEmptyQueue, state_in};
+ghost use Rattle.onfi_core.specs.Queues.{IsFresh, opened_with, state_in};
 
 use crate::drive::{DriveFault, drive};
 use crate::due::Due;
