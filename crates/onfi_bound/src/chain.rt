@@ -9,7 +9,7 @@ use onfi_problem::Lun;
 use onfi_timing::{Kind, Timing};
 
 /// What is left of a LUN's running group, in ns; where it is free only `from` is not 0.
-#[derive(Clone, Copy, Debug, Default, PartialEq, Eq)]
+#[derive(Clone, Copy, Default)]
 pub struct Chain {
     /// Whether a group runs on the LUN.
     pub running: bool,

@@ -6,7 +6,7 @@ ghost use Rattle.onfi_bound.specs.Parts.{has_kind};
 use onfi_timing::Kind;
 
 /// A set of kinds.
-#[derive(Clone, Copy, Debug, PartialEq, Eq)]
+#[derive(Clone, Copy)]
 pub struct Kinds {
     pub read: bool,
     pub program: bool,

@@ -16,7 +16,7 @@ use onfi_request::Want;
 use onfi_timing::Timing;
 
 /// Sums over all LUNs of what is left, in ns.
-#[derive(Clone, Copy, Debug, PartialEq, Eq)]
+#[derive(Clone, Copy)]
 pub struct Sums {
     /// All commands that are left.
     pub commands: u64,

@@ -8,17 +8,16 @@ use onfi_timing::Kind;
 use std::alloc::{AllocError, Global};
 
 /// The part of an operation that a phase is.
-#[derive(Clone, Copy, Debug, Default, PartialEq, Eq)]
+#[derive(Clone, Copy)]
 pub(crate) enum Part {
     /// The command with its address and data.
-    #[default]
     Command,
     /// The data output, or the status.
     Post,
 }
 
 /// A phase as a trace tells of it.
-#[derive(Clone, Copy, Debug, Default, PartialEq, Eq)]
+#[derive(Clone, Copy)]
 pub(crate) struct TraceLine {
     pub(crate) start: u64,
     pub(crate) end: u64,
