@@ -4,43 +4,51 @@
 
 # The crates that a line of crates.txt says a crate stands on.
 below = $(filter onfi_%,$(shell sed -n 's/^$(1)\( [^:]*\)\{0,1\}://p' crates.txt))
+proved = $(patsubst %,crates/%/out/proved,$(1))
+sources_of = $(shell find crates/$(1)/src crates/$(1)/specs crates/$(1)/proofs -type f)
 LIBRARIES := $(call below,onfi_sim)
 
-# One job for each processor, up to four; a job takes about a gigabyte of memory.
-JOBS ?= $(shell n=$$(nproc); echo $$((n < 4 ? n : 4)))
+# The crates are a chain but for one. So some are proved ahead, beside the crates named here, from their sources.
+ahead_onfi_addr := onfi_param
+ahead_onfi_request := onfi_timing
+ahead_onfi_problem := onfi_group
+ahead_onfi_bound := onfi_schedule
+ahead_onfi_planner := onfi_check
+ahead_onfi_sim := onfi_group onfi_problem onfi_schedule onfi_bound onfi_cert onfi_check onfi_planner
+# Of onfi_sim the modules that only read and write text.
+only_onfi_sim := words script row rows row_name field forms text fault seen parts transfer plan_line plan_text
 
-# What of onfi_sim reads and writes text stands on onfi_request and what is below it, and needs not wait for the crates above.
-TEXTS := words script row rows row_name field forms text fault seen parts transfer plan_line plan_text
-ABOVE_REQUESTS := $(filter-out onfi_request $(call below,onfi_request),$(LIBRARIES))
+# Jobs of a check; a job takes about a gigabyte of memory.
+JOBS ?= 2
 
 .PHONY: plan try test
 
-# Crates that don't stand on each other are proved side by side.
 plan:
-	@$(MAKE) --no-print-directory -j2 bin/onfi_sim
+	@$(MAKE) --no-print-directory -j3 bin/onfi_sim
 	bin/onfi_sim plan < examples/one-read.onfi
 
 # A library is proved once those that it stands on are.
 define library
-crates/$(1)/out/proved: $(patsubst %,crates/%/out/proved,$(call below,$(1))) $(shell find crates/$(1)/src crates/$(1)/specs crates/$(1)/proofs -type f)
+crates/$(1)/out/proved: $(call proved,$(call below,$(1))) $(call sources_of,$(1)) | $(if $(ahead_$(1)),crates/$(1)/out/ahead)
 	@echo "proving $(1)"
-	@cd crates/$(1) && { rt lib --jobs $(JOBS) > out.log 2>&1 || { tail -n 40 out.log; exit 1; }; }
-	@rm -f crates/$(1)/out.log
+	@tools/prove library $(1) --source $(ahead_$(1)) --jobs $(JOBS)
 	@touch $$@
 endef
 $(foreach crate,$(LIBRARIES),$(eval $(call library,$(crate))))
 
-# Only where nothing of onfi_sim is kept: its own check finds there what this proved, and decides.
-crates/onfi_sim/out/ahead: | crates/onfi_request/out/proved
-	@echo "proving ahead what onfi_sim reads and writes"
-	@tools/prove-ahead onfi_sim --jobs 2 --source $(ABOVE_REQUESTS) $(TEXTS:%=--only %)
-	@touch $@
+# Only where nothing of the crate is kept: its own check finds what was proved here, and decides.
+define ahead
+crates/$(1)/out/ahead: | $(call proved,$(filter-out $(ahead_$(1)),$(call below,$(1))))
+	@echo "proving $(1) ahead"
+	@tools/prove ahead $(1) --source $(ahead_$(1)) $(only_$(1):%=--only %) --jobs $(JOBS) || true
+	@touch $$@
+endef
+$(foreach crate,$(LIBRARIES) onfi_sim,$(if $(ahead_$(crate)),$(eval $(call ahead,$(crate)))))
 
-bin/onfi_sim: $(LIBRARIES:%=crates/%/out/proved) $(shell find crates/onfi_sim/src crates/onfi_sim/specs crates/onfi_sim/proofs -type f) crates.txt | crates/onfi_sim/out/ahead
+bin/onfi_sim: $(call proved,$(LIBRARIES)) $(call sources_of,onfi_sim) crates.txt | crates/onfi_sim/out/ahead
 	@echo "proving onfi_sim"
+	@tools/prove program onfi_sim --source $(ahead_onfi_sim) --jobs 4
 	@mkdir -p bin
-	@cd crates/onfi_sim && { rt run --jobs $(JOBS) -- plan < ../../examples/one-read.onfi > /dev/null 2> out.log || { tail -n 40 out.log; exit 1; }; }
-	@rm -f crates/onfi_sim/out.log
 	@cp crates/onfi_sim/out/onfi_sim bin/onfi_sim
 
 try:
