@@ -1,6 +1,7 @@
 -- Texts that grow piece by piece.
-use Rattle.std.proofs.Common.{◌≡◌, ◌<◌, ◌≤◌, ℕ, ◌+◌, List, [], ◌∷◌, ◌++◌, length, take, drop, get_or, refl, sym, ap, ◌∙◌, add-one, drop-cons, append_assoc, append-nil}
+use Rattle.std.proofs.Common.{◌≡◌, ◌<◌, ◌≤◌, ℕ, ◌+◌, List, [], ◌∷◌, ◌++◌, length, take, drop, get_or, Ok, Err, refl, sym, ap, ◌∙◌, add-one, drop-cons, append_assoc, append-nil}
 use Rattle.std.proofs.Math.ListN.{drop_of_length-le}
+use Rattle.std.specs.Prelude.{Result, is_ok, if◌then◌else◌, OnOk}
 use Rattle.onfi_sim.specs.Text.{rest_line, rest_lines}
 use Rattle.std.specs.List.{flat_map}
 use Rattle.std.proofs.Math.Seq.{take-suc}
@@ -45,3 +46,8 @@ listed_more rest at x start text next h listed e = record {
 pub listed_all : (rest : List (List ℕ)) (at : ℕ) (start text : List ℕ) → length rest ≤ at → Listed rest at start text → text ≡ start ++ rest_lines 0 rest
 unfolding rest_lines
 listed_all rest at start text h listed = sym (append-nil text) ∙ ap (λ l. text ++ rest_lines at l) (sym (drop_of_length-le rest h)) ∙ listed.is
+
+-- a piece behind a text, where there was memory for it
+pub pushed : {E : Type 0} (r : Result (Unit {0}) E) (old piece new wanted : List ℕ) → new ≡ (if is_ok r then old ++ piece else old) → piece ≡ wanted → OnOk r (new ≡ old ++ wanted)
+pushed (Ok x) old piece new wanted e same = e ∙ ap (λ l. old ++ l) same
+pushed (Err y) old piece new wanted e same = tt

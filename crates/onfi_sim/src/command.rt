@@ -1,5 +1,5 @@
 /// What the program is asked to do with a script.
-#[derive(Clone, Copy, Debug, PartialEq, Eq)]
+#[derive(Clone, Copy)]
 pub enum Command {
     /// Print an optimal schedule with its certificate, or its trace in their place; the search opens at most `limit`
     /// nodes, 1 to 1,048,576.

@@ -1,6 +1,6 @@
 //! The command line.
-ghost use Rattle.std.specs.Prelude.{◌≡◌, ◌≤◌, IfOk, false, map, string_bytes, codes};
-ghost use Rattle.clap.specs.Words.{app_of, first_value, found_of, rule_of, subcommand_of, subcommand_rows_of};
+ghost use Rattle.std.specs.Prelude.{◌≡◌, ◌≤◌, IfOk, Some, false, map, string_bytes, codes};
+ghost use Rattle.clap.specs.Words.{app_of, first_value, found_of, new_rule, rule_of, subcommand_of, subcommand_rows_of};
 ghost use Rattle.onfi_sim.specs.Words as spec;
 ghost use Rattle.onfi_sim.specs.Limit.{IsLimited};
 
@@ -12,7 +12,7 @@ use std::alloc::{AllocError, Global};
 use thiserror::Error;
 
 /// Why a command line is not taken.
-#[derive(Clone, Copy, Debug, PartialEq, Eq, Error)]
+#[derive(Clone, Copy, Debug, Error)]
 pub enum WordsFault {
     #[error("the command line is not one of this program")]
     Refused,
@@ -23,32 +23,20 @@ pub enum WordsFault {
 /// The greatest limit of a search, and the one where none is named.
 const MOST: u32 = 1_048_576;
 
-/// `--limit N`
-fn limit<'a>(alloc: Global) -> Arg<'a>
-    ensures rule { rule_of result ≡ spec.limit }
+/// `--NAME`
+fn option<'a>(alloc: Global, name: &'a str, action: ArgAction) -> Arg<'a>
+    ensures rule { rule_of result ≡ record (new_rule name.now) { long = Some name.now; action = Some action } }
     ensures local { result.global ≡ false }
 {
-    Arg::new(alloc, "limit")
-        .long("limit")
-        .action(ArgAction::Set)
-}
-
-/// `--trace`
-fn trace<'a>(alloc: Global) -> Arg<'a>
-    ensures rule { rule_of result ≡ spec.trace }
-    ensures local { result.global ≡ false }
-{
-    Arg::new(alloc, "trace")
-        .long("trace")
-        .action(ArgAction::SetTrue)
+    Arg::new(alloc, name).long(name).action(action)
 }
 
 /// The program with the command `plan [--limit N] [--trace]`.
 fn with_plan<'a>(alloc: Global) -> Result<App<'a>, AllocError>
     ensures { IfOk result (λ a. app_of a ≡ spec.with_plan) }
 {
-    let plan = App::new(alloc, "plan").arg(limit(alloc))?;
-    let plan = plan.arg(trace(alloc))?;
+    let plan = App::new(alloc, "plan").arg(option(alloc, "limit", ArgAction::Set))?;
+    let plan = plan.arg(option(alloc, "trace", ArgAction::SetTrue))?;
     App::new(alloc, "onfi_sim").subcommand(plan)
 }
 

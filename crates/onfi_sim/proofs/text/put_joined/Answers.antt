@@ -1,6 +1,7 @@
 use Rattle.std.proofs.Common.{◌++◌}
 use Rattle.std.specs.Fmt.{decimal}
 use Rattle.std.specs.Prelude.{string_bytes, codes}
+use Rattle.std.proofs.lemmas.Result.{IfOk-from_err}
 use Rattle.onfi_timing.specs.declared.kind.Kind.TheVariants.{Read}
 use Rattle.onfi_request.specs.declared.want.Want.{Want}
 use Rattle.onfi_sim.proofs.TextLemmas.{grown_none, grown_more, grown_all}
@@ -17,3 +18,6 @@ loop-want-preserved c =
 pub returns : goal.returns
 returns c =
     grown_all (λ (w : Want). codes "+" ++ decimal w.id) c.args.wants.now c.loop-want.want-index (string_bytes c.args.text.now) (string_bytes c.loop-want.text) c.loop-want-test.false c.loop-want.invariant
+
+pub returns-in_err-put_number : goal.returns-in_err-put_number
+returns-in_err-put_number c = IfOk-from_err c.from_residual.result _ c.from_residual.ensures.0

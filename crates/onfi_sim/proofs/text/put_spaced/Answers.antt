@@ -1,6 +1,7 @@
 use Rattle.std.proofs.Common.{◌++◌}
 use Rattle.std.specs.Fmt.{decimal}
 use Rattle.std.specs.Prelude.{string_bytes, codes}
+use Rattle.std.proofs.lemmas.Result.{IfOk-from_err}
 use Rattle.onfi_sim.proofs.TextLemmas.{grown_none, grown_more, grown_all}
 use Rattle.onfi_sim.proofs.text.put_spaced.Goals as goal
 
@@ -15,3 +16,6 @@ loop-number-preserved c =
 pub returns : goal.returns
 returns c =
     grown_all (λ n. codes " " ++ decimal n) c.args.numbers.now c.loop-number.number-index (string_bytes c.args.text.now) (string_bytes c.loop-number.text) c.loop-number-test.false c.loop-number.invariant
+
+pub returns-in_err-put_number : goal.returns-in_err-put_number
+returns-in_err-put_number c = IfOk-from_err c.from_residual.result _ c.from_residual.ensures.0
