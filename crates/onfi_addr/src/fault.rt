@@ -1,26 +1,44 @@
+use std::fmt;
 use thiserror::Error;
 
 /// Why a device can't be driven, in the order in which it is told.
 #[derive(Clone, Copy, Debug, PartialEq, Eq, Error)]
 pub enum GeometryFault {
-    #[error("the data bus has 16 bits")]
     WideBus,
-    #[error("the device has no Read Status Enhanced")]
     NoStatusEnhanced,
-    #[error("the device has no Change Read Column Enhanced")]
     NoColumnEnhanced,
-    #[error("several LUNs, and not at the same time")]
     NoMultiLun,
-    #[error("no LUN, or more than 8")]
     LunCount,
-    #[error("more than 2 plane address bits")]
     PlaneBits,
-    #[error("no page, no block or no data byte")]
     Zero,
-    #[error("a row address doesn't fit the row address cycles")]
     RowTooWide,
-    #[error("a column address doesn't fit the column address cycles")]
     ColumnTooWide,
-    #[error("more than 4096 pages a block, 65536 blocks a LUN or 65535 bytes a page")]
     TooLarge,
+}
+
+impl GeometryFault {
+    // What a reader is told of it.
+    fn text(&self) -> &'static str {
+        match self {
+            GeometryFault::WideBus => "the data bus has 16 bits",
+            GeometryFault::NoStatusEnhanced => "the device has no Read Status Enhanced",
+            GeometryFault::NoColumnEnhanced => "the device has no Change Read Column Enhanced",
+            GeometryFault::NoMultiLun => "several LUNs, and not at the same time",
+            GeometryFault::LunCount => "no LUN, or more than 8",
+            GeometryFault::PlaneBits => "more than 2 plane address bits",
+            GeometryFault::Zero => "no page, no block or no data byte",
+            GeometryFault::RowTooWide => "a row address doesn't fit the row address cycles",
+            GeometryFault::ColumnTooWide =>
+                "a column address doesn't fit the column address cycles",
+            GeometryFault::TooLarge => {
+                "more than 4096 pages a block, 65536 blocks a LUN or 65535 bytes a page"
+            }
+        }
+    }
+}
+
+impl fmt::Display for GeometryFault {
+    fn fmt<W: fmt::Write>(&self, f: &mut fmt::Formatter<W>) -> fmt::Result {
+        f.write_str(self.text())
+    }
 }
