@@ -2,12 +2,12 @@
 
 ghost use Rattle.std.specs.Prelude.{◌≡◌, ◌+◌, ◌*◌, ◌^◌, ◌<◌, ◌≤◌, ◌↔◌, IsTrue, length};
 ghost use Rattle.onfi_group.specs.Words.{total};
-ghost use Rattle.onfi_problem.specs.Left.{chain_time, want_time, latest_wait};
+ghost use Rattle.onfi_problem.specs.Left.{chain_time, want_time, latest_wait, waits_left};
 ghost use Rattle.onfi_problem.specs.Checks.{time_of};
 
 use crate::lun_state::LunState;
 use onfi_request::Want;
-use onfi_timing::Timing;
+use onfi_timing::{Spans, Timing};
 
 /// Times of a problem stay below this many ns.
 const LIMIT: u64 = 1 << 62;
@@ -67,13 +67,21 @@ fn chain_time(timing: &Timing, state: &LunState) -> u64
             let next = *next as u64;
             let commands = members.saturating_sub(next);
             let posts = (2 * members).saturating_sub(next.max(members));
-            let waits = if next < members {
-                (members - 1 - next) * spans.gap + spans.array
-            } else {
-                0
-            };
-            commands * spans.cmd + posts * spans.post + waits
+            commands * spans.cmd + posts * spans.post + waits_left(&spans, members, next)
         }
+    }
+}
+
+// The waits behind phase `next` of a group.
+fn waits_left(spans: &Spans, members: u64, next: u64) -> u64
+    requires { members ≤ 4 }
+    ensures value { result ≡ waits_left spans.now members next }
+    ensures small { result ≤ 4 * 2 ^ 50 }
+{
+    if next < members {
+        (members - 1 - next) * spans.gap + spans.array
+    } else {
+        0
     }
 }
 
