@@ -7,7 +7,7 @@ use Rattle.onfi_cert.specs.declared.token.Token.TheVariants as tk
 use Rattle.onfi_cert.specs.declared.fault.CertTextFault.{CertTextFault}
 use Rattle.onfi_cert.specs.declared.fault.CertTextFault.TheVariants as fault
 use Rattle.onfi_cert.specs.declared.limits.TheConstants.{MOST_TOKENS}
-use Rattle.onfi_cert.specs.Text.{InRange, IsCertificate, header, joined, line, spelling, text_of}
+use Rattle.onfi_cert.specs.Text.{InRange, IsCertificate, digit, header, joined, line, number, spelling, text_of}
 use Rattle.onfi_cert.specs.Word.{NoToken}
 use Rattle.onfi_cert.specs.Reading.{Ahead, EndsBy, Holds, IsFaultOf, NoHeader, Reads, spaced}
 use Rattle.onfi_cert.specs.Reading.IsWrongAfter.{no_token, no_end, goes_on}
@@ -31,14 +31,17 @@ fronted_spaced (t ∷ ts) more =
     ∙ ap (λ x. 32 ∷ x) (sym (append_assoc (spelling t) (32 ∷ []) (spaced ts ++ more)))
     ∙ ap (λ x. 32 ∷ x) (sym (append_assoc (spelling t ++ 32 ∷ []) (spaced ts) more))
 
+other_front : (a b : ℕ) (x y : List ℕ) → a ≢ b → a ∷ x ≢ b ∷ y
+other_front a b x y other e = other (ap (λ l. get_or l 0 0) e)
+
 first_byte : (t : Token) (rest : List ℕ) → spelling t ++ rest ≢ 10 ∷ []
-first_byte (tk.Branch n) rest e = cc
-first_byte tk.Bus rest e = cc
-first_byte tk.Lead rest e = cc
-first_byte tk.Trail rest e = cc
-first_byte (tk.Die l) rest e = cc
-first_byte (tk.Yield l) rest e = cc
-first_byte tk.End rest e = cc
+first_byte (tk.Branch n) rest = other_front 66 10 (number n ++ rest) [] (λ q. omega arith)
+first_byte tk.Bus rest = other_front 85 10 rest [] (λ q. omega arith)
+first_byte tk.Lead rest = other_front 76 10 rest [] (λ q. omega arith)
+first_byte tk.Trail rest = other_front 84 10 rest [] (λ q. omega arith)
+first_byte (tk.Die l) rest = other_front 68 10 (digit l ∷ rest) [] (λ q. omega arith)
+first_byte (tk.Yield l) rest = other_front 89 10 (digit l ∷ rest) [] (λ q. omega arith)
+first_byte tk.End rest = other_front 88 10 rest [] (λ q. omega arith)
 
 -- no line of tokens begins with LF
 not_empty : (t : Token) (ts : List Token) (more : List ℕ) → joined (t ∷ ts) ++ more ≢ 10 ∷ []
@@ -75,20 +78,20 @@ led_ends (b ∷ c ∷ rest) = inr refl
 
 -- a line that holds nothing but LF
 empty_ends : (ts : List Token) (e : Option CertTextFault) (tail : List ℕ) → 10 ∷ [] ≡ fronted ts ++ tail → Stops (length ts) e tail → EndsBy ts (10 ∷ []) e
-empty_ends (t ∷ ts) e tail same s = absurd (let bad : 10 ∷ [] ≡ 32 ∷ ((spelling t ++ fronted ts) ++ tail) = same in cc)
+empty_ends (t ∷ ts) e tail same s = absurd (other_front 10 32 [] ((spelling t ++ fronted ts) ++ tail) (λ q. omega arith) same)
 empty_ends [] None tail same s = refl
 empty_ends [] (Some (fault.BadToken p)) tail same (at, cut e) = cc
 empty_ends [] (Some (fault.BadToken p)) tail same (at, on b more e) = cc
-empty_ends [] (Some (fault.BadToken p)) tail same (at, bad more e none h) = cc
+empty_ends [] (Some (fault.BadToken p)) tail same (at, bad more e none h) = absurd (other_front 10 32 [] more (λ q. omega arith) (same ∙ e))
 empty_ends [] (Some fault.TooLong) tail same s = absurd (omega (arith, s.0))
 empty_ends [] (Some fault.Header) tail same s = s
 empty_ends [] (Some fault.Memory) tail same s = s
 
 -- what stands behind no token
 nothing_before : (bytes tail : List ℕ) → 32 ∷ bytes ≡ tail → (tail ≡ 10 ∷ []) ⊎ ((tail ≡ []) ⊎ ((b : ℕ) × ((more : List ℕ) × (tail ≡ 10 ∷ b ∷ more)))) → ⊥
-nothing_before bytes tail e (inl f) = cc
+nothing_before bytes tail e (inl f) = other_front 32 10 bytes [] (λ q. omega arith) (e ∙ f)
 nothing_before bytes tail e (inr (inl f)) = cc
-nothing_before bytes tail e (inr (inr (b, (more, f)))) = cc
+nothing_before bytes tail e (inr (inr (b, (more, f)))) = other_front 32 10 bytes (b ∷ more) (λ q. omega arith) (e ∙ f)
 
 cut_front : (x : ℕ) (xs ys : List ℕ) → x ∷ xs ≡ x ∷ ys → xs ≡ ys
 cut_front x xs ys e = cc
