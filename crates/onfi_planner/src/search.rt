@@ -13,7 +13,7 @@ use onfi_check::last_ends;
 use onfi_problem::{Move, Problem};
 
 /// A step, and when it begins.
-#[derive(Clone, Copy, Debug, PartialEq, Eq)]
+#[derive(Clone, Copy)]
 pub struct Begun {
     pub step: Move,
     pub start: u64,
@@ -27,7 +27,7 @@ pub struct Best {
 }
 
 /// Why a search gave up.
-#[derive(Debug, Drop)]
+#[derive(Drop)]
 pub enum Stop {
     /// As many nodes as may be are open, and there is one more.
     Over,
