@@ -11,15 +11,12 @@ LIBRARIES := $(call below,onfi_sim)
 # The crates are a chain but for one. So some are proved ahead, beside the crates named here, from their sources.
 ahead_onfi_addr := onfi_param
 ahead_onfi_request := onfi_timing
-ahead_onfi_problem := onfi_group
-ahead_onfi_bound := onfi_schedule
-ahead_onfi_planner := onfi_check
 ahead_onfi_sim := onfi_group onfi_problem onfi_schedule onfi_bound onfi_cert onfi_check onfi_planner
 # Of onfi_sim the modules that only read and write text.
 only_onfi_sim := words script row rows row_name field forms text fault seen parts transfer plan_line plan_text
 
-# Jobs of a check; a job takes about a gigabyte of memory.
-JOBS ?= 2
+# One job for each processor, up to four; a job takes about a gigabyte of memory.
+JOBS ?= $(shell n=$$(nproc); echo $$((n < 4 ? n : 4)))
 
 .PHONY: plan try test
 
@@ -40,14 +37,14 @@ $(foreach crate,$(LIBRARIES),$(eval $(call library,$(crate))))
 define ahead
 crates/$(1)/out/ahead: | $(call proved,$(filter-out $(ahead_$(1)),$(call below,$(1))))
 	@echo "proving $(1) ahead"
-	@tools/prove ahead $(1) --source $(ahead_$(1)) $(only_$(1):%=--only %) --jobs $(JOBS) || true
+	@nice tools/prove ahead $(1) --source $(ahead_$(1)) $(only_$(1):%=--only %) --jobs 2 || true
 	@touch $$@
 endef
 $(foreach crate,$(LIBRARIES) onfi_sim,$(if $(ahead_$(crate)),$(eval $(call ahead,$(crate)))))
 
 bin/onfi_sim: $(call proved,$(LIBRARIES)) $(call sources_of,onfi_sim) crates.txt | crates/onfi_sim/out/ahead
 	@echo "proving onfi_sim"
-	@tools/prove program onfi_sim --source $(ahead_onfi_sim) --jobs 4
+	@tools/prove program onfi_sim --source $(ahead_onfi_sim) --jobs $(JOBS)
 	@mkdir -p bin
 	@cp crates/onfi_sim/out/onfi_sim bin/onfi_sim
 
