@@ -24,12 +24,13 @@ plan:
 	@$(MAKE) --no-print-directory -j3 bin/onfi_sim
 	bin/onfi_sim plan < examples/one-read.onfi
 
-# A library is proved once those that it stands on are, and onfi_cert, on which few stand, once processors are idle.
+# A library is proved once those that it stands on are; onfi_cert, on which few stand, later and by one process beside others.
 after_onfi_cert := onfi_request
+beside_onfi_cert := yes
 define library
 crates/$(1)/out/proved: $(call proved,$(call below,$(1))) $(call sources_of,$(1)) | $(if $(ahead_$(1)),crates/$(1)/out/ahead) $(call proved,$(after_$(1)))
 	@echo "proving $(1)"
-	@tools/prove library $(1) --source $(ahead_$(1)) --jobs $(JOBS)
+	@$(if $(beside_$(1)),nice) tools/prove library $(1) --source $(ahead_$(1)) --jobs $(if $(beside_$(1)),1,$(JOBS))
 	@touch $$@
 endef
 $(foreach crate,$(LIBRARIES),$(eval $(call library,$(crate))))
