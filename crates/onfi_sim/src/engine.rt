@@ -18,7 +18,7 @@ use crate::forms::device_of;
 use crate::plan_text::{PlanStop, read_plan};
 use crate::row::Row;
 use crate::rows::rows;
-use crate::script::{behind_end, records, script_len};
+use crate::script::{behind_end, script_len};
 use crate::setup::{Setup, absent, set_up};
 use crate::text::{
     Answer, accepted, over, plan_text, refused, refused_at, refused_for, text_refused,
@@ -30,6 +30,7 @@ use onfi_check::check_text;
 use onfi_planner::{PlanFault, Planned, plan};
 use onfi_problem::{Problem, ProblemFault};
 use onfi_schedule::{Schedule, trace};
+use onfi_timing::read_records;
 use std::alloc::{AllocError, Global};
 use std::io::{Read, Write};
 
@@ -241,7 +242,7 @@ fn answer(alloc: Global, command: Command, input: &[u8]) -> Result<Answer, Alloc
         return refused_whole(alloc, ScriptFault::NoEnd);
     };
     let (script, closed) = input.split_at(size);
-    let Ok(found) = records(alloc, script) else {
+    let Ok(found) = read_records(alloc, script) else {
         return Err(AllocError);
     };
     answer_records(alloc, command, behind_end(closed), found.as_slice())
