@@ -1,6 +1,7 @@
 # make plan: prove and build bin/onfi_sim, and plan one read with it.
 # make try:  the same script with the program unproved, within a minute.
-# make test: what must not compile, then the whole gate.
+# make test: the whole gate: what must not compile, every proof and test, the cases of the program, and all wrong bodies.
+# make wrong-bodies: these alone; tools/wrong-bodies CRATE tries those of one crate.
 
 # The crates that a line of crates.txt says a crate stands on.
 below = $(filter onfi_%,$(shell sed -n 's/^$(1)\( [^:]*\)\{0,1\}://p' crates.txt))
@@ -18,7 +19,7 @@ only_onfi_sim := words script row rows row_name field forms text fault seen part
 # One job for each processor, up to four; a job takes about a gigabyte of memory.
 JOBS ?= $(shell n=$$(nproc); echo $$((n < 4 ? n : 4)))
 
-.PHONY: plan try test
+.PHONY: plan try test wrong-bodies
 
 plan:
 	@$(MAKE) --no-print-directory -j3 bin/onfi_sim
@@ -55,5 +56,7 @@ try:
 	cd crates/onfi_sim && rt try -- plan < ../../examples/one-read.onfi
 
 test:
-	tools/must-not-compile
-	rt ci
+	tools/gate
+
+wrong-bodies:
+	tools/wrong-bodies
