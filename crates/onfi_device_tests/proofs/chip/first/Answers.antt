@@ -2,7 +2,7 @@ use Rattle.std.proofs.Common.{◌≡◌, ℕ, zero, suc, ◌<◌, Some, replicat
 use Rattle.std.specs.Prelude.{slice_get}
 use Rattle.onfi_chip.specs.Chip.{Chip, Lun}
 use Rattle.onfi_chip.specs.Chip.Lun.{Idle}
-use Rattle.onfi_chip.proofs.tests.first.Goals as goal
+use Rattle.onfi_device_tests.proofs.chip.first.Goals as goal
 
 get_replicate : (n i : ℕ) (x : Lun) → i < n → slice_get (replicate n x) i ≡ Some x
 get_replicate zero i x l = absurd (omega arith)
