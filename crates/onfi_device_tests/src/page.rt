@@ -41,9 +41,15 @@ pub(crate) fn sample_page() -> [u8; 256] {
     changed([0; 256], &BYTES)
 }
 
+/// The check value of all bytes but the last two.
+pub(crate) fn crc_of_front(page: &[u8; 256]) -> u16 {
+    let (front, _) = page.split_at(254);
+    crc16(front)
+}
+
 /// The page with the check value of its other bytes.
 pub(crate) fn with_crc(page: [u8; 256]) -> [u8; 256] {
-    let [low, high] = crc16(&page[..254]).to_le_bytes();
+    let [low, high] = crc_of_front(&page).to_le_bytes();
     changed(page, &[(254, low), (255, high)])
 }
 

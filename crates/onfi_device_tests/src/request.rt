@@ -2,7 +2,6 @@ use onfi_addr::Place;
 use onfi_request::{Answer, Basis, Bytes, Reply, Request, RequestFault, check};
 use onfi_samples::sample_geometry;
 use onfi_timing::Kind;
-use std::alloc::AllocError;
 
 /// Kind, LUN, block and page, the count of data bytes, and the first fault.
 const REQUESTS: [(Kind, (u8, u16, u16), u16, Option<RequestFault>); 13] = [
@@ -32,13 +31,13 @@ const REQUESTS: [(Kind, (u8, u16, u16), u16, Option<RequestFault>); 13] = [
 ];
 
 #[test]
-fn the_first_fault_is_told(rt: HostRuntime) -> Result<(), AllocError> {
+fn the_first_fault_is_told(rt: HostRuntime) {
     let geometry = sample_geometry();
     for (kind, (lun, block, page), count, fault) in REQUESTS {
         let request = Request {
             kind,
             place: Place { lun, block, page },
-            bytes: Bytes::of(vec![in rt.alloc(); 0xA5; usize::from(count)]?),
+            bytes: Bytes::of(vec![in rt.alloc(); 0xA5; usize::from(count)].expect(&rt, "memory")),
         };
         let told = check(&geometry, &request).err();
         assert_eq!(rt;
@@ -47,12 +46,11 @@ fn the_first_fault_is_told(rt: HostRuntime) -> Result<(), AllocError> {
             "{kind:?} of {lun} {block} {page} with {count} bytes"
         );
     }
-    Ok(())
 }
 
 #[test]
-fn bytes_are_shown_as_given(rt: HostRuntime) -> Result<(), AllocError> {
-    let bytes = Bytes::of(vec![in rt.alloc(); 1, 2, 3]?);
+fn bytes_are_shown_as_given(rt: HostRuntime) {
+    let bytes = Bytes::of(vec![in rt.alloc(); 1, 2, 3].expect(&rt, "memory"));
     assert_eq!(rt; bytes.as_slice(), [1, 2, 3].as_slice());
     let reply = Reply {
         host: 3,
@@ -64,5 +62,4 @@ fn bytes_are_shown_as_given(rt: HostRuntime) -> Result<(), AllocError> {
     assert!(rt;
         matches!(&reply.answer, Answer::Read(read) if read.as_slice() == [1, 2, 3].as_slice())
     );
-    Ok(())
 }
