@@ -18,7 +18,7 @@ use Rattle.onfi_chip.specs.declared.closer.Closer.TheVariants.{Last}
 use Rattle.onfi_timing.specs.contracts.kind.Kind.{the_type}
 use denote.Enum.Bare.{sameb, same_true}
 use Rattle.onfi_chip.proofs.SimCalls.{in_range}
-use Rattle.onfi_chip.proofs.tests.run_one.Goals as goal
+use Rattle.onfi_device_tests.proofs.chip.run_one.Goals as goal
 
 false_read : (k : Kind) → k ≡ kind.Read → false ≡ sameb the_type k kind.Read → ⊥
 false_read k e h = let t : false ≡ sameb the_type kind.Read kind.Read = subst (λ q. false ≡ sameb the_type q kind.Read) e h in cc
