@@ -1,5 +1,6 @@
 ghost use Rattle.std.specs.Prelude.{◌≡◌, ◌<◌, ◌≤◌, length};
-ghost use Rattle.std.specs.List.{AllByRecursion as Each, AllPairsByRecursion as Pairs};
+ghost use Rattle.std.specs.List.{AllByRecursion as Each};
+ghost use Rattle.onfi_group.specs.Words.{Pairs};
 
 use crate::sample::want;
 use onfi_group::{Group, Rules, candidates, is_group, startable};
