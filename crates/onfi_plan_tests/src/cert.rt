@@ -1,9 +1,9 @@
-use crate::{
+use onfi_cert::{
     CertTextFault, LunNumber, Token, TokenList, TokenSource, Tokens, Width, join, read, write,
 };
 use std::alloc::Global;
 
-/// B2 Y1 D1
+// B2 Y1 D1
 fn three() -> [Token; 3] {
     [
         Token::Branch(Width::of(2)),
@@ -12,7 +12,7 @@ fn three() -> [Token; 3] {
     ]
 }
 
-/// A token of each kind, at both ends of its range.
+// A token of each kind, at both ends of its range.
 fn each_kind() -> [Token; 12] {
     [
         Token::Branch(Width::of(1)),
@@ -62,27 +62,7 @@ fn reads_what_was_written(rt: HostRuntime) {
     );
 }
 
-/// The fault that `read`, `Tokens` and its `finish` tell of a text, and how many tokens `Tokens` gives before it.
-fn faults(
-    alloc: Global,
-    text: &[u8],
-) -> (
-    Option<CertTextFault>,
-    Option<CertTextFault>,
-    Option<CertTextFault>,
-    usize,
-) {
-    let (told, given) = walk(text);
-    (read(alloc, text).err(), told, finished(text), given)
-}
-
-fn finished(text: &[u8]) -> Option<CertTextFault> {
-    match Tokens::new(text) {
-        Ok(mut source) => source.finish().err(),
-        Err(fault) => Some(fault),
-    }
-}
-
+// The fault that `Tokens` tells of a text, and how many tokens it gives before.
 fn walk(text: &[u8]) -> (Option<CertTextFault>, usize) {
     let mut source = match Tokens::new(text) {
         Ok(source) => source,
@@ -96,6 +76,13 @@ fn walk(text: &[u8]) -> (Option<CertTextFault>, usize) {
         }
     }
     (None, 10)
+}
+
+fn finished(text: &[u8]) -> Option<CertTextFault> {
+    match Tokens::new(text) {
+        Ok(mut source) => source.finish().err(),
+        Err(fault) => Some(fault),
+    }
 }
 
 #[test]
@@ -134,20 +121,17 @@ fn tells_what_is_wrong(rt: HostRuntime) {
         (b"ONFICERT 2 strict\nU\tL\n", BadToken(0)),
     ];
     for (text, wanted) in texts {
-        let (by_read, by_tokens, by_checked, given) = faults(rt.alloc(), text);
-        assert!(rt;
-            by_read == Some(wanted) && by_tokens == Some(wanted) && by_checked == Some(wanted),
-            "{text:?}"
-        );
         let place = match wanted {
             BadToken(place) => place as usize,
             _ => 0,
         };
-        assert_eq!(rt; given, place, "{text:?}");
+        assert_eq!(rt; read(rt.alloc(), text).err(), Some(wanted), "{text:?}");
+        assert_eq!(rt; walk(text), (Some(wanted), place), "{text:?}");
+        assert_eq!(rt; finished(text), Some(wanted), "{text:?}");
     }
 }
 
-/// Whether the source gives these tokens and no more.
+// Whether the source gives these tokens and no more.
 fn gives<S: TokenSource + Drop>(mut source: S, tokens: &[Token]) -> bool {
     for token in tokens {
         if source.next() != Some(*token) {
