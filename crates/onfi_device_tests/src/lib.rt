@@ -14,4 +14,6 @@ mod param;
 #[cfg(test)]
 mod request;
 #[cfg(test)]
+mod texts;
+#[cfg(test)]
 mod timing;

@@ -38,6 +38,7 @@ fn every_field_is_read(rt: HostRuntime) {
         ],
         [false, true, false, true, true, true, true]
     );
+    assert_eq!(rt; page.signature(), b"ONFI".as_slice());
     assert_eq!(rt; page.manufacturer(), b"M\0\0\0\0\0\0\0\0\0\0\0".as_slice());
     assert_eq!(rt;
         page.model(),

@@ -17,3 +17,5 @@ mod problem;
 mod sample;
 #[cfg(test)]
 mod schedule;
+#[cfg(test)]
+mod texts;
