@@ -13,6 +13,7 @@ use Rattle.onfi_check.specs.Tree.{AcceptsTokens}
 use Rattle.onfi_check.specs.Faults.{IsTextFault}
 use Rattle.onfi_check.specs.declared.fault.TextFault.{TextFault}
 use Rattle.onfi_planner.specs.Nodes.{HasMoreNodes}
+use Rattle.onfi_planner.specs.Planning.{AreRising}
 use Rattle.onfi_script.specs.declared.command.Command.{Command}
 use Rattle.onfi_script.specs.declared.command.Command.TheVariants.{Plan, Check}
 use Rattle.onfi_script.specs.declared.fault.ScriptFault.{ScriptFault}
@@ -37,13 +38,14 @@ whole fault = record { row = 0; fault = fault }
 abbrev pub Refuses : ScriptFault → Answer → Type 0
 Refuses fault answer = answer ≡ refused (whole fault)
 
--- the text of an optimal schedule, with tokens that show that none ends before it
+-- the text of an optimal schedule, its groups by rising first start, with tokens that show that none ends before it
 pub record Plans (p : Problem) (answer : Answer) : Type 0 where
   pub schedule : Schedule
   pub ends : ℕ
   pub tokens : List Token
   pub optimal : Optimal p schedule
   pub finish : finish p schedule ≡ ends
+  pub rising : AreRising schedule.groups
   pub certified : AcceptsTokens tokens p ends
   pub text : answer ≡ planned p schedule ends tokens
 
