@@ -3,6 +3,7 @@
 from __future__ import annotations
 
 import os
+import shlex
 import subprocess
 import sys
 from pathlib import Path
@@ -49,3 +50,9 @@ def program() -> Optional[str]:
 
 def run_program(*words: str, given: str) -> "subprocess.CompletedProcess[str]":
     return subprocess.run([str(program()), *words], input=given, capture_output=True, text=True)
+
+
+def run_shell(command: str) -> str:
+    """What a command of a page prints, with the built program for `bin/onfi_sim`."""
+    line = command.replace("bin/onfi_sim", shlex.quote(str(program())))
+    return subprocess.run(line, shell=True, capture_output=True, text=True, cwd=ROOT).stdout
