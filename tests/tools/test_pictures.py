@@ -66,8 +66,8 @@ class Traces(unittest.TestCase):
 class Texts(unittest.TestCase):
     def test_the_picture_of_the_readme(self) -> None:
         self.assertEqual(text.picture(support.trace("batch"), 60), TEXT_OF_BATCH)
-        self.assertIn(TEXT_OF_BATCH.replace("bus", "    bus").replace("LUN", "    LUN").replace("       0", "           0"),
-                      (support.ROOT / "README.md").read_text())
+        indented = "".join("    " + line + "\n" for line in TEXT_OF_BATCH.splitlines())
+        self.assertIn(indented, (support.ROOT / "README.md").read_text())
 
 
 class Drawings(unittest.TestCase):
@@ -257,7 +257,8 @@ class Commands(unittest.TestCase):
         drawn = {"svg": svg.picture(phases, lengths, 960, False), "vcd": vcd.picture(phases, lengths),
                  "perfetto": perfetto.picture(phases, lengths)}
         for form, asked in drawn.items():
-            self.assertEqual(support.run_tool("draw-trace", "--as", form, "--script", script, given=given).stdout, asked)
+            ran = support.run_tool("draw-trace", "--as", form, "--script", script, given=given)
+            self.assertEqual(ran.stdout, asked)
 
     def test_what_is_no_trace_is_told(self) -> None:
         ran = support.run_tool("draw-trace", given="over 7\n")

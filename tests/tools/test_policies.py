@@ -8,10 +8,10 @@ from typing import Dict, List, Tuple
 
 import support
 from onfi_tools.device import Spans
-from onfi_tools.policies import (Device, Group, Planned, Want, first_in_first_out, is_group, round_robin,
+from onfi_tools.policies import (Device, Group, Planned, Policy, Want, first_in_first_out, is_group, round_robin,
                                  round_robin_commands_first, script_of)
 
-WAYS = (first_in_first_out, round_robin, round_robin_commands_first)
+WAYS: Tuple[Policy, ...] = (first_in_first_out, round_robin, round_robin_commands_first)
 USUAL = {"read": Spans(140, 600, 25100, 11000), "program": Spans(10800, 600, 200100, 280),
          "erase": Spans(100, 600, 1500100, 280)}
 

@@ -157,7 +157,8 @@ def labels_of(scale: Scale, own: List[Stretch]) -> List[Label]:
 def add_labels(root: ET.Element, labels: List[Label], top: int) -> None:
     """The lines first, so that no line runs through a name."""
     for label in labels:
-        line = {"x1": f"{label.foot:.2f}", "x2": f"{label.foot:.2f}", "y1": str(base_of(label, top) + 2), "y2": str(top)}
+        foot, head = f"{label.foot:.2f}", str(base_of(label, top) + 2)
+        line = {"x1": foot, "x2": foot, "y1": head, "y2": str(top)}
         ET.SubElement(root, "line", {**line, "stroke": INK, "stroke-width": "0.6"})
     for label in labels:
         text = add_text(root, label.x, base_of(label, top), label.text, "middle")
