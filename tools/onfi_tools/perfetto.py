@@ -1,4 +1,4 @@
-"""A trace in the Trace Event Format, which the viewers of Perfetto and Chrome open."""
+"""A trace in the Trace Event Format, the form that the viewers of Perfetto and Chrome read."""
 
 from __future__ import annotations
 
