@@ -26,6 +26,14 @@ def part_of(phase: Phase) -> Part:
     return Part.COMMAND if not phase.is_post else Part.OUTPUT if phase.kind == "read" else Part.STATUS
 
 
+def sides_of(element: ET.Element) -> Tuple[float, float]:
+    """About where a text begins and ends."""
+    share = {"start": 0.0, "middle": 0.5, "end": 1.0}[element.attrib["text-anchor"]]
+    size = 5.5 * len(element.text or "")
+    left = float(element.attrib["x"]) - share * size
+    return left, left + size
+
+
 class Traces(unittest.TestCase):
     def test_a_line_that_is_none_is_named(self) -> None:
         good = "0 140 0 read cmd 0 0 00 30"
@@ -108,15 +116,20 @@ class Drawings(unittest.TestCase):
         self.assertEqual(greys, sorted(greys))
         self.assertTrue(all(behind - before > 40 for before, behind in zip(greys, greys[1:])))
 
-    def test_all_names_lie_within_the_drawing(self) -> None:
-        sides = {"start": (0.0, 1.0), "middle": (0.5, 0.5), "end": (1.0, 0.0)}
-        for name in support.SCRIPTS:
-            root = ET.fromstring(svg.picture(support.trace(name), support.lengths(name), 960, True))
+    def test_names_lie_within_the_drawing_and_beside_each_other(self) -> None:
+        late = [phase._replace(start=phase.start + 2**62 - 99999, end=phase.end + 2**62 - 99999)
+                for phase in support.trace("batch")]
+        drawn = [svg.picture(support.trace(name), support.lengths(name), width, name != "batch")
+                 for name in support.SCRIPTS for width in (svg.LEAST_WIDTH, 960)]
+        for drawing in drawn + [svg.picture(late, None, 960, True)]:
+            root = ET.fromstring(drawing)
+            lines: Dict[str, List[Tuple[float, float]]] = {}
             for element in root.iter(SVG + "text"):
-                left, right = sides[element.attrib["text-anchor"]]
-                size = 6 * len(element.text or "")
-                self.assertGreaterEqual(float(element.attrib["x"]) - left * size, 0, element.text)
-                self.assertLessEqual(float(element.attrib["x"]) + right * size, 960, element.text)
+                left, right = sides_of(element)
+                self.assertTrue(0 <= left and right <= float(root.attrib["width"]), element.text)
+                lines.setdefault(element.attrib["y"], []).append((left, right))
+            for line in map(sorted, lines.values()):
+                self.assertTrue(all(one[1] <= other[0] for one, other in zip(line, line[1:])), line)
 
     def test_the_pictures_of_the_documents(self) -> None:
         for name, width, labels in (("batch", 960, False), ("diagram", 800, True)):

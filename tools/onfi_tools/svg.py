@@ -189,7 +189,8 @@ def step_of(span: int, most: int) -> int:
 
 
 def ticks(scale: Scale) -> Iterator[int]:
-    most = max((scale.width - LEFT - RIGHT) // 90, 2)
+    room = max(90, int(LETTER * len(f"{scale.end:,}")) + 20)
+    most = max((scale.width - LEFT - RIGHT) // room, 1)
     step = step_of(scale.end - scale.begin, most)
     return iter(range(-(-scale.begin // step) * step, scale.end + 1, step))
 
@@ -199,11 +200,12 @@ def add_axis(group: ET.Element, scale: Scale, height: int) -> None:
     for time in ticks(scale):
         add_mark(group, scale.x(time), height, {"stroke": FAINT})
         text = f"{time:,}"
-        add_text(group, min(scale.x(time), scale.width - LETTER * len(text) / 2), height + 14, text, "middle")
+        half = LETTER * len(text) / 2
+        add_text(group, min(max(scale.x(time), 24 + half), scale.width - half), height + 14, text, "middle")
     end = scale.x(scale.end)
     add_mark(group, end, height, {"stroke": INK, "stroke-dasharray": "3 3"})
     add_text(group, end, TOP - 12, f"finish {scale.end:,} ns", "end")
-    add_text(group, LEFT - 8, height + 14, "ns", "end")
+    add_text(group, 6, height + 14, "ns", "start")
 
 
 def add_mark(group: ET.Element, x: float, height: int, stroke: Mapping[str, str]) -> None:
