@@ -128,7 +128,8 @@ class Drawings(unittest.TestCase):
                 left, right = sides_of(element)
                 self.assertTrue(0 <= left and right <= float(root.attrib["width"]), element.text)
                 lines.setdefault(element.attrib["y"], []).append((left, right))
-            for line in map(sorted, lines.values()):
+            for line in lines.values():
+                line.sort()
                 self.assertTrue(all(one[1] <= other[0] for one, other in zip(line, line[1:])), line)
 
     def test_the_pictures_of_the_documents(self) -> None:
