@@ -16,7 +16,7 @@ use Rattle.onfi_problem.specs.Problem.{Problem, IsProblem}
 use Rattle.onfi_group.specs.Group.{on_block}
 use Rattle.onfi_schedule.specs.Runs.{Run}
 use Rattle.onfi_cert.specs.declared.token.Token.{Token}
-use Rattle.onfi_check.specs.Tree.{Closing, Closes, token_of, AtEnd, Closed}
+use Rattle.onfi_check.specs.Tree.{Closing, Closes, token_of, AtEnd, Forest, Closed, Opened, NoMore, Child, Yields}
 use Rattle.onfi_problem.specs.Starts.{IsNamed}
 use Rattle.onfi_problem.proofs.Perm.{All-append, All-has, All-weaker, Has-append_right}
 use Rattle.onfi_problem.proofs.Places.{get_within}
@@ -25,10 +25,11 @@ use Rattle.onfi_problem.specs.declared.moves.Move.{Move as KeptMove}
 use Rattle.onfi_planner.specs.declared.search.Best.{Best}
 use Rattle.onfi_problem.specs.Position.{Position, move_of, moves_of, moved, lun_named}
 use Rattle.onfi_planner.specs.Opening.{IsOpen, yield_at, AreYields}
-use Rattle.onfi_planner.specs.Nodes.{HasNodes}
+use Rattle.onfi_planner.specs.Nodes.{HasNodes, HasTreeOf, nodes_below}
 use Rattle.onfi_planner.specs.Planning.{Bounded, run_of, Searched, HasOpened, IsOver}
 use Rattle.onfi_planner.proofs.Paths.{Among, node_one, among_none, among_more, among_skip, among_all}
 use Rattle.onfi_planner.proofs.Opening.{Done, done_sooner, opened}
+use Rattle.onfi_planner.proofs.Grown.{Grown, joined, grown_joined, grown_sooner, grown_accepts, nodes_joined}
 use Rattle.onfi_planner.proofs.Taking.{take_all, split_at}
 
 pub record Halfway (x : Position) (items : List KeptMove) (yields : List (Option ℕ)) (i : ℕ) (old best : Best) (improved : Bool) (began count limit : ℕ) : Type 0 where
@@ -39,6 +40,7 @@ pub record Halfway (x : Position) (items : List KeptMove) (yields : List (Option
   pub more : began + 1 ≤ count
   pub within : count ≤ limit
   pub nodes : (f : ℕ) → old.finish ≤ f → Among f x.problem (moves_of x.groups (take i items)) (count - (began + 1))
+  pub grown : (f : Forest) × Grown x.problem yields best.finish (moves_of x.groups (take i items)) f × (nodes_below f ≡ count - (began + 1))
 
 pub started : (x : Position) (items : List KeptMove) (yields : List (Option ℕ)) (best : Best) (began limit : ℕ) → began + 1 ≤ limit → Halfway x items yields 0 best best false began (began + 1) limit
 started x items yields best began limit h = record {
@@ -49,6 +51,7 @@ started x items yields best began limit h = record {
   more = omega arith;
   within = h;
   nodes = λ f le. let z : 0 ≡ began + 1 - (began + 1) = omega arith in subst (Among f x.problem []) z (among_none f x.problem);
+  grown = let z : 0 ≡ began + 1 - (began + 1) = omega arith in (NoMore, tt, z);
 }
 
 -- one more step
@@ -98,11 +101,21 @@ open_later f g p le o = record {
 none_some : (o : Option ℕ) (l : ℕ) → o ≡ Some l → o ≡ None → ⊥
 none_some o l e n = cc
 
+-- the child of one more move
+one_grown : (x : Position) (items : List KeptMove) (yields : List (Option ℕ)) (i e n more all : ℕ) (s : KeptMove) → moves_of x.groups (take (i + 1) items) ≡ moves_of x.groups (take i items) ++ move_of x.groups s ∷ [] → (last : Forest) → nodes_below last ≡ more → Grown x.problem yields e (move_of x.groups s ∷ []) last → n + more ≡ all → (f : Forest) × Grown x.problem yields e (moves_of x.groups (take i items)) f × (nodes_below f ≡ n) → (f : Forest) × Grown x.problem yields e (moves_of x.groups (take (i + 1) items)) f × (nodes_below f ≡ all)
+one_grown x items yields i e n more all s m last l g sum (f, h, k) =
+    let j = nodes_joined f last in (
+      joined f last,
+      subst (λ z. Grown x.problem yields e z (joined f last)) (sym m) (grown_joined x.problem yields e (moves_of x.groups (take i items)) (move_of x.groups s ∷ []) f last h g),
+      omega arith,
+    )
+
 pub skipped : (x : Position) (items : List KeptMove) (yields : List (Option ℕ)) (i : ℕ) (old best : Best) (improved : Bool) (began count limit l : ℕ) (s : KeptMove) → AreMoves x.problem (moves_of x.groups items) → All (λ s. move_lun (move_of x.groups s) ≡ lun_named s) items → s ≡ get_or items i s → i < length items → yield_at yields (lun_named s) ≡ Some l → Halfway x items yields i old best improved began count limit → Halfway x items yields (i + 1) old best improved began count limit
 skipped x items yields i old best improved began count limit l s are luns e h y w =
     let n = next_step x items i s are luns e h in
     let m = one_more x items i s e h in
     let y' : yield_at yields (move_lun (move_of x.groups s)) ≡ Some l = ap (yield_at yields) n.lun ∙ y in
+    let sum : count - (began + 1) + 0 ≡ count - (began + 1) = omega arith in
     record {
       sooner = w.sooner;
       done = subst (Done x.problem yields best.finish) (sym m) (All-append _ (moves_of x.groups (take i items)) (move_of x.groups s ∷ []) w.done ((λ q. absurd (none_some _ l y' q)), tt));
@@ -111,9 +124,10 @@ skipped x items yields i old best improved began count limit l s are luns e h y 
       more = w.more;
       within = w.within;
       nodes = λ f le. subst (λ z. Among f x.problem z (count - (began + 1))) (sym m) (among_skip f x.problem (moves_of x.groups (take i items)) (move_of x.groups s ∷ []) (count - (began + 1)) (w.nodes f le));
+      grown = one_grown x items yields i best.finish (count - (began + 1)) 0 (count - (began + 1)) s m (Yields l NoMore) refl (y', tt) sum w.grown;
     }
 
-pub visited : (x : Position) (items : List KeptMove) (yields : List (Option ℕ)) (i : ℕ) (old best best' : Best) (improved improved' : Bool) (began count count' limit : ℕ) (s : KeptMove) → AreMoves x.problem (moves_of x.groups items) → All (λ s. move_lun (move_of x.groups s) ≡ lun_named s) items → s ≡ get_or items i s → i < length items → IsOpen old.finish x.problem → Halfway x items yields i old best improved began count limit → best'.finish ≤ best.finish → Bounded (moved x s).problem best'.finish → HasOpened (moved x s).problem best.finish count count' → count' ≤ limit → (improved' ≡ true → Run x.problem (run_of x.groups best'.steps.items) best'.finish) → (improved' ≡ false → best' ≡ old) → Halfway x items yields (i + 1) old best' improved' began count' limit
+pub visited : (x : Position) (items : List KeptMove) (yields : List (Option ℕ)) (i : ℕ) (old best best' : Best) (improved improved' : Bool) (began count count' limit : ℕ) (s : KeptMove) → AreMoves x.problem (moves_of x.groups items) → All (λ s. move_lun (move_of x.groups s) ≡ lun_named s) items → s ≡ get_or items i s → i < length items → IsOpen old.finish x.problem → Halfway x items yields i old best improved began count limit → best'.finish ≤ best.finish → Bounded (moved x s).problem best'.finish → HasOpened (moved x s).problem best.finish best'.finish count count' → count' ≤ limit → (improved' ≡ true → Run x.problem (run_of x.groups best'.steps.items) best'.finish) → (improved' ≡ false → best' ≡ old) → Halfway x items yields (i + 1) old best' improved' began count' limit
 visited x items yields i old best best' improved improved' began count count' limit s are luns e h o w le b more lim run kept =
     let n = next_step x items i s are luns e h in
     let m = one_more x items i s e h in
@@ -131,6 +145,11 @@ visited x items yields i old best best' improved improved' began count count' li
       nodes = λ f k.
           let a = among_more f x.problem (moves_of x.groups (take i items)) (move_of x.groups s) (count - (began + 1)) (count' - count) (w.nodes f k) (open_later old.finish f x.problem k o) n.is_move n.is_new (more.nodes f (omega arith)) in
           subst (λ z. Among f x.problem z (count' - (began + 1))) (sym m) (subst (Among f x.problem (moves_of x.groups (take i items) ++ move_of x.groups s ∷ [])) sum a);
+      grown =
+          let (child, a, k) = more.accepted in
+          let (front, g, q) = w.grown in
+          let z : nodes_below (Child child NoMore) ≡ count' - count = omega arith in
+          one_grown x items yields i best'.finish (count - (began + 1)) (count' - count) (count' - (began + 1)) s m (Child child NoMore) z (a, tt) sum (front, grown_sooner x.problem yields best.finish best'.finish (moves_of x.groups (take i items)) front le g, q);
     }
 
 pub given_up : (x : Position) (items : List KeptMove) (yields : List (Option ℕ)) (i : ℕ) (old best : Best) (improved : Bool) (began count count' limit : ℕ) (s : KeptMove) → AreMoves x.problem (moves_of x.groups items) → All (λ s. move_lun (move_of x.groups s) ≡ lun_named s) items → s ≡ get_or items i s → i < length items → IsOpen old.finish x.problem → Halfway x items yields i old best improved began count limit → IsOver (moved x s).problem best.finish count count' limit → IsOver x.problem old.finish began count' limit
@@ -164,15 +183,25 @@ ended x items yields i old best improved began count limit ip are ay some h w =
       kept = w.kept;
     }
 
-pub ended_count : (x : Position) (items : List KeptMove) (yields : List (Option ℕ)) (i : ℕ) (old best : Best) (improved : Bool) (began count limit : ℕ) → Halfway x items yields i old best improved began count limit → HasOpened x.problem old.finish began count
-ended_count x items yields i old best improved began count limit w =
+some_moves : (x : Position) (items : List KeptMove) → (items ≡ [] → ⊥) → 1 ≤ length (moves_of x.groups items)
+some_moves x [] h = absurd (h refl)
+some_moves x (s ∷ items) h = omega arith
+
+pub ended_count : (x : Position) (items : List KeptMove) (yields : List (Option ℕ)) (i : ℕ) (old best : Best) (improved : Bool) (began count limit : ℕ) → AreMoves x.problem (moves_of x.groups items) → AreYields x.problem (moves_of x.groups items) yields → (items ≡ [] → ⊥) → length items ≤ i → Halfway x items yields i old best improved began count limit → HasOpened x.problem old.finish best.finish began count
+ended_count x items yields i old best improved began count limit are ay some h w =
     let mo = w.more in
     let sum : 1 + (count - (began + 1)) ≡ count - began = omega arith in
-    record { more = omega arith; nodes = λ f k. subst (HasNodes f x.problem) sum (among_all f x.problem _ _ (w.nodes f k)) }
+    let (front, g, k) = w.grown in
+    let all = subst (λ z. Grown x.problem yields best.finish (moves_of x.groups z) front) (take_all items i h) g in
+    record {
+      more = omega arith;
+      nodes = λ f k. subst (HasNodes f x.problem) sum (among_all f x.problem _ _ (w.nodes f k));
+      accepted = (Opened front, grown_accepts x.problem yields best.finish (moves_of x.groups items) front are (some_moves x items some) ay all, omega arith);
+    }
 
 -- a node that is opened, and nothing below it
-pub one_opened : (p : Problem) (finish began : ℕ) → HasOpened p finish began (began + 1)
-one_opened p finish began = let e : 1 ≡ began + 1 - began = omega arith in record { more = omega arith; nodes = λ f k. subst (HasNodes f p) e (node_one f p) }
+pub one_opened : (p : Problem) (finish found began : ℕ) → (c : Closing) × Closes p found c → HasOpened p finish found began (began + 1)
+one_opened p finish found began (c, h) = let e : 1 ≡ began + 1 - began = omega arith in record { more = omega arith; nodes = λ f k. subst (HasNodes f p) e (node_one f p); accepted = (Closed c, h, e) }
 
 pub one_over : (p : Problem) (finish began limit : ℕ) → began ≡ limit → IsOver p finish began began limit
 one_over p finish began limit h = let e : 1 ≡ limit - began + 1 = omega arith in record { limit = h; nodes = λ f k. subst (HasNodes f p) e (node_one f p) }
@@ -208,6 +237,16 @@ no_moves p ip are = record { wants = go p.wants refl; free = λ l g n r at. are.
 
 pub done_run : (x : Position) (finish : ℕ) → IsDone x.problem → x.problem.bus_free ≡ finish → Run x.problem [] finish
 done_run x finish d e = (d, e)
+
+-- what closes a node that was told as closed
+pub closed_by : (p : Problem) (f : ℕ) (o : Option Token) → true ≡ is_some o → MatchOption o (IsOpen f p) (λ t. (c : Closing) × (token_of c ≡ t) × Closes p f c) → (c : Closing) × Closes p f c
+closed_by p f None s h = absurd (false≢true (sym s))
+closed_by p f (Some t) s h = (h.0, h.2)
+
+-- and one with nothing left
+pub closed_at_end : (x : Position) (items : List KeptMove) (finish : ℕ) → IsProblem x.problem → AreMoves x.problem (moves_of x.groups items) → length items ≡ 0 → finish ≡ x.problem.bus_free → (c : Closing) × Closes x.problem finish c
+closed_at_end x [] finish ip are z e = (AtEnd, (no_moves x.problem ip are, omega arith))
+closed_at_end x (s ∷ items) finish ip are z e = absurd (omega arith)
 
 -- what a found closing says
 pub closed_node : (x : Position) (best : Best) (o : Option Token) → IsProblem x.problem → true ≡ is_some o → MatchOption o (IsOpen best.finish x.problem) (λ t. (c : Closing) × (token_of c ≡ t) × Closes x.problem best.finish c) → Searched x best best false

@@ -3,6 +3,7 @@ pub mod Reaching
 pub mod Opening
 pub mod Paths
 mod Taking
+pub mod Grown
 pub mod Halfway
 pub mod Growing
 pub mod Rising

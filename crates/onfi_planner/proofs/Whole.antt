@@ -1,8 +1,8 @@
 -- A search and what it is written as make an optimal plan.
-use Rattle.std.proofs.Common.{◌≡◌, ℕ, ◌+◌, ◌-◌, Bool, List, [], ◌++◌, inl, inr, sym, ap, ◌∙◌, subst, arith, ◌<◌, ◌^◌}
+use Rattle.std.proofs.Common.{◌≡◌, ℕ, ◌+◌, ◌-◌, Bool, List, [], ◌++◌, inl, inr, sym, ap, ◌∙◌, subst, arith, ◌<◌, ◌≤◌, ◌^◌}
 use Rattle.std.proofs.lemmas.Bool.{cases_Bool}
 use Rattle.onfi_cert.specs.declared.token.Token.{Token}
-use Rattle.onfi_problem.specs.Problem.{IsProblem}
+use Rattle.onfi_problem.specs.Problem.{Problem, IsProblem}
 use Rattle.onfi_schedule.specs.Schedule.{Schedule, Optimal, finish}
 use Rattle.onfi_schedule.specs.Runs.{Run, schedule_of}
 use Rattle.onfi_check.specs.Tree.{Accepts, AcceptsTokens, preorder}
@@ -13,10 +13,11 @@ use Rattle.onfi_problem.specs.Position.{Position}
 use Rattle.onfi_problem.specs.Left.{InLimits}
 use Rattle.onfi_planner.specs.declared.fault.PlanFault.TheVariants.{Over}
 use Rattle.onfi_planner.specs.First.{IsFirstRun}
-use Rattle.onfi_planner.specs.Nodes.{HasNodes, HasMoreNodes}
-use Rattle.onfi_planner.specs.Planning.{Searched, Written, IsOver, Bounded, run_of, AreRising}
+use Rattle.onfi_planner.specs.Nodes.{HasNodes, HasMoreNodes, HasTreeOf, OpensNodes}
+use Rattle.onfi_planner.specs.Planning.{Searched, HasOpened, Written, IsOver, Bounded, run_of, AreRising}
 use Rattle.onfi_planner.proofs.Rising.{run_rises}
 use Rattle.onfi_planner.proofs.Beginning.{first_is_run}
+use Rattle.onfi_planner.proofs.Grown.{some_nodes}
 
 pub still_run : (x : Position) (old new : Best) (improved : Bool) → Run x.problem (run_of x.groups old.steps.items) old.finish → Searched x old new improved → Run x.problem (run_of x.groups new.steps.items) new.finish
 still_run x old new improved r s = elim (cases_Bool improved) [
@@ -63,6 +64,23 @@ more_nodes x now first n limit opened r over e =
     let q : n ≡ opened = cc in
     let z : limit - 0 + 1 ≡ limit + 1 = omega arith in
     (omega arith, (first.finish, (run_of x.groups first.steps.items, r.first_run), subst (HasNodes first.finish x.problem) z (o.nodes first.finish (omega arith))))
+
+pub nodes_opened : (x now : Position) (first : Best) (e n : ℕ) → Ready x now first → HasOpened now.problem first.finish e 0 n → OpensNodes x.problem e n
+nodes_opened x now first e n r opened =
+    let o = subst (λ (z : Position). HasOpened z.problem first.finish e 0 n) r.same opened in
+    let z : n - 0 ≡ n = omega arith in
+    record {
+      accepted = subst (HasTreeOf x.problem e) z o.accepted;
+      first = first.finish;
+      first_run = (run_of x.groups first.steps.items, r.first_run);
+      there = subst (HasNodes first.finish x.problem) z (o.nodes first.finish (omega arith));
+    }
+
+pub some_opened : (p : Problem) (finish e n : ℕ) → HasOpened p finish e 0 n → 1 ≤ n
+some_opened p finish e n o =
+    let (tree, a, k) = o.accepted in
+    let some = some_nodes tree in
+    omega arith
 
 pub written_tokens : (x now found : Position) (first : Best) (e : ℕ) (old new : List Token) → Ready x now first → found ≡ now → old ≡ [] → Written found.problem e old new → AcceptsTokens new x.problem e
 written_tokens x now found first e old new r q n w =

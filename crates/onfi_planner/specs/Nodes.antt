@@ -4,6 +4,7 @@ use Rattle.std.specs.List.{AllByRecursion as Each}
 use Rattle.onfi_problem.specs.Moves.{Move, IsMove, after}
 use Rattle.onfi_group.specs.Words.{Pairs}
 use Rattle.onfi_problem.specs.Problem.{Problem}
+use Rattle.onfi_check.specs.Tree.{Tree, Closed, Opened, Forest, NoMore, Child, Yields, Accepts}
 use Rattle.onfi_planner.specs.Opening.{IsOpen}
 use Rattle.onfi_planner.specs.First.{EndsFirstRun}
 
@@ -19,3 +20,25 @@ HasNodes f p n = (paths : List (List Move)) × (length paths ≡ n) × Each (IsN
 -- the tree has more than n nodes, where what ends with the first schedule or later is closed
 abbrev pub HasMoreNodes : Problem → ℕ → Type 0
 HasMoreNodes p n = (f : ℕ) × EndsFirstRun p f × HasNodes f p (n + 1)
+
+abbrev mutual
+  -- how many nodes a certificate's tree has; a move that yields has none
+  pub nodes : Tree → ℕ
+  nodes (Closed closing) = 1
+  nodes (Opened forest) = 1 + nodes_below forest
+
+  pub nodes_below : Forest → ℕ
+  nodes_below NoMore = 0
+  nodes_below (Child tree forest) = nodes tree + nodes_below forest
+  nodes_below (Yields lun forest) = nodes_below forest
+
+-- a tree of n nodes is accepted for e
+abbrev pub HasTreeOf : Problem → ℕ → ℕ → Type 0
+HasTreeOf p e n = (tree : Tree) × Accepts tree p e × (nodes tree ≡ n)
+
+-- a search down to the finish e opens n nodes: they are a tree that is accepted for e, and so many the tree of p has
+pub record OpensNodes (p : Problem) (e n : ℕ) : Type 0 where
+  pub accepted : HasTreeOf p e n
+  pub first : ℕ
+  pub first_run : EndsFirstRun p first
+  pub there : HasNodes first p n

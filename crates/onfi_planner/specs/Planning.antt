@@ -11,7 +11,7 @@ use Rattle.onfi_check.specs.Tree.{Tree, preorder, Accepts}
 use Rattle.onfi_planner.specs.declared.search.Begun.{Begun}
 use Rattle.onfi_planner.specs.declared.search.Best.{Best}
 use Rattle.onfi_problem.specs.Position.{Position, move_of}
-use Rattle.onfi_planner.specs.Nodes.{HasNodes}
+use Rattle.onfi_planner.specs.Nodes.{HasNodes, HasTreeOf}
 
 -- no run ends before e
 abbrev pub Bounded : Problem → ℕ → Type 0
@@ -31,10 +31,11 @@ pub record Searched (x : Position) (old new : Best) (improved : Bool) : Type 0 w
   pub run : improved ≡ true → Run x.problem (run_of x.groups new.steps.items) new.finish
   pub kept : improved ≡ false → new ≡ old
 
--- so many nodes were opened, and each is one of the tree
-pub record HasOpened (p : Problem) (finish old new : ℕ) : Type 0 where
+-- from one best finish to another so many nodes were opened: each is one of the tree, and they show the new finish
+pub record HasOpened (p : Problem) (finish found old new : ℕ) : Type 0 where
   pub more : old ≤ new
   pub nodes : (f : ℕ) → finish ≤ f → HasNodes f p (new - old)
+  pub accepted : HasTreeOf p found (new - old)
 
 -- the limit is met, and the tree has one more node
 pub record IsOver (p : Problem) (finish old new greatest : ℕ) : Type 0 where

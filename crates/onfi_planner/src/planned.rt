@@ -11,4 +11,6 @@ pub struct Planned {
     pub finish: u64,
     /// The tokens of the certificate.
     pub cert: Vec<Token>,
+    /// How many nodes the search opened, at least one.
+    pub opened: u32,
 }

@@ -1,7 +1,7 @@
 ghost use Rattle.std.specs.Prelude.{◌≡◌, ℕ, ◌≤◌, IfOk, IfErr};
 ghost use Rattle.onfi_schedule.specs.Schedule.{Optimal, finish};
 ghost use Rattle.onfi_check.specs.Tree.{AcceptsTokens};
-ghost use Rattle.onfi_planner.specs.Nodes.{HasMoreNodes};
+ghost use Rattle.onfi_planner.specs.Nodes.{HasMoreNodes, OpensNodes};
 ghost use Rattle.onfi_planner.specs.Planning.{AreRising};
 
 use crate::certificate;
@@ -27,6 +27,9 @@ pub fn plan(alloc: Global, problem: &Problem, limit: u32) -> Result<Planned, Pla
     ensures finish { IfOk result (λ plan. finish problem.now.problem plan.schedule ≡ plan.finish) }
     ensures rising { IfOk result (λ plan. AreRising plan.schedule.groups) }
     ensures cert { IfOk result (λ plan. AcceptsTokens plan.cert.items problem.now.problem plan.finish) }
+    ensures opened { IfOk result (λ plan. OpensNodes problem.now.problem plan.finish plan.opened) }
+    ensures some_opened { IfOk result (λ plan. 1 ≤ plan.opened) }
+    ensures within { IfOk result (λ plan. plan.opened ≤ limit) }
     ensures over { IfErr result (λ fault. (opened : ℕ) → fault ≡ PlanFault.Over opened → (opened ≡ limit) × HasMoreNodes problem.now.problem limit) }
 {
     let Ok(mut at) = problem.copy(alloc) else {
@@ -58,5 +61,6 @@ pub fn plan(alloc: Global, problem: &Problem, limit: u32) -> Result<Planned, Pla
         schedule,
         finish: best.finish,
         cert,
+        opened,
     })
 }

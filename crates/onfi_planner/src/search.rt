@@ -49,7 +49,8 @@ pub fn search(
     requires opened { opened.old ≤ limit }
     ensures problem { IfOk result (λ _. problem.new ≡ problem.old) }
     ensures found { IfOk result (λ improved. Searched problem.old best.old best.new improved) }
-    ensures opened { IfOk result (λ _. HasOpened problem.old.problem best.old.finish opened.old opened.new × (opened.new ≤ limit)) }
+    ensures opened { IfOk result (λ _. HasOpened problem.old.problem best.old.finish best.new.finish opened.old opened.new) }
+    ensures within { opened.new ≤ limit }
     ensures over { IfErr result (λ stop. stop ≡ Stop.Over → IsOver problem.old.problem best.old.finish opened.old opened.new limit) }
 {
     if *opened == limit {
@@ -100,7 +101,8 @@ fn visit(
     ensures least { IfOk result (λ _. Bounded (moved problem.old step).problem best.new.finish) }
     ensures run { IfOk result (λ improved. improved ≡ true → Run problem.old.problem (run_of problem.old.groups best.new.steps.items) best.new.finish) }
     ensures kept { IfOk result (λ improved. improved ≡ false → best.new ≡ best.old) }
-    ensures opened { IfOk result (λ _. HasOpened (moved problem.old step).problem best.old.finish opened.old opened.new × (opened.new ≤ limit)) }
+    ensures opened { IfOk result (λ _. HasOpened (moved problem.old step).problem best.old.finish best.new.finish opened.old opened.new) }
+    ensures within { opened.new ≤ limit }
     ensures over { IfErr result (λ stop. stop ≡ Stop.Over → IsOver (moved problem.old step).problem best.old.finish opened.old opened.new limit) }
 {
     let start = problem.earliest(step);

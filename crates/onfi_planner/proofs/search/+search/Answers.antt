@@ -13,7 +13,7 @@ use Rattle.onfi_bound.specs.Loads.{AreLoads}
 use Rattle.onfi_bound.proofs.Loading.{loads_after}
 use Rattle.onfi_planner.specs.declared.search.Best.{Best}
 use Rattle.onfi_planner.specs.Planning.{work, IsOver, Bounded, HasOpened, run_of}
-use Rattle.onfi_planner.proofs.Halfway.{step_of_lun, yields_some, one_over, one_opened, closed_node, open_node, done_node, step_moves, given_up, skipped, visited, ended, ended_count, steps_same, not_empty, luns_of, luns_small, lun_in, started}
+use Rattle.onfi_planner.proofs.Halfway.{step_of_lun, yields_some, one_over, one_opened, closed_node, closed_by, closed_at_end, open_node, done_node, step_moves, given_up, skipped, visited, ended, ended_count, steps_same, not_empty, luns_of, luns_small, lun_in, started}
 use Rattle.onfi_planner.proofs.Below.{handed_back}
 use Rattle.onfi_planner.proofs.BusWork.{work_after}
 use Rattle.onfi_problem.proofs.Limits.{after_limits}
@@ -27,7 +27,7 @@ pub search-returns-then-is_some-clause-found : goal.search-returns-then-is_some-
 search-returns-then-is_some-clause-found t c = closed_node c.args.problem.now c.args.best.now c.closing_token.result c.requires.limits.problem c.if-is_some.ensures c.closing_token.ensures
 
 pub search-returns-then-is_some-clause-opened : goal.search-returns-then-is_some-clause-opened
-search-returns-then-is_some-clause-opened t c = (one_opened _ _ _, omega (arith, c.if-opened-limit.false))
+search-returns-then-is_some-clause-opened t c = one_opened _ _ _ _ (closed_by c.args.problem.now.problem c.args.best.now.finish c.closing_token.result c.if-is_some.ensures c.closing_token.ensures)
 
 pub search-returns-then-is_empty-clause-found : goal.search-returns-then-is_empty-clause-found
 search-returns-then-is_empty-clause-found t c =
@@ -36,7 +36,7 @@ search-returns-then-is_empty-clause-found t c =
     done_node c.args.problem.now items c.args.best.now _ c.requires.limits.problem are (eqb-true _ _ (sym c.if-is_empty.ensures)) c.bus_free-best.ensures.value c.clear.ensures.items (open_node c.args.problem.now _ c.closing_token.result _ (sym c.if-is_some.ensures) c.closing_token.ensures)
 
 pub search-returns-then-is_empty-clause-opened : goal.search-returns-then-is_empty-clause-opened
-search-returns-then-is_empty-clause-opened t c = (one_opened _ _ _, omega (arith, c.if-opened-limit.false))
+search-returns-then-is_empty-clause-opened t c = one_opened _ _ _ _ (closed_at_end c.args.problem.now c.steps-moves.result _ c.requires.limits.problem c.steps-moves.ensures.moves (eqb-true _ _ (sym c.if-is_empty.ensures)) c.bus_free-best.ensures.value)
 
 pub search-visit-requires : goal.search-visit-requires
 search-visit-requires t c =
@@ -108,13 +108,13 @@ search-loop-step-preserved t c =
     let v = c.in_ok-visit.ensures in
     let best = c.visit.new.best in
     let least = subst (λ (z : Position). Bounded (moved z s).problem best.finish) e v.least in
-    let more = subst (λ (z : Position). HasOpened (moved z s).problem c.loop-step.best.finish c.loop-step.opened c.visit.new.opened) e v.opened.0 in
+    let more = subst (λ (z : Position). HasOpened (moved z s).problem c.loop-step.best.finish best.finish c.loop-step.opened c.visit.new.opened) e v.opened in
     elim c.if-branch.branch [
       | search-then-branch w ↦ (
           rw w.improved-is (record {
             problem = v.problem ∙ e;
             half = visited x items c.yields_of-yields.result i c.args.best.now c.loop-step.best best c.loop-step.improved true c.args.opened.now c.loop-step.opened c.visit.new.opened c.args.limit s are luns here c.loop-step-test.true o h
-                v.sooner least more v.opened.1
+                v.sooner least more v.within
                 (λ q. subst (λ (z : Position). Run z.problem (run_of z.groups best.steps.items) best.finish) e (v.run w.if-branch.true))
                 (λ q. absurd (false≢true (sym q)));
           }))
@@ -123,7 +123,7 @@ search-loop-step-preserved t c =
           rw w.improved-is (record {
             problem = v.problem ∙ e;
             half = visited x items c.yields_of-yields.result i c.args.best.now c.loop-step.best best c.loop-step.improved c.loop-step.improved c.args.opened.now c.loop-step.opened c.visit.new.opened c.args.limit s are luns here c.loop-step-test.true o h
-                v.sooner least more v.opened.1
+                v.sooner least more v.within
                 (λ q. subst (λ (b : Best). Run x.problem (run_of x.groups b.steps.items) b.finish) (sym k) (h.run q))
                 (λ q. k ∙ h.kept q);
           }))
@@ -138,7 +138,12 @@ search-returns-clause-found t c =
     ended x items _ _ _ _ _ _ _ _ c.requires.limits.problem are ay (λ q. not_empty items false (c.if-is_empty.ensures ∙ ap (λ z. length z == 0) (sym c.as_slice-steps.ensures.value)) q) c.loop-step-test.false c.loop-step.invariant.half
 
 pub search-returns-clause-opened : goal.search-returns-clause-opened
-search-returns-clause-opened t c = (ended_count _ _ _ _ _ _ _ _ _ _ c.loop-step.invariant.half, c.loop-step.invariant.half.within)
+search-returns-clause-opened t c =
+    let x = c.args.problem.now in
+    let items = c.as_slice-steps.result.now in
+    let are = steps_same x items _ c.as_slice-steps.ensures.value c.steps-moves.ensures.moves in
+    let ay = c.yields_of-yields.ensures.yields in
+    ended_count x items _ _ _ _ _ _ _ _ are ay (λ q. not_empty items false (c.if-is_empty.ensures ∙ ap (λ z. length z == 0) (sym c.as_slice-steps.ensures.value)) q) c.loop-step-test.false c.loop-step.invariant.half
 
 pub visit-search-requires : goal.visit-search-requires
 visit-search-requires t c =
@@ -163,7 +168,7 @@ pub visit-returns-else-improved-clause-kept : goal.visit-returns-else-improved-c
 visit-returns-else-improved-clause-kept t c = λ q. c.in_ok-improved.ensures.found.kept q
 
 pub visit-returns-else-improved-clause-opened : goal.visit-returns-else-improved-clause-opened
-visit-returns-else-improved-clause-opened t c = (subst (λ (z : Position). HasOpened z.problem c.args.best.now.finish c.args.opened.now c.search.new.opened) c.advance-undo.ensures.moved c.in_ok-improved.ensures.opened.0, c.in_ok-improved.ensures.opened.1)
+visit-returns-else-improved-clause-opened t c = subst (λ (z : Position). HasOpened z.problem c.args.best.now.finish c.search.new.best.finish c.args.opened.now c.search.new.opened) c.advance-undo.ensures.moved c.in_ok-improved.ensures.opened
 
 pub visit-returns-in-Ok-clause-problem : goal.visit-returns-in-Ok-clause-problem
 visit-returns-in-Ok-clause-problem t c = handed_back c.args.problem.now _ c.search.new.problem _ c.advance-undo.result c.in_ok-improved.ensures.problem c.advance-undo.ensures.undo c.undo.ensures
@@ -175,7 +180,7 @@ pub visit-returns-in-Ok-clause-least : goal.visit-returns-in-Ok-clause-least
 visit-returns-in-Ok-clause-least t c = subst (λ (z : Position). Bounded z.problem c.search.new.best.finish) c.advance-undo.ensures.moved c.in_ok-improved.ensures.found.least
 
 pub visit-returns-in-Ok-clause-opened : goal.visit-returns-in-Ok-clause-opened
-visit-returns-in-Ok-clause-opened t c = (subst (λ (z : Position). HasOpened z.problem c.args.best.now.finish c.args.opened.now c.search.new.opened) c.advance-undo.ensures.moved c.in_ok-improved.ensures.opened.0, c.in_ok-improved.ensures.opened.1)
+visit-returns-in-Ok-clause-opened t c = subst (λ (z : Position). HasOpened z.problem c.args.best.now.finish c.search.new.best.finish c.args.opened.now c.search.new.opened) c.advance-undo.ensures.moved c.in_ok-improved.ensures.opened
 
 pub visit-undo-requires-clause-limits : goal.visit-undo-requires-clause-limits
 visit-undo-requires-clause-limits t c = subst (λ (z : Position). InLimits (restored z c.advance-undo.result).problem) (sym c.in_ok-improved.ensures.problem) c.advance-undo.ensures.limits
