@@ -23,10 +23,12 @@ def page_rows(script: Path) -> List[str]:
 def commands_of(page: Path) -> List[Tuple[str, str]]:
     """The commands of a page (indented, behind `$ `), each with the lines that it prints."""
     found: List[Tuple[str, str]] = []
+    printing = False
     for line in page.read_text().splitlines():
+        printing = line.startswith("    ") and (printing or line.startswith("    $ "))
         if line.startswith("    $ "):
             found.append((line[6:], ""))
-        elif line.startswith("    ") and found:
+        elif printing:
             found[-1] = (found[-1][0], found[-1][1] + line[4:] + "\n")
     return found
 
@@ -98,11 +100,11 @@ class Examples(unittest.TestCase):
     @unittest.skipUnless(support.program(), "no built program")
     def test_their_commands_print_what_is_written(self) -> None:
         ran = 0
-        for page in EXAMPLES.glob("*/README.md"):
+        for page in (support.ROOT / "README.md", *EXAMPLES.glob("*/README.md")):
             for command, written in commands_of(page):
                 self.assertEqual(support.run_shell(command), written, command)
                 ran += 1
-        self.assertGreaterEqual(ran, 7)
+        self.assertGreaterEqual(ran, 10)
 
 
 if __name__ == "__main__":
