@@ -6,21 +6,27 @@ mod chip;
 mod closer;
 mod dies;
 mod fault;
+mod fetch;
 mod lane;
 mod launching;
 mod laws;
 mod member;
 mod numbered;
 mod post;
+mod reading;
 mod sim;
+mod status;
 mod wait;
 
 pub use chip::Chip;
 pub use closer::Closer;
-pub use fault::ChipFault;
+pub use fault::{ChipFault, PostFault};
+pub use fetch::Fetch;
 pub use laws::posts_are_alone;
 pub use post::Post;
+pub use reading::read_post;
 pub use sim::SimChip;
+pub use status::decode_status;
 
 #[cfg(test)]
 mod tests;

@@ -1,11 +1,11 @@
-ghost use Rattle.std.specs.Prelude.{◌≡◌, IfOk, IsBitSet};
-ghost use Rattle.onfi_chip.specs.Calls.{TellsAnswer, IsStatus};
+ghost use Rattle.std.specs.Prelude.{◌≡◌, IfOk};
 
 use crate::chip::Chip;
 use crate::closer::Closer;
 use crate::dies::Dies;
 use crate::fault::ChipFault;
 use crate::numbered::Numbered;
+use crate::status::encode_status;
 use onfi_addr::Geometry;
 use onfi_die::Fault;
 use onfi_request::Answer;
@@ -109,17 +109,6 @@ impl Chip for SimChip {
         self.statuses.step();
         let place = self.dies.place(row);
         let post = self.dies.post(place, now);
-        Ok(status_byte(&post.answer))
-    }
-}
-
-// RDY, ARDY and WP_n are set, and FAIL as the answer says.
-fn status_byte(answer: &Answer) -> u8
-    ensures ready { IsBitSet result 6 }
-    ensures told { IsStatus answer.now → TellsAnswer result answer.now }
-{
-    match answer {
-        Answer::Failed => 0xe1,
-        Answer::Read(_) | Answer::Done => 0xe0,
+        Ok(encode_status(&post.answer))
     }
 }

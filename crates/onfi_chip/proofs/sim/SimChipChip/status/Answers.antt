@@ -18,7 +18,7 @@ returns-clause-ready c ready post left h =
     let statuses = c.step-3.ensures.fine (sym c.fails-2.ensures.value ∙ c.if-fails-2.false) in
     let status = is_status _ c.post-post.result.kind c.post-post.result.answer (λ e. c.requires.3 (ap (λ (q : Post). q.kind) (sym told_first.0) ∙ e)) c.post-post.ensures.form in
     let new : SimChip = record { dies = c.post-post.new.self; calls = c.step-2.new.self; statuses = c.step-3.new.self } in (
-      subst (λ (q : Post). TellsAnswer c.status_byte.result q.answer) told.0 (c.status_byte.ensures.told status),
+      subst (λ (q : Post). TellsAnswer c.encode_status.result q.answer) told.0 (c.encode_status.ensures.told status),
       post_done old new c.args.now post left c.place-place.result place told.1
           (ap (λ (n : ℕ). n + failed new.statuses.failing.items new.statuses.made) calls ∙ ap (λ (n : ℕ). failed old.calls.failing.items old.calls.made + n) statuses),
     )
