@@ -29,4 +29,6 @@ pub use sim::SimChip;
 pub use status::decode_status;
 
 #[cfg(test)]
+mod sim_tests;
+#[cfg(test)]
 mod tests;
