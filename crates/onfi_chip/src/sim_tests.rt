@@ -88,12 +88,12 @@ fn answer<C: Chip>(
     };
     let row = geometry.row(&request.place);
     let bytes = request.bytes.as_slice();
-    if let Err(fault) = chip.command(alloc, 0, row, request.kind, Closer::Last, bytes) {
-        return Err(Failure::Command(fault));
-    }
-    match read_post(chip, geometry, LATER, fetch) {
-        Ok(answer) => Ok(answer),
-        Err(fault) => Err(Failure::Post(fault)),
+    match chip.command(alloc, 0, row, request.kind, Closer::Last, bytes) {
+        Ok(()) => match read_post(chip, geometry, LATER, fetch) {
+            Ok(answer) => Ok(answer),
+            Err(fault) => Err(Failure::Post(fault)),
+        },
+        Err(fault) => Err(Failure::Command(fault)),
     }
 }
 
