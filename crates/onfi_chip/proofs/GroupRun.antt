@@ -29,7 +29,7 @@ Each-push P (y ∷ xs) x h p = (h.0, Each-push P xs x h.1 p)
 
 pub still_ready : (now next : Stored) (m : Member) → next.device ≡ now.device → ((lun block : ℕ) → IsKept lun block now → IsKept lun block next) → IsReady now m → IsReady next m
 still_ready now next m d k r = record {
-  kept = k m.place.lun m.place.block r.kept;
+  kept = λ n. k m.place.lun m.place.block (r.kept n);
   page = subst (λ (e : Device). m.place.page < e.shape.pages) (sym d) r.page;
   room = subst (λ (e : Device). HasRoom e.shape.bytes m.operation) (sym d) r.room;
 }

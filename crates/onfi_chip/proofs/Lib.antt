@@ -2,3 +2,4 @@ pub mod Numbers
 pub mod GroupRun
 pub mod Lanes
 pub mod SimCalls
+pub mod Told

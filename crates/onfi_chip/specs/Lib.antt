@@ -1,5 +1,6 @@
 pub mod Chip
 pub mod Calls
+pub mod Fetching
 pub mod Hold
 pub mod Alone
 pub mod Sim

@@ -1,11 +1,12 @@
 -- The dies of a simulated chip: how their fields stand for a chip.
-use Rattle.std.specs.Prelude.{◌≡◌, ℕ, ◌+◌, ◌<◌, List, Option, Some, None, map}
+use Rattle.std.specs.Prelude.{◌≡◌, ◌≢◌, ℕ, ◌+◌, ◌<◌, List, Option, Some, None, map}
 use Rattle.std.specs.List.{AllByRecursion as Each}
 use Rattle.onfi_addr.specs.declared.geometry.Geometry.{Geometry}
 use Rattle.onfi_timing.specs.declared.timing.Timing.{Timing}
+use Rattle.onfi_timing.specs.declared.kind.Kind.TheVariants.{Read}
 use Rattle.onfi_request.specs.declared.request.Request.{Request}
 use Rattle.onfi_die.specs.Shapes.{shape_of}
-use Rattle.onfi_die.specs.Prepared.{HasRoom, IsAnswerTo}
+use Rattle.onfi_die.specs.Prepared.{kind_of, HasRoom, IsAnswerTo}
 use Rattle.onfi_die.specs.Requests.{request_of}
 use Rattle.onfi_die.specs.Store.{Stored, IsKept, blocks_of}
 use Rattle.onfi_chip.specs.declared.closer.Closer.{Closer}
@@ -65,7 +66,7 @@ added Last chip r ready = happened chip r ready
 
 -- the member's operation can be done without memory
 pub record IsReady (store : Stored) (member : Member) : Type 0 where
-  pub kept : IsKept member.place.lun member.place.block store
+  pub kept : kind_of member.operation ≢ Read → IsKept member.place.lun member.place.block store
   pub page : member.place.page < store.device.shape.pages
   pub room : HasRoom store.device.shape.bytes member.operation
 

@@ -17,6 +17,10 @@ use std::alloc::Global;
 /// Moments are ns of the channel's clock, row addresses those of the chip's geometry. A call on one LUN leaves all others.
 /// Each call asks that it is the next of its LUN's group and that the wait before it is over. A group's requests happen at
 /// its last command; its posts, one for each member, give their answers.
+///
+/// Any kind may form a group here, whatever the device's page says of grouped reads, programs and erases. A driver for a
+/// device that forbids groups of a kind gives each member of that kind the closer `Last`, so that its groups have one
+/// member; it gets so where the rules of its problems allow no such group, as they do when they come from the page.
 pub trait Chip {
     /// Its geometry, timing and injected faults, its blocks and LUNs, and how often a call failed.
     ghost state: { Self → ChipState };

@@ -118,7 +118,7 @@ impl Dies {
         ensures err { OnErr result (chip_of self.new ≡ chip_of self.old) }
     {
         let operation = Prepared::of(alloc, opener, bytes, self.geometry.page_bytes())?;
-        self.store.keep(alloc, place)?;
+        self.store.keep(alloc, opener, place)?;
         let length = closer.hold(self.timing.spans(opener));
         let wait = Wait { from: now, length };
         self.add(alloc, Member { place, operation }, closer, wait)

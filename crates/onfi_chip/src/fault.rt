@@ -10,3 +10,14 @@ pub enum ChipFault {
     #[error("out of memory")]
     Memory,
 }
+
+/// Why a post gave no answer.
+#[derive(Clone, Copy, Debug, PartialEq, Eq, Error)]
+pub enum PostFault {
+    /// The bus failed: nothing more is known of the chip.
+    #[error("the bus failed")]
+    Bus,
+    /// The status told that the LUN isn't ready: nothing more is known of the chip.
+    #[error("the LUN is not ready")]
+    NotReady,
+}

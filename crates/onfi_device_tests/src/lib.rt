@@ -14,6 +14,8 @@ mod param;
 #[cfg(test)]
 mod request;
 #[cfg(test)]
+mod sim;
+#[cfg(test)]
 mod texts;
 #[cfg(test)]
 mod timing;

@@ -1,185 +1,194 @@
--- Blocks that a list keeps: which is found, and what a change of one leaves.
-use Rattle.std.proofs.Common.{◌≡◌, ℕ, zero, suc, ◌<◌, ◌||◌, Bool, true, false, inl, inr, Option, None, Some, List, [], ◌∷◌, ◌++◌, length, take, get_or, MatchOption, refl, sym, ap, subst, ◌∙◌, arith}
-use Rattle.std.proofs.Math.ListN.{set}
+-- Blocks that a map keeps, and what a change of one leaves.
+use Rattle.std.proofs.Common.{◌≡◌, ◌≢◌, ℕ, zero, suc, Bool, true, false, inl, inr, Option, None, Some, List, [], ◌∷◌, replicate, refl, sym, ap, subst, ◌∙◌, arith}
 use Rattle.std.proofs.Math.Path.{fun_ext}
-use Rattle.std.specs.List.{list_any}
-use Rattle.std.specs.Option.{is_some}
+use Rattle.std.specs.Prelude.{◌==◌, ◌&&◌, if◌then◌else◌, cond, IfSome, IsSome, slice_index_or}
+use Rattle.std.specs.Option.{is_some, option_map, unwrap_or}
+use Rattle.std.specs.HashMap.{HashMap, UpdatesBy}
+use Rattle.std.specs.Map.{lookup}
 use Rattle.std.proofs.lemmas.Bool.{cases_Bool}
 use Rattle.std.proofs.lemmas.Bool.Decides.{nat_tests}
+use Rattle.onfi_timing.specs.declared.kind.Kind.TheVariants as kind
 use Rattle.onfi_request.specs.declared.answer.Answer.{Answer}
+use Rattle.onfi_request.specs.declared.answer.Answer.TheVariants as answer
 use Rattle.onfi_request.specs.declared.fault.Fault.{Fault}
 use Rattle.onfi_request.specs.declared.request.Request.{Request}
 use Rattle.onfi_die.specs.declared.kept.Kept.{Kept}
-use Rattle.onfi_die.specs.Shapes.{Device}
+use Rattle.onfi_die.specs.declared.page.Page.{Page}
+use Rattle.onfi_die.specs.declared.page.Page.TheVariants.{Erased}
+use Rattle.onfi_die.specs.declared.prepared.Prepared.{Prepared}
+use Rattle.onfi_die.specs.declared.prepared.Prepared.TheVariants.{Read, Program, Erase}
 use Rattle.onfi_die.specs.declared.shape.Shape.{Shape}
+use Rattle.onfi_die.specs.Shapes.{Device}
 use Rattle.onfi_die.specs.Contents.{Contents, fresh, contents_after, answer_of}
-use Rattle.onfi_die.specs.Blocks.{is_on, block_of, changed}
-use Rattle.onfi_die.specs.Store.{Stored, contents_of, contents_in, blocks_of, is_block, IsFirst, IsKept, HaveShape}
-
-pub block_is : (lun block : ℕ) (k : Kept) → k.lun ≡ lun → k.number ≡ block → is_block lun block k ≡ true
-block_is lun block k d e = grind (arith, nat_tests)
-
-pub block_true : (lun block : ℕ) (k : Kept) → is_block lun block k ≡ true → (k.lun ≡ lun) × (k.number ≡ block)
-block_true lun block k h = grind (arith, nat_tests)
+use Rattle.onfi_die.specs.Blocks.{Blocks, is_on, block_of, changed}
+use Rattle.onfi_die.specs.Prepared.{kind_of}
+use Rattle.onfi_die.specs.Store.{Stored, Named, contents_of, is_same, kept_of, blocks_of, IsKept, HaveShape}
 
 on_true : (lun block : ℕ) (r : Request) → is_on lun block r ≡ true → (r.place.lun ≡ lun) × (r.place.block ≡ block)
 on_true lun block r h = grind (arith, nat_tests)
 
-or_first : (a b : Bool) → a || b ≡ false → a ≡ false
-or_first true b h = cc
-or_first false b h = refl
+-- the map has the block's name as its key
+same_on : (lun block : ℕ) (r : Request) → is_same (r.place.lun, r.place.block) (lun, block) ≡ is_on lun block r
+same_on lun block r = and_if (r.place.lun == lun) (r.place.block == block)
+  where
+    and_if : (a b : Bool) → a && b ≡ (if a then b else false)
+    and_if true b = refl
+    and_if false b = refl
 
-or_second : (a b : Bool) → a || b ≡ false → b ≡ false
-or_second true b h = cc
-or_second false b h = h
+-- the contents that are kept after a value is put at a key
+pub put_kept : {S : Type 0} (m n : HashMap (ℕ × ℕ) Kept S) (key : ℕ × ℕ) (w : Kept) → UpdatesBy is_same (is_same key) m n (Some w) →
+    (lun block : ℕ) → kept_of n.entries lun block ≡ (if is_same key (lun, block) then Some (contents_of w) else kept_of m.entries lun block)
+put_kept m n key w u lun block =
+    elim (cases_Bool (is_same key (lun, block))) [
+      | inl t ↦ let e : lookup (is_same (lun, block)) n.entries ≡ Some w = u.0 (lun, block) ∙ ap (λ (b : Bool). cond b (Some w) (lookup (is_same (lun, block)) m.entries)) t in rw t (ap (option_map contents_of) e)
+      | inr f ↦ let e : lookup (is_same (lun, block)) n.entries ≡ lookup (is_same (lun, block)) m.entries = u.0 (lun, block) ∙ ap (λ (b : Bool). cond b (Some w) (lookup (is_same (lun, block)) m.entries)) f in rw f (ap (option_map contents_of) e)
+    ]
 
-or_true : (a b : Bool) → b ≡ true → a || b ≡ true
-or_true true b h = refl
-or_true false b h = h
-
-or_here : (a b : Bool) → a ≡ true → a || b ≡ true
-or_here true b h = refl
-or_here false b h = cc
-
--- no earlier element passes, and this one does
-pub first_here : {A : Type 0} (test : A → Bool) (xs : List A) (i : ℕ) (x : A) → list_any test (take i xs) ≡ false → i < length xs → x ≡ get_or xs i x → test x ≡ true → IsFirst test i xs
-first_here test [] i x n l e t = absurd (omega arith)
-first_here test (y ∷ xs) zero x n l e t = subst (λ z. test z ≡ true) e t
-first_here test (y ∷ xs) (suc i) x n l e t = (or_first (test y) _ n, first_here test xs i x (or_second (test y) _ n) (omega arith) e t)
-
-pub first_below : {A : Type 0} (test : A → Bool) (xs : List A) (i : ℕ) → IsFirst test i xs → i < length xs
-first_below test [] i h = absurd h
-first_below test (x ∷ xs) zero h = omega arith
-first_below test (x ∷ xs) (suc i) h = let l = first_below test xs i h.1 in omega arith
-
-pub first_passes : {A : Type 0} (test : A → Bool) (xs : List A) (i : ℕ) (d : A) → IsFirst test i xs → test (get_or xs i d) ≡ true
-first_passes test [] i d h = absurd h
-first_passes test (x ∷ xs) zero d h = h
-first_passes test (x ∷ xs) (suc i) d h = first_passes test xs i d h.1
-
-first_any : {A : Type 0} (test : A → Bool) (xs : List A) (i : ℕ) → IsFirst test i xs → list_any test xs ≡ true
-first_any test [] i h = absurd h
-first_any test (x ∷ xs) zero h = or_here (test x) _ h
-first_any test (x ∷ xs) (suc i) h = or_true (test x) _ (first_any test xs i h.1)
-
-pub found_any : {A : Type 0} (test : A → Bool) (xs : List A) (o : Option ℕ) → MatchOption o (list_any test xs ≡ false) (λ at. IsFirst test at xs) → is_some o ≡ true → list_any test xs ≡ true
-found_any test xs None h s = cc
-found_any test xs (Some at) h s = first_any test xs at h
-
--- the contents of the block that is found
-pub contents_at : (device : Device) (lun block : ℕ) (kept : List Kept) (i : ℕ) (d : Kept) → IsFirst (is_block lun block) i kept → contents_in device kept lun block ≡ contents_of (get_or kept i d)
-contents_at device lun block [] i d h = absurd h
-contents_at device lun block (k ∷ ks) zero d h = rw h refl
-contents_at device lun block (k ∷ ks) (suc i) d h = let n = h.0 in rw n (contents_at device lun block ks i d h.1)
-
-same_at : (device : Device) (lun block : ℕ) (kept : List Kept) (i : ℕ) (k : Kept) → IsFirst (is_block lun block) i kept → is_block lun block k ≡ true → contents_in device (set kept i k) lun block ≡ contents_of k
-same_at device lun block [] i k h t = absurd h
-same_at device lun block (x ∷ xs) zero k h t = rw t refl
-same_at device lun block (x ∷ xs) (suc i) k h t = let n = h.0 in rw n (same_at device lun block xs i k h.1 t)
-
-others_at : (device : Device) (lun block : ℕ) (kept : List Kept) (i : ℕ) (k : Kept) → is_block lun block k ≡ false → is_block lun block (get_or kept i k) ≡ false → contents_in device (set kept i k) lun block ≡ contents_in device kept lun block
-others_at device lun block [] i k f g = refl
-others_at device lun block (x ∷ xs) zero k f g = rw (f, g) refl
-others_at device lun block (x ∷ xs) (suc i) k f g =
-    let e = others_at device lun block xs i k f g in
-    elim (cases_Bool (is_block lun block x)) [ inl t ↦ rw t refl | inr t ↦ rw t e ]
-
--- whether it is the block rests on its place alone
-same_test : (lun block : ℕ) (k : Kept) (r : Request) → k.lun ≡ r.place.lun → k.number ≡ r.place.block → is_block lun block k ≡ is_on lun block r
-same_test lun block k r d e = rw (d, e) refl
-
--- a change of the block that is found is a change of the blocks
-pub changed_at :
-    (device : Device) (r : Request) (kept : List Kept) (i : ℕ) (x k : Kept) → IsFirst (is_block r.place.lun r.place.block) i kept → x ≡ get_or kept i x →
-    k.lun ≡ x.lun → k.number ≡ x.number → contents_of k ≡ contents_after device r (contents_of x) →
-    contents_in device (set kept i k) ≡ changed device r (contents_in device kept)
-changed_at device r kept i x k h e l n c =
-    let w = block_true r.place.lun r.place.block x (subst (λ z. is_block r.place.lun r.place.block z ≡ true) (sym e) (first_passes (is_block r.place.lun r.place.block) kept i x h)) in
-    let kl : k.lun ≡ r.place.lun = l ∙ w.0 in
-    let kn : k.number ≡ r.place.block = n ∙ w.1 in
+-- so the block changes as its contents do, and no other
+pub put_changed : (device : Device) (r : Request) (old new : List Named) (c : Contents) →
+    ((lun block : ℕ) → kept_of new lun block ≡ (if is_same (r.place.lun, r.place.block) (lun, block) then Some c else kept_of old lun block)) →
+    c ≡ contents_after device r (unwrap_or (kept_of old r.place.lun r.place.block) (fresh device)) →
+    blocks_of (record { device = device; kept = new }) ≡ changed device r (blocks_of (record { device = device; kept = old }))
+put_changed device r old new c n e =
     fun_ext (λ lun. fun_ext (λ block.
     elim (cases_Bool (is_on lun block r)) [
       | inl t ↦
           let v = on_true lun block r t in
-          let v0 : r.place.lun ≡ lun = v.0 in
-          let v1 : r.place.block ≡ block = v.1 in
-          let h' : IsFirst (is_block lun block) i kept = subst (λ b. IsFirst (is_block lun b) i kept) v1 (subst (λ a. IsFirst (is_block a r.place.block) i kept) v0 h) in
-          let old : contents_in device kept lun block ≡ contents_of x = contents_at device lun block kept i x h' ∙ ap contents_of (sym e) in
-          let new : contents_in device (set kept i k) lun block ≡ contents_of k = same_at device lun block kept i k h' (same_test lun block k r kl kn ∙ t) in
-          rw t (new ∙ c ∙ ap (contents_after device r) (sym old))
-      | inr t ↦
-          let fk : is_block lun block k ≡ false = same_test lun block k r kl kn ∙ t in
-          let fx : is_block lun block x ≡ false = same_test lun block x r w.0 w.1 ∙ t in
-          rw t (others_at device lun block kept i k fk (other_default device lun block kept i x k (first_below _ kept i h) (subst (λ z. is_block lun block z ≡ false) e fx)))
+          let here : unwrap_or (kept_of new lun block) (fresh device) ≡ c = ap (λ o. unwrap_or o (fresh device)) (n lun block) ∙ ap (λ (b : Bool). unwrap_or (if b then Some c else kept_of old lun block) (fresh device)) (same_on lun block r ∙ t) in
+          let there : c ≡ contents_after device r (unwrap_or (kept_of old lun block) (fresh device)) =
+          e ∙ ap (λ l. contents_after device r (unwrap_or (kept_of old l r.place.block) (fresh device))) v.0 ∙ ap (λ b. contents_after device r (unwrap_or (kept_of old lun b) (fresh device))) v.1 in
+          rw t (here ∙ there)
+      | inr f ↦ rw f (ap (λ o. unwrap_or o (fresh device)) (n lun block) ∙ ap (λ (b : Bool). unwrap_or (if b then Some c else kept_of old lun block) (fresh device)) (same_on lun block r ∙ f))
     ]))
-  where
-    other_default : (device : Device) (lun block : ℕ) (xs : List Kept) (j : ℕ) (a b : Kept) → j < length xs → is_block lun block (get_or xs j a) ≡ false → is_block lun block (get_or xs j b) ≡ false
-    other_default device lun block [] j a b q p = absurd (omega arith)
-    other_default device lun block (y ∷ ys) zero a b q p = p
-    other_default device lun block (y ∷ ys) (suc j) a b q p = other_default device lun block ys j a b (omega arith) p
 
--- a block that opens changes nothing
-pub contents_more : (device : Device) (kept : List Kept) (k : Kept) → contents_of k ≡ fresh device → contents_in device (kept ++ k ∷ []) ≡ contents_in device kept
-contents_more device kept k e = fun_ext (λ lun. fun_ext (λ block. more lun block kept))
-  where
-    more : (lun block : ℕ) (xs : List Kept) → contents_in device (xs ++ k ∷ []) lun block ≡ contents_in device xs lun block
-    more lun block [] = elim (cases_Bool (is_block lun block k)) [ inl t ↦ rw t e | inr t ↦ rw t refl ]
-    more lun block (x ∷ xs) = let f = more lun block xs in elim (cases_Bool (is_block lun block x)) [ inl t ↦ rw t refl | inr t ↦ rw t f ]
+-- a read changes nothing
+pub read_changes_nothing : (device : Device) (r : Request) (blocks : Blocks) → r.kind ≡ kind.Read → changed device r blocks ≡ blocks
+unfolding contents_after
+read_changes_nothing device r blocks k =
+    fun_ext (λ lun. fun_ext (λ block.
+    elim (cases_Bool (is_on lun block r)) [ inl t ↦ rw (t, k) refl | inr f ↦ rw f refl ]))
 
--- what is kept stays so
-pub still_any : {A : Type 0} (test : A → Bool) (xs : List A) (i : ℕ) (x k : A) → i < length xs → x ≡ get_or xs i x → test k ≡ test x → list_any test xs ≡ true → list_any test (set xs i k) ≡ true
-still_any test [] i x k l e t h = absurd (omega arith)
-still_any test (y ∷ xs) zero x k l e t h = rw (t, e) h
-still_any test (y ∷ xs) (suc i) x k l e t h =
-    elim (cases_Bool (test y)) [
-      | inl p ↦ or_here (test y) _ p
-      | inr p ↦ or_true (test y) _ (still_any test xs i x k (omega arith) e t (rw p at h))
+erased_at : (n i : ℕ) → slice_index_or (replicate n Erased) i Erased ≡ Erased
+erased_at zero i = refl
+erased_at (suc n) zero = refl
+erased_at (suc n) (suc i) = erased_at n i
+
+-- and of a block that isn't kept it gives erased bytes
+pub read_of_none : (device : Device) (r : Request) → r.kind ≡ kind.Read → answer_of device r (fresh device) ≡ answer.Read (replicate device.shape.bytes 255)
+unfolding answer_of
+read_of_none device r k = let e = erased_at device.shape.pages r.place.page in rw (k, e) refl
+
+same_true : (a b : ℕ × ℕ) → is_same a b ≡ true → a ≡ b
+same_true (i, j) (k, l) h =
+    let e : i ≡ k = grind (arith, nat_tests) in
+    let f : j ≡ l = grind (arith, nat_tests) in
+    ap (λ (x : ℕ). (x, j)) e ∙ ap (λ (x : ℕ). (k, x)) f
+
+some_map : {A B : Type 0} (f : A → B) (o : Option A) (x : A) → o ≡ Some x → IsSome (option_map f o)
+some_map f o x e = subst (λ z. IsSome (option_map f z)) (sym e) refl
+
+-- what is kept stays so, and has the device's shape
+pub put_still : {S : Type 0} (m n : HashMap (ℕ × ℕ) Kept S) (key : ℕ × ℕ) (w : Kept) → UpdatesBy is_same (is_same key) m n (Some w) →
+    (lun block : ℕ) → IsSome (kept_of m.entries lun block) → IsSome (kept_of n.entries lun block)
+put_still m n key w u lun block h =
+    let e = put_kept m n key w u lun block in
+    elim (cases_Bool (is_same key (lun, block))) [
+      | inl t ↦ subst IsSome (sym (e ∙ ap (λ (b : Bool). if b then Some (contents_of w) else kept_of m.entries lun block) t)) refl
+      | inr f ↦ subst IsSome (sym (e ∙ ap (λ (b : Bool). if b then Some (contents_of w) else kept_of m.entries lun block) f)) h
     ]
 
--- the block that was found is the one of the place
-pub found_place : (lun block : ℕ) (kept : List Kept) (i : ℕ) (x : Kept) → IsFirst (is_block lun block) i kept → x ≡ get_or kept i x → (x.lun ≡ lun) × (x.number ≡ block)
-found_place lun block kept i x h e = block_true lun block x (subst (λ z. is_block lun block z ≡ true) (sym e) (first_passes (is_block lun block) kept i x h))
+pub put_shape : {S : Type 0} (shape : Shape) (m n : HashMap (ℕ × ℕ) Kept S) (key : ℕ × ℕ) (w : Kept) → UpdatesBy is_same (is_same key) m n (Some w) →
+    HaveShape shape m.entries → w.block.shape ≡ shape → HaveShape shape n.entries
+put_shape shape m n key w u h s lun block =
+    let e : lookup (is_same (lun, block)) n.entries ≡ cond (is_same key (lun, block)) (Some w) (lookup (is_same (lun, block)) m.entries) = u.0 (lun, block) in
+    elim (cases_Bool (is_same key (lun, block))) [
+      | inl t ↦ subst (λ o. IfSome o (λ (k : Kept). k.block.shape ≡ shape)) (sym (e ∙ ap (λ (b : Bool). cond b (Some w) (lookup (is_same (lun, block)) m.entries)) t)) s
+      | inr f ↦ subst (λ o. IfSome o (λ (k : Kept). k.block.shape ≡ shape)) (sym (e ∙ ap (λ (b : Bool). cond b (Some w) (lookup (is_same (lun, block)) m.entries)) f)) (h lun block)
+    ]
 
-found_shape : (shape : Shape) (kept : List Kept) (i : ℕ) (x : Kept) → HaveShape shape kept → i < length kept → x ≡ get_or kept i x → x.block.shape ≡ shape
-found_shape shape kept i x a l e = ap (λ (z : Kept). z.block.shape) e ∙ a i x l
+-- a fresh block that wasn't kept changes nothing
+none_of : {A : Type 0} (o : Option A) → is_some o ≡ false → o ≡ None
+none_of None h = refl
+none_of (Some x) h = cc
 
--- the block that was found has the device's shape
-pub shape_found : (inside : Stored) (s : Stored) (lun block : ℕ) (i : ℕ) (x : Kept) → inside ≡ s → HaveShape inside.device.shape inside.kept → IsFirst (is_block lun block) i inside.kept → x ≡ get_or inside.kept i x → x.block.shape ≡ s.device.shape
-shape_found inside s lun block i x v a h e =
-    found_shape inside.device.shape inside.kept i x a (first_below (is_block lun block) inside.kept i h) e ∙ ap (λ (z : Stored). z.device.shape) v
+pub put_fresh : {S : Type 0} (device : Device) (m n : HashMap (ℕ × ℕ) Kept S) (key : ℕ × ℕ) (w : Kept) → UpdatesBy is_same (is_same key) m n (Some w) →
+    is_some (lookup (is_same key) m.entries) ≡ false → contents_of w ≡ fresh device →
+    blocks_of (record { device = device; kept = n.entries }) ≡ blocks_of (record { device = device; kept = m.entries })
+put_fresh device m n key w u a o =
+    fun_ext (λ lun. fun_ext (λ block.
+    let e = put_kept m n key w u lun block in
+    elim (cases_Bool (is_same key (lun, block))) [
+      | inl t ↦
+          let here : unwrap_or (kept_of n.entries lun block) (fresh device) ≡ fresh device =
+          ap (λ o. unwrap_or o (fresh device)) (e ∙ ap (λ (b : Bool). if b then Some (contents_of w) else kept_of m.entries lun block) t) ∙ o in
+          let none : lookup (is_same (lun, block)) m.entries ≡ None = none_of _ (subst (λ q. is_some (lookup (is_same q) m.entries) ≡ false) (same_true key (lun, block) t) a) in
+          here ∙ sym (ap (λ o. unwrap_or (option_map contents_of o) (fresh device)) none)
+      | inr f ↦ ap (λ o. unwrap_or o (fresh device)) (e ∙ ap (λ (b : Bool). if b then Some (contents_of w) else kept_of m.entries lun block) f)
+    ]))
 
--- what running an operation on the block that was found leaves of the blocks
-pub blocks_ran :
-    (inside s : Stored) (r : Request) (faults : List Fault) (i : ℕ) (x k : Kept) → inside ≡ s → HaveShape inside.device.shape inside.kept →
-    IsFirst (is_block r.place.lun r.place.block) i inside.kept → x ≡ get_or inside.kept i x → faults ≡ inside.device.faults →
-    k.lun ≡ x.lun → k.number ≡ x.number →
-    contents_of k ≡ contents_after (record { shape = x.block.shape; faults = faults }) r (contents_of x) →
-    contents_in inside.device (set inside.kept i k) ≡ changed s.device r (blocks_of s)
-blocks_ran inside s r faults i x k v a h e f l n c =
-    let shape = shape_found inside inside r.place.lun r.place.block i x refl a h e in
-    let c' : contents_of k ≡ contents_after inside.device r (contents_of x) =
-    subst (λ fs. contents_of k ≡ contents_after (record { shape = inside.device.shape; faults = fs }) r (contents_of x)) f
-    (subst (λ sh. contents_of k ≡ contents_after (record { shape = sh; faults = faults }) r (contents_of x)) shape c) in
-    subst (λ (z : Stored). contents_in inside.device (set inside.kept i k) ≡ changed z.device r (blocks_of z)) v
-    (changed_at inside.device r inside.kept i x k h e l n c')
+-- a block that is found
+pub shape_found : (shape : Shape) (kept : List Named) (key : ℕ × ℕ) (x : Kept) → HaveShape shape kept → Some x ≡ lookup (is_same key) kept → x.block.shape ≡ shape
+shape_found shape kept key x h e = subst (λ o. IfSome o (λ (k : Kept). k.block.shape ≡ shape)) (sym e) (h key.0 key.1)
 
--- and what it answers
-pub answer_ran :
-    (inside s : Stored) (r : Request) (faults : List Fault) (i : ℕ) (x : Kept) (answer : Answer) → inside ≡ s → HaveShape inside.device.shape inside.kept →
-    IsFirst (is_block r.place.lun r.place.block) i inside.kept → x ≡ get_or inside.kept i x → faults ≡ inside.device.faults →
-    answer ≡ answer_of (record { shape = x.block.shape; faults = faults }) r (contents_of x) →
-    answer ≡ answer_of s.device r (block_of r (blocks_of s))
-answer_ran inside s r faults i x answer v a h e f c =
-    let shape = shape_found inside inside r.place.lun r.place.block i x refl a h e in
-    let here : contents_of x ≡ block_of r (blocks_of inside) = sym (contents_at inside.device r.place.lun r.place.block inside.kept i x h ∙ ap contents_of (sym e)) in
+abbrev pub stored : Shape → List Fault → List Named → Stored
+stored shape faults kept = record { device = record { shape = shape; faults = faults }; kept = kept }
+
+pub blocks_ran : {S : Type 0} (shape : Shape) (faults seen : List Fault) (s : Stored) (m n : HashMap (ℕ × ℕ) Kept S) (r : Request) (key : ℕ × ℕ) (x w : Kept) →
+    stored shape faults m.entries ≡ s → key ≡ (r.place.lun, r.place.block) → HaveShape shape m.entries → Some x ≡ lookup (is_same key) m.entries → seen ≡ faults →
+    UpdatesBy is_same (is_same key) m n (Some w) → contents_of w ≡ contents_after (record { shape = x.block.shape; faults = seen }) r (contents_of x) →
+    blocks_of (stored shape faults n.entries) ≡ changed s.device r (blocks_of s)
+blocks_ran shape faults seen s m n r key x w v k h e f u c =
+    let device : Device = record { shape = shape; faults = faults } in
+    let e' : Some x ≡ lookup (is_same (r.place.lun, r.place.block)) m.entries = e ∙ ap (λ q. lookup (is_same q) m.entries) k in
+    let before : contents_of x ≡ unwrap_or (kept_of m.entries r.place.lun r.place.block) (fresh device) = ap (λ o. unwrap_or (option_map contents_of o) (fresh device)) e' in
+    let c' : contents_of w ≡ contents_after device r (contents_of x) =
+    subst (λ fs. contents_of w ≡ contents_after (record { shape = shape; faults = fs }) r (contents_of x)) f
+    (subst (λ sh. contents_of w ≡ contents_after (record { shape = sh; faults = seen }) r (contents_of x)) (shape_found shape m.entries key x h e) c) in
+    let put : (lun block : ℕ) → kept_of n.entries lun block ≡ (if is_same (r.place.lun, r.place.block) (lun, block) then Some (contents_of w) else kept_of m.entries lun block) =
+    λ lun block. put_kept m n key w u lun block ∙ ap (λ (q : ℕ × ℕ). if is_same q (lun, block) then Some (contents_of w) else kept_of m.entries lun block) k in
+    put_changed device r m.entries n.entries (contents_of w) put (c' ∙ ap (contents_after device r) before)
+    ∙ ap (λ (z : Stored). changed z.device r (blocks_of z)) v
+
+pub answer_ran : (shape : Shape) (faults seen : List Fault) (s : Stored) (kept : List Named) (r : Request) (key : ℕ × ℕ) (x : Kept) (answer : Answer) →
+    stored shape faults kept ≡ s → key ≡ (r.place.lun, r.place.block) → HaveShape shape kept → Some x ≡ lookup (is_same key) kept → seen ≡ faults →
+    answer ≡ answer_of (record { shape = x.block.shape; faults = seen }) r (contents_of x) → answer ≡ answer_of s.device r (block_of r (blocks_of s))
+answer_ran shape faults seen s kept r key x answer v k h e f c =
+    let device : Device = record { shape = shape; faults = faults } in
+    let e' : Some x ≡ lookup (is_same (r.place.lun, r.place.block)) kept = e ∙ ap (λ q. lookup (is_same q) kept) k in
+    let before : contents_of x ≡ unwrap_or (kept_of kept r.place.lun r.place.block) (fresh device) = ap (λ o. unwrap_or (option_map contents_of o) (fresh device)) e' in
     subst (λ (z : Stored). answer ≡ answer_of z.device r (block_of r (blocks_of z))) v
-    (subst (λ (z : Contents). answer ≡ answer_of inside.device r z) here
-    (subst (λ fs. answer ≡ answer_of (record { shape = inside.device.shape; faults = fs }) r (contents_of x)) f
-    (subst (λ sh. answer ≡ answer_of (record { shape = sh; faults = faults }) r (contents_of x)) shape c)))
+    (subst (λ (z : Contents). answer ≡ answer_of device r z) before
+    (subst (λ fs. answer ≡ answer_of (record { shape = shape; faults = fs }) r (contents_of x)) f
+    (subst (λ sh. answer ≡ answer_of (record { shape = sh; faults = seen }) r (contents_of x)) (shape_found shape kept key x h e) c)))
 
--- what was kept stays so
-pub others_ran :
-    (inside s : Stored) (i : ℕ) (x k : Kept) → inside ≡ s → i < length inside.kept → x ≡ get_or inside.kept i x → k.lun ≡ x.lun → k.number ≡ x.number →
-    (lun block : ℕ) → IsKept lun block s → list_any (is_block lun block) (set inside.kept i k) ≡ true
-others_ran inside s i x k v l e d n lun block h =
-    still_any (is_block lun block) inside.kept i x k l e (rw (d, n) refl) (subst (IsKept lun block) (sym v) h)
+-- a change of a block that is kept keeps no more
+pub put_no_more : {S : Type 0} (m n : HashMap (ℕ × ℕ) Kept S) (key : ℕ × ℕ) (x w : Kept) → Some x ≡ lookup (is_same key) m.entries → UpdatesBy is_same (is_same key) m n (Some w) →
+    (lun block : ℕ) → IsSome (kept_of n.entries lun block) → IsSome (kept_of m.entries lun block)
+put_no_more m n key x w e u lun block h =
+    elim (cases_Bool (is_same key (lun, block))) [
+      | inl t ↦ some_map contents_of _ x (sym (e ∙ ap (λ q. lookup (is_same q) m.entries) (same_true key (lun, block) t)))
+      | inr f ↦ subst IsSome (put_kept m n key w u lun block ∙ ap (λ (b : Bool). if b then Some (contents_of w) else kept_of m.entries lun block) f) h
+    ]
+
+no_some : {A : Type 0} (o : Option A) → o ≡ None → IsSome o → ⊥
+no_some None e h = cc
+no_some (Some x) e h = cc
+
+-- a block that isn't found isn't kept
+pub not_kept : (s : Stored) (kept : List Named) (lun block : ℕ) (key : ℕ × ℕ) → s.kept ≡ kept → key ≡ (lun, block) → None ≡ lookup (is_same key) kept → kept_of s.kept lun block ≡ None
+not_kept s kept lun block key v k e = ap (λ es. kept_of es lun block) v ∙ ap (λ q. option_map contents_of (lookup (is_same q) kept)) (sym k) ∙ ap (option_map contents_of) (sym e)
+
+is_read : (o : Prepared) → (kind_of o ≢ kind.Read → ⊥) → kind_of o ≡ kind.Read
+is_read (Read room) h = refl
+is_read (Program content) h = absurd (h (λ e. program_no_read e))
+  where
+    program_no_read : kind.Program ≡ kind.Read → ⊥
+    program_no_read e = cc
+is_read Erase h = absurd (h (λ e. erase_no_read e))
+  where
+    erase_no_read : kind.Erase ≡ kind.Read → ⊥
+    erase_no_read e = cc
+
+-- so only a read can be run on it
+pub read_if_none : (o : Prepared) (s : Stored) (kept : List Named) (lun block : ℕ) (key : ℕ × ℕ) → s.kept ≡ kept → key ≡ (lun, block) → None ≡ lookup (is_same key) kept → (kind_of o ≢ kind.Read → IsKept lun block s) → kind_of o ≡ kind.Read
+read_if_none o s kept lun block key v k e h = is_read o (λ n. no_some _ (not_kept s kept lun block key v k e) (h n))

@@ -12,13 +12,9 @@ use crate::prepared::Prepared;
 use onfi_addr::Place;
 use onfi_request::{Answer, Fault};
 
-/// A block with its place on the device and how often it was changed.
+/// A block of a device, and how often it was changed.
 #[derive(Debug, Drop)]
 pub struct Kept {
-    /// The LUN, from 0.
-    pub lun: u8,
-    /// The block of the LUN, from 0.
-    pub number: u16,
     pub block: Block,
     /// How many programs and erases the block was asked for.
     pub changes: Changes,
@@ -29,16 +25,12 @@ impl Kept {
 
     /// Does a prepared operation at a place on this block, and counts it.
     pub(crate) fn run(&mut self, faults: &[Fault], place: Place, operation: Prepared) -> Answer
-        requires lun { place.lun ≡ self.old.lun }
-        requires block { place.block ≡ self.old.number }
         requires page { place.page < self.old.block.shape.pages }
         requires room { HasRoom self.old.block.shape.bytes operation }
         ensures contents { contents_of self.new
             ≡ contents_after (record { shape = self.old.block.shape; faults = faults.now }) (request_of place operation) (contents_of self.old) }
         ensures answer { result ≡ answer_of (record { shape = self.old.block.shape; faults = faults.now }) (request_of place operation) (contents_of self.old) }
         ensures form { IsAnswerTo self.old.block.shape.bytes (kind_of operation) result }
-        ensures lun { self.new.lun ≡ self.old.lun }
-        ensures number { self.new.number ≡ self.old.number }
         ensures shape { self.new.block.shape ≡ self.old.block.shape }
     {
         let fault = is_next(faults, place, &self.changes);

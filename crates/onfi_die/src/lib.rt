@@ -4,7 +4,6 @@
 
 mod block;
 mod changes;
-mod finding;
 mod kept;
 mod laws;
 mod page;

@@ -1,8 +1,11 @@
-ghost use Rattle.std.specs.Prelude.{◌≡◌, ℕ, ◌+◌, length, if◌then◌else◌, IfOk};
+ghost use Rattle.std.specs.Prelude.{◌≡◌, ℕ, ◌+◌, length, replicate, if◌then◌else◌, IfOk};
+ghost use Rattle.onfi_timing.specs.declared.kind.Kind.TheVariants as kind;
+ghost use Rattle.onfi_request.specs.declared.answer.Answer.TheVariants as answer;
 ghost use Rattle.onfi_die.specs.Contents.{counted};
 ghost use Rattle.onfi_die.specs.Prepared.{kind_of, data_of, HasRoom};
 
-use onfi_request::Bytes;
+use crate::page::Page;
+use onfi_request::{Answer, Bytes};
 use onfi_timing::Kind;
 use std::alloc::{AllocError, Global};
 
@@ -56,5 +59,17 @@ impl Prepared {
         ensures { (n : ℕ) → (if result then n + 1 else n) ≡ counted (kind_of self.now) n }
     {
         !matches!(self, Prepared::Read(_))
+    }
+
+    /// Does a read of a page of an erased block.
+    pub(crate) fn read_erased(self) -> Answer
+        requires { kind_of self ≡ kind.Read }
+        ensures { (bytes : ℕ) → HasRoom bytes self → result ≡ answer.Read (replicate bytes 255) }
+    {
+        let Prepared::Read(mut room) = self else {
+            unreachable!();
+        };
+        Page::Erased.show(room.as_mut_slice());
+        Answer::Read(Bytes::of(room))
     }
 }

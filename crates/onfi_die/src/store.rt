@@ -1,24 +1,25 @@
-ghost use Rattle.std.specs.Prelude.{◌≡◌, ℕ, ◌<◌, Bool, true, false, length, replicate, IfOk, OnOk, OnErr, IsSome};
+ghost use Rattle.std.specs.Prelude.{◌≡◌, ◌≢◌, ℕ, ◌<◌, length, IfOk, OnOk, OnErr};
 ghost use Rattle.onfi_timing.specs.declared.kind.Kind.TheVariants as kind;
 
 use crate::block::Block;
 use crate::changes::Changes;
-use crate::finding::find;
 use crate::kept::Kept;
 use crate::prepared::Prepared;
 use crate::shape::Shape;
 use onfi_addr::{Geometry, Place};
 use onfi_request::{Answer, Fault, Request};
+use onfi_timing::Kind;
 use std::alloc::{AllocError, Global};
+use std::collections::HashMap;
 use std::marker::Model;
 
-/// The blocks of a device by LUN and number, with its injected faults. A block that was never named takes no memory: it
-/// is erased, and no program or erase of it was asked for.
+/// The blocks of a device by LUN and number, with its injected faults. A block that no program or erase named takes no
+/// memory: it is erased.
 #[derive(Debug, Drop)]
 pub struct Store {
     shape: Shape,
     faults: Vec<Fault>,
-    kept: Vec<Kept>,
+    kept: HashMap<(u8, u16), Kept>,
 }
 
 impl Model for Store {
@@ -26,9 +27,9 @@ impl Model for Store {
 
     ghost Value = { Stored };
 
-    ghost view = { λ s. record { device = record { shape = s.shape; faults = s.faults.items }; kept = s.kept.items } };
+    ghost view = { λ s. record { device = record { shape = s.shape; faults = s.faults.items }; kept = s.kept.entries } };
 
-    ghost invariant = { λ s. HaveShape s.shape s.kept.items };
+    ghost invariant = { λ s. HaveShape s.shape s.kept.entries };
 }
 
 impl Store {
@@ -47,7 +48,7 @@ impl Store {
         Store {
             shape: Shape::of(geometry),
             faults,
-            kept: Vec::new(alloc),
+            kept: HashMap::new(alloc),
         }
     }
 
@@ -69,21 +70,24 @@ impl Store {
             request.bytes.as_slice(),
             self.shape.bytes,
         )?;
-        self.keep(alloc, request.place)?;
+        self.keep(alloc, request.kind, request.place)?;
         Ok(self.run(request.place, operation))
     }
 
-    /// Makes room for the contents of the block of a place, so that [`Store::run`] can be called.
+    /// Makes room for what an operation of a kind leaves on the block of a place, so that [`Store::run`] can be called. A
+    /// read leaves nothing, so nothing is kept for it.
     ///
     /// # Errors
     /// Want of memory. The contents of all blocks are unchanged, whatever is answered.
-    pub fn keep(&mut self, alloc: Global, place: Place) -> Result<(), AllocError>
-        ensures kept { OnOk result (IsKept place.lun place.block self.new) }
+    pub fn keep(&mut self, alloc: Global, kind: Kind, place: Place) -> Result<(), AllocError>
+        ensures kept { OnOk result (kind ≢ Kind.Read → IsKept place.lun place.block self.new) }
+        ensures read { kind ≡ Kind.Read → self.new ≡ self.old }
         ensures others { (lun block : ℕ) → IsKept lun block self.old → IsKept lun block self.new }
         ensures device { self.new.device ≡ self.old.device }
         ensures blocks { blocks_of self.new ≡ blocks_of self.old }
     {
-        if find(self.kept.as_slice(), place).is_some() {
+        let key = key_of(place);
+        if kind == Kind::Read || self.kept.contains_key(&key) {
             return Ok(());
         }
         let Shape {
@@ -92,18 +96,19 @@ impl Store {
             any_order,
         } = self.shape;
         let block = Block::erased(alloc, pages, bytes, any_order)?;
-        self.kept.push(Kept {
-            lun: place.lun,
-            number: place.block,
-            block,
-            changes: Changes::none(),
-        })?;
+        self.kept.insert(
+            key,
+            Kept {
+                block,
+                changes: Changes::none(),
+            },
+        )?;
         Ok(())
     }
 
-    /// Does a prepared operation at a place, whose block is kept; this takes no memory.
+    /// Does a prepared operation at a place, whose block is kept for a program or an erase; this takes no memory.
     pub fn run(&mut self, place: Place, operation: Prepared) -> Answer
-        requires kept { IsKept place.lun place.block self.old }
+        requires kept { kind_of operation ≢ kind.Read → IsKept place.lun place.block self.old }
         requires page { place.page < self.old.device.shape.pages }
         requires room { HasRoom self.old.device.shape.bytes operation }
         ensures device { self.new.device ≡ self.old.device }
@@ -111,10 +116,18 @@ impl Store {
         ensures answer { result ≡ answer_of self.old.device (request_of place operation) (block_of (request_of place operation) (blocks_of self.old)) }
         ensures form { IsAnswerTo self.old.device.shape.bytes (kind_of operation) result }
         ensures others { (lun block : ℕ) → IsKept lun block self.old → IsKept lun block self.new }
+        ensures no_more { (lun block : ℕ) → IsKept lun block self.new → IsKept lun block self.old }
     {
-        let Some(at) = find(self.kept.as_slice(), place) else {
-            unreachable!();
+        let Some(kept) = self.kept.get_mut(&key_of(place)) else {
+            return operation.read_erased();
         };
-        self.kept[at].run(self.faults.as_slice(), place, operation)
+        kept.run(self.faults.as_slice(), place, operation)
     }
+}
+
+// The name of the block of a place on its device.
+fn key_of(place: Place) -> (u8, u16)
+    ensures { result ≡ (place.lun, place.block) }
+{
+    (place.lun, place.block)
 }

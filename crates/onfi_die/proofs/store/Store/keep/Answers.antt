@@ -1,22 +1,26 @@
-use Rattle.std.proofs.Common.{◌≡◌, false, refl, sym, ap, subst, ◌∙◌, List, MatchOption}
-use Rattle.std.specs.List.{list_any}
+use Rattle.std.proofs.Common.{◌≡◌, refl, sym, ap, subst, ◌∙◌}
 use Rattle.onfi_die.specs.declared.kept.Kept.{Kept}
+use Rattle.onfi_die.specs.declared.shape.Shape.{Shape}
 use Rattle.onfi_die.specs.Shapes.{Device}
 use Rattle.onfi_die.specs.Contents.{fresh}
-use Rattle.onfi_die.specs.Store.{IsKept, IsFirst, is_block, blocks_of, contents_of, contents_in}
-use Rattle.onfi_die.proofs.Keeping.{found_any, contents_more}
+use Rattle.onfi_die.specs.Store.{IsKept, blocks_of, contents_of}
+use Rattle.onfi_die.proofs.Keeping.{put_shape, put_still, put_fresh}
 use Rattle.onfi_die.proofs.store.Store.keep.Goals as goal
 
-pub returns-then-is_some-clause-kept : goal.returns-then-is_some-clause-kept
-returns-then-is_some-clause-kept c =
-    let test = is_block c.args.place.lun c.args.place.block in
-    let found = subst (λ (xs : List Kept). MatchOption c.find.result (list_any test xs ≡ false) (λ at. IsFirst test at xs)) c.as_slice.ensures.value c.find.ensures in
-    subst (IsKept c.args.place.lun c.args.place.block) c.self.view_is
-    (found_any test c.self.inside.kept.items c.find.result found (sym c.is_some.ensures ∙ c.if-is_some.true))
+pub invariant_of-self-2 : goal.invariant_of-self-2
+invariant_of-self-2 c =
+    let k : Kept = record { block = c.in_ok-block.block; changes = c.none.result } in
+    let shape : k.block.shape ≡ c.self.inside.shape = c.in_ok-block.ensures.shape in
+    put_shape c.self.inside.shape c.self.inside.kept c.insert.new.self c.key_of-key.result k c.in_ok-insert.ensures.updates c.self.invariant shape
+
+pub returns-clause-others : goal.returns-clause-others
+returns-clause-others c lun block h =
+    let k : Kept = record { block = c.in_ok-block.block; changes = c.none.result } in
+    put_still c.self.inside.kept c.insert.new.self c.key_of-key.result k c.in_ok-insert.ensures.updates lun block (subst (IsKept lun block) (sym c.self.view_is) h)
 
 pub returns-clause-blocks : goal.returns-clause-blocks
 returns-clause-blocks c =
     let device : Device = record { shape = c.self.inside.shape; faults = c.self.inside.faults.items } in
-    let k : Kept = record { lun = c.args.place.lun; number = c.args.place.block; block = c.in_ok-block.block; changes = c.none.result } in
+    let k : Kept = record { block = c.in_ok-block.block; changes = c.none.result } in
     let opens : contents_of k ≡ fresh device = rw (c.in_ok-block.ensures.pages, c.none.ensures) refl in
-    ap (contents_in device) c.in_ok-push.ensures.items ∙ contents_more device c.self.inside.kept.items k opens ∙ ap blocks_of c.self.view_is
+    put_fresh device c.self.inside.kept c.insert.new.self c.key_of-key.result k c.in_ok-insert.ensures.updates (sym c.contains_key.ensures ∙ c.if-contains_key.false) opens ∙ ap blocks_of c.self.view_is

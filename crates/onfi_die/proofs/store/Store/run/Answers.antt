@@ -1,53 +1,84 @@
-use Rattle.std.proofs.Common.{◌≡◌, ℕ, ◌<◌, sym, subst, List}
-use Rattle.onfi_die.specs.declared.kept.Kept.{Kept}
+use Rattle.std.proofs.Common.{◌≡◌, ℕ, ◌<◌, None, length, replicate, refl, sym, ap, subst, ◌∙◌}
+use Rattle.std.proofs.Math.ListN.{length-replicate}
+use Rattle.std.specs.Prelude.{IsSome}
+use Rattle.std.specs.Option.{unwrap_or}
+use Rattle.onfi_timing.specs.declared.kind.Kind.{Kind}
+use Rattle.onfi_timing.specs.declared.kind.Kind.TheVariants as kind
+use Rattle.onfi_request.specs.declared.answer.Answer.{Answer}
+use Rattle.onfi_request.specs.declared.answer.Answer.TheVariants as answer
 use Rattle.onfi_die.specs.declared.shape.Shape.{Shape}
+use Rattle.onfi_die.specs.Contents.{Contents, fresh, answer_of}
+use Rattle.onfi_die.specs.Blocks.{changed}
 use Rattle.onfi_die.specs.Prepared.{kind_of, HasRoom, IsAnswerTo}
 use Rattle.onfi_die.specs.Requests.{request_of}
-use Rattle.onfi_die.specs.Store.{IsFirst, is_block}
-use Rattle.onfi_die.proofs.Keeping.{first_below, found_place, shape_found, blocks_ran, answer_ran, others_ran}
+use Rattle.onfi_die.specs.Store.{Stored, IsKept, blocks_of, kept_of}
+use Rattle.onfi_die.proofs.Keeping.{stored, shape_found, blocks_ran, answer_ran, put_shape, put_still, put_no_more, not_kept, read_if_none, read_changes_nothing, read_of_none}
 use Rattle.onfi_die.proofs.store.Store.run.Goals as goal
 
-at_place : (lun block at : ℕ) (slice items : List Kept) → slice ≡ items → IsFirst (is_block lun block) at slice → IsFirst (is_block lun block) at items
-at_place lun block at slice items e h = subst (λ xs. IsFirst (is_block lun block) at xs) e h
+pub read_erased-requires : goal.read_erased-requires
+read_erased-requires c =
+    read_if_none c.args.operation c.args.self.now c.self.inside.kept.entries c.args.place.lun c.args.place.block c.key_of.result (ap (λ (s : Stored). s.kept) (sym c.self.view_is)) c.key_of.ensures c.in_default.ensures.value c.requires.kept
 
-pub index_mut-requires : goal.index_mut-requires
-index_mut-requires c =
-    subst (λ (n : ℕ). c.in-Some.at < n) c.as_slice.ensures.len (first_below (is_block c.args.place.lun c.args.place.block) c.as_slice.result.now c.in-Some.at c.in-Some.ensures)
+pub returns-in_default-clause-blocks : goal.returns-in_default-clause-blocks
+returns-in_default-clause-blocks c =
+    let read = read_if_none c.args.operation c.args.self.now c.self.inside.kept.entries c.args.place.lun c.args.place.block c.key_of.result (ap (λ (s : Stored). s.kept) (sym c.self.view_is)) c.key_of.ensures c.in_default.ensures.value c.requires.kept in
+    ap (λ m. blocks_of (stored c.self.inside.shape c.self.inside.faults.items m)) (ap (λ m. m.entries) c.get_mut.follows.holds-at-none) ∙ ap blocks_of c.self.view_is
+    ∙ sym (read_changes_nothing c.args.self.now.device (request_of c.args.place c.args.operation) (blocks_of c.args.self.now) read)
 
-pub run-requires-clause-lun : goal.run-requires-clause-lun
-run-requires-clause-lun c =
-    sym (found_place c.args.place.lun c.args.place.block c.self.inside.kept.items c.in-Some.at c.index_mut.result.now (at_place _ _ c.in-Some.at _ _ c.as_slice.ensures.value c.in-Some.ensures) c.index_mut.ensures.value).0
+pub returns-in_default-clause-answer : goal.returns-in_default-clause-answer
+returns-in_default-clause-answer c =
+    let none = not_kept c.args.self.now c.self.inside.kept.entries c.args.place.lun c.args.place.block c.key_of.result (ap (λ (s : Stored). s.kept) (sym c.self.view_is)) c.key_of.ensures c.in_default.ensures.value in
+    let read = read_if_none c.args.operation c.args.self.now c.self.inside.kept.entries c.args.place.lun c.args.place.block c.key_of.result (ap (λ (s : Stored). s.kept) (sym c.self.view_is)) c.key_of.ensures c.in_default.ensures.value c.requires.kept in
+    let r = request_of c.args.place c.args.operation in
+    c.read_erased.ensures c.args.self.now.device.shape.bytes c.requires.room ∙ sym (read_of_none c.args.self.now.device r read)
+    ∙ ap (λ o. answer_of c.args.self.now.device r (unwrap_or o (fresh c.args.self.now.device))) (sym none)
 
-pub run-requires-clause-block : goal.run-requires-clause-block
-run-requires-clause-block c =
-    sym (found_place c.args.place.lun c.args.place.block c.self.inside.kept.items c.in-Some.at c.index_mut.result.now (at_place _ _ c.in-Some.at _ _ c.as_slice.ensures.value c.in-Some.ensures) c.index_mut.ensures.value).1
+pub returns-in_default-clause-form : goal.returns-in_default-clause-form
+returns-in_default-clause-form c =
+    let read = read_if_none c.args.operation c.args.self.now c.self.inside.kept.entries c.args.place.lun c.args.place.block c.key_of.result (ap (λ (s : Stored). s.kept) (sym c.self.view_is)) c.key_of.ensures c.in_default.ensures.value c.requires.kept in
+    let bytes = c.args.self.now.device.shape.bytes in
+    subst (λ (k : Kind). IsAnswerTo bytes k c.read_erased.result) (sym read)
+    (subst (λ (a : Answer). IsAnswerTo bytes kind.Read a) (sym (c.read_erased.ensures bytes c.requires.room)) (length-replicate bytes 255))
 
 pub run-requires-clause-page : goal.run-requires-clause-page
 run-requires-clause-page c =
-    let shape = shape_found _ c.args.self.now c.args.place.lun c.args.place.block c.in-Some.at c.index_mut.result.now c.self.view_is c.self.invariant (at_place _ _ c.in-Some.at _ _ c.as_slice.ensures.value c.in-Some.ensures) c.index_mut.ensures.value in
-    subst (λ (s : Shape). c.args.place.page < s.pages) (sym shape) c.requires.page
+    let shape = shape_found c.self.inside.shape c.self.inside.kept.entries c.key_of.result c.in-Some.kept.now c.self.invariant c.in-Some.ensures.value in
+    subst (λ (s : Shape). c.args.place.page < s.pages) (sym (shape ∙ ap (λ (s : Stored). s.device.shape) c.self.view_is)) c.requires.page
 
 pub run-requires-clause-room : goal.run-requires-clause-room
 run-requires-clause-room c =
-    let shape = shape_found _ c.args.self.now c.args.place.lun c.args.place.block c.in-Some.at c.index_mut.result.now c.self.view_is c.self.invariant (at_place _ _ c.in-Some.at _ _ c.as_slice.ensures.value c.in-Some.ensures) c.index_mut.ensures.value in
-    subst (λ (s : Shape). HasRoom s.bytes c.args.operation) (sym shape) c.requires.room
+    let shape = shape_found c.self.inside.shape c.self.inside.kept.entries c.key_of.result c.in-Some.kept.now c.self.invariant c.in-Some.ensures.value in
+    subst (λ (s : Shape). HasRoom s.bytes c.args.operation) (sym (shape ∙ ap (λ (s : Stored). s.device.shape) c.self.view_is)) c.requires.room
+
+pub invariant_of-self-2 : goal.invariant_of-self-2
+invariant_of-self-2 c =
+    let shape = shape_found c.self.inside.shape c.self.inside.kept.entries c.key_of.result c.in-Some.kept.now c.self.invariant c.in-Some.ensures.value in
+    let found : IsSome _ = subst IsSome c.in-Some.ensures.value refl in
+    put_shape c.self.inside.shape c.self.inside.kept (c.get_mut.follows.lender c.run.new.self) c.key_of.result c.run.new.self ((c.get_mut.follows.holds c.run.new.self).3 found) c.self.invariant (c.run.ensures.shape ∙ shape)
 
 pub returns-clause-blocks : goal.returns-clause-blocks
 returns-clause-blocks c =
-    blocks_ran _ c.args.self.now (request_of c.args.place c.args.operation) c.as_slice-2.result.now c.in-Some.at c.index_mut.result.now c.run.new.self c.self.view_is c.self.invariant
-    (at_place _ _ c.in-Some.at _ _ c.as_slice.ensures.value c.in-Some.ensures) c.index_mut.ensures.value c.as_slice-2.ensures.value c.run.ensures.lun c.run.ensures.number c.run.ensures.contents
+    let found : IsSome _ = subst IsSome c.in-Some.ensures.value refl in
+    blocks_ran c.self.inside.shape c.self.inside.faults.items c.as_slice.result.now c.args.self.now c.self.inside.kept (c.get_mut.follows.lender c.run.new.self) (request_of c.args.place c.args.operation) c.key_of.result c.in-Some.kept.now c.run.new.self
+    c.self.view_is c.key_of.ensures c.self.invariant c.in-Some.ensures.value c.as_slice.ensures.value ((c.get_mut.follows.holds c.run.new.self).3 found) c.run.ensures.contents
 
 pub returns-clause-answer : goal.returns-clause-answer
 returns-clause-answer c =
-    answer_ran _ c.args.self.now (request_of c.args.place c.args.operation) c.as_slice-2.result.now c.in-Some.at c.index_mut.result.now c.run.result c.self.view_is c.self.invariant
-    (at_place _ _ c.in-Some.at _ _ c.as_slice.ensures.value c.in-Some.ensures) c.index_mut.ensures.value c.as_slice-2.ensures.value c.run.ensures.answer
+    answer_ran c.self.inside.shape c.self.inside.faults.items c.as_slice.result.now c.args.self.now c.self.inside.kept.entries (request_of c.args.place c.args.operation) c.key_of.result c.in-Some.kept.now c.run.result
+    c.self.view_is c.key_of.ensures c.self.invariant c.in-Some.ensures.value c.as_slice.ensures.value c.run.ensures.answer
 
 pub returns-clause-form : goal.returns-clause-form
 returns-clause-form c =
-    let shape = shape_found _ c.args.self.now c.args.place.lun c.args.place.block c.in-Some.at c.index_mut.result.now c.self.view_is c.self.invariant (at_place _ _ c.in-Some.at _ _ c.as_slice.ensures.value c.in-Some.ensures) c.index_mut.ensures.value in
-    subst (λ (s : Shape). IsAnswerTo s.bytes (kind_of c.args.operation) c.run.result) shape c.run.ensures.form
+    let shape = shape_found c.self.inside.shape c.self.inside.kept.entries c.key_of.result c.in-Some.kept.now c.self.invariant c.in-Some.ensures.value in
+    subst (λ (s : Shape). IsAnswerTo s.bytes (kind_of c.args.operation) c.run.result) (shape ∙ ap (λ (s : Stored). s.device.shape) c.self.view_is) c.run.ensures.form
 
 pub returns-clause-others : goal.returns-clause-others
-returns-clause-others c =
-    let below = first_below (is_block c.args.place.lun c.args.place.block) c.self.inside.kept.items c.in-Some.at (at_place _ _ c.in-Some.at _ _ c.as_slice.ensures.value c.in-Some.ensures) in
-    others_ran _ c.args.self.now c.in-Some.at c.index_mut.result.now c.run.new.self c.self.view_is below c.index_mut.ensures.value c.run.ensures.lun c.run.ensures.number
+returns-clause-others c lun block h =
+    let found : IsSome _ = subst IsSome c.in-Some.ensures.value refl in
+    put_still c.self.inside.kept (c.get_mut.follows.lender c.run.new.self) c.key_of.result c.run.new.self ((c.get_mut.follows.holds c.run.new.self).3 found) lun block (subst (IsKept lun block) (sym c.self.view_is) h)
+
+pub returns-clause-no_more : goal.returns-clause-no_more
+returns-clause-no_more c lun block h =
+    let found : IsSome _ = subst IsSome c.in-Some.ensures.value refl in
+    subst (IsKept lun block) c.self.view_is
+    (put_no_more c.self.inside.kept (c.get_mut.follows.lender c.run.new.self) c.key_of.result c.in-Some.kept.now c.run.new.self c.in-Some.ensures.value ((c.get_mut.follows.holds c.run.new.self).3 found) lun block h)
