@@ -1,5 +1,5 @@
 -- Calls numbered from 0, of which some fail.
-use Rattle.std.specs.Prelude.{ℕ, ◌+◌, ◌==◌, nat_lt, Bool, if◌then◌else◌, List, [], ◌∷◌}
+use Rattle.std.specs.Prelude.{ℕ, ◌+◌, ◌-◌, ◌^◌, min, ◌==◌, nat_lt, Bool, if◌then◌else◌, List, [], ◌∷◌}
 use Rattle.std.specs.List.{list_any}
 
 -- whether the next call fails, after so many
@@ -10,3 +10,7 @@ fails_at failing made = list_any (λ n. n == made) failing
 abbrev pub failed : List ℕ → ℕ → ℕ
 failed [] made = 0
 failed (n ∷ ns) made = (if nat_lt n made then 1 else 0) + failed ns made
+
+-- one more call; a count stays at the greatest u64
+abbrev pub one_more : ℕ → ℕ
+one_more made = min (made + 1) (2 ^ 64 - 1)

@@ -1,8 +1,10 @@
--- A simulated chip as a chip.
-use Rattle.std.specs.Prelude.{ℕ, ◌+◌, List}
+-- A simulated chip as a chip, and which of its calls fail.
+use Rattle.std.specs.Prelude.{◌≡◌, ℕ, ◌+◌, Bool, true, false, ◌↔◌, List, Result, Ok, Err, IsBitSet}
+use Rattle.onfi_chip.specs.declared.fault.ChipFault.{ChipFault}
+use Rattle.onfi_chip.specs.declared.fault.ChipFault.TheVariants.{Bus, Memory}
 use Rattle.onfi_chip.specs.declared.sim.SimChip.{SimChip}
 use Rattle.onfi_chip.specs.Chip.{Chip}
-use Rattle.onfi_chip.specs.Numbers.{failed}
+use Rattle.onfi_chip.specs.Numbers.{failed, fails_at, one_more}
 use Rattle.onfi_chip.specs.Sim.{chip_of}
 
 -- how often a call failed or told that its LUN isn't ready
@@ -19,3 +21,45 @@ failing_calls sim = sim.calls.failing.items
 -- the numbers of the status calls that tell that their LUN isn't ready
 abbrev pub failing_statuses : SimChip → List ℕ
 failing_statuses sim = sim.statuses.failing.items
+
+-- how many calls were counted
+abbrev pub calls_made : SimChip → ℕ
+calls_made sim = sim.calls.made
+
+-- how many status calls were counted
+abbrev pub statuses_made : SimChip → ℕ
+statuses_made sim = sim.statuses.made
+
+-- the number of the next call is listed
+abbrev pub is_call_listed : SimChip → Bool
+is_call_listed sim = fails_at (failing_calls sim) (calls_made sim)
+
+-- the number of the next status call is listed
+abbrev pub is_status_listed : SimChip → Bool
+is_status_listed sim = fails_at (failing_statuses sim) (statuses_made sim)
+
+-- both lists are kept
+pub record KeepsLists (old new : SimChip) : Type 0 where
+  pub calls : failing_calls new ≡ failing_calls old
+  pub statuses : failing_statuses new ≡ failing_statuses old
+
+-- Bus is told exactly at a listed call
+abbrev pub FailsAsListed : {A : Type 0} → SimChip → Result A ChipFault → Type 0
+FailsAsListed old (Ok x) = is_call_listed old ≡ false
+FailsAsListed old (Err Bus) = is_call_listed old ≡ true
+FailsAsListed old (Err Memory) = is_call_listed old ≡ false
+
+-- a call counts, save one that was refused for memory
+abbrev pub IsCounted : {A : Type 0} → SimChip → Result A ChipFault → SimChip → Type 0
+IsCounted old (Ok x) new = calls_made new ≡ one_more (calls_made old)
+IsCounted old (Err Bus) new = calls_made new ≡ one_more (calls_made old)
+IsCounted old (Err Memory) new = calls_made new ≡ calls_made old
+
+-- a status call counts as one, save where its bus failed
+abbrev pub IsCountedStatus : {A : Type 0} → SimChip → Result A ChipFault → SimChip → Type 0
+IsCountedStatus old (Ok x) new = statuses_made new ≡ one_more (statuses_made old)
+IsCountedStatus old (Err fault) new = statuses_made new ≡ statuses_made old
+
+-- RDY is 0 exactly at a listed status call
+abbrev pub IsReadyAsListed : SimChip → ℕ → Type 0
+IsReadyAsListed old byte = IsBitSet byte 6 ↔ (is_status_listed old ≡ false)

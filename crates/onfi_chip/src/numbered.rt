@@ -1,5 +1,5 @@
 ghost use Rattle.std.specs.Prelude.{◌≡◌, ◌<◌, ◌^◌, true, false};
-ghost use Rattle.onfi_chip.specs.Numbers.{fails_at, failed};
+ghost use Rattle.onfi_chip.specs.Numbers.{fails_at, failed, one_more};
 
 /// Calls of one sort, numbered from 0, of which those with certain numbers fail.
 #[derive(Debug, Drop)]
@@ -14,6 +14,7 @@ impl Numbered {
     pub(crate) fn new(failing: Vec<u32>) -> Numbered
         ensures none { failed result.failing.items result.made ≡ 0 }
         ensures failing { result.failing.items ≡ failing.items }
+        ensures made { result.made ≡ 0 }
     {
         Numbered { failing, made: 0 }
     }
@@ -39,7 +40,22 @@ impl Numbered {
             → failed self.old.failing.items self.old.made < failed self.new.failing.items self.new.made }
         ensures fine { fails_at self.old.failing.items self.old.made ≡ false
             → failed self.new.failing.items self.new.made ≡ failed self.old.failing.items self.old.made }
+        ensures failing { self.new.failing.items ≡ self.old.failing.items }
+        ensures made { self.new.made ≡ one_more self.old.made }
     {
         self.made = self.made.saturating_add(1);
+    }
+
+    /// Counts a call, and answers whether it fails.
+    pub(crate) fn count(&mut self) -> bool
+        ensures value { result ≡ fails_at self.old.failing.items self.old.made }
+        ensures failed { result ≡ true → failed self.old.failing.items self.old.made < failed self.new.failing.items self.new.made }
+        ensures fine { result ≡ false → failed self.new.failing.items self.new.made ≡ failed self.old.failing.items self.old.made }
+        ensures failing { self.new.failing.items ≡ self.old.failing.items }
+        ensures made { self.new.made ≡ one_more self.old.made }
+    {
+        let fails = self.fails();
+        self.step();
+        fails
     }
 }

@@ -1,4 +1,11 @@
-ghost use Rattle.std.specs.Prelude.{◌≡◌, IfOk};
+ghost use Rattle.std.specs.Prelude.{◌≡◌, ◌≢◌, List, length, IfOk, OnOk, IfErr, IsBitSet};
+ghost use Rattle.onfi_addr.specs.Rows.{page_bytes_of};
+ghost use Rattle.onfi_timing.specs.declared.kind.Kind.TheVariants as kind;
+ghost use Rattle.onfi_request.specs.declared.answer.Answer.TheVariants as answer;
+ghost use Rattle.onfi_request.specs.declared.request.Request.{Request as ARequest};
+ghost use Rattle.onfi_chip.specs.declared.post.Post.{Post as APost};
+ghost use Rattle.onfi_chip.specs.Chip.{posted};
+ghost use Rattle.onfi_chip.specs.Calls.{IsNextCommand, IsNextPost, command_of, HasDone, IsLost, AfterFault, TellsAnswer};
 
 use crate::chip::Chip;
 use crate::closer::Closer;
@@ -13,6 +20,9 @@ use onfi_timing::{Kind, Timing};
 use std::alloc::{AllocError, Global};
 
 /// A simulated chip: its dies, and which of its calls fail.
+///
+/// Calls are numbered from 0 in the order in which they are made, one refused for memory not counted; status calls have
+/// numbers of their own, one whose bus failed not counted. It checks no time: that a wait is over is what its calls ask for.
 #[derive(Debug, Drop)]
 pub struct SimChip {
     dies: Dies,
@@ -22,7 +32,7 @@ pub struct SimChip {
 
 impl SimChip {
     ghost use Rattle.onfi_chip.specs.Chip.{opened};
-    ghost use Rattle.onfi_chip.specs.SimChip.{chip_in, failing_calls, failing_statuses};
+    ghost use Rattle.onfi_chip.specs.SimChip.{chip_in, failing_calls, failing_statuses, calls_made, statuses_made};
 
     /// A chip of this geometry and timing as it opens: all blocks erased, all LUNs idle. `faults` are the programs and
     /// erases that fail, `calls` the numbers, from 0, of the calls whose bus fails, `statuses` the numbers of the status
@@ -41,6 +51,8 @@ impl SimChip {
         ensures opened { IfOk result (λ chip. chip_in chip ≡ opened geometry timing faults.items 0) }
         ensures calls { IfOk result (λ chip. failing_calls chip ≡ calls.items) }
         ensures statuses { IfOk result (λ chip. failing_statuses chip ≡ statuses.items) }
+        ensures no_call { IfOk result (λ chip. calls_made chip ≡ 0) }
+        ensures no_status { IfOk result (λ chip. statuses_made chip ≡ 0) }
     {
         Ok(SimChip {
             dies: Dies::new(alloc, geometry, timing, faults)?,
@@ -51,7 +63,7 @@ impl SimChip {
 }
 
 impl Chip for SimChip {
-    ghost use Rattle.onfi_chip.specs.SimChip.{chip_in};
+    ghost use Rattle.onfi_chip.specs.SimChip.{chip_in, statuses_made, KeepsLists, FailsAsListed, IsCounted, IsCountedStatus, IsReadyAsListed};
 
     ghost state = { chip_in };
 
@@ -63,7 +75,16 @@ impl Chip for SimChip {
         opener: Kind,
         closer: Closer,
         bytes: &[u8],
-    ) -> Result<(), ChipFault> {
+    ) -> Result<(), ChipFault>
+        requires { (r : ARequest) × IsNextCommand (chip_in self.old) now row opener bytes.now r }
+        ensures ok { OnOk result ((r : ARequest) → IsNextCommand (chip_in self.old) now row opener bytes.now r
+            → HasDone (command_of closer (chip_in self.old) r now) (chip_in self.new)) }
+        ensures err { IfErr result (λ fault. AfterFault fault (chip_in self.old) (chip_in self.new)) }
+        ensures bus { FailsAsListed self.old result }
+        ensures lists { KeepsLists self.old self.new }
+        ensures counted { IsCounted self.old result self.new }
+        ensures no_status { statuses_made self.new ≡ statuses_made self.old }
+    {
         if self.calls.fails() {
             self.calls.step();
             return Err(ChipFault::Bus);
@@ -80,12 +101,20 @@ impl Chip for SimChip {
         Ok(())
     }
 
-    fn data_out(&mut self, now: u64, row: u64, out: &mut [u8]) -> Result<(), ChipFault> {
-        if self.calls.fails() {
-            self.calls.step();
+    fn data_out(&mut self, now: u64, row: u64, out: &mut [u8]) -> Result<(), ChipFault>
+        requires next { (post : APost) × (left : List APost) × IsNextPost (chip_in self.old) now row post left × (post.kind ≡ kind.Read) }
+        requires room { length out.old ≡ page_bytes_of (chip_in self.old).geometry }
+        ensures ok { OnOk result ((post : APost) (left : List APost) → IsNextPost (chip_in self.old) now row post left
+            → (post.answer ≡ answer.Read out.new) × HasDone (posted (chip_in self.old) post left now) (chip_in self.new)) }
+        ensures err { IfErr result (λ fault. (fault ≡ ChipFault.Bus) × IsLost (chip_in self.old) (chip_in self.new)) }
+        ensures bus { FailsAsListed self.old result }
+        ensures lists { KeepsLists self.old self.new }
+        ensures counted { IsCounted self.old result self.new }
+        ensures no_status { statuses_made self.new ≡ statuses_made self.old }
+    {
+        if self.calls.count() {
             return Err(ChipFault::Bus);
         }
-        self.calls.step();
         let place = self.dies.place(row);
         let post = self.dies.post(place, now);
         let Answer::Read(bytes) = post.answer else {
@@ -95,20 +124,27 @@ impl Chip for SimChip {
         Ok(())
     }
 
-    fn status(&mut self, now: u64, row: u64) -> Result<u8, ChipFault> {
-        if self.calls.fails() {
-            self.calls.step();
-            return Err(ChipFault::Bus);
+    fn status(&mut self, now: u64, row: u64) -> Result<u8, ChipFault>
+        requires { (post : APost) × (left : List APost) × IsNextPost (chip_in self.old) now row post left × (post.kind ≢ kind.Read) }
+        ensures ready { IfOk result (λ byte. IsBitSet byte 6 → (post : APost) (left : List APost) → IsNextPost (chip_in self.old) now row post left
+            → TellsAnswer byte post.answer × HasDone (posted (chip_in self.old) post left now) (chip_in self.new)) }
+        ensures not_ready { IfOk result (λ byte. ¬ IsBitSet byte 6 → IsLost (chip_in self.old) (chip_in self.new)) }
+        ensures err { IfErr result (λ fault. (fault ≡ ChipFault.Bus) × IsLost (chip_in self.old) (chip_in self.new)) }
+        ensures bus { FailsAsListed self.old result }
+        ensures listed { IfOk result (λ byte. IsReadyAsListed self.old byte) }
+        ensures lists { KeepsLists self.old self.new }
+        ensures counted { IsCounted self.old result self.new }
+        ensures counted_status { IsCountedStatus self.old result self.new }
+    {
+        let bus_fails = self.calls.count();
+        if bus_fails {
+            Err(ChipFault::Bus)
+        } else if self.statuses.count() {
+            Ok(0x80)
+        } else {
+            let place = self.dies.place(row);
+            let post = self.dies.post(place, now);
+            Ok(encode_status(&post.answer))
         }
-        if self.statuses.fails() {
-            self.calls.step();
-            self.statuses.step();
-            return Ok(0x80);
-        }
-        self.calls.step();
-        self.statuses.step();
-        let place = self.dies.place(row);
-        let post = self.dies.post(place, now);
-        Ok(encode_status(&post.answer))
     }
 }

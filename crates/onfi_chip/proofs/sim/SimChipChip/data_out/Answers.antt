@@ -21,8 +21,8 @@ returns-clause-ok c post left h =
     let old = c.args.self.now in
     let place = c.place-place.ensures post.place h.in_range h.row_is in
     let told = c.post-post.ensures.taken post left h.ready (posts_there old c.args.now c.args.row post left c.place-place.result place h) in
-    let fine = c.step-2.ensures.fine (sym c.fails.ensures.value ∙ c.if-fails.false) in
-    let new : SimChip = record { dies = c.post-post.new.self; calls = c.step-2.new.self; statuses = old.statuses } in (
+    let fine = c.count.ensures.fine c.if-count.false in
+    let new : SimChip = record { dies = c.post-post.new.self; calls = c.count.new.self; statuses = old.statuses } in (
       ap (λ (q : Post). q.answer) (sym told.0) ∙ c.in-Read.is ∙ ap Read (sym c.in-Read.bytes-is ∙ sym (c.copy_from_slice.ensures.after ∙ c.as_slice.ensures)),
       post_done old new c.args.now post left c.place-place.result place told.1 (ap (λ (n : ℕ). n + failed old.statuses.failing.items old.statuses.made) fine),
     )
