@@ -47,7 +47,7 @@ did_kept : (s : Setup) (cs : List ChannelState) (d : Doing) (cs' : List ChannelS
 did_kept s cs (Happens e o) cs' all step = core_step_kept s cs e o cs' all step
 did_kept s cs (SetsBatch n batch) cs' all (some, few, c, at, after) = subst (All (IsReached s)) (sym after) (All-set (IsReached s) cs n (with_batch batch c) all (batch_kept s batch c some few (All-at (IsReached s) cs n c all at)))
 
-all_kept : (s : Setup) (cs : List ChannelState) (ds : List Doing) (cs' : List ChannelState) → All (IsReached s) cs → DidAll s cs ds cs' → All (IsReached s) cs'
+pub all_kept : (s : Setup) (cs : List ChannelState) (ds : List Doing) (cs' : List ChannelState) → All (IsReached s) cs → DidAll s cs ds cs' → All (IsReached s) cs'
 all_kept s cs [] cs' all h = subst (All (IsReached s)) (sym h) all
 all_kept s cs (d ∷ ds) cs' all (mid, one, rest) = all_kept s mid ds cs' (did_kept s cs d mid all one) rest
 

@@ -24,9 +24,9 @@ use Rattle.onfi_core.specs.State.{ChannelState, collected_by, device_for, posted
 use Rattle.onfi_core.specs.Steps.{IsPlanned, Step}
 use Rattle.onfi_core.proofs.Channels.{All-at, All-set, run_keeps}
 use Rattle.onfi_core.proofs.Lists.{head_same, tail_same}
-use Rattle.onfi_core.proofs.Opening.{opened}
 use Rattle.onfi_core.proofs.Promise.{promise}
-use Rattle.onfi_core.proofs.Reach.{step_kept}
+use Rattle.onfi_core.proofs.Reaching.{events_reach, opened_reaches, step_reaches}
+use Rattle.onfi_core.specs.Reaching.{Reaches}
 
 get_none : {A : Type 0} (xs : List A) (i : ℕ) → length xs ≤ i → slice_get xs i ≡ None
 get_none [] i h = refl
@@ -53,21 +53,21 @@ module _ {C : Type 0} (state : C → Chip) where
         ap (λ i. states (slice_set views i v')) is ∙ map_set (state_in state) views (channel_of e) v',
       )
 
-  -- the channels stay those of the setup, and reached
-  pub channels_kept : (s : Setup) (views : List (ChannelView C)) (at : ℕ) (v v' : ChannelView C) → AreChannels state s views → slice_get views at ≡ Some v → v'.0.setup ≡ v.0.setup → IsReached s (state_in state v') → AreChannels state s (slice_set views at v')
+  -- the channels stay those of the setup, and events reach them
+  pub channels_kept : (s : Setup) (views : List (ChannelView C)) (at : ℕ) (v v' : ChannelView C) → AreChannels state s views → slice_get views at ≡ Some v → v'.0.setup ≡ v.0.setup → Reaches s (state_in state v') → AreChannels state s (slice_set views at v')
   channels_kept s views at v v' a there same reached = record {
     count = length_set views at v' ∙ a.count;
-    each = All-set (λ (x : ChannelView C). (x.0.setup ≡ s) × IsReached s (state_in state x)) views at v' a.each (same ∙ (All-at (λ (x : ChannelView C). (x.0.setup ≡ s) × IsReached s (state_in state x)) views at v a.each there).0, reached);
+    each = All-set (λ (x : ChannelView C). (x.0.setup ≡ s) × Reaches s (state_in state x)) views at v' a.each (same ∙ (All-at (λ (x : ChannelView C). (x.0.setup ≡ s) × Reaches s (state_in state x)) views at v a.each there).0, reached);
   }
 
   pub setup_at : (s : Setup) (views : List (ChannelView C)) (at : ℕ) (v : ChannelView C) → AreChannels state s views → slice_get views at ≡ Some v → v.0.setup ≡ s
-  setup_at s views at v a there = (All-at (λ (x : ChannelView C). (x.0.setup ≡ s) × IsReached s (state_in state x)) views at v a.each there).0
+  setup_at s views at v a there = (All-at (λ (x : ChannelView C). (x.0.setup ≡ s) × Reaches s (state_in state x)) views at v a.each there).0
 
-  pub reached_at : (s : Setup) (views : List (ChannelView C)) (at : ℕ) (v : ChannelView C) → AreChannels state s views → slice_get views at ≡ Some v → IsReached s (state_in state v)
-  reached_at s views at v a there = (All-at (λ (x : ChannelView C). (x.0.setup ≡ s) × IsReached s (state_in state x)) views at v a.each there).1
+  pub reached_at : (s : Setup) (views : List (ChannelView C)) (at : ℕ) (v : ChannelView C) → AreChannels state s views → slice_get views at ≡ Some v → Reaches s (state_in state v)
+  reached_at s views at v a there = (All-at (λ (x : ChannelView C). (x.0.setup ≡ s) × Reaches s (state_in state x)) views at v a.each there).1
 
-  pub reached_behind : (s : Setup) (views : List (ChannelView C)) (at : ℕ) (v v' : ChannelView C) (e : Event) (o : Outcome) → AreChannels state s views → slice_get views at ≡ Some v → Step v.0.setup (state_in state v) e o (state_in state v') → IsReached s (state_in state v')
-  reached_behind s views at v v' e o a there step = step_kept s (state_in state v) e o (state_in state v') (reached_at s views at v a there) (subst (λ (x : Setup). Step x (state_in state v) e o (state_in state v')) (setup_at s views at v a there) step)
+  pub reached_behind : (s : Setup) (views : List (ChannelView C)) (at : ℕ) (v v' : ChannelView C) (e : Event) (o : Outcome) → AreChannels state s views → slice_get views at ≡ Some v → Step v.0.setup (state_in state v) e o (state_in state v') → Reaches s (state_in state v')
+  reached_behind s views at v v' e o a there step = step_reaches s (state_in state v) e o (state_in state v') (reached_at s views at v a there) (subst (λ (x : Setup). Step x (state_in state v) e o (state_in state v')) (setup_at s views at v a there) step)
 
   -- the batch of a channel is set
   pub batch_set : (s : Setup) (views : List (ChannelView C)) (at batch : ℕ) (v v' : ChannelView C) → 1 ≤ batch → batch ≤ 8 → slice_get views at ≡ Some v → state_in state v' ≡ with_batch batch (state_in state v) → Did s (states views) (SetsBatch at batch) (states (slice_set views at v'))
@@ -91,8 +91,11 @@ All-map : {A B : Type 0} (P : B → Type 0) (f : A → B) (xs : List A) → All 
 All-map P f [] h = tt
 All-map P f (x ∷ xs) h = (h.0, All-map P f xs h.1)
 
-pub all_reached : {C : Type 0} (state : C → Chip) (s : Setup) (views : List (ChannelView C)) → AreChannels state s views → All (IsReached s) (map (state_in state) views)
-all_reached {C} state s views a = All-map (IsReached s) (state_in state) views (All-weaker (λ (v : ChannelView C). (v.0.setup ≡ s) × IsReached s (state_in state v)) (λ (v : ChannelView C). IsReached s (state_in state v)) (λ v h. h.1) views a.each)
+pub all_reached : {C : Type 0} (state : C → Chip) (s : Setup) (views : List (ChannelView C)) → AreChannels state s views → All (Reaches s) (map (state_in state) views)
+all_reached {C} state s views a = All-map (Reaches s) (state_in state) views (All-weaker (λ (v : ChannelView C). (v.0.setup ≡ s) × Reaches s (state_in state v)) (λ (v : ChannelView C). Reaches s (state_in state v)) (λ v h. h.1) views a.each)
+
+pub all_kept_by_events : (s : Setup) (cs : List ChannelState) → All (Reaches s) cs → All (IsReached s) cs
+all_kept_by_events s cs h = All-weaker (Reaches s) (IsReached s) (λ c r. events_reach s c r) cs h
 
 pub all_promised : (s : Setup) (cs : List ChannelState) → All (IsReached s) cs → All (KeepsPromise s) cs
 all_promised s cs h = All-weaker (IsReached s) (KeepsPromise s) (λ c r. promise s c r) cs h
@@ -139,13 +142,13 @@ All-both P Q (x ∷ xs) p q = ((p.0, q.0), All-both P Q xs p.1 q.1)
 same_length : {A B D : Type 0} (f : A → D) (k : B → D) (xs : List A) (ys : List B) → map f xs ≡ map k ys → length xs ≡ length ys
 same_length f k xs ys e = sym (length-map xs f) ∙ ap length e ∙ length-map ys k
 
-opened_reached : (s : Setup) (chip : Chip) → IsReached s (opened_with s chip)
-opened_reached s chip = opened s chip.faults chip.failures
+opened_reached : (s : Setup) (chip : Chip) → Reaches s (opened_with s chip)
+opened_reached s chip = opened_reaches s (opened_with s chip) (chip.faults, chip.failures, refl)
 
 pub channels_opened : {C : Type 0} (state : C → Chip) (s : Setup) (chips : List C) (views : List (ChannelView C)) → AreOpened state s chips views → length chips ≡ s.channels → AreChannels state s views
 channels_opened {C} state s chips views a count = record {
   count = same_length (state_in state) (λ x. opened_with s (state x)) views chips a.states ∙ count;
-  each = All-both (λ (v : ChannelView C). v.0.setup ≡ s) (λ (v : ChannelView C). IsReached s (state_in state v)) views a.setups (paired (state_in state) (λ x. opened_with s (state x)) (IsReached s) (λ x. opened_reached s (state x)) views chips a.states);
+  each = All-both (λ (v : ChannelView C). v.0.setup ≡ s) (λ (v : ChannelView C). Reaches s (state_in state v)) views a.setups (paired (state_in state) (λ x. opened_with s (state x)) (Reaches s) (λ x. opened_reached s (state x)) views chips a.states);
 }
 
 pub none_left : {A : Type 0} (n : ℕ) (xs : List A) → (0 < n → false ≡ true) → n ≡ length xs → xs ≡ []
@@ -181,3 +184,21 @@ pub ends_reached : (s s' : Setup) (cs : List ChannelState) (events left : List E
 ends_reached s s' cs events left outcomes now reached h none same =
     let P : Setup → Type 0 = λ x. All (IsReached x) now in
     subst P (sym same) (run_keeps s cs now events outcomes reached (halfway_end s cs events left outcomes now h none)).0
+
+-- Events reach the channels from event to event
+
+pub step_all_reach : (s : Setup) (cs : List ChannelState) (e : Event) (o : Outcome) (cs' : List ChannelState) → All (Reaches s) cs → CoreStep s cs e o cs' → All (Reaches s) cs'
+step_all_reach s cs e o cs' all (inl (none, out, same)) = subst (All (Reaches s)) (sym same) all
+step_all_reach s cs e o cs' all (inr (c, c', at, step, after)) = subst (All (Reaches s)) (sym after) (All-set (Reaches s) cs (channel_of e) c' all (step_reaches s c e o c' (All-at (Reaches s) cs (channel_of e) c all at) step))
+
+run_all_reach : (s : Setup) (cs : List ChannelState) (es : List Event) (os : List Outcome) (cs' : List ChannelState) → All (Reaches s) cs → CoreRun s cs es os cs' → All (Reaches s) cs'
+run_all_reach s cs [] [] cs' all run = subst (All (Reaches s)) (sym run) all
+run_all_reach s cs [] (o ∷ os) cs' all run = absurd run
+run_all_reach s cs (e ∷ es) [] cs' all run = absurd run
+run_all_reach s cs (e ∷ es) (o ∷ os) cs' all (mid, one, rest) = run_all_reach s mid es os cs' (step_all_reach s cs e o mid all one) rest
+
+-- where nothing is left events reach each channel
+pub ends_by_events : (s s' : Setup) (cs : List ChannelState) (events left : List Event) (outcomes : List Outcome) (now : List ChannelState) → All (Reaches s) cs → Halfway s cs events left outcomes now → left ≡ [] → s' ≡ s → All (Reaches s') now
+ends_by_events s s' cs events left outcomes now all h none same =
+    let P : Setup → Type 0 = λ x. All (Reaches x) now in
+    subst P (sym same) (run_all_reach s cs events outcomes now all (halfway_end s cs events left outcomes now h none))

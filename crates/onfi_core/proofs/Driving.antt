@@ -27,11 +27,11 @@ use Rattle.onfi_core.specs.declared.due.Due.{Due}
 use Rattle.onfi_core.specs.declared.ran.Ran.{Ran}
 use Rattle.onfi_core.specs.declared.ran.Ran.TheVariants as ran
 use Rattle.onfi_core.specs.declared.setup.Setup.{Setup}
-use Rattle.onfi_core.specs.Drive.{MayRun, HasRun, closer_of}
+use Rattle.onfi_core.specs.Drive.{MayRun, HasRun, IsStatus, closer_of}
 use Rattle.onfi_core.specs.Dues.{IsDue, IsRan, member_of, replies_of}
 use Rattle.onfi_core.specs.Kept.{IsSound, IsTaken, ChipAgrees, LunAgrees, post_for}
 use Rattle.onfi_core.specs.State.{HalfState, device_for, item_at, request_of}
-use Rattle.onfi_core.specs.Steps.{IsPhase, RunsOnChip, Commands, Launches}
+use Rattle.onfi_core.specs.Steps.{IsPhase, AsksStatus, RunsOnChip, Commands, Launches}
 use Rattle.onfi_core.proofs.Going.{going_start}
 use Rattle.onfi_core.proofs.Lists.{drop_next, get_has}
 use Rattle.onfi_core.proofs.Members.{item_of, place_lun, place_kind, place_page}
@@ -237,6 +237,18 @@ module _ (s : Setup) (h : HalfState) (chip : Chip) (sound : IsSound s h) (agrees
 
   pub ran_on_chip : (chip' : Chip) (given : Ran) → HasRun chip s.geometry due item given chip' → RunsOnChip h.accepted due.group due.phase due.start chip chip' (replies_of h.accepted chip.faults due given)
   ran_on_chip chip' given has_run = ran_base chip' given (subst (λ (x : Item). HasRun chip s.geometry due x given chip') item_is has_run)
+
+  -- at the post of a program or an erase the move asks for a status
+  pub asks_status : IsStatus due item → AsksStatus h.now is.move
+  asks_status (le, other) = record {
+    group = due.group;
+    phase = due.phase;
+    is = is.is;
+    behind = le;
+    member = m;
+    there = post_at le;
+    kind = λ e. other (ap (λ (x : Item). x.request.kind) item_is ∙ place_kind s h m taken ∙ e);
+  }
 
 -- what the chip gave is of the phase
 pub is_ran : (chip chip' : Chip) (geometry : Geometry) (due : Due) (item : Item) (given : Ran) → HasRun chip geometry due item given chip' → IsRan due given

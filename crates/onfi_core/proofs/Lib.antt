@@ -28,6 +28,10 @@ pub mod Driving
 pub mod Told
 pub mod Nearest
 pub mod Refused
+pub mod Hosted
+pub mod HeldFor
+pub mod Reaching
 pub mod Queueing
 pub mod Running
 pub mod Cores
+pub mod Counting

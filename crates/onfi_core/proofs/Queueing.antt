@@ -23,14 +23,16 @@ use Rattle.onfi_core.specs.Queues.{AreQueues, ChannelView, IsEmptyQueue, IsFresh
 use Rattle.onfi_request.specs.declared.fault.Fault.{Fault}
 use Rattle.onfi_core.specs.declared.due.Due.{Due}
 use Rattle.onfi_core.specs.Dues.{IsDue}
-use Rattle.onfi_core.proofs.Opening.{opened}
+use Rattle.onfi_core.specs.Reaching.{Reaches}
+use Rattle.onfi_core.proofs.Hosted.{from_other, from_own, to_other, to_own}
+use Rattle.onfi_core.proofs.Reaching.{opened_reaches}
 use Rattle.onfi_core.specs.State.{ChannelState, is_from, is_to, sent_by, posted_to, collected_by}
 use Rattle.onfi_core.specs.View.{HalfView, IsNext}
 use Rattle.onfi_core.proofs.Lists.{get_at_length, get_has}
 use Rattle.onfi_core.proofs.Startable.{from_filter}
 
 -- what isn't told of the hosts changes nothing
-pub queues_same : (s : Setup) (lent lent' : Option Reply) (room room' : ℕ) (hosts : List HostQueue) (c c' : ChannelState) → AreQueues s lent room hosts c → IsReached s c' → c'.sent ≡ c.sent → c'.half.posted ≡ c.half.posted → c'.collected ≡ c.collected → lent' ≡ None → room' ≡ room → AreQueues s lent' room' hosts c'
+pub queues_same : (s : Setup) (lent lent' : Option Reply) (room room' : ℕ) (hosts : List HostQueue) (c c' : ChannelState) → AreQueues s lent room hosts c → Reaches s c' → c'.sent ≡ c.sent → c'.half.posted ≡ c.half.posted → c'.collected ≡ c.collected → lent' ≡ None → room' ≡ room → AreQueues s lent' room' hosts c'
 queues_same s lent lent' room room' hosts c c' q reached es ep ec el er = record {
   settled = el;
   reached = reached;
@@ -46,7 +48,7 @@ queues_same s lent lent' room room' hosts c c' q reached es ep ec el er = record
 }
 
 -- a host's queue changed
-module _ (s : Setup) (lent' : Option Reply) (room' : ℕ) (hosts hosts' : List HostQueue) (c c' : ChannelState) (reached : IsReached s c') (settled : lent' ≡ None) (room_is : s.submit_cap ≤ room') (count : length hosts ≡ s.hosts) (host : ℕ) (queue queue' : HostQueue) (at : slice_get hosts host ≡ Some queue) (set : hosts' ≡ slice_set hosts host queue') where
+module _ (s : Setup) (lent' : Option Reply) (room' : ℕ) (hosts hosts' : List HostQueue) (c c' : ChannelState) (reached : Reaches s c') (settled : lent' ≡ None) (room_is : s.submit_cap ≤ room') (count : length hosts ≡ s.hosts) (host : ℕ) (queue queue' : HostQueue) (at : slice_get hosts host ≡ Some queue) (set : hosts' ≡ slice_set hosts host queue') where
   changed : IsHostQueue s c' host queue' → ((j : ℕ) (q : HostQueue) → j ≢ host → slice_get hosts j ≡ Some q → IsHostQueue s c' j q) → AreQueues s lent' room' hosts' c'
   changed own others = record {
     settled = settled;
@@ -63,23 +65,7 @@ module _ (s : Setup) (lent' : Option Reply) (room' : ℕ) (hosts hosts' : List H
     ];
   }
 
-from_other : (host j : ℕ) (xs : List Item) (x : Item) → x.host ≡ host → j ≢ host → filter (is_from j) (xs ++ x ∷ []) ≡ filter (is_from j) xs
-from_other host j xs x own d =
-    let t : (x.host == j) ≡ false = ne_eqb x.host j (λ e. d (sym e ∙ own)) in
-    filter-append (is_from j) xs (x ∷ []) ∙ (rw t (append-nil (filter (is_from j) xs)))
-
-from_own : (host : ℕ) (xs : List Item) (x : Item) → x.host ≡ host → filter (is_from host) (xs ++ x ∷ []) ≡ filter (is_from host) xs ++ x ∷ []
-from_own host xs x own = let t : (x.host == host) ≡ true = eq-eqb x.host host own in filter-append (is_from host) xs (x ∷ []) ∙ (rw t refl)
-
-to_other : (host j : ℕ) (rs : List Reply) (r : Reply) → r.host ≡ host → j ≢ host → filter (is_to j) (rs ++ r ∷ []) ≡ filter (is_to j) rs
-to_other host j rs r own d =
-    let t : (r.host == j) ≡ false = ne_eqb r.host j (λ e. d (sym e ∙ own)) in
-    filter-append (is_to j) rs (r ∷ []) ∙ (rw t (append-nil (filter (is_to j) rs)))
-
-to_own : (host : ℕ) (rs : List Reply) (r : Reply) → r.host ≡ host → filter (is_to host) (rs ++ r ∷ []) ≡ filter (is_to host) rs ++ r ∷ []
-to_own host rs r own = let t : (r.host == host) ≡ true = eq-eqb r.host host own in filter-append (is_to host) rs (r ∷ []) ∙ (rw t refl)
-
-module _ (s : Setup) (lent lent' : Option Reply) (room room' : ℕ) (hosts hosts' : List HostQueue) (c c' : ChannelState) (q : AreQueues s lent room hosts c) (reached : IsReached s c') (settled : lent' ≡ None) (room_is : room' ≡ room) (host : ℕ) (queue queue' : HostQueue) (at : slice_get hosts host ≡ Some queue) (set : hosts' ≡ slice_set hosts host queue') where
+module _ (s : Setup) (lent lent' : Option Reply) (room room' : ℕ) (hosts hosts' : List HostQueue) (c c' : ChannelState) (q : AreQueues s lent room hosts c) (reached : Reaches s c') (settled : lent' ≡ None) (room_is : room' ≡ room) (host : ℕ) (queue queue' : HostQueue) (at : slice_get hosts host ≡ Some queue) (set : hosts' ≡ slice_set hosts host queue') where
   old : IsHostQueue s c host queue
   old = q.each host queue at
 
@@ -226,7 +212,7 @@ empty_at room (q ∷ hosts) (suc i) queue h e = empty_at room hosts i queue h.1 
 pub queues_opened : (s : Setup) (faults : List Fault) (failures room : ℕ) (hosts : List HostQueue) → length hosts ≡ s.hosts → All (IsEmptyQueue s.post_cap) hosts → s.submit_cap ≤ room → AreQueues s None room hosts (first s faults failures)
 queues_opened s faults failures room hosts count empty room_is = record {
   settled = refl;
-  reached = opened s faults failures;
+  reached = opened_reaches s (first s faults failures) (faults, failures, refl);
   room_is = room_is;
   count = count;
   each = λ host queue at. (let e = empty_at s.post_cap hosts host queue empty at in record { sent = e.sent; uncollected = sym e.empty; room = e.room_is });

@@ -110,14 +110,13 @@ fails_kept s c c' cause r f =
     subst (IsReached s) (sym f.after) next
 
 does_kept : (s : Setup) (c : ChannelState) (e : Event) (o : Outcome) (c' : ChannelState) → IsReached s c → refusal s c e ≡ None → Does s c e o c' → IsReached s c'
-does_kept s c (Submit host channel r) o c' reached none (inl d) =
+does_kept s c (Submit host channel r) o c' reached none d =
     let second = none_second _ _ none in
     let third = none_second _ _ second in
     let f = fits s.geometry r (not_faulty (fault_of s.geometry r) r (none_first _ _ second)) in
     let known = below s.hosts host (not_where _ _ (none_first _ _ none)) in
     let low = below (2 ^ 32) (length (sent_by host c)) (not_where _ _ (none_first _ _ third)) in
     subst (IsReached s) (sym d.1) (submit_kept s c host r reached f known low)
-does_kept s c (Submit host channel r) o c' reached none (inr d) = subst (IsReached s) (sym d.1) reached
 does_kept s c (Accept channel) o c' reached none d = accept_kept s c c' reached d.1
 does_kept s c (Plan channel) o c' reached none (inl (plan, out, plans, after)) = subst (IsReached s) (sym after) (plan_kept s c plan reached plans)
 does_kept s c (Plan channel) o c' reached none (inr (inl d)) = subst (IsReached s) (sym d.2) reached

@@ -5,6 +5,8 @@ use Rattle.onfi_request.specs.declared.request.Item.{Item}
 use Rattle.onfi_request.specs.declared.want.Want.{Want}
 use Rattle.onfi_chip.specs.Calls.{IsLost}
 use Rattle.onfi_chip.specs.Chip.{Chip}
+use Rattle.onfi_core.specs.declared.drive.DriveFault.{DriveFault}
+use Rattle.onfi_core.specs.declared.drive.DriveFault.TheVariants as drive
 use Rattle.onfi_core.specs.declared.due.Due.{Due}
 use Rattle.onfi_core.specs.declared.event.Event.TheVariants as event
 use Rattle.onfi_core.specs.declared.half.PlanRefusal.{PlanRefusal}
@@ -14,15 +16,16 @@ use Rattle.onfi_core.specs.declared.outcome.Cause.TheVariants as cause
 use Rattle.onfi_core.specs.declared.outcome.Outcome.TheVariants as outcome
 use Rattle.onfi_core.specs.declared.ran.Ran.{Ran}
 use Rattle.onfi_core.specs.declared.setup.Setup.{Setup}
-use Rattle.onfi_core.specs.Drive.{MayRun, HasRun}
+use Rattle.onfi_core.specs.Drive.{MayRun, HasRun, AfterDrive, IsStatus, cause_of}
 use Rattle.onfi_core.specs.Dues.{IsDue, after_due, member_of, replies_of}
 use Rattle.onfi_core.specs.Kept.{IsReached}
+use Rattle.onfi_core.specs.Reaching.{PlannedStep}
 use Rattle.onfi_core.specs.State.{HalfState, ChannelState, Planning, item_at}
 use Rattle.onfi_core.specs.Steps.{Step, Plans, Runs, RunsOnChip, IsCauseOf, bus_refusal, plan_refusal, planned_by, taken_next, half_after_phase, stopped_by}
 use Rattle.onfi_core.specs.Refusals.{planned_outcome, refusal_outcome}
 use Rattle.onfi_core.specs.View.{HalfView, PlanRefused}
 use Rattle.onfi_core.proofs.Done.{after_due_is}
-use Rattle.onfi_core.proofs.Driving.{may_run, ran_on_chip}
+use Rattle.onfi_core.proofs.Driving.{asks_status, may_run, ran_on_chip}
 use Rattle.onfi_core.proofs.Reach.{none_first, not_stopped}
 use Rattle.onfi_core.proofs.Refused.{step_refused, step_does}
 
@@ -39,6 +42,12 @@ not_planned s c channel (refused.Over opened) h (e, count, more, is) =
     step_does s c (event.Plan channel) (outcome.Over opened) (record c { half = h }) e (inr (inl (ap outcome.Over count, more, ap (λ (x : HalfState). let z : ChannelState = record c { half = x } in z) is)))
 not_planned s c channel refused.Memory h (e, is) =
     step_does s c (event.Plan channel) (outcome.Memory None) (record c { half = h }) e (inr (inr (refl, ap (λ (x : HalfState). let z : ChannelState = record c { half = x } in z) is)))
+
+pub planning_step : PlannedStep
+planning_step s c channel (Ok finish) h (open', plan, e, plans, is) none =
+    let P : HalfState → Type 0 = λ x. Step s c (event.Plan channel) (outcome.Planned finish) (record c { half = x }) in
+    subst P (sym is) (planned_step s c channel finish plan open' e plans)
+planning_step s c channel (Err refusal) h none r = not_planned s c channel refusal h r
 
 -- what a planning came to
 pub after_planning : (s : Setup) (c : ChannelState) (channel : ℕ) (old : HalfView) (result : Result ℕ PlanRefusal) (h : HalfView)
@@ -73,6 +82,15 @@ module _ (s : Setup) (c : ChannelState) (reached : IsReached s c) (due : Due) (i
   pub may_drive : MayRun c.chip s.geometry due item
   may_drive = may_run s c.half c.chip reached.half.sound (reached.chip (going_on c.half open')) due is member.0 member.1 item member.2
 
+  -- why the channel stops
+  pub cause_is : (fault : DriveFault) (stop : Cause) → cause_of fault due.lun ≡ Some stop → (fault ≡ drive.NotReady → IsStatus due item) → IsCauseOf c.half stop
+  cause_is drive.Bus stop e status = let q : cause.Bus ≡ stop = cc in subst (IsCauseOf c.half) q tt
+  cause_is drive.NotReady stop e status =
+      let q : cause.NotReady due.lun ≡ stop = cc in
+      let asks = asks_status s c.half c.chip reached.half.sound (reached.chip (going_on c.half open')) due is member.0 member.1 item member.2 (status refl) in
+      subst (IsCauseOf c.half) q (is.move, due.start, is.left, is.next, sym is.lun_is, asks)
+  cause_is drive.Memory stop e status = cc
+
   pub ran_step : (channel : ℕ) (chip' : Chip) (given : Ran) (h : HalfState) → HasRun c.chip s.geometry due item given chip' → h ≡ after_due c.half due (replies_of c.half.accepted chip'.faults due given) → Step s c (event.Bus channel) (outcome.Phase due.start) (record c { half = h; chip = chip' })
   ran_step channel chip' given h has_run is_after =
       let on = ran_on_chip s c.half c.chip reached.half.sound (reached.chip (going_on c.half open')) due is member.0 member.1 item member.2 chip' given has_run in
@@ -100,8 +118,16 @@ stop_step s c channel stop chip' h open' why lost is =
     let after : (let z : ChannelState = record c { half = h; chip = chip' } in z) ≡ record (stopped_by stop c) { chip = chip' } = ap (λ (x : HalfState). let z : ChannelState = record c { half = x; chip = chip' } in z) is in
     step_does s c (event.Bus channel) (outcome.Stopped stop) (record c { half = h; chip = chip' }) open' (inr (inl (stop, why, refl, record { chip = chip'; lost = lost; after = after })))
 
-pub not_ready : (h : HalfState) (due : Due) → IsDue h due → IsCauseOf h (cause.NotReady due.lun)
-not_ready h due is = (is.move, due.start, is.left, is.next, sym is.lun_is)
+-- what a phase that wasn't run leaves of the chip
+pub lost_by : (fault : DriveFault) (lun : ℕ) (stop : Cause) (chip chip' : Chip) → cause_of fault lun ≡ Some stop → AfterDrive fault chip chip' → IsLost chip chip'
+lost_by drive.Bus lun stop chip chip' e lost = lost
+lost_by drive.NotReady lun stop chip chip' e lost = lost
+lost_by drive.Memory lun stop chip chip' e same = cc
+
+pub same_by : (fault : DriveFault) (lun : ℕ) (chip chip' : Chip) → cause_of fault lun ≡ None → AfterDrive fault chip chip' → chip' ≡ chip
+same_by drive.Bus lun chip chip' e lost = cc
+same_by drive.NotReady lun chip chip' e lost = cc
+same_by drive.Memory lun chip chip' e same = same
 
 pub no_memory : (s : Setup) (c : ChannelState) (channel : ℕ) (chip' : Chip) → bus_refusal c.half ≡ None → chip' ≡ c.chip → Step s c (event.Bus channel) (outcome.Memory None) (record c { chip = chip' })
 no_memory s c channel chip' open' e =

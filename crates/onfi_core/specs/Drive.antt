@@ -1,17 +1,22 @@
 -- A bus phase on the chip.
-use Rattle.std.specs.Prelude.{◌≡◌, ℕ, ◌+◌, ◌<◌, ◌≤◌, ◌==◌, if◌then◌else◌, List, length}
+use Rattle.std.specs.Prelude.{◌≡◌, ◌≢◌, ℕ, ◌+◌, ◌<◌, ◌≤◌, ◌==◌, if◌then◌else◌, List, length, Option, Some, None}
 use Rattle.onfi_addr.specs.Rows.{row_of}
 use Rattle.onfi_addr.specs.declared.geometry.Geometry.{Geometry}
+use Rattle.onfi_timing.specs.declared.kind.Kind.TheVariants.{Read}
 use Rattle.onfi_request.specs.declared.request.Item.{Item}
 use Rattle.onfi_request.specs.declared.want.Want.{Want}
 use Rattle.onfi_chip.specs.declared.closer.Closer.{Closer}
 use Rattle.onfi_chip.specs.declared.closer.Closer.TheVariants.{More, Last}
+use Rattle.onfi_chip.specs.declared.fault.PostFault.{PostFault}
+use Rattle.onfi_chip.specs.declared.fault.PostFault.TheVariants as post
 use Rattle.onfi_chip.specs.declared.post.Post.{Post}
 use Rattle.onfi_chip.specs.Calls.{IsNextCommand, IsNextPost, command_of, HasDone, IsLost}
 use Rattle.onfi_chip.specs.Chip.{Chip, posted}
 use Rattle.onfi_core.specs.declared.due.Due.{Due}
 use Rattle.onfi_core.specs.declared.drive.DriveFault.{DriveFault}
 use Rattle.onfi_core.specs.declared.drive.DriveFault.TheVariants.{Bus, NotReady, Memory}
+use Rattle.onfi_core.specs.declared.outcome.Cause.{Cause}
+use Rattle.onfi_core.specs.declared.outcome.Cause.TheVariants as cause
 use Rattle.onfi_core.specs.declared.ran.Ran.{Ran}
 use Rattle.onfi_core.specs.declared.ran.Ran.TheVariants as ran
 
@@ -37,3 +42,18 @@ abbrev pub AfterDrive : DriveFault → Chip → Chip → Type 0
 AfterDrive Bus old new = IsLost old new
 AfterDrive NotReady old new = IsLost old new
 AfterDrive Memory old new = new ≡ old
+
+-- the phase is the status of a program or an erase
+abbrev pub IsStatus : Due → Item → Type 0
+IsStatus due item = (length due.group ≤ due.phase) × (item.request.kind ≢ Read)
+
+-- why a post gave no answer, as why its phase wasn't run
+abbrev pub fault_of_post : PostFault → DriveFault
+fault_of_post post.Bus = Bus
+fault_of_post post.NotReady = NotReady
+
+-- why the channel stops where the phase on that LUN wasn't run; want of memory stops nothing
+abbrev pub cause_of : DriveFault → ℕ → Option Cause
+cause_of Bus lun = Some cause.Bus
+cause_of NotReady lun = Some (cause.NotReady lun)
+cause_of Memory lun = None

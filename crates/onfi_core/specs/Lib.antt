@@ -8,4 +8,5 @@ pub mod Refusals
 pub mod Dues
 pub mod Drive
 pub mod Unanswered
+pub mod Reaching
 pub mod Queues

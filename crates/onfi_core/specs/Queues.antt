@@ -7,7 +7,8 @@ use Rattle.onfi_request.specs.declared.reply.Reply.{Reply}
 use Rattle.onfi_chip.specs.Chip.{Chip, opened}
 use Rattle.onfi_core.specs.declared.host_queue.HostQueue.{HostQueue}
 use Rattle.onfi_core.specs.declared.setup.Setup.{Setup}
-use Rattle.onfi_core.specs.Kept.{IsReached, first}
+use Rattle.onfi_core.specs.Kept.{first}
+use Rattle.onfi_core.specs.Reaching.{Reaches}
 use Rattle.onfi_core.specs.State.{HalfState, ChannelState, sent_by, posted_to, collected_by}
 
 -- a channel but for its chip
@@ -55,18 +56,18 @@ pub record IsHostQueue (s : Setup) (c : ChannelState) (host : ℕ) (queue : Host
   pub uncollected : posted_to host c ≡ collected_by host c ++ queue.completions.items
   pub room : s.post_cap ≤ deque_capacity queue.completions
 
--- the queues are those of the channel, which is one that is reached
+-- the queues are those of the channel, which is one that events reach
 pub record AreQueues (s : Setup) (lent : Option Reply) (room : ℕ) (hosts : List HostQueue) (c : ChannelState) : Type 0 where
   pub settled : lent ≡ None
-  pub reached : IsReached s c
+  pub reached : Reaches s c
   pub room_is : s.submit_cap ≤ room
   pub count : length hosts ≡ s.hosts
   pub each : (host : ℕ) (queue : HostQueue) → slice_get hosts host ≡ Some queue → IsHostQueue s c host queue
 
--- the channels are those of the setup, and reached
+-- the channels are those of the setup, and events reach them
 pub record AreChannels {C : Type 0} (state : C → Chip) (s : Setup) (views : List (ChannelView C)) : Type 0 where
   pub count : length views ≡ s.channels
-  pub each : Each (λ v. (v.0.setup ≡ s) × IsReached s (state_in state v)) views
+  pub each : Each (λ v. (v.0.setup ≡ s) × Reaches s (state_in state v)) views
 
 -- the channels as they open with those chips
 pub record AreOpened {C : Type 0} (state : C → Chip) (s : Setup) (chips : List C) (views : List (ChannelView C)) : Type 0 where

@@ -47,6 +47,10 @@ pub record ChannelState : Type 0 where
   pub waiting : List Item
   pub collected : List Reply
 
+-- the channel of a half with nothing on its way: all that was sent is accepted, and all that was posted is collected
+abbrev pub quiet : HalfState → Chip → ChannelState
+quiet h chip = record { half = h; chip = chip; sent = h.accepted; waiting = []; collected = h.posted }
+
 abbrev pub is_from : ℕ → Item → Bool
 is_from host x = x.host == host
 

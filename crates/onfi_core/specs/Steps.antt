@@ -1,5 +1,5 @@
 -- What an event does to a channel.
-use Rattle.std.specs.Prelude.{◌≡◌, ℕ, ◌+◌, ◌-◌, ◌^◌, ◌<◌, ◌≤◌, ◌==◌, ◌⊎◌, nat_le, nat_lt, not, Bool, true, false, if◌then◌else◌, List, [], ◌∷◌, ◌++◌, length, take, drop, Option, Some, None, slice_get}
+use Rattle.std.specs.Prelude.{◌≡◌, ◌≢◌, ℕ, ◌+◌, ◌-◌, ◌^◌, ◌<◌, ◌≤◌, ◌==◌, ◌⊎◌, nat_le, nat_lt, not, Bool, true, false, if◌then◌else◌, List, [], ◌∷◌, ◌++◌, length, take, drop, Option, Some, None, slice_get}
 use Rattle.std.specs.List.{filter}
 use Rattle.onfi_addr.specs.declared.geometry.Geometry.{Geometry}
 use Rattle.onfi_addr.specs.Rows.{page_bytes_of}
@@ -232,8 +232,8 @@ after_refusal _ c = c
 -- What an event does that is not so refused
 
 -- memory was refused: nothing changed
-abbrev pub GaveUp : Option Request → ChannelState → Outcome → ChannelState → Type 0
-GaveUp back c o c' = (o ≡ Memory back) × (c' ≡ c)
+abbrev pub GaveUp : ChannelState → Outcome → ChannelState → Type 0
+GaveUp c o c' = (o ≡ Memory None) × (c' ≡ c)
 
 -- the host's next item goes to the end of what it sent and of what waits
 abbrev pub submitted : ChannelState → ℕ → Request → ChannelState
@@ -245,10 +245,20 @@ submitted c host r =
 abbrev pub Accepts : ChannelState → ChannelState → Type 0
 Accepts c c' = (x : Item) × (behind : List Item) × (c.waiting ≡ x ∷ behind) × (c' ≡ record c { half = record c.half { accepted = c.half.accepted ++ x ∷ [] }; waiting = behind })
 
--- the bus may fail; a LUN may be found not ready at the phase that comes next
+-- the move's phase is the status of a program or an erase
+pub record AsksStatus (p : Problem) (move : Move) : Type 0 where
+  pub group : List Want
+  pub phase : ℕ
+  pub is : IsPhase p move group phase
+  pub behind : length group ≤ phase
+  pub member : Want
+  pub there : slice_get group (phase - length group) ≡ Some member
+  pub kind : member.kind ≢ Read
+
+-- the bus may fail at any phase; only the status of a program or an erase tells that its LUN isn't ready, where it comes next
 abbrev pub IsCauseOf : HalfState → Cause → Type 0
 IsCauseOf h BusFailed = Unit {0}
-IsCauseOf h (NotReady lun) = (move : Move) × (start : ℕ) × (left : Schedule) × ComesNext h.now h.left move start left × (move_lun move ≡ lun)
+IsCauseOf h (NotReady lun) = (move : Move) × (start : ℕ) × (left : Schedule) × ComesNext h.now h.left move start left × (move_lun move ≡ lun) × AsksStatus h.now move
 IsCauseOf h Clock = ⊥
 
 -- a chip call failed: then only the chip's faults are known, and its count that rose
@@ -267,14 +277,14 @@ pub record GoesOut (h h' : HalfState) (host : ℕ) (r : Reply) : Type 0 where
   pub after : h' ≡ record h { held = before ++ behind; posted = h.posted ++ r ∷ [] }
 
 abbrev pub Does : Setup → ChannelState → Event → Outcome → ChannelState → Type 0
-Does s c (Submit host channel r) o c' = ((o ≡ Submitted (length (sent_by host c))) × (c' ≡ submitted c host r)) ⊎ GaveUp (Some r) c o c'
+Does s c (Submit host channel r) o c' = (o ≡ Submitted (length (sent_by host c))) × (c' ≡ submitted c host r)
 Does s c (Accept channel) o c' = (o ≡ Accepted (length c.half.accepted)) × Accepts c c'
 Does s c (Plan channel) o c' =
     ((plan : Planning) × (o ≡ Planned plan.finish) × Plans s c.half plan × (c' ≡ record c { half = planned_by c.half (length (taken_next s c.half)) plan }))
-    ⊎ ((o ≡ Over s.limit) × HasMoreNodes (next_problem s c.half) s.limit × (c' ≡ c)) ⊎ GaveUp None c o c'
+    ⊎ ((o ≡ Over s.limit) × HasMoreNodes (next_problem s c.half) s.limit × (c' ≡ c)) ⊎ GaveUp c o c'
 Does s c (Bus channel) o c' =
     ((start : ℕ) × (o ≡ Phase start) × Runs c c' start)
-    ⊎ ((cause : Cause) × IsCauseOf c.half cause × (o ≡ Stopped cause) × Fails c c' cause) ⊎ GaveUp None c o c'
+    ⊎ ((cause : Cause) × IsCauseOf c.half cause × (o ≡ Stopped cause) × Fails c c' cause) ⊎ GaveUp c o c'
 Does s c (PostTo channel host) o c' = (r : Reply) × (h : HalfState) × (o ≡ Posted r.place) × GoesOut c.half h host r × (c' ≡ record c { half = h })
 Does s c (Collect channel host) o c' = (r : Reply) × (o ≡ Collected r) × (slice_get (posted_to host c) (length (collected_by host c)) ≡ Some r) × (c' ≡ record c { collected = c.collected ++ r ∷ [] })
 

@@ -2,6 +2,7 @@
 
 ghost use Rattle.std.specs.Prelude.{◌≡◌, ℕ, ◌≤◌, ◌<◌, None, Some, Option, IfOk, MatchOption};
 ghost use Rattle.std.specs.VecDeque.{deque_capacity};
+ghost use Rattle.onfi_core.specs.Drive.{cause_of};
 ghost use Rattle.onfi_core.specs.Dues.{IsDue};
 ghost use Rattle.onfi_core.specs.declared.event.Event.TheVariants as event;
 ghost use Rattle.onfi_core.specs.Steps.{Step, bus_refusal, fault_of};
@@ -171,15 +172,13 @@ impl<C: Chip> Channel<C> {
                 self.half.done(due, ran, &self.chip);
                 Outcome::Phase { start }
             }
-            Err(DriveFault::Memory) => Outcome::Memory(None),
-            Err(DriveFault::Bus) => {
-                self.half.stop(Cause::Bus);
-                Outcome::Stopped(Cause::Bus)
-            }
-            Err(DriveFault::NotReady) => {
-                self.half.stop(Cause::NotReady(due.lun));
-                Outcome::Stopped(Cause::NotReady(due.lun))
-            }
+            Err(fault) => match cause_of(fault, due.lun) {
+                Some(cause) => {
+                    self.half.stop(cause);
+                    Outcome::Stopped(cause)
+                }
+                None => Outcome::Memory(None),
+            },
         }
     }
 
@@ -256,6 +255,17 @@ impl<C: Chip> Channel<C> {
             Event::Post { host, channel: _ } => self.post(host),
             Event::Collect { host, channel: _ } => self.collect(host),
         }
+    }
+}
+
+// Why the channel stops where the phase on that LUN wasn't run; want of memory stops nothing.
+fn cause_of(fault: DriveFault, lun: u8) -> Option<Cause>
+    ensures { result ≡ cause_of fault lun }
+{
+    match fault {
+        DriveFault::Bus => Some(Cause::Bus),
+        DriveFault::NotReady => Some(Cause::NotReady(lun)),
+        DriveFault::Memory => None,
     }
 }
 

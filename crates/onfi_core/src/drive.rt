@@ -1,20 +1,14 @@
 //! A bus phase on the chip.
 
-ghost use Rattle.std.specs.Prelude.{◌≡◌, ◌≢◌, ℕ, ◌+◌, ◌<◌, ◌≤◌, List, length, IfOk, IfErr, IsBitSet};
-ghost use Rattle.onfi_addr.specs.Rows.{page_bytes_of, row_of};
-ghost use Rattle.onfi_request.specs.declared.answer.Answer.{Answer as AnAnswer};
-ghost use Rattle.onfi_request.specs.declared.request.Request.{Request as ARequest};
-ghost use Rattle.onfi_chip.specs.declared.post.Post.{Post as APost};
-ghost use Rattle.onfi_chip.specs.Chip.{posted};
-ghost use Rattle.onfi_chip.specs.Calls.{HasDone, IsLost, IsNextCommand, IsNextPost, TellsAnswer, command_of};
-ghost use Rattle.onfi_core.specs.Drive.{MayRun, HasRun, AfterDrive, closer_of};
+ghost use Rattle.std.specs.Prelude.{◌≡◌, ◌≢◌, IfOk, IfErr};
+ghost use Rattle.onfi_chip.specs.Calls.{HasDone, IsNextCommand, command_of};
+ghost use Rattle.onfi_core.specs.Drive.{MayRun, HasRun, AfterDrive, IsStatus, closer_of, fault_of_post};
 
 use crate::due::Due;
 use crate::ran::Ran;
 use onfi_addr::Geometry;
-use onfi_chip::{Chip, ChipFault, Closer};
-use onfi_request::{Answer, Bytes, Item};
-use onfi_timing::Kind;
+use onfi_chip::{Chip, ChipFault, Closer, Fetch, PostFault, read_post};
+use onfi_request::Item;
 use std::alloc::Global;
 
 /// Why a phase wasn't run.
@@ -22,7 +16,7 @@ use std::alloc::Global;
 pub enum DriveFault {
     /// A call of the chip failed.
     Bus,
-    /// The LUN's status told that it isn't ready.
+    /// The status of a program or an erase told that the LUN isn't ready.
     NotReady,
     /// Memory was refused: the chip is unchanged.
     Memory,
@@ -40,16 +34,19 @@ pub fn drive<C: Chip>(
     requires { MayRun (C.state chip.old) geometry.now due.now item.now }
     ensures ran { IfOk result (λ ran. HasRun (C.state chip.old) geometry.now due.now item.now ran (C.state chip.new)) }
     ensures err { IfErr result (λ fault. AfterDrive fault (C.state chip.old) (C.state chip.new)) }
+    ensures not_ready { IfErr result (λ fault. fault ≡ DriveFault.NotReady → IsStatus due.now item.now) }
 {
-    let row = geometry.row(&item.request.place);
     if usize::from(due.phase) < due.group.len() {
+        let row = geometry.row(&item.request.place);
         return command(alloc, chip, due, row, item);
     }
-    let answer = match item.request.kind {
-        Kind::Read => read_out(alloc, chip, geometry, due.start, row)?,
-        Kind::Program | Kind::Erase => ask_status(chip, due.start, row)?,
+    let Ok(fetch) = Fetch::of(alloc, geometry, item.request.kind, item.request.place) else {
+        return Err(DriveFault::Memory);
     };
-    Ok(Ran::Post(answer))
+    match read_post(chip, geometry, due.start, fetch) {
+        Ok(answer) => Ok(Ran::Post(answer)),
+        Err(fault) => Err(fault_of_post(fault)),
+    }
 }
 
 // The command of a member.
@@ -64,6 +61,7 @@ fn command<C: Chip>(
     ensures ran { IfOk result (λ ran. ran ≡ Ran.Command) }
     ensures done { IfOk result (λ _. HasDone (command_of (closer_of due.now.group due.now.phase) (C.state chip.old) item.now.request due.now.start) (C.state chip.new)) }
     ensures err { IfErr result (λ fault. AfterDrive fault (C.state chip.old) (C.state chip.new)) }
+    ensures no_status { IfErr result (λ fault. fault ≢ DriveFault.NotReady) }
 {
     let closer = if usize::from(due.phase) + 1 == due.group.len() {
         Closer::Last
@@ -78,58 +76,12 @@ fn command<C: Chip>(
     }
 }
 
-// The data output of a read; its room is made first.
-fn read_out<C: Chip>(
-    alloc: Global,
-    chip: &mut C,
-    geometry: &Geometry,
-    now: u64,
-    row: u64,
-) -> Result<Answer, DriveFault>
-    requires geometry { (C.state chip.old).geometry ≡ geometry.now }
-    requires next { (post : APost) × (left : List APost) × IsNextPost (C.state chip.old) now row post left × (post.kind ≡ Kind.Read) }
-    ensures answer { IfOk result (λ answer. (post : APost) (left : List APost) → IsNextPost (C.state chip.old) now row post left
-        → answer ≡ post.answer) }
-    ensures done { IfOk result (λ _. (post : APost) (left : List APost) → IsNextPost (C.state chip.old) now row post left
-        → HasDone (posted (C.state chip.old) post left now) (C.state chip.new)) }
-    ensures err { IfErr result (λ fault. AfterDrive fault (C.state chip.old) (C.state chip.new)) }
+// Why a post gave no answer, as why its phase wasn't run.
+fn fault_of_post(fault: PostFault) -> DriveFault
+    ensures { result ≡ fault_of_post fault }
 {
-    let Ok(mut room) = vec![in alloc; 0; usize::from(geometry.page_bytes())] else {
-        return Err(DriveFault::Memory);
-    };
-    match chip.data_out(now, row, room.as_mut_slice()) {
-        Ok(()) => Ok(Answer::Read(Bytes::of(room))),
-        Err(_) => Err(DriveFault::Bus),
-    }
-}
-
-// The status of a program or an erase.
-fn ask_status<C: Chip>(chip: &mut C, now: u64, row: u64) -> Result<Answer, DriveFault>
-    requires { (post : APost) × (left : List APost) × IsNextPost (C.state chip.old) now row post left × (post.kind ≢ Kind.Read) }
-    ensures answer { IfOk result (λ answer. (post : APost) (left : List APost) → IsNextPost (C.state chip.old) now row post left
-        → answer ≡ post.answer) }
-    ensures done { IfOk result (λ _. (post : APost) (left : List APost) → IsNextPost (C.state chip.old) now row post left
-        → HasDone (posted (C.state chip.old) post left now) (C.state chip.new)) }
-    ensures err { IfErr result (λ fault. AfterDrive fault (C.state chip.old) (C.state chip.new)) }
-{
-    match chip.status(now, row) {
-        Ok(byte) => told(byte),
-        Err(_) => Err(DriveFault::Bus),
-    }
-}
-
-// What a status byte tells (ONFI 4.2, status field definition): bit 6 is RDY, bit 0 FAIL.
-fn told(byte: u8) -> Result<Answer, DriveFault>
-    ensures ready { IfOk result (λ _. IsBitSet byte 6) }
-    ensures answer { IfOk result (λ answer. (other : AnAnswer) → TellsAnswer byte other → answer ≡ other) }
-    ensures not_ready { IfErr result (λ fault. (fault ≡ DriveFault.NotReady) × ¬ IsBitSet byte 6) }
-{
-    if byte & 0x40 == 0 {
-        return Err(DriveFault::NotReady);
-    }
-    if byte & 1 == 0 {
-        Ok(Answer::Done)
-    } else {
-        Ok(Answer::Failed)
+    match fault {
+        PostFault::Bus => DriveFault::Bus,
+        PostFault::NotReady => DriveFault::NotReady,
     }
 }

@@ -30,6 +30,7 @@ use slab::Slab;
 use std::alloc::{AllocError, Global};
 use std::marker::Model;
 
+mod counts;
 mod phase;
 mod unanswered;
 
@@ -155,7 +156,7 @@ impl Half {
     }
 
     /// What it was opened with.
-    pub(crate) fn setup(&self) -> Setup
+    pub fn setup(&self) -> Setup
         ensures { result ≡ self.now.setup }
     {
         self.setup

@@ -1,6 +1,7 @@
 //! What events keep, once for all, for whoever makes their steps.
 
 ghost use Rattle.onfi_core.specs.Core.{Headline, OpenedIsReached, StepKeeps, RunKeeps, ReachedKeeps, PostedInOrder};
+ghost use Rattle.onfi_core.specs.Reaching.{EventsReach, StepReaches, BatchReached, AcceptingReached, PostingReached, PlannedStep, IdleIs, NothingHeld, NextBehind};
 
 /// Whatever list of events happens to an opened core, and whichever batches are set between them, each channel keeps
 /// its promise.
@@ -31,4 +32,51 @@ pub fn reached_keeps()
 /// What is posted to a host of a channel that is reached is in order of making.
 pub fn posted_in_order()
     ensures { PostedInOrder }
+{}
+
+/// A channel that was opened, and to which nothing but events happened and batches were set, is one that is reached.
+pub fn events_reach()
+    ensures { EventsReach }
+{}
+
+/// Each step leads from a channel that events reach to one that they reach.
+pub fn step_reaches()
+    ensures { StepReaches }
+{}
+
+/// So does a batch that is set.
+pub fn batch_reached()
+    ensures { BatchReached }
+{}
+
+/// From a channel with nothing on its way, an item that is its host's next and in range is submitted and accepted: the
+/// channel with that item is reached too.
+pub fn accepting_reached()
+    ensures { AcceptingReached }
+{}
+
+/// From a channel with nothing on its way, the oldest reply that is held for a host is posted and collected: the channel
+/// behind that is reached too.
+pub fn posting_reached()
+    ensures { PostingReached }
+{}
+
+/// What the planning of a half came to is a step of its channel.
+pub fn planned_step()
+    ensures { PlannedStep }
+{}
+
+/// Where no phase is left and nothing is to be planned, no want waits to start and no item is unplanned.
+pub fn idle_is()
+    ensures { IdleIs }
+{}
+
+/// Where nothing is held for any host of the setup, nothing is held.
+pub fn nothing_held()
+    ensures { NothingHeld }
+{}
+
+/// What was posted to a host, and then the reply that goes out to it, is rightful in what that reply rests on.
+pub fn next_behind()
+    ensures { NextBehind }
 {}

@@ -28,7 +28,9 @@ pub use due::Due;
 pub use event::Event;
 pub use half::{AcceptFault, DueRefusal, Half, PlanRefusal};
 pub use laws::{
-    headline, opened_is_reached, posted_in_order, reached_keeps, run_keeps, step_keeps,
+    accepting_reached, batch_reached, events_reach, headline, idle_is, next_behind, nothing_held,
+    opened_is_reached, planned_step, posted_in_order, posting_reached, reached_keeps, run_keeps,
+    step_keeps, step_reaches,
 };
 pub use machine::{Core, CoreFault};
 pub use outcome::{Cause, Outcome};

@@ -11,6 +11,7 @@ ghost use Rattle.onfi_core.specs.Core.Doing.{SetsBatch};
 ghost use Rattle.onfi_core.specs.State.{ChannelState, device_for, wants_from, sent_by, posted_to, collected_by};
 ghost use Rattle.onfi_core.specs.Steps.{IsPlanned};
 ghost use Rattle.onfi_core.specs.Kept.{IsReached, SerialsFrom, times};
+ghost use Rattle.onfi_core.specs.Reaching.{Reaches};
 ghost use Rattle.onfi_core.specs.Queues.{IsFresh, AreOpened, opened_with, state_in, states_in};
 
 use crate::channel::Channel;
@@ -79,7 +80,9 @@ impl<C: Chip> Core<C> {
     pub fn step(&mut self, alloc: Global, event: Event) -> Outcome
         ensures step { CoreStep self.old.0 (states_in C.state self.old) event result (states_in C.state self.new) }
         ensures setup { self.new.0 ≡ self.old.0 }
+        ensures by_events { Each (Reaches self.new.0) (states_in C.state self.new) }
     {
+        self.is_reached();
         let at = usize::from(event.channel());
         if at >= self.channels.len() {
             return Outcome::NoSuch(event.into_request());
@@ -96,6 +99,7 @@ impl<C: Chip> Core<C> {
         ensures run { IfOk result (λ outcomes. CoreRun self.old.0 (states_in C.state self.old) events.items outcomes.items (states_in C.state self.new)) }
         ensures nothing { OnErr result (self.new ≡ self.old) }
         ensures setup { self.new.0 ≡ self.old.0 }
+        ensures by_events { Each (Reaches self.new.0) (states_in C.state self.new) }
         ensures reached { Each (IsReached self.new.0) (states_in C.state self.new) }
         ensures rightful { Each (λ c. AreRightful (device_for self.new.0 c.chip) c.half.accepted c.half.posted) (states_in C.state self.new) }
         ensures sent { Each (λ c. c.sent ≡ c.half.accepted ++ c.waiting) (states_in C.state self.new) }
@@ -113,9 +117,10 @@ impl<C: Chip> Core<C> {
         Ok(outcomes)
     }
 
-    // Each channel is one that is reached.
+    // Each channel is one that events reach.
     fn is_reached(&self)
-        ensures { Each (IsReached self.now.0) (states_in C.state self.now) }
+        ensures by_events { Each (Reaches self.now.0) (states_in C.state self.now) }
+        ensures reached { Each (IsReached self.now.0) (states_in C.state self.now) }
     {
         let _setup = self.setup;
     }

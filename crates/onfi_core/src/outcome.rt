@@ -29,7 +29,7 @@ pub enum Outcome {
     Stopped(Cause),
     /// The planning opened as many nodes as it may and isn't over; the old plan stands.
     Over { opened: u32 },
-    /// A growth was refused; a request that was to be submitted comes back.
+    /// A growth was refused, at a planning or a bus phase: no request comes back, since no submission answers this.
     Memory(Option<Request>),
     /// The device doesn't take the request; it comes back.
     Refused(RequestFault, Request),

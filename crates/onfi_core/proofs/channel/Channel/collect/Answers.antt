@@ -1,10 +1,9 @@
-use Rattle.std.proofs.Common.{◌≡◌, ◌<◌, ◌∷◌, length, refl, sym, ap, subst, arith}
+use Rattle.std.proofs.Common.{◌≡◌, ◌<◌, ◌∷◌, length, refl, sym, ap, arith}
 use Rattle.onfi_core.specs.declared.event.Event.TheVariants as event
 use Rattle.onfi_core.specs.declared.outcome.Outcome.TheVariants as outcome
-use Rattle.onfi_core.specs.Kept.{IsReached}
 use Rattle.onfi_core.specs.State.{ChannelState}
-use Rattle.onfi_core.proofs.Hosts.{collect_kept}
 use Rattle.onfi_core.proofs.Queueing.{collected_is, host_collected, next_collected, outside, queue_there, queues_collected, queues_kept, uncollected_count}
+use Rattle.onfi_core.proofs.Reaching.{step_reaches}
 use Rattle.onfi_core.proofs.Refused.{collect_open, nothing_to_collect, step_does}
 use Rattle.onfi_core.proofs.channel.Channel.collect.Goals as goal
 
@@ -44,7 +43,12 @@ invariant_of-self-2 g c =
     let at = next_collected f.half.setup now c.from-at.result queue r c.pop_front.new.self.items (i.each c.from-at.result queue there) c.in-Some.ensures.items in
     let e = c.collecting-self-inside.ensures in
     let same = collected_is now r c.collecting-self-inside.result.sent c.collecting-self-inside.result.collected e.0 e.1 in
-    let reached = subst (IsReached f.half.setup) (sym same) (collect_kept f.half.setup now c.from-at.result r i.reached at) in
+    let known : c.from-at.result < f.half.setup.hosts = omega (arith, within, i.count) in
+    let count = uncollected_count f.half.setup now c.from-at.result queue (i.each c.from-at.result queue there) in
+    let some : length queue.completions.items ≡ length (r ∷ c.pop_front.new.self.items) = ap length c.in-Some.ensures.items in
+    let after : ChannelState = record now { sent = c.collecting-self-inside.result.sent; collected = c.collecting-self-inside.result.collected } in
+    let step = step_does f.half.setup now (event.Collect 0 c.from-at.result) (outcome.Collected r) after (collect_open f.half.setup now c.from-at.result 0 known (omega arith)) (r, refl, at, same) in
+    let reached = step_reaches f.half.setup now (event.Collect 0 c.from-at.result) (outcome.Collected r) after i.reached step in
     queues_collected f.half.setup _ _ _ _ f.hosts.items _ now _ i reached i.settled refl c.from-at.result queue (record { sent = queue.sent; completions = c.pop_front.new.self }) there refl r (host_collected f.half.setup now c.from-at.result r at) e.0 refl e.1 refl c.in-Some.ensures.items c.pop_front.ensures.capacity
 
 pub returns-clause-step : goal.returns-clause-step

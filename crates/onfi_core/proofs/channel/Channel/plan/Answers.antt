@@ -5,7 +5,7 @@ use Rattle.onfi_core.specs.declared.event.Event.TheVariants as event
 use Rattle.onfi_core.specs.declared.outcome.Outcome.{Outcome}
 use Rattle.onfi_core.specs.Steps.{Step}
 use Rattle.onfi_core.proofs.Queueing.{outside, queues_same}
-use Rattle.onfi_core.proofs.Reach.{step_kept}
+use Rattle.onfi_core.proofs.Reaching.{step_reaches}
 use Rattle.onfi_core.proofs.Running.{after_planning, nothing_posted, refused_alone}
 use Rattle.onfi_core.proofs.channel.Channel.plan.Goals as goal
 
@@ -19,7 +19,7 @@ invariant_of-self g c =
     let refused = refused_alone f.half.setup now.half c.plan-planned.result c.plan-planned.new.self f.half e.refused in
     let step = after_planning f.half.setup now 0 f.half c.plan-planned.result c.plan-planned.new.self e.planned refused in
     let posted = nothing_posted f.half.setup now f.half c.plan-planned.result c.plan-planned.new.self e.planned refused in
-    let reached = step_kept f.half.setup now (event.Plan 0) (planned_outcome c.plan-planned.result) after i.reached step in
+    let reached = step_reaches f.half.setup now (event.Plan 0) (planned_outcome c.plan-planned.result) after i.reached step in
     let q = queues_same f.half.setup _ c.plan-planned.new.self.lent _ _ f.hosts.items now after i reached refl posted refl e.settled refl in
     rw e.setup q
 

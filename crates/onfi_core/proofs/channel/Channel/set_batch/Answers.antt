@@ -2,8 +2,8 @@ use Rattle.std.proofs.Common.{refl}
 use Rattle.std.specs.VecDeque.{deque_capacity}
 use Rattle.onfi_core.specs.Core.{with_batch}
 use Rattle.onfi_core.specs.State.{ChannelState}
-use Rattle.onfi_core.proofs.Channels.{batch_kept}
 use Rattle.onfi_core.proofs.Queueing.{queues_same}
+use Rattle.onfi_core.proofs.Reaching.{batch_reached}
 use Rattle.onfi_core.proofs.channel.Channel.set_batch.Goals as goal
 
 pub invariant_of-self : goal.invariant_of-self
@@ -11,5 +11,5 @@ invariant_of-self g c =
     let i = c.self.invariant in
     let f = c.self.inside in
     let now : ChannelState = record { half = f.half.state; chip = g.C.Chip.state f.chip; sent = f.traffic.sent; waiting = f.waiting.items; collected = f.traffic.collected } in
-    let q = queues_same f.half.setup _ f.half.lent _ (deque_capacity f.waiting) f.hosts.items now (with_batch c.args.batch now) i (batch_kept f.half.setup c.args.batch now c.requires.some c.requires.few i.reached) refl refl refl i.settled refl in
+    let q = queues_same f.half.setup _ f.half.lent _ (deque_capacity f.waiting) f.hosts.items now (with_batch c.args.batch now) i ((batch_reached f.half.setup now c.args.batch c.requires.some c.requires.few).1 i.reached) refl refl refl i.settled refl in
     rw c.set_batch.ensures q

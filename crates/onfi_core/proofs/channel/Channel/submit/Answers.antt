@@ -1,11 +1,11 @@
-use Rattle.std.proofs.Common.{◌≡◌, ℕ, ◌+◌, ◌<◌, ◌≤◌, ◌^◌, length, None, inl, refl, sym, ap, ◌∙◌, arith}
+use Rattle.std.proofs.Common.{◌≡◌, ℕ, ◌+◌, ◌<◌, ◌≤◌, ◌^◌, length, None, refl, sym, ap, ◌∙◌, arith}
 use Rattle.onfi_core.specs.declared.event.Event.TheVariants as event
 use Rattle.onfi_core.specs.declared.outcome.Outcome.TheVariants as outcome
 use Rattle.onfi_core.specs.declared.setup.Setup.{Setup}
 use Rattle.onfi_core.specs.State.{ChannelState}
 use Rattle.onfi_core.specs.Steps.{Step, fault_of, refusal}
 use Rattle.onfi_core.proofs.Queueing.{outside, outside_same, queue_there, queues_sent, submitted_is}
-use Rattle.onfi_core.proofs.Reach.{step_kept}
+use Rattle.onfi_core.proofs.Reaching.{step_reaches}
 use Rattle.onfi_core.proofs.Refused.{serials_spent, step_does, submit_full, submit_open}
 use Rattle.onfi_core.proofs.channel.Channel.submit.Goals as goal
 
@@ -56,8 +56,8 @@ invariant_of-self g c =
     let e = c.sending-self-inside.ensures in
     let same = submitted_is now c.args.host serial c.args.request c.sending-self-inside.result.sent c.push_back_reserved.new.self.items c.sending-self-inside.result.collected numbered e.0 c.push_back_reserved.ensures.items e.1 in
     let after : ChannelState = record now { sent = c.sending-self-inside.result.sent; waiting = c.push_back_reserved.new.self.items; collected = c.sending-self-inside.result.collected } in
-    let step : (n : ℕ) → Step f.half.setup now (event.Submit c.args.host n c.args.request) (outcome.Submitted serial) after = λ channel. step_does f.half.setup now (event.Submit c.args.host channel c.args.request) (outcome.Submitted serial) after (open' channel) (inl (ap outcome.Submitted numbered, same)) in
-    let reached = step_kept f.half.setup now (event.Submit c.args.host 0 c.args.request) (outcome.Submitted serial) after i.reached (step 0) in
+    let step : (n : ℕ) → Step f.half.setup now (event.Submit c.args.host n c.args.request) (outcome.Submitted serial) after = λ channel. step_does f.half.setup now (event.Submit c.args.host channel c.args.request) (outcome.Submitted serial) after (open' channel) (ap outcome.Submitted numbered, same) in
+    let reached = step_reaches f.half.setup now (event.Submit c.args.host 0 c.args.request) (outcome.Submitted serial) after i.reached (step 0) in
     let queue = c.index_mut.result.now in
     let there' = queue_there f.hosts.items c.from-at.result c.from-at.result queue within c.index_mut.ensures.value refl in
     queues_sent f.half.setup _ _ _ _ f.hosts.items _ now after i reached i.settled c.push_back_reserved.ensures.capacity c.from-at.result queue (record { sent = queue.sent + 1; completions = queue.completions }) there' refl
@@ -82,5 +82,5 @@ returns-clause-step g c channel =
     let e = c.sending-self-inside.ensures in
     let same = submitted_is now c.args.host serial c.args.request c.sending-self-inside.result.sent c.push_back_reserved.new.self.items c.sending-self-inside.result.collected numbered e.0 c.push_back_reserved.ensures.items e.1 in
     let after : ChannelState = record now { sent = c.sending-self-inside.result.sent; waiting = c.push_back_reserved.new.self.items; collected = c.sending-self-inside.result.collected } in
-    let step : (n : ℕ) → Step f.half.setup now (event.Submit c.args.host n c.args.request) (outcome.Submitted serial) after = λ channel. step_does f.half.setup now (event.Submit c.args.host channel c.args.request) (outcome.Submitted serial) after (open' channel) (inl (ap outcome.Submitted numbered, same)) in
+    let step : (n : ℕ) → Step f.half.setup now (event.Submit c.args.host n c.args.request) (outcome.Submitted serial) after = λ channel. step_does f.half.setup now (event.Submit c.args.host channel c.args.request) (outcome.Submitted serial) after (open' channel) (ap outcome.Submitted numbered, same) in
     outside g.C.Chip.state _ _ (event.Submit c.args.host channel c.args.request) (outcome.Submitted serial) after c.self.view_is (step channel)

@@ -2,10 +2,17 @@ use Rattle.std.proofs.Common.{subst}
 use Rattle.std.specs.List.{AllByRecursion as Each}
 use Rattle.onfi_core.specs.Kept.{IsReached}
 use Rattle.onfi_core.specs.Queues.{CoreView, states_in}
-use Rattle.onfi_core.proofs.Cores.{all_reached}
+use Rattle.onfi_core.specs.Reaching.{Reaches}
+use Rattle.onfi_core.proofs.Cores.{all_kept_by_events, all_reached}
 use Rattle.onfi_core.proofs.machine.Core.is_reached.Goals as goal
 
-pub returns : goal.returns
-returns g c =
-    let P : CoreView g.row.C.Denot → Type 0 = λ v. Each (IsReached v.0) (states_in g.C.Chip.state v) in
+pub returns-clause-reached : goal.returns-clause-reached
+returns-clause-reached g c =
+    let st = g.C.Chip.state in
+    let P : CoreView g.row.C.Denot → Type 0 = λ v. Each (IsReached v.0) (states_in st v) in
+    subst P c.self.view_is (all_kept_by_events c.self.inside.setup (states_in st (c.self.inside.setup, c.self.inside.channels.items)) (all_reached st c.self.inside.setup c.self.inside.channels.items c.self.invariant))
+
+pub returns-clause-by_events : goal.returns-clause-by_events
+returns-clause-by_events g c =
+    let P : CoreView g.row.C.Denot → Type 0 = λ v. Each (Reaches v.0) (states_in g.C.Chip.state v) in
     subst P c.self.view_is (all_reached g.C.Chip.state c.self.inside.setup c.self.inside.channels.items c.self.invariant)

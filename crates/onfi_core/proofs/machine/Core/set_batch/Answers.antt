@@ -3,10 +3,10 @@ use Rattle.std.specs.Prelude.{slice_get, slice_set}
 use Rattle.std.proofs.lemmas.Option.{slice_get_read}
 use Rattle.onfi_core.specs.Core.{Did}
 use Rattle.onfi_core.specs.Core.Doing.{SetsBatch}
-use Rattle.onfi_core.specs.Kept.{IsReached}
 use Rattle.onfi_core.specs.Queues.{CoreView, state_in, states_in}
-use Rattle.onfi_core.proofs.Channels.{batch_kept}
+use Rattle.onfi_core.specs.Reaching.{Reaches}
 use Rattle.onfi_core.proofs.Cores.{batch_set, channels_kept, reached_at}
+use Rattle.onfi_core.proofs.Reaching.{batch_reached}
 use Rattle.onfi_core.proofs.machine.Core.set_batch.Goals as goal
 
 pub invariant_of-self : goal.invariant_of-self
@@ -18,7 +18,7 @@ invariant_of-self g c =
     let known = subst (λ (x : CoreView g.row.C.Denot). c.args.channel < x.0.channels) (sym c.self.view_is) c.requires.there in
     let within : c.from.result < length views = omega (arith, known, c.from.ensures, c.self.invariant.count) in
     let there : slice_get views c.from.result ≡ Some v = slice_get_read views (length views) c.from.result v refl within c.index_mut-channel.ensures.value in
-    let reached = subst (IsReached s) (sym c.set_batch.ensures.set) (batch_kept s c.args.batch (state_in st v) c.requires.some c.requires.few (reached_at st s views c.from.result v c.self.invariant there)) in
+    let reached = subst (Reaches s) (sym c.set_batch.ensures.set) ((batch_reached s (state_in st v) c.args.batch c.requires.some c.requires.few).1 (reached_at st s views c.from.result v c.self.invariant there)) in
     channels_kept st s views c.from.result v c.set_batch.new.self c.self.invariant there c.set_batch.ensures.setup reached
 
 pub returns-clause-set : goal.returns-clause-set

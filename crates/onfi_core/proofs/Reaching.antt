@@ -1,0 +1,175 @@
+-- The channels that events reach, and what leads from one to another.
+use Rattle.std.proofs.Common.{◌≡◌, ℕ, ◌+◌, ◌-◌, ◌<◌, ◌≤◌, ◌^◌, inr, true, false, List, [], ◌∷◌, ◌++◌, length, Option, Some, None, refl, sym, ap, ◌∙◌, subst, length-append, arith}
+use Rattle.std.specs.Prelude.{slice_get, slice_set, nat_le}
+use Rattle.std.specs.List.{AllByRecursion as All, filter}
+use Rattle.std.proofs.lemmas.Bool.Decides.{nat_tests}
+use Rattle.onfi_addr.specs.declared.geometry.Geometry.{Geometry}
+use Rattle.onfi_timing.specs.declared.kind.Kind.{Kind}
+use Rattle.onfi_timing.specs.declared.kind.Kind.TheVariants.{Read, Program, Erase}
+use Rattle.onfi_request.specs.Range.{Fits, IsPageFor, IsLengthFor}
+use Rattle.onfi_request.specs.declared.reply.Reply.{Reply}
+use Rattle.onfi_request.specs.declared.request.Item.{Item}
+use Rattle.onfi_request.specs.declared.request.Request.{Request}
+use Rattle.onfi_chip.specs.Chip.{Chip}
+use Rattle.onfi_core.specs.declared.event.Event.{Event}
+use Rattle.onfi_core.specs.declared.event.Event.TheVariants as event
+use Rattle.onfi_core.specs.declared.outcome.Outcome.{Outcome}
+use Rattle.onfi_core.specs.declared.outcome.Outcome.TheVariants as outcome
+use Rattle.onfi_core.specs.declared.setup.Setup.{Setup}
+use Rattle.onfi_core.specs.Core.{Did, DidAll, Doing, IsOpened, channel_of, with_batch}
+use Rattle.onfi_core.specs.Core.Doing.{Happens, SetsBatch}
+use Rattle.onfi_core.specs.Kept.{IsReached}
+use Rattle.onfi_core.specs.Reaching.{Reaches, StaysReached, EventsReach, StepReaches, BatchReached, AcceptingReached, PostingReached}
+use Rattle.onfi_core.specs.State.{HalfState, ChannelState, collected_by, is_from, is_to, posted_to, quiet, sent_by}
+use Rattle.onfi_core.specs.Steps.{Step, StepBy, GoesOut, accept_refusal, fault_of, refusal, right_length, right_page, submitted}
+use Rattle.onfi_core.specs.View.{IsNext, IsOldest, accepting}
+use Rattle.onfi_core.proofs.Channels.{all_kept, batch_kept}
+use Rattle.onfi_core.proofs.HeldFor.{goes_to}
+use Rattle.onfi_core.proofs.Hosted.{to_own}
+use Rattle.onfi_core.proofs.Lists.{get_at_length}
+use Rattle.onfi_core.proofs.Opening.{opened}
+use Rattle.onfi_core.proofs.Reach.{step_kept}
+use Rattle.onfi_core.proofs.Refused.{accepts, collect_open, post_open, step_does, submit_open}
+
+-- the same event of channel 0
+abbrev to_first : Event → Event
+to_first (event.Submit host channel r) = event.Submit host 0 r
+to_first (event.Accept channel) = event.Accept 0
+to_first (event.Plan channel) = event.Plan 0
+to_first (event.Bus channel) = event.Bus 0
+to_first (event.Post channel host) = event.Post 0 host
+to_first (event.Collect channel host) = event.Collect 0 host
+
+of_first : (e : Event) → channel_of (to_first e) ≡ 0
+of_first (event.Submit host channel r) = refl
+of_first (event.Accept channel) = refl
+of_first (event.Plan channel) = refl
+of_first (event.Bus channel) = refl
+of_first (event.Post channel host) = refl
+of_first (event.Collect channel host) = refl
+
+-- a step doesn't look at the channel's number
+same_refusal : (s : Setup) (c : ChannelState) (e : Event) → refusal s c (to_first e) ≡ refusal s c e
+same_refusal s c (event.Submit host channel r) = refl
+same_refusal s c (event.Accept channel) = refl
+same_refusal s c (event.Plan channel) = refl
+same_refusal s c (event.Bus channel) = refl
+same_refusal s c (event.Post channel host) = refl
+same_refusal s c (event.Collect channel host) = refl
+
+first_by : (refused : Option Outcome) (s : Setup) (c : ChannelState) (e : Event) (o : Outcome) (c' : ChannelState) → StepBy refused s c e o c' → StepBy refused s c (to_first e) o c'
+first_by (Some refused) s c e o c' h = h
+first_by None s c (event.Submit host channel r) o c' h = h
+first_by None s c (event.Accept channel) o c' h = h
+first_by None s c (event.Plan channel) o c' h = h
+first_by None s c (event.Bus channel) o c' h = h
+first_by None s c (event.Post channel host) o c' h = h
+first_by None s c (event.Collect channel host) o c' h = h
+
+first_step : (s : Setup) (c : ChannelState) (e : Event) (o : Outcome) (c' : ChannelState) → Step s c e o c' → Step s c (to_first e) o c'
+first_step s c e o c' h = subst (λ (q : Option Outcome). StepBy q s c (to_first e) o c') (sym (same_refusal s c e)) (first_by (refusal s c e) s c e o c' h)
+
+did_more : (s : Setup) (cs : List ChannelState) (ds : List Doing) (mid : List ChannelState) (d : Doing) (cs' : List ChannelState) → DidAll s cs ds mid → Did s mid d cs' → DidAll s cs (ds ++ d ∷ []) cs'
+did_more s cs [] mid d cs' did one = (cs', subst (λ (x : List ChannelState). Did s x d cs') did one, refl)
+did_more s cs (b ∷ ds) mid d cs' (next, first, rest) one = (next, first, did_more s next ds mid d cs' rest one)
+
+reaches_more : (s : Setup) (c c' : ChannelState) (d : Doing) → Reaches s c → Did s (c ∷ []) d (c' ∷ []) → Reaches s c'
+reaches_more s c c' d r one = record { start = r.start; opened = r.opened; doings = r.doings ++ d ∷ []; did = did_more s (r.start ∷ []) r.doings (c ∷ []) d (c' ∷ []) r.did one }
+
+pub opened_reaches : (s : Setup) (c : ChannelState) → IsOpened s c → Reaches s c
+opened_reaches s c o = record { start = c; opened = o; doings = []; did = refl }
+
+pub step_reaches : StepReaches
+step_reaches s c e o c' r step =
+    let at = of_first e in
+    reaches_more s c c' (Happens (to_first e) o) r (inr (c, c', ap (slice_get (c ∷ [])) at, first_step s c e o c' step, sym (ap (λ n. slice_set (c ∷ []) n c') at)))
+
+batch_reaches : (s : Setup) (c : ChannelState) (batch : ℕ) → 1 ≤ batch → batch ≤ 8 → Reaches s c → Reaches s (with_batch batch c)
+batch_reaches s c batch some few r = reaches_more s c (with_batch batch c) (SetsBatch 0 batch) r (some, few, c, refl, refl)
+
+pub events_reach : EventsReach
+events_reach s c r =
+    let (faults, failures, is) = r.opened in
+    (all_kept s (r.start ∷ []) r.doings (c ∷ []) (subst (IsReached s) (sym is) (opened s faults failures), tt) r.did).0
+
+pub batch_reached : BatchReached
+batch_reached s c batch some few = (λ r. batch_kept s batch c some few r, λ r. batch_reaches s c batch some few r)
+
+-- two steps
+stays : (s : Setup) (c c1 c2 : ChannelState) (e1 e2 : Event) (o1 o2 : Outcome) → Step s c e1 o1 c1 → Step s c1 e2 o2 c2 → StaysReached s c c2
+stays s c c1 c2 e1 e2 o1 o2 first second = (
+  λ r. step_kept s c1 e2 o2 c2 (step_kept s c e1 o1 c1 r first) second,
+  λ r. step_reaches s c1 e2 o2 c2 (step_reaches s c e1 o1 c1 r first) second,
+)
+
+-- Accepting
+
+page_right : (geometry : Geometry) (kind : Kind) (page : ℕ) → IsPageFor geometry kind page → right_page geometry kind page ≡ true
+page_right geometry Read page h = grind (arith, nat_tests)
+page_right geometry Program page h = grind (arith, nat_tests)
+page_right geometry Erase page h = grind (arith, nat_tests)
+
+length_right : (geometry : Geometry) (kind : Kind) (n : ℕ) → IsLengthFor geometry kind n → right_length geometry kind n ≡ true
+length_right geometry Read n h = grind (arith, nat_tests)
+length_right geometry Program n h = grind (arith, nat_tests)
+length_right geometry Erase n h = grind (arith, nat_tests)
+
+-- a request in range has no fault
+pub no_fault : (geometry : Geometry) (r : Request) → Fits geometry r → fault_of geometry r ≡ None
+no_fault geometry r f =
+    let lun = f.lun in
+    let block = f.block in
+    let a : nat_le geometry.lun_count r.place.lun ≡ false = grind (arith, nat_tests) in
+    let b : nat_le geometry.blocks_per_lun r.place.block ≡ false = grind (arith, nat_tests) in
+    let c = page_right geometry r.kind r.place.page f.page in
+    let d = length_right geometry r.kind (length r.bytes) f.data_length in
+    rw (a, b, c, d) refl
+
+pub accepting_reached : AcceptingReached
+accepting_reached s h chip x open' next =
+    let c = quiet h chip in
+    let sent : Item = record { host = x.host; serial = length (sent_by x.host c); request = x.request } in
+    let same : sent ≡ x = ap (λ n. let y : Item = record { host = x.host; serial = n; request = x.request } in y) (sym next.serial) in
+    let low : length (sent_by x.host c) < 2 ^ 32 = subst (λ n. n < 2 ^ 32) next.serial next.fits in
+    let room : 0 < s.submit_cap = (let some = s.some_room in omega arith) in
+    let c1 = submitted c x.host x.request in
+    let first : Step s c (event.Submit x.host 0 x.request) (outcome.Submitted (length (sent_by x.host c))) c1 = step_does s c (event.Submit x.host 0 x.request) (outcome.Submitted (length (sent_by x.host c))) c1 (submit_open s c x.host 0 x.request next.host (no_fault s.geometry x.request next.in_range) low room) (refl, refl) in
+    let second : Step s c1 (event.Accept 0) (outcome.Accepted (length h.accepted)) (quiet (accepting h sent) chip) = accepts s c1 (quiet (accepting h sent) chip) 0 sent [] open' refl refl in
+    subst (λ (y : Item). StaysReached s c (quiet (accepting h y) chip)) same (stays s c c1 (quiet (accepting h sent) chip) (event.Submit x.host 0 x.request) (event.Accept 0) _ _ first second)
+
+-- Posting
+
+module _ (s : Setup) (h : HalfState) (chip : Chip) (host : ℕ) (r : Reply) (before behind : List Reply) (held : h.held ≡ before ++ r ∷ behind) (oldest : filter (is_to host) before ≡ []) (own : r.host ≡ host) (known : host < s.hosts) where
+  abbrev moved : HalfState
+  moved = record h { held = before ++ behind; posted = h.posted ++ r ∷ [] }
+
+  abbrev sent_out : ChannelState
+  sent_out = record (quiet h chip) { half = moved }
+
+  posting_step : Step s (quiet h chip) (event.Post 0 host) (outcome.Posted r.place) sent_out
+  posting_step =
+      let oldest_is : IsOldest host h.held r = record { before = before; behind = behind; is = held; own = own; none = oldest } in
+      let out : GoesOut h moved host r = record { before = before; behind = behind; held = held; oldest = oldest; own = own; after = refl } in
+      let some = s.some_posts in
+      let n = length (filter (is_to host) h.posted) in
+      let room : n - n < s.post_cap = omega arith in
+      step_does s (quiet h chip) (event.Post 0 host) (outcome.Posted r.place) sent_out (post_open s (quiet h chip) host 0 known r oldest_is room) (r, moved, refl, out, refl)
+
+  collecting_step : Step s sent_out (event.Collect 0 host) (outcome.Collected r) (quiet moved chip)
+  collecting_step =
+      let list = filter (is_to host) h.posted in
+      let more : posted_to host sent_out ≡ list ++ r ∷ [] = to_own host h.posted r own in
+      let count = ap length more ∙ length-append list (r ∷ []) in
+      let there : slice_get (posted_to host sent_out) (length list) ≡ Some r = ap (λ rs. slice_get rs (length list)) more ∙ get_at_length list r [] in
+      step_does s sent_out (event.Collect 0 host) (outcome.Collected r) (quiet moved chip) (collect_open s sent_out host 0 known (omega arith)) (r, refl, there, refl)
+
+  posting_stays : StaysReached s (quiet h chip) (quiet moved chip)
+  posting_stays = stays s (quiet h chip) sent_out (quiet moved chip) (event.Post 0 host) (event.Collect 0 host) (outcome.Posted r.place) (outcome.Collected r) posting_step collecting_step
+
+pub posting_reached : PostingReached
+posting_reached s h h' chip host r out =
+    let known : IsReached s (quiet h chip) → host < s.hosts = λ reached. goes_to s (quiet h chip) h' host r reached out in
+    let stays_at = λ (at : host < s.hosts). subst (λ (m : HalfState). StaysReached s (quiet h chip) (quiet m chip)) (sym out.after) (posting_stays s h chip host r out.before out.behind out.held out.oldest out.own at) in (
+      λ reached. (stays_at (known reached)).0 reached,
+      λ reaches. (stays_at (known (events_reach s (quiet h chip) reaches))).1 reaches,
+    )
