@@ -1,5 +1,5 @@
 # make plan: prove and build bin/onfi_sim, and plan one read with it.
-# make try:  the same script with the program unproved, within a minute.
+# make try:  the same script with the program unproved, in one to two minutes.
 # make test: the whole gate: what must not compile, every proof and test, the cases of the program, and all wrong bodies.
 # make wrong-bodies: these alone; tools/wrong-bodies CRATE tries those of one crate.
 
