@@ -1,5 +1,5 @@
-use Rattle.onfi_reply.proofs.Erases.{next_erase_as}
-use Rattle.onfi_reply.proofs.tests.Source.post.Goals as goal
+use Rattle.onfi_channel_tests.proofs.Erases.{next_erase_as}
+use Rattle.onfi_channel_tests.proofs.reply.Source.post.Goals as goal
 
 pub post-requires : goal.post-requires
 post-requires g c =

@@ -1,10 +1,9 @@
-ghost use Rattle.std.specs.Prelude.{◌≡◌, ◌+◌, ◌<◌, ◌≤◌, length, IfOk};
-ghost use Rattle.onfi_reply.specs.Erases.{erase_reply};
+ghost use Rattle.std.specs.Prelude.{◌≡◌, ◌<◌, ◌≤◌, IfOk};
+ghost use Rattle.onfi_channel_tests.specs.Erases.{erase_reply};
 
-use crate::{Inbox, Poster, open};
-use onfi_addr::Geometry;
-use onfi_param::{crc16, read_page};
+use onfi_reply::{Inbox, Poster, open};
 use onfi_request::{Answer, Basis, Reply};
+use onfi_samples::sample_geometry;
 use std::alloc::{AllocError, Global};
 use std::marker::Model;
 use std::process::Abort;
@@ -13,47 +12,6 @@ use std::sync::atomic::{AtomicU64, Ordering};
 use std::test::*;
 use std::thread;
 use std::thread::Threads;
-
-fn crc_of_front(page: &[u8]) -> u16
-    requires { length page.now ≡ 256 }
-{
-    let (front, _) = page.split_at(page.len() - 2);
-    crc16(front)
-}
-
-/// A small device: 512 + 16 bytes a page, 64 pages a block, 1,000 blocks a LUN, 2 LUNs, 2 planes.
-fn sample_geometry(rt: &impl Abort) -> Geometry {
-    let mut page = [0; 256];
-    for (at, byte) in [
-        (0usize, 0x4Fu8),
-        (1, 0x4E),
-        (2, 0x46),
-        (3, 0x49),
-        (6, 0x4A),
-        (8, 0x48),
-        (81, 0x02),
-    ] {
-        page[at] = byte;
-    }
-    for (at, byte) in [
-        (84usize, 0x10u8),
-        (92, 0x40),
-        (96, 0xE8),
-        (97, 0x03),
-        (100, 0x02),
-        (101, 0x23),
-        (113, 0x01),
-    ] {
-        page[at] = byte;
-    }
-    let crc = crc_of_front(&page);
-    page[254] = (crc % 256) as u8;
-    page[255] = (crc / 256) as u8;
-    Geometry::of(&read_page(&page).expect(rt, "a good copy")).expect(
-        rt,
-        "a device that can be driven",
-    )
-}
 
 /// The basis of a reply to the erase with this number.
 fn basis_of_erase(host: u8, number: u32) -> Basis
@@ -86,7 +44,7 @@ struct Source {
 impl Model for Source {
     ghost use Rattle.std.specs.Prelude.{◌≡◌, ℕ};
     ghost use Rattle.onfi_reply.specs.Ends.{Giver};
-    ghost use Rattle.onfi_reply.specs.Erases.{erase_replies};
+    ghost use Rattle.onfi_channel_tests.specs.Erases.{erase_replies};
 
     ghost Value = { Giver };
 
@@ -97,18 +55,13 @@ impl Model for Source {
 
 impl Source {
     /// With the inbox at the other end of its queue.
-    fn open(
-        alloc: Global,
-        geometry: &Geometry,
-        host: u8,
-        capacity: usize,
-    ) -> Result<(Source, Inbox), AllocError>
+    fn open(alloc: Global, host: u8, capacity: usize) -> Result<(Source, Inbox), AllocError>
         requires host { host < 4 }
         requires some_room { 1 ≤ capacity }
         requires most_room { capacity ≤ 1024 }
         ensures { IfOk result (λ ends. ends.1.queue ≡ ends.0.queue) }
     {
-        let (poster, inbox) = open(alloc, 3, host, geometry, capacity)?;
+        let (poster, inbox) = open(alloc, 3, host, &sample_geometry(), capacity)?;
         Ok((
             Source {
                 poster,
@@ -158,7 +111,7 @@ fn shown(reply: Option<Reply>) -> Option<(u8, u32, u64)> {
 #[test]
 fn replies_come_out_as_they_were_posted(rt: HostRuntime) -> Result<(), AllocError> {
     let alloc = rt.alloc();
-    let (mut source, mut inbox) = Source::open(alloc, &sample_geometry(&rt), 2, 1)?;
+    let (mut source, mut inbox) = Source::open(alloc, 2, 1)?;
     assert!(rt; inbox.collect(&rt).is_none());
     assert!(rt; !inbox.take_in(&rt, alloc)?);
     assert!(rt; source.post(&rt).is_ok());
@@ -179,7 +132,7 @@ fn replies_come_out_as_they_were_posted(rt: HostRuntime) -> Result<(), AllocErro
 #[test]
 fn as_many_wait_as_there_is_room(rt: HostRuntime) -> Result<(), AllocError> {
     let alloc = rt.alloc();
-    let (mut source, mut inbox) = Source::open(alloc, &sample_geometry(&rt), 0, 1024)?;
+    let (mut source, mut inbox) = Source::open(alloc, 0, 1024)?;
     for _ in 0..1024 {
         assert!(rt; source.post(&rt).is_ok());
     }
@@ -206,7 +159,7 @@ fn as_many_wait_as_there_is_room(rt: HostRuntime) -> Result<(), AllocError> {
 
 #[test]
 fn an_inbox_is_taken_back(rt: HostRuntime) -> Result<(), AllocError> {
-    let (source, inbox) = Source::open(rt.alloc(), &sample_geometry(&rt), 3, 2)?;
+    let (source, inbox) = Source::open(rt.alloc(), 3, 2)?;
     source.close(inbox);
     Ok(())
 }
@@ -263,13 +216,12 @@ fn with_serial(checksum: u64, serial: u32) -> u64 {
 fn exchange<R: Threads + Wait + Abort + Sync>(
     rt: &R,
     alloc: Global,
-    geometry: &Geometry,
     host: u8,
     capacity: usize,
 ) -> Result<(), AllocError>
     requires { (host < 4) × (1 ≤ capacity) × (capacity ≤ 1024) }
 {
-    let (source, inbox) = Source::open(alloc, geometry, host, capacity)?;
+    let (source, inbox) = Source::open(alloc, host, capacity)?;
     let ended = AtomicU64::new(0);
     let end = &ended;
     let (posted, (count, collected)) = thread::join(
@@ -285,12 +237,11 @@ fn exchange<R: Threads + Wait + Abort + Sync>(
 #[test]
 fn two_hosts_on_threads(rt: HostRuntime) -> Result<(), AllocError> {
     let alloc = rt.alloc();
-    let geometry = sample_geometry(&rt);
     for capacity in [1, 7, 1024] {
         let (first, second) = thread::join(
             &rt,
-            || exchange(&rt, alloc, &geometry, 0, capacity),
-            || exchange(&rt, alloc, &geometry, 3, capacity),
+            || exchange(&rt, alloc, 0, capacity),
+            || exchange(&rt, alloc, 3, capacity),
         );
         first?;
         second?;

@@ -13,7 +13,7 @@ use Rattle.onfi_die.proofs.Stable.{stays_right}
 use Rattle.onfi_addr.specs.declared.geometry.Geometry.{Geometry}
 use Rattle.onfi_reply.specs.declared.opened_for.OpenedFor.{OpenedFor}
 use Rattle.onfi_reply.specs.Replies.{IsNext}
-use Rattle.onfi_reply.specs.Erases.{erase_item, erase_items, erase_reply, erase_replies}
+use Rattle.onfi_channel_tests.specs.Erases.{erase_item, erase_items, erase_reply, erase_replies}
 use Rattle.onfi_reply.proofs.Proper.{Each-snoc}
 
 erase_items_length : (host n : ℕ) → length (erase_items host n) ≡ n

@@ -1,10 +1,9 @@
-ghost use Rattle.std.specs.Prelude.{◌≡◌, ◌≤◌, length};
+ghost use Rattle.std.specs.Prelude.{◌≡◌, ◌≤◌};
 
-use crate::host::serial_after;
-use crate::{Host, Intake, SubmitFault, open};
-use onfi_addr::{Geometry, Place};
-use onfi_param::{crc16, read_page};
+use onfi_addr::Place;
+use onfi_queue::{Host, Intake, SubmitFault, open};
 use onfi_request::{Bytes, Item, Request, RequestFault};
+use onfi_samples::sample_geometry;
 use onfi_timing::Kind;
 use std::alloc::{AllocError, Global};
 use std::process::Abort;
@@ -13,47 +12,6 @@ use std::sync::atomic::{AtomicU64, Ordering};
 use std::test::*;
 use std::thread;
 use std::thread::Threads;
-
-fn crc_of_front(page: &[u8]) -> u16
-    requires { length page.now ≡ 256 }
-{
-    let (front, _) = page.split_at(page.len() - 2);
-    crc16(front)
-}
-
-/// A small device: 512 + 16 bytes a page, 64 pages a block, 1,000 blocks a LUN, 2 LUNs, 2 planes.
-fn sample_geometry(rt: &impl Abort) -> Geometry {
-    let mut page = [0; 256];
-    for (at, byte) in [
-        (0usize, 0x4Fu8),
-        (1, 0x4E),
-        (2, 0x46),
-        (3, 0x49),
-        (6, 0x4A),
-        (8, 0x48),
-        (81, 0x02),
-    ] {
-        page[at] = byte;
-    }
-    for (at, byte) in [
-        (84usize, 0x10u8),
-        (92, 0x40),
-        (96, 0xE8),
-        (97, 0x03),
-        (100, 0x02),
-        (101, 0x23),
-        (113, 0x01),
-    ] {
-        page[at] = byte;
-    }
-    let crc = crc_of_front(&page);
-    page[254] = (crc % 256) as u8;
-    page[255] = (crc / 256) as u8;
-    Geometry::of(&read_page(&page).expect(rt, "a good copy")).expect(
-        rt,
-        "a device that can be driven",
-    )
-}
 
 fn read_of(alloc: Global, block: u16, page: u16) -> Request {
     Request {
@@ -67,6 +25,7 @@ fn read_of(alloc: Global, block: u16, page: u16) -> Request {
     }
 }
 
+/// A program of the last page of LUN 0, with so many bytes.
 fn program_of(alloc: Global, count: usize) -> Result<Request, AllocError> {
     Ok(Request {
         kind: Kind::Program,
@@ -79,115 +38,116 @@ fn program_of(alloc: Global, count: usize) -> Result<Request, AllocError> {
     })
 }
 
-/// The host and the serial of an item, with the block that it names.
-fn shown(item: Option<Item>) -> Option<(u8, u32, u16)> {
+/// Host and serial of the next item, with the block that it names.
+fn next_of(rt: &impl Wait, intake: &mut Intake) -> Option<(u8, u32, u16)> {
     let Item {
         host,
         serial,
         request,
-    } = item?;
+    } = intake.accept(rt)?;
     Some((host, serial, request.place.block))
+}
+
+/// Submits a read of page 0 of a block.
+fn submit_read(
+    rt: &impl Wait,
+    alloc: Global,
+    host: &mut Host,
+    block: u16,
+) -> Result<u32, SubmitFault> {
+    host.submit(rt, read_of(alloc, block, 0))
+        .map_err(|refused| refused.0)
 }
 
 #[test]
 fn an_item_comes_out_as_it_went_in(rt: HostRuntime) -> Result<(), AllocError> {
     let alloc = rt.alloc();
-    let (mut intake, mut hosts) = open(alloc, 3, &sample_geometry(&rt), 4)?;
+    let program = program_of(alloc, 528)?;
+    let (mut intake, mut hosts) = open(alloc, 3, &sample_geometry(), 4)?;
     assert!(rt; intake.accept(&rt).is_none());
-    assert_eq!(rt; hosts[3].submit(&rt, program_of(alloc, 528)?).ok(), Some(0));
-    assert_eq!(rt; hosts[0].submit(&rt, read_of(alloc, 7, 0)).ok(), Some(0));
+    assert_eq!(rt; hosts[3].submit(&rt, program).ok(), Some(0));
+    assert_eq!(rt; submit_read(&rt, alloc, &mut hosts[0], 7), Ok(0));
     assert_eq!(rt; hosts[3].submit(&rt, read_of(alloc, 8, 63)).ok(), Some(1));
-    let item = intake.accept(&rt).expect(&rt, "the program");
-    assert_eq!(rt; (item.host, item.serial), (3, 0));
-    assert_eq!(rt; item.request.kind, Kind::Program);
-    assert_eq!(rt;
-        (item.request.place.lun, item.request.place.block),
-        (0, 999)
-    );
-    assert_eq!(rt; item.request.bytes.as_slice(), [0xA5; 528].as_slice());
-    assert_eq!(rt; shown(intake.accept(&rt)), Some((0, 0, 7)));
-    assert_eq!(rt; hosts[1].submit(&rt, read_of(alloc, 9, 0)).ok(), Some(0));
-    assert_eq!(rt; shown(intake.accept(&rt)), Some((3, 1, 8)));
+    accept_program(&rt, &mut intake);
+    assert_eq!(rt; next_of(&rt, &mut intake), Some((0, 0, 7)));
+    assert_eq!(rt; submit_read(&rt, alloc, &mut hosts[1], 9), Ok(0));
+    assert_eq!(rt; next_of(&rt, &mut intake), Some((3, 1, 8)));
     assert_eq!(rt; hosts[3].sent(), 2);
     Ok(())
+}
+
+/// Accepts the first program of host 3, whole.
+fn accept_program<R: Wait + Abort>(rt: &R, intake: &mut Intake) {
+    let item = intake.accept(rt).expect(rt, "the program");
+    assert_eq!(rt; (item.host, item.serial), (3, 0));
+    assert_eq!(rt; item.request.kind, Kind::Program);
+    let place = item.request.place;
+    assert_eq!(rt; (place.lun, place.block), (0, 999));
+    assert_eq!(rt; item.request.bytes.as_slice(), [0xA5; 528].as_slice());
 }
 
 #[test]
 fn closing_tells_what_each_host_sent(rt: HostRuntime) -> Result<(), AllocError> {
     let alloc = rt.alloc();
-    let (mut intake, mut hosts) = open(alloc, 0, &sample_geometry(&rt), 4)?;
-    assert_eq!(rt; hosts[2].submit(&rt, read_of(alloc, 4, 0)).ok(), Some(0));
-    assert_eq!(rt; hosts[2].submit(&rt, read_of(alloc, 5, 0)).ok(), Some(1));
-    assert_eq!(rt; hosts[0].submit(&rt, read_of(alloc, 6, 0)).ok(), Some(0));
-    assert_eq!(rt; shown(intake.accept(&rt)), Some((2, 0, 4)));
+    let (mut intake, mut hosts) = open(alloc, 0, &sample_geometry(), 4)?;
+    assert_eq!(rt; submit_read(&rt, alloc, &mut hosts[2], 4), Ok(0));
+    assert_eq!(rt; submit_read(&rt, alloc, &mut hosts[2], 5), Ok(1));
+    assert_eq!(rt; submit_read(&rt, alloc, &mut hosts[0], 6), Ok(0));
+    assert_eq!(rt; next_of(&rt, &mut intake), Some((2, 0, 4)));
     assert_eq!(rt; intake.close(hosts), [1, 0, 2, 0]);
     Ok(())
-}
-
-fn fault_of(sent: Result<u32, (SubmitFault, Request)>) -> Option<SubmitFault> {
-    match sent {
-        Ok(_) => None,
-        Err((fault, _)) => Some(fault),
-    }
 }
 
 #[test]
 fn refusals_come_in_their_order_and_send_nothing(rt: HostRuntime) -> Result<(), AllocError> {
     let alloc = rt.alloc();
-    let (mut intake, mut hosts) = open(alloc, 0, &sample_geometry(&rt), 1)?;
-    assert_eq!(rt; hosts[0].submit(&rt, read_of(alloc, 5, 0)).ok(), Some(0));
+    let short = program_of(alloc, 512)?;
+    let whole = program_of(alloc, 528)?;
+    let (mut intake, mut hosts) = open(alloc, 0, &sample_geometry(), 1)?;
+    assert_eq!(rt; submit_read(&rt, alloc, &mut hosts[0], 5), Ok(0));
     // the queue is full
-    for (request, fault) in [
-        (
-            read_of(alloc, 1000, 64),
-            SubmitFault::Refused(RequestFault::Block),
-        ),
-        (
-            read_of(alloc, 999, 64),
-            SubmitFault::Refused(RequestFault::Page),
-        ),
-        (
-            program_of(alloc, 512)?,
-            SubmitFault::Refused(RequestFault::DataLength),
-        ),
-        (read_of(alloc, 999, 63), SubmitFault::Full),
+    for (block, page, fault) in [
+        (1000, 64, SubmitFault::Refused(RequestFault::Block)),
+        (999, 64, SubmitFault::Refused(RequestFault::Page)),
+        (999, 63, SubmitFault::Full),
     ] {
-        let told = fault_of(hosts[1].submit(&rt, request));
-        assert_eq!(rt; told, Some(fault));
+        let (told, _) = refuse(&rt, &mut hosts[1], read_of(alloc, block, page));
+        assert_eq!(rt; told, fault);
     }
-    let Err((fault, request)) = hosts[0].submit(&rt, program_of(alloc, 528)?) else {
-        panic!(&rt; "nothing can be sent to a full queue");
-    };
+    let (fault, _) = refuse(&rt, &mut hosts[1], short);
+    assert_eq!(rt; fault, SubmitFault::Refused(RequestFault::DataLength));
+    let (fault, whole) = refuse(&rt, &mut hosts[0], whole);
     assert_eq!(rt; fault, SubmitFault::Full);
-    assert_eq!(rt; request.bytes.as_slice(), [0xA5; 528].as_slice());
+    assert_eq!(rt; whole.bytes.as_slice(), [0xA5; 528].as_slice());
     assert_eq!(rt; (hosts[0].sent(), hosts[1].sent()), (1, 0));
-    assert_eq!(rt; shown(intake.accept(&rt)), Some((0, 0, 5)));
+    assert_eq!(rt; next_of(&rt, &mut intake), Some((0, 0, 5)));
     assert!(rt; intake.accept(&rt).is_none());
-    assert_eq!(rt; hosts[0].submit(&rt, request).ok(), Some(1));
+    assert_eq!(rt; hosts[0].submit(&rt, whole).ok(), Some(1));
     Ok(())
 }
 
-#[test]
-fn serials_end_with_32_bits(rt: HostRuntime) {
-    assert_eq!(rt; serial_after(0), Some(0));
-    assert_eq!(rt; serial_after(4_294_967_295), Some(4_294_967_295));
-    assert_eq!(rt; serial_after(4_294_967_296), None);
+/// Submits what is refused: why, and the request as it came back.
+fn refuse<R: Wait + Abort>(rt: &R, host: &mut Host, request: Request) -> (SubmitFault, Request) {
+    match host.submit(rt, request) {
+        Ok(_) => panic!(rt; "a request that is refused"),
+        Err(refused) => refused,
+    }
 }
 
 #[test]
 fn as_many_wait_as_there_is_room(rt: HostRuntime) -> Result<(), AllocError> {
     let alloc = rt.alloc();
-    let (mut intake, mut hosts) = open(alloc, 1, &sample_geometry(&rt), 1024)?;
+    let (mut intake, mut hosts) = open(alloc, 1, &sample_geometry(), 1024)?;
     for number in 0..1024u16 {
-        let sent = hosts[1].submit(&rt, read_of(alloc, number % 1000, 0));
-        assert_eq!(rt; sent.ok(), Some(u32::from(number)));
+        let sent = submit_read(&rt, alloc, &mut hosts[1], number % 1000);
+        assert_eq!(rt; sent, Ok(u32::from(number)));
     }
     assert_eq!(rt;
-        fault_of(hosts[1].submit(&rt, read_of(alloc, 0, 0))),
-        Some(SubmitFault::Full)
+        submit_read(&rt, alloc, &mut hosts[1], 0),
+        Err(SubmitFault::Full)
     );
     for number in 0..1024u16 {
-        let item = shown(intake.accept(&rt));
+        let item = next_of(&rt, &mut intake);
         assert_eq!(rt; item, Some((1, u32::from(number), number % 1000)));
     }
     assert!(rt; intake.accept(&rt).is_none());
@@ -299,12 +259,11 @@ fn send_by_all<R: Threads + Wait + Sync>(
 fn exchange<R: Threads + Wait + Abort + Sync>(
     rt: &R,
     alloc: Global,
-    geometry: &Geometry,
     capacity: usize,
 ) -> Result<(), AllocError>
     requires { (1 ≤ capacity) × (capacity ≤ 1024) }
 {
-    let (mut intake, hosts) = open(alloc, 2, geometry, capacity)?;
+    let (mut intake, hosts) = open(alloc, 2, &sample_geometry(), capacity)?;
     let ended = AtomicU64::new(0);
     let end = &ended;
     let taker = &mut intake;
@@ -324,9 +283,8 @@ fn exchange<R: Threads + Wait + Abort + Sync>(
 #[test]
 fn four_hosts_on_threads(rt: HostRuntime) -> Result<(), AllocError> {
     let alloc = rt.alloc();
-    let geometry = sample_geometry(&rt);
     for capacity in [1, 7, 1024] {
-        exchange(&rt, alloc, &geometry, capacity)?;
+        exchange(&rt, alloc, capacity)?;
     }
     Ok(())
 }

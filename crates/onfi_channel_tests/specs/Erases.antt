@@ -1,4 +1,4 @@
--- For the tests: the replies to a host that sends nothing but erases of one block, on a device without faults.
+-- The replies to a host that sends nothing but erases of one block, on a device without faults.
 use Rattle.std.specs.Prelude.{ℕ, zero, suc, List, [], ◌∷◌, ◌++◌}
 use Rattle.onfi_timing.specs.declared.kind.Kind.TheVariants.{Erase}
 use Rattle.onfi_request.specs.declared.answer.Answer.TheVariants.{Done}
