@@ -55,8 +55,10 @@ fn submit_read(
     host: &mut Host,
     block: u16,
 ) -> Result<u32, SubmitFault> {
-    host.submit(rt, read_of(alloc, block, 0))
-        .map_err(|refused| refused.0)
+    match host.submit(rt, read_of(alloc, block, 0)) {
+        Ok(serial) => Ok(serial),
+        Err((fault, _)) => Err(fault),
+    }
 }
 
 #[test]
@@ -235,24 +237,10 @@ fn accept_all<R: Wait>(rt: &R, intake: &mut Intake, ended: &AtomicU64) -> [Tally
 fn send_by_all<R: Threads + Wait + Sync>(
     rt: &R,
     alloc: Global,
-    hosts: [Host; 4],
+    hosts: Vec<Host>,
     ended: &AtomicU64,
-) -> [Tally; 4] {
-    let [first, second, third, last] = hosts;
-    let (low, high) = thread::join(
-        rt,
-        || thread::join(
-            rt,
-            || send_all(rt, alloc, first, 2000, ended),
-            || send_all(rt, alloc, second, 2000, ended),
-        ),
-        || thread::join(
-            rt,
-            || send_all(rt, alloc, third, 2000, ended),
-            || send_all(rt, alloc, last, 2000, ended),
-        ),
-    );
-    [low.0, low.1, high.0, high.1]
+) -> Result<Vec<Tally>, AllocError> {
+    thread::map_vec(rt, hosts, &|host| send_all(rt, alloc, host, 2000, ended))
 }
 
 /// What four hosts send through a queue of this capacity is what is accepted of each.
@@ -264,6 +252,7 @@ fn exchange<R: Threads + Wait + Abort + Sync>(
     requires { (1 ≤ capacity) × (capacity ≤ 1024) }
 {
     let (mut intake, hosts) = open(alloc, 2, &sample_geometry(), capacity)?;
+    let hosts = Vec::from_array(alloc, hosts)?;
     let ended = AtomicU64::new(0);
     let end = &ended;
     let taker = &mut intake;
@@ -272,7 +261,7 @@ fn exchange<R: Threads + Wait + Abort + Sync>(
         || accept_all(rt, taker, end),
         || send_by_all(rt, alloc, hosts, end),
     );
-    assert_eq!(rt; taken, sent);
+    assert_eq!(rt; taken.as_slice(), sent?.as_slice());
     for tally in taken {
         assert_eq!(rt; tally.count, 2000);
     }
