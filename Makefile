@@ -1,24 +1,25 @@
 # make plan: prove and build bin/onfi_sim, and plan one read with it.
 # make try:  the same script with the program unproved, within a minute.
-# make test: what must not compile, then the whole gate.
+# make test: the whole gate: what must not compile, every proof and test, the cases of the program, and all wrong bodies.
+# make wrong-bodies: these alone; tools/wrong-bodies CRATE tries those of one crate.
 
 # The crates that a line of crates.txt says a crate stands on.
 below = $(filter onfi_%,$(shell sed -n 's/^$(1)\( [^:]*\)\{0,1\}://p' crates.txt))
 proved = $(patsubst %,crates/%/out/proved,$(1))
-sources_of = $(shell find crates/$(1)/src crates/$(1)/specs crates/$(1)/proofs -type f)
-LIBRARIES := $(call below,onfi_sim)
+sources_of = $(shell find $(wildcard crates/$(1)/src crates/$(1)/specs crates/$(1)/proofs) -type f)
+LIBRARIES := $(call below,onfi_script) onfi_script
 
 # The crates are a chain but for one. So some are proved ahead, beside the crates named here, from their sources.
 ahead_onfi_addr := onfi_param
 ahead_onfi_request := onfi_timing
-ahead_onfi_sim := onfi_group onfi_problem onfi_schedule onfi_bound onfi_cert onfi_check onfi_planner
-# Of onfi_sim the modules that only read and write text.
-only_onfi_sim := words script row rows row_name field forms text fault seen parts transfer plan_line plan_text
+ahead_onfi_script := onfi_group onfi_problem onfi_schedule onfi_bound onfi_cert onfi_check onfi_planner
+# Of onfi_script the modules that only read and write text.
+only_onfi_script := command_line script row rows row_name field forms text fault seen parts transfer plan_line plan_text
 
 # One job for each processor, up to four; a job takes about a gigabyte of memory.
 JOBS ?= $(shell n=$$(nproc); echo $$((n < 4 ? n : 4)))
 
-.PHONY: plan try test
+.PHONY: plan try test wrong-bodies
 
 plan:
 	@$(MAKE) --no-print-directory -j3 bin/onfi_sim
@@ -42,11 +43,11 @@ crates/$(1)/out/ahead: | $(call proved,$(filter-out $(ahead_$(1)),$(call below,$
 	@nice tools/prove ahead $(1) --source $(ahead_$(1)) $(only_$(1):%=--only %) --jobs 2 || true
 	@touch $$@
 endef
-$(foreach crate,$(LIBRARIES) onfi_sim,$(if $(ahead_$(crate)),$(eval $(call ahead,$(crate)))))
+$(foreach crate,$(LIBRARIES),$(if $(ahead_$(crate)),$(eval $(call ahead,$(crate)))))
 
-bin/onfi_sim: $(call proved,$(LIBRARIES)) $(call sources_of,onfi_sim) crates.txt | crates/onfi_sim/out/ahead
+bin/onfi_sim: $(call proved,$(LIBRARIES)) $(call sources_of,onfi_sim) crates.txt
 	@echo "proving onfi_sim"
-	@tools/prove program onfi_sim --source $(ahead_onfi_sim) --jobs $(JOBS)
+	@tools/prove program onfi_sim --jobs $(JOBS)
 	@mkdir -p bin
 	@cp crates/onfi_sim/out/onfi_sim bin/onfi_sim
 
@@ -55,5 +56,7 @@ try:
 	cd crates/onfi_sim && rt try -- plan < ../../examples/one-read.onfi
 
 test:
-	tools/must-not-compile
-	rt ci
+	tools/gate
+
+wrong-bodies:
+	tools/wrong-bodies

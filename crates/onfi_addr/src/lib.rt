@@ -14,6 +14,3 @@ mod place;
 pub use fault::GeometryFault;
 pub use geometry::Geometry;
 pub use place::Place;
-
-#[cfg(test)]
-mod tests;

@@ -21,6 +21,3 @@ pub use bounds::{bus, die, lead, trail};
 pub use commands::Commands;
 pub use loads::Loads;
 pub use reaching::{closing, reaches};
-
-#[cfg(test)]
-mod tests;

@@ -18,8 +18,6 @@ mod lun_number;
 mod reading;
 mod source;
 mod step;
-#[cfg(test)]
-mod tests;
 mod token;
 mod token_list;
 mod tokens;

@@ -11,8 +11,6 @@ mod ends;
 mod fault;
 mod laws;
 mod numbered;
-#[cfg(test)]
-mod tests;
 mod walk;
 mod yields;
 

@@ -21,6 +21,3 @@ pub use fault::ChipFault;
 pub use laws::posts_are_alone;
 pub use post::Post;
 pub use sim::SimChip;
-
-#[cfg(test)]
-mod tests;

@@ -21,6 +21,3 @@ pub use page::Page;
 pub use prepared::Prepared;
 pub use shape::Shape;
 pub use store::Store;
-
-#[cfg(test)]
-mod tests;

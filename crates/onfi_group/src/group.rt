@@ -59,7 +59,7 @@ impl Group {
         self.members.len()
     }
 
-    /// Its wants, planes rising.
+    /// Its wants, in the order in which they were given: planes rising in every group that [`Group::is_group`] takes.
     pub fn members(&self) -> &[Want]
         ensures value { result.now ≡ self.now }
         ensures some { 1 ≤ length self.now }

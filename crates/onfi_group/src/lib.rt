@@ -11,6 +11,3 @@ pub use group::Group;
 pub use listing::{candidates, startable};
 pub use members::is_group;
 pub use rules::Rules;
-
-#[cfg(test)]
-mod tests;

@@ -18,6 +18,9 @@ features page = two_bytes 6 page
 unfoldable pub optional_commands : List ℕ → ℕ
 optional_commands page = two_bytes 8 page
 
+unfoldable pub signature : List ℕ → List ℕ
+signature page = slice_range page 0 4
+
 unfoldable pub manufacturer : List ℕ → List ℕ
 manufacturer page = slice_range page 32 44
 

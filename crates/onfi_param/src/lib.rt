@@ -14,6 +14,3 @@ pub use crc::crc16;
 pub use fault::PageFault;
 pub use page::ParamPage;
 pub use reading::read_page;
-
-#[cfg(test)]
-mod tests;

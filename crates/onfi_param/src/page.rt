@@ -44,6 +44,14 @@ impl ParamPage {
         u32::from(self.two_bytes(at)) + (u32::from(self.two_bytes(at + 2)) << 16)
     }
 
+    /// The signature, `ONFI` but for at most two bytes that were read wrong (bytes 0-3).
+    #[tactic(auto, unfolding(crate::specs::Fields::signature))]
+    pub fn signature(&self) -> &[u8]
+        ensures { result.now ≡ field.signature self.now }
+    {
+        &self.bytes[0..4]
+    }
+
     /// All bits of the features that the device supports (bytes 6-7).
     #[tactic(auto, unfolding(crate::specs::Fields::features))]
     pub fn features(&self) -> u16

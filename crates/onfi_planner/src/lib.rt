@@ -14,6 +14,3 @@ mod yields;
 pub use fault::PlanFault;
 pub use planned::Planned;
 pub use planning::plan;
-
-#[cfg(test)]
-mod tests;

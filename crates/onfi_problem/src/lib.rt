@@ -19,6 +19,3 @@ pub use lun_state::LunState;
 pub use move_list::Moves;
 pub use moves::{Lun, Move, Undo};
 pub use problem::Problem;
-
-#[cfg(test)]
-mod tests;

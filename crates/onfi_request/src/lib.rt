@@ -19,6 +19,3 @@ pub use fault::Fault;
 pub use reply::Reply;
 pub use request::{Item, Request};
 pub use want::Want;
-
-#[cfg(test)]
-mod tests;

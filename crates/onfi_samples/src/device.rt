@@ -3,11 +3,12 @@ ghost use Rattle.std.specs.Prelude.{◌≡◌, false, true};
 use onfi_addr::Geometry;
 use onfi_timing::{Spans, Timing};
 
-/// The geometry of the sample device: in row addresses the page has 6 bits, the block 10 and the LUN 1.
+/// The geometry of the sample device.
 pub fn sample_geometry() -> Geometry
     ensures luns { (result.lun_count ≡ 2) × (result.plane_address_bits ≡ 1) }
     ensures blocks { (result.blocks_per_lun ≡ 1000) × (result.pages_per_block ≡ 64) }
     ensures pages { (result.data_bytes ≡ 512) × (result.spare_bytes ≡ 16) }
+    ensures row_bits { (result.page_bits ≡ 6) × (result.block_bits ≡ 10) × (result.lun_bits ≡ 1) }
     ensures cycles { (result.column_address_cycles ≡ 2) × (result.row_address_cycles ≡ 3) }
     ensures in_order { result.any_page_order ≡ false }
     ensures planes_together { (result.multi_plane_writes ≡ true) × (result.multi_plane_reads ≡ true) }

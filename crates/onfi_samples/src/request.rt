@@ -7,6 +7,9 @@ use onfi_timing::Kind;
 use std::alloc::{AllocError, Global};
 
 /// The request for an operation at a place; a program brings a page of this byte.
+///
+/// # Errors
+/// Want of memory.
 pub fn request_of(
     alloc: Global,
     geometry: &Geometry,

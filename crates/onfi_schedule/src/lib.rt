@@ -25,6 +25,3 @@ pub use placed::Placed;
 pub use schedule::Schedule;
 pub use starts::Starts;
 pub use tracing::trace;
-
-#[cfg(test)]
-mod tests;

@@ -1,38 +1,10 @@
 // Plans ONFI channels and checks plans: reads a script from standard input and writes its answer to standard output.
 #![tactic(auto)]
 
-#[cfg(test)]
-mod check_tests;
-mod command;
-mod device;
-mod engine;
-mod fault;
-mod field;
-mod forms;
-mod laws;
-mod parts;
-mod plan_line;
-mod plan_text;
-mod row;
-mod row_name;
-mod rows;
-mod script;
-mod seen;
-mod setup;
-#[cfg(test)]
-mod tests;
-mod text;
-mod transfer;
-mod words;
-
 ghost use Rattle.std.specs.Prelude.{IfOk};
-ghost use Rattle.onfi_sim.specs.Limit.{IsLimited};
+ghost use Rattle.onfi_script.specs.Limit.{IsLimited};
 
-use crate::command::Command;
-use crate::engine::engine;
-use crate::transfer::EngineFault;
-use crate::words::{WordsFault, words};
-use std::io;
+use onfi_script::{Command, EngineFault, WordsFault, engine, words};
 use std::process::ExitCode;
 
 fn asked(rt: &(impl std::rt::Env + AllocGlobal)) -> Result<Command, WordsFault>
@@ -59,8 +31,7 @@ fn main(rt: HostRuntime) -> ExitCode {
             return ExitCode::from(5);
         }
     };
-    let mut reader = rt.reader();
-    let mut writer = io::writer(&rt);
+    let (mut reader, mut writer) = (rt.reader(), std::io::writer(&rt));
     match engine(rt.alloc(), command, &mut reader, &mut writer) {
         Ok(status) => ExitCode::from(status),
         Err(EngineFault::Read) | Err(EngineFault::Write) => ExitCode::from(7),

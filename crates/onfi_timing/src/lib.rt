@@ -22,6 +22,3 @@ pub use sheet::Sheet;
 pub use spans::{SpanFault, Spans};
 pub use timing::Timing;
 pub use values::Values;
-
-#[cfg(test)]
-mod tests;

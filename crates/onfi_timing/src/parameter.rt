@@ -1,3 +1,5 @@
+use std::fmt;
+
 /// A timing parameter that a sheet gives, in ns (ONFI 4.2, timing parameters), in the order in which a missing one is
 /// told.
 #[derive(Clone, Copy, Debug, PartialEq, Eq)]
@@ -23,8 +25,25 @@ pub enum Parameter {
 }
 
 impl Parameter {
-    ghost use Rattle.std.specs.Prelude.{◌≡◌};
+    ghost use Rattle.std.specs.Prelude.{◌≡◌, Some};
     ghost use Rattle.onfi_timing.specs.Sheet.{parameter_named, busy_time_named};
+
+    /// The name that the standard and a sheet give it.
+    pub fn name(self) -> &'static str
+        ensures { parameter_named result.now ≡ Some self }
+    {
+        match self {
+            Parameter::Twc => "tWC",
+            Parameter::Trc => "tRC",
+            Parameter::Tadl => "tADL",
+            Parameter::Twhr => "tWHR",
+            Parameter::Trhw => "tRHW",
+            Parameter::Twb => "tWB",
+            Parameter::Tplrbsy => "tPLRBSY",
+            Parameter::Tplpbsy => "tPLPBSY",
+            Parameter::Tplebsy => "tPLEBSY",
+        }
+    }
 
     /// The parameter of that name, or None.
     pub fn named(name: &[u8]) -> Option<Parameter>
@@ -59,5 +78,11 @@ impl Parameter {
         } else {
             None
         }
+    }
+}
+
+impl fmt::Display for Parameter {
+    fn fmt<W: fmt::Write>(&self, f: &mut fmt::Formatter<W>) -> fmt::Result {
+        f.write_str(self.name())
     }
 }

@@ -109,11 +109,11 @@ impl Sheet {
     }
 
     // Takes one row of text.
-    fn put_record(&mut self, row: usize, record: &ByteRecord) -> Result<(), SheetFault>
-        ensures { MatchResult result (λ _. with_record self.old row (fields_of record.now) ≡ Ok self.new) (λ fault. with_record self.old row (fields_of record.now) ≡ Err fault) }
+    fn put_record(&mut self, row: usize, fields: &ByteRecord) -> Result<(), SheetFault>
+        ensures { MatchResult result (λ _. with_record self.old row (fields_of fields.now) ≡ Ok self.new) (λ fault. with_record self.old row (fields_of fields.now) ≡ Err fault) }
     {
-        if record.len() == 2 {
-            self.put(row, field(record, 0), field(record, 1))
+        if fields.len() == 2 {
+            self.put(row, field(fields, 0), field(fields, 1))
         } else {
             Err(SheetFault::Unknown(row))
         }

@@ -68,7 +68,8 @@ impl Spans {
         if phase < members { self.cmd } else { self.post }
     }
 
-    /// The wait between phase number `phase` of a group and the phase before it, in ns.
+    /// The wait between phase number `phase` of a group and the phase before it, in ns. No phase goes before number 0: the
+    /// answer for it, the gap, means nothing.
     pub fn wait_before(&self, members: usize, phase: usize) -> u64
         ensures wait { result ≡ wait_before self.now members phase }
         ensures short { result < 2 ^ 50 }

@@ -60,7 +60,7 @@ impl Problem {
         self.wants.as_slice()
     }
 
-    /// Which of `wants` wait: those of the problem as it stands.
+    /// Which of `wants` wait: those of the problem as it stands. Entries behind the last want mean nothing.
     pub fn waiting(&self) -> &[bool; 8]
         ensures value { waiting_of result.now self.now.all ≡ self.now.problem.wants }
     {

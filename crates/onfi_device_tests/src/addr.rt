@@ -1,0 +1,96 @@
+use crate::page::{changed, read, sample_page};
+use onfi_addr::{Geometry, GeometryFault, Place};
+use onfi_samples::sample_geometry;
+use std::process::Abort;
+
+/// The fault of the sample page with these bytes changed.
+fn fault_with(rt: &impl Abort, changes: &[(u8, u8)]) -> Option<GeometryFault> {
+    Geometry::of(&read(rt, changed(sample_page(), changes))).err()
+}
+
+fn place(lun: u8, block: u16, page: u16) -> Place {
+    Place { lun, block, page }
+}
+
+#[test]
+fn the_sample_device(rt: HostRuntime) {
+    let geometry = Geometry::of(&read(&rt, sample_page()));
+    assert_eq!(rt; geometry, Ok(sample_geometry()));
+    assert_eq!(rt; sample_geometry().page_bytes(), 528);
+}
+
+#[test]
+fn rows_of_the_sample_device(rt: HostRuntime) {
+    let geometry = sample_geometry();
+    for (place, row, cycles, plane) in [
+        (place(1, 5, 3), 65859, [0x43, 0x01, 0x01], 1),
+        (place(1, 999, 63), 129535, [0xFF, 0xF9, 0x01], 1),
+        (place(0, 0, 0), 0, [0, 0, 0], 0),
+    ] {
+        assert!(rt; geometry.is_in_range(&place));
+        assert_eq!(rt; geometry.row(&place), row);
+        assert_eq!(rt; geometry.unrow(row), Some(place));
+        assert_eq!(rt; geometry.plane_of(place.block), plane);
+        let [first, second, third, .., last] = geometry.row_cycles(row);
+        assert_eq!(rt; [first, second, third], cycles);
+        assert_eq!(rt; last, 0);
+    }
+}
+
+#[test]
+fn rows_without_a_place(rt: HostRuntime) {
+    let geometry = sample_geometry();
+    // block 1000, whose number fits its bits, and a LUN that isn't there
+    for row in [64000, 129536, 131072] {
+        assert_eq!(rt; geometry.unrow(row), None);
+    }
+    for place in [place(0, 1000, 0), place(2, 0, 0), place(0, 0, 64)] {
+        assert!(rt; !geometry.is_in_range(&place), "{place:?}");
+    }
+}
+
+/// Changes of the sample page, each with the first of its faults.
+const FAULTS: [(&[(u8, u8)], Option<GeometryFault>); 13] = [
+    (&[(8, 0x40)], Some(GeometryFault::NoStatusEnhanced)),
+    (&[(8, 0x08)], Some(GeometryFault::NoColumnEnhanced)),
+    (&[(6, 0x48)], Some(GeometryFault::NoMultiLun)),
+    (&[(100, 0x00)], Some(GeometryFault::LunCount)),
+    (&[(100, 0x09)], Some(GeometryFault::LunCount)),
+    (&[(113, 0x03)], Some(GeometryFault::PlaneBits)),
+    (&[(92, 0x00)], Some(GeometryFault::Zero)),
+    (&[(101, 0x22)], Some(GeometryFault::RowTooWide)),
+    (&[(101, 0x13)], Some(GeometryFault::ColumnTooWide)),
+    (&[(6, 0x4B), (8, 0x40)], Some(GeometryFault::WideBus)),
+    (&[(6, 0x48), (100, 1)], None),
+    (&[(93, 0x20), (101, 0x24)], Some(GeometryFault::TooLarge)),
+    (&[(93, 0x20)], Some(GeometryFault::RowTooWide)),
+];
+
+#[test]
+fn the_first_of_the_faults(rt: HostRuntime) {
+    for (changes, fault) in FAULTS {
+        assert_eq!(rt; fault_with(&rt, changes), fault, "{changes:?}");
+    }
+}
+
+#[test]
+fn fields_beyond_32_bits_together(rt: HostRuntime) {
+    let wide = [
+        (80, 0xFF),
+        (81, 0xFF),
+        (82, 0xFF),
+        (83, 0xFF),
+        (84, 0xFF),
+        (85, 0xFF),
+    ];
+    let page = changed(sample_page(), &wide);
+    for (cycles, fault) in [
+        (0x23, GeometryFault::ColumnTooWide),
+        (0x43, GeometryFault::ColumnTooWide),
+        (0x53, GeometryFault::TooLarge),
+        (0xFF, GeometryFault::TooLarge),
+    ] {
+        let page = read(&rt, changed(page, &[(101, cycles)]));
+        assert_eq!(rt; Geometry::of(&page).err(), Some(fault), "{cycles}");
+    }
+}

@@ -1,0 +1,161 @@
+use crate::sample::{free, running, want};
+use onfi_bound::{Bound, Commands, Loads, bus, closing, die, lead, reaches, trail};
+use onfi_group::Rules;
+use onfi_problem::{LunState, Problem, ProblemFault};
+use onfi_request::Want;
+use onfi_samples::sample_timing;
+use onfi_timing::{Kind, Spans, Timing};
+use std::alloc::Global;
+use std::test::Fail;
+
+// The die bound of a LUN, where it is there.
+fn die_of(problem: &Problem, lun: u8) -> Option<u64> {
+    if (lun as usize) < problem.lun_count() {
+        Some(die(problem, lun))
+    } else {
+        None
+    }
+}
+
+// A read's data output and an erase's status are next, and another erase waits.
+fn output_and_status(alloc: Global) -> Result<Problem, ProblemFault> {
+    let luns = [
+        running(alloc, want(0, Kind::Read, 0, 0), 0),
+        running(alloc, want(0, Kind::Erase, 1, 0), 50),
+    ];
+    let erase = [want(0, Kind::Erase, 1, 1)];
+    let rules = Rules::new(true, true, false, 1);
+    Problem::new(alloc, sample_timing(), rules, 0, &luns, &erase)
+}
+
+#[test]
+fn bounds_of_an_output_and_a_status(rt: HostRuntime) -> Result<(), Fail> {
+    let problem = output_and_status(rt.alloc())?;
+    assert_eq!(rt; (bus(&problem), lead(&problem)), (11660, 11560));
+    assert_eq!(rt; trail(&problem), Some(1500480));
+    assert_eq!(rt; die_of(&problem, 0), Some(11000));
+    assert_eq!(rt; die_of(&problem, 1), Some(1500810));
+    Ok(())
+}
+
+#[test]
+fn the_first_bound_that_reaches(rt: HostRuntime) -> Result<(), Fail> {
+    let problem = output_and_status(rt.alloc())?;
+    let loads = Loads::new(rt.alloc(), &problem)?;
+    for (finish, first) in [
+        (11660, Some(Bound::Bus)),
+        (1500480, Some(Bound::Trail)),
+        (1500810, Some(Bound::Die(1))),
+        (1500811, None),
+    ] {
+        assert_eq!(rt; closing(&problem, finish), first);
+        assert_eq!(rt; loads.closing(&problem, finish), first);
+    }
+    for (bound, finish, does) in [
+        (Bound::Bus, 11660, true),
+        (Bound::Lead, 11561, false),
+        (Bound::Die(0), 11000, true),
+        (Bound::Die(2), 0, false),
+    ] {
+        assert_eq!(rt; reaches(&problem, bound, finish), does);
+    }
+    Ok(())
+}
+
+// Two programs that may not be grouped wait, and an erase's status is next.
+fn programs_apart(alloc: Global) -> Result<Problem, ProblemFault> {
+    let luns = [free(), running(alloc, want(0, Kind::Erase, 1, 0), 100000)];
+    let wants = [want(0, Kind::Program, 0, 0), want(1, Kind::Program, 0, 1)];
+    let rules = Rules::new(true, false, false, 1);
+    Problem::new(alloc, sample_timing(), rules, 0, &luns, &wants)
+}
+
+#[test]
+fn bounds_of_programs_apart(rt: HostRuntime) -> Result<(), Fail> {
+    let problem = programs_apart(rt.alloc())?;
+    assert_eq!(rt; (bus(&problem), lead(&problem)), (22440, 100840));
+    assert_eq!(rt; trail(&problem), Some(221980));
+    assert_eq!(rt; die_of(&problem, 0), Some(222860));
+    assert_eq!(rt; die_of(&problem, 1), Some(100280));
+    assert_eq!(rt; closing(&problem, 100840), Some(Bound::Lead));
+    Ok(())
+}
+
+#[test]
+fn commands_are_counted_down(rt: HostRuntime) -> Result<(), Fail> {
+    let problem = programs_apart(rt.alloc())?;
+    let left = Commands::of(&problem);
+    assert_eq!(rt; (left.read, left.program, left.erase), (0, 2, 0));
+    assert_eq!(rt; left.trail(&problem), Some(221980));
+    assert!(rt; left.trail_reaches(&problem, 221980));
+    assert!(rt; !left.trail_reaches(&problem, 221981));
+    let program = problem.move_at(0).ok_or("a move")?;
+    assert_eq!(rt; left.after(&problem, program).program, 1);
+    let status = problem.move_at(2).ok_or("a move")?;
+    assert_eq!(rt; left.after(&problem, status), left);
+    Ok(())
+}
+
+#[test]
+fn nothing_is_left(rt: HostRuntime) -> Result<(), Fail> {
+    let luns = [LunState::Free { since: 9 }];
+    let rules = Rules::new(true, true, false, 1);
+    let problem = Problem::new(rt.alloc(), sample_timing(), rules, 7, &luns, &[])?;
+    assert_eq!(rt; (bus(&problem), lead(&problem)), (7, 7));
+    assert_eq!(rt; trail(&problem), None);
+    assert_eq!(rt; die_of(&problem, 0), Some(7));
+    assert!(rt; !reaches(&problem, Bound::Trail, 0));
+    Ok(())
+}
+
+// The die bound of two wants of this kind, blocks and pages, where groups are strict or not.
+fn die_of_two(
+    alloc: Global,
+    timing: Timing,
+    strict: bool,
+    kind: Kind,
+    block: u16,
+    page: u16,
+) -> Result<Option<u64>, ProblemFault> {
+    let second = Want {
+        page,
+        ..want(1, kind, 0, block)
+    };
+    let wants = [want(0, kind, 0, 0), second];
+    let rules = Rules::new(true, true, strict, 1);
+    let problem = Problem::new(alloc, timing, rules, 0, &[free()], &wants)?;
+    Ok(die_of(&problem, 0))
+}
+
+// Beside a want of block 0 and page 0.
+#[test]
+fn strict_groups_share_less(rt: HostRuntime) -> Result<(), Fail> {
+    let alloc = rt.alloc();
+    for (strict, kind, block, page, bound) in [
+        (false, Kind::Read, 1, 0, 47980),
+        (true, Kind::Read, 1, 0, 47980),
+        (false, Kind::Read, 3, 0, 47980),
+        (true, Kind::Read, 3, 0, 72480),
+        (false, Kind::Read, 1, 1, 72480),
+        (false, Kind::Read, 2, 0, 72480),
+        (false, Kind::Erase, 3, 0, 1501460),
+        (true, Kind::Erase, 3, 0, 3000960),
+        (true, Kind::Erase, 1, 0, 1501460),
+        (false, Kind::Program, 1, 0, 222860),
+    ] {
+        let found = die_of_two(alloc, sample_timing(), strict, kind, block, page)?;
+        assert_eq!(rt; found, Some(bound), "{kind:?} of block {block}");
+    }
+    Ok(())
+}
+
+#[test]
+fn a_gap_over_the_array_is_not_waited_for(rt: HostRuntime) -> Result<(), Fail> {
+    let timing = Timing {
+        read: Spans::new(140, 30100, 25100, 11000)?,
+        ..sample_timing()
+    };
+    let found = die_of_two(rt.alloc(), timing, false, Kind::Read, 1, 0)?;
+    assert_eq!(rt; found, Some(72480));
+    Ok(())
+}

@@ -1,0 +1,21 @@
+//! Tests of the crates from groups to the planner, by public calls alone; a module for each crate.
+//!
+//! What a script can show is a case of the built program and not a test here: the planner has cases alone.
+#![tactic(auto)]
+
+#[cfg(test)]
+mod bound;
+#[cfg(test)]
+mod cert;
+#[cfg(test)]
+mod check;
+#[cfg(test)]
+mod group;
+#[cfg(test)]
+mod problem;
+#[cfg(test)]
+mod sample;
+#[cfg(test)]
+mod schedule;
+#[cfg(test)]
+mod texts;

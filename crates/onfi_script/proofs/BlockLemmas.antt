@@ -1,0 +1,42 @@
+-- A walk over the blocks that a row names.
+use Rattle.std.proofs.Common.{◌≡◌, ◌<◌, ◌≤◌, ℕ, zero, suc, ◌+◌, List, [], ◌∷◌, ◌++◌, length, drop, Ok, Err, refl, sym, ap, ◌∙◌, arith, append_assoc, append-nil}
+use Rattle.std.specs.Prelude.{Result}
+use Rattle.std.proofs.Math.ListN.{drop_of_length-le}
+use Rattle.csv.specs.Records.{field_at}
+use Rattle.onfi_script.specs.declared.fault.ScriptFault.{ScriptFault}
+use Rattle.onfi_script.specs.Field.{given, field, block}
+use Rattle.onfi_script.specs.Row.{blocks_of}
+
+-- a row from a field on is that field and the row behind it
+pub drop_field : (row : List (List ℕ)) (at : ℕ) → at < length row → drop at row ≡ field row at ∷ drop (at + 1) row
+unfolding field_at
+drop_field [] at h = absurd (omega arith)
+drop_field (f ∷ row) zero h = refl
+drop_field (f ∷ row) (suc at) h = let e : suc (at + 1) ≡ suc at + 1 = omega arith in drop_field row at (omega arith) ∙ ap (λ n. field row at ∷ drop n (f ∷ row)) e
+
+-- the blocks behind those that were read
+more : (o : Result (List ℕ) ScriptFault) (xs : List ℕ) (b : ℕ) → given (given o (λ bs. Ok (b ∷ bs))) (λ rest. Ok (xs ++ rest)) ≡ given o (λ rest. Ok ((xs ++ b ∷ []) ++ rest))
+more (Ok bs) xs b = ap Ok (sym (append_assoc xs (b ∷ []) bs))
+more (Err e) xs b = refl
+
+pub blocks_passed : (row : List (List ℕ)) (at b : ℕ) (xs : List ℕ) (all : Result (List ℕ) ScriptFault) → at < length row → block (field row at) ≡ Ok b
+    → all ≡ given (blocks_of (drop at row)) (λ rest. Ok (xs ++ rest))
+    → all ≡ given (blocks_of (drop (at + 1) row)) (λ rest. Ok ((xs ++ b ∷ []) ++ rest))
+blocks_passed row at b xs all h ok e =
+    e ∙ ap (λ l. given (blocks_of l) (λ rest. Ok (xs ++ rest))) (drop_field row at h)
+    ∙ ap (λ o. given (given o (λ b. given (blocks_of (drop (at + 1) row)) (λ bs. Ok (b ∷ bs)))) (λ rest. Ok (xs ++ rest))) ok
+    ∙ more (blocks_of (drop (at + 1) row)) xs b
+
+pub blocks_stopped : (row : List (List ℕ)) (at : ℕ) (fault : ScriptFault) (xs : List ℕ) (all : Result (List ℕ) ScriptFault) → at < length row → block (field row at) ≡ Err fault
+    → all ≡ given (blocks_of (drop at row)) (λ rest. Ok (xs ++ rest)) → all ≡ Err fault
+blocks_stopped row at fault xs all h bad e =
+    e ∙ ap (λ l. given (blocks_of l) (λ rest. Ok (xs ++ rest))) (drop_field row at h)
+    ∙ ap (λ o. given (given o (λ b. given (blocks_of (drop (at + 1) row)) (λ bs. Ok (b ∷ bs)))) (λ rest. Ok (xs ++ rest))) bad
+
+pub blocks_ended : (row : List (List ℕ)) (at : ℕ) (xs : List ℕ) (all : Result (List ℕ) ScriptFault) → length row ≤ at
+    → all ≡ given (blocks_of (drop at row)) (λ rest. Ok (xs ++ rest)) → all ≡ Ok xs
+blocks_ended row at xs all h e = e ∙ ap (λ l. given (blocks_of l) (λ rest. Ok (xs ++ rest))) (drop_of_length-le row h) ∙ ap Ok (append-nil xs)
+
+pub blocks_begun : (o : Result (List ℕ) ScriptFault) → o ≡ given o (λ rest. Ok ([] ++ rest))
+blocks_begun (Ok xs) = refl
+blocks_begun (Err e) = refl

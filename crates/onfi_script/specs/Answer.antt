@@ -1,0 +1,123 @@
+-- What is written for an input, and with which status.
+use Rattle.std.specs.Prelude.{◌≡◌, ◌≢◌, codes, ℕ, ◌+◌, ◌^◌, ◌≤◌, ◌⊎◌, Bool, true, false, List, take, Option, Some, None, position, Ok, Err, IfSome, MatchOption, MatchResult}
+use Rattle.std.specs.Io.KnownBytes.{Appends}
+use Rattle.csv.specs.Reading.{AreRecords, default_config, strip_bom}
+use Rattle.csv.specs.declared.parser.State.TheVariants as st
+use Rattle.onfi_problem.specs.Problem.{Problem, IsSmall, IsProblem}
+use Rattle.onfi_problem.specs.Left.{horizon, InLimits}
+use Rattle.onfi_schedule.specs.Schedule.{Schedule, Optimal, finish}
+use Rattle.onfi_schedule.specs.Trace.{IsTrace}
+use Rattle.onfi_cert.specs.declared.token.Token.{Token}
+use Rattle.onfi_cert.specs.Text.{IsCertificate}
+use Rattle.onfi_check.specs.Tree.{AcceptsTokens}
+use Rattle.onfi_check.specs.Faults.{IsTextFault}
+use Rattle.onfi_check.specs.declared.fault.TextFault.{TextFault}
+use Rattle.onfi_planner.specs.Nodes.{HasMoreNodes}
+use Rattle.onfi_planner.specs.Planning.{AreRising}
+use Rattle.onfi_script.specs.declared.command.Command.{Command}
+use Rattle.onfi_script.specs.declared.command.Command.TheVariants.{Plan, Check}
+use Rattle.onfi_script.specs.declared.fault.ScriptFault.{ScriptFault}
+use Rattle.onfi_script.specs.declared.fault.ScriptFault.TheVariants.{NoEnd, OutOfRange, Problem as Fault}
+use Rattle.onfi_problem.specs.declared.fault.ProblemFault.TheVariants.{TooMany, BadLun, Clock}
+use Rattle.onfi_script.specs.declared.fault.Refusal.{Refusal}
+use Rattle.onfi_script.specs.declared.row.Row.{Row}
+use Rattle.onfi_script.specs.Row.{Record}
+use Rattle.onfi_script.specs.Rows.{rows_of}
+use Rattle.onfi_script.specs.Script.{plan_text_of, script_of}
+use Rattle.onfi_script.specs.declared.device.Device.{Device}
+use Rattle.onfi_script.specs.Device.{TellsDevice}
+use Rattle.onfi_script.specs.Setup.{names_absent, SetsUp}
+use Rattle.onfi_script.specs.PlanText.{plan_of, schedule_of}
+use Rattle.onfi_script.specs.Text.{Answer, memory, refused, planned, over, accepted, refused_for, refused_at, text_refused}
+
+-- a fault of the script as a whole
+abbrev pub whole : ScriptFault → Refusal
+whole fault = record { row = 0; fault = fault }
+
+-- the script is refused for this
+abbrev pub Refuses : ScriptFault → Answer → Type 0
+Refuses fault answer = answer ≡ refused (whole fault)
+
+-- the text of an optimal schedule, its groups by rising first start, with tokens that show that none ends before it
+pub record Plans (p : Problem) (answer : Answer) : Type 0 where
+  pub schedule : Schedule
+  pub ends : ℕ
+  pub tokens : List Token
+  pub optimal : Optimal p schedule
+  pub finish : finish p schedule ≡ ends
+  pub rising : AreRising schedule.groups
+  pub certified : AcceptsTokens tokens p ends
+  pub text : answer ≡ planned p schedule ends tokens
+
+-- the trace of an optimal schedule
+pub record Traces (p : Problem) (answer : Answer) : Type 0 where
+  pub schedule : Schedule
+  pub optimal : Optimal p schedule
+  pub is_trace : IsTrace p schedule answer.text
+  pub fine : answer.status ≡ 0
+
+-- a trace or a plan, as asked for
+abbrev pub Prints : Bool → Problem → Answer → Type 0
+Prints true p answer = Traces p answer
+Prints false p answer = Plans p answer
+
+-- a plan, or where the tree of the problem has more nodes than may be opened, so many
+abbrev pub AnswersPlan : ℕ → Bool → Problem → Answer → Type 0
+AnswersPlan limit trace p answer = Prints trace p answer ⊎ (HasMoreNodes p limit × (answer ≡ over limit))
+
+-- the text is a certificate by which nothing ends before the schedule
+pub record IsAccepted (p : Problem) (s : Schedule) (text : List ℕ) : Type 0 where
+  pub optimal : Optimal p s
+  pub tokens : List Token
+  pub certificate : IsCertificate text p.rules.strict tokens
+  pub certified : AcceptsTokens tokens p (finish p s)
+
+-- the answer to a schedule that is said to end at `ends`, and the text of its certificate: what is wrong with them,
+-- that the schedule ends at another time, or that it is accepted
+pub data AnswersSchedule (p : Problem) (s : Schedule) (ends : ℕ) (text : List ℕ) (answer : Answer) : Type 0 where
+  is_refused : (fault : TextFault) → IsTextFault p s text fault → answer ≡ text_refused fault → AnswersSchedule p s ends text answer
+  ends_otherwise : IsAccepted p s text → finish p s ≢ ends → answer ≡ refused_for (codes "finish") → AnswersSchedule p s ends text answer
+  is_accepted : IsAccepted p s text → finish p s ≡ ends → answer ≡ accepted ends → AnswersSchedule p s ends text answer
+
+-- the answer to a plan text: its first wrong line, or the answer to the schedule and the certificate that it says
+abbrev pub AnswersCheck : Problem → List ℕ → Answer → Type 0
+AnswersCheck p text answer = MatchResult (plan_of p.wants text) (λ r. AnswersSchedule p (schedule_of p r.0) r.0.finish r.1 answer) (λ number. answer ≡ refused_at (codes "plan") number)
+
+-- what the command asks for; `check` reads the plan text behind the script
+abbrev pub AnswersCommand : Command → List ℕ → Problem → Answer → Type 0
+AnswersCommand (Plan limit trace) text p answer = AnswersPlan limit trace p answer
+AnswersCommand Check text p answer = AnswersCheck p text answer
+
+-- the answer to a problem: its first fault, or what the command asks for
+pub data AnswersProblem (command : Command) (text : List ℕ) (p : Problem) (answer : Answer) : Type 0 where
+  is_too_many : (IsSmall p → ⊥) → Refuses (Fault TooMany) answer → AnswersProblem command text p answer
+  is_bad_lun : IsSmall p → (IsProblem p → ⊥) → Refuses (Fault BadLun) answer → AnswersProblem command text p answer
+  is_late : IsSmall p → IsProblem p → 2 ^ 62 ≤ horizon p → Refuses (Fault Clock) answer → AnswersProblem command text p answer
+  is_problem : InLimits p → AnswersCommand command text p answer → AnswersProblem command text p answer
+
+-- the answer to rows that are each in order: why they tell of no device, the first that names a LUN that isn't
+-- there, or the answer to what they set up
+pub data AnswersRows (command : Command) (text : List ℕ) (rows : List Row) (answer : Answer) : Type 0 where
+  has_no_device : (fault : ScriptFault) → TellsDevice rows (Err fault) → Refuses fault answer → AnswersRows command text rows answer
+  has_no_lun : (device : Device) (at : ℕ) → TellsDevice rows (Ok device) → position (names_absent device.luns) rows ≡ Some at
+      → answer ≡ refused (record { row = at + 1; fault = OutOfRange }) → AnswersRows command text rows answer
+  has_problem : (device : Device) (p : Problem) → TellsDevice rows (Ok device) → position (names_absent device.luns) rows ≡ None → SetsUp rows device p
+      → AnswersProblem command text p answer → AnswersRows command text rows answer
+
+-- the answer to records: their first refused row, or the answer to all
+abbrev pub AnswersRecords : Command → List ℕ → List Record → Answer → Type 0
+AnswersRecords command text records answer = MatchResult (rows_of command records) (λ rows. AnswersRows command text rows answer) (λ refusal. answer ≡ refused refusal)
+
+-- the answers to an input: the one to the records that its script reads as and the text behind it, or that memory ran out
+abbrev pub IsAnswer : Command → List ℕ → Answer → Type 0
+IsAnswer command input answer = (answer ≡ memory)
+    ⊎ MatchOption (script_of input) (Refuses NoEnd answer)
+    (λ script. (records : List Record) × AreRecords default_config st.StartRecord (strip_bom script) records × AnswersRecords command (plan_text_of script input) records answer)
+
+-- the writer was given the answer to what the reader had, where both tell their bytes
+abbrev pub Answers : Command → Option (List ℕ) → Option (List ℕ) → Option (List ℕ) → ℕ → Type 0
+Answers command input old new status = IfSome input (λ xs. (answer : Answer) × IsAnswer command xs answer × (answer.status ≡ status) × Appends old new answer.text)
+
+-- the same of a beginning of it
+abbrev pub BeginsAnswer : Command → Option (List ℕ) → Option (List ℕ) → Option (List ℕ) → Type 0
+BeginsAnswer command input old new = IfSome input (λ xs. (answer : Answer) × (n : ℕ) × IsAnswer command xs answer × Appends old new (take n answer.text))

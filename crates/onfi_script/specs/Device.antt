@@ -1,0 +1,114 @@
+-- The device of a script: how many LUNs it has, what may be grouped, and its phase lengths.
+use Rattle.std.specs.Prelude.{◌≡◌, ℕ, ◌<◌, ◌≤◌, ◌||◌, Bool, true, false, IsTrue, List, [], length, Option, Some, None, is_none, option_and_then, IsSomeAnd, Result, Err, MatchResult, MatchBool}
+use Rattle.std.specs.List.{flat_map, list_any}
+use Rattle.onfi_param.specs.declared.fault.PageFault.TheVariants.{Short, NoCopy}
+use Rattle.onfi_param.specs.Copies.{IsPageCopy, IsFirstCopy, copy_at}
+use Rattle.onfi_addr.specs.declared.geometry.Geometry.{Geometry}
+use Rattle.onfi_addr.specs.Faults.{IsFirstFault, NoFault}
+use Rattle.onfi_addr.specs.Layout.{IsGeometryOf}
+use Rattle.onfi_timing.specs.declared.kind.Kind.{Kind}
+use Rattle.onfi_timing.specs.declared.kind.Kind.TheVariants.{Read, Program, Erase}
+use Rattle.onfi_timing.specs.declared.sheet.Sheet.{Sheet as SheetOf}
+use Rattle.onfi_timing.specs.declared.spans.Spans.{Spans as Lengths}
+use Rattle.onfi_timing.specs.declared.timing.Timing.{Timing}
+use Rattle.onfi_timing.specs.Kinds.{spans_of}
+use Rattle.onfi_timing.specs.Table.{IsTiming, IsTimingFault}
+use Rattle.onfi_script.specs.declared.device.Device.{Device}
+use Rattle.onfi_script.specs.declared.fault.ScriptFault.{ScriptFault}
+use Rattle.onfi_script.specs.declared.fault.ScriptFault.TheVariants as fault
+use Rattle.onfi_script.specs.declared.row.Row.{Row}
+use Rattle.onfi_script.specs.declared.row.Row.TheVariants.{Shape, Spans, Page}
+use Rattle.onfi_script.specs.declared.row.Subject.TheVariants as on
+use Rattle.onfi_script.specs.declared.row_name.Form.{Form}
+use Rattle.onfi_script.specs.declared.row_name.Form.TheVariants.{First, Second}
+use Rattle.onfi_script.specs.RowParts.{ShapeRow, SpansRow}
+use Rattle.onfi_script.specs.Seen.{seen}
+use Rattle.onfi_script.specs.Subject.{row_on}
+
+abbrev pub as_shape : Row → Option ShapeRow
+as_shape (Shape row) = Some row
+as_shape _ = None
+
+abbrev pub as_spans : Row → Option SpansRow
+as_spans (Spans row) = Some row
+as_spans _ = None
+
+abbrev pub shape_in : List Row → Option ShapeRow
+shape_in rows = option_and_then as_shape (row_on on.Shape rows)
+
+abbrev pub spans_in : Kind → List Row → Option SpansRow
+spans_in kind rows = option_and_then as_spans (row_on (on.Spans kind) rows)
+
+-- a kind has no lengths
+abbrev pub lacks_spans : List Row → Bool
+lacks_spans rows = is_none (spans_in Read rows) || is_none (spans_in Program rows) || is_none (spans_in Erase rows)
+
+pub record HasLengths (row : SpansRow) (spans : Lengths) : Type 0 where
+  pub cmd : spans.cmd ≡ row.cmd
+  pub gap : spans.gap ≡ row.gap
+  pub array : spans.array ≡ row.array
+  pub post : spans.post ≡ row.post
+
+-- the lengths of each kind are those that its row tells
+abbrev pub HasTiming : List Row → Timing → Type 0
+HasTiming rows timing = (kind : Kind) → IsSomeAnd (spans_in kind rows) (λ row. HasLengths row (spans_of timing kind))
+
+-- the rows `shape` and `spans` tell of this device
+pub record IsShaped (rows : List Row) (device : Device) : Type 0 where
+  pub shape : shape_in rows ≡ Some (record { luns = device.luns; plane_bits = device.plane_bits; read = device.reads; write = device.writes })
+  pub timing : HasTiming rows device.timing
+
+-- the first form: without a row `shape`, or without lengths of a kind, a row is missing
+abbrev pub TellsFirst : List Row → Result Device ScriptFault → Type 0
+TellsFirst rows told = MatchResult told (IsShaped rows) (λ f. (f ≡ fault.Missing) × IsTrue (is_none (shape_in rows) || lacks_spans rows))
+
+-- a row of bytes of the page
+abbrev pub is_page : Row → Bool
+is_page (Page bytes) = true
+is_page _ = false
+
+abbrev pub bytes_in : Row → List ℕ
+bytes_in (Page bytes) = bytes
+bytes_in _ = []
+
+-- the bytes of all these rows, joined
+abbrev pub page_bytes : List Row → List ℕ
+page_bytes rows = flat_map bytes_in rows
+
+-- page and sheet tell of this device
+pub record IsDescribed (bytes : List ℕ) (sheet : SheetOf) (device : Device) : Type 0 where
+  pub page : List ℕ
+  pub copy : IsFirstCopy bytes page
+  pub geometry : Geometry
+  pub sound : NoFault page
+  pub layout : IsGeometryOf page geometry
+  pub timing : IsTiming page geometry sheet device.timing
+  pub luns : device.luns ≡ geometry.lun_count
+  pub plane_bits : device.plane_bits ≡ geometry.plane_address_bits
+  pub reads : device.reads ≡ geometry.multi_plane_reads
+  pub writes : device.writes ≡ geometry.multi_plane_writes
+
+-- why page and sheet tell of none: no page, no geometry, or no phase lengths
+abbrev pub IsUndescribed : List ℕ → SheetOf → ScriptFault → Type 0
+IsUndescribed bytes sheet (fault.Page Short) = length bytes < 256
+IsUndescribed bytes sheet (fault.Page NoCopy) = (256 ≤ length bytes) × ((number : ℕ) → ¬ IsPageCopy (copy_at bytes number))
+IsUndescribed bytes sheet (fault.Geometry f) = (page : List ℕ) × IsFirstCopy bytes page × IsFirstFault page f
+IsUndescribed bytes sheet (fault.Sheet f) = (page : List ℕ) × IsFirstCopy bytes page × NoFault page × IsTimingFault sheet f
+IsUndescribed bytes sheet _ = ⊥
+
+abbrev pub TellsPage : List ℕ → SheetOf → Result Device ScriptFault → Type 0
+TellsPage bytes sheet told = MatchResult told (IsDescribed bytes sheet) (IsUndescribed bytes sheet)
+
+-- the second form: without bytes of a page a row is missing
+abbrev pub TellsSecond : List Row → Result Device ScriptFault → Type 0
+TellsSecond rows told = MatchBool (list_any is_page rows) (TellsPage (page_bytes rows) (seen rows).sheet told) (told ≡ Err fault.Missing)
+
+-- of no form: a row is missing
+abbrev pub TellsInForm : List Row → Option Form → Result Device ScriptFault → Type 0
+TellsInForm rows None told = told ≡ Err fault.Missing
+TellsInForm rows (Some First) told = TellsFirst rows told
+TellsInForm rows (Some Second) told = TellsSecond rows told
+
+-- the device that the rows tell of, or why they tell of none
+abbrev pub TellsDevice : List Row → Result Device ScriptFault → Type 0
+TellsDevice rows told = TellsInForm rows (seen rows).form told

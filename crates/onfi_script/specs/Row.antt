@@ -1,0 +1,80 @@
+-- What a row says, by its name.
+use Rattle.std.specs.Prelude.{ℕ, List, [], ◌∷◌, drop, Result, Ok, Err}
+use Rattle.hex.specs.Hex.{decode_of}
+use Rattle.hex.specs.declared.error.FromHexError.{FromHexError}
+use Rattle.onfi_timing.specs.declared.fault.SheetFault.{SheetFault}
+use Rattle.onfi_timing.specs.declared.sheet.Sheet.{Sheet as SheetOf}
+use Rattle.onfi_timing.specs.Sheet.{with_row}
+use Rattle.onfi_script.specs.declared.fault.ScriptFault.{ScriptFault}
+use Rattle.onfi_script.specs.declared.fault.ScriptFault.TheVariants.{Hex, Sheet as InSheet}
+use Rattle.onfi_script.specs.declared.row.Row.{Row}
+use Rattle.onfi_script.specs.declared.row.Row.TheVariants.{Shape, Spans, Page, Sheet, Bus, Free, Running, Want, Strict}
+use Rattle.onfi_script.specs.Field.{given, field, number, flag, kind, lun, block, page, span, time}
+
+-- the fields of a row, its name first
+abbrev pub Record : Type 0
+Record = List (List ℕ)
+
+abbrev pub shape_row : Record → Result Row ScriptFault
+shape_row row =
+    given (number 1 8 (field row 1)) (λ luns.
+    given (number 0 2 (field row 2)) (λ plane_bits.
+    given (flag (field row 3)) (λ read.
+    given (flag (field row 4)) (λ write.
+    Ok (Shape (record { luns = luns; plane_bits = plane_bits; read = read; write = write }))))))
+
+abbrev pub spans_row : Record → Result Row ScriptFault
+spans_row row =
+    given (kind (field row 1)) (λ kind.
+    given (span 1 (field row 2)) (λ cmd.
+    given (span 0 (field row 3)) (λ gap.
+    given (span 0 (field row 4)) (λ array.
+    given (span 1 (field row 5)) (λ post.
+    Ok (Spans (record { kind = kind; cmd = cmd; gap = gap; array = array; post = post })))))))
+
+-- bytes in hexadecimal
+abbrev pub bytes_row : Result (List ℕ) FromHexError → Result Row ScriptFault
+bytes_row (Ok bytes) = Ok (Page bytes)
+bytes_row (Err fault) = Err Hex
+
+abbrev pub page_row : Record → Result Row ScriptFault
+page_row row = bytes_row (decode_of (field row 1))
+
+-- a sheet with one value more
+abbrev pub values_row : Result SheetOf SheetFault → Result Row ScriptFault
+values_row (Ok sheet) = Ok (Sheet sheet)
+values_row (Err fault) = Err (InSheet fault)
+
+abbrev pub sheet_row : SheetOf → ℕ → Record → Result Row ScriptFault
+sheet_row sheet number row = values_row (with_row sheet number (field row 1) (field row 2))
+
+abbrev pub bus_row : Record → Result Row ScriptFault
+bus_row row = given (time (field row 1)) (λ bus_free. Ok (Bus bus_free))
+
+abbrev pub free_row : Record → Result Row ScriptFault
+free_row row = given (lun (field row 1)) (λ lun. given (time (field row 2)) (λ since. Ok (Free lun since)))
+
+abbrev pub blocks_of : List (List ℕ) → Result (List ℕ) ScriptFault
+blocks_of [] = Ok []
+blocks_of (text ∷ texts) = given (block text) (λ block. given (blocks_of texts) (λ blocks. Ok (block ∷ blocks)))
+
+abbrev pub running_row : Record → Result Row ScriptFault
+running_row row =
+    given (lun (field row 1)) (λ lun.
+    given (number 0 7 (field row 2)) (λ next.
+    given (time (field row 3)) (λ ready.
+    given (kind (field row 4)) (λ kind.
+    given (page (field row 5)) (λ page.
+    given (blocks_of (drop 6 row)) (λ blocks.
+    Ok (Running (record { lun = lun; next = next; ready = ready; kind = kind; page = page; blocks = blocks }))))))))
+
+abbrev pub want_row : Record → Result Row ScriptFault
+want_row row =
+    given (kind (field row 1)) (λ kind.
+    given (lun (field row 2)) (λ lun.
+    given (block (field row 3)) (λ block.
+    given (page (field row 4)) (λ page.
+    Ok (Want kind lun block page)))))
+
+abbrev pub strict_row : Record → Result Row ScriptFault
+strict_row row = given (flag (field row 1)) (λ strict. Ok (Strict strict))

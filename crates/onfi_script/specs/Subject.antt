@@ -1,0 +1,45 @@
+-- What a row settles for a script.
+use Rattle.std.specs.Prelude.{◌==◌, Bool, true, false, List, Option, Some, None, find}
+use Rattle.onfi_timing.specs.declared.kind.Kind.{Kind}
+use Rattle.onfi_timing.specs.declared.kind.Kind.TheVariants.{Read, Program, Erase}
+use Rattle.onfi_script.specs.declared.row.Row.{Row}
+use Rattle.onfi_script.specs.declared.row.Row.TheVariants.{Shape, Spans, Page, Sheet, Bus, Free, Running, Want, Strict}
+use Rattle.onfi_script.specs.declared.row.Subject.{Subject}
+use Rattle.onfi_script.specs.declared.row.Subject.TheVariants as on
+
+abbrev pub subject_of : Row → Option Subject
+subject_of (Shape row) = Some on.Shape
+subject_of (Spans row) = Some (on.Spans row.kind)
+subject_of (Page bytes) = None
+subject_of (Sheet sheet) = None
+subject_of (Bus bus_free) = Some on.Bus
+subject_of (Free lun since) = Some (on.Lun lun)
+subject_of (Running row) = Some (on.Lun row.lun)
+subject_of (Want kind lun block page) = None
+subject_of (Strict strict) = Some on.Strict
+
+abbrev pub is_kind : Kind → Kind → Bool
+is_kind Read Read = true
+is_kind Program Program = true
+is_kind Erase Erase = true
+is_kind kind other = false
+
+abbrev pub is_subject : Subject → Subject → Bool
+is_subject on.Shape on.Shape = true
+is_subject (on.Spans kind) (on.Spans other) = is_kind kind other
+is_subject on.Bus on.Bus = true
+is_subject (on.Lun lun) (on.Lun other) = lun == other
+is_subject on.Strict on.Strict = true
+is_subject subject other = false
+
+-- the row settles that
+abbrev pub settled_by : Option Subject → Subject → Bool
+settled_by None subject = false
+settled_by (Some other) subject = is_subject subject other
+
+abbrev pub settles : Subject → Row → Bool
+settles subject row = settled_by (subject_of row) subject
+
+-- the row that settles a subject
+abbrev pub row_on : Subject → List Row → Option Row
+row_on subject rows = find (settles subject) rows

@@ -1,0 +1,157 @@
+-- The texts that are written.
+use Rattle.std.specs.Prelude.{ℕ, ◌+◌, ◌++◌, List, [], ◌∷◌, codes}
+use Rattle.std.specs.List.{flat_map}
+use Rattle.std.specs.Fmt.{decimal}
+use Rattle.onfi_request.specs.declared.want.Want.{Want}
+use Rattle.onfi_param.specs.declared.fault.PageFault.{PageFault}
+use Rattle.onfi_param.specs.declared.fault.PageFault.TheVariants.{Short, NoCopy}
+use Rattle.onfi_addr.specs.declared.fault.GeometryFault.{GeometryFault}
+use Rattle.onfi_addr.specs.declared.fault.GeometryFault.TheVariants.{WideBus, NoStatusEnhanced, NoColumnEnhanced, NoMultiLun, LunCount, PlaneBits, Zero, RowTooWide, ColumnTooWide, TooLarge}
+use Rattle.onfi_timing.specs.declared.fault.SheetFault.{SheetFault}
+use Rattle.onfi_timing.specs.declared.fault.SheetFault.TheVariants as sheet
+use Rattle.onfi_problem.specs.declared.fault.ProblemFault.{ProblemFault}
+use Rattle.onfi_problem.specs.declared.fault.ProblemFault.TheVariants.{TooMany, BadLun, Clock, Memory}
+use Rattle.onfi_problem.specs.Problem.{Problem as ProblemOf}
+use Rattle.onfi_schedule.specs.Schedule.{Placed, Schedule}
+use Rattle.onfi_cert.specs.declared.token.Token.{Token}
+use Rattle.onfi_cert.specs.declared.fault.CertTextFault.{CertTextFault}
+use Rattle.onfi_cert.specs.declared.fault.CertTextFault.TheVariants as cert_text
+use Rattle.onfi_cert.specs.Text.{text_of}
+use Rattle.onfi_check.specs.declared.fault.CertFault.{CertFault}
+use Rattle.onfi_check.specs.declared.fault.CertFault.TheVariants as cert
+use Rattle.onfi_check.specs.declared.fault.TextFault.{TextFault}
+use Rattle.onfi_check.specs.declared.fault.TextFault.TheVariants as in_text
+use Rattle.onfi_script.specs.declared.fault.ScriptFault.{ScriptFault}
+use Rattle.onfi_script.specs.declared.fault.ScriptFault.TheVariants.{NoEnd, UnknownRow, FieldCount, NotANumber, OutOfRange, Repeated, Missing, Hex, Page, Geometry, Sheet, Problem, NotHere}
+use Rattle.onfi_script.specs.declared.fault.Refusal.{Refusal}
+
+-- what is written, and the status that the program ends with
+pub record Answer : Type 0 where
+  pub text : List ℕ
+  pub status : ℕ
+
+abbrev pub memory : Answer
+memory = record { text = codes "memory\n"; status = 4 }
+
+abbrev pub page_name : PageFault → List ℕ
+page_name Short = codes "Page Short"
+page_name NoCopy = codes "Page NoCopy"
+
+abbrev pub geometry_name : GeometryFault → List ℕ
+geometry_name WideBus = codes "Geometry WideBus"
+geometry_name NoStatusEnhanced = codes "Geometry NoStatusEnhanced"
+geometry_name NoColumnEnhanced = codes "Geometry NoColumnEnhanced"
+geometry_name NoMultiLun = codes "Geometry NoMultiLun"
+geometry_name LunCount = codes "Geometry LunCount"
+geometry_name PlaneBits = codes "Geometry PlaneBits"
+geometry_name Zero = codes "Geometry Zero"
+geometry_name RowTooWide = codes "Geometry RowTooWide"
+geometry_name ColumnTooWide = codes "Geometry ColumnTooWide"
+geometry_name TooLarge = codes "Geometry TooLarge"
+
+abbrev pub sheet_name : SheetFault → List ℕ
+sheet_name (sheet.Missing parameter) = codes "Sheet Missing"
+sheet_name (sheet.Repeated parameter) = codes "Sheet Repeated"
+sheet_name (sheet.Unknown row) = codes "Sheet Unknown"
+sheet_name (sheet.NotANumber row) = codes "Sheet NotANumber"
+sheet_name sheet.ZeroCycle = codes "Sheet ZeroCycle"
+sheet_name sheet.TooLong = codes "Sheet TooLong"
+sheet_name sheet.Memory = codes "Sheet Memory"
+
+abbrev pub problem_name : ProblemFault → List ℕ
+problem_name TooMany = codes "Problem TooMany"
+problem_name BadLun = codes "Problem BadLun"
+problem_name Clock = codes "Problem Clock"
+problem_name Memory = codes "Problem Memory"
+
+abbrev pub name_of : ScriptFault → List ℕ
+name_of NoEnd = codes "NoEnd"
+name_of UnknownRow = codes "UnknownRow"
+name_of FieldCount = codes "FieldCount"
+name_of NotANumber = codes "NotANumber"
+name_of OutOfRange = codes "OutOfRange"
+name_of Repeated = codes "Repeated"
+name_of Missing = codes "Missing"
+name_of Hex = codes "Hex"
+name_of (Page fault) = page_name fault
+name_of (Geometry fault) = geometry_name fault
+name_of (Sheet fault) = sheet_name fault
+name_of (Problem fault) = problem_name fault
+name_of NotHere = codes "NotHere"
+
+abbrev pub refused : Refusal → Answer
+refused refusal = record { text = codes "script refused " ++ (decimal refusal.row ++ (codes " " ++ (name_of refusal.fault ++ codes "\n"))); status = 1 }
+
+-- each number behind a space
+abbrev pub spaced : List ℕ → List ℕ
+spaced numbers = flat_map (λ n. codes " " ++ decimal n) numbers
+
+-- the numbers of the wants behind the first, each behind a plus
+abbrev pub joined : List Want → List ℕ
+joined wants = flat_map (λ w. codes "+" ++ decimal w.id) wants
+
+abbrev pub ids : List Want → List ℕ
+ids [] = []
+ids (w ∷ wants) = decimal w.id ++ joined wants
+
+abbrev pub group_line : Placed → List ℕ
+group_line g = codes "group " ++ ids g.members ++ spaced g.starts ++ codes "\n"
+
+-- of a LUN with phases left of a running group
+abbrev pub rest_line : ℕ → List ℕ → List ℕ
+rest_line lun [] = []
+rest_line lun (start ∷ starts) = codes "rest " ++ decimal lun ++ spaced (start ∷ starts) ++ codes "\n"
+
+-- of the LUNs from number `lun` on
+unfoldable pub rest_lines : ℕ → List (List ℕ) → List ℕ
+rest_lines lun [] = []
+rest_lines lun (starts ∷ rest) = rest_line lun starts ++ rest_lines (lun + 1) rest
+
+-- the lines of a schedule that ends at `ends`
+abbrev pub schedule_text : Schedule → ℕ → List ℕ
+schedule_text s ends = codes "ONFIPLAN 1\n" ++ (codes "finish " ++ decimal ends) ++ codes "\n" ++ rest_lines 0 s.rest ++ flat_map group_line s.groups
+
+-- the answer that plans a problem: the schedule, and behind it the certificate of these tokens, which names the option strict
+abbrev pub planned : ProblemOf → Schedule → ℕ → List Token → Answer
+planned p s ends tokens = record { text = schedule_text s ends ++ text_of p.rules.strict tokens; status = 0 }
+
+-- what is refused for this reason
+abbrev pub refused_for : List ℕ → Answer
+refused_for reason = record { text = codes "refused " ++ (reason ++ codes "\n"); status = 2 }
+
+-- .. with a place
+abbrev pub refused_at : List ℕ → ℕ → Answer
+refused_at reason place = record { text = codes "refused " ++ (reason ++ (codes " " ++ (decimal place ++ codes "\n"))); status = 2 }
+
+-- the answer to a schedule that ends at `ends` and that nothing beats
+abbrev pub accepted : ℕ → Answer
+accepted ends = record { text = codes "accepted " ++ (decimal ends ++ codes "\n"); status = 0 }
+
+-- why the tokens of a certificate are refused; want of memory refuses nothing
+abbrev pub cert_refused : CertFault → Answer
+cert_refused cert.Illegal = refused_for (codes "1 Illegal")
+cert_refused cert.Short = refused_for (codes "2 Short")
+cert_refused (cert.Trailing place) = refused_at (codes "3 Trailing") place
+cert_refused (cert.Width place) = refused_at (codes "4 Width") place
+cert_refused (cert.BoundLow place) = refused_at (codes "5 BoundLow") place
+cert_refused (cert.YieldNoFit place) = refused_at (codes "6 YieldNoFit") place
+cert_refused (cert.YieldLoop place) = refused_at (codes "7 YieldLoop") place
+cert_refused (cert.NotEnd place) = refused_at (codes "8 NotEnd") place
+cert_refused cert.Memory = memory
+
+-- why a text is no certificate
+abbrev pub cert_text_refused : CertTextFault → Answer
+cert_text_refused cert_text.Header = refused_for (codes "cert Header")
+cert_text_refused (cert_text.BadToken place) = refused_at (codes "cert BadToken") place
+cert_text_refused cert_text.TooLong = refused_for (codes "cert TooLong")
+cert_text_refused cert_text.Memory = memory
+
+-- why the text of a certificate is refused
+abbrev pub text_refused : TextFault → Answer
+text_refused (in_text.Text fault) = cert_text_refused fault
+text_refused in_text.Option = refused_for (codes "cert Option")
+text_refused (in_text.Cert fault) = cert_refused fault
+
+-- the answer where so many nodes were opened, and the search is not over
+abbrev pub over : ℕ → Answer
+over opened = record { text = codes "over " ++ (decimal opened ++ codes "\n"); status = 6 }

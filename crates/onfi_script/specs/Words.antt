@@ -1,0 +1,49 @@
+-- What the words of a command line name.
+use Rattle.std.specs.Prelude.{◌≡◌, ℕ, List, Bool, false, bytes_eq, Option, Some, None, IsSomeAnd, Ok, codes}
+use Rattle.clap.specs.Words.{App, Row as Used, Rule, first_of, new_app, new_rule, subcommand_of, with_rule, with_subcommand}
+use Rattle.clap.specs.declared.builder.ArgAction.TheVariants.{Set, SetTrue}
+use Rattle.onfi_script.specs.declared.command.Command.{Command}
+use Rattle.onfi_script.specs.declared.command.Command.TheVariants.{Plan, Check}
+use Rattle.onfi_script.specs.Field.{number}
+
+-- `--limit N`
+abbrev pub limit : Rule
+limit = record (new_rule (codes "limit")) { long = Some (codes "limit"); action = Some Set }
+
+-- `--trace`
+abbrev pub trace : Rule
+trace = record (new_rule (codes "trace")) { long = Some (codes "trace"); action = Some SetTrue }
+
+-- `plan [--limit N] [--trace]`
+abbrev pub plan : App
+plan = with_rule (with_rule (new_app (codes "plan")) limit) trace
+
+-- `check`
+abbrev pub check : App
+check = new_app (codes "check")
+
+-- the program with `plan` alone
+abbrev pub with_plan : App
+with_plan = with_subcommand (new_app (codes "onfi_sim")) plan.top
+
+abbrev pub app : App
+app = with_subcommand with_plan check.top
+
+-- the number that was given, 1 to 1,048,576; the greatest where none was
+abbrev pub IsLimit : Option (List ℕ) → ℕ → Type 0
+IsLimit None n = n ≡ 1048576
+IsLimit (Some text) n = number 1 1048576 text ≡ Ok n
+
+-- the flag was given: its value is the word true
+abbrev pub is_given : Option (List ℕ) → Bool
+is_given None = false
+is_given (Some text) = bytes_eq text (codes "true")
+
+-- a subcommand with these arguments is this command
+abbrev pub IsNamed : Command → List ℕ → List Used → Type 0
+IsNamed (Plan n traced) name used = (name ≡ codes "plan") × IsLimit (first_of (codes "limit") used) n × (traced ≡ is_given (first_of (codes "trace") used))
+IsNamed Check name used = name ≡ codes "check"
+
+-- the words, of which the first is the program's name, name this command
+abbrev pub Name : List (List ℕ) → Command → Type 0
+Name words command = IsSomeAnd (subcommand_of app words) (λ p. IsNamed command p.0 p.1)

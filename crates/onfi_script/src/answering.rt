@@ -1,0 +1,289 @@
+//! From the bytes of an input to the bytes of its answer.
+ghost use Rattle.std.specs.Prelude.{◌≡◌, ◌≤◌, ℕ, take, length, map, IfOk, IfErr, OnErr, IsTrue, string_bytes, Ok};
+ghost use Rattle.std.specs.Io.KnownBytes.{Appends, Keeps};
+ghost use Rattle.csv.specs.Records.{fields_of};
+ghost use Rattle.onfi_problem.specs.Left.{InLimits};
+ghost use Rattle.onfi_schedule.specs.Schedule.{Optimal};
+ghost use Rattle.onfi_script.specs.Text.{planned as spec_planned};
+ghost use Rattle.onfi_script.specs.Answer.{AnswersCheck, AnswersCommand, AnswersPlan, AnswersSchedule, Traces, Refuses, AnswersProblem, AnswersRows, AnswersRecords, IsAnswer, Answers, BeginsAnswer};
+ghost use Rattle.onfi_script.specs.AnswerOf.{answer_of};
+ghost use Rattle.onfi_script.specs.Device.{TellsDevice};
+ghost use Rattle.onfi_script.specs.Limit.{IsLimited};
+ghost use Rattle.onfi_script.specs.SetupOf.{problem_of};
+
+use crate::command::Command;
+use crate::device::Device;
+use crate::fault::{Refusal, RowStop, ScriptFault, Stop};
+use crate::forms::device_of;
+use crate::plan_text::{PlanStop, read_plan};
+use crate::row::Row;
+use crate::rows::rows;
+use crate::script::{behind_end, script_len};
+use crate::setup::{Setup, absent, set_up};
+use crate::text::{
+    Answer, accepted, over, plan_text, refused, refused_at, refused_for, text_refused,
+};
+use crate::transfer::{EngineFault, InputFault, read_all, write_text};
+use csv::ByteRecord;
+use onfi_cert::write;
+use onfi_check::check_text;
+use onfi_planner::{PlanFault, Planned, plan};
+use onfi_problem::{Problem, ProblemFault};
+use onfi_schedule::{Schedule, trace};
+use onfi_timing::read_records;
+use std::alloc::{AllocError, Global};
+use std::io::{Read, Write};
+
+/// The text of a plan, with its certificate behind it.
+fn plan_answer(alloc: Global, problem: &Problem, planned: &Planned) -> Result<Answer, AllocError>
+    ensures { IfOk result (λ a. answer_of a ≡ spec_planned problem.now.problem planned.now.schedule planned.now.finish planned.now.cert.items) }
+{
+    let Ok(certificate) = write(alloc, problem.rules().strict, planned.cert.as_slice()) else {
+        return Err(AllocError);
+    };
+    let text = plan_text(
+        alloc,
+        &planned.schedule,
+        planned.finish,
+        certificate.as_slice(),
+    )?;
+    Ok(Answer { text, status: 0 })
+}
+
+/// The trace of a plan.
+fn trace_answer(alloc: Global, problem: &Problem, planned: &Planned) -> Result<Answer, AllocError>
+    requires { Optimal problem.now.problem planned.now.schedule }
+    ensures { IfOk result (λ a. Traces problem.now.problem (answer_of a)) }
+{
+    let text = trace(alloc, problem, &planned.schedule)?;
+    Ok(Answer { text, status: 0 })
+}
+
+/// The answer that plans a problem with a search of at most so many nodes.
+fn planned(alloc: Global, problem: &Problem, limit: u32, traced: bool) -> Result<Answer, AllocError>
+    requires some { 1 ≤ limit }
+    requires few { limit ≤ 1048576 }
+    ensures { IfOk result (λ a. AnswersPlan limit traced problem.now.problem (answer_of a)) }
+{
+    match plan(alloc, problem, limit) {
+        Ok(planned) if traced => trace_answer(alloc, problem, &planned),
+        Ok(planned) => plan_answer(alloc, problem, &planned),
+        Err(PlanFault::Over { opened }) => over(alloc, opened),
+        Err(PlanFault::Memory) => Err(AllocError),
+    }
+}
+
+/// The answer to a schedule that is said to end at `ends`, in ns, and the text of its certificate.
+fn judged(
+    alloc: Global,
+    problem: &Problem,
+    schedule: &Schedule,
+    ends: u64,
+    certificate: &[u8],
+) -> Result<Answer, AllocError>
+    ensures { IfOk result (λ a. AnswersSchedule problem.now.problem schedule.now ends certificate.now (answer_of a)) }
+{
+    match check_text(alloc, problem, schedule, certificate) {
+        Ok(finish) if finish == ends => accepted(alloc, ends),
+        Ok(_) => refused_for(alloc, "finish"),
+        Err(fault) => text_refused(alloc, fault),
+    }
+}
+
+/// The answer to a plan text.
+fn checked(alloc: Global, problem: &Problem, text: &[u8]) -> Result<Answer, AllocError>
+    requires begun { problem.now.all ≡ problem.now.problem.wants }
+    ensures { IfOk result (λ a. AnswersCheck problem.now.problem text.now (answer_of a)) }
+{
+    match read_plan(alloc, problem.wants(), text) {
+        Ok((plan, certificate)) => {
+            let ends = plan.finish();
+            let schedule = plan.schedule(alloc, problem.lun_count())?;
+            judged(alloc, problem, &schedule, ends, certificate)
+        }
+        Err(PlanStop::Wrong(number)) => refused_at(alloc, "plan", number),
+        Err(PlanStop::Memory) => Err(AllocError),
+    }
+}
+
+/// What the command asks for; `text` stands behind the script.
+fn commanded(
+    alloc: Global,
+    command: Command,
+    text: &[u8],
+    problem: &Problem,
+) -> Result<Answer, AllocError>
+    requires limit { IsLimited command }
+    requires begun { problem.now.all ≡ problem.now.problem.wants }
+    ensures { IfOk result (λ a. AnswersCommand command text.now problem.now.problem (answer_of a)) }
+{
+    match command {
+        Command::Plan { limit, trace } => planned(alloc, problem, limit, trace),
+        Command::Check => checked(alloc, problem, text),
+    }
+}
+
+/// Times of a problem that was made end below 2^62 ns.
+fn keeps_limits(problem: &Problem)
+    ensures { InLimits problem.now.problem }
+{
+    let _ = problem.bus_free();
+}
+
+/// The line that refuses a script as a whole.
+fn refused_whole(alloc: Global, fault: ScriptFault) -> Result<Answer, AllocError>
+    ensures { IfOk result (λ a. Refuses fault (answer_of a)) }
+{
+    refused(alloc, Refusal { row: 0, fault })
+}
+
+/// The line that refuses a script for what it sets up.
+fn refused_problem(alloc: Global, fault: ProblemFault) -> Result<Answer, AllocError>
+    ensures { IfOk result (λ a. Refuses (ScriptFault.Problem fault) (answer_of a)) }
+{
+    refused_whole(alloc, ScriptFault::Problem(fault))
+}
+
+/// The answer to what a script sets up.
+fn answer_problem(
+    alloc: Global,
+    command: Command,
+    text: &[u8],
+    setup: &Setup,
+) -> Result<Answer, AllocError>
+    requires limit { IsLimited command }
+    ensures { IfOk result (λ a. AnswersProblem command text.now (problem_of setup.now) (answer_of a)) }
+{
+    let problem = Problem::new(
+        alloc,
+        setup.timing,
+        setup.rules,
+        setup.bus_free,
+        setup.luns.as_slice(),
+        setup.wants.as_slice(),
+    );
+    match problem {
+        Ok(problem) => {
+            keeps_limits(&problem);
+            commanded(alloc, command, text, &problem)
+        }
+        Err(ProblemFault::TooMany) => refused_problem(alloc, ProblemFault::TooMany),
+        Err(ProblemFault::BadLun) => refused_problem(alloc, ProblemFault::BadLun),
+        Err(ProblemFault::Clock) => refused_problem(alloc, ProblemFault::Clock),
+        Err(ProblemFault::Memory) => Err(AllocError),
+    }
+}
+
+/// The answer to rows that are each in order, and that tell of this device.
+fn answer_device(
+    alloc: Global,
+    command: Command,
+    text: &[u8],
+    rows: &[Row],
+    device: &Device,
+) -> Result<Answer, AllocError>
+    requires limit { IsLimited command }
+    requires told { TellsDevice rows.now (Ok device.now) }
+    ensures { IfOk result (λ a. AnswersRows command text.now rows.now (answer_of a)) }
+{
+    if let Some(at) = absent(rows, device.luns) {
+        return refused(
+            alloc,
+            Refusal {
+                row: at as u64 + 1,
+                fault: ScriptFault::OutOfRange,
+            },
+        );
+    }
+    let setup = set_up(alloc, rows, device)?;
+    answer_problem(alloc, command, text, &setup)
+}
+
+/// The answer to rows that are each in order.
+fn answer_rows(
+    alloc: Global,
+    command: Command,
+    text: &[u8],
+    rows: &[Row],
+) -> Result<Answer, AllocError>
+    requires limit { IsLimited command }
+    ensures { IfOk result (λ a. AnswersRows command text.now rows.now (answer_of a)) }
+{
+    match device_of(alloc, rows) {
+        Ok(device) => answer_device(alloc, command, text, rows, &device),
+        Err(RowStop::Fault(fault)) => refused_whole(alloc, fault),
+        Err(RowStop::Memory) => Err(AllocError),
+    }
+}
+
+/// The answer to the records of a script.
+fn answer_records(
+    alloc: Global,
+    command: Command,
+    text: &[u8],
+    records: &[ByteRecord],
+) -> Result<Answer, AllocError>
+    requires limit { IsLimited command }
+    ensures { IfOk result (λ a. AnswersRecords command text.now (map fields_of records.now) (answer_of a)) }
+{
+    match rows(alloc, command, records) {
+        Ok(rows) => answer_rows(alloc, command, text, rows.as_slice()),
+        Err(Stop::Refused(refusal)) => refused(alloc, refusal),
+        Err(Stop::Memory) => Err(AllocError),
+    }
+}
+
+/// The answer to an input.
+fn answer(alloc: Global, command: Command, input: &[u8]) -> Result<Answer, AllocError>
+    requires limit { IsLimited command }
+    ensures { IfOk result (λ a. IsAnswer command input.now (answer_of a)) }
+{
+    let Some(size) = script_len(input) else {
+        return refused_whole(alloc, ScriptFault::NoEnd);
+    };
+    let (script, closed) = input.split_at(size);
+    let Ok(found) = read_records(alloc, script) else {
+        return Err(AllocError);
+    };
+    answer_records(alloc, command, behind_end(closed), found.as_slice())
+}
+
+/// Writes a text, and answers the status that goes with it.
+fn tell<W: Write>(writer: &mut W, text: &[u8], status: u8) -> Result<u8, EngineFault>
+    ensures whole { IfOk result (λ s. (s ≡ status) × Appends (W.contents writer.old) (W.contents writer.new) text.now) }
+    ensures part { IfErr result (λ e. (e ≡ EngineFault.Write) × (n : ℕ) × Appends (W.contents writer.old) (W.contents writer.new) (take n text.now)) }
+{
+    write_text(writer, text)?;
+    Ok(status)
+}
+
+/// Reads all that there is, and writes the answer to it and nothing else.
+///
+/// Answers the exit status of the program: 0 for a plan and for a schedule that is accepted, 1 where the script is
+/// refused, 2 where the plan text or its certificate is, 4 for want of memory, 6 where as many nodes were opened as may
+/// be and the search is not over.
+///
+/// # Errors
+/// `Read` where a read failed or 2^40 reads did not come to the end: nothing was written. `Write` where a write
+/// failed: a beginning of the answer was written.
+pub fn engine<R: Read, W: Write>(
+    alloc: Global,
+    command: Command,
+    reader: &mut R,
+    writer: &mut W,
+) -> Result<u8, EngineFault>
+    requires limit { IsLimited command }
+    ensures answer { IfOk result (λ status. Answers command (R.remaining reader.old) (W.contents writer.old) (W.contents writer.new) status) }
+    ensures unread { result ≡ Err EngineFault.Read → Keeps (W.contents writer.old) (W.contents writer.new) }
+    ensures unwritten { result ≡ Err EngineFault.Write → BeginsAnswer command (R.remaining reader.old) (W.contents writer.old) (W.contents writer.new) }
+{
+    let input = match read_all(alloc, reader) {
+        Ok(input) => input,
+        Err(InputFault::Read) => return Err(EngineFault::Read),
+        Err(InputFault::Memory) => return tell(writer, b"memory\n", 4),
+    };
+    match answer(alloc, command, input.as_slice()) {
+        Ok(answer) => tell(writer, answer.text.as_slice(), answer.status),
+        Err(AllocError) => tell(writer, b"memory\n", 4),
+    }
+}

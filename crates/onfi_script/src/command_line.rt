@@ -1,0 +1,116 @@
+//! The command line.
+ghost use Rattle.std.specs.Prelude.{◌≡◌, ◌≤◌, IfOk, Some, false, map, string_bytes, codes};
+ghost use Rattle.clap.specs.Words.{app_of, first_value, found_of, new_rule, rule_of, subcommand_of, subcommand_rows_of};
+ghost use Rattle.onfi_script.specs.Words as spec;
+ghost use Rattle.onfi_script.specs.Limit.{IsLimited};
+
+use crate::command::Command;
+use crate::field::number;
+use clap::error::ErrorKind;
+use clap::{Arg, ArgAction, ArgMatches, Command as App};
+use std::alloc::{AllocError, Global};
+use thiserror::Error;
+
+/// Why a command line is not taken.
+#[derive(Clone, Copy, Debug, Error)]
+pub enum WordsFault {
+    #[error("the command line is not one of this program")]
+    Refused,
+    #[error("memory was refused")]
+    Memory,
+}
+
+/// The greatest limit of a search, and the one where none is named.
+const MOST: u32 = 1_048_576;
+
+/// `--NAME`
+fn option<'a>(alloc: Global, name: &'a str, action: ArgAction) -> Arg<'a>
+    ensures rule { rule_of result ≡ record (new_rule name.now) { long = Some name.now; action = Some action } }
+    ensures local { result.global ≡ false }
+{
+    Arg::new(alloc, name).long(name).action(action)
+}
+
+/// The program with the command `plan [--limit N] [--trace]`.
+fn with_plan<'a>(alloc: Global) -> Result<App<'a>, AllocError>
+    ensures { IfOk result (λ a. app_of a ≡ spec.with_plan) }
+{
+    let plan = App::new(alloc, "plan").arg(option(alloc, "limit", ArgAction::Set))?;
+    let plan = plan.arg(option(alloc, "trace", ArgAction::SetTrue))?;
+    App::new(alloc, "onfi_sim").subcommand(plan)
+}
+
+/// What the program understands.
+fn app<'a>(alloc: Global) -> Result<App<'a>, AllocError>
+    ensures { IfOk result (λ a. app_of a ≡ spec.app) }
+{
+    let program = with_plan(alloc)?;
+    program.subcommand(App::new(alloc, "check"))
+}
+
+/// A limit in its range, or the greatest where none is named.
+fn limit_of(matches: &ArgMatches<'_>) -> Result<u32, WordsFault>
+    ensures range { IfOk result (λ n. (1 ≤ n) × (n ≤ 1048576)) }
+    ensures value { IfOk result (λ n. spec.IsLimit (first_value (found_of matches.now) (codes "limit")) n) }
+{
+    let Some(text) = matches.get_str("limit") else {
+        return Ok(MOST);
+    };
+    match number(text.as_bytes(), 1, u64::from(MOST)) {
+        Ok(limit) => Ok(limit as u32),
+        Err(_) => Err(WordsFault::Refused),
+    }
+}
+
+/// Whether a trace is asked for.
+fn is_traced(matches: &ArgMatches<'_>) -> bool
+    ensures { result ≡ spec.is_given (first_value (found_of matches.now) (codes "trace")) }
+{
+    match matches.get_str("trace") {
+        Some(text) => text == "true",
+        None => false,
+    }
+}
+
+/// What `clap` finds in the words.
+fn matches_of<'a>(alloc: Global, words: &'a [String]) -> Result<ArgMatches<'a>, WordsFault>
+    ensures { IfOk result (λ m. subcommand_rows_of m ≡ subcommand_of spec.app (map string_bytes words.entry.now)) }
+{
+    let Ok(app) = app(alloc) else {
+        return Err(WordsFault::Memory);
+    };
+    match app.try_get_matches_from(words) {
+        Ok(matches) => Ok(matches),
+        Err(error) => Err(if error.kind() == ErrorKind::OutOfMemory {
+            WordsFault::Memory
+        } else {
+            WordsFault::Refused
+        }),
+    }
+}
+
+/// The command that the words name; the first word is the program's.
+///
+/// # Errors
+/// `Refused` where the words are no command line of the program, a call for help included; `Memory` where a growth
+/// was refused.
+pub fn words<'a>(alloc: Global, words: &'a [String]) -> Result<Command, WordsFault>
+    ensures limit { IfOk result (λ command. IsLimited command) }
+    ensures names { IfOk result (λ command. spec.Name (map string_bytes words.entry.now) command) }
+{
+    let matches = matches_of(alloc, words)?;
+    let Some((name, used)) = matches.subcommand() else {
+        return Err(WordsFault::Refused);
+    };
+    if name == "plan" {
+        let limit = limit_of(used)?;
+        Ok(Command::Plan {
+            limit,
+            trace: is_traced(used),
+        })
+    } else if name == "check" {
+        Ok(Command::Check)
+    } else {
+        Err(WordsFault::Refused)
+    }
+}

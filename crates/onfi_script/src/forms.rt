@@ -1,0 +1,148 @@
+//! The device of a script, in either form.
+ghost use Rattle.std.specs.Prelude.{◌≡◌, ℕ, ◌≤◌, List, IsTrue, IsSomeAnd, IfOk, MatchOption, MatchResult, option_map, Ok, Err, None, false};
+ghost use Rattle.std.specs.List.{list_any};
+ghost use Rattle.onfi_script.specs.Device as spec;
+ghost use Rattle.onfi_script.specs.Seen.{seen};
+ghost use Rattle.onfi_script.specs.Stop.{IfFault};
+ghost use Rattle.onfi_script.specs.Subject.{row_on as spec_row_on};
+
+use crate::device::Device;
+use crate::fault::{RowStop, ScriptFault};
+use crate::row::{Row, ShapeRow, Subject};
+use crate::row_name::Form;
+use crate::seen::Seen;
+use onfi_addr::Geometry;
+use onfi_param::read_page;
+use onfi_timing::{Kind, Sheet, Spans, Timing};
+use std::alloc::{AllocError, Global};
+
+/// The row that settles a subject.
+pub fn row_on(rows: &[Row], subject: Subject) -> Option<&Row>
+    ensures { option_map (λ r. r.now) result ≡ spec_row_on subject rows.now }
+{
+    rows.iter().find(|row| row.settles(subject))
+}
+
+/// The row `shape`.
+fn shape(rows: &[Row]) -> Option<&ShapeRow>
+    ensures { option_map (λ r. r.now) result ≡ spec.shape_in rows.now }
+{
+    match row_on(rows, Subject::Shape) {
+        Some(Row::Shape(shape)) => Some(shape),
+        _ => None,
+    }
+}
+
+/// The lengths of a kind.
+fn spans(rows: &[Row], kind: Kind) -> Option<Spans>
+    ensures { MatchOption result (spec.spans_in kind rows.now ≡ None) (λ spans. IsSomeAnd (spec.spans_in kind rows.now) (λ row. spec.HasLengths row spans)) }
+{
+    match row_on(rows, Subject::Spans(kind)) {
+        Some(Row::Spans(row)) => Some(row.spans()),
+        _ => None,
+    }
+}
+
+/// The lengths of each kind.
+fn timing(rows: &[Row]) -> Option<Timing>
+    ensures { MatchOption result (IsTrue (spec.lacks_spans rows.now)) (λ timing. (spec.lacks_spans rows.now ≡ false) × spec.HasTiming rows.now timing) }
+{
+    let read = spans(rows, Kind::Read)?;
+    let program = spans(rows, Kind::Program)?;
+    let erase = spans(rows, Kind::Erase)?;
+    Some(Timing::new(read, program, erase))
+}
+
+/// The device of a script of the first form.
+fn first_form(rows: &[Row]) -> Result<Device, ScriptFault>
+    ensures { spec.TellsFirst rows.now result }
+{
+    let Some(shape) = shape(rows) else {
+        return Err(ScriptFault::Missing);
+    };
+    let Some(timing) = timing(rows) else {
+        return Err(ScriptFault::Missing);
+    };
+    Ok(Device {
+        luns: shape.luns(),
+        plane_bits: shape.plane_bits(),
+        reads: shape.read(),
+        writes: shape.write(),
+        timing,
+    })
+}
+
+/// Whether there are bytes of the page.
+fn has_page(rows: &[Row]) -> bool
+    ensures { result ≡ list_any spec.is_page rows.now }
+{
+    rows.iter().any(|row| row.is_page())
+}
+
+/// All bytes of the page, joined.
+fn page_bytes(alloc: Global, rows: &[Row]) -> Result<Vec<u8>, AllocError>
+    ensures { IfOk result (λ v. v.items ≡ spec.page_bytes rows.now) }
+{
+    let mut bytes = Vec::new(alloc);
+    for row in rows {
+        bytes.extend_from_slice(row.bytes())?;
+    }
+    Ok(bytes)
+}
+
+/// The device that page and sheet tell of.
+fn described(bytes: &[u8], sheet: &Sheet) -> Result<Device, ScriptFault>
+    ensures { spec.TellsPage bytes.now sheet.now result }
+{
+    let page = match read_page(bytes) {
+        Ok(page) => page,
+        Err(fault) => return Err(ScriptFault::Page(fault)),
+    };
+    let geometry = match Geometry::of(&page) {
+        Ok(geometry) => geometry,
+        Err(fault) => return Err(ScriptFault::Geometry(fault)),
+    };
+    let timing = match Timing::of(&page, &geometry, sheet) {
+        Ok(timing) => timing,
+        Err(fault) => return Err(ScriptFault::Sheet(fault)),
+    };
+    Ok(Device {
+        luns: geometry.lun_count,
+        plane_bits: geometry.plane_address_bits,
+        reads: geometry.multi_plane_reads,
+        writes: geometry.multi_plane_writes,
+        timing,
+    })
+}
+
+/// The device of a script of the second form.
+fn second_form(alloc: Global, rows: &[Row], sheet: &Sheet) -> Result<Device, RowStop>
+    requires { sheet.now ≡ (seen rows.now).sheet }
+    ensures { MatchResult result (λ device. spec.TellsSecond rows.now (Ok device)) (λ stop. IfFault stop (λ fault. spec.TellsSecond rows.now (Err fault))) }
+{
+    if !has_page(rows) {
+        return Err(RowStop::Fault(ScriptFault::Missing));
+    }
+    let Ok(bytes) = page_bytes(alloc, rows) else {
+        return Err(RowStop::Memory);
+    };
+    match described(bytes.as_slice(), sheet) {
+        Ok(device) => Ok(device),
+        Err(fault) => Err(RowStop::Fault(fault)),
+    }
+}
+
+/// The device that the rows tell of.
+pub fn device_of(alloc: Global, rows: &[Row]) -> Result<Device, RowStop>
+    ensures { MatchResult result (λ device. spec.TellsDevice rows.now (Ok device)) (λ stop. IfFault stop (λ fault. spec.TellsDevice rows.now (Err fault))) }
+{
+    let seen = Seen::of(rows);
+    match seen.form {
+        None => Err(RowStop::Fault(ScriptFault::Missing)),
+        Some(Form::First) => match first_form(rows) {
+            Ok(device) => Ok(device),
+            Err(fault) => Err(RowStop::Fault(fault)),
+        },
+        Some(Form::Second) => second_form(alloc, rows, &seen.sheet),
+    }
+}

@@ -1,0 +1,163 @@
+//! The lines of a plan text.
+ghost use Rattle.std.specs.Prelude.{◌≡◌, ◌==◌, ◌+◌, ◌<◌, ◌≤◌, ◌^◌, length, map, find, option_map, IfSome};
+ghost use Rattle.onfi_script.specs.Parts.{parts};
+ghost use Rattle.onfi_script.specs.PlanLine as spec;
+
+use crate::field::is_word;
+use crate::parts::cut;
+use onfi_group::Group;
+use onfi_request::Want;
+use onfi_schedule::{Placed, Starts};
+use onfi_timing::{Kind, read_number};
+use smallvec::SmallVec;
+use std::alloc::Global;
+
+/// A line `rest`: the starts, in ns, of what is left of a LUN's running group.
+#[derive(Drop)]
+pub struct RestLine {
+    /// The number of the LUN, which need not be there.
+    pub lun: u64,
+    pub starts: Starts,
+}
+
+/// A line behind the finish of a plan text.
+#[derive(Drop)]
+pub enum Line {
+    Rest(RestLine),
+    /// A new group.
+    Group(Placed),
+}
+
+/// Whether there are more digits than one, the first a zero.
+fn has_leading_zero(text: &[u8]) -> bool
+    ensures { result ≡ spec.has_leading_zero text.now }
+{
+    text.starts_with(b"0") && text.len() > 1
+}
+
+/// A number below 2^63 in digits, of which the first of several is no zero.
+fn number(text: &[u8]) -> Option<u64>
+    ensures value { result ≡ spec.number text.now }
+    ensures range { IfSome result (λ n. n < 2 ^ 63) }
+{
+    if has_leading_zero(text) {
+        return None;
+    }
+    let value = read_number(text)?;
+    if value < 1 << 63 { Some(value) } else { None }
+}
+
+/// The numbers before the last one, and the last one.
+fn with_last(mut numbers: Starts, last: &[u8]) -> Option<Starts>
+    requires { length numbers < 8 }
+    ensures value { result ≡ spec.and_then (spec.number last.now) (λ n. spec.with_last numbers n) }
+    ensures count { IfSome result (λ ns. length ns ≡ length numbers + 1) }
+{
+    numbers.push(number(last)?);
+    Some(numbers)
+}
+
+/// One number to `most` with such a byte between each two; kept as starts are, in room for eight.
+fn numbers(alloc: Global, text: &[u8], byte: u8, most: u8) -> Option<Starts>
+    requires { most ≤ 8 }
+    ensures value { result ≡ spec.numbers most (parts byte text.now) }
+    ensures count { IfSome result (λ ns. (1 ≤ length ns) × (length ns ≤ most)) }
+{
+    let mut numbers = Starts::new(alloc);
+    let mut left = text;
+    for _at in 0..most {
+        let Some((word, behind)) = cut(left, byte) else {
+            return with_last(numbers, left);
+        };
+        numbers.push(number(word)?);
+        left = behind;
+    }
+    None
+}
+
+/// The want of that number.
+fn find_want(wants: &[Want], id: u64) -> Option<&Want>
+    ensures { option_map (λ w. w.now) result ≡ find (λ w. w.id == id) wants.now }
+{
+    wants.iter().find(|want| want.id == id)
+}
+
+/// The want of that number, else one that no problem with these wants has.
+fn want_named(wants: &[Want], id: u64) -> Want
+    ensures { result ≡ spec.want_named wants.now id }
+{
+    match find_want(wants, id) {
+        Some(want) => *want,
+        None => Want {
+            id,
+            kind: Kind::Read,
+            lun: 0,
+            plane: 0,
+            block: 0,
+            page: 0,
+        },
+    }
+}
+
+/// The group of the wants of these numbers.
+fn members(alloc: Global, wants: &[Want], ids: &[u64]) -> Group
+    requires some { 1 ≤ length ids.now }
+    requires few { length ids.now ≤ 4 }
+    ensures { result ≡ map (spec.want_named wants.now) ids.now }
+{
+    let mut members = SmallVec::<Want, 4>::new(alloc);
+    for id in ids {
+        members.push_reserved(want_named(wants, *id));
+    }
+    Group::of(alloc, members.as_slice())
+}
+
+/// `LUN START ..`
+fn rest_of(alloc: Global, words: &[u8]) -> Option<Line>
+    ensures { result ≡ spec.rest_of (parts 32 words.now) }
+{
+    let (lun, starts) = cut(words, b' ')?;
+    let lun = number(lun)?;
+    let starts = numbers(alloc, starts, b' ', 8)?;
+    Some(Line::Rest(RestLine { lun, starts }))
+}
+
+/// `ID+ID.. START ..`
+fn group_of(alloc: Global, wants: &[Want], words: &[u8]) -> Option<Line>
+    ensures { result ≡ spec.group_of wants.now (parts 32 words.now) }
+{
+    let (ids, starts) = cut(words, b' ')?;
+    let ids = numbers(alloc, ids, b'+', 4)?;
+    let starts = numbers(alloc, starts, b' ', 8)?;
+    let members = members(alloc, wants, ids.as_slice());
+    Some(Line::Group(Placed::new(members, starts)))
+}
+
+/// `rest LUN START ..` or `group ID+ID.. START ..`; a number that no want has stands for one that the problem does not
+/// have.
+pub fn line_of(alloc: Global, wants: &[Want], line: &[u8]) -> Option<Line>
+    ensures { result ≡ spec.line_of wants.now line.now }
+{
+    let (name, words) = cut(line, b' ')?;
+    if is_word(name, "rest") {
+        rest_of(alloc, words)
+    } else if is_word(name, "group") {
+        group_of(alloc, wants, words)
+    } else {
+        None
+    }
+}
+
+/// `finish N`
+pub fn finish_of(line: &[u8]) -> Option<u64>
+    ensures { result ≡ spec.finish_of line.now }
+{
+    let (name, text) = cut(line, b' ')?;
+    if !is_word(name, "finish") {
+        return None;
+    }
+    match cut(text, b' ') {
+        Some(_) => None,
+        None => number(text),
+    }
+}

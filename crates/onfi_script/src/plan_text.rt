@@ -1,0 +1,240 @@
+//! Plan texts: a schedule, its finish, and the text of a certificate behind them.
+ghost use Rattle.std.specs.Prelude.{◌≡◌, ◌==◌, ◌<◌, ◌≤◌, ◌^◌, length, find, option_map, IfOk, IfErr, OnOk, IsTrue, MatchResult, Ok, Err, Some, None};
+ghost use Rattle.std.specs.List.{AllByRecursion as Each};
+ghost use Rattle.onfi_script.specs.Parts.{parts};
+ghost use Rattle.onfi_script.specs.PlanLine.{line_of};
+ghost use Rattle.onfi_script.specs.PlanText as spec;
+ghost use Rattle.onfi_script.specs.Wrong.{IfWrong};
+
+use crate::field::is_word;
+use crate::parts::cut;
+use crate::plan_line::{Line, RestLine, finish_of, line_of};
+use onfi_request::Want;
+use onfi_schedule::{Placed, Schedule, Starts};
+use std::alloc::{AllocError, Global};
+use std::marker::Model;
+
+/// What the lines of a plan text say.
+#[derive(Drop)]
+pub struct Plan {
+    finish: u64,
+    rest: Vec<RestLine>,
+    groups: Vec<Placed>,
+}
+
+impl Model for Plan {
+    ghost use Rattle.std.specs.Prelude.{◌≤◌, length};
+    ghost use Rattle.onfi_script.specs.PlanText.{Plan as Said};
+
+    ghost Value = { Said };
+
+    ghost view = { λ p. record { finish = p.finish; rest = p.rest.items; groups = p.groups.items } };
+
+    ghost invariant = { λ p. (length p.rest.items ≤ 8) × (length p.groups.items ≤ 8) };
+}
+
+/// What stands in the way of reading a plan text.
+#[derive(Clone, Copy)]
+pub enum PlanStop {
+    /// This line, counted from 1, is the first wrong one.
+    Wrong(u64),
+    /// A growth was refused.
+    Memory,
+}
+
+impl Plan {
+    /// A plan of which only the finish is known, in ns.
+    fn new(alloc: Global, finish: u64) -> Plan
+        ensures { result ≡ spec.begun finish }
+    {
+        Plan {
+            finish,
+            rest: Vec::new(alloc),
+            groups: Vec::new(alloc),
+        }
+    }
+
+    /// When the plan says that it ends, in ns.
+    pub fn finish(&self) -> u64
+        ensures { result ≡ self.now.finish }
+    {
+        self.finish
+    }
+
+    /// The number of the line behind those that were read.
+    fn next_number(&self) -> u64
+        ensures { result ≡ spec.next_number self.now }
+    {
+        self.rest.len() as u64 + self.groups.len() as u64 + 3
+    }
+
+    /// Whether each line `rest` is of a LUN below this one.
+    fn rises(&self, lun: u64) -> bool
+        ensures { result ≡ spec.rises self.now lun }
+    {
+        self.rest.as_slice().iter().all(|other| other.lun < lun)
+    }
+
+    /// Whether the line may come next.
+    fn takes(&self, line: &Line) -> bool
+        ensures { result ≡ spec.takes self.now line.now }
+    {
+        match line {
+            Line::Rest(line) => self.rises(line.lun)
+                && self.rest.len() < 8
+                && self.groups.is_empty(),
+            Line::Group(_) => self.groups.len() < 8,
+        }
+    }
+
+    /// Puts a line behind the others.
+    fn put(&mut self, line: Line) -> Result<(), AllocError>
+        requires { IsTrue (spec.takes self.old line) }
+        ensures { OnOk result (self.new ≡ spec.with_line self.old line) }
+    {
+        match line {
+            Line::Rest(line) => self.rest.push(line)?,
+            Line::Group(group) => self.groups.push(group)?,
+        }
+        Ok(())
+    }
+
+    /// Reads the line that comes next, and puts it behind the others.
+    ///
+    /// # Errors
+    /// `Wrong` where it is not of its form or may not come next; `Memory` where a growth was refused.
+    fn read_line(&mut self, alloc: Global, wants: &[Want], line: &[u8]) -> Result<(), PlanStop>
+        ensures read { OnOk result (spec.grown self.old (line_of wants.now line.now) ≡ Some self.new) }
+        ensures wrong { IfErr result (λ stop. IfWrong stop (λ number. (spec.grown self.old (line_of wants.now line.now) ≡ None) × (number ≡ spec.next_number self.old))) }
+    {
+        match line_of(alloc, wants, line) {
+            Some(line) if self.takes(&line) => match self.put(line) {
+                Ok(()) => Ok(()),
+                Err(AllocError) => Err(PlanStop::Memory),
+            },
+            _ => Err(PlanStop::Wrong(self.next_number())),
+        }
+    }
+
+    /// The schedule that the plan says of a problem with so many LUNs.
+    pub fn schedule(self, alloc: Global, luns: usize) -> Result<Schedule, AllocError>
+        ensures { IfOk result (λ s. s ≡ spec.schedule_on luns self) }
+    {
+        let rest = rest_on(alloc, self.rest.as_slice(), luns)?;
+        Ok(Schedule::new(rest, self.groups))
+    }
+}
+
+/// The same starts once more.
+fn copy_of(alloc: Global, starts: &[u64]) -> Starts
+    requires small { Each (λ t. t < 2 ^ 63) starts.now }
+    requires few { length starts.now ≤ 8 }
+    ensures { result ≡ starts.now }
+{
+    let mut copy = Starts::new(alloc);
+    for start in starts {
+        copy.push(*start);
+    }
+    copy
+}
+
+/// The line of a LUN.
+fn line_on(lines: &[RestLine], lun: u64) -> Option<&RestLine>
+    ensures { option_map (λ line. line.now) result ≡ find (λ line. line.lun == lun) lines.now }
+{
+    lines.iter().find(|line| line.lun == lun)
+}
+
+/// The starts of a LUN's line, none where there is no such line.
+fn starts_on(alloc: Global, lines: &[RestLine], lun: u64) -> Starts
+    ensures { result ≡ spec.starts_on lines.now lun }
+{
+    match line_on(lines, lun) {
+        Some(line) => copy_of(alloc, line.starts.as_slice()),
+        None => Starts::new(alloc),
+    }
+}
+
+/// The starts of each LUN.
+fn rests(alloc: Global, lines: &[RestLine], luns: usize) -> Result<Vec<Starts>, AllocError>
+    ensures { IfOk result (λ v. v.items ≡ spec.rests lines.now luns) }
+{
+    let mut rests = Vec::new(alloc);
+    for lun in 0..luns {
+        rests.push(starts_on(alloc, lines, lun as u64))?;
+    }
+    Ok(rests)
+}
+
+/// Whether a line tells of a LUN that isn't there.
+fn names_absent(lines: &[RestLine], luns: usize) -> bool
+    ensures { result ≡ spec.names_absent luns lines.now }
+{
+    lines.iter().any(|line| luns as u64 <= line.lun)
+}
+
+/// The starts of each LUN, and a place more where a line tells of a LUN that isn't there.
+fn rest_on(alloc: Global, lines: &[RestLine], luns: usize) -> Result<Vec<Starts>, AllocError>
+    ensures { IfOk result (λ v. v.items ≡ spec.rest_on luns lines.now) }
+{
+    let mut rest = rests(alloc, lines, luns)?;
+    if names_absent(lines, luns) {
+        rest.push(Starts::new(alloc))?;
+    }
+    Ok(rest)
+}
+
+/// Whether the line begins the text of a certificate.
+fn is_certificate(line: &[u8]) -> bool
+    ensures { result ≡ spec.is_certificate line.now }
+{
+    line.starts_with(b"ONFICERT")
+}
+
+/// The finish that the first two lines of a text tell and what stands behind them, or which of them is wrong.
+fn opening(text: &[u8]) -> Result<(u64, &[u8]), u64>
+    ensures { MatchResult result (λ p. spec.Opens text.now p.0 (parts 10 p.1.now)) (λ number. spec.OpensWrong text.now number) }
+{
+    let Some((head, rest)) = cut(text, b'\n') else {
+        return Err(1);
+    };
+    if !is_word(head, "ONFIPLAN 1") {
+        return Err(1);
+    }
+    let Some((line, behind)) = cut(rest, b'\n') else {
+        return Err(2);
+    };
+    match finish_of(line) {
+        Some(finish) => Ok((finish, behind)),
+        None => Err(2),
+    }
+}
+
+/// What a plan text says of these wants, and the text of its certificate.
+///
+/// # Errors
+/// `Wrong` with the first line that is wrong: not of its form, a `rest` whose LUN doesn't rise or that stands behind a
+/// `group`, the ninth of either, or the one that is missing where the text ends; `Memory` where a growth was refused.
+pub fn read_plan<'a>(
+    alloc: Global,
+    wants: &[Want],
+    text: &'a [u8],
+) -> Result<(Plan, &'a [u8]), PlanStop>
+    ensures { MatchResult result (λ r. spec.plan_of wants.now text.now ≡ Ok (r.0, r.1.now)) (λ stop. IfWrong stop (λ number. spec.plan_of wants.now text.now ≡ Err number)) }
+{
+    let (finish, mut left) = match opening(text) {
+        Ok(opened) => opened,
+        Err(number) => return Err(PlanStop::Wrong(number)),
+    };
+    let mut plan = Plan::new(alloc, finish);
+    while let Some((line, behind)) = cut(left, b'\n') {
+        if is_certificate(line) {
+            return Ok((plan, left));
+        }
+        if let Err(stop) = plan.read_line(alloc, wants, line) {
+            return Err(stop);
+        }
+        left = behind;
+    }
+    Err(PlanStop::Wrong(plan.next_number()))
+}

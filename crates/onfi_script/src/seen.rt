@@ -1,0 +1,44 @@
+ghost use Rattle.std.specs.Prelude.{◌≡◌};
+ghost use Rattle.onfi_script.specs.Seen as spec;
+
+use crate::row::Row;
+use crate::row_name::Form;
+use onfi_timing::Sheet;
+
+/// What the rows so far show of a script.
+#[derive(Clone, Copy)]
+pub struct Seen {
+    /// The form of the script, where a row told it.
+    pub form: Option<Form>,
+    pub sheet: Sheet,
+}
+
+impl Seen {
+    /// What no row shows.
+    pub fn nothing() -> Seen
+        ensures { result ≡ spec.nothing_seen }
+    {
+        Seen {
+            form: None,
+            sheet: Sheet::new(),
+        }
+    }
+
+    /// With one row more.
+    pub fn after(self, row: &Row) -> Seen
+        ensures { result ≡ spec.seen_after self row.now }
+    {
+        Seen {
+            form: self.form.or(row.form()),
+            sheet: row.sheet().unwrap_or(self.sheet),
+        }
+    }
+
+    /// What rows show.
+    pub fn of(rows: &[Row]) -> Seen
+        ensures { result ≡ spec.seen rows.now }
+    {
+        rows.iter()
+            .fold(Seen::nothing(), |seen, row| seen.after(row))
+    }
+}

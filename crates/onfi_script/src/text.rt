@@ -1,0 +1,225 @@
+//! The texts that are written.
+ghost use Rattle.std.specs.Prelude.{◌≡◌, ◌++◌, codes, string_bytes, IfOk, OnOk};
+ghost use Rattle.std.specs.Fmt.{decimal};
+ghost use Rattle.std.specs.List.{flat_map};
+ghost use Rattle.onfi_script.specs.Text as spec;
+ghost use Rattle.onfi_script.specs.AnswerOf.{answer_of};
+
+use crate::fault::Refusal;
+use onfi_cert::CertTextFault;
+use onfi_check::{CertFault, TextFault};
+use onfi_request::Want;
+use onfi_schedule::{Placed, Schedule, Starts};
+use std::alloc::{AllocError, Global};
+
+/// The text that is written, and the status that the program ends with.
+#[derive(Drop)]
+pub struct Answer {
+    pub text: Vec<u8>,
+    pub status: u8,
+}
+
+/// The line that refuses a script.
+pub fn refused(alloc: Global, refusal: Refusal) -> Result<Answer, AllocError>
+    ensures { IfOk result (λ a. answer_of a ≡ spec.refused refusal) }
+{
+    let row = refusal.row;
+    let name = refusal.fault.name();
+    let text = format!(in alloc; "script refused {row} {name}\n")?;
+    Ok(Answer {
+        text: text.into_bytes(),
+        status: 1,
+    })
+}
+
+/// The line of a search that opened as many nodes as it may, and is not over.
+pub fn over(alloc: Global, opened: u32) -> Result<Answer, AllocError>
+    ensures { IfOk result (λ a. answer_of a ≡ spec.over opened) }
+{
+    let text = format!(in alloc; "over {opened}\n")?;
+    Ok(Answer {
+        text: text.into_bytes(),
+        status: 6,
+    })
+}
+
+/// The line that refuses for this reason.
+pub fn refused_for(alloc: Global, reason: &str) -> Result<Answer, AllocError>
+    ensures { IfOk result (λ a. answer_of a ≡ spec.refused_for reason.now) }
+{
+    let text = format!(in alloc; "refused {reason}\n")?;
+    Ok(Answer {
+        text: text.into_bytes(),
+        status: 2,
+    })
+}
+
+/// The line that refuses for this reason, with a place.
+pub fn refused_at(alloc: Global, reason: &str, place: u64) -> Result<Answer, AllocError>
+    ensures { IfOk result (λ a. answer_of a ≡ spec.refused_at reason.now place) }
+{
+    let text = format!(in alloc; "refused {reason} {place}\n")?;
+    Ok(Answer {
+        text: text.into_bytes(),
+        status: 2,
+    })
+}
+
+/// The line of a schedule that ends at `ends`, in ns, and that nothing beats.
+pub fn accepted(alloc: Global, ends: u64) -> Result<Answer, AllocError>
+    ensures { IfOk result (λ a. answer_of a ≡ spec.accepted ends) }
+{
+    let text = format!(in alloc; "accepted {ends}\n")?;
+    Ok(Answer {
+        text: text.into_bytes(),
+        status: 0,
+    })
+}
+
+/// The line that refuses the tokens of a certificate; none where memory was refused.
+fn cert_refused(alloc: Global, fault: CertFault) -> Result<Answer, AllocError>
+    ensures { IfOk result (λ a. answer_of a ≡ spec.cert_refused fault) }
+{
+    match fault {
+        CertFault::Illegal => refused_for(alloc, "1 Illegal"),
+        CertFault::Short => refused_for(alloc, "2 Short"),
+        CertFault::Trailing(place) => refused_at(alloc, "3 Trailing", place as u64),
+        CertFault::Width(place) => refused_at(alloc, "4 Width", place as u64),
+        CertFault::BoundLow(place) => refused_at(alloc, "5 BoundLow", place as u64),
+        CertFault::YieldNoFit(place) => refused_at(alloc, "6 YieldNoFit", place as u64),
+        CertFault::YieldLoop(place) => refused_at(alloc, "7 YieldLoop", place as u64),
+        CertFault::NotEnd(place) => refused_at(alloc, "8 NotEnd", place as u64),
+        CertFault::Memory => Err(AllocError),
+    }
+}
+
+/// The line that refuses a text as no certificate; none where memory was refused.
+fn cert_text_refused(alloc: Global, fault: CertTextFault) -> Result<Answer, AllocError>
+    ensures { IfOk result (λ a. answer_of a ≡ spec.cert_text_refused fault) }
+{
+    match fault {
+        CertTextFault::Header => refused_for(alloc, "cert Header"),
+        CertTextFault::BadToken(place) => refused_at(alloc, "cert BadToken", u64::from(place)),
+        CertTextFault::TooLong => refused_for(alloc, "cert TooLong"),
+        CertTextFault::Memory => Err(AllocError),
+    }
+}
+
+/// The line that refuses the text of a certificate; none where memory was refused.
+pub fn text_refused(alloc: Global, fault: TextFault) -> Result<Answer, AllocError>
+    ensures { IfOk result (λ a. answer_of a ≡ spec.text_refused fault) }
+{
+    match fault {
+        TextFault::Text(fault) => cert_text_refused(alloc, fault),
+        TextFault::Option => refused_for(alloc, "cert Option"),
+        TextFault::Cert(fault) => cert_refused(alloc, fault),
+    }
+}
+
+/// Puts a mark and a number behind a text.
+fn put_number(alloc: Global, text: &mut String, mark: &str, number: u64) -> Result<(), AllocError>
+    ensures { OnOk result (string_bytes text.new ≡ string_bytes text.old ++ (mark.now ++ decimal number)) }
+{
+    let piece = format!(in alloc; "{mark}{number}")?;
+    text.push_str(piece.as_str())
+}
+
+/// Puts numbers behind a text, each behind a space.
+fn put_spaced(alloc: Global, text: &mut String, numbers: &[u64]) -> Result<(), AllocError>
+    ensures { OnOk result (string_bytes text.new ≡ string_bytes text.old ++ spec.spaced numbers.now) }
+{
+    for number in numbers {
+        put_number(alloc, text, " ", *number)?;
+    }
+    Ok(())
+}
+
+/// Puts the numbers of wants behind a text, each behind a plus.
+fn put_joined(alloc: Global, text: &mut String, wants: &[Want]) -> Result<(), AllocError>
+    ensures { OnOk result (string_bytes text.new ≡ string_bytes text.old ++ spec.joined wants.now) }
+{
+    for want in wants {
+        put_number(alloc, text, "+", want.id)?;
+    }
+    Ok(())
+}
+
+/// Puts the numbers of a group's members behind a text.
+fn put_ids(alloc: Global, text: &mut String, members: &[Want]) -> Result<(), AllocError>
+    ensures { OnOk result (string_bytes text.new ≡ string_bytes text.old ++ spec.ids members.now) }
+{
+    let Some((first, rest)) = members.split_first() else {
+        return Ok(());
+    };
+    put_number(alloc, text, "", first.id)?;
+    put_joined(alloc, text, rest)
+}
+
+/// Puts the line of a group behind a text.
+fn put_group(alloc: Global, text: &mut String, group: &Placed) -> Result<(), AllocError>
+    ensures { OnOk result (string_bytes text.new ≡ string_bytes text.old ++ spec.group_line group.now) }
+{
+    text.push_str("group ")?;
+    put_ids(alloc, text, group.members().members())?;
+    put_spaced(alloc, text, group.starts().as_slice())?;
+    text.push_str("\n")
+}
+
+/// Puts the lines of new groups behind a text.
+fn put_groups(alloc: Global, text: &mut String, groups: &[Placed]) -> Result<(), AllocError>
+    ensures { OnOk result (string_bytes text.new ≡ string_bytes text.old ++ flat_map spec.group_line groups.now) }
+{
+    for group in groups {
+        put_group(alloc, text, group)?;
+    }
+    Ok(())
+}
+
+/// Puts the line of a LUN with phases left of a running group behind a text.
+fn put_rest(alloc: Global, text: &mut String, lun: usize, starts: &[u64]) -> Result<(), AllocError>
+    ensures { OnOk result (string_bytes text.new ≡ string_bytes text.old ++ spec.rest_line lun starts.now) }
+{
+    if starts.is_empty() {
+        return Ok(());
+    }
+    put_number(alloc, text, "rest ", lun as u64)?;
+    put_spaced(alloc, text, starts)?;
+    text.push_str("\n")
+}
+
+/// Puts the lines of running groups behind a text.
+fn put_rests(alloc: Global, text: &mut String, rest: &[Starts]) -> Result<(), AllocError>
+    ensures { OnOk result (string_bytes text.new ≡ string_bytes text.old ++ spec.rest_lines 0 rest.now) }
+{
+    for (lun, starts) in rest.iter().enumerate() {
+        put_rest(alloc, text, lun, starts.as_slice())?;
+    }
+    Ok(())
+}
+
+/// The lines of a schedule that ends at `finish`, in ns.
+fn schedule_text(alloc: Global, schedule: &Schedule, finish: u64) -> Result<String, AllocError>
+    ensures { IfOk result (λ t. string_bytes t ≡ spec.schedule_text schedule.now finish) }
+{
+    let mut text = String::new(alloc);
+    text.push_str("ONFIPLAN 1\n")?;
+    put_number(alloc, &mut text, "finish ", finish)?;
+    text.push_str("\n")?;
+    put_rests(alloc, &mut text, schedule.rest())?;
+    put_groups(alloc, &mut text, schedule.groups())?;
+    Ok(text)
+}
+
+/// The text of a schedule that ends at `finish`, in ns, with the text of its certificate behind it.
+pub fn plan_text(
+    alloc: Global,
+    schedule: &Schedule,
+    finish: u64,
+    certificate: &[u8],
+) -> Result<Vec<u8>, AllocError>
+    ensures { IfOk result (λ text. text.items ≡ spec.schedule_text schedule.now finish ++ certificate.now) }
+{
+    let mut text = schedule_text(alloc, schedule, finish)?.into_bytes();
+    text.extend_from_slice(certificate)?;
+    Ok(text)
+}

@@ -1,0 +1,48 @@
+use onfi_script::{Command, WordsFault, words};
+use std::alloc::Global;
+
+fn asked(alloc: Global, line: &str) -> Option<Result<Command, WordsFault>> {
+    let mut given = Vec::new(alloc);
+    for word in line.split(' ') {
+        given.push(String::from_str(alloc, word).ok()?).ok()?;
+    }
+    Some(words(alloc, given.as_slice()))
+}
+
+// Whether a command line asks for a plan within a limit, with or without its trace.
+fn asks_plan(alloc: Global, line: &str, within: u32, traced: bool) -> bool {
+    match asked(alloc, line) {
+        Some(Ok(Command::Plan { limit, trace })) => limit == within && trace == traced,
+        _ => false,
+    }
+}
+
+#[test]
+fn reads_the_command_line(rt: HostRuntime) {
+    let alloc = rt.alloc();
+    assert!(rt; asks_plan(alloc, "onfi_sim plan", 1_048_576, false));
+    assert!(rt; asks_plan(alloc, "onfi_sim plan --limit 7", 7, false));
+    assert!(rt; asks_plan(alloc, "onfi_sim plan --limit 6 --trace", 6, true));
+    assert!(rt; matches!(asked(alloc, "onfi_sim check"), Some(Ok(Command::Check))));
+    let table = "\
+        onfi_sim\n\
+        onfi_sim --limit 7 plan\n\
+        onfi_sim plan --limit 0\n\
+        onfi_sim plan --limit 1048577\n\
+        onfi_sim plan --limit +7\n\
+        onfi_sim plan --limit 7 --limit 7\n\
+        onfi_sim plan extra\n\
+        onfi_sim plan --trace --trace\n\
+        onfi_sim plan --tracer\n\
+        onfi_sim check --trace\n\
+        onfi_sim check --limit 7\n\
+        onfi_sim check extra\n\
+        onfi_sim run\n\
+        onfi_sim --help";
+    for line in table.lines() {
+        assert!(rt;
+            matches!(asked(alloc, line), Some(Err(WordsFault::Refused))),
+            "at {line}"
+        );
+    }
+}

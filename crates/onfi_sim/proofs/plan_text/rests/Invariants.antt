@@ -1,6 +1,0 @@
-use Rattle.std.proofs.Common.{◌≡◌}
-use Rattle.onfi_sim.specs.PlanText.{rests}
-use Rattle.onfi_sim.proofs.plan_text.rests.Given as goal
-
-abbrev pub invariant-loop-lun : goal.invariant-loop-lun
-invariant-loop-lun l = l.rests.items ≡ rests l.lines l.lun

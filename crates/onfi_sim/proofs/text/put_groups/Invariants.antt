@@ -1,7 +1,0 @@
-use Rattle.std.specs.Prelude.{string_bytes}
-use Rattle.onfi_sim.specs.Text.{group_line}
-use Rattle.onfi_sim.proofs.TextLemmas.{Grown}
-use Rattle.onfi_sim.proofs.text.put_groups.Given as goal
-
-abbrev pub invariant-loop-group : goal.invariant-loop-group
-invariant-loop-group l = Grown group_line l.groups l.group-index (string_bytes l.fn.text) (string_bytes l.text)

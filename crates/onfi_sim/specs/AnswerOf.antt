@@ -1,6 +1,0 @@
--- What is told, as an answer.
-use Rattle.onfi_sim.specs.declared.text.Answer.{Answer as Told}
-use Rattle.onfi_sim.specs.Text.{Answer}
-
-abbrev pub answer_of : Told → Answer
-answer_of told = record { text = told.text.items; status = told.status }

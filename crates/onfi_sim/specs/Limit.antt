@@ -1,8 +1,0 @@
--- How many nodes a search may open.
-use Rattle.std.specs.Prelude.{◌≤◌}
-use Rattle.onfi_sim.specs.declared.command.Command.{Command}
-use Rattle.onfi_sim.specs.declared.command.Command.TheVariants.{Plan, Check}
-
-abbrev pub IsLimited : Command → Type 0
-IsLimited (Plan limit trace) = (1 ≤ limit) × (limit ≤ 1048576)
-IsLimited Check = Unit {0}

@@ -1,0 +1,58 @@
+"""What the tests of the tools share: where things stand, stored traces, and runs of the tools."""
+
+from __future__ import annotations
+
+import os
+import shlex
+import subprocess
+import sys
+from pathlib import Path
+from typing import Dict, List, Optional
+
+ROOT = Path(__file__).resolve().parent.parent.parent
+sys.path.insert(0, str(ROOT / "tools"))
+sys.dont_write_bytecode = True
+
+from onfi_tools.script import lengths_of  # noqa: E402
+from onfi_tools.trace import Phase, read_trace  # noqa: E402
+from onfi_tools.device import Spans  # noqa: E402
+
+SCRIPTS = {
+    "batch": "examples/batch.onfi",
+    "diagram": "examples/diagram.onfi",
+    "programs-on-one-plane": "examples/hard/programs-on-one-plane.onfi",
+}
+
+
+def trace_text(name: str) -> str:
+    """What the program printed for that script with `plan --trace`."""
+    return (ROOT / "tests/tools/traces" / f"{name}.trace").read_text()
+
+
+def trace(name: str) -> List[Phase]:
+    return read_trace(trace_text(name).splitlines())
+
+
+def lengths(name: str) -> Dict[str, Spans]:
+    return lengths_of((ROOT / SCRIPTS[name]).read_text())
+
+
+def run_tool(name: str, *words: str, given: str = "") -> "subprocess.CompletedProcess[str]":
+    command = [sys.executable, "-B", str(ROOT / "tools" / name), *words]
+    return subprocess.run(command, input=given, capture_output=True, text=True, cwd=ROOT)
+
+
+def program() -> Optional[str]:
+    """The built program: that of the environment's ONFI_SIM, else bin/onfi_sim; None where there is none."""
+    path = os.environ.get("ONFI_SIM", str(ROOT / "bin/onfi_sim"))
+    return path if os.access(path, os.X_OK) else None
+
+
+def run_program(*words: str, given: str) -> "subprocess.CompletedProcess[str]":
+    return subprocess.run([str(program()), *words], input=given, capture_output=True, text=True)
+
+
+def run_shell(command: str) -> str:
+    """What a command of a page prints, with the built program for `bin/onfi_sim`."""
+    line = command.replace("bin/onfi_sim", shlex.quote(str(program())))
+    return subprocess.run(line, shell=True, capture_output=True, text=True, cwd=ROOT).stdout

@@ -1,0 +1,109 @@
+"""Parameter pages from named fields, phase lengths, and the examples of devices."""
+
+from __future__ import annotations
+
+import unittest
+from pathlib import Path
+from typing import List, Tuple
+
+import support
+from onfi_tools import device
+from onfi_tools.script import lengths_of
+
+EXAMPLES = support.ROOT / "examples"
+WORKED = ("multi_lun=1 multi_plane_writes=1 multi_plane_reads=1 status_enhanced=1 column_enhanced=1 data_bytes=512 "
+          "spare_bytes=16 pages_per_block=64 blocks_per_lun=1000 luns=2 column_cycles=2 row_cycles=3 plane_bits=1 "
+          "tPROG_us=200 tBERS_us=1500 tR_us=25 tCCS_ns=200").split()
+
+
+def page_rows(script: Path) -> List[str]:
+    return [line for line in script.read_text().splitlines() if line.startswith("page,")]
+
+
+def commands_of(page: Path) -> List[Tuple[str, str]]:
+    """The commands of a page (indented, behind `$ `), each with the lines that it prints."""
+    found: List[Tuple[str, str]] = []
+    for line in page.read_text().splitlines():
+        if line.startswith("    $ "):
+            found.append((line[6:], ""))
+        elif line.startswith("    ") and found:
+            found[-1] = (found[-1][0], found[-1][1] + line[4:] + "\n")
+    return found
+
+
+class Pages(unittest.TestCase):
+    def test_check_values(self) -> None:
+        self.assertEqual(device.crc16(b""), 0x4F4E)
+        remainder = 0x4F4E
+        for bit in (int(bit) for byte in b"123456789" for bit in f"{byte:08b}"):
+            carry = remainder >> 15 ^ bit
+            remainder = (remainder << 1 & 0xFFFF) ^ (0x8005 if carry else 0)
+        self.assertEqual(device.crc16(b"123456789"), remainder)
+
+    def test_the_worked_page(self) -> None:
+        ran = support.run_tool("make-page", *WORKED)
+        self.assertEqual(ran.stdout.splitlines(), page_rows(EXAMPLES / "program-by-page.onfi"))
+
+    def test_each_field_is_read_back(self) -> None:
+        for name, field in device.NUMBERS.items():
+            for value in (1, (1 << field.width()) - 1):
+                numbers = device.numbers_of(device.page_of({name: value}, {}))
+                self.assertEqual({other: found for other, found in numbers.items() if found}, {name: value})
+
+    def test_texts(self) -> None:
+        page = device.page_of({}, {"manufacturer": "SOMEBODY", "model": "A MODEL"})
+        self.assertEqual(page[32:44], b"SOMEBODY    ")
+        self.assertEqual(page[44:64], b"A MODEL             ")
+
+    def test_what_does_not_fit_is_told(self) -> None:
+        for word, told in (("luns=256", "luns: 256 is not below 256"), ("plane_bits=16", "not below 16"),
+                           ("lun=2", "lun: no such field"), ("luns=two", "not a number"), ("luns", "not NAME=VALUE"),
+                           ("model=" + 21 * "x", "not 20 printable"), ("wide_bus=2", "not below 2")):
+            ran = support.run_tool("make-page", word)
+            self.assertEqual((ran.returncode, ran.stdout), (1, ""))
+            self.assertIn(told, ran.stderr)
+        self.assertEqual(support.run_tool("make-page", "luns=1", "luns=1").returncode, 1)
+
+    def test_the_first_good_copy_is_taken(self) -> None:
+        one, other = (device.page_of({"luns": luns}, {}) for luns in (1, 2))
+        self.assertEqual(device.first_copy(bytes(256) + one[:-1] + b"\xff" + other), other)
+        for data in (b"", one[:-1], bytes(512)):
+            with self.assertRaises(ValueError):
+                device.first_copy(data)
+
+
+class Lengths(unittest.TestCase):
+    def test_a_page_and_its_sheet_give_the_usual_lengths(self) -> None:
+        self.assertEqual(lengths_of((EXAMPLES / "program-by-page.onfi").read_text()),
+                         lengths_of((EXAMPLES / "batch.onfi").read_text()))
+
+    def test_scripts_without_lengths_are_told(self) -> None:
+        for text in ("shape,1,0,0,0\n", "shape,1,0,0,0\nend\n", "page,4F4E\nend\n",
+                     (EXAMPLES / "program-by-page.onfi").read_text().replace("sheet,tWB,100\n", "")):
+            with self.assertRaises(ValueError):
+                lengths_of(text)
+
+
+class Examples(unittest.TestCase):
+    def test_their_pages_are_those_of_their_fields(self) -> None:
+        for script, fields, copies in (("firmware", "firmware/two-planes", 1), ("test-bench", "firmware/two-planes", 1),
+                                       ("simulator", "simulator/four-planes", 3)):
+            ran = support.run_tool("make-page", "--copies", str(copies), f"@examples/{fields}.fields")
+            self.assertEqual(ran.stdout.splitlines(), page_rows(EXAMPLES / script / "batch.onfi"))
+
+    def test_their_pages_are_short(self) -> None:
+        for page in EXAMPLES.glob("*/README.md"):
+            self.assertLessEqual(len(page.read_text().splitlines()), 10)
+
+    @unittest.skipUnless(support.program(), "no built program")
+    def test_their_commands_print_what_is_written(self) -> None:
+        ran = 0
+        for page in EXAMPLES.glob("*/README.md"):
+            for command, written in commands_of(page):
+                self.assertEqual(support.run_shell(command), written, command)
+                ran += 1
+        self.assertGreaterEqual(ran, 7)
+
+
+if __name__ == "__main__":
+    unittest.main()

@@ -1,0 +1,289 @@
+"""Pictures of traces, read back by readers of this file and held against the traces' own lines."""
+
+from __future__ import annotations
+
+import json
+import re
+import unittest
+import xml.etree.ElementTree as ET
+from typing import Dict, Iterator, List, NamedTuple, Tuple
+
+import support
+from onfi_tools import perfetto, svg, text, vcd
+from onfi_tools.trace import Part, Phase, by_lun, read_trace, stretches
+
+SVG = "{http://www.w3.org/2000/svg}"
+TITLE = re.compile(r"LUN (\d), (\w+), ([a-z ]+)(?:, block (\d+), page (\d+))?: ([\d,]+) to ([\d,]+) ns")
+TEXT_OF_BATCH = """\
+bus    *                         1111111111100000000000000000000000
+LUN 0  c------------------------------------ppppppppppppppppppppppp
+LUN 1  c-------------------------ppppppppppp
+       0                                                   58240 ns
+"""
+
+
+def part_of(phase: Phase) -> Part:
+    return Part.COMMAND if not phase.is_post else Part.OUTPUT if phase.kind == "read" else Part.STATUS
+
+
+def sides_of(element: ET.Element) -> Tuple[float, float]:
+    """About where a text begins and ends."""
+    share = {"start": 0.0, "middle": 0.5, "end": 1.0}[element.attrib["text-anchor"]]
+    size = 5.5 * len(element.text or "")
+    left = float(element.attrib["x"]) - share * size
+    return left, left + size
+
+
+class Traces(unittest.TestCase):
+    def test_a_line_that_is_none_is_named(self) -> None:
+        good = "0 140 0 read cmd 0 0 00 30"
+        for bad in ("over 7", "5 140 0 read cmd 0 0 00", "9 9 0 read cmd 0 0 00 30", "1 2 8 read cmd 0 0 00 30",
+                    "1 2 0 copy cmd 0 0 00 30", "1 2 0 read array 0 0 00 30", "-1 2 0 read cmd 0 0 00 30"):
+            with self.assertRaisesRegex(ValueError, "^line 1: not a line"):
+                read_trace([bad])
+        with self.assertRaisesRegex(ValueError, "^line 2: starts before"):
+            read_trace([good, good])
+
+    def test_stretches_leave_no_hole_within_a_group(self) -> None:
+        for name in support.SCRIPTS:
+            for own in by_lun(support.trace(name)).values():
+                for lengths in (None, support.lengths(name)):
+                    found = stretches(own, 0, lengths)
+                    for one, other in zip(found, found[1:]):
+                        self.assertTrue(one.end == other.start or other.part is Part.COMMAND)
+                        self.assertLessEqual(one.end, other.start)
+
+    def test_array_time_ends_when_it_is_over(self) -> None:
+        first = stretches(by_lun(support.trace("batch"))[0], 0, support.lengths("batch"))
+        told = [(cell.start, cell.end, cell.part) for cell in first]
+        self.assertEqual(told, [
+            (140, 280, Part.COMMAND), (280, 880, Part.GAP), (880, 1020, Part.COMMAND), (1020, 26120, Part.ARRAY),
+            (26120, 36240, Part.WAIT), (36240, 47240, Part.OUTPUT), (47240, 58240, Part.OUTPUT)])
+
+    def test_a_group_that_ran_before_is_told(self) -> None:
+        lun = stretches(by_lun(support.trace("programs-on-one-plane"))[1], 0, None)
+        self.assertEqual([cell.part for cell in lun[:3]], [Part.BEFORE, Part.STATUS, Part.COMMAND])
+
+    @unittest.skipUnless(support.program(), "no built program")
+    def test_the_program_prints_the_stored_traces(self) -> None:
+        for name, path in support.SCRIPTS.items():
+            ran = support.run_program("plan", "--trace", given=(support.ROOT / path).read_text())
+            self.assertEqual(ran.stdout, support.trace_text(name))
+
+
+class Texts(unittest.TestCase):
+    def test_the_picture_of_the_readme(self) -> None:
+        self.assertEqual(text.picture(support.trace("batch"), 60), TEXT_OF_BATCH)
+        indented = "".join("    " + line + "\n" for line in TEXT_OF_BATCH.splitlines())
+        self.assertIn(indented, (support.ROOT / "README.md").read_text())
+
+
+class Drawings(unittest.TestCase):
+    def bars(self, root: ET.Element) -> List[Tuple[float, float, Tuple[str, ...]]]:
+        """Left side, width and what its title tells, of each bar."""
+        found = []
+        for rect in root.iter(SVG + "rect"):
+            title = rect.find(SVG + "title")
+            if title is not None:
+                told = TITLE.fullmatch(title.text or "")
+                assert told
+                found.append((float(rect.attrib["x"]), float(rect.attrib["width"]), told.groups()))
+        return found
+
+    def test_each_phase_is_a_bar_of_the_bus_and_of_its_lun(self) -> None:
+        for name in support.SCRIPTS:
+            phases = support.trace(name)
+            bars = self.bars(ET.fromstring(svg.picture(phases, support.lengths(name), 960, True)))
+            told = [bar[2] for bar in bars if bar[2][3] is not None]
+            asked = [(str(phase.lun), phase.kind, part_of(phase).value, str(phase.block), str(phase.page),
+                      f"{phase.start:,}", f"{phase.end:,}") for phase in phases]
+            self.assertEqual(sorted(told), sorted(asked + asked))
+
+    def test_bars_lie_at_their_times(self) -> None:
+        phases = support.trace("diagram")
+        room = 800 - svg.LEFT - svg.RIGHT
+        for x, width, told in self.bars(ET.fromstring(svg.picture(phases, None, 800, False))):
+            start, end = (int(time.replace(",", "")) for time in told[5:7])
+            self.assertAlmostEqual(x, svg.LEFT + start * room / 5650, delta=0.01)
+            self.assertAlmostEqual(width, (end - start) * room / 5650, delta=0.02)
+
+    def test_solid_colours_differ_in_grey(self) -> None:
+        greys = []
+        for fill in svg.FILLS.values():
+            if fill.startswith("#"):
+                red, green, blue = (int(fill[at : at + 2], 16) for at in (1, 3, 5))
+                greys.append(0.299 * red + 0.587 * green + 0.114 * blue)
+        self.assertEqual(greys, sorted(greys))
+        self.assertTrue(all(behind - before > 40 for before, behind in zip(greys, greys[1:])))
+
+    def test_names_lie_within_the_drawing_and_beside_each_other(self) -> None:
+        late = [phase._replace(start=phase.start + 2**62 - 99999, end=phase.end + 2**62 - 99999)
+                for phase in support.trace("batch")]
+        drawn = [svg.picture(support.trace(name), support.lengths(name), width, name != "batch")
+                 for name in support.SCRIPTS for width in (svg.LEAST_WIDTH, 960)]
+        for drawing in drawn + [svg.picture(late, None, 960, True)]:
+            root = ET.fromstring(drawing)
+            lines: Dict[str, List[Tuple[float, float]]] = {}
+            for element in root.iter(SVG + "text"):
+                left, right = sides_of(element)
+                self.assertTrue(0 <= left and right <= float(root.attrib["width"]), element.text)
+                lines.setdefault(element.attrib["y"], []).append((left, right))
+            for line in lines.values():
+                line.sort()
+                self.assertTrue(all(one[1] <= other[0] for one, other in zip(line, line[1:])), line)
+
+    def test_the_pictures_of_the_documents(self) -> None:
+        for name, width, labels in (("batch", 960, False), ("diagram", 800, True)):
+            drawn = svg.picture(support.trace(name), support.lengths(name), width, labels)
+            self.assertEqual((support.ROOT / "docs/pictures" / f"{name}.svg").read_text(), drawn)
+
+    def test_the_diagram_names_all_parts(self) -> None:
+        root = ET.fromstring((support.ROOT / "docs/pictures/diagram.svg").read_text())
+        names = [element.text for element in root.iter(SVG + "text")]
+        for name in ("command", "gap", "array time", "wait for the bus", "data output", "status"):
+            self.assertGreaterEqual(names.count(name), 2, name)
+
+    def test_a_trace_without_phases(self) -> None:
+        self.assertEqual(self.bars(ET.fromstring(svg.picture([], None, 960, True))), [])
+
+
+class Change(NamedTuple):
+    time: int
+    signal: str
+    value: str
+
+
+def read_vcd(dump: str) -> Tuple[Dict[str, Tuple[str, int]], List[Change]]:
+    """Names and bits of the variables by key, and all changes in order; an AssertionError where it is no dump."""
+    words = iter(dump.split())
+    variables: Dict[str, Tuple[str, int]] = {}
+    scopes: List[str] = []
+    for word in words:
+        body = list(iter(lambda: next(words), "$end"))
+        if word == "$var":
+            assert body[0] == "wire" and body[2] not in variables and (body[1] == "1") == (len(body) == 4), body
+            variables[body[2]] = (".".join(scopes + [body[3]]), int(body[1]))
+        elif word == "$scope":
+            scopes.append(body[1])
+        elif word == "$upscope":
+            scopes.pop()
+        elif word == "$enddefinitions":
+            break
+        else:
+            assert word in ("$comment", "$timescale"), word
+    assert not scopes
+    return variables, list(changes_of(words, variables))
+
+
+def changes_of(words: Iterator[str], variables: Dict[str, Tuple[str, int]]) -> Iterator[Change]:
+    time = -1
+    for word in words:
+        if word.startswith("#"):
+            assert int(word[1:]) > time
+            time = int(word[1:])
+        elif word not in ("$dumpvars", "$end"):
+            value, key = (word[1:], next(words)) if word[0] == "b" else (word[0], word[1:])
+            name, bits = variables[key]
+            assert time >= 0 and len(value) == bits and set(value) <= set("01xz"), word
+            yield Change(time, name, value)
+
+
+def value_at(changes: List[Change], signal: str, time: int) -> str:
+    return [change.value for change in changes if change.signal == signal and change.time <= time][-1]
+
+
+class Dumps(unittest.TestCase):
+    def test_each_phase_has_the_bus_and_its_lun(self) -> None:
+        for name in support.SCRIPTS:
+            phases = support.trace(name)
+            _, changes = read_vcd(vcd.picture(phases, support.lengths(name)))
+            for phase in phases:
+                for time in (phase.start, phase.end - 1):
+                    self.assertEqual(value_at(changes, "channel.bus_owner", time), f"{phase.lun:03b}")
+                    code = vcd.CODES[part_of(phase)]
+                    self.assertEqual(value_at(changes, f"channel.lun{phase.lun}.phase", time), f"{code:03b}")
+                    self.assertEqual(value_at(changes, f"channel.lun{phase.lun}.ready", time), "1")
+
+    def test_the_bus_is_nobodys_between_phases(self) -> None:
+        for name in support.SCRIPTS:
+            phases = support.trace(name)
+            _, changes = read_vcd(vcd.picture(phases, None))
+            starts = {phase.start for phase in phases}
+            for end in {phase.end for phase in phases} - starts:
+                self.assertEqual(value_at(changes, "channel.bus_owner", end), "zzz")
+
+    def test_ready_falls_for_gap_and_array_time(self) -> None:
+        _, changes = read_vcd(vcd.picture(support.trace("batch"), support.lengths("batch")))
+        told = [(change.time, change.value) for change in changes if change.signal == "channel.lun0.ready"]
+        self.assertEqual(told, [(0, "1"), (280, "0"), (880, "1"), (1020, "0"), (26120, "1")])
+
+    def test_what_the_trace_does_not_tell_is_unknown(self) -> None:
+        _, changes = read_vcd(vcd.picture(support.trace("programs-on-one-plane"), None))
+        self.assertEqual(value_at(changes, "channel.lun1.ready", 0), "x")
+        self.assertEqual(value_at(changes, "channel.lun1.phase", 0), "xxx")
+
+    def test_no_change_is_told_twice(self) -> None:
+        _, changes = read_vcd(vcd.picture(support.trace("batch"), None))
+        for signal in {change.signal for change in changes}:
+            values = [change.value for change in changes if change.signal == signal]
+            self.assertTrue(all(one != other for one, other in zip(values, values[1:])))
+
+    def test_a_trace_without_phases(self) -> None:
+        _, changes = read_vcd(vcd.picture([], None))
+        self.assertEqual(changes, [Change(0, "channel.bus_owner", "zzz")])
+
+
+class Events(unittest.TestCase):
+    def test_the_bus_track_is_the_trace(self) -> None:
+        for name in support.SCRIPTS:
+            phases = support.trace(name)
+            told = json.loads(perfetto.picture(phases, support.lengths(name)))
+            self.assertEqual(told["displayTimeUnit"], "ns")
+            bus = [event for event in told["traceEvents"] if event["ph"] == "X" and event["tid"] == perfetto.BUS]
+            self.assertEqual([(event["args"]["start"], event["args"]["end"], event["args"]["opener"]) for event in bus],
+                             [(phase.start, phase.end, phase.opener) for phase in phases])
+
+    def test_fields_and_times(self) -> None:
+        for name in support.SCRIPTS:
+            events = json.loads(perfetto.picture(support.trace(name), None))["traceEvents"]
+            tracks = {event["tid"] for event in events if event["name"] == "thread_name"}
+            for event in events:
+                self.assertIn(event["ph"], ("M", "X"))
+                self.assertIn(event["tid"], tracks | {0})
+                if event["ph"] == "X":
+                    self.assertEqual(round(event["ts"] * 1000), event["args"]["start"])
+                    self.assertEqual(round(event["dur"] * 1000), event["args"]["end"] - event["args"]["start"])
+
+    def test_events_of_a_track_do_not_overlap(self) -> None:
+        events = json.loads(perfetto.picture(support.trace("batch"), support.lengths("batch")))["traceEvents"]
+        for track in (1, 2, 3):
+            own = [event["args"] for event in events if event["ph"] == "X" and event["tid"] == track]
+            self.assertGreater(len(own), 2)
+            self.assertTrue(all(one["end"] <= other["start"] for one, other in zip(own, own[1:])))
+
+
+class Commands(unittest.TestCase):
+    def test_each_form_by_the_command(self) -> None:
+        given = support.trace_text("batch")
+        script = str(support.ROOT / "examples/batch.onfi")
+        self.assertEqual(support.run_tool("draw-trace", "60", given=given).stdout, TEXT_OF_BATCH)
+        phases, lengths = support.trace("batch"), support.lengths("batch")
+        drawn = {"svg": svg.picture(phases, lengths, 960, False), "vcd": vcd.picture(phases, lengths),
+                 "perfetto": perfetto.picture(phases, lengths)}
+        for form, asked in drawn.items():
+            ran = support.run_tool("draw-trace", "--as", form, "--script", script, given=given)
+            self.assertEqual(ran.stdout, asked)
+
+    def test_what_is_no_trace_is_told(self) -> None:
+        ran = support.run_tool("draw-trace", given="over 7\n")
+        self.assertEqual((ran.returncode, ran.stdout), (1, ""))
+        self.assertEqual(ran.stderr, "draw-trace: line 1: not a line of a trace: over 7\n")
+
+    def test_a_script_without_lengths_is_told(self) -> None:
+        ran = support.run_tool("draw-trace", "--script", "README.md", given=support.trace_text("batch"))
+        self.assertEqual((ran.returncode, ran.stdout), (1, ""))
+        self.assertIn("no line `end`", ran.stderr)
+
+
+if __name__ == "__main__":
+    unittest.main()

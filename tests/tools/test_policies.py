@@ -1,0 +1,129 @@
+"""The plain policies of tools/worth: worked schedules, and legality by a checker of this file."""
+
+from __future__ import annotations
+
+import random
+import unittest
+from typing import Dict, List, Tuple
+
+import support
+from onfi_tools.device import Spans
+from onfi_tools.policies import (Device, Group, Planned, Policy, Want, first_in_first_out, is_group, round_robin,
+                                 round_robin_commands_first, script_of)
+
+WAYS: Tuple[Policy, ...] = (first_in_first_out, round_robin, round_robin_commands_first)
+USUAL = {"read": Spans(140, 600, 25100, 11000), "program": Spans(10800, 600, 200100, 280),
+         "erase": Spans(100, 600, 1500100, 280)}
+
+
+def phases_of(group: Group) -> List[Tuple[int, int, int]]:
+    """Start, end and the wait that stands before it, of each phase."""
+    size, spans = len(group.members), group.spans
+    lengths = [spans.cmd] * size + [spans.post] * size
+    waits = [0] + [spans.gap] * (size - 1) + [spans.array] + [0] * (size - 1)
+    return [(start, start + length, wait) for start, length, wait in zip(group.starts, lengths, waits)]
+
+
+def faults(device: Device, wants: List[Want], planned: Planned) -> List[str]:
+    """The conditions of a legal schedule that this one breaks, on an idle device."""
+    found = []
+    numbers = sorted(want.number for group in planned.groups for want in group.members)
+    if numbers != [want.number for want in wants]:
+        found.append("each request in one group")
+    runs = [phases_of(group) for group in planned.groups]
+    if any(len(run) != 2 * len(group.members) for run, group in zip(runs, planned.groups)):
+        found.append("a start for each phase")
+    bus = sorted(phase for run in runs for phase in run)
+    if any(one[1] > other[0] for one, other in zip(bus, bus[1:])):
+        found.append("no overlap on the bus")
+    if any(one[1] + other[2] > other[0] for run in runs for one, other in zip(run, run[1:])):
+        found.append("waits")
+    if not all(is_group(device, group.members) for group in planned.groups):
+        found.append("groups")
+    return found + faults_of_order(planned, runs)
+
+
+def faults_of_order(planned: Planned, runs: List[List[Tuple[int, int, int]]]) -> List[str]:
+    found = []
+    spans = [(group, run[0][0], run[-1][1]) for group, run in zip(planned.groups, runs)]
+    for one, begin, end in spans:
+        for other, later, _ in spans:
+            if one is not other and one.members[0].lun == other.members[0].lun and begin <= later < end:
+                found.append("one group of a LUN at a time")
+            before = [(a, b) for a in one.members for b in other.members
+                      if (a.lun, a.block) == (b.lun, b.block) and a.number < b.number]
+            if before and end > later:
+                found.append("order on a block")
+    return found
+
+
+def drawn(rng: random.Random) -> Tuple[Device, List[Want]]:
+    lengths = {kind: Spans(*(rng.randint(low, 60) for low in (1, 0, 0, 1))) for kind in USUAL}
+    device = Device(rng.randint(1, 8), rng.randint(0, 2), rng.random() < 0.7, rng.random() < 0.7, lengths)
+    wants = []
+    for number in range(rng.randint(0, 8)):
+        kind = rng.choice(("read", "program", "erase"))
+        page = 0 if kind == "erase" else rng.randrange(2)
+        wants.append(Want(number, kind, rng.randrange(device.luns), rng.randrange(6), page))
+    return device, wants
+
+
+class Worked(unittest.TestCase):
+    device = Device(2, 1, True, True, USUAL)
+    wants = [Want(0, "read", 0, 0, 0), Want(1, "read", 0, 1, 0), Want(2, "read", 1, 0, 0)]
+
+    def starts(self, planned: Planned) -> Dict[str, List[int]]:
+        return {group.line().split()[1]: group.starts for group in planned.groups}
+
+    def test_first_in_first_out_waits_for_the_next_request_in_order(self) -> None:
+        planned = first_in_first_out(self.device, self.wants)
+        self.assertEqual(self.starts(planned), {"0": [0, 25240], "1": [36240, 61480], "2": [36380, 72480]})
+        self.assertEqual(planned.finish, 83480)
+
+    def test_round_robin_starts_the_largest_group_and_goes_on(self) -> None:
+        planned = round_robin(self.device, self.wants)
+        self.assertEqual(self.starts(planned), {"0+1": [0, 740, 36380, 47380], "2": [140, 25380]})
+        self.assertEqual(planned.finish, 58380)
+
+    def test_commands_first_changes_who_has_the_bus(self) -> None:
+        device = Device(2, 1, True, True, {**USUAL, "read": Spans(10, 0, 5, 100)})
+        wants = [Want(0, "read", 0, 0, 0), Want(1, "read", 1, 0, 0), Want(2, "read", 1, 1, 0)]
+        one, other = round_robin(device, wants), round_robin_commands_first(device, wants)
+        self.assertEqual(self.starts(one), {"0": [0, 20], "1+2": [10, 120, 135, 235]})
+        self.assertEqual(self.starts(other), {"0": [0, 30], "1+2": [10, 20, 130, 230]})
+
+    def test_the_text_of_a_plan(self) -> None:
+        text = "ONFIPLAN 1\nfinish 58380\ngroup 0+1 0 740 36380 47380\ngroup 2 140 25380\nONFICERT 1\nX\n"
+        self.assertEqual(round_robin(self.device, self.wants).text(), text)
+        self.assertEqual(script_of(self.device, self.wants), (support.ROOT / "examples/batch.onfi").read_text())
+
+
+class Legal(unittest.TestCase):
+    def test_all_ways_on_drawn_batches(self) -> None:
+        rng = random.Random(7)
+        for _ in range(500):
+            device, wants = drawn(rng)
+            for way in WAYS:
+                planned = way(device, wants)
+                ends = [phase[1] for group in planned.groups for phase in phases_of(group)]
+                self.assertEqual(faults(device, wants, planned), [])
+                self.assertEqual(planned.finish, max(ends, default=0))
+
+    def test_the_checker_of_this_file_sees_faults(self) -> None:
+        device, wants = Worked.device, Worked.wants
+        for at, start, fault in ((1, 700, "waits"), (2, 30000, "no overlap on the bus")):
+            planned = round_robin(device, wants)
+            planned.groups[0].starts[at] = start
+            self.assertIn(fault, faults(device, wants, planned))
+        planned = round_robin(device, wants)
+        self.assertIn("each request in one group", faults(device, wants + [Want(3, "read", 1, 1, 0)], planned))
+
+    @unittest.skipUnless(support.program(), "no built program")
+    def test_the_measurement(self) -> None:
+        ran = support.run_tool("worth", str(support.program()), "--scripts", "20", "--check", "20", "--limit", "20000")
+        self.assertEqual((ran.returncode, ran.stderr), (0, ""))
+        self.assertIn("60 schedules of the ways judged legal", ran.stdout)
+
+
+if __name__ == "__main__":
+    unittest.main()

@@ -1,0 +1,1 @@
+"""What several tools share: parameter pages, scripts, traces, pictures and plain policies."""

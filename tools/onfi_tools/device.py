@@ -1,0 +1,155 @@
+"""Parameter pages from named fields and back, and the phase lengths that a page and a timing sheet give."""
+
+from __future__ import annotations
+
+from typing import Dict, Iterator, List, Mapping, NamedTuple, Optional, Tuple
+
+KINDS = ("read", "program", "erase")
+COPY = 256
+SIGNATURE = b"ONFI"
+FIRST_REMAINDER = 0x4F4E
+POLYNOMIAL = 0x8005
+SHEET = ("tWC", "tRC", "tADL", "tWHR", "tRHW", "tWB", "tPLRBSY", "tPLPBSY", "tPLEBSY")
+SHORT_BUSY = {"read": "tPLRBSY", "program": "tPLPBSY", "erase": "tPLEBSY"}
+ARRAY_MICROSECONDS = {"read": "tR_us", "program": "tPROG_us", "erase": "tBERS_us"}
+
+
+class Field(NamedTuple):
+    """Where a number stands in a copy: its first byte, how many bytes, its lowest bit there, how many bits."""
+
+    byte: int
+    bytes: int
+    low: int = 0
+    bits: Optional[int] = None
+
+    def width(self) -> int:
+        return 8 * self.bytes - self.low if self.bits is None else self.bits
+
+
+NUMBERS: Dict[str, Field] = {
+    "wide_bus": Field(6, 2, 0, 1),
+    "multi_lun": Field(6, 2, 1, 1),
+    "any_page_order": Field(6, 2, 2, 1),
+    "multi_plane_writes": Field(6, 2, 3, 1),
+    "multi_plane_reads": Field(6, 2, 6, 1),
+    "status_enhanced": Field(8, 2, 3, 1),
+    "column_enhanced": Field(8, 2, 6, 1),
+    "data_bytes": Field(80, 4),
+    "spare_bytes": Field(84, 2),
+    "pages_per_block": Field(92, 4),
+    "blocks_per_lun": Field(96, 4),
+    "luns": Field(100, 1),
+    "column_cycles": Field(101, 1, 4, 4),
+    "row_cycles": Field(101, 1, 0, 4),
+    "plane_bits": Field(113, 1, 0, 4),
+    "tPROG_us": Field(133, 2),
+    "tBERS_us": Field(135, 2),
+    "tR_us": Field(137, 2),
+    "tCCS_ns": Field(139, 2),
+}
+TEXTS: Dict[str, Tuple[int, int]] = {"manufacturer": (32, 12), "model": (44, 20)}
+
+
+class Spans(NamedTuple):
+    """The lengths of a kind in ns, in the order of a `spans` row."""
+
+    cmd: int
+    gap: int
+    array: int
+    post: int
+
+
+def crc16(data: bytes) -> int:
+    """The check value of a copy's first 254 bytes: high bit first, no reflection, no final exclusive or."""
+    remainder = FIRST_REMAINDER
+    for byte in data:
+        remainder = crc_behind(remainder, byte)
+    return remainder
+
+
+def crc_behind(remainder: int, byte: int) -> int:
+    remainder ^= byte << 8
+    for _ in range(8):
+        remainder = (remainder << 1) ^ (POLYNOMIAL if remainder & 0x8000 else 0)
+        remainder &= 0xFFFF
+    return remainder
+
+
+def page_of(numbers: Mapping[str, int], texts: Mapping[str, str]) -> bytes:
+    """One copy of the parameter page with these fields, all others 0. ValueError tells what doesn't fit."""
+    page = bytearray(COPY)
+    page[0:4] = SIGNATURE
+    for name, value in numbers.items():
+        put_number(page, name, value)
+    for name, text in texts.items():
+        put_text(page, name, text)
+    page[254:256] = crc16(bytes(page[:254])).to_bytes(2, "little")
+    return bytes(page)
+
+
+def put_number(page: bytearray, name: str, value: int) -> None:
+    if name not in NUMBERS:
+        raise ValueError(f"{name}: no such field")
+    field = NUMBERS[name]
+    if not 0 <= value < 1 << field.width():
+        raise ValueError(f"{name}: {value} is not below {1 << field.width()}")
+    place = slice(field.byte, field.byte + field.bytes)
+    page[place] = (int.from_bytes(page[place], "little") | value << field.low).to_bytes(field.bytes, "little")
+
+
+def put_text(page: bytearray, name: str, text: str) -> None:
+    if name not in TEXTS:
+        raise ValueError(f"{name}: no such field")
+    first, size = TEXTS[name]
+    if not text.isascii() or not text.isprintable() or len(text) > size:
+        raise ValueError(f"{name}: not {size} printable ASCII characters or fewer")
+    page[first : first + size] = text.ljust(size).encode("ascii")
+
+
+def numbers_of(page: bytes) -> Dict[str, int]:
+    """The numbers of one copy, by name."""
+    found = {}
+    for name, field in NUMBERS.items():
+        whole = int.from_bytes(page[field.byte : field.byte + field.bytes], "little")
+        found[name] = whole >> field.low & (1 << field.width()) - 1
+    return found
+
+
+def first_copy(data: bytes) -> bytes:
+    """The first copy with two right signature bytes and the right CRC; ValueError where there is none."""
+    for copy in copies_of(data):
+        right = sum(one == other for one, other in zip(copy, SIGNATURE))
+        if right >= 2 and crc16(copy[:254]) == int.from_bytes(copy[254:], "little"):
+            return copy
+    raise ValueError("no copy of the parameter page has its signature and its CRC")
+
+
+def copies_of(data: bytes) -> Iterator[bytes]:
+    return (data[at : at + COPY] for at in range(0, len(data) - COPY + 1, COPY))
+
+
+def hex_rows(data: bytes) -> List[str]:
+    """`page` rows of a script, 32 bytes each."""
+    return ["page," + data[at : at + 32].hex().upper() for at in range(0, len(data), 32)]
+
+
+def spans_of(page: Mapping[str, int], sheet: Mapping[str, int]) -> Dict[str, Spans]:
+    """The phase lengths of each kind, in ns; the waits of a phase are laid end to end."""
+    cycles = 2 + page["column_cycles"] + page["row_cycles"]
+    size = page["data_bytes"] + page["spare_bytes"]
+    output = cycles * sheet["tWC"] + page["tCCS_ns"] + size * sheet["tRC"] + sheet["tRHW"]
+    status = (1 + page["row_cycles"]) * sheet["tWC"] + sheet["tWHR"] + sheet["tRC"] + sheet["tRHW"]
+    commands = {
+        "read": cycles * sheet["tWC"],
+        "program": cycles * sheet["tWC"] + sheet["tADL"] + size * sheet["tWC"],
+        "erase": (2 + page["row_cycles"]) * sheet["tWC"],
+    }
+    return {
+        kind: Spans(
+            commands[kind],
+            sheet["tWB"] + sheet[SHORT_BUSY[kind]],
+            sheet["tWB"] + 1000 * page[ARRAY_MICROSECONDS[kind]],
+            output if kind == "read" else status,
+        )
+        for kind in KINDS
+    }

@@ -1,0 +1,62 @@
+"""A trace in the Trace Event Format, the form that the viewers of Perfetto and Chrome read."""
+
+from __future__ import annotations
+
+import json
+from typing import Any, Dict, List, Mapping, Optional
+
+from onfi_tools.device import Spans
+from onfi_tools.trace import Part, Phase, Stretch, by_lun, on_the_bus, stretches
+
+CHANNEL = 1
+BUS = 1
+FIRST_LUN = 2
+
+Event = Dict[str, Any]
+
+
+def picture(phases: List[Phase], lengths: Optional[Mapping[str, Spans]]) -> str:
+    """The JSON: a track for the bus and each LUN, one event for each stretch. Its times are microseconds; the
+    arguments `start` and `end` are ns."""
+    luns = by_lun(phases)
+    events = [named("process_name", 0, "ONFI channel"), named("thread_name", BUS, "bus")]
+    events += [named("thread_name", FIRST_LUN + lun, f"LUN {lun}") for lun in luns]
+    events += [ordered(BUS)] + [ordered(FIRST_LUN + lun) for lun in luns]
+    events += [bus_event(phase) for phase in phases]
+    for own in luns.values():
+        events += [lun_event(stretch) for stretch in stretches(own, 0, lengths)]
+    return json.dumps({"displayTimeUnit": "ns", "traceEvents": events}, indent=1) + "\n"
+
+
+def named(what: str, track: int, name: str) -> Event:
+    return {"ph": "M", "name": what, "pid": CHANNEL, "tid": track, "args": {"name": name}}
+
+
+def ordered(track: int) -> Event:
+    return {"ph": "M", "name": "thread_sort_index", "pid": CHANNEL, "tid": track, "args": {"sort_index": track}}
+
+
+def timed(track: int, start: int, end: int, name: str, arguments: Mapping[str, Any]) -> Event:
+    return {
+        "ph": "X",
+        "name": name,
+        "cat": "onfi",
+        "pid": CHANNEL,
+        "tid": track,
+        "ts": start / 1000,
+        "dur": (end - start) / 1000,
+        "args": {"start": start, "end": end, **arguments},
+    }
+
+
+def bus_event(phase: Phase) -> Event:
+    stretch = on_the_bus(phase)
+    name = f"LUN {phase.lun} {phase.kind} {stretch.part.value}"
+    bytes_ = {"opener": phase.opener, "closer": phase.closer}
+    return timed(BUS, phase.start, phase.end, name, {"block": phase.block, "page": phase.page, **bytes_})
+
+
+def lun_event(stretch: Stretch) -> Event:
+    name = stretch.part.value if stretch.part in (Part.WAIT, Part.BEFORE) else f"{stretch.kind} {stretch.part.value}"
+    place = {} if stretch.block is None else {"block": stretch.block, "page": stretch.page}
+    return timed(FIRST_LUN + stretch.lun, stretch.start, stretch.end, name, place)

@@ -1,0 +1,194 @@
+"""Plain ways to keep a bus busy, as schedules of a batch on an idle device."""
+
+from __future__ import annotations
+
+from typing import Callable, Dict, List, Mapping, NamedTuple, Optional, Sequence, Tuple
+
+from onfi_tools.device import KINDS, Spans
+
+
+class Device(NamedTuple):
+    """LUNs, plane address bits, may reads and may programs and erases run as one on several planes, lengths in ns."""
+
+    luns: int
+    plane_bits: int
+    group_reads: bool
+    group_writes: bool
+    lengths: Mapping[str, Spans]
+
+    def plane(self, block: int) -> int:
+        return block % (1 << self.plane_bits)
+
+    def may_group(self, kind: str) -> bool:
+        return self.group_reads if kind == "read" else self.group_writes
+
+    def rows(self) -> List[str]:
+        flags = f"{int(self.group_reads)},{int(self.group_writes)}"
+        spans = [f"spans,{kind}," + ",".join(map(str, self.lengths[kind])) for kind in KINDS]
+        return [f"shape,{self.luns},{self.plane_bits},{flags}"] + spans
+
+
+class Want(NamedTuple):
+    number: int
+    kind: str
+    lun: int
+    block: int
+    page: int
+
+    def row(self) -> str:
+        return f"want,{self.kind},{self.lun},{self.block},{self.page}"
+
+
+class Group:
+    """Requests that run as one, with the starts that their phases have got so far, and what the LUN waits for."""
+
+    def __init__(self, members: Sequence[Want], lengths: Mapping[str, Spans]) -> None:
+        self.members = list(members)
+        self.spans = lengths[members[0].kind]
+        self.starts: List[int] = []
+        self.ready = 0
+
+    def place(self, start: int) -> int:
+        """Places the next phase; gives its end, and keeps from when on the one behind it may start."""
+        size = len(self.members)
+        done = len(self.starts)
+        end = start + (self.spans.cmd if done < size else self.spans.post)
+        wait = self.spans.gap if done < size - 1 else self.spans.array if done == size - 1 else 0
+        self.starts.append(start)
+        self.ready = end + wait
+        return end
+
+    def posts(self) -> bool:
+        """Whether the next phase is a post."""
+        return len(self.starts) >= len(self.members)
+
+    def is_over(self) -> bool:
+        return len(self.starts) == 2 * len(self.members)
+
+    def line(self) -> str:
+        numbers = "+".join(str(member.number) for member in self.members)
+        return " ".join(["group", numbers, *map(str, self.starts)])
+
+
+class Planned(NamedTuple):
+    finish: int
+    groups: List[Group]
+
+    def text(self) -> str:
+        """The plan text, with a certificate of one token that proves nothing."""
+        lines = ["ONFIPLAN 1", f"finish {self.finish}", *(group.line() for group in self.groups), "ONFICERT 1", "X"]
+        return "\n".join(lines) + "\n"
+
+
+Policy = Callable[[Device, Sequence[Want]], Planned]
+
+
+def script_of(device: Device, wants: Sequence[Want]) -> str:
+    return "\n".join(device.rows() + [want.row() for want in wants] + ["end"]) + "\n"
+
+
+def first_in_first_out(device: Device, wants: Sequence[Want]) -> Planned:
+    """Requests in list order, none grouped.
+
+    The next request's command goes out once the bus is free and its LUN idle, and no later request's before it; posts
+    go in the order of their commands. Of the next command and the next post the one that can start sooner has the bus,
+    the command where both can start at one time.
+    """
+    waiting, unposted, groups = list(wants), [], []  # type: List[Want], List[Group], List[Group]
+    free: Dict[int, Optional[int]] = {lun: 0 for lun in range(device.luns)}
+    bus = 0
+    while waiting or unposted:
+        since = free[waiting[0].lun] if waiting else None
+        post = max(bus, unposted[0].ready) if unposted else None
+        if since is not None and (post is None or max(bus, since) <= post):
+            group = Group([waiting.pop(0)], device.lengths)
+            groups.append(group)
+            unposted.append(group)
+            free[group.members[0].lun] = None
+            bus = group.place(max(bus, since))
+        else:
+            group = unposted.pop(0)
+            bus = group.place(max(bus, group.ready))
+            free[group.members[0].lun] = bus
+    return Planned(bus, groups)
+
+
+def round_robin(device: Device, wants: Sequence[Want], commands_first: bool = False) -> Planned:
+    """The LUNs in turn, each with the largest group that it can start.
+
+    When the bus is free it goes to the first LUN, in turn behind the one that had it last (at first from LUN 0), that
+    has a phase which can start then; where none has, to the first in turn of those that can start soonest. A LUN that
+    runs a group has the next phase of that; an idle one starts the largest group of its waiting requests, the first in
+    rising bit mask of list positions among equals, and keeps the list's order on each block.
+
+    With `commands_first` a LUN whose next phase is a command comes before those whose next is a post.
+    """
+    waiting, groups = list(wants), []  # type: List[Want], List[Group]
+    running: Dict[int, Group] = {}
+    since = dict.fromkeys(range(device.luns), 0)
+    bus, turn = 0, 0
+    while waiting or running:
+        start, lun = next_turn(device, waiting, running, since, bus, turn, commands_first)
+        if lun not in running:
+            running[lun] = Group(largest_group(device, waiting, lun), device.lengths)
+            groups.append(running[lun])
+            waiting = [want for want in waiting if want not in running[lun].members]
+        bus = since[lun] = running[lun].place(start)
+        turn = (lun + 1) % device.luns
+        if running[lun].is_over():
+            del running[lun]
+    return Planned(bus, groups)
+
+
+def round_robin_commands_first(device: Device, wants: Sequence[Want]) -> Planned:
+    return round_robin(device, wants, commands_first=True)
+
+
+def next_turn(
+    device: Device,
+    waiting: List[Want],
+    running: Mapping[int, Group],
+    since: Mapping[int, int],
+    bus: int,
+    turn: int,
+    commands_first: bool,
+) -> Tuple[int, int]:
+    """When the bus is used next, and by which LUN."""
+    found = []
+    for place in range(device.luns):
+        lun = (turn + place) % device.luns
+        if lun in running:
+            later = commands_first and running[lun].posts()
+            found.append((max(bus, running[lun].ready), later, place, lun))
+        elif any(want.lun == lun for want in waiting):
+            found.append((max(bus, since[lun]), False, place, lun))
+    start, _, _, lun = min(found)
+    return start, lun
+
+
+def largest_group(device: Device, waiting: List[Want], lun: int) -> List[Want]:
+    """The largest startable group of a LUN that has a waiting request; planes rise."""
+    firsts = first_wants(waiting, lun)
+    best: List[Want] = []
+    for mask in range(1, 1 << len(firsts)):
+        chosen = [want for at, want in enumerate(firsts) if mask >> at & 1]
+        if len(chosen) > len(best) and is_group(device, chosen):
+            best = chosen
+    return sorted(best, key=lambda want: device.plane(want.block))
+
+
+def first_wants(waiting: List[Want], lun: int) -> List[Want]:
+    """The first waiting request of each block of a LUN, in list order."""
+    firsts: Dict[int, Want] = {}
+    for want in waiting:
+        if want.lun == lun:
+            firsts.setdefault(want.block, want)
+    return list(firsts.values())
+
+
+def is_group(device: Device, wants: List[Want]) -> bool:
+    if len(wants) == 1:
+        return True
+    planes = {device.plane(want.block) for want in wants}
+    one_kind_and_page = len({(want.kind, want.page) for want in wants}) == 1
+    return device.may_group(wants[0].kind) and len(planes) == len(wants) and one_kind_and_page

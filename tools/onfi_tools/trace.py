@@ -1,0 +1,133 @@
+"""Traces of `onfi_sim plan --trace`: their phases, and what each LUN does from one to the next."""
+
+from __future__ import annotations
+
+import enum
+from typing import Dict, Iterable, List, Mapping, NamedTuple, Optional
+
+from onfi_tools.device import KINDS, Spans
+
+LUNS = 8
+PART_WORDS = ("cmd", "post")
+
+
+class Part(enum.Enum):
+    """What a LUN does, in the words of the legends."""
+
+    COMMAND = "command"
+    GAP = "gap"
+    ARRAY = "array time"
+    WAIT = "wait for the bus"
+    OUTPUT = "data output"
+    STATUS = "status"
+    BEFORE = "runs since before"
+
+
+ON_THE_BUS = (Part.COMMAND, Part.OUTPUT, Part.STATUS)
+
+
+class Phase(NamedTuple):
+    """One line of a trace. Times are ns of the channel's clock; a phase covers its start and not its end."""
+
+    start: int
+    end: int
+    lun: int
+    kind: str
+    is_post: bool
+    block: int
+    page: int
+    opener: str
+    closer: str
+
+
+class Stretch(NamedTuple):
+    """A LUN does one thing from `start` up to `end`; on the bus, with the block and the page that it is about."""
+
+    start: int
+    end: int
+    lun: int
+    part: Part
+    kind: str
+    block: Optional[int] = None
+    page: Optional[int] = None
+
+
+def read_trace(lines: Iterable[str]) -> List[Phase]:
+    """The phases of a trace, in its order; ValueError names the first line that is none."""
+    phases: List[Phase] = []
+    for number, line in enumerate(lines, 1):
+        if line.strip():
+            phases.append(phase_of(number, line))
+            if len(phases) > 1 and phases[-1].start < phases[-2].end:
+                raise ValueError(f"line {number}: starts before the phase above it ends")
+    return phases
+
+
+def phase_of(number: int, line: str) -> Phase:
+    fields = line.split()
+    numbers = fields[:3] + fields[5:7]
+    if len(fields) != 9 or not all(field.isascii() and field.isdigit() for field in numbers):
+        raise ValueError(f"line {number}: not a line of a trace: {line.strip()}")
+    start, end, lun, block, page = map(int, numbers)
+    kind, part = fields[3:5]
+    if start >= end or lun >= LUNS or kind not in KINDS or part not in PART_WORDS:
+        raise ValueError(f"line {number}: not a line of a trace: {line.strip()}")
+    return Phase(start, end, lun, kind, part == "post", block, page, fields[7], fields[8])
+
+
+def finish_of(phases: List[Phase]) -> int:
+    return max((phase.end for phase in phases), default=0)
+
+
+def by_lun(phases: List[Phase]) -> Dict[int, List[Phase]]:
+    """The phases of each LUN that has one, in rising LUN."""
+    luns = sorted({phase.lun for phase in phases})
+    return {lun: [phase for phase in phases if phase.lun == lun] for lun in luns}
+
+
+def on_the_bus(phase: Phase) -> Stretch:
+    part = Part.COMMAND
+    if phase.is_post:
+        part = Part.OUTPUT if phase.kind == "read" else Part.STATUS
+    return Stretch(phase.start, phase.end, phase.lun, part, phase.kind, phase.block, phase.page)
+
+
+def runs_at_first(own: List[Phase]) -> bool:
+    """Whether a LUN's first group was running before the trace: it has more posts than commands left."""
+    commands = next((at for at, phase in enumerate(own) if phase.is_post), len(own))
+    behind = own[commands:]
+    posts = next((at for at, phase in enumerate(behind) if not phase.is_post), len(behind))
+    return posts > commands
+
+
+def stretches(own: List[Phase], begin: int, lengths: Optional[Mapping[str, Spans]]) -> List[Stretch]:
+    """What a LUN does from `begin` to its last phase, without idle time, in order.
+
+    Where the lengths are known, a gap or an array time ends when it is over, and the wait for the bus follows; else
+    they go up to the next phase.
+    """
+    found = []
+    if own and own[0].start > begin and runs_at_first(own):
+        found.append(Stretch(begin, own[0].start, own[0].lun, Part.BEFORE, own[0].kind))
+    for phase, behind in zip(own, own[1:] + own[-1:]):
+        found.append(on_the_bus(phase))
+        found += between(phase, behind, lengths)
+    return found
+
+
+def between(phase: Phase, behind: Phase, lengths: Optional[Mapping[str, Spans]]) -> List[Stretch]:
+    """What a LUN does between two of its phases: nothing where the later one begins a group."""
+    if phase.is_post and not behind.is_post:
+        return []
+    over = phase.end
+    cells = []
+    if not phase.is_post:
+        part = Part.ARRAY if behind.is_post else Part.GAP
+        over = behind.start if lengths is None else min(behind.start, phase.end + wait_of(part, lengths[phase.kind]))
+        cells.append(Stretch(phase.end, over, phase.lun, part, phase.kind))
+    cells.append(Stretch(over, behind.start, phase.lun, Part.WAIT, phase.kind))
+    return [cell for cell in cells if cell.start < cell.end]
+
+
+def wait_of(part: Part, spans: Spans) -> int:
+    return spans.array if part is Part.ARRAY else spans.gap
