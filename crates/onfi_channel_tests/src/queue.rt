@@ -39,7 +39,9 @@ fn program_of(alloc: Global, count: usize) -> Result<Request, AllocError> {
 }
 
 /// Host and serial of the next item, with the block that it names.
-fn next_of(rt: &impl Wait, intake: &mut Intake) -> Option<(u8, u32, u16)> {
+fn next_of(rt: &impl Wait, intake: &mut Intake) -> Option<(u8, u32, u16)>
+    ensures { intake.new.queue ≡ intake.old.queue }
+{
     let Item {
         host,
         serial,
@@ -54,7 +56,9 @@ fn submit_read(
     alloc: Global,
     host: &mut Host,
     block: u16,
-) -> Result<u32, SubmitFault> {
+) -> Result<u32, SubmitFault>
+    ensures { (host.new.queue ≡ host.old.queue) × (host.new.number ≡ host.old.number) }
+{
     match host.submit(rt, read_of(alloc, block, 0)) {
         Ok(serial) => Ok(serial),
         Err((fault, _)) => Err(fault),
