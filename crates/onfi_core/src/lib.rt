@@ -36,12 +36,3 @@ pub use machine::{Core, CoreFault};
 pub use outcome::{Cause, Outcome};
 pub use ran::Ran;
 pub use setup::{Setup, SetupFault};
-
-#[cfg(test)]
-mod core_tests;
-#[cfg(test)]
-mod plain;
-#[cfg(test)]
-mod plain_tests;
-#[cfg(test)]
-mod tests;

@@ -21,6 +21,3 @@ pub use host::Host;
 pub use intake::Intake;
 pub use opened::Opened;
 pub use opening::open;
-
-#[cfg(test)]
-mod tests;

@@ -1,4 +1,3 @@
 pub mod Proper
 pub mod Steps
 pub mod Given
-pub mod Erases

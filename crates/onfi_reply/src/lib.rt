@@ -21,6 +21,3 @@ pub use inbox::Inbox;
 pub use opened_for::OpenedFor;
 pub use opening::open;
 pub use poster::Poster;
-
-#[cfg(test)]
-mod tests;

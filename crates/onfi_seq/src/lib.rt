@@ -17,8 +17,3 @@ pub use fetch::Fetch;
 pub use lun::{Commanded, Lun, Posted};
 pub use states::{Idle, Phase, Posting, Queuing, Working};
 pub use target::Target;
-
-#[cfg(test)]
-mod batch_tests;
-#[cfg(test)]
-mod tests;

@@ -1,0 +1,23 @@
+//! Tests of the queues, the core and the batches of a channel, through their public calls, on the sample device.
+#![tactic(auto)]
+
+#[cfg(test)]
+mod batch;
+#[cfg(test)]
+mod half;
+#[cfg(test)]
+mod machine;
+#[cfg(test)]
+mod phases;
+#[cfg(test)]
+mod plain;
+#[cfg(test)]
+mod play;
+#[cfg(test)]
+mod queue;
+#[cfg(test)]
+mod reply;
+#[cfg(test)]
+mod setup;
+#[cfg(test)]
+mod twins;
