@@ -3,7 +3,7 @@ ghost use Rattle.onfi_request.specs.Range.{Fits};
 
 use crate::setup::one_channel;
 use onfi_addr::Place;
-use onfi_core::{AcceptFault, Cause, Due, DueRefusal, Half, PlanRefusal, Ran, Setup};
+use onfi_core::{AcceptFault, Cause, Due, DueRefusal, Half, PhaseResult, PlanRefusal, Setup};
 use onfi_problem::LunState;
 use onfi_request::{Answer, Item, Request, check};
 use onfi_samples::request_of;
@@ -101,7 +101,7 @@ fn command_done(rt: &impl Abort, alloc: Global, half: &mut Half) -> (u64, u8)
     let start = due.start;
     let host = half.member(&due).host;
     assert!(rt; usize::from(due.phase) < due.group.len());
-    half.done(due, Ran::Command, &());
+    half.done(due, PhaseResult::Command, &());
     (start, host)
 }
 
@@ -114,7 +114,7 @@ fn post_done(rt: &impl Abort, alloc: Global, half: &mut Half, answer: Answer) ->
     let start = due.start;
     let host = half.member(&due).host;
     assert!(rt; due.group.len() <= usize::from(due.phase));
-    half.done(due, Ran::Post(answer), &());
+    half.done(due, PhaseResult::Post(answer), &());
     (start, host)
 }
 

@@ -1,14 +1,14 @@
 ghost use Rattle.std.specs.Prelude.{◌≡◌, Some, slice_get};
 ghost use Rattle.onfi_request.specs.Range.{Fits};
 ghost use Rattle.onfi_chip.specs.Chip.Lun.{Idle as DoesNothing};
-ghost use Rattle.onfi_seq.specs.Phases.{IsOf};
+ghost use Rattle.onfi_lun.specs.Phases.{IsOf};
 
 use onfi_addr::Place;
 use onfi_chip::{Chip, ChipFault, Closer, SimChip};
 use onfi_die::Fault;
+use onfi_lun::{Commanded, Fetch, Lun, PostFault, Posted, Target};
 use onfi_request::{Answer, Request, check};
 use onfi_samples::{request_of, sample_geometry, sample_timing};
-use onfi_seq::{Commanded, Fetch, Lun, PostFault, Posted, Target};
 use onfi_timing::Kind;
 use std::alloc::{AllocError, Global};
 use std::process::Abort;

@@ -43,10 +43,10 @@ struct Source {
 
 impl Model for Source {
     ghost use Rattle.std.specs.Prelude.{◌≡◌, ℕ};
-    ghost use Rattle.onfi_reply.specs.Ends.{Giver};
+    ghost use Rattle.onfi_reply.specs.Ends.{PosterView};
     ghost use Rattle.onfi_channel_tests.specs.Erases.{erase_replies};
 
-    ghost Value = { Giver };
+    ghost Value = { PosterView };
 
     ghost view = { λ s. s.poster };
 

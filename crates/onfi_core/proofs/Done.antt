@@ -23,8 +23,8 @@ use Rattle.onfi_schedule.specs.Schedule.{Placed, Schedule, Legal}
 use Rattle.onfi_schedule.proofs.Following.{first_move_law}
 use Rattle.slab.specs.Slab.{Slab}
 use Rattle.onfi_core.specs.declared.due.Due.{Due}
-use Rattle.onfi_core.specs.declared.ran.Ran.{Ran}
-use Rattle.onfi_core.specs.declared.ran.Ran.TheVariants as ran
+use Rattle.onfi_core.specs.declared.phase_result.PhaseResult.{PhaseResult}
+use Rattle.onfi_core.specs.declared.phase_result.PhaseResult.TheVariants as ran
 use Rattle.onfi_core.specs.declared.setup.Setup.{Setup}
 use Rattle.onfi_core.specs.declared.slot.Slot.{Slot}
 use Rattle.onfi_core.specs.Dues.{IsDue, IsRan, after_due, groups_left, member_of, replies_of}
@@ -145,7 +145,7 @@ pub member_slot : (s : Setup) (slots : Slab Slot) (h : HalfState) (due : Due) �
 member_slot s slots h due a sound is m at = slot_of s slots h due a sound is m (member_left due.group due.phase m at)
 
 -- the replies of a phase are those that it makes
-pub makes_of : (accepted : List Item) (faults : List Fault) (due : Due) (given : Ran) → IsRan due given → due.phase < 2 * length due.group → Makes accepted due.group due.phase (replies_of accepted faults due given)
+pub makes_of : (accepted : List Item) (faults : List Fault) (due : Due) (given : PhaseResult) → IsRan due given → due.phase < 2 * length due.group → Makes accepted due.group due.phase (replies_of accepted faults due given)
 makes_of accepted faults due ran.Command lt within = inl (lt, refl)
 makes_of accepted faults due (ran.Post answer) le within =
     let m = get_within due.group (due.phase - length due.group) (omega arith) in
@@ -198,7 +198,7 @@ member_is s h due sound is members number d em en =
     rw (em, en) (m.1 ∙ ap Some (sym (index_get due.group (if nat_lt due.phase (length due.group) then due.phase else due.phase - length due.group) m.0 d m.1)))
 
 -- the reply of a post
-pub reply_made : (accepted : List Item) (faults : List Fault) (due : Due) (given : Ran) (answer : Answer) (members : List Want) (number : ℕ) (d : Want) (item : Item) (basis : Basis)
+pub reply_made : (accepted : List Item) (faults : List Fault) (due : Due) (given : PhaseResult) (answer : Answer) (members : List Want) (number : ℕ) (d : Want) (item : Item) (basis : Basis)
     → given ≡ ran.Post answer → members ≡ due.group → number ≡ due.phase - length due.group → number < length due.group
     → item ≡ item_at accepted (slice_index_or members number d).id → basis.accepted ≡ accepted → basis.faults ≡ faults
     → (let r : Reply = record { host = item.host; serial = item.serial; place = (slice_index_or members number d).id; answer = answer; basis = basis } in r) ∷ [] ≡ replies_of accepted faults due given
@@ -211,7 +211,7 @@ reply_made accepted faults due given answer members number d item basis eg em en
     rw (eg, at, w, b, it) refl
 
 -- a post's member stands in a slot
-pub member_here : (s : Setup) (slots : Slab Slot) (h : HalfState) (due : Due) → AreSlots slots h.accepted h.posted → IsSound s h → IsDue h due → (given : Ran) → IsRan due given → (m : Want) → slice_get due.group (due.phase - length due.group) ≡ Some m → HasSlot slots m.id
+pub member_here : (s : Setup) (slots : Slab Slot) (h : HalfState) (due : Due) → AreSlots slots h.accepted h.posted → IsSound s h → IsDue h due → (given : PhaseResult) → IsRan due given → (m : Want) → slice_get due.group (due.phase - length due.group) ≡ Some m → HasSlot slots m.id
 member_here s slots h due a sound is ran.Command lt m at =
     let z : due.phase - length due.group ≡ 0 = omega arith in
     let w = within_get due.group (due.phase - length due.group) m at in

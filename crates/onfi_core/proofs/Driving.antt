@@ -24,8 +24,8 @@ use Rattle.onfi_chip.specs.Chip.{Chip, commanded, launched}
 use Rattle.onfi_chip.specs.Chip.Lun.{Idle, Commanding, Posting}
 use Rattle.onfi_chip.proofs.SimCalls.{in_range}
 use Rattle.onfi_core.specs.declared.due.Due.{Due}
-use Rattle.onfi_core.specs.declared.ran.Ran.{Ran}
-use Rattle.onfi_core.specs.declared.ran.Ran.TheVariants as ran
+use Rattle.onfi_core.specs.declared.phase_result.PhaseResult.{PhaseResult}
+use Rattle.onfi_core.specs.declared.phase_result.PhaseResult.TheVariants as ran
 use Rattle.onfi_core.specs.declared.setup.Setup.{Setup}
 use Rattle.onfi_core.specs.Drive.{MayRun, HasRun, IsStatus, closer_of}
 use Rattle.onfi_core.specs.Dues.{IsDue, IsRan, member_of, replies_of}
@@ -223,7 +223,7 @@ module _ (s : Setup) (h : HalfState) (chip : Chip) (sound : IsSound s h) (agrees
         inr (record { member = m; is = command_at lt; last = last; done = done' }))
   ]
 
-  ran_base : (chip' : Chip) (given : Ran) → HasRun chip s.geometry due (item_at h.accepted m.id) given chip' → RunsOnChip h.accepted due.group due.phase due.start chip chip' (replies_of h.accepted chip.faults due given)
+  ran_base : (chip' : Chip) (given : PhaseResult) → HasRun chip s.geometry due (item_at h.accepted m.id) given chip' → RunsOnChip h.accepted due.group due.phase due.start chip chip' (replies_of h.accepted chip.faults due given)
   ran_base chip' ran.Command (lt, done) = inl (ran_command chip' lt done, refl)
   ran_base chip' (ran.Post answer) (le, told) =
       let t = told post left (next_post le) in
@@ -235,7 +235,7 @@ module _ (s : Setup) (h : HalfState) (chip : Chip) (sound : IsSound s h) (agrees
         rw here refl,
       )
 
-  pub ran_on_chip : (chip' : Chip) (given : Ran) → HasRun chip s.geometry due item given chip' → RunsOnChip h.accepted due.group due.phase due.start chip chip' (replies_of h.accepted chip.faults due given)
+  pub ran_on_chip : (chip' : Chip) (given : PhaseResult) → HasRun chip s.geometry due item given chip' → RunsOnChip h.accepted due.group due.phase due.start chip chip' (replies_of h.accepted chip.faults due given)
   ran_on_chip chip' given has_run = ran_base chip' given (subst (λ (x : Item). HasRun chip s.geometry due x given chip') item_is has_run)
 
   -- at the post of a program or an erase the move asks for a status
@@ -251,6 +251,6 @@ module _ (s : Setup) (h : HalfState) (chip : Chip) (sound : IsSound s h) (agrees
   }
 
 -- what the chip gave is of the phase
-pub is_ran : (chip chip' : Chip) (geometry : Geometry) (due : Due) (item : Item) (given : Ran) → HasRun chip geometry due item given chip' → IsRan due given
+pub is_ran : (chip chip' : Chip) (geometry : Geometry) (due : Due) (item : Item) (given : PhaseResult) → HasRun chip geometry due item given chip' → IsRan due given
 is_ran chip chip' geometry due item ran.Command (lt, done) = lt
 is_ran chip chip' geometry due item (ran.Post answer) (le, told) = le

@@ -14,7 +14,7 @@ use Rattle.onfi_core.specs.declared.half.PlanRefusal.TheVariants as refused
 use Rattle.onfi_core.specs.declared.outcome.Cause.{Cause}
 use Rattle.onfi_core.specs.declared.outcome.Cause.TheVariants as cause
 use Rattle.onfi_core.specs.declared.outcome.Outcome.TheVariants as outcome
-use Rattle.onfi_core.specs.declared.ran.Ran.{Ran}
+use Rattle.onfi_core.specs.declared.phase_result.PhaseResult.{PhaseResult}
 use Rattle.onfi_core.specs.declared.setup.Setup.{Setup}
 use Rattle.onfi_core.specs.Drive.{MayRun, HasRun, AfterDrive, IsStatus, cause_of}
 use Rattle.onfi_core.specs.Dues.{IsDue, after_due, member_of, replies_of}
@@ -91,7 +91,7 @@ module _ (s : Setup) (c : ChannelState) (reached : IsReached s c) (due : Due) (i
       subst (IsCauseOf c.half) q (is.move, due.start, is.left, is.next, sym is.lun_is, asks)
   cause_is drive.Memory stop e status = cc
 
-  pub ran_step : (channel : ℕ) (chip' : Chip) (given : Ran) (h : HalfState) → HasRun c.chip s.geometry due item given chip' → h ≡ after_due c.half due (replies_of c.half.accepted chip'.faults due given) → Step s c (event.Bus channel) (outcome.Phase due.start) (record c { half = h; chip = chip' })
+  pub ran_step : (channel : ℕ) (chip' : Chip) (given : PhaseResult) (h : HalfState) → HasRun c.chip s.geometry due item given chip' → h ≡ after_due c.half due (replies_of c.half.accepted chip'.faults due given) → Step s c (event.Bus channel) (outcome.Phase due.start) (record c { half = h; chip = chip' })
   ran_step channel chip' given h has_run is_after =
       let on = ran_on_chip s c.half c.chip reached.half.sound (reached.chip (going_on c.half open')) due is member.0 member.1 item member.2 chip' given has_run in
       let faults = run_faults c.half.accepted due.group due.phase due.start c.chip chip' _ on in

@@ -17,8 +17,8 @@ use Rattle.onfi_core.specs.declared.drive.DriveFault.{DriveFault}
 use Rattle.onfi_core.specs.declared.drive.DriveFault.TheVariants.{Bus, NotReady, Memory}
 use Rattle.onfi_core.specs.declared.outcome.Cause.{Cause}
 use Rattle.onfi_core.specs.declared.outcome.Cause.TheVariants as cause
-use Rattle.onfi_core.specs.declared.ran.Ran.{Ran}
-use Rattle.onfi_core.specs.declared.ran.Ran.TheVariants as ran
+use Rattle.onfi_core.specs.declared.phase_result.PhaseResult.{PhaseResult}
+use Rattle.onfi_core.specs.declared.phase_result.PhaseResult.TheVariants as ran
 
 -- what closes the group's command of that number
 abbrev pub closer_of : List Want → ℕ → Closer
@@ -31,7 +31,7 @@ pub record MayRun (chip : Chip) (geometry : Geometry) (due : Due) (item : Item) 
   pub post : length due.group ≤ due.phase → (post : Post) × (left : List Post) × IsNextPost chip due.start (row_of geometry item.request.place) post left × (post.kind ≡ item.request.kind)
 
 -- the phase happened on the chip, which gave that
-abbrev pub HasRun : Chip → Geometry → Due → Item → Ran → Chip → Type 0
+abbrev pub HasRun : Chip → Geometry → Due → Item → PhaseResult → Chip → Type 0
 HasRun chip geometry due item ran.Command chip' = (due.phase < length due.group) × HasDone (command_of (closer_of due.group due.phase) chip item.request due.start) chip'
 HasRun chip geometry due item (ran.Post answer) chip' =
     (length due.group ≤ due.phase)

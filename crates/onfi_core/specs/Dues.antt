@@ -16,8 +16,8 @@ use Rattle.onfi_core.specs.declared.half.DueRefusal.TheVariants as refusal
 use Rattle.onfi_core.specs.declared.outcome.Outcome.{Outcome}
 use Rattle.onfi_core.specs.declared.outcome.Outcome.TheVariants as outcome
 use Rattle.onfi_core.specs.State.{HalfState}
-use Rattle.onfi_core.specs.declared.ran.Ran.{Ran}
-use Rattle.onfi_core.specs.declared.ran.Ran.TheVariants as ran
+use Rattle.onfi_core.specs.declared.phase_result.PhaseResult.{PhaseResult}
+use Rattle.onfi_core.specs.declared.phase_result.PhaseResult.TheVariants as ran
 use Rattle.onfi_core.specs.Steps.{IsPhase, reply_to}
 
 -- of two starts the sooner, of equals the first
@@ -91,11 +91,11 @@ abbrev pub member_of : List Want → ℕ → Option Want
 member_of group phase = slice_get group (if nat_lt phase (length group) then phase else phase - length group)
 
 -- the chip gives an answer at a post, and nothing at a command
-abbrev pub IsRan : Due → Ran → Type 0
+abbrev pub IsRan : Due → PhaseResult → Type 0
 IsRan due ran.Command = due.phase < length due.group
 IsRan due (ran.Post answer) = length due.group ≤ due.phase
 
 -- the reply that the phase makes: at a post that to its member
-abbrev pub replies_of : List Item → List Fault → Due → Ran → List Reply
+abbrev pub replies_of : List Item → List Fault → Due → PhaseResult → List Reply
 replies_of accepted faults due ran.Command = []
 replies_of accepted faults due (ran.Post answer) = map (λ m. reply_to accepted faults m answer) (option_to_list (slice_get due.group (due.phase - length due.group)))

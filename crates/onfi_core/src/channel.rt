@@ -10,7 +10,7 @@ ghost use Rattle.onfi_core.specs.Core.{with_batch};
 ghost use Rattle.onfi_core.specs.Refusals.{planned_outcome};
 ghost use Rattle.onfi_core.specs.Queues.{IsFresh, opened_with, state_in};
 
-use crate::drive::{DriveFault, drive};
+use crate::drive::{DriveFault, run_phase};
 use crate::due::Due;
 use crate::event::Event;
 use crate::half::{AcceptFault, DueRefusal, Half, PlanRefusal};
@@ -161,7 +161,7 @@ impl<C: Chip> Channel<C> {
     {
         let start = due.start;
         let geometry = self.half.setup().geometry;
-        match drive(
+        match run_phase(
             alloc,
             &mut self.chip,
             &geometry,

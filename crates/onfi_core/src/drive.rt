@@ -5,7 +5,7 @@ ghost use Rattle.onfi_chip.specs.Calls.{HasDone, IsNextCommand, command_of};
 ghost use Rattle.onfi_core.specs.Drive.{MayRun, HasRun, AfterDrive, IsStatus, closer_of, fault_of_post};
 
 use crate::due::Due;
-use crate::ran::Ran;
+use crate::phase_result::PhaseResult;
 use onfi_addr::Geometry;
 use onfi_chip::{Chip, ChipFault, Closer, Fetch, PostFault, read_post};
 use onfi_request::Item;
@@ -24,13 +24,13 @@ pub enum DriveFault {
 
 /// Runs the due phase of the member that has this item, at its start: its command (ONFI 4.2, command definition and
 /// multi-plane operations), the data output of a read, or the status of a program or an erase.
-pub fn drive<C: Chip>(
+pub fn run_phase<C: Chip>(
     alloc: Global,
     chip: &mut C,
     geometry: &Geometry,
     due: &Due,
     item: &Item,
-) -> Result<Ran, DriveFault>
+) -> Result<PhaseResult, DriveFault>
     requires { MayRun (C.state chip.old) geometry.now due.now item.now }
     ensures ran { IfOk result (λ ran. HasRun (C.state chip.old) geometry.now due.now item.now ran (C.state chip.new)) }
     ensures err { IfErr result (λ fault. AfterDrive fault (C.state chip.old) (C.state chip.new)) }
@@ -44,7 +44,7 @@ pub fn drive<C: Chip>(
         return Err(DriveFault::Memory);
     };
     match read_post(chip, geometry, due.start, fetch) {
-        Ok(answer) => Ok(Ran::Post(answer)),
+        Ok(answer) => Ok(PhaseResult::Post(answer)),
         Err(fault) => Err(fault_of_post(fault)),
     }
 }
@@ -56,9 +56,9 @@ fn command<C: Chip>(
     due: &Due,
     row: u64,
     item: &Item,
-) -> Result<Ran, DriveFault>
+) -> Result<PhaseResult, DriveFault>
     requires { IsNextCommand (C.state chip.old) due.now.start row item.now.request.kind item.now.request.bytes item.now.request }
-    ensures ran { IfOk result (λ ran. ran ≡ Ran.Command) }
+    ensures ran { IfOk result (λ ran. ran ≡ PhaseResult.Command) }
     ensures done { IfOk result (λ _. HasDone (command_of (closer_of due.now.group due.now.phase) (C.state chip.old) item.now.request due.now.start) (C.state chip.new)) }
     ensures err { IfErr result (λ fault. AfterDrive fault (C.state chip.old) (C.state chip.new)) }
     ensures no_status { IfErr result (λ fault. fault ≢ DriveFault.NotReady) }
@@ -70,7 +70,7 @@ fn command<C: Chip>(
     };
     let bytes = item.request.bytes.as_slice();
     match chip.command(alloc, due.start, row, item.request.kind, closer, bytes) {
-        Ok(()) => Ok(Ran::Command),
+        Ok(()) => Ok(PhaseResult::Command),
         Err(ChipFault::Bus) => Err(DriveFault::Bus),
         Err(ChipFault::Memory) => Err(DriveFault::Memory),
     }

@@ -16,14 +16,15 @@ mod lent;
 mod machine;
 mod oldest;
 mod outcome;
+mod phase_result;
 mod planning;
-mod ran;
 mod setup;
 mod slot;
 mod starting;
 mod traffic;
 mod wants;
 
+pub use drive::{DriveFault, run_phase};
 pub use due::Due;
 pub use event::Event;
 pub use half::{AcceptFault, DueRefusal, Half, PlanRefusal};
@@ -34,5 +35,5 @@ pub use laws::{
 };
 pub use machine::{Core, CoreFault};
 pub use outcome::{Cause, Outcome};
-pub use ran::Ran;
+pub use phase_result::PhaseResult;
 pub use setup::{Setup, SetupFault};

@@ -16,7 +16,7 @@ use Rattle.onfi_queue.specs.Items.{IsSplit}
 use Rattle.onfi_queue.specs.Rule.{HostSees, IntakeSees}
 
 -- a host: of which queue it is, what that was opened with, the host's number, and what it sent
-pub record Sender : Type 0 where
+pub record HostView : Type 0 where
   pub queue : TableId
   pub capacity : ℕ
   pub opened : Opened
@@ -24,14 +24,14 @@ pub record Sender : Type 0 where
   pub sent : List Item
 
 -- the intake: of which queue it is, what that was opened with, and what was accepted
-pub record Taker : Type 0 where
+pub record IntakeView : Type 0 where
   pub queue : TableId
   pub capacity : ℕ
   pub opened : Opened
   pub accepted : List Item
 
 -- the intake's seat: also how many hosts were made, and what those that were taken back had sent
-pub record SeatTaker : Type 0 where
+pub record IntakeSeatView : Type 0 where
   pub queue : TableId
   pub capacity : ℕ
   pub opened : Opened
@@ -41,28 +41,28 @@ pub record SeatTaker : Type 0 where
 
 -- ---- opening
 -- the intake of a queue as it opens: nothing is accepted
-abbrev pub fresh_intake : TableId → Opened → ℕ → Taker
+abbrev pub fresh_intake : TableId → Opened → ℕ → IntakeView
 fresh_intake queue opened capacity = record { queue = queue; capacity = capacity; opened = opened; accepted = [] }
 
 -- a host of the intake's queue that sent nothing
-abbrev pub fresh_host : Taker → ℕ → Sender
+abbrev pub fresh_host : IntakeView → ℕ → HostView
 fresh_host t number = record { queue = t.queue; capacity = t.capacity; opened = t.opened; number = number; sent = [] }
 
 -- the four hosts of the queue, in the order of their numbers
-abbrev pub four_hosts : Taker → List Sender
+abbrev pub four_hosts : IntakeView → List HostView
 four_hosts t = fresh_host t 0 ∷ fresh_host t 1 ∷ fresh_host t 2 ∷ fresh_host t 3 ∷ []
 
 -- ---- sending
 -- the item that the host sends with this request
-abbrev pub item_of : Sender → Request → Item
+abbrev pub item_of : HostView → Request → Item
 item_of host request = record { host = host.number; serial = length host.sent; request = request }
 
 -- the host sent the request behind all that it sent before
-abbrev pub after_sending : Sender → Request → Sender
+abbrev pub after_sending : HostView → Request → HostView
 after_sending host request = record host { sent = host.sent ++ item_of host request ∷ [] }
 
 -- the queue was full at one moment: behind what was accepted of the host, what it held then is what the host sent
-abbrev pub SawFull : Sender → Type 0
+abbrev pub SawFull : HostView → Type 0
 SawFull host = Held host.capacity (HostSees (AtHost host.opened host.number host.sent))
 
 -- the first fault of a request, in the order LUN, block, page, count of bytes
@@ -77,48 +77,48 @@ IsFirstFault geometry request F.DataLength =
     × IsPageFor geometry request.kind request.place.page × (IsLengthFor geometry request.kind (length request.bytes) → ⊥)
 
 -- when each fault is told
-abbrev pub IsWhyNot : Sender → Request → SubmitFault → Type 0
+abbrev pub IsWhyNot : HostView → Request → SubmitFault → Type 0
 IsWhyNot host request (Refused fault) = IsFirstFault host.opened.geometry request fault
 IsWhyNot host request SerialsSpent = Fits host.opened.geometry request × (length host.sent ≡ 2 ^ 32)
 IsWhyNot host request Full = Fits host.opened.geometry request × (length host.sent < 2 ^ 32) × SawFull host
 
 -- ---- accepting
-abbrev pub after_accepting : Taker → Item → Taker
+abbrev pub after_accepting : IntakeView → Item → IntakeView
 after_accepting t x = record t { accepted = t.accepted ++ x ∷ [] }
 
 -- the queue was empty at one moment
-abbrev pub SawEmpty : Taker → Type 0
+abbrev pub SawEmpty : IntakeView → Type 0
 SawEmpty t = Held 0 (IntakeSees (AtIntake t.opened t.accepted 4 []))
 
 -- ---- closing
 -- the hosts of a queue in the order of their numbers, from this one on
-abbrev pub AreHostsOf : TableId → ℕ → List Sender → Type 0
+abbrev pub AreHostsOf : TableId → ℕ → List HostView → Type 0
 AreHostsOf queue number [] = Unit {0}
 AreHostsOf queue number (host ∷ hosts) = (host.queue ≡ queue) × (host.number ≡ number) × AreHostsOf queue (number + 1) hosts
 
 -- what each of the four hosts sent is what was accepted of it, and then what waits
-abbrev pub Settled : Taker → List (List Item) → Type 0
+abbrev pub Settled : IntakeView → List (List Item) → Type 0
 Settled t sents = (waiting : List Item) × IsSplit t.opened.geometry 4 t.accepted sents waiting
 
 -- ---- the same at the intake's seat
-abbrev pub fresh_seat : TableId → Opened → ℕ → SeatTaker
+abbrev pub fresh_seat : TableId → Opened → ℕ → IntakeSeatView
 fresh_seat queue opened capacity =
     record { queue = queue; capacity = capacity; opened = opened; accepted = []; made = 0; back = [] }
 
-abbrev pub host_of_seat : SeatTaker → ℕ → Sender
+abbrev pub host_of_seat : IntakeSeatView → ℕ → HostView
 host_of_seat s number = record { queue = s.queue; capacity = s.capacity; opened = s.opened; number = number; sent = [] }
 
-abbrev pub with_made : SeatTaker → SeatTaker
+abbrev pub with_made : IntakeSeatView → IntakeSeatView
 with_made s = record s { made = s.made + 1 }
 
-abbrev pub with_accepted : SeatTaker → Item → SeatTaker
+abbrev pub with_accepted : IntakeSeatView → Item → IntakeSeatView
 with_accepted s x = record s { accepted = s.accepted ++ x ∷ [] }
 
-abbrev pub with_returned : SeatTaker → List Item → SeatTaker
+abbrev pub with_returned : IntakeSeatView → List Item → IntakeSeatView
 with_returned s sent = record s { back = s.back ++ sent ∷ [] }
 
-abbrev pub SeatSawEmpty : SeatTaker → Type 0
+abbrev pub SeatSawEmpty : IntakeSeatView → Type 0
 SeatSawEmpty s = Held 0 (IntakeSees (AtIntake s.opened s.accepted s.made s.back))
 
-abbrev pub SeatSettled : SeatTaker → Type 0
+abbrev pub SeatSettled : IntakeSeatView → Type 0
 SeatSettled s = (waiting : List Item) × IsSplit s.opened.geometry s.made s.accepted s.back waiting

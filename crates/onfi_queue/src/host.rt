@@ -31,9 +31,9 @@ impl Model for Host {
     ghost use Rattle.crossbeam_queue.specs.Passes.{view as known, IsPassOf, ruled_capacity};
     ghost use Rattle.onfi_queue.specs.declared.view.View.TheVariants.{AtHost};
     ghost use Rattle.onfi_queue.specs.Rule.{sent_of};
-    ghost use Rattle.onfi_queue.specs.Ends.{Sender};
+    ghost use Rattle.onfi_queue.specs.Ends.{HostView};
 
-    ghost Value = { Sender };
+    ghost Value = { HostView };
 
     ghost view = { λ h. record {
       queue = h.pass.table_id;

@@ -18,9 +18,9 @@ pub struct Intake {
 
 impl Model for Intake {
     ghost use Rattle.std.specs.Prelude.{◌≡◌, []};
-    ghost use Rattle.onfi_queue.specs.Ends.{Taker};
+    ghost use Rattle.onfi_queue.specs.Ends.{IntakeView};
 
-    ghost Value = { Taker };
+    ghost Value = { IntakeView };
 
     ghost view = { λ t. record {
       queue = t.seat.queue;

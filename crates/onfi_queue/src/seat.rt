@@ -26,9 +26,9 @@ impl Model for Seat {
     ghost use Rattle.crossbeam_queue.specs.Passes.{view as known, IsPassOf, ruled_capacity};
     ghost use Rattle.onfi_queue.specs.declared.view.View.TheVariants.{AtIntake};
     ghost use Rattle.onfi_queue.specs.Rule.{accepted_of, made_of, back_of};
-    ghost use Rattle.onfi_queue.specs.Ends.{SeatTaker};
+    ghost use Rattle.onfi_queue.specs.Ends.{IntakeSeatView};
 
-    ghost Value = { SeatTaker };
+    ghost Value = { IntakeSeatView };
 
     ghost view = { λ s. record {
       queue = s.pass.table_id;

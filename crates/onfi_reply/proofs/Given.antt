@@ -3,7 +3,7 @@ use Rattle.std.proofs.Common.{◌≡◌, ◌-◌, List, [], ◌∷◌, ◌++◌,
 use Rattle.std.proofs.lemmas.List.{append-nil}
 use Rattle.onfi_request.specs.declared.reply.Reply.{Reply}
 use Rattle.onfi_reply.specs.Replies.{IsNext}
-use Rattle.onfi_reply.specs.Ends.{Popper, with_popped, given_of, IsWhole}
+use Rattle.onfi_reply.specs.Ends.{InboxSeatView, with_popped, given_of, IsWhole}
 use Rattle.onfi_reply.proofs.Proper.{split_last, not_nil}
 
 take_front : (given waiting : List Reply) → take (length given) (given ++ waiting) ≡ given
@@ -16,7 +16,7 @@ given_is popped given waiting e =
     (λ i. take (n i) (e i)) ∙ take_front given waiting
 
 -- however what was popped is split before what waits, it is whole
-whole_by : (seat : Popper) (given waiting : List Reply) → seat.popped ≡ given ++ waiting
+whole_by : (seat : InboxSeatView) (given waiting : List Reply) → seat.popped ≡ given ++ waiting
     → ((before : List Reply) (r : Reply) (behind : List Reply) → waiting ≡ before ++ r ∷ behind → IsNext seat.opened (given ++ before) r) → IsWhole seat waiting
 whole_by seat given waiting e next = record {
   split = e ∙ ap (λ (l : List Reply). l ++ waiting) (sym (given_is seat.popped given waiting e));
@@ -24,52 +24,52 @@ whole_by seat given waiting e next = record {
 }
 
 -- ---- the first of those that wait is given
-front_split : (seat : Popper) (x : Reply) (waiting old : List Reply) → IsWhole seat old → old ≡ x ∷ waiting → seat.popped ≡ (given_of seat.popped old ++ x ∷ []) ++ waiting
+front_split : (seat : InboxSeatView) (x : Reply) (waiting old : List Reply) → IsWhole seat old → old ≡ x ∷ waiting → seat.popped ≡ (given_of seat.popped old ++ x ∷ []) ++ waiting
 front_split seat x waiting old whole is =
     whole.split ∙ ap (λ (l : List Reply). given_of seat.popped old ++ l) is ∙ sym (append_assoc (given_of seat.popped old) (x ∷ []) waiting)
 
-pub front_whole : (seat : Popper) (x : Reply) (waiting old : List Reply) → IsWhole seat old → old ≡ x ∷ waiting → IsWhole seat waiting
+pub front_whole : (seat : InboxSeatView) (x : Reply) (waiting old : List Reply) → IsWhole seat old → old ≡ x ∷ waiting → IsWhole seat waiting
 front_whole seat x waiting old whole is =
     whole_by seat (given_of seat.popped old ++ x ∷ []) waiting (front_split seat x waiting old whole is)
     (λ before r behind at. subst (λ (l : List Reply). IsNext seat.opened l r) (sym (append_assoc (given_of seat.popped old) (x ∷ []) before))
     (whole.next (x ∷ before) r behind (is ∙ ap (λ (l : List Reply). x ∷ l) at)))
 
-pub front_given : (seat : Popper) (x : Reply) (waiting old : List Reply) → IsWhole seat old → old ≡ x ∷ waiting → given_of seat.popped waiting ≡ given_of seat.popped old ++ x ∷ []
+pub front_given : (seat : InboxSeatView) (x : Reply) (waiting old : List Reply) → IsWhole seat old → old ≡ x ∷ waiting → given_of seat.popped waiting ≡ given_of seat.popped old ++ x ∷ []
 front_given seat x waiting old whole is = given_is seat.popped (given_of seat.popped old ++ x ∷ []) waiting (front_split seat x waiting old whole is)
 
-pub front_next : (seat : Popper) (x : Reply) (waiting old : List Reply) → IsWhole seat old → old ≡ x ∷ waiting → IsNext seat.opened (given_of seat.popped old) x
+pub front_next : (seat : InboxSeatView) (x : Reply) (waiting old : List Reply) → IsWhole seat old → old ≡ x ∷ waiting → IsNext seat.opened (given_of seat.popped old) x
 front_next seat x waiting old whole is =
     subst (λ (l : List Reply). IsNext seat.opened l x) (append-nil (given_of seat.popped old)) (whole.next [] x waiting is)
 
 -- ---- one more is popped, and waits
-taken_split : (seat : Popper) (x : Reply) (old : List Reply) → IsWhole seat old → seat.popped ++ x ∷ [] ≡ given_of seat.popped old ++ (old ++ x ∷ [])
+taken_split : (seat : InboxSeatView) (x : Reply) (old : List Reply) → IsWhole seat old → seat.popped ++ x ∷ [] ≡ given_of seat.popped old ++ (old ++ x ∷ [])
 taken_split seat x old whole = ap (λ (l : List Reply). l ++ x ∷ []) whole.split ∙ append_assoc (given_of seat.popped old) old (x ∷ [])
 
-taken_next : (seat : Popper) (x : Reply) (old : List Reply) → IsWhole seat old → IsNext seat.opened seat.popped x
+taken_next : (seat : InboxSeatView) (x : Reply) (old : List Reply) → IsWhole seat old → IsNext seat.opened seat.popped x
     → (before : List Reply) (r : Reply) (behind : List Reply) → old ++ x ∷ [] ≡ before ++ r ∷ behind → IsNext seat.opened (given_of seat.popped old ++ before) r
 taken_next seat x old whole next before r behind at =
     ⊎_elim
     (λ (t : (before ≡ old) × (r ≡ x)). subst (λ (y : List Reply × Reply). IsNext seat.opened y.0 y.1) (λ i. ((whole.split ∙ ap (λ (l : List Reply). given_of seat.popped old ++ l) (sym t.0)) i, sym t.1 i)) next)
     (λ (t : (behind' : List Reply) × (old ≡ before ++ r ∷ behind')). whole.next before r t.0 t.1) (split_last old x before r behind at)
 
-pub taken_whole : (seat after : Popper) (x : Reply) (waiting old : List Reply) → IsWhole seat old → after ≡ with_popped seat x → waiting ≡ old ++ x ∷ [] → IsNext seat.opened seat.popped x → IsWhole after waiting
+pub taken_whole : (seat after : InboxSeatView) (x : Reply) (waiting old : List Reply) → IsWhole seat old → after ≡ with_popped seat x → waiting ≡ old ++ x ∷ [] → IsNext seat.opened seat.popped x → IsWhole after waiting
 taken_whole seat after x waiting old whole is longer next =
-    subst (λ (y : Popper × List Reply). IsWhole y.0 y.1) (λ i. (sym is i, sym longer i))
+    subst (λ (y : InboxSeatView × List Reply). IsWhole y.0 y.1) (λ i. (sym is i, sym longer i))
     (whole_by (with_popped seat x) (given_of seat.popped old) (old ++ x ∷ []) (taken_split seat x old whole) (taken_next seat x old whole next))
 
-pub taken_given : (seat : Popper) (x : Reply) (old : List Reply) → IsWhole seat old → given_of (seat.popped ++ x ∷ []) (old ++ x ∷ []) ≡ given_of seat.popped old
+pub taken_given : (seat : InboxSeatView) (x : Reply) (old : List Reply) → IsWhole seat old → given_of (seat.popped ++ x ∷ []) (old ++ x ∷ []) ≡ given_of seat.popped old
 taken_given seat x old whole = given_is (seat.popped ++ x ∷ []) (given_of seat.popped old) (old ++ x ∷ []) (taken_split seat x old whole)
 
 -- ---- one more is popped, and given, where none waits
 pub all_given : (popped : List Reply) → given_of popped [] ≡ popped
 all_given popped = given_is popped popped [] (sym (append-nil popped))
 
-alone_whole : (seat : Popper) → IsWhole seat []
+alone_whole : (seat : InboxSeatView) → IsWhole seat []
 alone_whole seat = whole_by seat seat.popped [] (sym (append-nil seat.popped)) (λ before r behind at. absurd (not_nil before r behind at))
 
 nil_of : (xs : List Reply) → length xs ≡ 0 → xs ≡ []
 nil_of [] e = refl
 nil_of (x ∷ xs) e = absurd (omega arith)
 
-pub popped_whole : (seat : Popper) (waiting : List Reply) → length waiting ≡ 0 → IsWhole seat waiting
+pub popped_whole : (seat : InboxSeatView) (waiting : List Reply) → length waiting ≡ 0 → IsWhole seat waiting
 popped_whole seat waiting none = subst (λ (l : List Reply). IsWhole seat l) (sym (nil_of waiting none)) (alone_whole seat)

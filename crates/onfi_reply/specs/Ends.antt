@@ -9,14 +9,14 @@ use Rattle.onfi_reply.specs.Replies.{IsNext}
 use Rattle.onfi_reply.specs.Rule.{PosterSees, InboxSees}
 
 -- a poster: of which queue it is, what that was opened for, and what was posted
-pub record Giver : Type 0 where
+pub record PosterView : Type 0 where
   pub queue : TableId
   pub capacity : ℕ
   pub opened : OpenedFor
   pub posted : List Reply
 
 -- an inbox: of which queue it is, what that was opened for, what it gave, and what it took in and will give next
-pub record Getter : Type 0 where
+pub record InboxView : Type 0 where
   pub queue : TableId
   pub capacity : ℕ
   pub opened : OpenedFor
@@ -25,19 +25,19 @@ pub record Getter : Type 0 where
 
 -- ---- opening
 -- the poster of a queue as it opens: nothing is posted
-abbrev pub fresh_poster : TableId → OpenedFor → ℕ → Giver
+abbrev pub fresh_poster : TableId → OpenedFor → ℕ → PosterView
 fresh_poster queue opened capacity = record { queue = queue; capacity = capacity; opened = opened; posted = [] }
 
 -- the inbox of the poster's queue, which gave nothing and took nothing in
-abbrev pub inbox_of : Giver → Getter
+abbrev pub inbox_of : PosterView → InboxView
 inbox_of p = record { queue = p.queue; capacity = p.capacity; opened = p.opened; given = []; waiting = [] }
 
 -- ---- posting
-abbrev pub after_posting : Giver → Reply → Giver
+abbrev pub after_posting : PosterView → Reply → PosterView
 after_posting p x = record p { posted = p.posted ++ x ∷ [] }
 
 -- the queue was full at one moment: what it held then is the end of what was posted
-abbrev pub SawFull : Giver → Type 0
+abbrev pub SawFull : PosterView → Type 0
 SawFull p = Held p.capacity (PosterSees (AtPoster p.opened p.posted true None))
 
 -- ---- collecting
@@ -47,25 +47,25 @@ IsFirstOf [] x = Unit {0}
 IsFirstOf (y ∷ ys) x = x ≡ y
 
 -- one more is given, and where anything waits, its first doesn't any more
-abbrev pub after_collecting : Getter → Reply → Getter
+abbrev pub after_collecting : InboxView → Reply → InboxView
 after_collecting i x = record i { given = i.given ++ x ∷ []; waiting = drop 1 i.waiting }
 
 -- the queue was empty at one moment
-abbrev pub SawEmpty : Getter → Type 0
+abbrev pub SawEmpty : InboxView → Type 0
 SawEmpty i = Held 0 (InboxSees (AtInbox i.opened (i.given ++ i.waiting)))
 
 -- one reply more waits, the next behind all that were popped; or none was there
-abbrev pub TookIn : Bool → Getter → Getter → Type 0
+abbrev pub TookIn : Bool → InboxView → InboxView → Type 0
 TookIn true i j = (x : Reply) × (j ≡ record i { waiting = i.waiting ++ x ∷ [] }) × IsNext i.opened (i.given ++ i.waiting) x
 TookIn false i j = (j ≡ i) × SawEmpty i
 
 -- ---- closing
 -- what the inbox popped, and then what waits in the queue, is what was posted
-abbrev pub Settled : Giver → Getter → Type 0
+abbrev pub Settled : PosterView → InboxView → Type 0
 Settled p i = (waiting : List Reply) × (p.posted ≡ (i.given ++ i.waiting) ++ waiting)
 
 -- ---- the poster's seat: also whether the inbox was made, and what it had popped where that is back
-pub record SeatGiver : Type 0 where
+pub record PosterSeatView : Type 0 where
   pub queue : TableId
   pub capacity : ℕ
   pub opened : OpenedFor
@@ -73,38 +73,38 @@ pub record SeatGiver : Type 0 where
   pub made : Bool
   pub back : Option (List Reply)
 
-abbrev pub fresh_seat : TableId → OpenedFor → ℕ → SeatGiver
+abbrev pub fresh_seat : TableId → OpenedFor → ℕ → PosterSeatView
 fresh_seat queue opened capacity = record { queue = queue; capacity = capacity; opened = opened; posted = []; made = false; back = None }
 
-abbrev pub with_made : SeatGiver → SeatGiver
+abbrev pub with_made : PosterSeatView → PosterSeatView
 with_made s = record s { made = true }
 
-abbrev pub with_posted : SeatGiver → Reply → SeatGiver
+abbrev pub with_posted : PosterSeatView → Reply → PosterSeatView
 with_posted s x = record s { posted = s.posted ++ x ∷ [] }
 
-abbrev pub with_returned : SeatGiver → List Reply → SeatGiver
+abbrev pub with_returned : PosterSeatView → List Reply → PosterSeatView
 with_returned s popped = record s { back = Some popped }
 
-abbrev pub SeatSawFull : SeatGiver → Type 0
+abbrev pub SeatSawFull : PosterSeatView → Type 0
 SeatSawFull s = Held s.capacity (PosterSees (AtPoster s.opened s.posted s.made s.back))
 
 abbrev pub SeatSettled : List Reply → List Reply → Type 0
 SeatSettled posted popped = (waiting : List Reply) × (posted ≡ popped ++ waiting)
 
 -- ---- the inbox's seat: what was popped, whether it was given or waits
-pub record Popper : Type 0 where
+pub record InboxSeatView : Type 0 where
   pub queue : TableId
   pub capacity : ℕ
   pub opened : OpenedFor
   pub popped : List Reply
 
-abbrev pub inbox_seat_of : SeatGiver → Popper
+abbrev pub inbox_seat_of : PosterSeatView → InboxSeatView
 inbox_seat_of s = record { queue = s.queue; capacity = s.capacity; opened = s.opened; popped = [] }
 
-abbrev pub with_popped : Popper → Reply → Popper
+abbrev pub with_popped : InboxSeatView → Reply → InboxSeatView
 with_popped p x = record p { popped = p.popped ++ x ∷ [] }
 
-abbrev pub SeatSawEmpty : Popper → Type 0
+abbrev pub SeatSawEmpty : InboxSeatView → Type 0
 SeatSawEmpty p = Held 0 (InboxSees (AtInbox p.opened p.popped))
 
 -- what was popped without its end, which waits
@@ -112,6 +112,6 @@ abbrev pub given_of : List Reply → List Reply → List Reply
 given_of popped waiting = take (length popped - length waiting) popped
 
 -- what waits is the end of what was popped, each next behind those before it
-pub record IsWhole (seat : Popper) (waiting : List Reply) : Type 0 where
+pub record IsWhole (seat : InboxSeatView) (waiting : List Reply) : Type 0 where
   pub split : seat.popped ≡ given_of seat.popped waiting ++ waiting
   pub next : (before : List Reply) (r : Reply) (behind : List Reply) → waiting ≡ before ++ r ∷ behind → IsNext seat.opened (given_of seat.popped waiting ++ before) r

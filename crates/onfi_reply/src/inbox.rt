@@ -21,9 +21,9 @@ pub struct Inbox {
 }
 
 impl Model for Inbox {
-    ghost use Rattle.onfi_reply.specs.Ends.{Getter, given_of, IsWhole};
+    ghost use Rattle.onfi_reply.specs.Ends.{InboxView, given_of, IsWhole};
 
-    ghost Value = { Getter };
+    ghost Value = { InboxView };
 
     ghost view = { λ t. record {
       queue = t.seat.queue;

@@ -25,9 +25,9 @@ impl Model for InboxSeat {
     ghost use Rattle.crossbeam_queue.specs.Passes.{view as known, IsPassOf, ruled_capacity};
     ghost use Rattle.onfi_reply.specs.declared.view.View.TheVariants.{AtInbox};
     ghost use Rattle.onfi_reply.specs.Rule.{popped_of};
-    ghost use Rattle.onfi_reply.specs.Ends.{Popper};
+    ghost use Rattle.onfi_reply.specs.Ends.{InboxSeatView};
 
-    ghost Value = { Popper };
+    ghost Value = { InboxSeatView };
 
     ghost view = { λ s. record {
       queue = s.pass.table_id;

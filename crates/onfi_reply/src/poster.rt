@@ -19,9 +19,9 @@ pub struct Poster {
 
 impl Model for Poster {
     ghost use Rattle.std.specs.Prelude.{◌≡◌, true, None};
-    ghost use Rattle.onfi_reply.specs.Ends.{Giver};
+    ghost use Rattle.onfi_reply.specs.Ends.{PosterView};
 
-    ghost Value = { Giver };
+    ghost Value = { PosterView };
 
     ghost view = { λ t. record {
       queue = t.seat.queue;

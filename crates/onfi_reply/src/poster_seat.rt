@@ -26,9 +26,9 @@ impl Model for PosterSeat {
     ghost use Rattle.crossbeam_queue.specs.Passes.{view as known, IsPassOf, ruled_capacity};
     ghost use Rattle.onfi_reply.specs.declared.view.View.TheVariants.{AtPoster};
     ghost use Rattle.onfi_reply.specs.Rule.{posted_of, made_of, back_of};
-    ghost use Rattle.onfi_reply.specs.Ends.{SeatGiver};
+    ghost use Rattle.onfi_reply.specs.Ends.{PosterSeatView};
 
-    ghost Value = { SeatGiver };
+    ghost Value = { PosterSeatView };
 
     ghost view = { λ s. record {
       queue = s.pass.table_id;

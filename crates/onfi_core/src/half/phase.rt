@@ -15,7 +15,7 @@ use crate::finding::item_of;
 use crate::half::Half;
 use crate::history::History;
 use crate::outcome::Cause;
-use crate::ran::Ran;
+use crate::phase_result::PhaseResult;
 use crate::slot::Slot;
 use onfi_request::{Basis, Item, Reply};
 use onfi_schedule::Placed;
@@ -40,7 +40,7 @@ impl Half {
     /// The phase that [`Half::due`] told is done, and the chip gave `ran` at it; the reply of a post is held behind all
     /// others. It takes no memory. The chip is shown for the caller's proof alone, which picks the faults that the reply
     /// rests on.
-    pub fn done<T>(&mut self, due: Due, ran: Ran, chip: &T)
+    pub fn done<T>(&mut self, due: Due, ran: PhaseResult, chip: &T)
         ghost faults: { List AFault }
         requires settled { self.old.lent ≡ None }
         requires due { IsDue self.old.state due }
@@ -84,7 +84,7 @@ fn reply_of<T>(
     slots: &Slab<Slot>,
     history: &History,
     due: &Due,
-    ran: Ran,
+    ran: PhaseResult,
     chip: &T,
 ) -> Option<Reply>
     ghost faults: { List AFault }
@@ -94,7 +94,7 @@ fn reply_of<T>(
     requires items { (key : ℕ) (slot : ASlot) → get slots.now key ≡ Some slot → slice_get history.now.accepted slot.place ≡ Some slot.item }
     ensures { option_to_list result ≡ replies_of history.now.accepted faults due.now ran }
 {
-    let Ran::Post(answer) = ran else {
+    let PhaseResult::Post(answer) = ran else {
         return None;
     };
     let place = due.group.members()[usize::from(due.phase) - due.group.len()].id;

@@ -11,13 +11,13 @@ use Rattle.onfi_chip.specs.Chip.{Chip, device_in, spans_for}
 use Rattle.onfi_chip.specs.Chip.Lun.{Idle, Posting}
 use Rattle.onfi_chip.specs.Calls.{HasDone, command_of}
 use Rattle.onfi_chip.proofs.SimCalls.{in_range}
-use Rattle.onfi_seq.specs.declared.fetch.Fetch.{Fetch}
-use Rattle.onfi_seq.specs.declared.states.Working.{Working}
-use Rattle.onfi_seq.specs.declared.states.Posting.{Posting as InPosts}
-use Rattle.onfi_seq.specs.declared.lun.Lun.{Lun}
-use Rattle.onfi_seq.specs.declared.target.Target.{Target}
-use Rattle.onfi_seq.specs.Phases.{IsWorking, IsDue}
-use Rattle.onfi_seq.proofs.Phases.{same_posts, launched_at}
+use Rattle.onfi_lun.specs.declared.fetch.Fetch.{Fetch}
+use Rattle.onfi_lun.specs.declared.states.Working.{Working}
+use Rattle.onfi_lun.specs.declared.states.Posting.{Posting as InPosts}
+use Rattle.onfi_lun.specs.declared.lun.Lun.{Lun}
+use Rattle.onfi_lun.specs.declared.target.Target.{Target}
+use Rattle.onfi_lun.specs.Phases.{IsWorking, IsDue}
+use Rattle.onfi_lun.proofs.Phases.{same_posts, launched_at}
 use Rattle.onfi_channel_tests.proofs.phases.run_one.Goals as goal
 
 short : (spans : Spans) → 0 + spans.cmd + spans.array ≤ 4503599627370496

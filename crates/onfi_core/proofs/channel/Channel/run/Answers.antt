@@ -11,8 +11,8 @@ use Rattle.onfi_core.proofs.Reaching.{events_reach, step_reaches}
 use Rattle.onfi_core.proofs.Running.{cause_is, lost_by, may_drive, ran_step, stop_step}
 use Rattle.onfi_core.proofs.channel.Channel.run.Goals as goal
 
-pub drive-requires : goal.drive-requires
-drive-requires g c =
+pub run_phase-requires : goal.run_phase-requires
+run_phase-requires g c =
     let i = c.self.invariant in
     let f = c.self.inside in
     let now : ChannelState = record { half = f.half.state; chip = g.C.Chip.state f.chip; sent = f.traffic.sent; waiting = f.waiting.items; collected = f.traffic.collected } in
@@ -27,10 +27,10 @@ invariant_of-self g c =
     let now : ChannelState = record { half = f.half.state; chip = g.C.Chip.state f.chip; sent = f.traffic.sent; waiting = f.waiting.items; collected = f.traffic.collected } in
     let is = due_within g.C.Chip.state _ _ c.args.due c.self.view_is c.requires.due in
     let open' = open_within g.C.Chip.state _ _ c.self.view_is c.requires.open in
-    let ran : HasRun (g.C.Chip.state f.chip) f.half.setup.geometry c.args.due c.member.result.now c.in-Ok.ran (g.C.Chip.state c.drive.new.chip) = subst (λ (s : Setup). HasRun (g.C.Chip.state f.chip) s.geometry c.args.due c.member.result.now c.in-Ok.ran (g.C.Chip.state c.drive.new.chip)) c.setup.ensures c.in-Ok.ensures.ran in
+    let ran : HasRun (g.C.Chip.state f.chip) f.half.setup.geometry c.args.due c.member.result.now c.in-Ok.ran (g.C.Chip.state c.run_phase.new.chip) = subst (λ (s : Setup). HasRun (g.C.Chip.state f.chip) s.geometry c.args.due c.member.result.now c.in-Ok.ran (g.C.Chip.state c.run_phase.new.chip)) c.setup.ensures c.in-Ok.ensures.ran in
     let half = ap (λ (v : HalfView). v.state) c.done.ensures.done in
-    let after : ChannelState = record now { half = c.done.new.self.state; chip = g.C.Chip.state c.drive.new.chip } in
-    let step : (n : ℕ) → Step f.half.setup now (event.Bus n) (outcome.Phase c.args.due.start) after = λ channel. ran_step f.half.setup now (events_reach f.half.setup now i.reached) c.args.due is open' c.member.result.now c.member.ensures channel (g.C.Chip.state c.drive.new.chip) c.in-Ok.ran c.done.new.self.state ran half in
+    let after : ChannelState = record now { half = c.done.new.self.state; chip = g.C.Chip.state c.run_phase.new.chip } in
+    let step : (n : ℕ) → Step f.half.setup now (event.Bus n) (outcome.Phase c.args.due.start) after = λ channel. ran_step f.half.setup now (events_reach f.half.setup now i.reached) c.args.due is open' c.member.result.now c.member.ensures channel (g.C.Chip.state c.run_phase.new.chip) c.in-Ok.ran c.done.new.self.state ran half in
     let reached = step_reaches f.half.setup now (event.Bus 0) (outcome.Phase c.args.due.start) after i.reached (step 0) in
     let posted = ap (λ (v : HalfView). v.state.posted) c.done.ensures.done in
     let lent = ap (λ (v : HalfView). v.lent) c.done.ensures.done ∙ i.settled in
@@ -44,10 +44,10 @@ returns-in-Ok-clause-step g c channel =
     let now : ChannelState = record { half = f.half.state; chip = g.C.Chip.state f.chip; sent = f.traffic.sent; waiting = f.waiting.items; collected = f.traffic.collected } in
     let is = due_within g.C.Chip.state _ _ c.args.due c.self.view_is c.requires.due in
     let open' = open_within g.C.Chip.state _ _ c.self.view_is c.requires.open in
-    let ran : HasRun (g.C.Chip.state f.chip) f.half.setup.geometry c.args.due c.member.result.now c.in-Ok.ran (g.C.Chip.state c.drive.new.chip) = subst (λ (s : Setup). HasRun (g.C.Chip.state f.chip) s.geometry c.args.due c.member.result.now c.in-Ok.ran (g.C.Chip.state c.drive.new.chip)) c.setup.ensures c.in-Ok.ensures.ran in
+    let ran : HasRun (g.C.Chip.state f.chip) f.half.setup.geometry c.args.due c.member.result.now c.in-Ok.ran (g.C.Chip.state c.run_phase.new.chip) = subst (λ (s : Setup). HasRun (g.C.Chip.state f.chip) s.geometry c.args.due c.member.result.now c.in-Ok.ran (g.C.Chip.state c.run_phase.new.chip)) c.setup.ensures c.in-Ok.ensures.ran in
     let half = ap (λ (v : HalfView). v.state) c.done.ensures.done in
-    let after : ChannelState = record now { half = c.done.new.self.state; chip = g.C.Chip.state c.drive.new.chip } in
-    let step : (n : ℕ) → Step f.half.setup now (event.Bus n) (outcome.Phase c.args.due.start) after = λ channel. ran_step f.half.setup now (events_reach f.half.setup now i.reached) c.args.due is open' c.member.result.now c.member.ensures channel (g.C.Chip.state c.drive.new.chip) c.in-Ok.ran c.done.new.self.state ran half in
+    let after : ChannelState = record now { half = c.done.new.self.state; chip = g.C.Chip.state c.run_phase.new.chip } in
+    let step : (n : ℕ) → Step f.half.setup now (event.Bus n) (outcome.Phase c.args.due.start) after = λ channel. ran_step f.half.setup now (events_reach f.half.setup now i.reached) c.args.due is open' c.member.result.now c.member.ensures channel (g.C.Chip.state c.run_phase.new.chip) c.in-Ok.ran c.done.new.self.state ran half in
     outside g.C.Chip.state _ _ (event.Bus channel) (outcome.Phase c.args.due.start) after c.self.view_is (step channel)
 
 pub invariant_of-self-in-Some : goal.invariant_of-self-in-Some
@@ -58,7 +58,7 @@ invariant_of-self-in-Some g c =
     let is = due_within g.C.Chip.state _ _ c.args.due c.self.view_is c.requires.due in
     let open' = open_within g.C.Chip.state _ _ c.self.view_is c.requires.open in
     let reached = events_reach f.half.setup now i.reached in
-    let chip' = g.C.Chip.state c.drive.new.chip in
+    let chip' = g.C.Chip.state c.run_phase.new.chip in
     let half = ap (λ (v : HalfView). v.state) c.stop.ensures in
     let after : ChannelState = record now { half = c.stop.new.self.state; chip = chip' } in
     let stops = sym c.cause_of.ensures ∙ c.in-Some.is in
@@ -78,7 +78,7 @@ returns-in-Some-clause-step g c channel =
     let is = due_within g.C.Chip.state _ _ c.args.due c.self.view_is c.requires.due in
     let open' = open_within g.C.Chip.state _ _ c.self.view_is c.requires.open in
     let reached = events_reach f.half.setup now i.reached in
-    let chip' = g.C.Chip.state c.drive.new.chip in
+    let chip' = g.C.Chip.state c.run_phase.new.chip in
     let half = ap (λ (v : HalfView). v.state) c.stop.ensures in
     let after : ChannelState = record now { half = c.stop.new.self.state; chip = chip' } in
     let stops = sym c.cause_of.ensures ∙ c.in-Some.is in

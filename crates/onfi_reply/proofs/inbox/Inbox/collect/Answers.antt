@@ -1,5 +1,5 @@
 use Rattle.std.proofs.Common.{rules, subst}
-use Rattle.onfi_reply.specs.Ends.{Getter}
+use Rattle.onfi_reply.specs.Ends.{InboxView}
 use Rattle.onfi_reply.specs.Replies.{IsNext}
 use Rattle.onfi_reply.proofs.Given.{front_whole, front_next, popped_whole}
 use Rattle.onfi_reply.proofs.inbox.Inbox.collect.Goals as goal
@@ -12,5 +12,5 @@ invariant_of-self-in-None g c = popped_whole c.pop.new.self _ (search rules)
 
 pub returns-in-Some-clause-rightful : goal.returns-in-Some-clause-rightful
 returns-in-Some-clause-rightful g c =
-    subst (λ (y : Getter). IsNext y.opened y.given c.in-Some.reply) c.self.view_is
+    subst (λ (y : InboxView). IsNext y.opened y.given c.in-Some.reply) c.self.view_is
     (front_next c.self.inside.seat c.in-Some.reply _ _ c.self.invariant c.in-Some.ensures.items)

@@ -1,0 +1,26 @@
+use Rattle.std.proofs.Common.{◌≡◌, sym, ap, subst, ◌∙◌}
+use Rattle.onfi_addr.specs.declared.place.Place.{Place}
+use Rattle.onfi_addr.specs.Rows.{row_of}
+use Rattle.onfi_chip.specs.Calls.{IsNextPost}
+use Rattle.onfi_core.proofs.Told.{if_ok_map}
+use Rattle.onfi_lun.proofs.lun.Lun.fetch.Goals as goal
+
+pub returns-in-Read-clause-answer : goal.returns-in-Read-clause-answer
+returns-in-Read-clause-answer g c =
+    let row : row_of c.args.target.now.geometry c.args.fetch.place ≡ c.row-row.result = ap (λ (p : Place). row_of c.args.target.now.geometry p) (sym c.place.ensures) ∙ sym c.row-row.ensures.value in
+    if_ok_map _ _ c.read_out.result (λ answer f post left h. f post left (subst (λ r. IsNextPost (g.C.Chip.state c.args.chip.now) c.args.now r post left) row h.next)) c.read_out.ensures.answer
+
+pub returns-in-Read-clause-done : goal.returns-in-Read-clause-done
+returns-in-Read-clause-done g c =
+    let row : row_of c.args.target.now.geometry c.args.fetch.place ≡ c.row-row.result = ap (λ (p : Place). row_of c.args.target.now.geometry p) (sym c.place.ensures) ∙ sym c.row-row.ensures.value in
+    if_ok_map _ _ c.read_out.result (λ answer f post left h. f post left (subst (λ r. IsNextPost (g.C.Chip.state c.args.chip.now) c.args.now r post left) row h.next)) c.read_out.ensures.done
+
+pub returns-in-Program-clause-answer : goal.returns-in-Program-clause-answer
+returns-in-Program-clause-answer g c =
+    let row : row_of c.args.target.now.geometry c.args.fetch.place ≡ c.row-row.result = ap (λ (p : Place). row_of c.args.target.now.geometry p) (sym c.place.ensures) ∙ sym c.row-row.ensures.value in
+    if_ok_map _ _ c.ask_status.result (λ answer f post left h. f post left (subst (λ r. IsNextPost (g.C.Chip.state c.args.chip.now) c.args.now r post left) row h.next)) c.ask_status.ensures.answer
+
+pub returns-in-Program-clause-done : goal.returns-in-Program-clause-done
+returns-in-Program-clause-done g c =
+    let row : row_of c.args.target.now.geometry c.args.fetch.place ≡ c.row-row.result = ap (λ (p : Place). row_of c.args.target.now.geometry p) (sym c.place.ensures) ∙ sym c.row-row.ensures.value in
+    if_ok_map _ _ c.ask_status.result (λ answer f post left h. f post left (subst (λ r. IsNextPost (g.C.Chip.state c.args.chip.now) c.args.now r post left) row h.next)) c.ask_status.ensures.done

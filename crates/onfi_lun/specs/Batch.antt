@@ -1,0 +1,67 @@
+-- What a batch asks for, and what it gives.
+use Rattle.std.specs.Prelude.{◌≡◌, ◌≢◌, ℕ, List, Option, None, Some, slice_get}
+use Rattle.std.specs.List.{AllByRecursion as Each}
+use Rattle.onfi_addr.specs.declared.geometry.Geometry.{Geometry}
+use Rattle.onfi_timing.specs.declared.timing.Timing.{Timing}
+use Rattle.onfi_request.specs.declared.want.Want.{Want}
+use Rattle.onfi_request.specs.declared.fault.Fault.{Fault}
+use Rattle.onfi_request.specs.declared.request.Item.{Item}
+use Rattle.onfi_request.specs.declared.reply.Reply.{Reply}
+use Rattle.onfi_request.specs.Range.{Fits}
+use Rattle.onfi_die.specs.Shapes.{Device}
+use Rattle.onfi_die.specs.Contents.{fresh, runs}
+use Rattle.onfi_die.specs.Answers.{requests_on}
+use Rattle.onfi_chip.specs.Chip.{Chip, opened}
+use Rattle.onfi_chip.specs.declared.fault.ChipFault.{ChipFault}
+use Rattle.onfi_chip.specs.declared.fault.ChipFault.TheVariants as chip_fault
+use Rattle.onfi_chip.specs.Calls.{IsLost}
+use Rattle.onfi_lun.specs.declared.fault.PostFault.{PostFault}
+use Rattle.onfi_lun.specs.declared.fault.PostFault.TheVariants as post_fault
+use Rattle.onfi_group.specs.Words.{Has}
+use Rattle.onfi_problem.specs.declared.lun_state.LunState.TheVariants.{Running}
+use Rattle.onfi_problem.specs.Problem.{Problem}
+use Rattle.onfi_lun.specs.declared.batch.fault.BatchFault.{BatchFault}
+use Rattle.onfi_lun.specs.declared.batch.fault.BatchFault.TheVariants.{Bus, NotReady, Memory}
+use Rattle.onfi_core.specs.State.{wants_from}
+use Rattle.onfi_lun.specs.Drive.{KeptSince}
+
+-- a chip as it opened
+abbrev pub IsOpened : Geometry → Timing → Chip → Type 0
+IsOpened geometry timing chip = (faults : List Fault) × (failures : ℕ) × (chip ≡ opened geometry timing faults failures)
+
+-- the device takes the items, want i of the problem is item i, and nothing runs
+pub record IsBatchOf (geometry : Geometry) (items : List Item) (problem : Problem) : Type 0 where
+  pub fits : Each (λ x. Fits geometry x.request) items
+  pub wants : problem.wants ≡ wants_from geometry 0 items
+  pub nothing_runs : (lun : ℕ) (group : List Want) (next ready : ℕ) → slice_get problem.luns lun ≢ Some (Running group next ready)
+
+-- each item has its reply
+abbrev pub EachReplied : List Item → List Reply → Type 0
+EachReplied items replies = (place : ℕ) (item : Item) → slice_get items place ≡ Some item → (r : Reply) × Has replies r × (r.place ≡ place)
+
+-- each block holds what the items on it, run in their order, leave of an erased one
+abbrev pub HoldsItems : Device → List Item → Chip → Type 0
+HoldsItems device items chip = (lun block : ℕ) → chip.blocks lun block ≡ runs device (requests_on lun block items) (fresh device)
+
+-- what a fault leaves of the chip
+abbrev pub AfterBatchFault : BatchFault → Chip → Chip → Type 0
+AfterBatchFault Bus old new = IsLost old new
+AfterBatchFault (NotReady lun) old new = IsLost old new
+AfterBatchFault Memory old new = KeptSince old new
+
+-- the batch's fault for the chip's, and for a post's
+abbrev pub of_chip : ChipFault → BatchFault
+of_chip chip_fault.Bus = Bus
+of_chip chip_fault.Memory = Memory
+
+abbrev pub of_post : PostFault → ℕ → BatchFault
+of_post post_fault.Bus lun = Bus
+of_post post_fault.NotReady lun = NotReady lun
+
+-- the reply rests on these items and faults
+abbrev pub RestsOn : List Item → List Fault → Reply → Type 0
+RestsOn items faults r = (r.basis.accepted ≡ items) × (r.basis.faults ≡ faults)
+
+abbrev pub IfRests : List Item → List Fault → Option Reply → Type 0
+IfRests items faults None = Unit {0}
+IfRests items faults (Some r) = RestsOn items faults r

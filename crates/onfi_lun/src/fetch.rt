@@ -1,0 +1,59 @@
+ghost use Rattle.std.specs.Prelude.{◌≡◌, IfOk};
+ghost use Rattle.onfi_lun.specs.Phases.{HasRoom};
+
+use onfi_addr::{Geometry, Place};
+use onfi_timing::Kind;
+use std::alloc::{AllocError, Global};
+
+/// What a post fetches, with room for it.
+#[derive(Debug, Drop)]
+pub struct Fetch {
+    kind: Kind,
+    place: Place,
+    room: Vec<u8>,
+}
+
+impl Fetch {
+    /// The post of a member of that kind at that place; a read has room for all bytes of a page.
+    ///
+    /// # Errors
+    /// Want of memory.
+    pub fn of(
+        alloc: Global,
+        geometry: &Geometry,
+        kind: Kind,
+        place: Place,
+    ) -> Result<Fetch, AllocError>
+        ensures kind { IfOk result (λ fetch. fetch.kind ≡ kind) }
+        ensures place { IfOk result (λ fetch. fetch.place ≡ place) }
+        ensures room { IfOk result (λ fetch. HasRoom geometry.now fetch) }
+    {
+        let count = match kind {
+            Kind::Read => usize::from(geometry.page_bytes()),
+            Kind::Program | Kind::Erase => 0,
+        };
+        let room = vec![in alloc; 0; count]?;
+        Ok(Fetch { kind, place, room })
+    }
+
+    /// The kind of the member.
+    pub(crate) fn kind(&self) -> Kind
+        ensures { result ≡ self.now.kind }
+    {
+        self.kind
+    }
+
+    /// Where the member's page is.
+    pub(crate) fn place(&self) -> Place
+        ensures { result ≡ self.now.place }
+    {
+        self.place
+    }
+
+    /// Its room.
+    pub(crate) fn into_room(self) -> Vec<u8>
+        ensures { result.items ≡ self.room.items }
+    {
+        self.room
+    }
+}

@@ -1,0 +1,152 @@
+//! The posts of a group.
+
+ghost use Rattle.std.specs.Prelude.{◌≡◌, ◌≢◌, ◌+◌, ◌^◌, ◌<◌, ◌≤◌, true, List, ◌∷◌, length, IfOk, IfErr, IsBitSet, ℕ};
+ghost use Rattle.onfi_request.specs.declared.answer.Answer.{Answer as AnAnswer};
+ghost use Rattle.onfi_addr.specs.Rows.{page_bytes_of};
+ghost use Rattle.onfi_timing.specs.Kinds.{spans_of};
+ghost use Rattle.onfi_chip.specs.declared.post.Post.{Post as APost};
+ghost use Rattle.onfi_chip.specs.Chip.{posted};
+ghost use Rattle.onfi_chip.specs.Calls.{HasDone, IsLost, IsNextPost, TellsAnswer};
+ghost use Rattle.onfi_lun.specs.Phases.{IsOf, IsPosted, IsDue, IsNextFetch, HasRoom, OthersStay, IsBehind};
+
+use crate::fault::{PostFault, Refused};
+use crate::fetch::Fetch;
+use crate::lun::{Lun, Posted};
+use crate::states::{Idle, Phase, Posting};
+use crate::target::Target;
+use onfi_chip::Chip;
+use onfi_request::{Answer, Bytes};
+use onfi_timing::Kind;
+
+impl Lun<Posting> {
+    /// The next post of the group, at `now`, in ns: the data output of a read, the status of a program or an erase.
+    ///
+    /// # Errors
+    /// `Bus`, or `NotReady` where the status of a program or an erase told so, with the LUN as it was; only where the
+    /// chip's count of failures rose.
+    pub fn post<C: Chip>(
+        self,
+        chip: &mut C,
+        target: &Target,
+        now: u64,
+        fetch: Fetch,
+    ) -> Result<(Posted, Answer), Refused<PostFault, Posting>>
+        requires device { IsOf target.now (C.state chip.old) }
+        requires due { (post : APost) × (left : List APost) × IsDue target.now.geometry (C.state chip.old) self now fetch post left }
+        requires room { HasRoom target.now.geometry fetch }
+        requires time { now < 2 ^ 63 }
+        ensures done { IfOk result (λ _. (post : APost) (left : List APost) → IsDue target.now.geometry (C.state chip.old) self now fetch post left
+            → HasDone (posted (C.state chip.old) post left now) (C.state chip.new)) }
+        ensures answer { IfOk result (λ told. (post : APost) (left : List APost) → IsDue target.now.geometry (C.state chip.old) self now fetch post left
+            → told.1 ≡ post.answer) }
+        ensures posted { IfOk result (λ told. (post : APost) (left : List APost) → IsDue target.now.geometry (C.state chip.old) self now fetch post left
+            → IsPosted left (C.state chip.new) self.number told.0) }
+        ensures made { IfOk result (λ told. IsBehind self.number self.state.left (now + (spans_of target.now.timing fetch.kind).post) told.0) }
+        ensures others { IfOk result (λ _. OthersStay self.number (C.state chip.old) (C.state chip.new)) }
+        ensures fault { IfErr result (λ _. IsLost (C.state chip.old) (C.state chip.new)) }
+        ensures told { IfErr result (λ refused. refused.fault ≡ PostFault.NotReady → fetch.kind ≢ Kind.Read) }
+        ensures lun { IfErr result (λ refused. refused.lun ≡ self) }
+    {
+        let ready = now + target.timing.spans(fetch.kind()).post;
+        match self.fetch(chip, target, now, fetch) {
+            Ok(answer) => Ok((behind(self.number(), self.state().left, ready), answer)),
+            Err(fault) => Err(Refused { fault, lun: self }),
+        }
+    }
+}
+
+// The LUN behind a post, of which so many were left before it.
+fn behind(number: u8, left: u8, ready: u64) -> Posted
+    requires some { 1 ≤ left }
+    requires few { left ≤ 4 }
+    ensures { IsBehind number left ready result }
+{
+    if left > 1 {
+        Posted::More(Lun::at(
+            number,
+            Posting {
+                left: left - 1,
+                ready,
+            },
+        ))
+    } else {
+        Posted::Last(Lun::at(number, Idle))
+    }
+}
+
+impl<S: Phase> Lun<S> {
+    // Fetches the answer of the member whose post comes next.
+    fn fetch<C: Chip>(
+        &self,
+        chip: &mut C,
+        target: &Target,
+        now: u64,
+        fetch: Fetch,
+    ) -> Result<Answer, PostFault>
+        requires phase { S.posts ≡ true }
+        requires next { (post : APost) × (left : List APost) × IsNextFetch target.now.geometry (C.state chip.old) now fetch post left }
+        requires room { HasRoom (C.state chip.old).geometry fetch }
+        ensures answer { IfOk result (λ answer. (post : APost) (left : List APost)
+            → IsNextFetch target.now.geometry (C.state chip.old) now fetch post left → answer ≡ post.answer) }
+        ensures done { IfOk result (λ _. (post : APost) (left : List APost)
+            → IsNextFetch target.now.geometry (C.state chip.old) now fetch post left
+            → HasDone (posted (C.state chip.old) post left now) (C.state chip.new)) }
+        ensures err { IfErr result (λ _. IsLost (C.state chip.old) (C.state chip.new)) }
+        ensures told { IfErr result (λ fault. fault ≡ PostFault.NotReady → fetch.kind ≢ Kind.Read) }
+    {
+        let row = target.geometry.row(&fetch.place());
+        match fetch.kind() {
+            Kind::Read => read_out(chip, now, row, fetch.into_room()),
+            Kind::Program | Kind::Erase => ask_status(chip, now, row),
+        }
+    }
+}
+
+// The data output of a read into the room.
+fn read_out<C: Chip>(chip: &mut C, now: u64, row: u64, room: Vec<u8>) -> Result<Answer, PostFault>
+    requires next { (post : APost) × (left : List APost) × IsNextPost (C.state chip.old) now row post left × (post.kind ≡ Kind.Read) }
+    requires room { length room.items ≡ page_bytes_of (C.state chip.old).geometry }
+    ensures answer { IfOk result (λ answer. (post : APost) (left : List APost) → IsNextPost (C.state chip.old) now row post left
+        → answer ≡ post.answer) }
+    ensures done { IfOk result (λ _. (post : APost) (left : List APost) → IsNextPost (C.state chip.old) now row post left
+        → HasDone (posted (C.state chip.old) post left now) (C.state chip.new)) }
+    ensures err { IfErr result (λ _. IsLost (C.state chip.old) (C.state chip.new)) }
+    ensures told { IfErr result (λ fault. fault ≡ PostFault.Bus) }
+{
+    let mut room = room;
+    match chip.data_out(now, row, room.as_mut_slice()) {
+        Ok(()) => Ok(Answer::Read(Bytes::of(room))),
+        Err(_) => Err(PostFault::Bus),
+    }
+}
+
+// The status of a program or an erase.
+fn ask_status<C: Chip>(chip: &mut C, now: u64, row: u64) -> Result<Answer, PostFault>
+    requires { (post : APost) × (left : List APost) × IsNextPost (C.state chip.old) now row post left × (post.kind ≢ Kind.Read) }
+    ensures answer { IfOk result (λ answer. (post : APost) (left : List APost) → IsNextPost (C.state chip.old) now row post left
+        → answer ≡ post.answer) }
+    ensures done { IfOk result (λ _. (post : APost) (left : List APost) → IsNextPost (C.state chip.old) now row post left
+        → HasDone (posted (C.state chip.old) post left now) (C.state chip.new)) }
+    ensures err { IfErr result (λ _. IsLost (C.state chip.old) (C.state chip.new)) }
+{
+    match chip.status(now, row) {
+        Ok(byte) => told(byte),
+        Err(_) => Err(PostFault::Bus),
+    }
+}
+
+// What a status byte tells: bit 6 is RDY, bit 0 FAIL.
+fn told(byte: u8) -> Result<Answer, PostFault>
+    ensures ready { IfOk result (λ _. IsBitSet byte 6) }
+    ensures answer { IfOk result (λ answer. (other : AnAnswer) → TellsAnswer byte other → answer ≡ other) }
+    ensures not_ready { IfErr result (λ _. ¬ IsBitSet byte 6) }
+{
+    if byte & 0x40 == 0 {
+        return Err(PostFault::NotReady);
+    }
+    if byte & 1 == 0 {
+        Ok(Answer::Done)
+    } else {
+        Ok(Answer::Failed)
+    }
+}
