@@ -2,7 +2,7 @@ use Rattle.std.proofs.Common.{◌≤◌, length, sym, subst, arith}
 use Rattle.onfi_addr.specs.declared.place.Place.{Place}
 use Rattle.onfi_addr.specs.Rows.{row_of}
 use Rattle.onfi_chip.specs.Calls.{IsNextPost}
-use Rattle.onfi_core.proofs.drive.drive.Goals as goal
+use Rattle.onfi_core.proofs.drive.run_phase.Goals as goal
 
 pub returns-in-Ok-read_post-clause-ran : goal.returns-in-Ok-read_post-clause-ran
 returns-in-Ok-read_post-clause-ran g c =
