@@ -1,4 +1,4 @@
-ghost use Rattle.std.specs.Prelude.{◌≡◌, ℕ, IfOk, MatchOption, true, false, slice_index_or, length};
+ghost use Rattle.std.specs.Prelude.{◌≡◌, ◌≤◌, ℕ, IfOk, MatchOption, true, false, slice_index_or, length};
 ghost use Rattle.onfi_bound.specs.Loads.{AreLoads};
 ghost use Rattle.onfi_bound.specs.Reaching.{NoneReaches, IsFirst};
 
@@ -25,8 +25,9 @@ impl Loads {
     {
         let waiting = problem.waiting();
         let _limits = problem.bus_free();
-        let mut of = Vec::with_capacity(alloc, 256)?;
-        for at in 0..256usize {
+        let count = 1usize << width_of(waiting);
+        let mut of = Vec::with_capacity(alloc, count)?;
+        for at in 0..count {
             of.push(Load::of(problem, &some_of(waiting, at)))?;
         }
         Ok(Loads { of })
@@ -47,22 +48,35 @@ impl Loads {
     }
 }
 
-// The marks of which those at the bits of a number are left, the first mark at the highest bit.
+// How many marks there are up to the last that is set.
+fn width_of(marks: &[bool; 8]) -> u32
+    ensures { result ≤ 8 }
+{
+    let mut width = 0;
+    for i in 0..8u32 {
+        if marks[i as usize] {
+            width = i + 1;
+        }
+    }
+    width
+}
+
+// The marks of which those at the bits of a number are left, the first mark at the lowest bit.
 fn some_of(marks: &[bool; 8], number: usize) -> [bool; 8]
     ensures { (i : ℕ) → slice_index_or result i false ≡ true → slice_index_or marks.now i false ≡ true }
 {
     let mut some = [false; 8];
     for i in 0..8usize {
-        some[i] = marks[i] && number >> (7 - i) & 1 == 1;
+        some[i] = marks[i] && number >> i & 1 == 1;
     }
     some
 }
 
-// The number with the marks as its bits, the first one highest.
+// The number with the marks as its bits, the first one lowest.
 fn index_of(marks: &[bool; 8]) -> usize {
     let mut number = 0;
-    for mark in marks {
-        number = number % 128 * 2 + *mark as usize;
+    for i in 0..8usize {
+        number = number % 128 * 2 + marks[7 - i] as usize;
     }
     number
 }
