@@ -18,6 +18,7 @@ use Rattle.onfi_problem.proofs.Perm.{All-weaker, All-both, All-each}
 use Rattle.onfi_problem.proofs.Wants.{Rising}
 use Rattle.onfi_problem.proofs.Limits.{times_le}
 use Rattle.onfi_problem.proofs.Totals.{split_total}
+use Rattle.onfi_bound.proofs.Steps.{one_kind}
 
 sum_zero : (n : ℕ) (f : ℕ → ℕ) → ((i : ℕ) → f i ≡ 0) → sum_upto n f ≡ 0
 unfolding sum_upto
@@ -220,16 +221,11 @@ module _ (timing : Timing) (rules : Rules) (ms ws : List Want) (group : IsGroup 
         | inr k ↦ rw k (grid_step (2 ^ 16) (2 ^ 16) (waits_of timing rules ws kind) (waits_of timing rules left kind) 0 0 0 (λ page above d. let q = same_class kind page above (inl k) in omega arith) (let q = same_class kind 0 0 (inl k) in omega arith))
       ]
 
-  three : (kind : Kind) (c : ℕ) → (if same_kind Read kind then c else 0) + ((if same_kind Program kind then c else 0) + (if same_kind Erase kind then c else 0)) ≡ c
-  three Read c = omega arith
-  three Program c = omega arith
-  three Erase c = omega arith
-
   -- a started group takes at least the waits behind its first command
   pub waits_step : all_waits timing rules ws ≤ own_wait + all_waits timing rules left
   waits_step =
       let a = kind_step Read in let b = kind_step Program in let c = kind_step Erase in
-      let d = three (kind_of ms) own_wait in
+      let d = one_kind (kind_of ms) own_wait in
       omega arith
 
 pub no_waits_left : (timing : Timing) (rules : Rules) → all_waits timing rules [] ≡ 0

@@ -131,7 +131,7 @@ commands_long p =
     omega arith
 
 -- there is one where they are not 0
-any_cons : {A : Type 0} (f : A → Bool) (x : A) (xs : List A) → list_any f (x ∷ xs) ≡ (if f x then true else list_any f xs)
+pub any_cons : {A : Type 0} (f : A → Bool) (x : A) (xs : List A) → list_any f (x ∷ xs) ≡ (if f x then true else list_any f xs)
 any_cons f x xs = elim (cases_Bool (f x)) [ inl k ↦ rw k refl | inr k ↦ rw k refl ]
 
 some_of : (a b : ℕ) → (if nat_lt 0 a then true else nat_lt 0 b) ≡ nat_lt 0 (a + b)

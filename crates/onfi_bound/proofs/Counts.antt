@@ -17,6 +17,7 @@ use Rattle.onfi_problem.proofs.Wants.{total-append}
 use Rattle.onfi_bound.specs.Bounds.{on_lun, sum_upto, same_kind, page_class, above_class, in_class, on_plane, deepest, class_waits, waits_of, kind_waits, wants_work}
 use Rattle.onfi_bound.specs.Parts.{plane_counts, added_wait}
 use Rattle.onfi_bound.proofs.Classes.{same_kind_is, same_kind_self, deepest_in}
+use Rattle.onfi_bound.proofs.Steps.{one_kind}
 
 -- one more want on the LUN, or on another
 on_lun_yes : (lun : ℕ) (ws : List Want) (i : ℕ) (d : Want) → i < length ws → (get_or ws i d).lun ≡ lun → on_lun lun (take (i + 1) ws) ≡ on_lun lun (take i ws) ++ get_or ws i d ∷ []
@@ -203,11 +204,6 @@ module _ (timing : Timing) (rules : Rules) (ws : List Want) (w : Want) (plane : 
             let same = grid_same (2 ^ 16) (2 ^ 16) (waits_of timing rules (ws ++ w ∷ []) kind) (waits_of timing rules ws kind) (λ page' above'. same_waits kind page' above' (inl k)) in
             rw k (omega arith))
       ]
-
-  one_kind : (kind : Kind) (c : ℕ) → (if same_kind Read kind then c else 0) + ((if same_kind Program kind then c else 0) + (if same_kind Erase kind then c else 0)) ≡ c
-  one_kind Read c = omega arith
-  one_kind Program c = omega arith
-  one_kind Erase c = omega arith
 
   work_with : page < 2 ^ 16 → above < 2 ^ 16 → wants_work timing rules (ws ++ w ∷ []) ≡ wants_work timing rules ws + ((spans_of timing w.kind).cmd + (spans_of timing w.kind).post + added_wait (spans_of timing w.kind) rules ws w)
   work_with a b =

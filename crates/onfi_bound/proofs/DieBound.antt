@@ -18,14 +18,14 @@ use Rattle.onfi_schedule.specs.Runs.{Step, Run}
 use Rattle.onfi_problem.specs.Left.{commands_left, posts_left, waits_left, chain_time, want_command, want_post}
 use Rattle.onfi_bound.specs.Bounds.{on_lun, wants_work, die_at, die}
 use Rattle.onfi_problem.proofs.Perm.{All-has, All-each, All-weaker}
-use Rattle.onfi_problem.proofs.Places.{get_set_same, get_set_other, same_place, length_set}
+use Rattle.onfi_problem.proofs.Places.{get_set_same, get_set_other, same_place}
 use Rattle.onfi_problem.proofs.Wants.{Pairs-filter, Has-filter}
 use Rattle.onfi_problem.proofs.Totals.{total_same, split_total, startable_wanted, startable_apart}
 use Rattle.onfi_problem.proofs.Work.{one_phase}
 use Rattle.onfi_problem.proofs.Waits.{one_wait, chain_after, free_after}
 use Rattle.onfi_bound.proofs.Classes.{waits_step, no_waits_left}
 use Rattle.onfi_schedule.proofs.Exchange.{not_member}
-use Rattle.onfi_problem.proofs.Kept.{kept}
+use Rattle.onfi_problem.proofs.Kept.{kept, placed_luns}
 use Rattle.onfi_problem.proofs.LunAfter.{free_is}
 
 -- all that is left to a LUN, from when it may go on
@@ -127,10 +127,6 @@ die_step p (Start ms) t lun ip (since, at, st) late within =
           let wants = on_lun_other ms p.wants lun (λ w h k. not_member p ip ms st w h (λ q. d (sym q ∙ k))) in
           rw (wants, same) (die_later p c lun (slice_set p.luns l (lun_after p.timing ms 0 c)) (without ms p.wants) (on_lun lun p.wants) (slice_get p.luns lun) same (omega arith)))
     ]
-
-placed_luns : (p : Problem) (m : Move) (t : ℕ) → IsMove p m → length (placed p m t).luns ≡ length p.luns
-placed_luns p (Next l) t (g, n, r, at) = rw at (length_set p.luns l _)
-placed_luns p (Start ms) t (since, at, st) = length_set p.luns (lun_of ms) _
 
 done_die : (p : Problem) (lun : ℕ) (o : Option LunState) → ((g : List Want) (n r : ℕ) → o ≢ Some (Running g n r)) → die_at p lun [] o ≡ p.bus_free
 done_die p lun None h = refl

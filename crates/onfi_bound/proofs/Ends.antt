@@ -1,64 +1,25 @@
 -- Each problem has a run, and within the limits one that ends below 2^62: so do the bounds.
-use Rattle.std.proofs.Common.{◌≡◌, ◌≢◌, ℕ, zero, suc, ◌+◌, ◌*◌, ◌-◌, ◌^◌, ◌≤◌, ◌<◌, ◌⊎◌, inl, inr, List, [], ◌∷◌, length, Option, Some, None, refl, sym, ap, arith}
-use Rattle.std.specs.Prelude.{slice_get, max, IfSome}
+use Rattle.std.proofs.Common.{◌≡◌, ◌≢◌, ℕ, zero, suc, ◌^◌, ◌≤◌, ◌<◌, ◌⊎◌, inl, inr, List, [], ◌∷◌, length, Option, Some, None, refl, sym, arith}
+use Rattle.std.specs.Prelude.{slice_get, IfSome}
 use Rattle.std.proofs.lemmas.Bool.{eq-eqb}
 use Rattle.onfi_request.specs.declared.want.Want.{Want}
 use Rattle.onfi_group.specs.declared.rules.Rules.{Rules}
 use Rattle.onfi_problem.specs.declared.lun_state.LunState.{LunState}
 use Rattle.onfi_problem.specs.declared.lun_state.LunState.TheVariants.{Free, Running}
-use Rattle.onfi_problem.specs.Moves.{Move, Next, Start, IsMove, IsDone, earliest, placed, after, lun_after}
+use Rattle.onfi_problem.specs.Moves.{Move, Next, Start, IsMove, IsDone, earliest, after}
 use Rattle.onfi_problem.specs.Problem.{Problem, IsProblem}
-use Rattle.onfi_timing.specs.Kinds.{spans_of}
-use Rattle.onfi_group.specs.Group.{group_spans, lun_of, IsGroup, IsStartable}
-use Rattle.onfi_timing.specs.Phases.{phase_length}
+use Rattle.onfi_group.specs.Group.{IsStartable}
 use Rattle.onfi_schedule.specs.Runs.{Step, Run}
-use Rattle.onfi_problem.specs.Left.{command_time, post_time, want_command, want_post, all_commands, all_posts, InLimits}
+use Rattle.onfi_problem.specs.Left.{InLimits, work}
 use Rattle.onfi_bound.specs.Bounds.{bus, lead, trail, die}
-use Rattle.onfi_problem.proofs.Perm.{All-weaker}
 use Rattle.onfi_problem.proofs.Places.{get_within}
-use Rattle.onfi_problem.proofs.Totals.{total_set, total_same, startable_total}
-use Rattle.onfi_problem.proofs.Work.{one_phase, commands_after, posts_after}
 use Rattle.onfi_problem.proofs.Limits.{after_limits, bus_in_limits}
-use Rattle.onfi_schedule.proofs.Chains.{long}
 use Rattle.onfi_bound.proofs.BusBound.{bus_bound}
 use Rattle.onfi_bound.proofs.LeadBound.{lead_bound}
 use Rattle.onfi_bound.proofs.TrailBound.{trail_bound}
 use Rattle.onfi_bound.proofs.DieBound.{die_bound}
-
--- the bus work that is left
-abbrev work : Problem → ℕ
-work p = all_commands p + all_posts p
-
-work_placed : (p : Problem) (m : Move) (t : ℕ) → IsProblem p → IsMove p m → work (placed p m t) + 1 ≤ work p
-work_placed p (Next l) t ip (g, n, r, at) =
-    let i = ip.running l g n r at in
-    let some = i.group.some in
-    let c = t + phase_length (group_spans p.timing g) (length g) n in
-    let one = one_phase (group_spans p.timing g) (length g) n i.unfinished in
-    let some_time = long (group_spans p.timing g) (length g) n in
-    let a = total_set (command_time p.timing) p.luns l _ (lun_after p.timing g n c) at in
-    let b = total_set (post_time p.timing) p.luns l _ (lun_after p.timing g n c) at in
-    let a' = commands_after p.timing g n c some in
-    let b' = posts_after p.timing g n c some in
-    rw at (omega arith)
-work_placed p (Start ms) t ip (since, at, st) =
-    let some = st.group.some in
-    let k = length ms in
-    let spans = group_spans p.timing ms in
-    let c = t + phase_length spans k 0 in
-    let z : k - 0 ≡ k = omega arith in
-    let y : 2 * k - max 0 k ≡ k = omega arith in
-    let one = rw (z, y) at (one_phase spans k 0 (omega arith)) in
-    let some_time = long spans k 0 in
-    let a = total_set (command_time p.timing) p.luns (lun_of ms) _ (lun_after p.timing ms 0 c) at in
-    let b = total_set (post_time p.timing) p.luns (lun_of ms) _ (lun_after p.timing ms 0 c) at in
-    let a' = commands_after p.timing ms 0 c some in
-    let b' = posts_after p.timing ms 0 c some in
-    let wc = startable_total (want_command p.timing) p ms ip st in
-    let wp = startable_total (want_post p.timing) p ms ip st in
-    let mc = total_same (want_command p.timing) spans.cmd ms (All-weaker _ _ (λ m e. ap (λ kind. (spans_of p.timing kind).cmd) e) ms st.group.kind) in
-    let mp = total_same (want_post p.timing) spans.post ms (All-weaker _ _ (λ m e. ap (λ kind. (spans_of p.timing kind).post) e) ms st.group.kind) in
-    omega arith
+use Rattle.onfi_bound.proofs.BusWork.{work_after}
+use Rattle.onfi_group.proofs.Placing.{one_is_group}
 
 -- a LUN that runs a group, or none
 abbrev SomeRuns : List LunState → Type 0
@@ -79,21 +40,8 @@ running_or_free (Free since ∷ luns) = elim (running_or_free luns) [
     no_more none zero g n r e = cc
     no_more none (suc l) g n r e = none l g n r e
 
--- a want by itself is a group
-alone : (rules : Rules) (w : Want) → IsGroup rules (w ∷ [])
-alone rules w = record {
-  some = omega arith;
-  few = omega arith;
-  kind = (refl, tt);
-  lun = (refl, tt);
-  planes = (tt, tt);
-  page = λ _. (refl, tt);
-  rule = λ several. absurd (omega arith);
-  strict = λ _. (refl, tt);
-}
-
 first_alone : (rules : Rules) (w : Want) (ws : List Want) → IsStartable rules (w ∷ ws) (w ∷ [])
-first_alone rules w ws = record { group = alone rules w; first = (rw (eq-eqb w.lun w.lun refl, eq-eqb w.block w.block refl) refl, tt) }
+first_alone rules w ws = record { group = one_is_group rules w; first = (rw (eq-eqb w.lun w.lun refl, eq-eqb w.block w.block refl) refl, tt) }
 
 -- where something is left there is a move
 move_or_done : (p : Problem) → IsProblem p → IsDone p ⊎ ((m : Move) × IsMove p m)
@@ -123,11 +71,11 @@ one_more p m im rest = record { steps = record { move = m; start = earliest p m 
 ended : (n : ℕ) (p : Problem) → work p ≤ n → InLimits p → Ended p
 ended zero p le lim = elim (move_or_done p lim.problem) [
   | inl done ↦ record { steps = []; finish = p.bus_free; run = (done, refl); small = bus_in_limits p lim }
-  | inr (m, im) ↦ (let less = work_placed p m (earliest p m) lim.problem im in absurd (omega arith))
+  | inr (m, im) ↦ (let less = work_after p m lim.problem im in absurd (omega arith))
 ]
 ended (suc n) p le lim = elim (move_or_done p lim.problem) [
   | inl done ↦ record { steps = []; finish = p.bus_free; run = (done, refl); small = bus_in_limits p lim }
-  | inr (m, im) ↦ (let less = work_placed p m (earliest p m) lim.problem im in one_more p m im (ended n (after p m) (omega arith) (after_limits p m lim im)))
+  | inr (m, im) ↦ (let less = work_after p m lim.problem im in one_more p m im (ended n (after p m) (omega arith) (after_limits p m lim im)))
 ]
 
 pub bus_small : (p : Problem) → InLimits p → bus p < 2 ^ 62

@@ -1,6 +1,6 @@
 -- The lead bound is at most the finish of each run.
 use Rattle.std.proofs.Common.{◌≡◌, ◌≢◌, ℕ, zero, suc, ◌+◌, ◌*◌, ◌-◌, ◌≤◌, ◌<◌, inl, inr, List, [], ◌∷◌, ◌++◌, length, Option, Some, None, refl, sym, ap, ◌∙◌, subst, arith}
-use Rattle.std.specs.Prelude.{slice_get, slice_set, max, min, map, ◌==◌}
+use Rattle.std.specs.Prelude.{slice_get, slice_set, max, min, ◌==◌}
 use Rattle.std.specs.List.{AllByRecursion as All}
 use Rattle.std.proofs.lemmas.Bool.{cases_lt, eq-eqb, lt-ltb, le-ltb}
 use Rattle.onfi_request.specs.declared.want.Want.{Want}
@@ -15,7 +15,7 @@ use Rattle.onfi_timing.specs.Phases.{phase_length, wait_before}
 use Rattle.onfi_schedule.specs.Runs.{Step, Run}
 use Rattle.onfi_problem.specs.Left.{commands_left, posts_left, post_time, waits_left, want_post, all_posts}
 use Rattle.onfi_bound.specs.Bounds.{on_lun, least, least_with, plus_each, to_post, post_starts, lead, bus}
-use Rattle.onfi_problem.proofs.Perm.{All-has, All-back, All-weaker}
+use Rattle.onfi_problem.proofs.Perm.{All-has, All-back, All-weaker, Has-map}
 use Rattle.onfi_problem.proofs.Places.{get_set_same, get_set_other, same_place}
 use Rattle.onfi_problem.proofs.Wants.{Has-filter}
 use Rattle.onfi_problem.proofs.Totals.{total_set, total_same, startable_total, startable_wanted}
@@ -46,11 +46,6 @@ least_all (x ∷ xs) e h = go (λ d q. least_all xs d q) (least xs) refl
 least_has : (xs : List ℕ) (v : ℕ) → Has xs v → (b : ℕ) × (least xs ≡ Some b) × (b ≤ v)
 least_has [] v h = absurd h
 least_has (x ∷ xs) v h = let a = least_all (x ∷ xs) (least_with x (least xs)) refl in (least_with x (least xs), refl, All-has (λ y. least_with x (least xs) ≤ y) (x ∷ xs) v a h)
-
-Has-map : {A B : Type 0} (f : A → B) (xs : List A) (x : A) → Has xs x → Has (map f xs) (f x)
-Has-map f [] x h = absurd h
-Has-map f (y ∷ ys) x (inl e) = inl (ap f e)
-Has-map f (y ∷ ys) x (inr h) = inr (Has-map f ys x h)
 
 -- e is before each first post
 Starts : Problem → ℕ → Type 0

@@ -9,6 +9,7 @@ pub mod Classes
 pub mod DieBound
 pub mod LeadBound
 pub mod TrailBound
+pub mod BusWork
 pub mod Ends
 pub mod Counting
 pub mod FirstBound

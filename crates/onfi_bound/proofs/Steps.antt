@@ -3,12 +3,14 @@ use Rattle.std.proofs.Common.{◌≡◌, ℕ, zero, suc, ◌+◌, ◌<◌, Bool,
 use Rattle.std.specs.List.{AllByRecursion as All, list_any}
 use Rattle.std.proofs.lemmas.List.{map-append, take_more}
 use Rattle.std.proofs.lemmas.List.Folds.{list_any_more}
-use Rattle.onfi_timing.specs.declared.kind.Kind.TheVariants.{Read}
+use Rattle.onfi_timing.specs.declared.kind.Kind.TheVariants.{Read, Program, Erase}
 use Rattle.onfi_request.specs.declared.want.Want.{Want}
 use Rattle.onfi_group.specs.Words.{total}
 use Rattle.onfi_problem.specs.Position.{waiting_of}
 use Rattle.onfi_bound.specs.declared.chain.Chain.{Chain}
 use Rattle.onfi_problem.proofs.Sums.{total_more}
+use Rattle.onfi_timing.specs.declared.kind.Kind.{Kind}
+use Rattle.onfi_bound.specs.Bounds.{same_kind}
 
 -- what a list gives behind its end
 abbrev pub no_chain : Chain
@@ -68,3 +70,9 @@ pub both_mapped : {A B C : Type 0} (f : B → C) (g : A → B) (xs : List A) (i 
 both_mapped f g xs i d before now x h so_far made is =
     let more = ap (λ z. map f (map g z)) (take_more xs i d h) ∙ (ap (map f) (map-append g (take i xs) (get_or xs i d ∷ [])) ∙ map-append f (map g (take i xs)) (g (get_or xs i d) ∷ [])) in
     made ∙ (ap (λ z. z ++ x ∷ []) so_far ∙ (ap (λ z. map f (map g (take i xs)) ++ z ∷ []) is ∙ sym more))
+
+-- a number counted for one kind alone
+pub one_kind : (kind : Kind) (c : ℕ) → (if same_kind Read kind then c else 0) + ((if same_kind Program kind then c else 0) + (if same_kind Erase kind then c else 0)) ≡ c
+one_kind Read c = omega arith
+one_kind Program c = omega arith
+one_kind Erase c = omega arith

@@ -1,8 +1,8 @@
 -- A walk over the LUNs that tallies what is left.
 use Rattle.std.proofs.Common.{◌≡◌, ℕ, zero, suc, ◌+◌, ◌^◌, ◌≤◌, ◌<◌, ◌⊎◌, inl, inr, Bool, true, false, if◌then◌else◌, List, [], ◌∷◌, length, map, drop, get_or, Option, Some, None, refl, sym, ap, ◌∙◌, subst, arith}
-use Rattle.std.specs.Prelude.{slice_get, max, not, MatchOption, IfSome}
+use Rattle.std.specs.Prelude.{slice_get, max}
 use Rattle.std.specs.List.{list_any}
-use Rattle.std.proofs.lemmas.Bool.{cases_Bool, cases_lt}
+use Rattle.std.proofs.lemmas.Bool.{cases_lt}
 use Rattle.onfi_timing.specs.declared.kind.Kind.{Kind}
 use Rattle.onfi_timing.specs.declared.timing.Timing.{Timing}
 use Rattle.onfi_timing.specs.Kinds.{spans_of}
@@ -16,32 +16,24 @@ use Rattle.onfi_problem.specs.Moves.{may_go, free_from}
 use Rattle.onfi_problem.specs.Left.{command_time, post_time, all_commands, all_posts, InLimits}
 use Rattle.onfi_problem.specs.declared.moves.Lun.{Lun}
 use Rattle.onfi_problem.specs.Position.{state_of}
-use Rattle.onfi_problem.proofs.Places.{within_get}
+use Rattle.onfi_problem.proofs.Places.{within_get, drop_next}
 use Rattle.onfi_problem.proofs.Lists.{map_get}
 use Rattle.onfi_problem.proofs.Limits.{bus_in_limits, lun_in_limits}
 use Rattle.onfi_bound.specs.declared.chain.Chain.{Chain}
 use Rattle.onfi_bound.specs.declared.load.Load.{Load}
 use Rattle.onfi_bound.specs.declared.tally.Tally.{Tally}
-use Rattle.onfi_bound.specs.Bounds.{on_lun, wants_work, least, least_with, earlier, commands_next, has_command, to_post, post_starts, die}
+use Rattle.onfi_bound.specs.Bounds.{on_lun, wants_work, least, least_with, earlier, commands_next, has_command, to_post, post_starts, die, bus}
 use Rattle.onfi_bound.specs.Parts.{chain_of, is_kind, has_kind, AreSums}
 use Rattle.onfi_bound.specs.Loads.{IsLoad, IsLeast, commands_to_post, IsChainAt, IsTally}
-use Rattle.onfi_bound.specs.Reaching.{IsFirstDie}
 use Rattle.onfi_bound.proofs.DieBound.{no_work}
 use Rattle.onfi_bound.proofs.Parts.{next_kind}
 use Rattle.onfi_bound.proofs.Whole.{die_working, die_idle}
 use Rattle.onfi_bound.proofs.Ends.{bus_small, die_small}
-
-drop_at : {A : Type 0} (xs : List A) (i : ℕ) (x : A) → slice_get xs i ≡ Some x → drop i xs ≡ x ∷ drop (i + 1) xs
-drop_at [] i x h = cc
-drop_at (y ∷ xs) zero x h = let e : y ≡ x = cc in ap (λ z. z ∷ xs) e
-drop_at (y ∷ xs) (suc i) x h = let e : suc i + 1 ≡ suc (i + 1) = omega arith in rw e (drop_at xs i x h)
+use Rattle.onfi_bound.proofs.Counting.{any_cons}
 
 drop_all : {A : Type 0} (xs : List A) → drop (length xs) xs ≡ []
 drop_all [] = refl
 drop_all (x ∷ xs) = drop_all xs
-
-any_cons : {A : Type 0} (f : A → Bool) (x : A) (xs : List A) → list_any f (x ∷ xs) ≡ (if f x then true else list_any f xs)
-any_cons f x xs = elim (cases_Bool (f x)) [ inl k ↦ rw k refl | inr k ↦ rw k refl ]
 
 or_swap : (a b : Bool) → (if a then true else b) ≡ (if b then true else a)
 or_swap true true = refl
@@ -52,14 +44,6 @@ or_swap false false = refl
 or_more : (a b c : Bool) → (if (if a then true else b) then true else c) ≡ (if a then true else (if b then true else c))
 or_more true b c = refl
 or_more false b c = refl
-
-pub is_not : (b : Bool) → not b ≡ true → b ≡ false
-is_not true e = cc
-is_not false e = refl
-
-pub is_yes : (b : Bool) → not b ≡ false → b ≡ true
-is_yes true e = refl
-is_yes false e = cc
 
 -- what a chain tells of its LUN
 from_of : (timing : Timing) (x : LunState) → (chain_of timing x).from ≡ free_from (Some x)
@@ -96,25 +80,28 @@ earlier_none None = refl
 earlier_none (Some a) = refl
 
 -- the walk begins
-pub tally_begun : (p : Problem) (e : ℕ) (load : Load) → IsLoad p.timing p.rules p.wants load → IsTally p e 0 (record { sums = load.sums; first = None; reached = None })
-tally_begun p e load h = record {
+pub tally_begun : (p : Problem) (load : Load) → IsLoad p.timing p.rules p.wants load → IsTally p 0 (record { sums = load.sums; first = None; done = 0 })
+tally_begun p load h = record {
   commands = let a = h.commands in omega arith;
   posts = let a = h.posts in omega arith;
   kinds = λ kind. rw (h.kinds kind) (or_swap _ (list_any (commands_next kind) p.luns));
   first = refl;
-  reached = λ l k. absurd (omega arith);
+  done = λ l k. absurd (omega arith);
 }
 
--- which LUN was met
-pub reached_more : (p : Problem) (e lun done : ℕ) (before met : Option ℕ) → lun < length p.luns → done ≡ die p lun → MatchOption before ((l : ℕ) → l < lun → die p l < e) (λ l. IsFirstDie p e l) → IfSome before (λ l. met ≡ Some l) → (before ≡ None → e ≤ done → met ≡ Some lun) → (before ≡ None → done < e → met ≡ None) → MatchOption met ((l : ℕ) → l < lun + 1 → die p l < e) (λ l. IsFirstDie p e l)
-reached_more p e lun done (Some l) met there d m k y n = rw k m
-reached_more p e lun done None met there d m k y n = elim (cases_lt done e) [
-  | inl less ↦ rw (n refl less) (λ l h. elim (cases_lt l lun) [
-    | inl q ↦ m l q
-    | inr q ↦ (let s : lun ≡ l = omega arith in subst (λ i. die p i < e) s (subst (λ v. v < e) d less))
-  ])
-  | inr le ↦ rw (y refl le) (record { there = there; reaches = subst (λ v. e ≤ v) d le; none_before = m })
+-- one LUN more is done by the greatest
+pub done_more : (p : Problem) (lun before done : ℕ) → ((l : ℕ) → l < lun → die p l ≤ max before p.bus_free) → die p lun ≤ max done p.bus_free → before ≤ done → (l : ℕ) → l < lun + 1 → die p l ≤ max done p.bus_free
+done_more p lun before done so here more l k = elim (cases_lt l lun) [
+  | inl q ↦ (let h = so l q in omega arith)
+  | inr q ↦ (let s : lun ≡ l = omega arith in subst (λ i. die p i ≤ max done p.bus_free) s here)
 ]
+
+-- none is done at e or later
+pub all_below : (p : Problem) (e done : ℕ) → ((l : ℕ) → l < length p.luns → die p l ≤ max done p.bus_free) → done < e → p.bus_free < e → (l : ℕ) → l < length p.luns → die p l < e
+all_below p e done so d b l k = let h = so l k in omega arith
+
+pub bus_free_first : (p : Problem) → p.bus_free ≤ bus p
+bus_free_first p = omega arith
 
 -- when a LUN is done that has something left
 pub done_is : (p : Problem) (lun : ℕ) (load : Load) (chain : Chain) → IsLoad p.timing p.rules p.wants load → IsChainAt p lun chain → lun < 8 → (chain.running ≡ true) ⊎ (1 ≤ get_or load.work lun 0) → max p.bus_free chain.from + chain.commands + chain.posts + chain.waits + get_or load.work lun 0 ≡ die p lun
@@ -127,9 +114,9 @@ done_small p lun load chain lim h c small b =
     omega arith
 
 -- no sum leaves its type
-pub tally_room : (p : Problem) (e lun : ℕ) (t : Tally) (chain : Chain) → InLimits p → IsChainAt p lun chain → IsTally p e lun t → (t.sums.commands + chain.commands < 2 ^ 62) × (t.sums.posts + chain.posts < 2 ^ 62)
-tally_room p e lun t chain lim (x, at, q) h =
-    let d = drop_at p.luns lun x at in
+pub tally_room : (p : Problem) (lun : ℕ) (t : Tally) (chain : Chain) → InLimits p → IsChainAt p lun chain → IsTally p lun t → (t.sums.commands + chain.commands < 2 ^ 62) × (t.sums.posts + chain.posts < 2 ^ 62)
+tally_room p lun t chain lim (x, at, q) h =
+    let d = drop_next p.luns lun x at in
     let b = bus_small p lim in
     let c1 : chain.commands ≡ command_time p.timing x = ap (λ (c : Chain). c.commands) q ∙ commands_of p.timing x in
     let c2 : chain.posts ≡ post_time p.timing x = ap (λ (c : Chain). c.posts) q ∙ posts_of p.timing x in
@@ -138,9 +125,9 @@ tally_room p e lun t chain lim (x, at, q) h =
     (omega arith, omega arith)
 
 -- a LUN with something left
-pub tally_more : (p : Problem) (e lun post : ℕ) (load : Load) (chain : Chain) (t t' : Tally) → IsLoad p.timing p.rules p.wants load → IsChainAt p lun chain → lun < 8 → (chain.running ≡ true) ⊎ (1 ≤ get_or load.work lun 0) → IsTally p e lun t → t'.sums.commands ≡ t.sums.commands + chain.commands → t'.sums.posts ≡ t.sums.posts + chain.posts → ((kind : Kind) → has_kind t'.sums.kinds kind ≡ (if has_kind t.sums.kinds kind then true else is_kind kind chain.command)) → post ≡ (if chain.running then chain.commands + chain.waits else get_or load.firsts lun 0) → t'.first ≡ Some (least_with (max p.bus_free chain.from + post) t.first) → MatchOption t'.reached ((l : ℕ) → l < lun + 1 → die p l < e) (λ l. IsFirstDie p e l) → IsTally p e (lun + 1) t'
-tally_more p e lun post load chain t t' h (x, at, q) small b so commands posts kinds is first reached =
-    let d = drop_at p.luns lun x at in
+pub tally_more : (p : Problem) (lun post : ℕ) (load : Load) (chain : Chain) (t t' : Tally) → IsLoad p.timing p.rules p.wants load → IsChainAt p lun chain → lun < 8 → (chain.running ≡ true) ⊎ (1 ≤ get_or load.work lun 0) → IsTally p lun t → t'.sums.commands ≡ t.sums.commands + chain.commands → t'.sums.posts ≡ t.sums.posts + chain.posts → ((kind : Kind) → has_kind t'.sums.kinds kind ≡ (if has_kind t.sums.kinds kind then true else is_kind kind chain.command)) → post ≡ (if chain.running then chain.commands + chain.waits else get_or load.firsts lun 0) → t'.first ≡ Some (least_with (max p.bus_free chain.from + post) t.first) → ((l : ℕ) → l < lun + 1 → die p l ≤ max t'.done p.bus_free) → IsTally p (lun + 1) t'
+tally_more p lun post load chain t t' h (x, at, q) small b so commands posts kinds is first done =
+    let d = drop_next p.luns lun x at in
     let rest = drop (lun + 1) p.luns in
     let c1 : chain.commands ≡ command_time p.timing x = ap (λ (c : Chain). c.commands) q ∙ commands_of p.timing x in
     let c2 : chain.posts ≡ post_time p.timing x = ap (λ (c : Chain). c.posts) q ∙ posts_of p.timing x in
@@ -160,7 +147,7 @@ tally_more p e lun post load chain t t' h (x, at, q) small b so commands posts k
           let k2 : is_kind kind chain.command ≡ commands_next kind x = ap (λ (c : Chain). is_kind kind c.command) q ∙ next_kind p.timing kind x in
           rw (kinds kind, k2, or_more (has_kind t.sums.kinds kind) (commands_next kind x) (list_any (commands_next kind) rest), ← any_cons (commands_next kind) x rest) k1;
       first = rw (first, earlier_more t.first (max p.bus_free chain.from + post) (least (post_starts p (lun + 1) rest))) old;
-      reached = reached;
+      done = done;
     }
 
 -- a LUN with nothing left
@@ -170,15 +157,15 @@ idle_done p lun load chain h (x, at, q) small idle z =
     let i : (chain_of p.timing x).running ≡ false = sym (ap (λ (c : Chain). c.running) q) ∙ idle in
     rw at (sym (die_idle p lun x (on_lun lun p.wants) i w))
 
-pub tally_idle : (p : Problem) (e lun : ℕ) (load : Load) (chain : Chain) (t t' : Tally) → IsLoad p.timing p.rules p.wants load → IsChainAt p lun chain → lun < 8 → chain.running ≡ false → get_or load.work lun 0 ≡ 0 → IsTally p e lun t → t'.sums ≡ t.sums → t'.first ≡ t.first → MatchOption t'.reached ((l : ℕ) → l < lun + 1 → die p l < e) (λ l. IsFirstDie p e l) → IsTally p e (lun + 1) t'
-tally_idle p e lun load chain t t' h (x, at, q) small idle z so sums first reached =
-    let d = drop_at p.luns lun x at in
+pub tally_idle : (p : Problem) (lun : ℕ) (load : Load) (chain : Chain) (t t' : Tally) → IsLoad p.timing p.rules p.wants load → IsChainAt p lun chain → lun < 8 → chain.running ≡ false → get_or load.work lun 0 ≡ 0 → IsTally p lun t → t'.sums ≡ t.sums → t'.first ≡ t.first → ((l : ℕ) → l < lun + 1 → die p l ≤ max t'.done p.bus_free) → IsTally p (lun + 1) t'
+tally_idle p lun load chain t t' h (x, at, q) small idle z so sums first done =
+    let d = drop_next p.luns lun x at in
     let rest = drop (lun + 1) p.luns in
     let i : (chain_of p.timing x).running ≡ false = sym (ap (λ (c : Chain). c.running) q) ∙ idle in
     let w : wants_work p.timing p.rules (on_lun lun p.wants) ≡ 0 = sym (h.work lun small) ∙ z in
     go x at d i w
   where
-    go : (y : LunState) → slice_get p.luns lun ≡ Some y → drop lun p.luns ≡ y ∷ drop (lun + 1) p.luns → (chain_of p.timing y).running ≡ false → wants_work p.timing p.rules (on_lun lun p.wants) ≡ 0 → IsTally p e (lun + 1) t'
+    go : (y : LunState) → slice_get p.luns lun ≡ Some y → drop lun p.luns ≡ y ∷ drop (lun + 1) p.luns → (chain_of p.timing y).running ≡ false → wants_work p.timing p.rules (on_lun lun p.wants) ≡ 0 → IsTally p (lun + 1) t'
     go (Running g n r) at d i w = cc
     go (Free since) at d i w =
         let rest = drop (lun + 1) p.luns in
@@ -191,12 +178,12 @@ tally_idle p e lun load chain t t' h (x, at, q) small idle z so sums first reach
           posts = rw sums (omega arith);
           kinds = λ kind. let k1 : (if has_kind t.sums.kinds kind then true else list_any (commands_next kind) (Free since ∷ rest)) ≡ has_command p kind = rw d at (so.kinds kind) in rw (sums, ← any_cons (commands_next kind) (Free since) rest) k1;
           first = rw first (subst (λ z. earlier t.first (least z) ≡ least (post_starts p 0 p.luns)) starts (subst (λ z. earlier t.first (least (post_starts p lun z)) ≡ least (post_starts p 0 p.luns)) d so.first));
-          reached = reached;
+          done = done;
         }
 
 -- the walk is over
-pub tally_sums : (p : Problem) (e : ℕ) (t : Tally) → IsTally p e (length p.luns) t → AreSums p t.sums
-tally_sums p e t h =
+pub tally_sums : (p : Problem) (t : Tally) → IsTally p (length p.luns) t → AreSums p t.sums
+tally_sums p t h =
     let d = drop_all p.luns in
     let a : t.sums.commands + 0 ≡ all_commands p = rw d at h.commands in
     let b : t.sums.posts + 0 ≡ all_posts p = rw d at h.posts in
@@ -210,8 +197,8 @@ tally_sums p e t h =
     last true b e = e
     last false b e = e
 
-pub tally_first : (p : Problem) (e : ℕ) (t : Tally) → IsTally p e (length p.luns) t → t.first ≡ least (post_starts p 0 p.luns)
-tally_first p e t h = let a : earlier t.first None ≡ least (post_starts p 0 p.luns) = rw (drop_all p.luns) at h.first in sym (earlier_none t.first) ∙ a
+pub tally_first : (p : Problem) (t : Tally) → IsTally p (length p.luns) t → t.first ≡ least (post_starts p 0 p.luns)
+tally_first p t h = let a : earlier t.first None ≡ least (post_starts p 0 p.luns) = rw (drop_all p.luns) at h.first in sym (earlier_none t.first) ∙ a
 
 pub at_small : (p : Problem) (lun : ℕ) (chain : Chain) → InLimits p → IsChainAt p lun chain → max p.bus_free chain.from < 2 ^ 62
 at_small p lun chain lim (x, at, q) =
@@ -219,6 +206,10 @@ at_small p lun chain lim (x, at, q) =
     let b = bus_in_limits p lim in
     let f : chain.from ≡ free_from (Some x) = ap (λ (c : Chain). c.from) q ∙ from_of p.timing x in
     omega arith
+
+-- the chain of a LUN's state is that of the LUN
+pub chain_here : (p : Problem) (groups : List (List Want)) (lun : ℕ) (state : Lun) (timing : Timing) (gs : List (List Want)) (chain : Chain) → slice_get p.luns lun ≡ Some (state_of groups state) → timing ≡ p.timing → gs ≡ groups → chain ≡ chain_of timing (state_of gs state) → IsChainAt p lun chain
+chain_here p groups lun state timing gs chain at t g is = (state_of groups state, at, is ∙ rw (t, g) refl)
 
 -- what the LUN of a place does
 pub state_at : (groups : List (List Want)) (luns : List Lun) (states : List LunState) (i : ℕ) (d : Lun) → map (state_of groups) luns ≡ states → i < length luns → slice_get states i ≡ Some (state_of groups (get_or luns i d))

@@ -1,5 +1,5 @@
 -- The trail bound is at most the finish of each run.
-use Rattle.std.proofs.Common.{◌≡◌, ℕ, zero, suc, ◌+◌, ◌*◌, ◌-◌, ◌≤◌, ◌<◌, ◌⊎◌, inl, inr, ⊎_elim, Bool, true, false, List, [], ◌∷◌, ◌++◌, length, Option, Some, None, refl, sym, ap, ◌∙◌, subst, arith}
+use Rattle.std.proofs.Common.{◌≡◌, ℕ, suc, ◌+◌, ◌*◌, ◌-◌, ◌≤◌, ◌<◌, ◌⊎◌, inl, inr, ⊎_elim, Bool, true, false, List, [], ◌∷◌, ◌++◌, length, Option, Some, None, refl, sym, ap, ◌∙◌, subst, arith}
 use Rattle.std.specs.Prelude.{slice_get, slice_set, max, nat_lt}
 use Rattle.std.specs.List.{AllByRecursion as All, list_any}
 use Rattle.std.proofs.lemmas.Bool.{cases_Bool, cases_lt, eq-eqb, lt-ltb, le-ltb, ltb-true, false≢true}
@@ -18,7 +18,7 @@ use Rattle.onfi_schedule.specs.Runs.{Step, Run}
 use Rattle.onfi_problem.specs.Left.{commands_left, command_time, want_command, all_commands}
 use Rattle.onfi_bound.specs.Bounds.{on_lun, least, same_kind, commands_next, has_command, behind_commands, trail_from, trail, die, die_at}
 use Rattle.onfi_problem.proofs.Perm.{All-has, All-each, All-front, All-back, All-weaker}
-use Rattle.onfi_problem.proofs.Places.{get_set_same, get_set_other, same_place, within_get, length_set}
+use Rattle.onfi_problem.proofs.Places.{get_set_same, get_set_other, same_place, within_get, length_set, get_has}
 use Rattle.onfi_problem.proofs.Totals.{total_set, total_same, startable_total, startable_wanted}
 use Rattle.onfi_problem.proofs.LunAfter.{lun_after_running, running_is}
 use Rattle.onfi_problem.proofs.Work.{commands_after, one_less}
@@ -44,11 +44,6 @@ place_of : {A : Type 0} (xs : List A) (x : A) → Has xs x → (i : ℕ) × (sli
 place_of [] x h = absurd h
 place_of (y ∷ ys) x (inl e) = (0, ap Some e)
 place_of (y ∷ ys) x (inr h) = let r = place_of ys x h in (suc r.0, r.1)
-
-has_place : {A : Type 0} (xs : List A) (i : ℕ) (x : A) → slice_get xs i ≡ Some x → Has xs x
-has_place [] i x h = cc
-has_place (y ∷ ys) zero x h = inl (cc)
-has_place (y ∷ ys) (suc i) x h = inr (has_place ys i x h)
 
 -- a command of the kind is left
 record Running_has (p : Problem) (kind : Kind) : Type 0 where
@@ -87,7 +82,7 @@ of_commands : (p : Problem) (kind : Kind) → Commands p kind → has_command p 
 of_commands p kind (inl c) =
     let k : same_kind kind (kind_of c.group) ≡ true = rw c.is (same_kind_self kind) in
     let t : commands_next kind (Running c.group c.next c.ready) ≡ true = rw k (lt-ltb c.next (length c.group) c.some) in
-    rw (has_any (commands_next kind) p.luns (Running c.group c.next c.ready) (has_place p.luns c.lun _ c.at) t) refl
+    rw (has_any (commands_next kind) p.luns (Running c.group c.next c.ready) (get_has p.luns c.lun _ c.at) t) refl
 of_commands p kind (inr (w, h, e)) =
     let t : same_kind kind w.kind ≡ true = rw e (same_kind_self kind) in
     let a = has_any (λ v. same_kind kind v.kind) p.wants w h t in

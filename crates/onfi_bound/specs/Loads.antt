@@ -1,5 +1,5 @@
 -- What sets of wants take, and what a walk over the LUNs has met.
-use Rattle.std.specs.Prelude.{◌≡◌, ℕ, ◌+◌, ◌^◌, ◌<◌, true, if◌then◌else◌, List, [], ◌∷◌, map, drop, Some, MatchOption, slice_get, slice_index}
+use Rattle.std.specs.Prelude.{◌≡◌, ℕ, ◌+◌, ◌^◌, ◌<◌, ◌≤◌, max, true, if◌then◌else◌, List, [], ◌∷◌, map, drop, Some, slice_get, slice_index}
 use Rattle.std.specs.List.{AllByRecursion as Each, list_any}
 use Rattle.onfi_timing.specs.declared.kind.Kind.{Kind}
 use Rattle.onfi_timing.specs.declared.timing.Timing.{Timing}
@@ -16,7 +16,6 @@ use Rattle.onfi_bound.specs.declared.load.Load.{Load}
 use Rattle.onfi_bound.specs.declared.tally.Tally.{Tally}
 use Rattle.onfi_bound.specs.Bounds.{on_lun, wants_work, least, same_kind, commands_next, has_command, post_starts, die, earlier}
 use Rattle.onfi_bound.specs.Parts.{chain_of, has_kind}
-use Rattle.onfi_bound.specs.Reaching.{IsFirstDie}
 
 -- the command and the array of each want
 abbrev pub commands_to_post : Timing → List Want → List ℕ
@@ -45,9 +44,9 @@ abbrev pub IsChainAt : Problem → ℕ → Chain → Type 0
 IsChainAt p lun chain = (x : LunState) × (slice_get p.luns lun ≡ Some x) × (chain ≡ chain_of p.timing x)
 
 -- all wants and the LUNs before number `lun` are tallied, and the rest is still to be met
-pub record IsTally (p : Problem) (e lun : ℕ) (t : Tally) : Type 0 where
+pub record IsTally (p : Problem) (lun : ℕ) (t : Tally) : Type 0 where
   pub commands : t.sums.commands + total (command_time p.timing) (drop lun p.luns) ≡ all_commands p
   pub posts : t.sums.posts + total (post_time p.timing) (drop lun p.luns) ≡ all_posts p
   pub kinds : (kind : Kind) → (if has_kind t.sums.kinds kind then true else list_any (commands_next kind) (drop lun p.luns)) ≡ has_command p kind
   pub first : earlier t.first (least (post_starts p lun (drop lun p.luns))) ≡ least (post_starts p 0 p.luns)
-  pub reached : MatchOption t.reached ((l : ℕ) → l < lun → die p l < e) (λ l. IsFirstDie p e l)
+  pub done : (l : ℕ) → l < lun → die p l ≤ max t.done p.bus_free

@@ -2,7 +2,7 @@ ghost use Rattle.std.specs.Prelude.{◌≡◌, ◌+◌, ◌^◌, ◌<◌, ◌≤
 ghost use Rattle.onfi_timing.specs.declared.timing.Timing.{Timing as Shape};
 ghost use Rattle.onfi_problem.specs.declared.lun_state.LunState.TheVariants.{Free, Running};
 ghost use Rattle.onfi_problem.specs.Position.{state_of};
-ghost use Rattle.onfi_bound.specs.Parts.{chain_of, IsShort};
+ghost use Rattle.onfi_bound.specs.Parts.{chain_of};
 
 use onfi_group::Group;
 use onfi_problem::Lun;
@@ -95,10 +95,9 @@ impl Chain {
     }
 
     /// When the LUN is done at the earliest with this and so much more work, in ns.
+    #[inline(always)]
     pub fn done_by(&self, bus_free: u64, work: u64) -> u64
-        requires bus_free { bus_free < 2 ^ 62 }
-        requires short { IsShort self.now }
-        requires work { work ≤ 2 ^ 55 }
+        requires { max bus_free self.now.from + self.now.commands + self.now.posts + self.now.waits + work < 2 ^ 62 }
         ensures { result ≡ max bus_free self.now.from + self.now.commands + self.now.posts + self.now.waits + work }
     {
         bus_free.max(self.from) + self.commands + self.posts + self.waits + work

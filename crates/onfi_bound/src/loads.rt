@@ -11,7 +11,7 @@ use std::alloc::{AllocError, Global};
 /// leave.
 #[derive(Drop)]
 pub struct Loads {
-    /// In the order of [`index_of`] their marks.
+    /// In the order of [`index_of`] their marks, two to the number of wants.
     pub of: Vec<Load>,
 }
 
@@ -23,12 +23,12 @@ impl Loads {
     pub fn new(alloc: Global, problem: &Problem) -> Result<Loads, AllocError>
         ensures { IfOk result (λ loads. AreLoads problem.now loads.of.items) }
     {
-        let waiting = problem.waiting();
+        let (waiting, width) = (problem.waiting(), problem.wants().len());
         let _limits = problem.bus_free();
-        let count = 1usize << width_of(waiting);
+        let count = 1usize << width;
         let mut of = Vec::with_capacity(alloc, count)?;
         for at in 0..count {
-            of.push(Load::of(problem, &some_of(waiting, at)))?;
+            of.push(Load::of(problem, &some_of(waiting, width, at)))?;
         }
         Ok(Loads { of })
     }
@@ -39,7 +39,9 @@ impl Loads {
         ensures { MatchOption result (NoneReaches problem.now.problem e) (λ bound. IsFirst problem.now.problem e bound) }
     {
         let waiting = problem.waiting();
-        if let Some(load) = self.of.get(index_of(waiting))
+        // (marks behind the last want mean nothing, and are no part of a place)
+        let place = index_of(waiting) & self.of.len().wrapping_sub(1);
+        if let Some(load) = self.of.get(place)
             && load.is_of(waiting)
         {
             return load.closing(problem, e);
@@ -48,26 +50,13 @@ impl Loads {
     }
 }
 
-// How many marks there are up to the last that is set.
-fn width_of(marks: &[bool; 8]) -> u32
-    ensures { result ≤ 8 }
-{
-    let mut width = 0;
-    for i in 0..8u32 {
-        if marks[i as usize] {
-            width = i + 1;
-        }
-    }
-    width
-}
-
-// The marks of which those at the bits of a number are left, the first mark at the lowest bit.
-fn some_of(marks: &[bool; 8], number: usize) -> [bool; 8]
+// The marks of which those at the bits of a number are left, the first mark at the lowest bit; from `width` on all.
+fn some_of(marks: &[bool; 8], width: usize, number: usize) -> [bool; 8]
     ensures { (i : ℕ) → slice_index_or result i false ≡ true → slice_index_or marks.now i false ≡ true }
 {
     let mut some = [false; 8];
     for i in 0..8usize {
-        some[i] = marks[i] && number >> i & 1 == 1;
+        some[i] = marks[i] && (i >= width || number >> i & 1 == 1);
     }
     some
 }

@@ -1,9 +1,10 @@
 //! One walk over the LUNs, from which all bounds are read.
 
-ghost use Rattle.std.specs.Prelude.{◌≡◌, ℕ, ◌+◌, ◌^◌, ◌<◌, ◌≤◌, Some, None, IfSome, MatchOption, length, slice_get, slice_index_or};
+ghost use Rattle.std.specs.Prelude.{◌≡◌, ℕ, ◌+◌, ◌^◌, ◌<◌, ◌≤◌, Some, MatchOption, length, slice_get};
 ghost use Rattle.onfi_problem.specs.Position.{state_of};
+ghost use Rattle.onfi_bound.specs.Bounds.{die};
 ghost use Rattle.onfi_bound.specs.Loads.{IsLoad, IsTally, IsChainAt};
-ghost use Rattle.onfi_bound.specs.Reaching.{NoneReaches, IsFirst};
+ghost use Rattle.onfi_bound.specs.Reaching.{NoneReaches, IsFirst, IsFirstDie};
 
 use crate::bound::Bound;
 use crate::chain::Chain;
@@ -20,8 +21,9 @@ pub struct Tally {
     pub sums: Sums,
     /// The least first post start that the walk has met, in ns.
     pub first: Option<u64>,
-    /// The first LUN whose die bound is at least the number that is asked for.
-    pub reached: Option<u8>,
+    /// The greatest die bound of the LUNs that the walk has met and that have something left, in ns; 0 where there is
+    /// none.
+    pub done: u64,
 }
 
 impl Load {
@@ -30,7 +32,7 @@ impl Load {
         requires { IsLoad problem.now.problem.timing problem.now.problem.rules problem.now.problem.wants self.now }
         ensures { MatchOption result (NoneReaches problem.now.problem e) (λ bound. IsFirst problem.now.problem e bound) }
     {
-        let tally = Tally::of(problem, self, e);
+        let tally = Tally::of(problem, self);
         if tally.sums.bus(problem) >= e {
             return Some(Bound::Bus);
         }
@@ -40,91 +42,112 @@ impl Load {
         if is_reached(tally.sums.trail(problem), e) {
             return Some(Bound::Trail);
         }
-        match tally.reached {
+        if tally.done < e {
+            return None;
+        }
+        match self.first_die(problem, e) {
             Some(lun) => Some(Bound::Die(lun)),
             None => None,
         }
     }
+
+    // The first LUN whose die bound is at least `e` ns.
+    fn first_die(&self, problem: &Problem, e: u64) -> Option<u8>
+        requires { IsLoad problem.now.problem.timing problem.now.problem.rules problem.now.problem.wants self.now }
+        ensures { MatchOption result ((l : ℕ) → l < length problem.now.problem.luns → die problem.now.problem l < e)
+            (λ lun. IsFirstDie problem.now.problem e lun) }
+    {
+        let _limits = problem.bus_free();
+        for (lun, state) in problem.luns().iter().enumerate() {
+            if self.die(problem, lun as u8, *state) >= e {
+                return Some(lun as u8);
+            }
+        }
+        None
+    }
+
+    // The die bound of a LUN, in ns.
+    fn die(&self, problem: &Problem, lun: u8, state: Lun) -> u64
+        requires load { IsLoad problem.now.problem.timing problem.now.problem.rules problem.now.problem.wants self.now }
+        requires state { slice_get problem.now.problem.luns lun ≡ Some (state_of problem.now.groups state) }
+        requires small { lun < 8 }
+        requires place { 1 ≤ state.next → state.place < length problem.now.groups }
+        ensures { result ≡ die problem.now.problem lun }
+    {
+        let (timing, bus_free) = (problem.timing(), problem.bus_free());
+        let chain = Chain::of(&timing, problem.groups(), state);
+        let work = self.work[lun as usize];
+        if !chain.running && work == 0 {
+            return bus_free;
+        }
+        chain.done_by(bus_free, work)
+    }
 }
 
 impl Tally {
-    // What is left to a problem whose waiting wants take that load, and which die bound is at least `e` ns.
-    fn of(problem: &Problem, load: &Load, e: u64) -> Tally
+    // What is left to a problem whose waiting wants take that load.
+    fn of(problem: &Problem, load: &Load) -> Tally
         requires { IsLoad problem.now.problem.timing problem.now.problem.rules problem.now.problem.wants load.now }
-        ensures { IsTally problem.now.problem e (length problem.now.problem.luns) result }
+        ensures { IsTally problem.now.problem (length problem.now.problem.luns) result }
     {
         let _limits = problem.bus_free();
         let mut tally = Tally {
             sums: load.sums,
             first: None,
-            reached: None,
+            done: 0,
         };
         for (lun, state) in problem.luns().iter().enumerate() {
-            tally = tally.with_lun(problem, load, e, lun as u8, *state);
+            tally.add_lun(problem, load, lun as u8, *state);
         }
         tally
     }
 
     // One LUN more. The three cases are told apart before the sums, so that each is a few additions.
-    fn with_lun(self, problem: &Problem, load: &Load, e: u64, lun: u8, state: Lun) -> Tally
+    #[inline(always)]
+    fn add_lun(&mut self, problem: &Problem, load: &Load, lun: u8, state: Lun)
         requires load { IsLoad problem.now.problem.timing problem.now.problem.rules problem.now.problem.wants load.now }
         requires state { slice_get problem.now.problem.luns lun ≡ Some (state_of problem.now.groups state) }
         requires small { lun < 8 }
         requires place { 1 ≤ state.next → state.place < length problem.now.groups }
-        requires so_far { IsTally problem.now.problem e lun self }
-        ensures { IsTally problem.now.problem e (lun + 1) result }
+        requires so_far { IsTally problem.now.problem lun self.old }
+        ensures { IsTally problem.now.problem (lun + 1) self.new }
     {
         if state.next == 0 {
-            return self.with(problem, load, e, lun, Chain::free(state.time));
+            self.add(problem, load, lun, Chain::free(state.time));
+            return;
         }
         let (timing, group) = (problem.timing(), &problem.groups()[state.place as usize]);
         if (state.next as usize) < group.len() {
             let chain = Chain::of_commands(&timing, group, state.next, state.time);
-            self.with(problem, load, e, lun, chain)
+            self.add(problem, load, lun, chain);
         } else {
             let chain = Chain::of_posts(&timing, group, state.next, state.time);
-            self.with(problem, load, e, lun, chain)
+            self.add(problem, load, lun, chain);
         }
     }
 
     // One LUN more, of whose running group that chain is left.
     #[inline(always)]
-    fn with(self, problem: &Problem, load: &Load, e: u64, lun: u8, chain: Chain) -> Tally
+    fn add(&mut self, problem: &Problem, load: &Load, lun: u8, chain: Chain)
         requires load { IsLoad problem.now.problem.timing problem.now.problem.rules problem.now.problem.wants load.now }
         requires chain { IsChainAt problem.now.problem lun chain }
         requires small { lun < 8 }
-        requires so_far { IsTally problem.now.problem e lun self }
-        ensures { IsTally problem.now.problem e (lun + 1) result }
+        requires so_far { IsTally problem.now.problem lun self.old }
+        ensures { IsTally problem.now.problem (lun + 1) self.new }
     {
         let bus_free = problem.bus_free();
         let work = load.work[lun as usize];
         if !chain.running && work == 0 {
-            let reached = self.or_reached(lun, bus_free, e);
-            return Tally { reached, ..self };
+            return;
         }
-        let at = bus_free.max(chain.from);
         let to_post = if chain.running {
             chain.commands + chain.waits
         } else {
             load.firsts[lun as usize]
         };
-        let done = at + chain.commands + chain.posts + chain.waits + work;
-        Tally {
-            sums: self.sums.with_chain(chain),
-            first: Some(least_of(at + to_post, self.first)),
-            reached: self.or_reached(lun, done, e),
-        }
-    }
-
-    // The LUN that was met, or this one where it is done at `e` or later.
-    fn or_reached(self, lun: u8, done: u64, e: u64) -> Option<u8>
-        ensures before { IfSome self.reached (λ l. result ≡ Some l) }
-        ensures here { self.reached ≡ None → e ≤ done → result ≡ Some lun }
-        ensures none { self.reached ≡ None → done < e → result ≡ None }
-    {
-        match self.reached {
-            Some(before) => Some(before),
-            None => { if done >= e { Some(lun) } else { None } }
-        }
+        let done = chain.done_by(bus_free, work);
+        self.sums = self.sums.with_chain(chain);
+        self.first = Some(least_of(bus_free.max(chain.from) + to_post, self.first));
+        self.done = self.done.max(done);
     }
 }

@@ -17,11 +17,6 @@ move_at p groups [] i d h all = absurd (omega arith)
 move_at p groups (m ∷ ms) zero d h all = all.0
 move_at p groups (m ∷ ms) (suc i) d h all = move_at p groups ms i d (omega arith) all.1
 
-pub at_place : {A : Type 0} (P : A → Type 0) (xs : List A) (i : ℕ) (d : A) → i < length xs → All P xs → P (get_or xs i d)
-at_place P [] i d h all = absurd (omega arith)
-at_place P (x ∷ xs) zero d h all = all.0
-at_place P (x ∷ xs) (suc i) d h all = at_place P xs i d (omega arith) all.1
-
 pub one_more : (groups : List (List Want)) (ms : List KeptMove) (i : ℕ) (d : KeptMove) → i < length ms → moves_of groups (take (i + 1) ms) ≡ moves_of groups (take i ms) ++ move_of groups (get_or ms i d) ∷ []
 one_more groups ms i d h = ap (moves_of groups) (take_more ms i d h) ∙ map-append (move_of groups) (take i ms) (get_or ms i d ∷ [])
 

@@ -17,7 +17,8 @@ use Rattle.onfi_schedule.proofs.Exchange.{not_done}
 on_own_block : (w : Want) → on_block w w ≡ true
 on_own_block w = rw (eq-eqb w.lun w.lun refl) (eq-eqb w.block w.block refl)
 
-no_moves : (p : Problem) → IsProblem p → AreMoves p [] → IsDone p
+-- where there is no move nothing is left
+pub no_moves : (p : Problem) → IsProblem p → AreMoves p [] → IsDone p
 no_moves p ip are = record { wants = go p.wants refl; free = λ l g n r at. are.each (NextPhase l) (g, n, r, at) }
   where
     at_lun : (w : Want) (ws : List Want) (x : LunState) → p.wants ≡ w ∷ ws → slice_get p.luns w.lun ≡ Some x → ⊥

@@ -3,13 +3,11 @@ use Rattle.std.proofs.Common.{◌≡◌, ℕ, ◌+◌, ◌≤◌, ◌<◌, ◌�
 use Rattle.std.specs.Prelude.{Result, Ok, Err, OnOk, IfErr, slice_set}
 use Rattle.std.specs.List.{AllByRecursion as All}
 use Rattle.onfi_request.specs.declared.want.Want.{Want}
-use Rattle.onfi_group.specs.Group.{lun_of}
 use Rattle.onfi_problem.specs.Problem.{Problem}
-use Rattle.onfi_problem.specs.Moves.{Move, Next, Start, IsMove, AreMoves, move_lun, after}
+use Rattle.onfi_problem.specs.Moves.{Move, AreMoves, move_lun, after}
 use Rattle.onfi_problem.specs.declared.moves.Move.{Move as KeptMove}
 use Rattle.onfi_problem.specs.Position.{Position, move_of, moves_of}
 use Rattle.onfi_problem.specs.Starts.{IsNamed}
-use Rattle.onfi_problem.proofs.Places.{within_get}
 use Rattle.onfi_cert.specs.declared.token.Token.{Token}
 use Rattle.onfi_cert.specs.declared.token.Token.TheVariants.{Branch, Yield}
 use Rattle.onfi_check.specs.declared.fault.CertFault.{CertFault}
@@ -18,10 +16,7 @@ use Rattle.onfi_check.specs.Tree.{Closing, Closes, token_of}
 use Rattle.onfi_check.specs.Reading.{Begins, BeginsEach, BeginsRest, IsYield, ReadsChild, RefusesChild}
 use Rattle.onfi_check.proofs.OneList.{branch_each, each_branch, closed_begins, not_closed, map_length}
 use Rattle.onfi_check.proofs.Reading.{rest_each, read_yield, yield_kept, read_child, no_child, no_token, read_all, none_marked, drop_step, drop_all, trans_same}
-
-pub lun_there : (p : Problem) (m : Move) → IsMove p m → move_lun m < length p.luns
-lun_there p (Next l) (g, n, r, at) = within_get p.luns l _ at
-lun_there p (Start g) (since, at, s) = within_get p.luns (lun_of g) _ at
+pub use Rattle.onfi_problem.proofs.Kept.{lun_there}
 
 small_named : (groups : List (List Want)) (items : List KeptMove) → All (IsNamed groups) items → All (λ m. move_lun m < 8) (moves_of groups items)
 small_named groups [] a = tt

@@ -36,7 +36,7 @@ pub record IsCounted (most : ℕ) (groups : List (List Want)) : Type 0 where
   pub wants : a + b + c + d ≤ most
   pub room : (passes : ℕ → Bool) → number (within passes) ([] ∷ groups) ≤ room passes a b c d
 
-number-append : {A : Type 0} (test : A → Bool) (xs ys : List A) → number test (xs ++ ys) ≡ number test xs + number test ys
+pub number-append : {A : Type 0} (test : A → Bool) (xs ys : List A) → number test (xs ++ ys) ≡ number test xs + number test ys
 number-append test [] ys = omega arith
 number-append test (x ∷ xs) ys = let e = number-append test xs ys in omega arith
 
@@ -175,7 +175,7 @@ counted_none = record {
 }
 
 -- a product is at most the square of half the sum
-half_squared : (x y : ℕ) → 4 * (x * y) ≤ (x + y) * (x + y)
+pub half_squared : (x y : ℕ) → 4 * (x * y) ≤ (x + y) * (x + y)
 half_squared x y = elim (cases_lt x y) [
   | inl l ↦ (let k = y - x in let e : y ≡ x + k = omega arith in rw e (omega arith))
   | inr l ↦ (let k = x - y in let e : x ≡ y + k = omega arith in rw e (omega arith))

@@ -1,7 +1,7 @@
-mod Rising
-mod Lists
-mod Placing
+pub mod Rising
+pub mod Lists
+pub mod Placing
 mod Growing
-mod Counting
+pub mod Counting
 mod Masks
 mod Firsts

@@ -1,20 +1,15 @@
 -- Eight wants form at most 80 groups.
-use Rattle.std.proofs.Common.{◌≡◌, ◌≢◌, ℕ, suc, ◌+◌, ◌*◌, ◌≤◌, ◌<◌, inl, inr, ◌-◌, List, [], ◌∷◌, ◌++◌, length, map, refl, ap, ◌∙◌, arith}
+use Rattle.std.proofs.Common.{◌≡◌, ◌≢◌, ℕ, ◌+◌, ◌*◌, ◌≤◌, ◌<◌, inl, inr, List, [], ◌∷◌, ◌++◌, length, map, refl, ap, arith}
 use Rattle.std.specs.Prelude.{◌==◌}
 use Rattle.std.specs.List.{AllByRecursion as All, filter, flat_map}
-use Rattle.std.proofs.lemmas.Bool.{cases_lt, cases_eq, eq-eqb, ne_eqb}
+use Rattle.std.proofs.lemmas.Bool.{cases_eq, eq-eqb, ne_eqb}
 use Rattle.std.proofs.lemmas.List.{length-append, length-map}
 use Rattle.onfi_request.specs.declared.want.Want.{Want}
 use Rattle.onfi_group.specs.Words.{Has, Pairs}
-use Rattle.onfi_problem.proofs.Perm.{Perm, none, skip, swap, trans, taken_out, Has-perm, All-has, All-each, All-weaker, Has-append_left, Has-append_right, Has-flat_map_in}
+use Rattle.onfi_problem.proofs.Perm.{taken_out, Has-perm, All-has, All-each, All-weaker, Has-append_left, Has-append_right, Has-flat_map_in, length_perm, Has-map}
 use Rattle.onfi_problem.proofs.Wants.{Has-filter}
 use Rattle.onfi_problem.proofs.Limits.{times_le}
-
-length_perm : {A : Type 0} {xs ys : List A} → Perm xs ys → length xs ≡ length ys
-length_perm none = refl
-length_perm (skip x p) = ap suc (length_perm p)
-length_perm (swap x y xs) = refl
-length_perm (trans p q) = length_perm p ∙ length_perm q
+use Rattle.onfi_group.proofs.Counting.{half_squared}
 
 -- of distinct things there are no more than of those among which they are
 pub distinct_within : {A : Type 0} (xs ys : List A) → Pairs (λ a b. a ≢ b) xs → All (Has ys) xs → length xs ≤ length ys
@@ -43,11 +38,6 @@ length_extended vs gs =
     let a = length-append (flat_map (λ v. map (λ g. v ∷ g) gs) vs) gs in
     let e = length_each vs gs in
     omega arith
-
-Has-map : {A B : Type 0} (f : A → B) (xs : List A) (x : A) → Has xs x → Has (map f xs) (f x)
-Has-map f [] x h = absurd h
-Has-map f (y ∷ xs) x (inl e) = inl (ap f e)
-Has-map f (y ∷ xs) x (inr h) = inr (Has-map f xs x h)
 
 abbrev on_plane : ℕ → List Want → List Want
 on_plane p ws = filter (λ w. w.plane == p) ws
@@ -106,12 +96,6 @@ planes_sum (w ∷ ws) =
 two_apart : (x d : ℕ) → 4 * (x * (x + d)) ≤ (x + (x + d)) * (x + (x + d))
 two_apart x d = omega arith
 
-two_most : (x y : ℕ) → 4 * (x * y) ≤ (x + y) * (x + y)
-two_most x y = elim (cases_lt x y) [
-  | inl a ↦ (let q : (d : ℕ) × (y ≡ x + d) = (y - x, omega arith) in let e = q.1 in let t = two_apart x q.0 in rw e t)
-  | inr a ↦ (let q : (d : ℕ) × (x ≡ y + d) = (x - y, omega arith) in let e = q.1 in let t = two_apart y q.0 in rw e (omega arith))
-]
-
 le_times : (a b c d : ℕ) → a ≤ b → c ≤ d → a * c ≤ b * d
 le_times a b c d h k = let p = times_le a c d k in let q = times_le d a b h in omega arith
 
@@ -125,9 +109,9 @@ four_most p q s t a b c =
 
 product_most : (x y z w : ℕ) → x + y + (z + w) ≤ 12 → (x * y) * (z * w) ≤ 81
 product_most x y z w h =
-    let st = two_most (x + y) (z + w) in
+    let st = half_squared (x + y) (z + w) in
     let whole = le_times (x + y + (z + w)) 12 (x + y + (z + w)) 12 h h in
-    four_most (x * y) (z * w) (x + y) (z + w) (two_most x y) (two_most z w) (omega (arith, st, whole))
+    four_most (x * y) (z * w) (x + y) (z + w) (half_squared x y) (half_squared z w) (omega (arith, st, whole))
 
 length_choices : (ws : List Want) → length ws ≤ 8 → length (choices ws) ≤ 81
 length_choices ws few =

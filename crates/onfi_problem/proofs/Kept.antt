@@ -1,18 +1,17 @@
 -- A move leaves a problem.
-use Rattle.std.proofs.Common.{◌≡◌, ℕ, ◌≤◌, inl, inr, Bool, List, [], ◌∷◌, length, Some, refl, sym, ◌∙◌, subst, arith}
+use Rattle.std.proofs.Common.{◌≡◌, ℕ, inl, inr, List, length, Some, refl, sym, ◌∙◌, subst, arith, ◌<◌}
 use Rattle.std.specs.Prelude.{slice_get, slice_set, not}
-use Rattle.std.proofs.lemmas.Bool.{cases_Bool}
 use Rattle.onfi_request.specs.declared.want.Want.{Want}
 use Rattle.onfi_problem.specs.declared.lun_state.LunState.{LunState}
 use Rattle.onfi_problem.specs.declared.lun_state.LunState.TheVariants.{Running}
-use Rattle.onfi_problem.specs.Moves.{Move, Next, Start, IsMove, placed, lun_after, ran}
-use Rattle.std.specs.List.{AllByRecursion as All, filter}
+use Rattle.onfi_problem.specs.Moves.{Move, Next, Start, IsMove, placed, lun_after, ran, move_lun}
+use Rattle.std.specs.List.{AllByRecursion as All}
 use Rattle.onfi_problem.specs.Problem.{Problem, IsProblem, IsRunning, IsWant, IsSmall}
 use Rattle.onfi_group.specs.Group.{IsGroup, lun_of, on_block, is_member}
 use Rattle.onfi_problem.proofs.Perm.{All-weaker, All-has}
-use Rattle.onfi_problem.proofs.Places.{get_set_same, get_set_other, length_set, same_place}
+use Rattle.onfi_problem.proofs.Places.{get_set_same, get_set_other, length_set, same_place, within_get}
 use Rattle.onfi_problem.proofs.LunAfter.{running_is}
-use Rattle.onfi_problem.proofs.Wants.{Pairs-filter, All-filter, first_has}
+use Rattle.onfi_problem.proofs.Wants.{Pairs-filter, All-filter, first_has, filter_shorter}
 
 kept_running : (p : Problem) (ip : IsProblem p) (l : ℕ) (g : List Want) (n b : ℕ) (x : LunState) → slice_get p.luns l ≡ Some x → IsGroup p.rules g → lun_of g ≡ l → All IsWant g → (j : ℕ) (g' : List Want) (n' r' : ℕ) → slice_get (slice_set p.luns l (lun_after p.timing g n b)) j ≡ Some (Running g' n' r') → IsRunning p.rules j g' n'
 kept_running p ip l g n b x at ig il iw j g' n' r' h =
@@ -39,13 +38,19 @@ kept p (Start ms) t ip (since, at, st) =
     let k = kept_ran p ip (lun_of ms) ms 0 t _ at st.group refl iw in
     record { wants = All-filter _ _ p.wants ip.wants; running = k.running; ids = Pairs-filter _ _ p.wants ip.ids; in_range = All-filter _ _ p.wants k.in_range }
 
-filter_shorter : {A : Type 0} (test : A → Bool) (xs : List A) → length (filter test xs) ≤ length xs
-filter_shorter test [] = omega arith
-filter_shorter test (x ∷ xs) = let e = filter_shorter test xs in elim (cases_Bool (test x)) [ inl k ↦ rw k (omega arith) | inr k ↦ rw k (omega arith) ]
-
 -- .. with no more wants and as many LUNs
 pub kept_small : (p : Problem) (m : Move) (t : ℕ) → IsSmall p → IsMove p m → IsSmall (placed p m t)
 kept_small p (Next l) t small (g, n, r, at) = rw at (record { wants = small.wants; some_luns = rw length_set small.some_luns; few_luns = rw length_set small.few_luns })
 kept_small p (Start ms) t small (since, at, st) =
     let fewer = filter_shorter (λ w. not (is_member ms w)) p.wants in
     record { wants = omega (arith, fewer, small.wants); some_luns = rw length_set small.some_luns; few_luns = rw length_set small.few_luns }
+
+-- as many LUNs as before
+pub placed_luns : (p : Problem) (m : Move) (t : ℕ) → IsMove p m → length (placed p m t).luns ≡ length p.luns
+placed_luns p (Next l) t (g, n, r, at) = rw at (length_set p.luns l _)
+placed_luns p (Start ms) t (since, at, st) = length_set p.luns (lun_of ms) _
+
+-- the LUN of a move is there
+pub lun_there : (p : Problem) (m : Move) → IsMove p m → move_lun m < length p.luns
+lun_there p (Next l) (g, n, r, at) = within_get p.luns l _ at
+lun_there p (Start g) (since, at, s) = within_get p.luns (lun_of g) _ at

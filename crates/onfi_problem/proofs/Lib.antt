@@ -6,7 +6,6 @@ pub mod Firsts
 pub mod Count
 pub mod Listed
 pub mod Sums
-pub mod Rising
 pub mod Marks
 pub mod After
 pub mod Lists

@@ -14,14 +14,8 @@ use Rattle.onfi_problem.specs.Moves.{Move, Next, Start, IsMove, move_lun, ComesB
 use Rattle.onfi_problem.proofs.Perm.{All-append, All-has, All-each, Has-append_left, Has-append_right}
 use Rattle.onfi_problem.proofs.Places.{within_get}
 use Rattle.onfi_problem.proofs.Count.{few_groups}
-
-pub Pairs-append : {A : Type 0} (R : A → A → Type 0) (xs ys : List A) → Pairs R xs → Pairs R ys → ((x y : A) → Has xs x → Has ys y → R x y) → Pairs R (xs ++ ys)
-Pairs-append R [] ys a b c = b
-Pairs-append R (x ∷ xs) ys a b c = (All-append (R x) xs ys a.0 (All-each (R x) ys (λ y h. c x y (inl refl) h)), Pairs-append R xs ys a.1 b (λ u v h k. c u v (inr h) k))
-
-length_filter : {A : Type 0} (test : A → Bool) (xs : List A) → length (filter test xs) ≤ length xs
-length_filter test [] = omega arith
-length_filter test (x ∷ xs) = let e = length_filter test xs in elim (cases_Bool (test x)) [ inl k ↦ rw k (omega arith) | inr k ↦ rw k (omega arith) ]
+pub use Rattle.onfi_group.proofs.Lists.{Pairs-append}
+use Rattle.onfi_problem.proofs.Wants.{filter_shorter}
 
 module _ (own : ℕ → List (List Want)) (can : List Want → Bool) where
   abbrev starts_of : List (List Want) → List Move
@@ -55,7 +49,7 @@ module _ (own : ℕ → List (List Want)) (can : List Want → Bool) where
       let o : length (owned (l + 1)) ≡ length (owned l) + length (own l) = rw s (length-append (owned l) (own l)) in
       let a = length-append (starts_of (own l)) (moves_from (l + 1) luns) in
       let m = length-map (filter can (own l)) (λ (g : List Want). Start g) in
-      let f = length_filter can (own l) in
+      let f = filter_shorter can (own l) in
       rw z (omega arith)
   length_from l (Running g n r ∷ luns) =
       let e = length_from (l + 1) luns in

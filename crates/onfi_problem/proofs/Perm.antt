@@ -1,7 +1,8 @@
 -- Lists in another order, by cases.
-use Rattle.std.proofs.Common.{◌≡◌, ℕ, ◌+◌, ◌⊎◌, inl, inr, List, [], ◌∷◌, ◌++◌, refl, sym, ap, ◌∙◌, subst, arith, append_assoc}
+use Rattle.std.proofs.Common.{◌≡◌, ℕ, ◌+◌, inl, inr, List, [], ◌∷◌, ◌++◌, refl, sym, ap, ◌∙◌, subst, arith, append_assoc, length, map, suc}
 use Rattle.std.specs.List.{AllByRecursion as All, flat_map}
 use Rattle.onfi_group.specs.Words.{Has, Pairs, total}
+pub use Rattle.onfi_group.proofs.Lists.{All-append, All-weaker, All-has, All-each, Has-append_left, Has-append_right, Has-append_cases, All-both}
 
 pub data Perm {A : Type 0} : List A → List A → Type 0 where
   none : Perm [] []
@@ -66,6 +67,12 @@ Pairs-perm R s (skip x p) h = (All-perm (R x) p h.0, Pairs-perm R s p h.1)
 Pairs-perm R s (swap x y xs) h = ((s x y h.0.0, h.1.0), (h.0.1, h.1.1))
 Pairs-perm R s (trans p q) h = Pairs-perm R s q (Pairs-perm R s p h)
 
+pub length_perm : {A : Type 0} {xs ys : List A} → Perm xs ys → length xs ≡ length ys
+length_perm none = refl
+length_perm (skip x p) = ap suc (length_perm p)
+length_perm (swap x y xs) = refl
+length_perm (trans p q) = length_perm p ∙ length_perm q
+
 pub total-perm : {A : Type 0} (f : A → ℕ) {xs ys : List A} → Perm xs ys → total f xs ≡ total f ys
 total-perm f none = refl
 total-perm f (skip x p) = ap (λ n. f x + n) (total-perm f p)
@@ -78,10 +85,6 @@ flat_map-perm f (skip x p) = on_right (f x) (flat_map-perm f p)
 flat_map-perm f (swap x y xs) = between (f x) (f y) (flat_map f xs)
 flat_map-perm f (trans p q) = trans (flat_map-perm f p) (flat_map-perm f q)
 
-pub All-append : {A : Type 0} (P : A → Type 0) (xs ys : List A) → All P xs → All P ys → All P (xs ++ ys)
-All-append P [] ys h k = k
-All-append P (x ∷ xs) ys h k = (h.0, All-append P xs ys h.1 k)
-
 pub All-front : {A : Type 0} (P : A → Type 0) (xs ys : List A) → All P (xs ++ ys) → All P xs
 All-front P [] ys h = tt
 All-front P (x ∷ xs) ys h = (h.0, All-front P xs ys h.1)
@@ -90,32 +93,10 @@ pub All-back : {A : Type 0} (P : A → Type 0) (xs ys : List A) → All P (xs ++
 All-back P [] ys h = h
 All-back P (x ∷ xs) ys h = All-back P xs ys h.1
 
-pub All-weaker : {A : Type 0} (P Q : A → Type 0) → ((x : A) → P x → Q x) → (xs : List A) → All P xs → All Q xs
-All-weaker P Q f [] h = tt
-All-weaker P Q f (x ∷ xs) h = (f x h.0, All-weaker P Q f xs h.1)
-
-pub All-has : {A : Type 0} (P : A → Type 0) (xs : List A) (x : A) → All P xs → Has xs x → P x
-All-has P (y ∷ ys) x h (inl e) = subst P e h.0
-All-has P (y ∷ ys) x h (inr k) = All-has P ys x h.1 k
-All-has P [] x h k = absurd k
-
-pub All-each : {A : Type 0} (P : A → Type 0) (xs : List A) → ((x : A) → Has xs x → P x) → All P xs
-All-each P [] f = tt
-All-each P (x ∷ xs) f = (f x (inl refl), All-each P xs (λ y k. f y (inr k)))
-
-pub Has-append_left : {A : Type 0} (xs ys : List A) (x : A) → Has xs x → Has (xs ++ ys) x
-Has-append_left [] ys x h = absurd h
-Has-append_left (y ∷ xs) ys x (inl e) = inl e
-Has-append_left (y ∷ xs) ys x (inr h) = inr (Has-append_left xs ys x h)
-
-pub Has-append_right : {A : Type 0} (xs ys : List A) (x : A) → Has ys x → Has (xs ++ ys) x
-Has-append_right [] ys x h = h
-Has-append_right (y ∷ xs) ys x h = inr (Has-append_right xs ys x h)
-
-pub Has-append_cases : {A : Type 0} (xs ys : List A) (x : A) → Has (xs ++ ys) x → Has xs x ⊎ Has ys x
-Has-append_cases [] ys x h = inr h
-Has-append_cases (y ∷ xs) ys x (inl e) = inl (inl e)
-Has-append_cases (y ∷ xs) ys x (inr h) = elim (Has-append_cases xs ys x h) [ inl k ↦ inl (inr k) | inr k ↦ inr k ]
+pub Has-map : {A B : Type 0} (f : A → B) (xs : List A) (x : A) → Has xs x → Has (map f xs) (f x)
+Has-map f [] x h = absurd h
+Has-map f (y ∷ xs) x (inl e) = inl (ap f e)
+Has-map f (y ∷ xs) x (inr h) = inr (Has-map f xs x h)
 
 -- without one of them
 pub taken_out : {A : Type 0} (xs : List A) (x : A) → Has xs x → (ys : List A) × Perm xs (x ∷ ys)
@@ -130,10 +111,6 @@ Has-flat_map f (x ∷ xs) y h = elim (Has-append_cases (f x) (flat_map f xs) y h
 pub All-flat_map : {A B : Type 0} (P : B → Type 0) (f : A → List B) (xs : List A) → All P (flat_map f xs) → All (λ x. All P (f x)) xs
 All-flat_map P f [] h = tt
 All-flat_map P f (x ∷ xs) h = (All-front P (f x) (flat_map f xs) h, All-flat_map P f xs (All-back P (f x) (flat_map f xs) h))
-
-pub All-both : {A : Type 0} (P Q R : A → Type 0) → ((x : A) → P x → Q x → R x) → (xs : List A) → All P xs → All Q xs → All R xs
-All-both P Q R f [] h k = tt
-All-both P Q R f (x ∷ xs) h k = (f x h.0 k.0, All-both P Q R f xs h.1 k.1)
 
 pub Has-flat_map_in : {A B : Type 0} (f : A → List B) (xs : List A) (x : A) (y : B) → Has xs x → Has (f x) y → Has (flat_map f xs) y
 Has-flat_map_in f [] x y h k = absurd h

@@ -1,5 +1,5 @@
 -- Wants and their numbers.
-use Rattle.std.proofs.Common.{◌≡◌, ℕ, ◌+◌, ◌≤◌, ◌<◌, inl, inr, Bool, true, false, List, [], ◌∷◌, ◌++◌, Some, refl, sym, ap, ◌∙◌, arith}
+use Rattle.std.proofs.Common.{◌≡◌, ℕ, ◌+◌, ◌≤◌, ◌<◌, inl, inr, Bool, true, false, List, [], ◌∷◌, ◌++◌, Some, refl, sym, ap, ◌∙◌, arith, length}
 use Rattle.std.specs.Prelude.{not, ◌==◌, slice_get}
 use Rattle.std.specs.List.{AllByRecursion as All, filter, list_any}
 use Rattle.std.proofs.lemmas.Bool.{eqb-true, cases_Bool, false≢true}
@@ -22,6 +22,10 @@ pub Has-filter : {A : Type 0} (test : A → Bool) (xs : List A) (x : A) → Has 
 Has-filter test [] x h e = absurd h
 Has-filter test (y ∷ ys) x (inl q) e = let k : test y ≡ true = ap test q ∙ e in rw k (inl q)
 Has-filter test (y ∷ ys) x (inr h) e = elim (cases_Bool (test y)) [ inl k ↦ rw k (inr (Has-filter test ys x h e)) | inr k ↦ rw k (Has-filter test ys x h e) ]
+
+pub filter_shorter : {A : Type 0} (test : A → Bool) (xs : List A) → length (filter test xs) ≤ length xs
+filter_shorter test [] = omega arith
+filter_shorter test (x ∷ xs) = let e = filter_shorter test xs in elim (cases_Bool (test x)) [ inl k ↦ rw k (omega arith) | inr k ↦ rw k (omega arith) ]
 
 pub All-filter : {A : Type 0} (P : A → Type 0) (test : A → Bool) (xs : List A) → All P xs → All P (filter test xs)
 All-filter P test [] h = tt

@@ -41,6 +41,10 @@ all_commands p = total (command_time p.timing) p.luns + total (want_command p.ti
 abbrev pub all_posts : Problem → ℕ
 all_posts p = total (post_time p.timing) p.luns + total (want_post p.timing) p.wants
 
+-- the bus work that is left
+abbrev pub work : Problem → ℕ
+work p = all_commands p + all_posts p
+
 -- the waits behind phase n: the gaps between the commands that are left, and the array
 abbrev pub waits_left : Spans → ℕ → ℕ → ℕ
 waits_left spans k n = if nat_lt n k then (k - 1 - n) * spans.gap + spans.array else 0

@@ -14,7 +14,7 @@ use Rattle.onfi_group.specs.Group.{IsGroup, lun_of, group_spans, IsFirst, on_blo
 use Rattle.onfi_timing.specs.Phases.{phase_length}
 use Rattle.onfi_schedule.specs.Schedule.{Placed, Schedule, Phase, end_of, phases_from, phases_left, rest_phases, group_phases, phases, latest, finish, InOrder, KeepsBlockOrder, all_members, Legal}
 use Rattle.onfi_schedule.specs.Runs.{Step, Run}
-use Rattle.onfi_problem.proofs.Perm.{Perm, back, All-perm, All-has, All-each, All-front, All-back, All-flat_map, Has-append_cases, Has-flat_map, Has-flat_map_in, Has-perm, taken_out}
+use Rattle.onfi_problem.proofs.Perm.{Perm, back, All-perm, All-has, All-each, All-front, All-back, All-flat_map, Has-append_cases, Has-flat_map, Has-flat_map_in, Has-perm, taken_out, length_perm}
 use Rattle.onfi_problem.proofs.Places.{get_within, within_get}
 use Rattle.onfi_schedule.proofs.Chains.{is_head}
 use Rattle.onfi_schedule.proofs.Rests.{all_at, has_at}
@@ -267,12 +267,6 @@ module _ (p : Problem) (s : Schedule) (ip : IsProblem p) (lg : Legal p s) where
         | inr h ↦ (let a = Has-flat_map (group_phases p.timing) s.groups y.0 h in in_group a.0 a.0.starts y.0 refl a.1 a.2 y.2)
       ]
 
-length-perm : {A : Type 0} {xs ys : List A} → Perm xs ys → length xs ≡ length ys
-length-perm Perm.none = refl
-length-perm (Perm.skip x q) = ap suc (length-perm q)
-length-perm (Perm.swap x y xs) = refl
-length-perm (Perm.trans q r) = length-perm q ∙ length-perm r
-
 no_element : {A : Type 0} (xs : List A) → length xs ≡ 0 → xs ≡ []
 no_element [] e = refl
 no_element (x ∷ xs) e = absurd (omega arith)
@@ -284,7 +278,7 @@ run_of zero p s ip lg e =
 run_of (suc n) p s ip lg e =
     let f = first_move p s ip lg (omega arith) in
     let p' = placed p f.move f.start in
-    let size = length-perm f.others in
+    let size = length_perm f.others in
     let bus = All-perm (λ x. p.bus_free ≤ x.start) f.others lg.from_bus_free in
     let r = run_of n p' f.left (kept p f.move f.start ip f.is_move) f.legal (omega arith) in
     let same : finish p' f.left ≡ finish p s = latest_without p.bus_free p'.bus_free f.phase (phases p s) (phases p' f.left) f.others bus.0 f.ends in

@@ -28,6 +28,16 @@ impl Placed {
         Placed { members, starts }
     }
 
+    /// The same group with the same starts once more; this takes no memory.
+    pub fn copy(&self) -> Placed
+        ensures { result ≡ self.now }
+    {
+        Placed {
+            members: self.members.copy(),
+            starts: self.starts.copy(),
+        }
+    }
+
     /// The group.
     pub fn members(&self) -> &Group
         ensures { result.now ≡ self.now.members }

@@ -32,6 +32,16 @@ impl Starts {
         }
     }
 
+    /// The same starts once more; this takes no memory.
+    pub fn copy(&self) -> Starts
+        ensures { result ≡ self.now }
+    {
+        let alloc = *self.of.allocator();
+        Starts {
+            of: SmallVec::from_slice(alloc, self.as_slice()).unwrap(),
+        }
+    }
+
     /// Puts a start, in ns, behind the others; up to eight stand inline, so this takes no memory.
     pub fn push(&mut self, start: u64)
         requires room { length self.old < 8 }

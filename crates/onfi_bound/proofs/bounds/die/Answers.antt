@@ -6,7 +6,7 @@ use Rattle.onfi_bound.proofs.Steps.{all_at}
 use Rattle.onfi_bound.proofs.Parts.{placed}
 use Rattle.onfi_bound.proofs.Counting.{within_luns}
 use Rattle.onfi_bound.proofs.Ends.{die_small}
-use Rattle.onfi_bound.proofs.Whole.{work_is, die_nothing, die_working, chain_at, short_chain}
+use Rattle.onfi_bound.proofs.Whole.{work_is, die_nothing, die_working, chain_at}
 use Rattle.onfi_bound.proofs.bounds.die.Goals as goal
 use Rattle.onfi_bound.proofs.bounds.die.Goals.{else-not-chain-via-then-not-chain+else-work-eq0, else-not-chain-via-else-not-chain}
 
@@ -26,12 +26,20 @@ returns-then-work-eq0-clause-value c =
     let w = work_is x.problem c.args.lun _ _ _ _ _ c.timing-timing.ensures c.rules-rules.ensures wants c.deref.ensures.0 c.work_of_wants-work.ensures.value in
     c.bus_free-bus_free.ensures.value ∙ die_nothing x.problem c.args.lun c.of-chain.result c.work_of_wants-work.result at w c.if-not-chain.true c.if-work-eq0.true
 
-pub done_by-requires-clause-short : goal.done_by-requires-clause-short
-done_by-requires-clause-short c =
+pub done_by-requires : goal.done_by-requires
+done_by-requires c =
     let x = c.args.problem.now in
     let blank : Lun = record { next = 0; place = 0; time = 0 } in
-    short_chain x.problem c.args.lun c.of-chain.result c.bus_free-bus_free.ensures.limits
-    (chain_at x.problem _ x.groups _ c.luns.result.now c.args.lun blank c.of-chain.result c.luns.ensures.states c.requires c.timing-timing.ensures c.groups.ensures.value c.of-chain.ensures)
+    let at = chain_at x.problem _ x.groups _ c.luns.result.now c.args.lun blank c.of-chain.result c.luns.ensures.states c.requires c.timing-timing.ensures c.groups.ensures.value c.of-chain.ensures in
+    let wants = c.list_marked.ensures.wants ∙ (ap (waiting_of c.waiting.result.now) c.wants.ensures.value ∙ c.waiting.ensures.value) in
+    let w = work_is x.problem c.args.lun _ _ _ _ _ c.timing-timing.ensures c.rules-rules.ensures wants c.deref.ensures.0 c.work_of_wants-work.ensures.value in
+    let d = die_working x.problem c.args.lun c.of-chain.result c.work_of_wants-work.result at w (elim c.else-not-chain.branch [
+      | else-not-chain-via-then-not-chain+else-work-eq0 v ↦ inr (let n = v.if-work-eq0.false in omega arith)
+      | else-not-chain-via-else-not-chain v ↦ inl v.if-not-chain.false
+    ]) in
+    let s = die_small x.problem c.args.lun c.bus_free-bus_free.ensures.limits c.requires in
+    let v = c.bus_free-bus_free.ensures.value in
+    omega arith
 
 pub returns-clause-value : goal.returns-clause-value
 returns-clause-value c =

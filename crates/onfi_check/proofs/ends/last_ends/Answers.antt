@@ -2,8 +2,9 @@ use Rattle.std.proofs.Common.{◌≡◌, ◌∙◌, ◌<◌, length, sym, length
 use Rattle.onfi_problem.specs.declared.moves.Move.TheVariants.{Next}
 use Rattle.onfi_problem.specs.Moves.{move_lun}
 use Rattle.onfi_problem.specs.Position.{move_of, lun_named}
-use Rattle.onfi_check.proofs.LastEnds.{at_place, move_at, ends_more}
+use Rattle.onfi_check.proofs.LastEnds.{move_at, ends_more}
 use Rattle.onfi_check.proofs.ends.last_ends.Goals as goal
+use Rattle.onfi_bound.proofs.Steps.{all_at}
 
 pub end_of-end-requires-clause-step : goal.end_of-end-requires-clause-step
 end_of-end-requires-clause-step c = move_at c.args.problem.now.problem c.args.problem.now.groups c.args.moves.now c.loop-m.m-index (Next 0) c.loop-m-test.true c.requires.moves
@@ -11,8 +12,8 @@ end_of-end-requires-clause-step c = move_at c.args.problem.now.problem c.args.pr
 pub loop-m-preserved : goal.loop-m-preserved
 loop-m-preserved c =
     let x = c.args.problem.now in
-    let own = at_place (λ m. move_lun (move_of x.groups m) ≡ lun_named m) c.args.moves.now c.loop-m.m-index (Next 0) c.loop-m-test.true c.requires.luns in
-    let few = at_place (λ m. lun_named m < 8) c.args.moves.now c.loop-m.m-index (Next 0) c.loop-m-test.true c.requires.few in
+    let own = all_at (λ m. move_lun (move_of x.groups m) ≡ lun_named m) c.args.moves.now c.loop-m.m-index (Next 0) c.loop-m-test.true c.requires.luns in
+    let few = all_at (λ m. lun_named m < 8) c.args.moves.now c.loop-m.m-index (Next 0) c.loop-m-test.true c.requires.few in
     let long = c.loop-m.invariant.long in
     let lun = c.lun-lun.ensures in
     let within : c.lun-lun.result < length c.loop-m.ends = omega arith in

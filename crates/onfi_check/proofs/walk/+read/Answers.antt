@@ -11,9 +11,10 @@ use Rattle.onfi_cert.specs.declared.token.Token.TheVariants.{Branch, Trail, Yiel
 use Rattle.onfi_bound.specs.Commands.{AreCommands}
 use Rattle.onfi_check.specs.Reading.{Begins, BeginsEach, ReadsChild, RefusesChild}
 use Rattle.onfi_check.specs.Ends.{IsAsked}
-use Rattle.onfi_check.proofs.LastEnds.{move_at, at_place}
+use Rattle.onfi_check.proofs.LastEnds.{move_at}
 use Rattle.onfi_check.proofs.Walking.{lun_there, on_ok, yield_taken, yield_refused, child_taken, child_refused, none_left, fewer_left, begun, one_more_child, refused_child, all_children, closing_taken, closing_refused, branch_width, branch_taken, branch_refused}
 use Rattle.onfi_check.proofs.walk.+read.Goals as goal
+use Rattle.onfi_bound.proofs.Steps.{all_at}
 
 pub read_below-returns-in_err-read_tree-clause-err : goal.read_below-returns-in_err-read_tree-clause-err
 read_below-returns-in_err-read_tree-clause-err g t c =
@@ -110,7 +111,7 @@ read_children-read_child-requires g t c κs within =
           (
             subst (λ (z : Position). IsMove z.problem (move_of z.groups (get_or items i (Next 0)))) same (move_at x.problem x.groups items i (Next 0) c.loop-m-test.true are.moves_only),
             (
-              subst (λ (z : Position). IsNamed z.groups (get_or items i (Next 0))) same (at_place (IsNamed x.groups) items i (Next 0) c.loop-m-test.true named),
+              subst (λ (z : Position). IsNamed z.groups (get_or items i (Next 0))) same (all_at (IsNamed x.groups) items i (Next 0) c.loop-m-test.true named),
               (
                 subst (λ (z : Position). All (IsMove z.problem) (moves_of z.groups items)) same are.moves_only,
                 (

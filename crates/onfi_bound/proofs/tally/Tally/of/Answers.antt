@@ -11,25 +11,25 @@ use Rattle.onfi_bound.proofs.tally.Tally.of.Goals as goal
 abbrev none : Lun
 none = record { next = 0; place = 0; time = 0 }
 
-pub with_lun-tally-requires-clause-place : goal.with_lun-tally-requires-clause-place
-with_lun-tally-requires-clause-place c =
+pub add_lun-requires-clause-place : goal.add_lun-requires-clause-place
+add_lun-requires-clause-place c =
     let x = c.args.problem.now in
     all_at (λ (lun : Lun). 1 ≤ lun.next → lun.place < length x.groups) c.luns-state-items.result.now c.loop-lun.lun _ c.loop-lun-test.true (placed x.problem x.groups c.luns-state-items.result.now c.bus_free-limits.ensures.limits c.luns-state-items.ensures.states)
 
-pub with_lun-tally-requires-clause-load : goal.with_lun-tally-requires-clause-load
-with_lun-tally-requires-clause-load c = c.requires
+pub add_lun-requires-clause-load : goal.add_lun-requires-clause-load
+add_lun-requires-clause-load c = c.requires
 
-pub with_lun-tally-requires-clause-state : goal.with_lun-tally-requires-clause-state
-with_lun-tally-requires-clause-state c = state_at c.args.problem.now.groups c.luns-state-items.result.now c.args.problem.now.problem.luns c.loop-lun.lun none c.luns-state-items.ensures.states c.loop-lun-test.true
+pub add_lun-requires-clause-state : goal.add_lun-requires-clause-state
+add_lun-requires-clause-state c = state_at c.args.problem.now.groups c.luns-state-items.result.now c.args.problem.now.problem.luns c.loop-lun.lun none c.luns-state-items.ensures.states c.loop-lun-test.true
 
-pub with_lun-tally-requires-clause-small : goal.with_lun-tally-requires-clause-small
-with_lun-tally-requires-clause-small c = omega (arith, c.loop-lun-test.true, c.luns-state-items.ensures.few)
+pub add_lun-requires-clause-small : goal.add_lun-requires-clause-small
+add_lun-requires-clause-small c = omega (arith, c.loop-lun-test.true, c.luns-state-items.ensures.few)
 
-pub with_lun-tally-requires-clause-so_far : goal.with_lun-tally-requires-clause-so_far
-with_lun-tally-requires-clause-so_far c = c.loop-lun.invariant
+pub add_lun-requires-clause-so_far : goal.add_lun-requires-clause-so_far
+add_lun-requires-clause-so_far c = c.loop-lun.invariant
 
 pub loop-lun-preserved : goal.loop-lun-preserved
-loop-lun-preserved c = c.with_lun-tally.ensures
+loop-lun-preserved c = c.add_lun.ensures
 
 pub returns : goal.returns
 returns c =
@@ -37,4 +37,4 @@ returns c =
     let luns = c.luns-state-items.result.now in
     let many : length luns ≡ length x.problem.luns = sym (length-map luns (state_of x.groups)) ∙ ap length c.luns-state-items.ensures.states in
     let all : c.loop-lun.lun ≡ length x.problem.luns = omega (arith, many, c.loop-lun-test.false, c.loop-lun.auto.lun-end) in
-    subst (λ n. IsTally x.problem c.args.e n c.loop-lun.tally) all c.loop-lun.invariant
+    subst (λ n. IsTally x.problem n c.loop-lun.tally) all c.loop-lun.invariant
