@@ -1,1 +1,2 @@
 pub mod Erases
+mod OneMember

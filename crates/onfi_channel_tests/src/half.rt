@@ -207,3 +207,45 @@ fn a_stopped_channel_stays_stopped(rt: HostRuntime) -> Result<(), AllocError> {
     }
     Ok(())
 }
+
+// Whether an item is wanted, whether a phase is left, how many items were accepted and replies posted, and whether each
+// item is answered.
+fn progress(half: &Half) -> (bool, bool, u64, u64, bool) {
+    (
+        half.wants_item(),
+        half.has_phase(),
+        half.accepted_count(),
+        half.posted_count(),
+        half.is_answered(),
+    )
+}
+
+#[test]
+fn a_half_tells_how_far_it_is(rt: HostRuntime) -> Result<(), AllocError> {
+    let alloc = rt.alloc();
+    let setup = one_channel(&rt, true, 4, 1, 1, 1_000);
+    let request = program(&rt, alloc, &setup, 0)?;
+    let mut half = Half::open(alloc, setup)?;
+    assert_eq!(rt; progress(&half), (true, false, 0, 0, true));
+    assert!(rt; half.refuses().is_none());
+    half.accept(Item {
+        host: 3,
+        serial: 0,
+        request,
+    });
+    assert_eq!(rt; progress(&half), (false, false, 1, 0, false));
+    half.set_batch(2);
+    assert_eq!(rt; progress(&half), (true, false, 1, 0, false));
+    assert!(rt; half.plan(alloc) == Ok(211_180));
+    assert_eq!(rt; progress(&half), (true, true, 1, 0, false));
+    assert_eq!(rt; command_done(&rt, alloc, &mut half), (0, 3));
+    assert_eq!(rt; progress(&half), (true, true, 1, 0, false));
+    let end = post_done(&rt, alloc, &mut half, Answer::Done);
+    assert_eq!(rt; end, (210_900, 3));
+    assert_eq!(rt; progress(&half), (true, false, 1, 0, false));
+    assert_eq!(rt; posted(&rt, &mut half, 3), (0, false));
+    assert_eq!(rt; progress(&half), (true, false, 1, 1, true));
+    let setup = half.setup();
+    assert_eq!(rt; (setup.hosts, setup.batch, setup.limit), (4, 1, 1_000));
+    Ok(())
+}

@@ -1,5 +1,5 @@
 -- What a chip is, and what its calls do to it.
-use Rattle.std.specs.Prelude.{ℕ, ◌+◌, List, [], ◌∷◌, ◌++◌, replicate, Option, Some, None, slice_get, slice_set}
+use Rattle.std.specs.Prelude.{◌≡◌, ℕ, ◌+◌, List, [], ◌∷◌, ◌++◌, replicate, Option, Some, None, slice_get, slice_set}
 use Rattle.onfi_addr.specs.declared.geometry.Geometry.{Geometry}
 use Rattle.onfi_timing.specs.declared.spans.Spans.{Spans}
 use Rattle.onfi_timing.specs.declared.timing.Timing.{Timing}
@@ -39,6 +39,10 @@ opened geometry timing faults failures = record {
   luns = replicate geometry.lun_count Idle;
   failures = failures;
 }
+
+-- the chip has that geometry and timing, and is as it opens
+abbrev pub IsAsOpened : Geometry → Timing → Chip → Type 0
+IsAsOpened geometry timing chip = chip ≡ opened geometry timing chip.faults chip.failures
 
 -- the commands that a LUN took so far
 abbrev pub taken : Option Lun → List Request

@@ -33,9 +33,7 @@ use Rattle.onfi_core.proofs.Going.{Going, OnLun, going_next, going_start, on_nex
 use Rattle.onfi_core.proofs.Lists.{drop_next}
 use Rattle.onfi_core.proofs.Made.{made_push}
 use Rattle.onfi_core.proofs.Phase.{after_command, after_launch, after_post, right_reply}
-
-pub number-append : {A : Type 0} (test : A → Bool) (xs ys : List A) → number test (xs ++ ys) ≡ number test xs + number test ys
-number-append test xs ys = total-append (λ x. if test x then 1 else 0) xs ys
+pub use Rattle.onfi_group.proofs.Counting.{number-append}
 
 number_set : (i : ℕ) (xs : List LunState) (l : ℕ) (x y : LunState) → slice_get xs l ≡ Some x → number (has_id i) (flat_map unposted (slice_set xs l y)) + number (has_id i) (unposted x) ≡ number (has_id i) (flat_map unposted xs) + number (has_id i) (unposted y)
 number_set i [] l x y h = cc

@@ -13,11 +13,7 @@ use Rattle.onfi_core.specs.declared.setup.Setup.{Setup}
 use Rattle.onfi_core.proofs.Opening.{opened}
 use Rattle.onfi_core.proofs.Promise.{promise}
 use Rattle.onfi_core.proofs.Reach.{step_kept}
-
-pub All-at : {A : Type 0} (P : A → Type 0) (xs : List A) (i : ℕ) (x : A) → All P xs → slice_get xs i ≡ Some x → P x
-All-at P [] i x h e = cc
-All-at P (y ∷ xs) zero x h e = let q : y ≡ x = cc in subst P q h.0
-All-at P (y ∷ xs) (suc i) x h e = All-at P xs i x h.1 e
+use Rattle.onfi_core.proofs.Lists.{All-at}
 
 pub All-set : {A : Type 0} (P : A → Type 0) (xs : List A) (i : ℕ) (x : A) → All P xs → P x → All P (slice_set xs i x)
 All-set P [] i x h p = tt

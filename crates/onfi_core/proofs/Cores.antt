@@ -22,8 +22,8 @@ use Rattle.onfi_chip.specs.Chip.{Chip}
 use Rattle.onfi_core.specs.Queues.{ChannelView, AreChannels, AreOpened, opened_with, state_in}
 use Rattle.onfi_core.specs.State.{ChannelState, collected_by, device_for, posted_to, sent_by, wants_from}
 use Rattle.onfi_core.specs.Steps.{IsPlanned, Step}
-use Rattle.onfi_core.proofs.Channels.{All-at, All-set, run_keeps}
-use Rattle.onfi_core.proofs.Lists.{head_same, tail_same}
+use Rattle.onfi_core.proofs.Channels.{All-set, run_keeps}
+use Rattle.onfi_core.proofs.Lists.{head_same, tail_same, All-at}
 use Rattle.onfi_core.proofs.Promise.{promise}
 use Rattle.onfi_core.proofs.Reaching.{events_reach, opened_reaches, step_reaches}
 use Rattle.onfi_core.specs.Reaching.{Reaches}

@@ -33,11 +33,8 @@ use Rattle.onfi_core.specs.Kept.{IsSound, IsTaken, ChipAgrees, LunAgrees, post_f
 use Rattle.onfi_core.specs.State.{HalfState, device_for, item_at, request_of}
 use Rattle.onfi_core.specs.Steps.{IsPhase, AsksStatus, RunsOnChip, Commands, Launches}
 use Rattle.onfi_core.proofs.Going.{going_start}
-use Rattle.onfi_core.proofs.Lists.{drop_next, get_has}
+use Rattle.onfi_core.proofs.Lists.{drop_next, get_has, All-at}
 use Rattle.onfi_core.proofs.Members.{item_of, place_lun, place_kind, place_page}
-
-All-get : {A : Type 0} (P : A → Type 0) (xs : List A) (i : ℕ) (x : A) → All P xs → slice_get xs i ≡ Some x → P x
-All-get P xs i x h at = All-has P xs x h (get_has xs i x at)
 
 -- Where the LUN of the group is, as the phase starts: nothing was taken, or the commands before it, or what is behind it waits to be posted
 pub record Ready (s : Setup) (h : HalfState) (chip : Chip) (g : List Want) (n start : ℕ) : Type 0 where
@@ -90,7 +87,7 @@ module _ (s : Setup) (h : HalfState) (sound : IsSound s h) where
   Taken w = IsTaken s h.planned h.accepted w
 
   pub fits_is : (w : Want) → Taken w → Fits s.geometry (request_of h.accepted w)
-  fits_is w t = subst (λ (x : Item). Fits s.geometry x.request) (sym (item_of s h w t)) (All-get (λ (x : Item). Fits s.geometry x.request) h.accepted w.id t.item sound.in_range t.there)
+  fits_is w t = subst (λ (x : Item). Fits s.geometry x.request) (sym (item_of s h w t)) (All-at (λ (x : Item). Fits s.geometry x.request) h.accepted w.id t.item sound.in_range t.there)
 
   plane_is : (w : Want) → Taken w → plane_of_block s.geometry (request_of h.accepted w).place.block ≡ w.plane
   plane_is w t = ap (λ (x : Item). plane_of_block s.geometry x.request.place.block) (item_of s h w t) ∙ sym (ap (λ (v : Want). v.plane) t.is)
@@ -98,7 +95,7 @@ module _ (s : Setup) (h : HalfState) (sound : IsSound s h) where
   erase_page : (w : Want) → Taken w → w.kind ≡ kind.Erase → w.page ≡ 0
   erase_page w t e =
       let page : IsPageFor s.geometry kind.Erase (request_of h.accepted w).place.page = subst (λ k. IsPageFor s.geometry k (request_of h.accepted w).place.page) (place_kind s h w t ∙ e) (fits_is w t).page in
-      sym (place_page s h w t) ∙ page
+      sym (place_page s h w t) ∙ (let first : (request_of h.accepted w).place.page ≡ 0 = omega (arith, page) in first)
 
   kind_cases : (k : Kind) (P : Type 0) → (k ≡ kind.Erase → P) → (k ≢ kind.Erase → P) → P
   kind_cases kind.Read P f other = other (λ e. cc)

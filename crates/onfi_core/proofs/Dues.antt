@@ -5,7 +5,7 @@ use Rattle.onfi_schedule.specs.Schedule.{Placed}
 use Rattle.onfi_core.specs.Dues.{SoonerIs, SoonerOf, LeastSoFar}
 use Rattle.onfi_core.specs.declared.starting.Start.{Start}
 
-next_cases : (at n : ℕ) → at < n + 1 → (at < n) ⊎ (at ≡ n)
+pub next_cases : (at n : ℕ) → at < n + 1 → (at < n) ⊎ (at ≡ n)
 next_cases at n h = grind arith
 
 no_more : (t : ℕ) (ts xs : List ℕ) → Some xs ≡ Some (t ∷ ts) → xs ≡ [] → ⊥

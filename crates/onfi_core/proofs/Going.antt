@@ -13,7 +13,7 @@ use Rattle.onfi_problem.specs.Problem.{Problem, has_id}
 use Rattle.onfi_problem.specs.declared.lun_state.LunState.{LunState}
 use Rattle.onfi_problem.specs.declared.lun_state.LunState.TheVariants.{Free, Running}
 use Rattle.onfi_problem.proofs.Perm.{All-has, All-each}
-use Rattle.onfi_problem.proofs.Wants.{All-filter}
+use Rattle.onfi_problem.proofs.Wants.{All-filter, filter_shorter}
 use Rattle.onfi_chip.specs.Chip.{Chip, Lun, taken}
 use Rattle.onfi_chip.specs.Chip.Lun.{Idle, Commanding, Posting}
 use Rattle.onfi_core.specs.Kept.{on, is_want_on, IsTaken, post_for, commanding, unposted, ChipAgrees, LunAgrees, IsSound}
@@ -44,10 +44,6 @@ pub record OnLun (s : Setup) (h : HalfState) (chip : Chip) (l : ℕ) (g : List W
   pub chip_there : slice_get chip.luns l ≡ Some chip_state
   pub commands : n < length g → taken (slice_get chip.luns l) ≡ map (request_of h.accepted) (take n g)
   pub posts : length g ≤ n → (ready : ℕ) × (slice_get chip.luns l ≡ Some (Posting (map (post_for (device_for s chip) h.accepted) (drop (n - length g) g)) ready))
-
-length_filter : (test : Want → Bool) (ws : List Want) → length (filter test ws) ≤ length ws
-length_filter test [] = omega arith
-length_filter test (w ∷ ws) = let i = length_filter test ws in elim (cases_Bool (test w)) [ inl k ↦ rw k (omega (arith, i)) | inr k ↦ rw k (omega (arith, i)) ]
 
 -- from when the group's phase behind this one may start
 abbrev pub ready_after : Problem → List Want → ℕ → ℕ → ℕ
@@ -92,7 +88,7 @@ module _ (s : Setup) (h : HalfState) (half : IsSound s h) where
         there = at;
         here = λ b. rw (at, begins) (startable_on h.now g half.problem.ids st (lun_of g) b);
         left_taken = All-filter (IsTaken s h.planned h.accepted) _ h.now.wants half.wants;
-        fewer = length_filter _ h.now.wants;
+        fewer = filter_shorter _ h.now.wants;
         counts = λ i. (let z : 0 - length g ≡ 0 = omega arith in let e = started_once h.now g half.problem.ids st i in rw z (omega (arith, e)));
         elsewhere = λ j b d. startable_on h.now g half.problem.ids st j b ∙ ap (λ zs. zs ++ on j b (without g h.now.wants)) (none_elsewhere g (lun_of g) j b st.group.lun d);
       }

@@ -23,10 +23,10 @@ use Rattle.onfi_core.specs.Kept.{IsReached, IsSound}
 use Rattle.onfi_core.specs.Reaching.{IdleIs, NextBehind, NothingHeld}
 use Rattle.onfi_core.specs.State.{HalfState, ChannelState, device_for, is_to, posted_to}
 use Rattle.onfi_core.specs.Steps.{GoesOut, is_empty, unplanned}
-use Rattle.onfi_core.proofs.Channels.{All-at}
 use Rattle.onfi_core.proofs.Hosts.{post_kept}
 use Rattle.onfi_core.proofs.InOrder.{posted_in_order}
 use Rattle.onfi_core.proofs.Hosted.{to_own}
+use Rattle.onfi_core.proofs.Lists.{All-at}
 
 -- Held replies are to hosts of the setup
 

@@ -8,7 +8,7 @@ use Rattle.std.proofs.lemmas.List.{length-take-le}
 use Rattle.onfi_request.specs.declared.request.Item.{Item}
 use Rattle.onfi_request.specs.declared.reply.Reply.{Reply}
 use Rattle.onfi_group.specs.Words.{number}
-use Rattle.onfi_problem.proofs.Places.{same_place}
+use Rattle.onfi_problem.proofs.Places.{same_place, within_get}
 use Rattle.slab.specs.Slab.{Slab, get, slab_len, Updates}
 use Rattle.onfi_core.specs.declared.setup.Setup.{Setup}
 use Rattle.onfi_core.specs.declared.slot.Slot.{Slot}
@@ -22,11 +22,6 @@ use Rattle.onfi_core.proofs.Few.{replies_few}
 use Rattle.onfi_core.proofs.Hosts.{sound_posted}
 use Rattle.onfi_core.proofs.Lists.{cut_there, index_get}
 use Rattle.onfi_core.proofs.Next.{not_posted, was_accepted}
-
-get_below : {A : Type 0} (xs : List A) (i : ℕ) (x : A) → slice_get xs i ≡ Some x → i < length xs
-get_below [] i x h = cc
-get_below (y ∷ xs) zero x h = omega arith
-get_below (y ∷ xs) (suc i) x h = let k = get_below xs i x h in omega arith
 
 pub oldest_is : (host at : ℕ) (held kept : List Reply) (r : Reply) → (o : IsOldestAt host kept at) → kept ≡ held → r ≡ o.reply → IsOldest host held r
 oldest_is host at held kept r o same is = record {
@@ -54,7 +49,7 @@ fields_lent s slots n room room' kept kept' h lent lent' host at r accepted' hel
     let there = o.there ∙ ap Some (sym is) in
     let own : r.host ≡ host = ap (λ (x : Reply). x.host) is ∙ o.own in
     let none : filter (is_to r.host) (take at kept) ≡ [] = subst (λ i. filter (is_to i) (take at kept) ≡ []) (sym own) o.before in
-    let low = get_below kept at r there in
+    let low = within_get kept at r there in
     rw (e0, e1, e2, e3, c) (record {
       slots_are = f.slots_are;
       count = f.count;

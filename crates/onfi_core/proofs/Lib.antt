@@ -1,4 +1,3 @@
-pub mod Walks
 pub mod Lists
 pub mod Cut
 pub mod Startable
@@ -25,7 +24,6 @@ pub mod InOrder
 pub mod Channels
 pub mod Done
 pub mod Driving
-pub mod Told
 pub mod Nearest
 pub mod Refused
 pub mod Hosted

@@ -4,6 +4,8 @@ use Rattle.std.specs.Prelude.{slice_get, slice_index_or}
 use Rattle.std.specs.List.{AllByRecursion as All}
 use Rattle.std.proofs.lemmas.List.{take-append-drop}
 use Rattle.onfi_group.specs.Words.{Has}
+pub use Rattle.onfi_problem.proofs.Places.{drop_next, get_has}
+use Rattle.onfi_problem.proofs.Perm.{All-has}
 
 pub get_at_length : {A : Type 0} (xs : List A) (x : A) (ys : List A) → slice_get (xs ++ x ∷ ys) (length xs) ≡ Some x
 get_at_length [] x ys = refl
@@ -36,21 +38,8 @@ take_suc (y ∷ xs) (suc i) x h = ap (λ zs. y ∷ zs) (take_suc xs i x h)
 pub take_next : {A : Type 0} (xs : List A) (i : ℕ) (x : A) → slice_get xs i ≡ Some x → take (i + 1) xs ≡ take i xs ++ x ∷ []
 take_next xs i x h = let e : i + 1 ≡ suc i = omega arith in rw e (take_suc xs i x h)
 
-drop_suc : {A : Type 0} (xs : List A) (i : ℕ) (x : A) → slice_get xs i ≡ Some x → drop i xs ≡ x ∷ drop (suc i) xs
-drop_suc [] i x h = cc
-drop_suc (y ∷ xs) zero x h = let e : y ≡ x = cc in ap (λ z. z ∷ xs) e
-drop_suc (y ∷ xs) (suc i) x h = drop_suc xs i x h
-
-pub drop_next : {A : Type 0} (xs : List A) (i : ℕ) (x : A) → slice_get xs i ≡ Some x → drop i xs ≡ x ∷ drop (i + 1) xs
-drop_next xs i x h = let e : i + 1 ≡ suc i = omega arith in rw e (drop_suc xs i x h)
-
 pub cut_there : {A : Type 0} (xs : List A) (i : ℕ) (x : A) → slice_get xs i ≡ Some x → xs ≡ take i xs ++ x ∷ drop (i + 1) xs
 cut_there xs i x h = sym (take-append-drop i xs) ∙ ap (λ zs. take i xs ++ zs) (drop_next xs i x h)
-
-pub get_has : {A : Type 0} (xs : List A) (i : ℕ) (x : A) → slice_get xs i ≡ Some x → Has xs x
-get_has [] i x h = cc
-get_has (y ∷ xs) zero x h = let e : y ≡ x = cc in inl e
-get_has (y ∷ xs) (suc i) x h = inr (get_has xs i x h)
 
 pub length_least : {A : Type 0} (m : ℕ) (xs : List A) → length (take m xs) ≤ length xs
 length_least zero xs = omega arith
@@ -66,3 +55,6 @@ pub All-drop : {A : Type 0} (P : A → Type 0) (n : ℕ) (xs : List A) → All P
 All-drop P zero xs h = h
 All-drop P (suc n) [] h = tt
 All-drop P (suc n) (x ∷ xs) h = All-drop P n xs h.1
+
+pub All-at : {A : Type 0} (P : A → Type 0) (xs : List A) (i : ℕ) (x : A) → All P xs → slice_get xs i ≡ Some x → P x
+All-at P xs i x h at = All-has P xs x h (get_has xs i x at)

@@ -43,7 +43,7 @@ plane_small s block =
 erase_page : (s : Setup) (kind : Kind) (page : ℕ) → IsPageFor s.geometry kind page → kind ≡ Erase → page ≡ 0
 erase_page s Read page h e = cc
 erase_page s Program page h e = cc
-erase_page s Erase page h e = h
+erase_page s Erase page h e = omega (arith, h)
 
 pub is_want : (s : Setup) (n : ℕ) (x : Item) → Fits s.geometry x.request → IsWant (want_of s.geometry n x)
 is_want s n x f = record {

@@ -6,13 +6,13 @@ use Rattle.std.proofs.lemmas.Bool.Decides.{nat_tests}
 use Rattle.onfi_addr.specs.declared.geometry.Geometry.{Geometry}
 use Rattle.onfi_timing.specs.declared.kind.Kind.{Kind}
 use Rattle.onfi_timing.specs.declared.kind.Kind.TheVariants.{Read, Program, Erase}
-use Rattle.onfi_request.specs.Range.{Fits, IsPageFor, IsLengthFor}
+use Rattle.onfi_request.specs.Range.{Fits, IsPageFor, IsLengthFor, fault_of}
 use Rattle.onfi_request.specs.declared.checking.RequestFault.{RequestFault}
 use Rattle.onfi_request.specs.declared.request.Request.{Request}
 use Rattle.onfi_die.specs.Shapes.{device_of}
 use Rattle.onfi_core.specs.Kept.{IsSound, IsReached, IsHalf}
 use Rattle.onfi_core.specs.State.{HalfState, ChannelState, sent_by}
-use Rattle.onfi_core.specs.Steps.{Step, StepBy, Does, Fails, refusal, fault_of, or_else, refused_where, right_page, right_length, if_stopped, if_faulty, after_refusal, stopped_by}
+use Rattle.onfi_core.specs.Steps.{Step, StepBy, Does, Fails, refusal, or_else, refused_where, if_stopped, if_faulty, after_refusal, stopped_by}
 use Rattle.onfi_core.specs.declared.event.Event.{Event}
 use Rattle.onfi_core.specs.declared.event.Event.TheVariants.{Submit, Accept, Plan, Bus, Post, Collect}
 use Rattle.onfi_core.specs.declared.outcome.Cause.{Cause}
@@ -23,6 +23,7 @@ use Rattle.onfi_core.proofs.Accept.{accept_kept}
 use Rattle.onfi_core.proofs.Bus.{bus_kept}
 use Rattle.onfi_core.proofs.Hosts.{submit_kept, post_kept, collect_kept}
 use Rattle.onfi_core.proofs.Plan.{plan_kept}
+pub use Rattle.onfi_request.proofs.Faults.{fits, below}
 
 pub none_first : (x y : Option Outcome) → or_else x y ≡ None → x ≡ None
 none_first None y h = refl
@@ -43,36 +44,6 @@ not_faulty (Some fault) r h = cc
 pub not_where : (b : Bool) (o : Outcome) → refused_where b o ≡ None → b ≡ false
 not_where true o h = cc
 not_where false o h = refl
-
-pub below : (a b : ℕ) → nat_le a b ≡ false → b < a
-below a b h = grind (arith, nat_tests)
-
-page_is : (geometry : Geometry) (kind : Kind) (page : ℕ) → right_page geometry kind page ≡ true → IsPageFor geometry kind page
-page_is geometry Read page h = grind (arith, nat_tests)
-page_is geometry Program page h = grind (arith, nat_tests)
-page_is geometry Erase page h = grind (arith, nat_tests)
-
-length_is : (geometry : Geometry) (kind : Kind) (n : ℕ) → right_length geometry kind n ≡ true → IsLengthFor geometry kind n
-length_is geometry Read n h = grind (arith, nat_tests)
-length_is geometry Program n h = grind (arith, nat_tests)
-length_is geometry Erase n h = grind (arith, nat_tests)
-
--- a request without fault is in range
-pub fits : (geometry : Geometry) (r : Request) → fault_of geometry r ≡ None → Fits geometry r
-fits geometry r h =
-    elim (cases_Bool (nat_le geometry.lun_count r.place.lun)) [
-      | inl a ↦ (let h' = rw a at h in cc)
-      | inr a ↦ elim (cases_Bool (nat_le geometry.blocks_per_lun r.place.block)) [
-        | inl b ↦ (let h' = rw (a, b) at h in cc)
-        | inr b ↦ elim (cases_Bool (right_page geometry r.kind r.place.page)) [
-          | inr c ↦ (let h' = rw (a, b, c) at h in cc)
-          | inl c ↦ elim (cases_Bool (right_length geometry r.kind (length r.bytes))) [
-            | inr d ↦ (let h' = rw (a, b, c, d) at h in cc)
-            | inl d ↦ record { lun = below _ _ a; block = below _ _ b; page = page_is geometry r.kind r.place.page c; data_length = length_is geometry r.kind (length r.bytes) d }
-          ]
-        ]
-      ]
-    ]
 
 pub sound_stopped : (s : Setup) (cause : Cause) (h : HalfState) → IsSound s h → IsSound s (record h { stopped = Some cause })
 sound_stopped s cause h r = record { planned = r.planned; some_batch = r.some_batch; few_batch = r.few_batch; timing = r.timing; rules = r.rules; problem = r.problem; few = r.few; luns = r.luns; legal = r.legal; in_range = r.in_range; wants = r.wants; running = r.running; once = r.once; last = r.last }

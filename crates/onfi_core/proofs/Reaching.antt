@@ -21,7 +21,7 @@ use Rattle.onfi_core.specs.Core.Doing.{Happens, SetsBatch}
 use Rattle.onfi_core.specs.Kept.{IsReached}
 use Rattle.onfi_core.specs.Reaching.{Reaches, StaysReached, EventsReach, StepReaches, BatchReached, AcceptingReached, PostingReached}
 use Rattle.onfi_core.specs.State.{HalfState, ChannelState, collected_by, is_from, is_to, posted_to, quiet, sent_by}
-use Rattle.onfi_core.specs.Steps.{Step, StepBy, GoesOut, accept_refusal, fault_of, refusal, right_length, right_page, submitted}
+use Rattle.onfi_core.specs.Steps.{Step, StepBy, GoesOut, accept_refusal, refusal, submitted}
 use Rattle.onfi_core.specs.View.{IsNext, IsOldest, accepting}
 use Rattle.onfi_core.proofs.Channels.{all_kept, batch_kept}
 use Rattle.onfi_core.proofs.HeldFor.{goes_to}
@@ -30,6 +30,7 @@ use Rattle.onfi_core.proofs.Lists.{get_at_length}
 use Rattle.onfi_core.proofs.Opening.{opened}
 use Rattle.onfi_core.proofs.Reach.{step_kept}
 use Rattle.onfi_core.proofs.Refused.{accepts, collect_open, post_open, step_does, submit_open}
+pub use Rattle.onfi_request.proofs.Faults.{no_fault}
 
 -- the same event of channel 0
 abbrev to_first : Event → Event
@@ -103,27 +104,6 @@ stays s c c1 c2 e1 e2 o1 o2 first second = (
 )
 
 -- Accepting
-
-page_right : (geometry : Geometry) (kind : Kind) (page : ℕ) → IsPageFor geometry kind page → right_page geometry kind page ≡ true
-page_right geometry Read page h = grind (arith, nat_tests)
-page_right geometry Program page h = grind (arith, nat_tests)
-page_right geometry Erase page h = grind (arith, nat_tests)
-
-length_right : (geometry : Geometry) (kind : Kind) (n : ℕ) → IsLengthFor geometry kind n → right_length geometry kind n ≡ true
-length_right geometry Read n h = grind (arith, nat_tests)
-length_right geometry Program n h = grind (arith, nat_tests)
-length_right geometry Erase n h = grind (arith, nat_tests)
-
--- a request in range has no fault
-pub no_fault : (geometry : Geometry) (r : Request) → Fits geometry r → fault_of geometry r ≡ None
-no_fault geometry r f =
-    let lun = f.lun in
-    let block = f.block in
-    let a : nat_le geometry.lun_count r.place.lun ≡ false = grind (arith, nat_tests) in
-    let b : nat_le geometry.blocks_per_lun r.place.block ≡ false = grind (arith, nat_tests) in
-    let c = page_right geometry r.kind r.place.page f.page in
-    let d = length_right geometry r.kind (length r.bytes) f.data_length in
-    rw (a, b, c, d) refl
 
 pub accepting_reached : AcceptingReached
 accepting_reached s h chip x open' next =

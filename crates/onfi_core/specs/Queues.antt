@@ -4,7 +4,7 @@ use Rattle.std.specs.List.{AllByRecursion as Each}
 use Rattle.std.specs.VecDeque.{deque_capacity}
 use Rattle.onfi_request.specs.declared.request.Item.{Item}
 use Rattle.onfi_request.specs.declared.reply.Reply.{Reply}
-use Rattle.onfi_chip.specs.Chip.{Chip, opened}
+use Rattle.onfi_chip.specs.Chip.{Chip, opened, IsAsOpened}
 use Rattle.onfi_core.specs.declared.host_queue.HostQueue.{HostQueue}
 use Rattle.onfi_core.specs.declared.setup.Setup.{Setup}
 use Rattle.onfi_core.specs.Kept.{first}
@@ -38,7 +38,7 @@ states_in state view = map (state_in state) view.1
 
 -- a chip of the setup as it opens: all blocks erased, no program or erase yet, all LUNs idle
 abbrev pub IsFresh : Setup → Chip → Type 0
-IsFresh s chip = chip ≡ opened s.geometry s.timing chip.faults chip.failures
+IsFresh s chip = IsAsOpened s.geometry s.timing chip
 
 -- a channel as it opens with the chip
 abbrev pub opened_with : Setup → Chip → ChannelState

@@ -15,6 +15,7 @@ use Rattle.onfi_die.specs.Shapes.{Device, device_of}
 use Rattle.onfi_chip.specs.Chip.{Chip}
 use Rattle.onfi_core.specs.declared.setup.Setup.{Setup}
 use Rattle.onfi_core.specs.declared.outcome.Cause.{Cause}
+pub use Rattle.onfi_request.specs.Items.{is_from, is_to}
 
 -- an accepting planning: its problem, a schedule of it with its finish, and a certificate
 pub record Planning : Type 0 where
@@ -50,12 +51,6 @@ pub record ChannelState : Type 0 where
 -- the channel of a half with nothing on its way: all that was sent is accepted, and all that was posted is collected
 abbrev pub quiet : HalfState → Chip → ChannelState
 quiet h chip = record { half = h; chip = chip; sent = h.accepted; waiting = []; collected = h.posted }
-
-abbrev pub is_from : ℕ → Item → Bool
-is_from host x = x.host == host
-
-abbrev pub is_to : ℕ → Reply → Bool
-is_to host r = r.host == host
 
 -- what a host sent, was posted and has collected
 abbrev pub sent_by : ℕ → ChannelState → List Item

@@ -34,29 +34,7 @@ use Rattle.onfi_core.specs.declared.outcome.Cause.TheVariants.{Bus as BusFailed,
 use Rattle.onfi_core.specs.declared.outcome.Outcome.{Outcome}
 use Rattle.onfi_core.specs.declared.outcome.Outcome.TheVariants.{Submitted, Accepted, Planned, Phase, Posted, Collected, SubmitFull, NothingToAccept, NoPlan, PostFull, NothingToCollect, Stopped, Over, Memory, Refused, SerialsSpent, WindowFull, NothingToPlan, NothingToPost, NoSuch}
 use Rattle.onfi_core.specs.State.{Planning, HalfState, ChannelState, sent_by, posted_to, collected_by, is_to, wants_from, item_at, request_of}
-
--- A request and its numbers
-
--- an erase names page 0, the others a page of the block
-abbrev pub right_page : Geometry → Kind → ℕ → Bool
-right_page geometry Read page = nat_lt page geometry.pages_per_block
-right_page geometry Program page = nat_lt page geometry.pages_per_block
-right_page geometry Erase page = page == 0
-
--- a program brings the bytes of a page, the others none
-abbrev pub right_length : Geometry → Kind → ℕ → Bool
-right_length geometry Read n = n == 0
-right_length geometry Program n = n == page_bytes_of geometry
-right_length geometry Erase n = n == 0
-
--- the first fault of a request
-abbrev pub fault_of : Geometry → Request → Option RequestFault
-fault_of geometry r =
-    if nat_le geometry.lun_count r.place.lun then Some WrongLun
-    else if nat_le geometry.blocks_per_lun r.place.block then Some WrongBlock
-    else if not (right_page geometry r.kind r.place.page) then Some WrongPage
-    else if not (right_length geometry r.kind (length r.bytes)) then Some WrongLength
-    else None
+pub use Rattle.onfi_request.specs.Range.{fault_of}
 
 -- What a planning takes
 

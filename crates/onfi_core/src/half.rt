@@ -1,4 +1,4 @@
-ghost use Rattle.std.specs.Prelude.{◌≡◌, ◌<◌, ◌≤◌, ◌+◌, ◌++◌, [], length, replicate, None, Some, IfOk, IfErr, IfSome, IfNone, IsSome, MatchOption};
+ghost use Rattle.std.specs.Prelude.{◌≡◌, ◌<◌, ◌≤◌, ◌+◌, ◌^◌, ◌++◌, [], length, replicate, None, Some, IfOk, IfErr, IfSome, IfNone, IsSome, MatchOption};
 ghost use Rattle.onfi_core.specs.Kept.{first_half};
 ghost use Rattle.onfi_request.specs.declared.reply.Reply.{Reply as AReply};
 ghost use Rattle.onfi_core.specs.State.{Planning};
@@ -281,6 +281,7 @@ impl Half {
     /// `Stopped` where the channel stopped; else `NoPlan` where no phase of the plan is left.
     pub fn due(&self, alloc: Global) -> Result<Due, DueRefusal>
         ensures due { IfOk result (λ due. IsDue self.now.state due) }
+        ensures time { IfOk result (λ due. due.start < 2 ^ 63) }
         ensures open { IfOk result (λ due. bus_refusal self.now.state ≡ None) }
         ensures refused { IfErr result (λ refusal. bus_refusal self.now.state ≡ Some (due_outcome refusal)) }
     {
@@ -297,7 +298,8 @@ impl Half {
     // The next phase of the group that runs on that LUN.
     fn next_due(&self, alloc: Global, next: Start) -> Due
         requires { IsTurn self.now.state.left.rest self.now.state.left.groups (turn.Next next) }
-        ensures { IsDue self.now.state result }
+        ensures due { IsDue self.now.state result }
+        ensures time { result.start < 2 ^ 63 }
     {
         let LunState::Running {
             group,
@@ -327,7 +329,8 @@ impl Half {
     // The first phase of the group at that place.
     fn first_due(&self, alloc: Global, first: Start) -> Due
         requires { IsTurn self.now.state.left.rest self.now.state.left.groups (turn.First first) }
-        ensures { IsDue self.now.state result }
+        ensures due { IsDue self.now.state result }
+        ensures time { result.start < 2 ^ 63 }
     {
         let placed = &self.groups[first.at];
         let group = placed.members();

@@ -70,8 +70,8 @@ fn with_starts(alloc: Global, problem: Problem, plan: Planned) -> Result<NextPla
     ensures rest { IfOk result (λ next. next.rest.items ≡ plan.schedule.rest) }
     ensures groups { IfOk result (λ next. next.groups.items ≡ plan.schedule.groups) }
 {
-    let rest = rest_once_more(alloc, &plan.schedule)?;
-    let groups = groups_once_more(alloc, &plan.schedule)?;
+    let rest = copy_rest(alloc, &plan.schedule)?;
+    let groups = copy_groups(alloc, &plan.schedule)?;
     Ok(NextPlan {
         batch: Batch { problem, plan },
         rest,
@@ -79,33 +79,22 @@ fn with_starts(alloc: Global, problem: Problem, plan: Planned) -> Result<NextPla
     })
 }
 
-fn rest_once_more(alloc: Global, schedule: &Schedule) -> Result<Vec<Starts>, AllocError>
+fn copy_rest(alloc: Global, schedule: &Schedule) -> Result<Vec<Starts>, AllocError>
     ensures { IfOk result (λ v. v.items ≡ schedule.now.rest) }
 {
     let mut rest = Vec::with_capacity(alloc, schedule.rest().len())?;
     for starts in schedule.rest() {
-        rest.push(once_more(alloc, starts))?;
+        rest.push(starts.copy())?;
     }
     Ok(rest)
 }
 
-fn groups_once_more(alloc: Global, schedule: &Schedule) -> Result<Vec<Placed>, AllocError>
+fn copy_groups(alloc: Global, schedule: &Schedule) -> Result<Vec<Placed>, AllocError>
     ensures { IfOk result (λ v. v.items ≡ schedule.now.groups) }
 {
     let mut groups = Vec::with_capacity(alloc, schedule.groups().len())?;
     for placed in schedule.groups() {
-        groups.push(Placed::new(placed.members().copy(), once_more(alloc, placed.starts())))?;
+        groups.push(placed.copy())?;
     }
     Ok(groups)
-}
-
-// The same starts once more; up to eight stand inline, so this takes no memory.
-pub fn once_more(alloc: Global, starts: &Starts) -> Starts
-    ensures { result ≡ starts.now }
-{
-    let mut copy = Starts::new(alloc);
-    for start in starts.as_slice() {
-        copy.push(*start);
-    }
-    copy
 }

@@ -2,6 +2,5 @@ pub mod Lists
 pub mod Stable
 pub mod Apart
 pub mod Order
-pub mod Walks
 pub mod Keeping
 pub mod Same

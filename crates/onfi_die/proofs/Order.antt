@@ -17,7 +17,7 @@ Each-back : {A : Type 0} (P : A → Type 0) (xs ys : List A) → Each P (xs ++ y
 Each-back P [] ys h = h
 Each-back P (x ∷ xs) ys h = Each-back P xs ys h.1
 
-Pairs-front : {A : Type 0} (R : A → A → Type 0) (xs ys : List A) → Pairs R (xs ++ ys) → Pairs R xs
+pub Pairs-front : {A : Type 0} (R : A → A → Type 0) (xs ys : List A) → Pairs R (xs ++ ys) → Pairs R xs
 Pairs-front R [] ys h = tt
 Pairs-front R (x ∷ xs) ys h = (Each-front (R x) xs ys h.0, Pairs-front R xs ys h.1)
 

@@ -1,13 +1,10 @@
 -- What clauses see of a host and of the intake.
-use Rattle.std.specs.Prelude.{◌≡◌, ℕ, ◌+◌, ◌^◌, ◌<◌, ◌≤◌, List, [], ◌∷◌, ◌++◌, length}
+use Rattle.std.specs.Prelude.{◌≡◌, ℕ, ◌+◌, ◌^◌, ◌<◌, List, [], ◌∷◌, ◌++◌, length, Some}
 use Rattle.atomic_table.specs.Seated.{TableId}
 use Rattle.crossbeam_queue.specs.Fifo.{Held}
-use Rattle.onfi_addr.specs.declared.geometry.Geometry.{Geometry}
-use Rattle.onfi_request.specs.declared.checking.RequestFault.{RequestFault}
-use Rattle.onfi_request.specs.declared.checking.RequestFault.TheVariants as F
 use Rattle.onfi_request.specs.declared.request.Item.{Item}
 use Rattle.onfi_request.specs.declared.request.Request.{Request}
-use Rattle.onfi_request.specs.Range.{Fits, IsPageFor, IsLengthFor}
+use Rattle.onfi_request.specs.Range.{Fits, fault_of}
 use Rattle.onfi_queue.specs.declared.opened.Opened.{Opened}
 use Rattle.onfi_queue.specs.declared.fault.SubmitFault.{SubmitFault}
 use Rattle.onfi_queue.specs.declared.fault.SubmitFault.TheVariants.{Full, Refused, SerialsSpent}
@@ -65,20 +62,9 @@ after_sending host request = record host { sent = host.sent ++ item_of host requ
 abbrev pub SawFull : HostView → Type 0
 SawFull host = Held host.capacity (HostSees (AtHost host.opened host.number host.sent))
 
--- the first fault of a request, in the order LUN, block, page, count of bytes
-abbrev pub IsFirstFault : Geometry → Request → RequestFault → Type 0
-IsFirstFault geometry request F.Lun = geometry.lun_count ≤ request.place.lun
-IsFirstFault geometry request F.Block = (request.place.lun < geometry.lun_count) × (geometry.blocks_per_lun ≤ request.place.block)
-IsFirstFault geometry request F.Page =
-    (request.place.lun < geometry.lun_count) × (request.place.block < geometry.blocks_per_lun)
-    × (IsPageFor geometry request.kind request.place.page → ⊥)
-IsFirstFault geometry request F.DataLength =
-    (request.place.lun < geometry.lun_count) × (request.place.block < geometry.blocks_per_lun)
-    × IsPageFor geometry request.kind request.place.page × (IsLengthFor geometry request.kind (length request.bytes) → ⊥)
-
 -- when each fault is told
 abbrev pub IsWhyNot : HostView → Request → SubmitFault → Type 0
-IsWhyNot host request (Refused fault) = IsFirstFault host.opened.geometry request fault
+IsWhyNot host request (Refused fault) = fault_of host.opened.geometry request ≡ Some fault
 IsWhyNot host request SerialsSpent = Fits host.opened.geometry request × (length host.sent ≡ 2 ^ 32)
 IsWhyNot host request Full = Fits host.opened.geometry request × (length host.sent < 2 ^ 32) × SawFull host
 

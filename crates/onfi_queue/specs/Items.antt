@@ -1,16 +1,9 @@
 -- The items of one host, and how they are numbered.
-use Rattle.std.specs.Prelude.{◌≡◌, ℕ, ◌+◌, ◌==◌, ◌<◌, ◌≤◌, Bool, List, [], ◌∷◌, ◌++◌, length, slice_index_or}
-use Rattle.std.specs.List.{filter}
+use Rattle.std.specs.Prelude.{◌≡◌, ℕ, ◌+◌, ◌<◌, ◌≤◌, List, [], ◌∷◌, ◌++◌, length, slice_index_or}
 use Rattle.onfi_addr.specs.declared.geometry.Geometry.{Geometry}
 use Rattle.onfi_request.specs.declared.request.Item.{Item}
 use Rattle.onfi_request.specs.Range.{Fits}
-
-abbrev pub is_from : ℕ → Item → Bool
-is_from host x = x.host == host
-
--- the items of one host, in order
-abbrev pub items_from : ℕ → List Item → List Item
-items_from host items = filter (is_from host) items
+pub use Rattle.onfi_request.specs.Items.{is_from, items_from}
 
 -- each is an item of the host that its device takes, with the next serial, from this one on
 abbrev pub AreNumbered : Geometry → ℕ → ℕ → List Item → Type 0

@@ -1,5 +1,5 @@
-ghost use Rattle.std.specs.Prelude.{◌≡◌, ℕ, ◌<◌, ◌≤◌, ◌↔◌, length, IsTrue, IsOk, IsErrOf};
-ghost use Rattle.onfi_request.specs.Range.{Fits, IsPageFor, IsLengthFor};
+ghost use Rattle.std.specs.Prelude.{◌≡◌, ℕ, ◌<◌, ◌≤◌, ◌↔◌, length, IsTrue, IsOk, IsErrOf, MatchResult, Some, None};
+ghost use Rattle.onfi_request.specs.Range.{Fits, IsPageFor, IsLengthFor, fault_of};
 
 use crate::request::Request;
 use onfi_addr::Geometry;
@@ -41,6 +41,7 @@ pub fn check(geometry: &Geometry, request: &Request) -> Result<(), RequestFault>
         × (request.now.place.block < geometry.now.blocks_per_lun)
         × IsPageFor geometry.now request.now.kind request.now.place.page
         × ¬ IsLengthFor geometry.now request.now.kind (length request.now.bytes)) }
+    ensures fault { MatchResult result (λ _. fault_of geometry.now request.now ≡ None) (λ fault. fault_of geometry.now request.now ≡ Some fault) }
 {
     if request.place.lun >= geometry.lun_count {
         return Err(RequestFault::Lun);

@@ -19,3 +19,6 @@ run_one-requires-clause-idle g c =
     let there : 1 < count = omega arith in
     let at = ap (λ (p : Place). p.lun) c.in_ok-request.ensures.place in
     idle_at c.in_ok-chip.chip.dies.luns count c.in_ok-request.request.place.lun (ap (λ (x : Chip). x.luns) c.in_ok-chip.ensures.opened) at there
+
+pub run_dues-requires-clause-agree : goal.run_dues-requires-clause-agree
+run_dues-requires-clause-agree g c = c.in_ok-lanes.ensures _ (ap (λ (x : Chip). x.luns) c.in_ok-chip.ensures.opened)

@@ -1,6 +1,5 @@
 use Rattle.std.proofs.Common.{◌≡◌, ◌+◌, ◌≤◌, List, [], ◌∷◌, Some, sym, ap, subst, ◌∙◌, arith}
 use Rattle.std.specs.Prelude.{slice_get, length}
-use Rattle.onfi_timing.specs.declared.spans.Spans.{Spans}
 use Rattle.onfi_request.specs.declared.request.Request.{Request}
 use Rattle.onfi_request.specs.Range.{Fits}
 use Rattle.onfi_die.specs.Contents.{answer_of}
@@ -11,17 +10,15 @@ use Rattle.onfi_chip.specs.Chip.{Chip, device_in, spans_for}
 use Rattle.onfi_chip.specs.Chip.Lun.{Idle, Posting}
 use Rattle.onfi_chip.specs.Calls.{HasDone, command_of}
 use Rattle.onfi_chip.proofs.SimCalls.{in_range}
-use Rattle.onfi_lun.specs.declared.fetch.Fetch.{Fetch}
+use Rattle.onfi_chip.specs.declared.fetch.Fetch.{Fetch}
 use Rattle.onfi_lun.specs.declared.states.Working.{Working}
 use Rattle.onfi_lun.specs.declared.states.Posting.{Posting as InPosts}
 use Rattle.onfi_lun.specs.declared.lun.Lun.{Lun}
 use Rattle.onfi_lun.specs.declared.target.Target.{Target}
 use Rattle.onfi_lun.specs.Phases.{IsWorking, IsDue}
 use Rattle.onfi_lun.proofs.Phases.{same_posts, launched_at}
+use Rattle.onfi_channel_tests.proofs.OneMember.{short}
 use Rattle.onfi_channel_tests.proofs.phases.run_one.Goals as goal
-
-short : (spans : Spans) → 0 + spans.cmd + spans.array ≤ 4503599627370496
-short spans = let lengths = spans.in_range in let c = lengths.cmd_short in let a = lengths.array_short in omega (arith, c, a)
 
 one_due :
     (target : Target) (old new : Chip) (r : Request) (working : Lun Working) (posting : Lun InPosts) (fetch : Fetch) (posts : List Post) → slice_get old.luns r.place.lun ≡ Some Idle → Fits target.geometry r → HasDone (command_of Last old r 0) new →

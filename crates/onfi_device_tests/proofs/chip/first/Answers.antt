@@ -4,11 +4,7 @@ use Rattle.onfi_addr.specs.declared.place.Place.{Place}
 use Rattle.onfi_chip.specs.Chip.{Chip, Lun}
 use Rattle.onfi_chip.specs.Chip.Lun.{Idle}
 use Rattle.onfi_device_tests.proofs.chip.first.Goals as goal
-
-get_replicate : (n i : ℕ) (x : Lun) → i < n → slice_get (replicate n x) i ≡ Some x
-get_replicate zero i x l = absurd (omega arith)
-get_replicate (suc n) zero x l = refl
-get_replicate (suc n) (suc i) x l = get_replicate n i x (omega arith)
+use Rattle.onfi_device_tests.proofs.OneMember.{get_replicate}
 
 pub run_one-told-requires-clause-idle : goal.run_one-told-requires-clause-idle
 run_one-told-requires-clause-idle g c =

@@ -19,52 +19,10 @@ use Rattle.onfi_timing.specs.contracts.kind.Kind.{the_type}
 use denote.Enum.Bare.{sameb, same_true}
 use Rattle.onfi_chip.proofs.SimCalls.{in_range}
 use Rattle.onfi_device_tests.proofs.chip.run_one.Goals as goal
+use Rattle.onfi_device_tests.proofs.OneMember.{post_of, after_command, post_kind}
 
 false_read : (k : Kind) → k ≡ kind.Read → false ≡ sameb the_type k kind.Read → ⊥
 false_read k e h = let t : false ≡ sameb the_type kind.Read kind.Read = subst (λ q. false ≡ sameb the_type q kind.Read) e h in cc
-
-get_set : {A : Type 0} (xs : List A) (i : ℕ) (y z : A) → slice_get xs i ≡ Some y → slice_get (set xs i z) i ≡ Some z
-get_set [] i y z h = cc
-get_set (x ∷ xs) zero y z h = refl
-get_set (x ∷ xs) (suc i) y z h = get_set xs i y z h
-
-post_of : Chip → Request → Post
-post_of chip r = record { kind = r.kind; place = r.place; answer = answer_of (device_in chip) r (block_of r chip.blocks) }
-
-short : (spans : Spans) → 0 + spans.cmd + spans.array ≤ 4503599627370496
-short spans = let lengths = spans.in_range in let c = lengths.cmd_short in let a = lengths.array_short in omega (arith, c, a)
-
-next_post : (old new : Chip) (r : Request) (row : ℕ) → slice_get old.luns r.place.lun ≡ Some Idle → IsInRange old.geometry r.place → row_of old.geometry r.place ≡ row → HasDone (launched old r 0) new → IsNextPost new 4503599627370496 row (post_of old r) []
-unfolding post_of
-next_post old new r row idle range named done =
-    let luns : new.luns ≡ set old.luns r.place.lun (Posting (post_of old r ∷ []) (0 + (spans_for old r).cmd + (spans_for old r).array)) =
-    ap (λ (c : Chip). c.luns) done.state
-    ∙ ap (λ o. set old.luns r.place.lun (Posting (posts_of (device_in old) (taken o ++ r ∷ []) old.blocks) (0 + (spans_for old r).cmd + (spans_for old r).array))) idle in
-    let same : new.geometry ≡ old.geometry = ap (λ (c : Chip). c.geometry) done.state in
-    record {
-      ready = 0 + (spans_for old r).cmd + (spans_for old r).array;
-      there = subst (λ ls. slice_get ls r.place.lun ≡ Some (Posting (post_of old r ∷ []) (0 + (spans_for old r).cmd + (spans_for old r).array))) (sym luns) (get_set old.luns r.place.lun Idle _ idle);
-      over = short (spans_for old r);
-      in_range = subst (λ (g : Geometry). IsInRange g r.place) (sym same) range;
-      row_is = subst (λ (g : Geometry). row_of g r.place ≡ row) (sym same) named;
-    }
-
-after_command :
-    (old new : Chip) (geometry : Geometry) (r : Request) (row : ℕ) (bytes : List ℕ) → old.geometry ≡ geometry → slice_get old.luns r.place.lun ≡ Some Idle → Fits geometry r →
-    row ≡ row_of geometry r.place → bytes ≡ r.bytes → ((q : Request) → IsNextCommand old 0 row r.kind bytes q → HasDone (command_of Last old q 0) new) →
-    IsNextPost new 4503599627370496 row (post_of old r) []
-after_command old new geometry r row bytes eg idle fits er eb done =
-    let fits' : Fits old.geometry r = subst (λ g. Fits g r) (sym eg) fits in
-    let named : row_of old.geometry r.place ≡ row = subst (λ g. row_of g r.place ≡ row) (sym eg) (sym er) in
-    let next : IsNextCommand old 0 row r.kind bytes r = record {
-      carried = record { kind_is = refl; row_is = named; bytes_are = sym eb; fits = fits' };
-      may_take = subst (MayTake old.geometry 0 r) (sym idle) tt;
-    } in
-    next_post old new r row idle (in_range old.geometry r fits') named (done r next)
-
-post_kind : (old : Chip) (r : Request) → (post_of old r).kind ≡ r.kind
-unfolding post_of
-post_kind old r = refl
 
 pub data_out-requires-clause-next : goal.data_out-requires-clause-next
 data_out-requires-clause-next g c =

@@ -4,11 +4,7 @@ use Rattle.std.specs.Result.{is_err}
 use Rattle.onfi_chip.specs.Chip.{Chip, Lun}
 use Rattle.onfi_chip.specs.Chip.Lun.{Idle}
 use Rattle.onfi_device_tests.proofs.sim.run_both.Goals as goal
-
-get_replicate : (n i : ℕ) (x : Lun) → i < n → slice_get (replicate n x) i ≡ Some x
-get_replicate zero i x l = absurd (omega arith)
-get_replicate (suc n) zero x l = refl
-get_replicate (suc n) (suc i) x l = get_replicate n i x (omega arith)
+use Rattle.onfi_device_tests.proofs.OneMember.{get_replicate}
 
 of_ok : {A E P : Type 0} (r : Result A E) → is_err r ≡ false → IfOk r (λ _. P) → P
 of_ok (Ok x) e h = h

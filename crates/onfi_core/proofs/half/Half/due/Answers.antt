@@ -6,12 +6,12 @@ use Rattle.onfi_core.proofs.half.Half.due.Goals as goal
 pub returns-in-Some-Next-clause-open : goal.returns-in-Some-Next-clause-open
 returns-in-Some-Next-clause-open c =
     let going : c.self.inside.stopped ≡ None = cc in
-    open_outside _ _ c.next_due.result c.self.view_is c.self.invariant.sound going c.next_due.ensures
+    open_outside _ _ c.next_due.result c.self.view_is c.self.invariant.sound going c.next_due.ensures.due
 
 pub returns-in-Some-First-clause-open : goal.returns-in-Some-First-clause-open
 returns-in-Some-First-clause-open c =
     let going : c.self.inside.stopped ≡ None = cc in
-    open_outside _ _ c.first_due.result c.self.view_is c.self.invariant.sound going c.first_due.ensures
+    open_outside _ _ c.first_due.result c.self.view_is c.self.invariant.sound going c.first_due.ensures.due
 
 pub returns-in-None-clause-refused : goal.returns-in-None-clause-refused
 returns-in-None-clause-refused c =

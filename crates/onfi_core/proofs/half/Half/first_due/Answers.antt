@@ -9,8 +9,8 @@ use Rattle.onfi_core.specs.declared.starting.Turn.TheVariants as turn
 use Rattle.onfi_core.proofs.Becoming.{first_is_due, within_groups, turn_inside, due_outside, starts_then, length_is, sum_is}
 use Rattle.onfi_core.proofs.half.Half.first_due.Goals as goal
 
-pub returns : goal.returns
-returns c =
+pub returns-clause-due : goal.returns-clause-due
+returns-clause-due c =
     let sound = c.self.invariant.sound in
     let at = c.args.first.at in
     let groups = c.self.inside.groups.items in

@@ -1,6 +1,5 @@
 use Rattle.std.proofs.Common.{◌≡◌, refl, sym, ap, subst, ◌∙◌}
 use Rattle.onfi_die.specs.declared.kept.Kept.{Kept}
-use Rattle.onfi_die.specs.declared.shape.Shape.{Shape}
 use Rattle.onfi_die.specs.Shapes.{Device}
 use Rattle.onfi_die.specs.Contents.{fresh}
 use Rattle.onfi_die.specs.Store.{IsKept, blocks_of, contents_of}

@@ -1,17 +1,15 @@
-use Rattle.std.proofs.Common.{◌≡◌, ℕ, ◌<◌, None, length, replicate, refl, sym, ap, subst, ◌∙◌}
+use Rattle.std.proofs.Common.{◌<◌, refl, sym, ap, subst, ◌∙◌}
 use Rattle.std.proofs.Math.ListN.{length-replicate}
 use Rattle.std.specs.Prelude.{IsSome}
 use Rattle.std.specs.Option.{unwrap_or}
 use Rattle.onfi_timing.specs.declared.kind.Kind.{Kind}
 use Rattle.onfi_timing.specs.declared.kind.Kind.TheVariants as kind
 use Rattle.onfi_request.specs.declared.answer.Answer.{Answer}
-use Rattle.onfi_request.specs.declared.answer.Answer.TheVariants as answer
 use Rattle.onfi_die.specs.declared.shape.Shape.{Shape}
-use Rattle.onfi_die.specs.Contents.{Contents, fresh, answer_of}
-use Rattle.onfi_die.specs.Blocks.{changed}
+use Rattle.onfi_die.specs.Contents.{fresh, answer_of}
 use Rattle.onfi_die.specs.Prepared.{kind_of, HasRoom, IsAnswerTo}
 use Rattle.onfi_die.specs.Requests.{request_of}
-use Rattle.onfi_die.specs.Store.{Stored, IsKept, blocks_of, kept_of}
+use Rattle.onfi_die.specs.Store.{Stored, IsKept, blocks_of}
 use Rattle.onfi_die.proofs.Keeping.{stored, shape_found, blocks_ran, answer_ran, put_shape, put_still, put_no_more, not_kept, read_if_none, read_changes_nothing, read_of_none}
 use Rattle.onfi_die.proofs.store.Store.run.Goals as goal
 

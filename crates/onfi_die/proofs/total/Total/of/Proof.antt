@@ -27,7 +27,7 @@ use denote.Triple.Entry.{alive}
 use denote.Triple.Spec.{Meets, triple_of}
 use denote.Triple.Table.{entered}
 use denote.Triple.Walked.{says, Stays, stay_dropped, walk_of, ends_at, walk_Meets, Goes-dropped}
-use Rattle.onfi_die.proofs.Walks.{none, none_made}
+use Rattle.onfi_request.proofs.Walks.{none, none_made}
 use Rattle.onfi_die.specs.contracts.total.Total as Total
 use Rattle.onfi_die.specs.contracts.total.Total.of as F
 use Rattle.onfi_die.specs.contracts.total.Total.of.Key.{name as #self}
