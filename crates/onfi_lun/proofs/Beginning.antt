@@ -10,7 +10,7 @@ use Rattle.onfi_chip.specs.Chip.Lun.{Idle}
 use Rattle.onfi_group.specs.Words.{total}
 use Rattle.onfi_group.specs.Group.{lun_of}
 use Rattle.onfi_problem.specs.declared.lun_state.LunState.TheVariants.{Free}
-use Rattle.onfi_problem.specs.Moves.{Start, placed}
+use Rattle.onfi_problem.specs.Moves.{Start}
 use Rattle.onfi_problem.proofs.Perm.{All-has, All-each}
 use Rattle.onfi_problem.proofs.Places.{within_get, same_some}
 use Rattle.onfi_problem.proofs.Totals.{total_set}

@@ -9,3 +9,5 @@ pub mod Beginning
 pub mod Opening
 pub mod Order
 pub mod Posts
+pub mod LunMoves
+pub mod Dues

@@ -18,8 +18,8 @@ use Rattle.onfi_chip.specs.declared.post.Post.{Post}
 use Rattle.onfi_chip.specs.Chip.{Chip, Lun, device_in, taken, posts_of, group_with, spans_for, after_post, posted}
 use Rattle.onfi_chip.specs.Chip.Lun.{Commanding, Posting}
 use Rattle.onfi_chip.specs.Hold.{hold}
-use Rattle.onfi_chip.specs.Calls.{command_of, HasDone}
-use Rattle.onfi_lun.specs.declared.fetch.Fetch.{Fetch}
+use Rattle.onfi_chip.specs.Calls.{command_of, HasDone, IsNextPost}
+use Rattle.onfi_chip.specs.declared.fetch.Fetch.{Fetch}
 use Rattle.onfi_lun.specs.declared.states.Posting.{Posting as InPosts}
 use Rattle.onfi_lun.specs.declared.lun.Lun.{Lun as Typed}
 use Rattle.onfi_lun.specs.declared.lun.Commanded.{Commanded}
@@ -27,7 +27,7 @@ use Rattle.onfi_lun.specs.declared.lun.Commanded.TheVariants as commanded
 use Rattle.onfi_lun.specs.declared.lun.Posted.{Posted}
 use Rattle.onfi_lun.specs.declared.lun.Posted.TheVariants as behind
 use Rattle.onfi_lun.specs.declared.target.Target.{Target}
-use Rattle.onfi_lun.specs.Phases.{IsOf, IsCommanded, IsMade, IsPosted, IsBehind, IsNextFetch, IsDue, OthersStay}
+use Rattle.onfi_lun.specs.Phases.{IsOf, IsCommanded, IsMade, IsPosted, IsBehind, IsDue, OthersStay}
 
 length_posts : (device : Device) (rs : List Request) (blocks : Blocks) → length (posts_of device rs blocks) ≡ length rs
 length_posts device [] blocks = refl
@@ -82,16 +82,14 @@ command_made closer.Last target old new r now number commands ready y (commanded
 
 -- Posts
 
-pub next_fetch : (target : Target) (old : Chip) (lun : Typed InPosts) (now : ℕ) (fetch : Fetch) (post : Post) (left : List Post) → IsOf target old → IsDue target.geometry old lun now fetch post left → IsNextFetch target.geometry old now fetch post left
-next_fetch target old lun now fetch post left of due = record {
-  kind = due.kind;
-  next = record {
-    ready = lun.state.ready;
-    there = subst (λ n. slice_get old.luns n ≡ Some (Posting (post ∷ left) lun.state.ready)) (sym due.lun_is) due.posting.there;
-    over = due.over;
-    in_range = subst (λ (g : Geometry). IsInRange g post.place) (sym of.geometry) due.in_range;
-    row_is = ap (λ (g : Geometry). row_of g post.place) of.geometry ∙ ap (λ (p : Place). row_of target.geometry p) due.place;
-  };
+-- the due post is the next one of the chip's group, at the row of what is fetched
+pub next_post : (target : Target) (old : Chip) (lun : Typed InPosts) (now : ℕ) (fetch : Fetch) (post : Post) (left : List Post) → IsOf target old → IsDue target.geometry old lun now fetch post left → IsNextPost old now (row_of target.geometry fetch.place) post left
+next_post target old lun now fetch post left of due = record {
+  ready = lun.state.ready;
+  there = subst (λ n. slice_get old.luns n ≡ Some (Posting (post ∷ left) lun.state.ready)) (sym due.lun_is) due.posting.there;
+  over = due.over;
+  in_range = subst (λ (g : Geometry). IsInRange g post.place) (sym of.geometry) due.in_range;
+  row_is = ap (λ (g : Geometry). row_of g post.place) of.geometry ∙ ap (λ (p : Place). row_of target.geometry p) due.place;
 }
 
 pub post_others : (old new : Chip) (post : Post) (left : List Post) (now : ℕ) → HasDone (posted old post left now) new → OthersStay post.place.lun old new

@@ -24,7 +24,7 @@ use Rattle.onfi_chip.specs.Hold.{hold}
 use Rattle.onfi_chip.specs.Calls.{HasDone, MayJoin, MayTake, command_of}
 use Rattle.onfi_chip.proofs.SimCalls.{in_range}
 use Rattle.onfi_schedule.specs.Schedule.{Placed}
-use Rattle.onfi_lun.specs.declared.fetch.Fetch.{Fetch}
+use Rattle.onfi_chip.specs.declared.fetch.Fetch.{Fetch}
 use Rattle.onfi_lun.specs.declared.states.Queuing.{Queuing}
 use Rattle.onfi_lun.specs.declared.states.Posting.{Posting}
 use Rattle.onfi_lun.specs.declared.lun.Lun.{Lun}

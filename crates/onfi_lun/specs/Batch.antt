@@ -15,8 +15,8 @@ use Rattle.onfi_chip.specs.Chip.{Chip, opened}
 use Rattle.onfi_chip.specs.declared.fault.ChipFault.{ChipFault}
 use Rattle.onfi_chip.specs.declared.fault.ChipFault.TheVariants as chip_fault
 use Rattle.onfi_chip.specs.Calls.{IsLost}
-use Rattle.onfi_lun.specs.declared.fault.PostFault.{PostFault}
-use Rattle.onfi_lun.specs.declared.fault.PostFault.TheVariants as post_fault
+use Rattle.onfi_chip.specs.declared.fault.PostFault.{PostFault}
+use Rattle.onfi_chip.specs.declared.fault.PostFault.TheVariants as post_fault
 use Rattle.onfi_group.specs.Words.{Has}
 use Rattle.onfi_problem.specs.declared.lun_state.LunState.TheVariants.{Running}
 use Rattle.onfi_problem.specs.Problem.{Problem}

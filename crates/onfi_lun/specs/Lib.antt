@@ -4,3 +4,4 @@ pub mod Least
 pub mod Batch
 pub mod Order
 pub mod Part
+pub mod Lanes

@@ -1,16 +1,14 @@
 -- What the typed phases of a LUN say of the chip, and what their moves lead to.
 use Rattle.std.specs.Prelude.{◌≡◌, ◌≢◌, ℕ, ◌+◌, ◌≤◌, List, ◌∷◌, length, Some, slice_get}
 use Rattle.onfi_addr.specs.declared.geometry.Geometry.{Geometry}
-use Rattle.onfi_addr.specs.Rows.{IsInRange, row_of, page_bytes_of}
-use Rattle.onfi_timing.specs.declared.kind.Kind.TheVariants.{Read}
+use Rattle.onfi_addr.specs.Rows.{IsInRange}
 use Rattle.onfi_request.specs.declared.request.Request.{Request}
 use Rattle.onfi_chip.specs.declared.closer.Closer.{Closer}
 use Rattle.onfi_chip.specs.declared.closer.Closer.TheVariants as closer
+use Rattle.onfi_chip.specs.declared.fetch.Fetch.{Fetch}
 use Rattle.onfi_chip.specs.declared.post.Post.{Post}
 use Rattle.onfi_chip.specs.Chip.{Chip}
 use Rattle.onfi_chip.specs.Chip.Lun.{Idle as DoesNothing, Commanding as TakesCommands, Posting as HasPosts}
-use Rattle.onfi_chip.specs.Calls.{IsNextPost}
-use Rattle.onfi_lun.specs.declared.fetch.Fetch.{Fetch}
 use Rattle.onfi_lun.specs.declared.states.Idle.{Idle}
 use Rattle.onfi_lun.specs.declared.states.Queuing.{Queuing}
 use Rattle.onfi_lun.specs.declared.states.Working.{Working}
@@ -57,15 +55,6 @@ IsCommanded closer.Last chip number (commanded.Last lun) = (lun.number ≡ numbe
 abbrev pub IsPosted : List Post → Chip → ℕ → Posted → Type 0
 IsPosted left chip number (posted.More lun) = (lun.number ≡ number) × IsPosting chip lun left
 IsPosted left chip number (posted.Last lun) = (lun.number ≡ number) × IsIdle chip lun
-
--- a read has room for all bytes of a page
-abbrev pub HasRoom : Geometry → Fetch → Type 0
-HasRoom geometry fetch = fetch.kind ≡ Read → length fetch.room.items ≡ page_bytes_of geometry
-
--- the post is the next call of the chip's group, and of that kind
-pub record IsNextFetch (geometry : Geometry) (chip : Chip) (now : ℕ) (fetch : Fetch) (post : Post) (left : List Post) : Type 0 where
-  pub kind : post.kind ≡ fetch.kind
-  pub next : IsNextPost chip now (row_of geometry fetch.place) post left
 
 -- the post of the member comes next on the LUN, whose wait is over
 pub record IsDue (geometry : Geometry) (chip : Chip) (lun : Lun Posting) (now : ℕ) (fetch : Fetch) (post : Post) (left : List Post) : Type 0 where

@@ -5,15 +5,15 @@
 mod batch;
 mod commanding;
 mod fault;
-mod fetch;
+mod lanes;
 mod lun;
 mod posting;
 mod states;
 mod target;
 
 pub use batch::{BatchFault, run_batch};
-pub use fault::{PostFault, Refused};
-pub use fetch::Fetch;
+pub use fault::Refused;
+pub use lanes::Lanes;
 pub use lun::{Commanded, Lun, Posted};
 pub use states::{Idle, Phase, Posting, Queuing, Working};
 pub use target::Target;

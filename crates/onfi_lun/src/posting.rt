@@ -1,21 +1,20 @@
 //! The posts of a group.
 
-ghost use Rattle.std.specs.Prelude.{◌≡◌, ◌≢◌, ◌+◌, ◌^◌, ◌<◌, ◌≤◌, true, List, ◌∷◌, length, IfOk, IfErr, IsBitSet, ℕ};
-ghost use Rattle.onfi_request.specs.declared.answer.Answer.{Answer as AnAnswer};
-ghost use Rattle.onfi_addr.specs.Rows.{page_bytes_of};
+ghost use Rattle.std.specs.Prelude.{◌≡◌, ◌≢◌, ◌+◌, ◌^◌, ◌<◌, ◌≤◌, true, List, IfOk, IfErr};
+ghost use Rattle.onfi_addr.specs.Rows.{row_of};
 ghost use Rattle.onfi_timing.specs.Kinds.{spans_of};
 ghost use Rattle.onfi_chip.specs.declared.post.Post.{Post as APost};
 ghost use Rattle.onfi_chip.specs.Chip.{posted};
-ghost use Rattle.onfi_chip.specs.Calls.{HasDone, IsLost, IsNextPost, TellsAnswer};
-ghost use Rattle.onfi_lun.specs.Phases.{IsOf, IsPosted, IsDue, IsNextFetch, HasRoom, OthersStay, IsBehind};
+ghost use Rattle.onfi_chip.specs.Calls.{HasDone, IsLost, IsNextPost};
+ghost use Rattle.onfi_chip.specs.Fetching.{HasRoom, IsNextFetch};
+ghost use Rattle.onfi_lun.specs.Phases.{IsOf, IsPosted, IsDue, OthersStay, IsBehind};
 
-use crate::fault::{PostFault, Refused};
-use crate::fetch::Fetch;
+use crate::fault::Refused;
 use crate::lun::{Lun, Posted};
 use crate::states::{Idle, Phase, Posting};
 use crate::target::Target;
-use onfi_chip::Chip;
-use onfi_request::{Answer, Bytes};
+use onfi_chip::{Chip, Fetch, PostFault, read_post};
+use onfi_request::Answer;
 use onfi_timing::Kind;
 
 impl Lun<Posting> {
@@ -48,7 +47,7 @@ impl Lun<Posting> {
         ensures lun { IfErr result (λ refused. refused.lun ≡ self) }
     {
         let ready = now + target.timing.spans(fetch.kind()).post;
-        match self.fetch(chip, target, now, fetch) {
+        match self.read(chip, target, now, fetch) {
             Ok(answer) => Ok((behind(self.number(), self.state().left, ready), answer)),
             Err(fault) => Err(Refused { fault, lun: self }),
         }
@@ -75,8 +74,8 @@ fn behind(number: u8, left: u8, ready: u64) -> Posted
 }
 
 impl<S: Phase> Lun<S> {
-    // Fetches the answer of the member whose post comes next.
-    fn fetch<C: Chip>(
+    // Reads the post of the member that comes next.
+    fn read<C: Chip>(
         &self,
         chip: &mut C,
         target: &Target,
@@ -84,69 +83,17 @@ impl<S: Phase> Lun<S> {
         fetch: Fetch,
     ) -> Result<Answer, PostFault>
         requires phase { S.posts ≡ true }
+        requires device { IsOf target.now (C.state chip.old) }
         requires next { (post : APost) × (left : List APost) × IsNextFetch target.now.geometry (C.state chip.old) now fetch post left }
-        requires room { HasRoom (C.state chip.old).geometry fetch }
+        requires room { HasRoom target.now.geometry fetch }
         ensures answer { IfOk result (λ answer. (post : APost) (left : List APost)
-            → IsNextFetch target.now.geometry (C.state chip.old) now fetch post left → answer ≡ post.answer) }
+            → IsNextPost (C.state chip.old) now (row_of target.now.geometry fetch.place) post left → answer ≡ post.answer) }
         ensures done { IfOk result (λ _. (post : APost) (left : List APost)
-            → IsNextFetch target.now.geometry (C.state chip.old) now fetch post left
+            → IsNextPost (C.state chip.old) now (row_of target.now.geometry fetch.place) post left
             → HasDone (posted (C.state chip.old) post left now) (C.state chip.new)) }
-        ensures err { IfErr result (λ _. IsLost (C.state chip.old) (C.state chip.new)) }
-        ensures told { IfErr result (λ fault. fault ≡ PostFault.NotReady → fetch.kind ≢ Kind.Read) }
+        ensures lost { IfErr result (λ _. IsLost (C.state chip.old) (C.state chip.new)) }
+        ensures not_ready { IfErr result (λ fault. fault ≡ PostFault.NotReady → fetch.kind ≢ Kind.Read) }
     {
-        let row = target.geometry.row(&fetch.place());
-        match fetch.kind() {
-            Kind::Read => read_out(chip, now, row, fetch.into_room()),
-            Kind::Program | Kind::Erase => ask_status(chip, now, row),
-        }
-    }
-}
-
-// The data output of a read into the room.
-fn read_out<C: Chip>(chip: &mut C, now: u64, row: u64, room: Vec<u8>) -> Result<Answer, PostFault>
-    requires next { (post : APost) × (left : List APost) × IsNextPost (C.state chip.old) now row post left × (post.kind ≡ Kind.Read) }
-    requires room { length room.items ≡ page_bytes_of (C.state chip.old).geometry }
-    ensures answer { IfOk result (λ answer. (post : APost) (left : List APost) → IsNextPost (C.state chip.old) now row post left
-        → answer ≡ post.answer) }
-    ensures done { IfOk result (λ _. (post : APost) (left : List APost) → IsNextPost (C.state chip.old) now row post left
-        → HasDone (posted (C.state chip.old) post left now) (C.state chip.new)) }
-    ensures err { IfErr result (λ _. IsLost (C.state chip.old) (C.state chip.new)) }
-    ensures told { IfErr result (λ fault. fault ≡ PostFault.Bus) }
-{
-    let mut room = room;
-    match chip.data_out(now, row, room.as_mut_slice()) {
-        Ok(()) => Ok(Answer::Read(Bytes::of(room))),
-        Err(_) => Err(PostFault::Bus),
-    }
-}
-
-// The status of a program or an erase.
-fn ask_status<C: Chip>(chip: &mut C, now: u64, row: u64) -> Result<Answer, PostFault>
-    requires { (post : APost) × (left : List APost) × IsNextPost (C.state chip.old) now row post left × (post.kind ≢ Kind.Read) }
-    ensures answer { IfOk result (λ answer. (post : APost) (left : List APost) → IsNextPost (C.state chip.old) now row post left
-        → answer ≡ post.answer) }
-    ensures done { IfOk result (λ _. (post : APost) (left : List APost) → IsNextPost (C.state chip.old) now row post left
-        → HasDone (posted (C.state chip.old) post left now) (C.state chip.new)) }
-    ensures err { IfErr result (λ _. IsLost (C.state chip.old) (C.state chip.new)) }
-{
-    match chip.status(now, row) {
-        Ok(byte) => told(byte),
-        Err(_) => Err(PostFault::Bus),
-    }
-}
-
-// What a status byte tells: bit 6 is RDY, bit 0 FAIL.
-fn told(byte: u8) -> Result<Answer, PostFault>
-    ensures ready { IfOk result (λ _. IsBitSet byte 6) }
-    ensures answer { IfOk result (λ answer. (other : AnAnswer) → TellsAnswer byte other → answer ≡ other) }
-    ensures not_ready { IfErr result (λ _. ¬ IsBitSet byte 6) }
-{
-    if byte & 0x40 == 0 {
-        return Err(PostFault::NotReady);
-    }
-    if byte & 1 == 0 {
-        Ok(Answer::Done)
-    } else {
-        Ok(Answer::Failed)
+        read_post(chip, &target.geometry, now, fetch)
     }
 }

@@ -13,12 +13,10 @@ ghost use Rattle.onfi_lun.specs.Part.{IsToldAt};
 
 use crate::batch::fault::BatchFault;
 use crate::batch::lane::{Lane, Running, Stage};
-use crate::fault::PostFault;
-use crate::fetch::Fetch;
 use crate::lun::{Commanded, Lun, Posted};
 use crate::states::{Idle, Posting, Queuing};
 use crate::target::Target;
-use onfi_chip::{Chip, ChipFault, Closer};
+use onfi_chip::{Chip, ChipFault, Closer, Fetch, PostFault};
 use onfi_request::{Basis, Item, Reply};
 use onfi_schedule::Placed;
 use std::alloc::Global;
