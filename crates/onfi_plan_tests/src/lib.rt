@@ -1,6 +1,6 @@
 //! Tests of the crates from groups to the planner, by public calls alone; a module for each crate.
 //!
-//! What a script can show is a case of the built program and not a test here: the planner has cases alone.
+//! What a script can show is a case of the built program and not a test here: the planner by one search has cases alone.
 #![tactic(auto)]
 
 #[cfg(test)]
@@ -17,5 +17,7 @@ mod problem;
 mod sample;
 #[cfg(test)]
 mod schedule;
+#[cfg(test)]
+mod split;
 #[cfg(test)]
 mod texts;

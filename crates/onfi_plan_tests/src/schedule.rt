@@ -79,3 +79,18 @@ fn behind_running_groups(rt: HostRuntime) -> Result<(), Fail> {
     assert_eq!(rt; found, Some(422360), "programs meanwhile");
     Ok(())
 }
+
+#[test]
+fn a_copy_has_the_group_and_its_starts(rt: HostRuntime) -> Result<(), Fail> {
+    let wants = [want(0, Kind::Read, 0, 0), want(1, Kind::Read, 0, 1)];
+    let starts: &[u64] = &[0, 740, 25_840, 36_840];
+    let schedule = schedule(rt.alloc(), &[], &[(wants.as_slice(), starts)])?;
+    for placed in schedule.groups() {
+        let copy = placed.copy();
+        assert_eq!(rt; copy.members().members(), wants.as_slice());
+        assert_eq!(rt; copy.starts().as_slice(), starts);
+        assert_eq!(rt; copy.starts().copy().as_slice(), starts);
+    }
+    assert_eq!(rt; schedule.groups().len(), 1);
+    Ok(())
+}

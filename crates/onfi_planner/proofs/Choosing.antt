@@ -14,6 +14,7 @@ use Rattle.onfi_problem.proofs.Perm.{All-append, All-has, All-weaker}
 use Rattle.onfi_check.proofs.Reading.{drop_one}
 use Rattle.onfi_planner.specs.First.{wants_started, starts_before, GoesFirst, IsFirstChoice}
 use Rattle.onfi_planner.proofs.Taking.{take_all}
+use Rattle.onfi_group.proofs.Lists.{Has-get}
 
 -- what a comparison says
 abbrev Sooner : Problem → Move → Move → Type 0
@@ -74,11 +75,6 @@ one_more groups moves i s d e h =
 next_is : (groups : List (List Want)) (moves : List KeptMove) (i : ℕ) (s d : KeptMove) → get_or moves i d ≡ s → i < length moves → moves_of groups (drop i moves) ≡ move_of groups s ∷ moves_of groups (drop (i + 1) moves)
 next_is groups moves i s d e h = ap (moves_of groups) (drop_one moves i d s h e)
 
-has_at : {A : Type 0} (xs : List A) (i : ℕ) (d : A) → i < length xs → Has xs (get_or xs i d)
-has_at [] i d h = absurd (omega arith)
-has_at (x ∷ xs) zero d h = inl refl
-has_at (x ∷ xs) (suc i) d h = inr (has_at xs i d (omega arith))
-
 pairs_behind : {A : Type 0} (R : A → A → Type 0) (groups : List (List Want)) (f : KeptMove → A) (moves : List KeptMove) (i : ℕ) (d : KeptMove) → i < length moves → Pairs R (map f moves) → All (R (f (get_or moves i d))) (map f (drop (suc i) moves))
 pairs_behind R groups f [] i d h k = absurd (omega arith)
 pairs_behind R groups f (m ∷ moves) zero d h k = k.0
@@ -113,7 +109,7 @@ chosen_new p groups moves i choice s d e h are b c =
     let k = is_sooner p (move_of groups s) (move_of groups choice) b in
     let behind = pairs_behind (ComesBefore p) groups (move_of groups) moves i d h are.order in
     record {
-      has = subst (Has moves) e (has_at moves i d h);
+      has = subst (Has moves) e (Has-get moves i d h);
       first = subst (All (OrFirst p (move_of groups s))) (sym (one_more groups moves i s d e h)) (All-append _ (moves_of groups (take i moves)) (move_of groups s ∷ []) (All-weaker _ _ (λ n q. inr (later n q k)) (moves_of groups (take i moves)) c.first) (inl refl, tt));
       before = subst (λ z. All (OrBefore p (move_of groups s)) (moves_of groups z)) (sym (drop_same moves i)) (subst (λ z. All (OrBefore p (move_of groups z)) (moves_of groups (drop (suc i) moves))) e (All-weaker _ _ (λ n q. inr q) (moves_of groups (drop (suc i) moves)) behind));
     }
@@ -147,7 +143,7 @@ chosen_all p groups moves i choice h are c =
     }
 
 pub item_move : (p : Problem) (groups : List (List Want)) (moves : List KeptMove) (i : ℕ) (d : KeptMove) → i < length moves → AreMoves p (moves_of groups moves) → IsMove p (move_of groups (get_or moves i d))
-item_move p groups moves i d h are = All-has (IsMove p) (moves_of groups moves) (move_of groups (get_or moves i d)) are.moves_only (moves_has groups moves (get_or moves i d) (has_at moves i d h))
+item_move p groups moves i d h are = All-has (IsMove p) (moves_of groups moves) (move_of groups (get_or moves i d)) are.moves_only (moves_has groups moves (get_or moves i d) (Has-get moves i d h))
 
 pub item_named : (groups : List (List Want)) (moves : List KeptMove) (i : ℕ) (d : KeptMove) → i < length moves → All (IsNamed groups) moves → IsNamed groups (get_or moves i d)
-item_named groups moves i d h named = All-has (IsNamed groups) moves (get_or moves i d) named (has_at moves i d h)
+item_named groups moves i d h named = All-has (IsNamed groups) moves (get_or moves i d) named (Has-get moves i d h)

@@ -1,19 +1,21 @@
 -- A certificate between two children of a node.
-use Rattle.std.proofs.Common.{◌≡◌, ℕ, ◌+◌, ◌≤◌, ◌<◌, List, [], ◌∷◌, ◌++◌, length, take, get_or, Option, Some, None, refl, sym, ap, ◌∙◌, subst, arith, append_assoc}
+use Rattle.std.proofs.Common.{◌≡◌, ℕ, ◌+◌, ◌≤◌, ◌<◌, List, [], ◌∷◌, ◌++◌, length, take, get_or, Option, Some, refl, sym, ap, ◌∙◌, subst, arith, append_assoc}
 use Rattle.onfi_problem.specs.Moves.{Move, Next as NextPhase, Start as StartGroup, IsMove, earliest, move_lun, after, AreMoves}
 use Rattle.onfi_cert.specs.declared.token.Token.{Token}
 use Rattle.onfi_cert.specs.declared.token.Token.TheVariants.{Branch, Yield}
 use Rattle.onfi_problem.specs.Problem.{Problem, IsProblem}
-use Rattle.onfi_check.specs.Tree.{Forest, Closing, Closes, token_of, width, preorder, preorders, NoneYields, Accepts, AcceptsEach, Closed, Opened, NoMore, Child, Yields}
+use Rattle.onfi_check.specs.Tree.{Forest, Closing, Closes, token_of, width, preorder, preorders, Closed, Opened, NoMore, Child, Yields}
 use Rattle.onfi_problem.specs.declared.moves.Move.{Move as KeptMove}
 use Rattle.onfi_problem.specs.Position.{moves_of, Position, move_of, moved}
 use Rattle.onfi_planner.specs.Opening.{IsOpen, yield_at, AreYields}
 use Rattle.onfi_planner.specs.Planning.{Bounded, Written}
-use Rattle.onfi_problem.proofs.Perm.{All-has}
+use Rattle.onfi_problem.proofs.Perm.{All-has, append_nil}
 use Rattle.onfi_problem.proofs.Places.{within_get}
 use Rattle.onfi_planner.proofs.Grown.{Grown, joined, preorders_joined, grown_joined, grown_width, grown_accepts}
 use Rattle.onfi_planner.proofs.Halfway.{no_moves, one_more}
 use Rattle.onfi_planner.proofs.Taking.{take_all}
+use Rattle.onfi_problem.proofs.Kept.{lun_there}
+pub use Rattle.onfi_check.proofs.OneList.{map_length}
 
 -- so far
 abbrev pub Growing : Position → List KeptMove → List (Option ℕ) → ℕ → ℕ → List Token → List Token → Type 0
@@ -26,15 +28,11 @@ more_tokens : (old new new' ts : List Token) (n : ℕ) (f g : Forest) → new �
 more_tokens old new new' ts n f g h k e =
     k ∙ (ap (λ z. z ++ ts) h ∙ (append_assoc old (Branch n ∷ preorders f) ts ∙ ap (λ z. old ++ (Branch n ∷ z)) (ap (λ z. preorders f ++ z) (sym e) ∙ sym (preorders_joined f g))))
 
-append_none : {A : Type 0} (xs : List A) → xs ++ [] ≡ xs
-append_none [] = refl
-append_none (x ∷ xs) = ap (λ z. x ∷ z) (append_none xs)
-
 pub with_child : (x : Position) (items : List KeptMove) (ys : List (Option ℕ)) (e i : ℕ) (old new new' : List Token) (s : KeptMove) → s ≡ get_or items i s → i < length items → Written (moved x s).problem e new new' → Growing x items ys e i old new → Growing x items ys e (i + 1) old new'
 with_child x items ys e i old new new' s q h (tree, k, a) (f, t, g) =
     let last = Child tree NoMore in (
       joined f last,
-      more_tokens old new new' (preorder tree) (length items) f last t k (append_none (preorder tree)),
+      more_tokens old new new' (preorder tree) (length items) f last t k (append_nil (preorder tree)),
       subst (λ z. Grown x.problem ys e z (joined f last)) (sym (one_more x items i s q h)) (grown_joined x.problem ys e (moves_of x.groups (take i items)) (move_of x.groups s ∷ []) f last g (a, tt)),
     )
 
@@ -45,10 +43,6 @@ with_yield x items ys e i l old new new' s q h y k (f, t, g) =
       more_tokens old new new' (Yield l ∷ []) (length items) f last t k refl,
       subst (λ z. Grown x.problem ys e z (joined f last)) (sym (one_more x items i s q h)) (grown_joined x.problem ys e (moves_of x.groups (take i items)) (move_of x.groups s ∷ []) f last g (y, tt)),
     )
-
-pub map_length : (x : Position) (items : List KeptMove) → length (moves_of x.groups items) ≡ length items
-map_length x [] = refl
-map_length x (s ∷ items) = let h = map_length x items in omega arith
 
 pub grown_up : (x : Position) (items : List KeptMove) (ys : List (Option ℕ)) (e i : ℕ) (old new : List Token) → AreMoves x.problem (moves_of x.groups items) → 1 ≤ length items → AreYields x.problem (moves_of x.groups items) ys → length items ≤ i → Growing x items ys e i old new → Written x.problem e old new
 grown_up x items ys e i old new are some ay h (f, t, g) =
@@ -69,14 +63,10 @@ pub no_end : (x : Position) (items : List KeptMove) (e : ℕ) → IsProblem x.pr
 no_end x [] e ip are z o b = let d = no_moves x.problem ip are in let u = o.bus in let le = b [] x.problem.bus_free (d, refl) in omega arith
 no_end x (s ∷ items) e ip are z o b = absurd (omega arith)
 
-lun_of_move : (p : Problem) (m : Move) → IsMove p m → move_lun m < length p.luns
-lun_of_move p (NextPhase l) (g, n, r, at) = within_get p.luns l _ at
-lun_of_move p (StartGroup ms) (since, at, st) = within_get p.luns _ _ at
-
 -- the LUN that is yielded to is there
 pub yields_small : (p : Problem) (moves : List Move) (ys : List (Option ℕ)) (j j' l : ℕ) → AreMoves p moves → AreYields p moves ys → length p.luns ≤ 8 → j ≡ j' → yield_at ys j' ≡ Some l → l < 8
 yields_small p moves ys j j' l are ay few q y =
     let to = ay j' l y in
-    let h = lun_of_move p to.move (All-has (IsMove p) moves to.move are.moves_only to.has_move) in
+    let h = lun_there p to.move (All-has (IsMove p) moves to.move are.moves_only to.has_move) in
     let e = to.of_lun in
     omega arith

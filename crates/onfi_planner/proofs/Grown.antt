@@ -1,5 +1,5 @@
 -- The children that a walk over the moves of a node has made so far.
-use Rattle.std.proofs.Common.{◌≡◌, ◌≢◌, ℕ, ◌+◌, ◌≤◌, List, [], ◌∷◌, ◌++◌, length, Option, Some, None, refl, sym, ap, ◌∙◌, subst, arith, append_assoc}
+use Rattle.std.proofs.Common.{◌≡◌, ℕ, ◌+◌, ◌≤◌, List, [], ◌∷◌, ◌++◌, length, Option, Some, None, refl, sym, ap, ◌∙◌, subst, arith, append_assoc}
 use Rattle.onfi_problem.specs.Moves.{Move, move_lun, after, AreMoves}
 use Rattle.onfi_cert.specs.declared.token.Token.TheVariants.{Yield}
 use Rattle.onfi_problem.specs.Problem.{Problem}

@@ -25,12 +25,13 @@ use Rattle.onfi_problem.specs.declared.moves.Move.{Move as KeptMove}
 use Rattle.onfi_planner.specs.declared.search.Best.{Best}
 use Rattle.onfi_problem.specs.Position.{Position, move_of, moves_of, moved, lun_named}
 use Rattle.onfi_planner.specs.Opening.{IsOpen, yield_at, AreYields}
-use Rattle.onfi_planner.specs.Nodes.{HasNodes, HasTreeOf, nodes_below}
+use Rattle.onfi_planner.specs.Nodes.{HasNodes, nodes_below}
 use Rattle.onfi_planner.specs.Planning.{Bounded, run_of, Searched, HasOpened, IsOver}
 use Rattle.onfi_planner.proofs.Paths.{Among, node_one, among_none, among_more, among_skip, among_all}
 use Rattle.onfi_planner.proofs.Opening.{Done, done_sooner, opened}
 use Rattle.onfi_planner.proofs.Grown.{Grown, joined, grown_joined, grown_sooner, grown_accepts, nodes_joined}
 use Rattle.onfi_planner.proofs.Taking.{take_all, split_at}
+pub use Rattle.onfi_check.proofs.Nothing.{no_moves}
 
 pub record Halfway (x : Position) (items : List KeptMove) (yields : List (Option ℕ)) (i : ℕ) (old best : Best) (improved : Bool) (began count limit : ℕ) : Type 0 where
   pub sooner : best.finish ≤ old.finish
@@ -60,7 +61,7 @@ one_more x items i s e h =
     let a = take_more items i s h in
     ap (moves_of x.groups) a ∙ (map-append (move_of x.groups) (take i items) (get_or items i s ∷ []) ∙ ap (λ z. moves_of x.groups (take i items) ++ move_of x.groups z ∷ []) (sym e))
 
-Pairs-cross : {A : Type 0} (R : A → A → Type 0) (xs ys : List A) (y x : A) → Pairs R (xs ++ y ∷ ys) → Has xs x → R x y
+pub Pairs-cross : {A : Type 0} (R : A → A → Type 0) (xs ys : List A) (y x : A) → Pairs R (xs ++ y ∷ ys) → Has xs x → R x y
 Pairs-cross R [] ys y x h k = absurd k
 Pairs-cross R (z ∷ xs) ys y x h (inl e) = subst (λ w. R w y) e (All-has (R z) (xs ++ y ∷ ys) y h.0 (Has-append_right xs (y ∷ ys) y (inl refl)))
 Pairs-cross R (z ∷ xs) ys y x h (inr k) = Pairs-cross R xs ys y x h.1 k
@@ -71,7 +72,7 @@ record NextStep (x : Position) (items : List KeptMove) (i : ℕ) (s : KeptMove) 
   pub is_new : Has (moves_of x.groups (take i items)) (move_of x.groups s) → ⊥
   pub lun : move_lun (move_of x.groups s) ≡ lun_named s
 
-not_before_itself : (p : Problem) (m : Move) → ComesBefore p m m → ⊥
+pub not_before_itself : (p : Problem) (m : Move) → ComesBefore p m m → ⊥
 not_before_itself p m (inl a) = omega arith
 not_before_itself p m (inr a) = let b = a.1 in omega arith
 
@@ -98,7 +99,7 @@ open_later f g p le o = record {
   die = λ l k. let h = o.die l k in omega arith;
 }
 
-none_some : (o : Option ℕ) (l : ℕ) → o ≡ Some l → o ≡ None → ⊥
+pub none_some : (o : Option ℕ) (l : ℕ) → o ≡ Some l → o ≡ None → ⊥
 none_some o l e n = cc
 
 -- the child of one more move
@@ -208,32 +209,6 @@ one_over p finish began limit h = let e : 1 ≡ limit - began + 1 = omega arith 
 
 pub closed_below : (p : Problem) (e : ℕ) (c : Closing) → IsProblem p → Closes p e c → Bounded p e
 closed_below p e c ip h = sound (Closed c) p e ip h
-
-on_own_block : (w : Want) → on_block w w ≡ true
-on_own_block w = rw (eq-eqb w.lun w.lun refl) (eq-eqb w.block w.block refl)
-
--- where there is no move nothing is left
-pub no_moves : (p : Problem) → IsProblem p → AreMoves p [] → IsDone p
-no_moves p ip are = record { wants = go p.wants refl; free = λ l g n r at. are.each (NextPhase l) (g, n, r, at) }
-  where
-    at_lun : (w : Want) (ws : List Want) (x : LunState) → p.wants ≡ w ∷ ws → slice_get p.luns w.lun ≡ Some x → ⊥
-    at_lun w ws (Running g n r) e at = are.each (NextPhase w.lun) (g, n, r, at)
-    at_lun w ws (Free since) e at =
-        are.each (StartGroup (w ∷ [])) (
-          since,
-          at,
-          record {
-            group = record { some = omega arith; few = omega arith; kind = (refl, tt); lun = (refl, tt); planes = (tt, tt); page = λ n. (refl, tt); rule = λ h. absurd (omega arith); strict = λ s. (refl, tt) };
-            first = (rw e (rw (on_own_block w) refl), tt);
-          },
-        )
-
-    go : (ws : List Want) → p.wants ≡ ws → p.wants ≡ []
-    go [] e = e
-    go (w ∷ ws) e =
-        let below = (subst (All (λ v. v.lun < length p.luns)) e ip.in_range).0 in
-        let x = get_within p.luns w.lun below in
-        absurd (at_lun w ws x.0 e x.1)
 
 pub done_run : (x : Position) (finish : ℕ) → IsDone x.problem → x.problem.bus_free ≡ finish → Run x.problem [] finish
 done_run x finish d e = (d, e)

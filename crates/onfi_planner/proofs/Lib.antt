@@ -1,4 +1,3 @@
-pub mod BusWork
 pub mod Reaching
 pub mod Opening
 pub mod Paths
@@ -13,3 +12,5 @@ pub mod Choosing
 pub mod Beginning
 pub mod Stacking
 pub mod Below
+pub mod Turns
+pub mod Splitting

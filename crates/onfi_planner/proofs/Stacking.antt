@@ -10,7 +10,7 @@ use Rattle.onfi_group.specs.Group.{group_spans, lun_of}
 use Rattle.onfi_problem.specs.Problem.{Problem, IsProblem}
 use Rattle.onfi_problem.specs.Moves.{Move, Next, Start, IsMove, earliest, move_lun, placed, lun_after}
 use Rattle.onfi_problem.specs.declared.lun_state.LunState.{LunState}
-use Rattle.onfi_problem.proofs.Kept.{kept}
+use Rattle.onfi_problem.proofs.Kept.{kept, placed_luns, lun_there}
 use Rattle.onfi_problem.proofs.Places.{get_within, get_set_same, length_set, within_get}
 use Rattle.onfi_problem.proofs.LunAfter.{lun_after_running, lun_after_free}
 use Rattle.onfi_problem.specs.declared.moves.Move.TheVariants.{Next as KeptNext, Start as KeptStart}
@@ -36,10 +36,6 @@ none_same (x ∷ luns) (suc i) a = ap (λ z. [] ∷ z) (none_same luns i a)
 empty_same : (p : Problem) (m : Move) (t : ℕ) → IsMove p m → empty (placed p m t) ≡ empty p
 empty_same p (Next l) t (g, n, r, at) = rw at (ap (λ (z : List (List ℕ)). record { rest = z; groups = [] }) (none_same p.luns l _))
 empty_same p (Start ms) t (since, at, st) = ap (λ (z : List (List ℕ)). record { rest = z; groups = [] }) (none_same p.luns (lun_of ms) _)
-
-luns_same : (p : Problem) (m : Move) (t : ℕ) → IsMove p m → length (placed p m t).luns ≡ length p.luns
-luns_same p (Next l) t (g, n, r, at) = rw at (length_set p.luns l _)
-luns_same p (Start ms) t (since, at, st) = length_set p.luns (lun_of ms) _
 
 pub schedule_stacked : (steps : List Step) (p : Problem) (f : ℕ) → Run p steps f → schedule_of p steps ≡ stacked (empty p) steps
 schedule_stacked [] p f run = refl
@@ -91,10 +87,6 @@ room_here p (Start ms) t s ip (since, at, st) sh =
     let b = t + phase_length (group_spans p.timing ms) (length ms) 0 in
     room_of (placed p (Start ms) t) s (lun_of ms) 0 0 b ms sh st.group.few (get_set_same p.luns (lun_of ms) _ (lun_after p.timing ms 0 b) at)
 
-lun_there : (p : Problem) (m : Move) → IsMove p m → move_lun m < length p.luns
-lun_there p (Next l) (g, n, r, at) = within_get p.luns l _ at
-lun_there p (Start ms) (since, at, st) = within_get p.luns _ _ at
-
 room_front : (steps : List Step) (p : Problem) (s : Step) (f : ℕ) → IsProblem p → IsMove p s.move → earliest p s.move ≤ s.start → Run (placed p s.move s.start) steps f → Room s (stacked (empty p) steps) f
 room_front steps p s f ip mv on_time run =
     let q = placed p s.move s.start in
@@ -103,7 +95,7 @@ room_front steps p s f ip mv on_time run =
     let bus = run_from_bus steps q f run in
     let began = bus_after p s.move s.start mv in
     let there = lun_there p s.move mv in
-    let same = luns_same p s.move s.start mv in
+    let same = placed_luns p s.move s.start mv in
     let sh = l.0.shape.luns in
     subst (λ z. Room s z f) e (record {
       room = room_here p s.move s.start (schedule_of q steps) ip mv l.0.shape;

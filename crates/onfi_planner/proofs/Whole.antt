@@ -9,12 +9,13 @@ use Rattle.onfi_check.specs.Tree.{Accepts, AcceptsTokens, preorder}
 use Rattle.onfi_schedule.proofs.RunLegal.{run_legal}
 use Rattle.onfi_check.proofs.Sound.{certified}
 use Rattle.onfi_planner.specs.declared.search.Best.{Best}
+use Rattle.onfi_planner.specs.declared.root.Root.{Root}
 use Rattle.onfi_problem.specs.Position.{Position}
 use Rattle.onfi_problem.specs.Left.{InLimits}
 use Rattle.onfi_planner.specs.declared.fault.PlanFault.TheVariants.{Over}
 use Rattle.onfi_planner.specs.First.{IsFirstRun}
 use Rattle.onfi_planner.specs.Nodes.{HasNodes, HasMoreNodes, HasTreeOf, OpensNodes}
-use Rattle.onfi_planner.specs.Planning.{Searched, HasOpened, Written, IsOver, Bounded, run_of, AreRising}
+use Rattle.onfi_planner.specs.Planning.{Searched, HasOpened, Written, IsOver, Found, IsRoot, run_of, AreRising}
 use Rattle.onfi_planner.proofs.Rising.{run_rises}
 use Rattle.onfi_planner.proofs.Beginning.{first_is_run}
 use Rattle.onfi_planner.proofs.Grown.{some_nodes}
@@ -40,12 +41,10 @@ ready x at now first e e' limits run small = record {
   small = small;
 }
 
--- what the search found
-pub record Found (x : Position) (best : Best) : Type 0 where
-  pub run : Run x.problem (run_of x.groups best.steps.items) best.finish
-  pub least : Bounded x.problem best.finish
-  pub small : best.finish < 2 ^ 63
+pub root_ready : (x : Position) (root : Root) → IsRoot x root → Ready x root.problem root.best
+root_ready x root r = record { same = r.same; limits = r.limits; first_run = r.first_run; small = r.small }
 
+-- what the search found
 pub found : (x now : Position) (first best : Best) (improved : Bool) → Ready x now first → Searched now first best improved → Found x best
 found x now first best improved r s =
     let s' = subst (λ (z : Position). Searched z first best improved) r.same s in

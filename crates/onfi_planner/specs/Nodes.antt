@@ -1,5 +1,5 @@
 -- The tree of a problem: its nodes are paths of moves, and below a node that a bound closes stands nothing.
-use Rattle.std.specs.Prelude.{◌≡◌, ◌≢◌, ℕ, List, [], ◌∷◌, ◌+◌, length}
+use Rattle.std.specs.Prelude.{◌≡◌, ◌≢◌, ◌⊎◌, ℕ, ◌<◌, List, [], ◌∷◌, ◌+◌, length}
 use Rattle.std.specs.List.{AllByRecursion as Each}
 use Rattle.onfi_problem.specs.Moves.{Move, IsMove, after}
 use Rattle.onfi_group.specs.Words.{Pairs}
@@ -20,6 +20,15 @@ HasNodes f p n = (paths : List (List Move)) × (length paths ≡ n) × Each (IsN
 -- the tree has more than n nodes, where what ends with the first schedule or later is closed
 abbrev pub HasMoreNodes : Problem → ℕ → Type 0
 HasMoreNodes p n = (f : ℕ) × EndsFirstRun p f × HasNodes f p (n + 1)
+
+-- below one move of the root, which is open, the tree has more than n nodes
+abbrev pub PartHasMore : Problem → ℕ → Type 0
+PartHasMore p n = (f : ℕ) × EndsFirstRun p f × IsOpen f p × ((m : Move) × IsMove p m × HasNodes f (after p m) (n + 1))
+
+-- a split search with this limit for each part may tell n as over: a part has more nodes than the limit, or the parts
+-- have n together, which are too many
+abbrev pub IsSplitOver : Problem → ℕ → ℕ → Type 0
+IsSplitOver p limit n = ((n ≡ limit) × PartHasMore p limit) ⊎ ((1048575 < n) × HasMoreNodes p n)
 
 abbrev mutual
   -- how many nodes a certificate's tree has; a move that yields has none

@@ -1,16 +1,20 @@
 -- What the search and the writing of certificates promise.
-use Rattle.std.specs.Prelude.{◌≡◌, ℕ, ◌+◌, ◌-◌, ◌≤◌, ◌<◌, Bool, true, false, List, ◌++◌, map, reverse, slice_index}
+use Rattle.std.specs.Prelude.{◌≡◌, ℕ, ◌+◌, ◌-◌, ◌^◌, ◌≤◌, ◌<◌, Bool, true, false, List, ◌++◌, map, reverse, slice_index}
 use Rattle.onfi_request.specs.declared.want.Want.{Want}
 use Rattle.onfi_cert.specs.declared.token.Token.{Token}
 use Rattle.onfi_problem.specs.Problem.{Problem}
-use Rattle.onfi_problem.specs.Left.{all_commands, all_posts}
+use Rattle.onfi_problem.specs.Left.{InLimits}
+pub use Rattle.onfi_problem.specs.Left.{work}
 use Rattle.onfi_group.specs.Words.{Pairs}
 use Rattle.onfi_schedule.specs.Schedule.{Placed}
 use Rattle.onfi_schedule.specs.Runs.{Step as Taken, Run}
 use Rattle.onfi_check.specs.Tree.{Tree, preorder, Accepts}
 use Rattle.onfi_planner.specs.declared.search.Begun.{Begun}
 use Rattle.onfi_planner.specs.declared.search.Best.{Best}
+use Rattle.onfi_planner.specs.declared.root.Root.{Root}
 use Rattle.onfi_problem.specs.Position.{Position, move_of}
+use Rattle.onfi_bound.specs.Loads.{AreLoads}
+use Rattle.onfi_planner.specs.First.{IsFirstRun}
 use Rattle.onfi_planner.specs.Nodes.{HasNodes, HasTreeOf}
 
 -- no run ends before e
@@ -23,6 +27,20 @@ taken groups b = record { move = move_of groups b.step; start = b.start }
 -- steps are kept last first
 abbrev pub run_of : List (List Want) → List Begun → List Taken
 run_of groups steps = reverse (map (taken groups) steps)
+
+-- x is to be searched, with its first schedule as the best
+pub record IsRoot (x : Position) (root : Root) : Type 0 where
+  pub same : root.problem ≡ x
+  pub loads : AreLoads root.problem root.loads.of.items
+  pub limits : InLimits x.problem
+  pub first_run : IsFirstRun x.problem (run_of x.groups root.best.steps.items) root.best.finish
+  pub small : root.best.finish < 2 ^ 62
+
+-- no run of x ends before the best
+pub record Found (x : Position) (best : Best) : Type 0 where
+  pub run : Run x.problem (run_of x.groups best.steps.items) best.finish
+  pub least : Bounded x.problem best.finish
+  pub small : best.finish < 2 ^ 63
 
 -- what a search of x from one best to another has found
 pub record Searched (x : Position) (old new : Best) (improved : Bool) : Type 0 where
@@ -53,7 +71,3 @@ first_start g = slice_index g.starts 0
 -- groups by rising first start
 abbrev pub AreRising : List Placed → Type 0
 AreRising groups = Pairs (λ a b. first_start a < first_start b) groups
-
--- the work that is left
-abbrev pub work : Problem → ℕ
-work p = all_commands p + all_posts p

@@ -48,9 +48,9 @@ pub fn write(
     Ok(())
 }
 
-// Appends the tokens of the child behind a step.
+/// Appends the tokens of the child behind a step.
 #[cycle(write)]
-fn write_below(
+pub fn write_below(
     problem: &mut Problem,
     loads: &Loads,
     step: Move,

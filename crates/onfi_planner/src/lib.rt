@@ -1,16 +1,24 @@
 //! Plans batches: the schedule that no legal schedule beats, with the certificate that shows it.
 #![tactic(auto)]
 
+mod branches;
 mod certificate;
 mod closing;
+mod dealing;
 mod fault;
 mod first;
+mod gate;
+mod parts;
 mod placing;
 mod planned;
 mod planning;
+mod root;
 mod search;
+mod split;
 mod yields;
 
 pub use fault::PlanFault;
+pub use gate::{NoGate, PartGate};
 pub use planned::Planned;
 pub use planning::plan;
+pub use split::plan_split;

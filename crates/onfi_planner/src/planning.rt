@@ -1,18 +1,19 @@
 ghost use Rattle.std.specs.Prelude.{◌≡◌, ℕ, ◌≤◌, IfOk, IfErr};
+ghost use Rattle.onfi_problem.specs.Left.{InLimits};
 ghost use Rattle.onfi_schedule.specs.Schedule.{Optimal, finish};
 ghost use Rattle.onfi_check.specs.Tree.{AcceptsTokens};
 ghost use Rattle.onfi_planner.specs.Nodes.{HasMoreNodes, OpensNodes};
-ghost use Rattle.onfi_planner.specs.Planning.{AreRising};
+ghost use Rattle.onfi_planner.specs.Planning.{AreRising, Found};
 
 use crate::certificate;
 use crate::fault::PlanFault;
-use crate::first::first_run;
 use crate::placing::schedule_of;
 use crate::planned::Planned;
+use crate::root::{Root, root_of};
 use crate::search::{self, Best, Stop};
-use onfi_bound::Loads;
+use onfi_cert::Token;
 use onfi_problem::Problem;
-use std::alloc::Global;
+use std::alloc::{AllocError, Global};
 
 /// The legal schedule of a problem that ends first, its groups by rising first start, with the certificate that shows
 /// it; the search opens at most `limit` nodes, 1 to 1,048,576.
@@ -32,17 +33,14 @@ pub fn plan(alloc: Global, problem: &Problem, limit: u32) -> Result<Planned, Pla
     ensures within { IfOk result (λ plan. plan.opened ≤ limit) }
     ensures over { IfErr result (λ fault. (opened : ℕ) → fault ≡ PlanFault.Over opened → (opened ≡ limit) × HasMoreNodes problem.now.problem limit) }
 {
-    let Ok(mut at) = problem.copy(alloc) else {
+    let Ok(root) = root_of(alloc, problem) else {
         return Err(PlanFault::Memory);
     };
-    let mut steps = Vec::new(alloc);
-    let Ok(finish) = first_run(&mut at, &mut steps) else {
-        return Err(PlanFault::Memory);
-    };
-    let mut best = Best { finish, steps };
-    let Ok(loads) = Loads::new(alloc, &at) else {
-        return Err(PlanFault::Memory);
-    };
+    let Root {
+        problem: mut at,
+        loads,
+        mut best,
+    } = root;
     let mut opened = 0;
     match search::search(&mut at, &loads, &mut best, &mut opened, limit) {
         Ok(_) => {}
@@ -53,10 +51,34 @@ pub fn plan(alloc: Global, problem: &Problem, limit: u32) -> Result<Planned, Pla
     let Ok(_) = certificate::write(&mut at, &loads, best.finish, &mut cert) else {
         return Err(PlanFault::Memory);
     };
-    let schedule = schedule_of(alloc, problem, best.steps.as_slice());
-    let Ok(schedule) = schedule else {
+    let Ok(planned) = found_plan(alloc, problem, &best, cert, opened) else {
         return Err(PlanFault::Memory);
     };
+    Ok(planned)
+}
+
+/// The plan of what a search found, with the certificate that was written for it.
+///
+/// # Errors
+/// Only where memory was refused.
+pub fn found_plan(
+    alloc: Global,
+    problem: &Problem,
+    best: &Best,
+    cert: Vec<Token>,
+    opened: u32,
+) -> Result<Planned, AllocError>
+    requires limits { InLimits problem.now.problem }
+    requires found { Found problem.now best.now }
+    requires cert { AcceptsTokens cert.items problem.now.problem best.now.finish }
+    ensures optimal { IfOk result (λ plan. Optimal problem.now.problem plan.schedule) }
+    ensures finish { IfOk result (λ plan. finish problem.now.problem plan.schedule ≡ plan.finish) }
+    ensures rising { IfOk result (λ plan. AreRising plan.schedule.groups) }
+    ensures accepted { IfOk result (λ plan. AcceptsTokens plan.cert.items problem.now.problem plan.finish) }
+    ensures ends { IfOk result (λ plan. plan.finish ≡ best.now.finish) }
+    ensures opened { IfOk result (λ plan. plan.opened ≡ opened) }
+{
+    let schedule = schedule_of(alloc, problem, best.steps.as_slice())?;
     Ok(Planned {
         schedule,
         finish: best.finish,

@@ -81,9 +81,9 @@ pub fn search(
     Ok(improved)
 }
 
-// Looks below a step.
+/// Looks below a step for what ends before the best; tells whether it found something.
 #[cycle(search)]
-fn visit(
+pub fn visit(
     problem: &mut Problem,
     loads: &Loads,
     step: Move,

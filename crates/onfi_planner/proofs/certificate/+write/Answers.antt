@@ -14,7 +14,7 @@ use Rattle.onfi_bound.specs.Loads.{AreLoads}
 use Rattle.onfi_bound.proofs.Loading.{loads_after}
 use Rattle.onfi_planner.specs.Opening.{yield_at}
 use Rattle.onfi_planner.specs.Planning.{work, Bounded, Written}
-use Rattle.onfi_planner.proofs.BusWork.{work_after}
+use Rattle.onfi_bound.proofs.BusWork.{work_after}
 use Rattle.onfi_planner.proofs.Halfway.{step_moves, step_of_lun, steps_same, some_items, luns_of, luns_small, lun_in}
 use Rattle.onfi_planner.proofs.Below.{handed_back}
 use Rattle.onfi_planner.proofs.Growing.{closed_written, no_end, begun, with_child, with_yield, grown_up, bounded_below, yields_small}

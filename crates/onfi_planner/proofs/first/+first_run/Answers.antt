@@ -9,7 +9,7 @@ use Rattle.onfi_problem.specs.Left.{InLimits}
 use Rattle.onfi_problem.specs.Starts.{IsNamed}
 use Rattle.onfi_planner.specs.First.{IsFirstRun}
 use Rattle.onfi_planner.specs.Planning.{work, run_of}
-use Rattle.onfi_planner.proofs.BusWork.{work_after}
+use Rattle.onfi_bound.proofs.BusWork.{work_after}
 use Rattle.onfi_planner.proofs.Beginning.{first_done}
 use Rattle.onfi_planner.proofs.Below.{first_more, handed_back}
 use Rattle.onfi_planner.proofs.Halfway.{steps_same, some_items}

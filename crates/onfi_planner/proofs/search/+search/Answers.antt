@@ -15,7 +15,7 @@ use Rattle.onfi_planner.specs.declared.search.Best.{Best}
 use Rattle.onfi_planner.specs.Planning.{work, IsOver, Bounded, HasOpened, run_of}
 use Rattle.onfi_planner.proofs.Halfway.{step_of_lun, yields_some, one_over, one_opened, closed_node, closed_by, closed_at_end, open_node, done_node, step_moves, given_up, skipped, visited, ended, ended_count, steps_same, not_empty, luns_of, luns_small, lun_in, started}
 use Rattle.onfi_planner.proofs.Below.{handed_back}
-use Rattle.onfi_planner.proofs.BusWork.{work_after}
+use Rattle.onfi_bound.proofs.BusWork.{work_after}
 use Rattle.onfi_problem.proofs.Limits.{after_limits}
 use Rattle.onfi_planner.proofs.search.+search.Goals as goal
 use Rattle.onfi_planner.proofs.search.+search.Goals.{search-then-branch, search-else-branch}

@@ -1,4 +1,3 @@
-use Rattle.std.proofs.Common.{ℕ, ◌≤◌, get_or, None}
 use Rattle.onfi_planner.proofs.Deciding.{still_soonest}
 use Rattle.onfi_planner.proofs.yields.soonest.Goals as goal
 

@@ -1,0 +1,95 @@
+use crate::sample::{free, want};
+use onfi_cert::{LunNumber, Token};
+use onfi_group::Rules;
+use onfi_planner::{NoGate, PartGate, PlanFault, plan, plan_split};
+use onfi_problem::{Problem, ProblemFault};
+use onfi_samples::sample_timing;
+use onfi_timing::{Kind, Spans, Timing};
+use std::alloc::Global;
+use std::sync::atomic::{AtomicBool, Ordering};
+use std::test::Fail;
+
+// Holds part 0 until part 1 has begun, and gives up at last.
+#[derive(Drop)]
+struct Meeting {
+    begun: AtomicBool,
+    missed: AtomicBool,
+}
+
+impl Meeting {
+    fn wait(&self) {
+        for _ in 0..1_000_000_000u64 {
+            if self.begun.load(Ordering::SeqCst) {
+                return;
+            }
+        }
+        self.missed.store(true, Ordering::SeqCst);
+    }
+}
+
+impl PartGate for Meeting {
+    fn before(&self, part: usize) {
+        match part {
+            0 => self.wait(),
+            1 => self.begun.store(true, Ordering::SeqCst),
+            _ => {}
+        }
+    }
+}
+
+// Two reads of two planes, which stay apart since the gap is longer than the array time. Of the root's moves three don't
+// yield, and none of the parts below them has more than four nodes.
+fn reads_apart(alloc: Global) -> Result<Problem, ProblemFault> {
+    let timing = Timing {
+        read: Spans::new(140, 30100, 25100, 11000).unwrap_or(sample_timing().read),
+        ..sample_timing()
+    };
+    let wants = [want(0, Kind::Read, 0, 0), want(1, Kind::Read, 0, 1)];
+    let rules = Rules::new(true, true, false, 1);
+    Problem::new(alloc, timing, rules, 0, &[free(), free()], &wants)
+}
+
+#[test]
+fn the_second_part_begins_while_the_first_waits(rt: HostRuntime) -> Result<(), Fail> {
+    let problem = reads_apart(rt.alloc())?;
+    let gate = Meeting {
+        begun: AtomicBool::new(false),
+        missed: AtomicBool::new(false),
+    };
+    let planned = plan_split(&rt, rt.alloc(), &problem, 4, 2, &gate)?;
+    assert_eq!(rt; planned.finish, 72480);
+    assert!(rt; gate.begun.load(Ordering::SeqCst));
+    assert!(rt; !gate.missed.load(Ordering::SeqCst));
+    Ok(())
+}
+
+#[test]
+fn any_number_of_workers_gives_the_plan_of_one_search(rt: HostRuntime) -> Result<(), Fail> {
+    let problem = reads_apart(rt.alloc())?;
+    let alone = plan(rt.alloc(), &problem, 7)?;
+    for workers in 1..9usize {
+        let split = plan_split(&rt, rt.alloc(), &problem, 4, workers, &NoGate)?;
+        assert_eq!(rt; split.finish, alone.finish);
+        assert!(rt;
+            split.cert.as_slice() == alone.cert.as_slice(),
+            "by {workers}"
+        );
+        assert!(rt; alone.opened <= split.opened, "by {workers}");
+    }
+    let bound = [Token::Die(LunNumber::of(0))];
+    assert!(rt; alone.cert.as_slice() == bound.as_slice());
+    Ok(())
+}
+
+#[test]
+fn a_part_with_more_nodes_than_the_limit_is_over(rt: HostRuntime) -> Result<(), Fail> {
+    let problem = reads_apart(rt.alloc())?;
+    for workers in 1..9usize {
+        let over = plan_split(&rt, rt.alloc(), &problem, 3, workers, &NoGate);
+        assert!(rt;
+            matches!(over, Err(PlanFault::Over { opened: 3 })),
+            "by {workers}"
+        );
+    }
+    Ok(())
+}
