@@ -12,7 +12,7 @@ use Rattle.onfi_cert.specs.Text.{IsCertificate}
 use Rattle.onfi_check.specs.Tree.{AcceptsTokens}
 use Rattle.onfi_check.specs.Faults.{IsTextFault}
 use Rattle.onfi_check.specs.declared.fault.TextFault.{TextFault}
-use Rattle.onfi_planner.specs.Nodes.{HasMoreNodes}
+use Rattle.onfi_planner.specs.Nodes.{HasMoreNodes, IsSplitOver}
 use Rattle.onfi_planner.specs.Planning.{AreRising}
 use Rattle.onfi_script.specs.declared.command.Command.{Command}
 use Rattle.onfi_script.specs.declared.command.Command.TheVariants.{Plan, Check}
@@ -20,6 +20,7 @@ use Rattle.onfi_script.specs.declared.fault.ScriptFault.{ScriptFault}
 use Rattle.onfi_script.specs.declared.fault.ScriptFault.TheVariants.{NoEnd, OutOfRange, Problem as Fault}
 use Rattle.onfi_problem.specs.declared.fault.ProblemFault.TheVariants.{TooMany, BadLun, Clock}
 use Rattle.onfi_script.specs.declared.fault.Refusal.{Refusal}
+use Rattle.onfi_script.specs.declared.purpose.Purpose.TheVariants as for_a
 use Rattle.onfi_script.specs.declared.row.Row.{Row}
 use Rattle.onfi_script.specs.Row.{Record}
 use Rattle.onfi_script.specs.Rows.{rows_of}
@@ -61,9 +62,17 @@ abbrev pub Prints : Bool → Problem → Answer → Type 0
 Prints true p answer = Traces p answer
 Prints false p answer = Plans p answer
 
--- a plan, or where the tree of the problem has more nodes than may be opened, so many
-abbrev pub AnswersPlan : ℕ → Bool → Problem → Answer → Type 0
-AnswersPlan limit trace p answer = Prints trace p answer ⊎ (HasMoreNodes p limit × (answer ≡ over limit))
+-- one search with a limit tells that limit, where the tree of the problem has more nodes
+abbrev pub OneTells : ℕ → Problem → ℕ → Type 0
+OneTells limit p opened = (opened ≡ limit) × HasMoreNodes p limit
+
+-- several workers with a limit for each part tell as over what `plan_split` tells
+abbrev pub PartsTell : ℕ → Problem → ℕ → Type 0
+PartsTell limit p opened = IsSplitOver p limit opened
+
+-- a plan, or how many nodes were opened, where a search tells so
+abbrev pub AnswersPlan : (ℕ → Problem → ℕ → Type 0) → ℕ → Bool → Problem → Answer → Type 0
+AnswersPlan Tells limit trace p answer = Prints trace p answer ⊎ ((opened : ℕ) × Tells limit p opened × (answer ≡ over opened))
 
 -- the text is a certificate by which nothing ends before the schedule
 pub record IsAccepted (p : Problem) (s : Schedule) (text : List ℕ) : Type 0 where
@@ -84,40 +93,50 @@ abbrev pub AnswersCheck : Problem → List ℕ → Answer → Type 0
 AnswersCheck p text answer = MatchResult (plan_of p.wants text) (λ r. AnswersSchedule p (schedule_of p r.0) r.0.finish r.1 answer) (λ number. answer ≡ refused_at (codes "plan") number)
 
 -- what the command asks for; `check` reads the plan text behind the script
-abbrev pub AnswersCommand : Command → List ℕ → Problem → Answer → Type 0
-AnswersCommand (Plan limit trace) text p answer = AnswersPlan limit trace p answer
-AnswersCommand Check text p answer = AnswersCheck p text answer
+abbrev pub AnswersCommand : (ℕ → Problem → ℕ → Type 0) → Command → List ℕ → Problem → Answer → Type 0
+AnswersCommand Tells (Plan limit trace) text p answer = AnswersPlan Tells limit trace p answer
+AnswersCommand Tells Check text p answer = AnswersCheck p text answer
 
 -- the answer to a problem: its first fault, or what the command asks for
-pub data AnswersProblem (command : Command) (text : List ℕ) (p : Problem) (answer : Answer) : Type 0 where
-  is_too_many : (IsSmall p → ⊥) → Refuses (Fault TooMany) answer → AnswersProblem command text p answer
-  is_bad_lun : IsSmall p → (IsProblem p → ⊥) → Refuses (Fault BadLun) answer → AnswersProblem command text p answer
-  is_late : IsSmall p → IsProblem p → 2 ^ 62 ≤ horizon p → Refuses (Fault Clock) answer → AnswersProblem command text p answer
-  is_problem : InLimits p → AnswersCommand command text p answer → AnswersProblem command text p answer
+pub data AnswersProblem (Tells : ℕ → Problem → ℕ → Type 0) (command : Command) (text : List ℕ) (p : Problem) (answer : Answer) : Type 0 where
+  is_too_many : (IsSmall p → ⊥) → Refuses (Fault TooMany) answer → AnswersProblem Tells command text p answer
+  is_bad_lun : IsSmall p → (IsProblem p → ⊥) → Refuses (Fault BadLun) answer → AnswersProblem Tells command text p answer
+  is_late : IsSmall p → IsProblem p → 2 ^ 62 ≤ horizon p → Refuses (Fault Clock) answer → AnswersProblem Tells command text p answer
+  is_problem : InLimits p → AnswersCommand Tells command text p answer → AnswersProblem Tells command text p answer
 
 -- the answer to rows that are each in order: why they tell of no device, the first that names a LUN that isn't
 -- there, or the answer to what they set up
-pub data AnswersRows (command : Command) (text : List ℕ) (rows : List Row) (answer : Answer) : Type 0 where
-  has_no_device : (fault : ScriptFault) → TellsDevice rows (Err fault) → Refuses fault answer → AnswersRows command text rows answer
+pub data AnswersRows (Tells : ℕ → Problem → ℕ → Type 0) (command : Command) (text : List ℕ) (rows : List Row) (answer : Answer) : Type 0 where
+  has_no_device : (fault : ScriptFault) → TellsDevice rows (Err fault) → Refuses fault answer → AnswersRows Tells command text rows answer
   has_no_lun : (device : Device) (at : ℕ) → TellsDevice rows (Ok device) → position (names_absent device.luns) rows ≡ Some at
-      → answer ≡ refused (record { row = at + 1; fault = OutOfRange }) → AnswersRows command text rows answer
+      → answer ≡ refused (record { row = at + 1; fault = OutOfRange }) → AnswersRows Tells command text rows answer
   has_problem : (device : Device) (p : Problem) → TellsDevice rows (Ok device) → position (names_absent device.luns) rows ≡ None → SetsUp rows device p
-      → AnswersProblem command text p answer → AnswersRows command text rows answer
+      → AnswersProblem Tells command text p answer → AnswersRows Tells command text rows answer
 
 -- the answer to records: their first refused row, or the answer to all
-abbrev pub AnswersRecords : Command → List ℕ → List Record → Answer → Type 0
-AnswersRecords command text records answer = MatchResult (rows_of command records) (λ rows. AnswersRows command text rows answer) (λ refusal. answer ≡ refused refusal)
+abbrev pub AnswersRecords : (ℕ → Problem → ℕ → Type 0) → Command → List ℕ → List Record → Answer → Type 0
+AnswersRecords Tells command text records answer = MatchResult (rows_of for_a.Problem records) (λ rows. AnswersRows Tells command text rows answer) (λ refusal. answer ≡ refused refusal)
 
 -- the answers to an input: the one to the records that its script reads as and the text behind it, or that memory ran out
-abbrev pub IsAnswer : Command → List ℕ → Answer → Type 0
-IsAnswer command input answer = (answer ≡ memory)
+abbrev pub IsAnswerBy : (ℕ → Problem → ℕ → Type 0) → Command → List ℕ → Answer → Type 0
+IsAnswerBy Tells command input answer = (answer ≡ memory)
     ⊎ MatchOption (script_of input) (Refuses NoEnd answer)
-    (λ script. (records : List Record) × AreRecords default_config st.StartRecord (strip_bom script) records × AnswersRecords command (plan_text_of script input) records answer)
+    (λ script. (records : List Record) × AreRecords default_config st.StartRecord (strip_bom script) records × AnswersRecords Tells command (plan_text_of script input) records answer)
 
 -- the writer was given the answer to what the reader had, where both tell their bytes
-abbrev pub Answers : Command → Option (List ℕ) → Option (List ℕ) → Option (List ℕ) → ℕ → Type 0
-Answers command input old new status = IfSome input (λ xs. (answer : Answer) × IsAnswer command xs answer × (answer.status ≡ status) × Appends old new answer.text)
+abbrev pub AnswersBy : (ℕ → Problem → ℕ → Type 0) → Command → Option (List ℕ) → Option (List ℕ) → Option (List ℕ) → ℕ → Type 0
+AnswersBy Tells command input old new status = IfSome input (λ xs. (answer : Answer) × IsAnswerBy Tells command xs answer × (answer.status ≡ status) × Appends old new answer.text)
 
 -- the same of a beginning of it
+abbrev pub BeginsAnswerBy : (ℕ → Problem → ℕ → Type 0) → Command → Option (List ℕ) → Option (List ℕ) → Option (List ℕ) → Type 0
+BeginsAnswerBy Tells command input old new = IfSome input (λ xs. (answer : Answer) × (n : ℕ) × IsAnswerBy Tells command xs answer × Appends old new (take n answer.text))
+
+-- with one search
+abbrev pub IsAnswer : Command → List ℕ → Answer → Type 0
+IsAnswer command input answer = IsAnswerBy OneTells command input answer
+
+abbrev pub Answers : Command → Option (List ℕ) → Option (List ℕ) → Option (List ℕ) → ℕ → Type 0
+Answers command input old new status = AnswersBy OneTells command input old new status
+
 abbrev pub BeginsAnswer : Command → Option (List ℕ) → Option (List ℕ) → Option (List ℕ) → Type 0
-BeginsAnswer command input old new = IfSome input (λ xs. (answer : Answer) × (n : ℕ) × IsAnswer command xs answer × Appends old new (take n answer.text))
+BeginsAnswer command input old new = BeginsAnswerBy OneTells command input old new

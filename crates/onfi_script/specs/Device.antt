@@ -1,5 +1,5 @@
 -- The device of a script: how many LUNs it has, what may be grouped, and its phase lengths.
-use Rattle.std.specs.Prelude.{◌≡◌, ℕ, ◌<◌, ◌≤◌, ◌||◌, Bool, true, false, IsTrue, List, [], length, Option, Some, None, is_none, option_and_then, IsSomeAnd, Result, Err, MatchResult, MatchBool}
+use Rattle.std.specs.Prelude.{◌≡◌, ℕ, ◌<◌, ◌≤◌, ◌||◌, Bool, true, false, IsTrue, List, [], length, Option, Some, None, is_none, option_and_then, IsSomeAnd, Result, Ok, Err, MatchResult, MatchBool}
 use Rattle.std.specs.List.{flat_map, list_any}
 use Rattle.onfi_param.specs.declared.fault.PageFault.TheVariants.{Short, NoCopy}
 use Rattle.onfi_param.specs.Copies.{IsPageCopy, IsFirstCopy, copy_at}
@@ -14,6 +14,7 @@ use Rattle.onfi_timing.specs.declared.timing.Timing.{Timing}
 use Rattle.onfi_timing.specs.Kinds.{spans_of}
 use Rattle.onfi_timing.specs.Table.{IsTiming, IsTimingFault}
 use Rattle.onfi_script.specs.declared.device.Device.{Device}
+use Rattle.onfi_script.specs.declared.device.PageDevice.{PageDevice}
 use Rattle.onfi_script.specs.declared.fault.ScriptFault.{ScriptFault}
 use Rattle.onfi_script.specs.declared.fault.ScriptFault.TheVariants as fault
 use Rattle.onfi_script.specs.declared.row.Row.{Row}
@@ -75,18 +76,13 @@ bytes_in _ = []
 abbrev pub page_bytes : List Row → List ℕ
 page_bytes rows = flat_map bytes_in rows
 
--- page and sheet tell of this device
-pub record IsDescribed (bytes : List ℕ) (sheet : SheetOf) (device : Device) : Type 0 where
+-- page and sheet tell of chips of this geometry and timing
+pub record IsPageDevice (bytes : List ℕ) (sheet : SheetOf) (g : Geometry) (t : Timing) : Type 0 where
   pub page : List ℕ
   pub copy : IsFirstCopy bytes page
-  pub geometry : Geometry
   pub sound : NoFault page
-  pub layout : IsGeometryOf page geometry
-  pub timing : IsTiming page geometry sheet device.timing
-  pub luns : device.luns ≡ geometry.lun_count
-  pub plane_bits : device.plane_bits ≡ geometry.plane_address_bits
-  pub reads : device.reads ≡ geometry.multi_plane_reads
-  pub writes : device.writes ≡ geometry.multi_plane_writes
+  pub layout : IsGeometryOf page g
+  pub timing : IsTiming page g sheet t
 
 -- why page and sheet tell of none: no page, no geometry, or no phase lengths
 abbrev pub IsUndescribed : List ℕ → SheetOf → ScriptFault → Type 0
@@ -96,12 +92,24 @@ IsUndescribed bytes sheet (fault.Geometry f) = (page : List ℕ) × IsFirstCopy 
 IsUndescribed bytes sheet (fault.Sheet f) = (page : List ℕ) × IsFirstCopy bytes page × NoFault page × IsTimingFault sheet f
 IsUndescribed bytes sheet _ = ⊥
 
-abbrev pub TellsPage : List ℕ → SheetOf → Result Device ScriptFault → Type 0
-TellsPage bytes sheet told = MatchResult told (IsDescribed bytes sheet) (IsUndescribed bytes sheet)
+abbrev pub TellsPageDevice : List ℕ → SheetOf → Result PageDevice ScriptFault → Type 0
+TellsPageDevice bytes sheet told = MatchResult told (λ d. IsPageDevice bytes sheet d.geometry d.timing) (IsUndescribed bytes sheet)
 
--- the second form: without bytes of a page a row is missing
+-- the chips that the rows tell of, or why they tell of none: without bytes of a page a row is missing
+abbrev pub TellsChips : List Row → Result PageDevice ScriptFault → Type 0
+TellsChips rows told = MatchBool (list_any is_page rows) (TellsPageDevice (page_bytes rows) (seen rows).sheet told) (told ≡ Err fault.Missing)
+
+-- what a problem needs of such chips
+pub record IsDeviceOf (chips : PageDevice) (device : Device) : Type 0 where
+  pub timing : device.timing ≡ chips.timing
+  pub luns : device.luns ≡ chips.geometry.lun_count
+  pub plane_bits : device.plane_bits ≡ chips.geometry.plane_address_bits
+  pub reads : device.reads ≡ chips.geometry.multi_plane_reads
+  pub writes : device.writes ≡ chips.geometry.multi_plane_writes
+
+-- the second form: what a problem needs of the chips
 abbrev pub TellsSecond : List Row → Result Device ScriptFault → Type 0
-TellsSecond rows told = MatchBool (list_any is_page rows) (TellsPage (page_bytes rows) (seen rows).sheet told) (told ≡ Err fault.Missing)
+TellsSecond rows told = MatchResult told (λ device. (chips : PageDevice) × TellsChips rows (Ok chips) × IsDeviceOf chips device) (λ f. TellsChips rows (Err f))
 
 -- of no form: a row is missing
 abbrev pub TellsInForm : List Row → Option Form → Result Device ScriptFault → Type 0

@@ -3,9 +3,11 @@ pub mod Field
 pub mod RowParts
 pub mod RowName
 pub mod Row
+pub mod RunRow
 pub mod Subject
 pub mod Seen
 pub mod Rows
+pub mod Input
 pub mod Stop
 pub mod Device
 pub mod Setup

@@ -1,14 +1,15 @@
--- The names of rows, which command takes them, and how many fields each has.
-use Rattle.std.specs.Prelude.{ℕ, ◌==◌, ◌&&◌, nat_le, if◌then◌else◌, Bool, true, false, List, Option, Some, None, codes}
+-- The names of rows, what they are taken for, and how many fields each has.
+use Rattle.std.specs.Prelude.{ℕ, ◌==◌, ◌&&◌, nat_le, if◌then◌else◌, Bool, true, false, List, length, Option, Some, None, codes}
 use Rattle.std.specs.Str.{bytes_eq}
-use Rattle.onfi_script.specs.declared.command.Command.{Command}
-use Rattle.onfi_script.specs.declared.command.Command.TheVariants.{Plan, Check}
+use Rattle.onfi_script.specs.Field.{field}
+use Rattle.onfi_script.specs.declared.purpose.Purpose.{Purpose}
+use Rattle.onfi_script.specs.declared.purpose.Purpose.TheVariants.{Problem, Run}
 use Rattle.onfi_script.specs.declared.row_name.Form.{Form}
 use Rattle.onfi_script.specs.declared.row_name.Form.TheVariants.{First, Second}
 use Rattle.onfi_script.specs.declared.row_name.RowName.{RowName}
 use Rattle.onfi_script.specs.declared.row_name.RowName.TheVariants.{Shape, Spans, Page, Sheet, Bus, Free, Running, Want, Strict, Channels, Hosts, Batch, SubmitCap, PostCap, Op, Fault, ChipFail, NotReady}
 
--- the rows of the command `run` alone
+-- the rows that are taken for a run alone
 abbrev pub run_name_of : List ℕ → Option RowName
 run_name_of text =
     if bytes_eq text (codes "channels") then Some Channels
@@ -48,9 +49,25 @@ is_of_problem Want = true
 is_of_problem Strict = true
 is_of_problem _ = false
 
-abbrev pub is_taken : Command → RowName → Bool
-is_taken (Plan limit trace) name = is_of_problem name
-is_taken Check name = is_of_problem name
+-- the rows of a device, hosts and channels
+abbrev pub is_of_run : RowName → Bool
+is_of_run Page = true
+is_of_run Sheet = true
+is_of_run Strict = true
+is_of_run Channels = true
+is_of_run Hosts = true
+is_of_run Batch = true
+is_of_run SubmitCap = true
+is_of_run PostCap = true
+is_of_run Op = true
+is_of_run Fault = true
+is_of_run ChipFail = true
+is_of_run NotReady = true
+is_of_run _ = false
+
+abbrev pub is_taken : Purpose → RowName → Bool
+is_taken Problem name = is_of_problem name
+is_taken Run name = is_of_run name
 
 -- the form whose row it is
 abbrev pub form_of : RowName → Option Form
@@ -71,15 +88,32 @@ fits None form = true
 fits (Some own) None = true
 fits (Some own) (Some form) = is_form own form
 
--- how many fields a row may have, its name with them
-abbrev pub has_fields : RowName → ℕ → Bool
-has_fields Shape count = count == 5
-has_fields Spans count = count == 6
-has_fields Page count = count == 2
-has_fields Sheet count = count == 3
-has_fields Bus count = count == 2
-has_fields Free count = count == 3
-has_fields Running count = nat_le 7 count && nat_le count 10
-has_fields Want count = count == 5
-has_fields Strict count = count == 2
-has_fields _ count = false
+-- a row `op` has a field for the bytes of a program, and none for those of other kinds
+abbrev pub op_fields : List (List ℕ) → ℕ
+op_fields row = if bytes_eq (field row 3) (codes "program") then 8 else 7
+
+-- a row that is taken for a run alone has as many fields as it needs
+abbrev pub has_run_fields : RowName → List (List ℕ) → Bool
+has_run_fields Channels row = length row == 2
+has_run_fields Hosts row = length row == 2
+has_run_fields Batch row = length row == 2
+has_run_fields SubmitCap row = length row == 2
+has_run_fields PostCap row = length row == 2
+has_run_fields ChipFail row = length row == 3
+has_run_fields NotReady row = length row == 3
+has_run_fields Fault row = length row == 5
+has_run_fields Op row = length row == op_fields row
+has_run_fields _ row = false
+
+-- a row has as many fields as it needs, its name with them
+abbrev pub has_fields : RowName → List (List ℕ) → Bool
+has_fields Shape row = length row == 5
+has_fields Spans row = length row == 6
+has_fields Page row = length row == 2
+has_fields Sheet row = length row == 3
+has_fields Bus row = length row == 2
+has_fields Free row = length row == 3
+has_fields Running row = nat_le 7 (length row) && nat_le (length row) 10
+has_fields Want row = length row == 5
+has_fields Strict row = length row == 2
+has_fields name row = has_run_fields name row

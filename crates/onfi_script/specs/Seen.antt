@@ -1,5 +1,5 @@
--- What the rows so far show of a script: its form and its timing sheet.
-use Rattle.std.specs.Prelude.{List, Option, Some, None, fold, unwrap_or}
+-- What the rows so far show of a script: its form, its timing sheet, and how many operations may come.
+use Rattle.std.specs.Prelude.{◌-◌, if◌then◌else◌, List, Option, Some, None, fold, unwrap_or}
 use Rattle.std.specs.Option.{option_or}
 use Rattle.onfi_timing.specs.declared.sheet.Sheet.{Sheet as SheetOf}
 use Rattle.onfi_timing.specs.Sheet.{nothing}
@@ -8,6 +8,7 @@ use Rattle.onfi_script.specs.declared.row.Row.TheVariants.{Shape, Spans, Page, S
 use Rattle.onfi_script.specs.declared.row_name.Form.{Form}
 use Rattle.onfi_script.specs.declared.row_name.Form.TheVariants.{First, Second}
 use Rattle.onfi_script.specs.declared.seen.Seen.{Seen}
+use Rattle.onfi_script.specs.Subject.{is_op}
 
 -- the form whose row it is
 abbrev pub form_in : Row → Option Form
@@ -22,12 +23,12 @@ abbrev pub sheet_in : Row → Option SheetOf
 sheet_in (Sheet sheet) = Some sheet
 sheet_in _ = None
 
--- the form is that of the first row of one, the sheet that of the last row of it
+-- the form is that of the first row of one, the sheet that of the last row of it; at most 10,000 operations may come
 abbrev pub seen_after : Seen → Row → Seen
-seen_after seen row = record { form = option_or seen.form (form_in row); sheet = unwrap_or (sheet_in row) seen.sheet }
+seen_after seen row = record { form = option_or seen.form (form_in row); sheet = unwrap_or (sheet_in row) seen.sheet; ops_left = if is_op row then seen.ops_left - 1 else seen.ops_left }
 
 abbrev pub nothing_seen : Seen
-nothing_seen = record { form = None; sheet = nothing }
+nothing_seen = record { form = None; sheet = nothing; ops_left = 10000 }
 
 abbrev pub seen : List Row → Seen
 seen rows = fold seen_after nothing_seen rows

@@ -12,6 +12,8 @@ use Rattle.onfi_timing.specs.declared.fault.SheetFault.TheVariants as sheet
 use Rattle.onfi_problem.specs.declared.fault.ProblemFault.{ProblemFault}
 use Rattle.onfi_problem.specs.declared.fault.ProblemFault.TheVariants.{TooMany, BadLun, Clock, Memory}
 use Rattle.onfi_problem.specs.Problem.{Problem as ProblemOf}
+use Rattle.onfi_request.specs.declared.checking.RequestFault.{RequestFault}
+use Rattle.onfi_request.specs.declared.checking.RequestFault.TheVariants as request
 use Rattle.onfi_schedule.specs.Schedule.{Placed, Schedule}
 use Rattle.onfi_cert.specs.declared.token.Token.{Token}
 use Rattle.onfi_cert.specs.declared.fault.CertTextFault.{CertTextFault}
@@ -22,7 +24,7 @@ use Rattle.onfi_check.specs.declared.fault.CertFault.TheVariants as cert
 use Rattle.onfi_check.specs.declared.fault.TextFault.{TextFault}
 use Rattle.onfi_check.specs.declared.fault.TextFault.TheVariants as in_text
 use Rattle.onfi_script.specs.declared.fault.ScriptFault.{ScriptFault}
-use Rattle.onfi_script.specs.declared.fault.ScriptFault.TheVariants.{NoEnd, UnknownRow, FieldCount, NotANumber, OutOfRange, Repeated, Missing, Hex, Page, Geometry, Sheet, Problem, NotHere}
+use Rattle.onfi_script.specs.declared.fault.ScriptFault.TheVariants.{NoEnd, UnknownRow, FieldCount, NotANumber, OutOfRange, Repeated, Missing, Hex, Page, Geometry, Sheet, Problem, Request, NotHere}
 use Rattle.onfi_script.specs.declared.fault.Refusal.{Refusal}
 
 -- what is written, and the status that the program ends with
@@ -64,6 +66,12 @@ problem_name BadLun = codes "Problem BadLun"
 problem_name Clock = codes "Problem Clock"
 problem_name Memory = codes "Problem Memory"
 
+abbrev pub request_name : RequestFault → List ℕ
+request_name request.Lun = codes "Request Lun"
+request_name request.Block = codes "Request Block"
+request_name request.Page = codes "Request Page"
+request_name request.DataLength = codes "Request DataLength"
+
 abbrev pub name_of : ScriptFault → List ℕ
 name_of NoEnd = codes "NoEnd"
 name_of UnknownRow = codes "UnknownRow"
@@ -77,6 +85,7 @@ name_of (Page fault) = page_name fault
 name_of (Geometry fault) = geometry_name fault
 name_of (Sheet fault) = sheet_name fault
 name_of (Problem fault) = problem_name fault
+name_of (Request fault) = request_name fault
 name_of NotHere = codes "NotHere"
 
 abbrev pub refused : Refusal → Answer

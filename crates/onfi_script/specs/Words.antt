@@ -14,9 +14,13 @@ limit = record (new_rule (codes "limit")) { long = Some (codes "limit"); action 
 abbrev pub trace : Rule
 trace = record (new_rule (codes "trace")) { long = Some (codes "trace"); action = Some SetTrue }
 
--- `plan [--limit N] [--trace]`
+-- `--workers N`
+abbrev pub workers : Rule
+workers = record (new_rule (codes "workers")) { long = Some (codes "workers"); action = Some Set }
+
+-- `plan [--limit N] [--trace] [--workers N]`
 abbrev pub plan : App
-plan = with_rule (with_rule (new_app (codes "plan")) limit) trace
+plan = with_rule (with_rule (with_rule (new_app (codes "plan")) limit) trace) workers
 
 -- `check`
 abbrev pub check : App
@@ -34,16 +38,21 @@ abbrev pub IsLimit : Option (List ℕ) → ℕ → Type 0
 IsLimit None n = n ≡ 1048576
 IsLimit (Some text) n = number 1 1048576 text ≡ Ok n
 
+-- the number of workers that was given, 1 to 8; one where none was
+abbrev pub IsWorkers : Option (List ℕ) → ℕ → Type 0
+IsWorkers None n = n ≡ 1
+IsWorkers (Some text) n = number 1 8 text ≡ Ok n
+
 -- the flag was given: its value is the word true
 abbrev pub is_given : Option (List ℕ) → Bool
 is_given None = false
 is_given (Some text) = bytes_eq text (codes "true")
 
--- a subcommand with these arguments is this command
-abbrev pub IsNamed : Command → List ℕ → List Used → Type 0
-IsNamed (Plan n traced) name used = (name ≡ codes "plan") × IsLimit (first_of (codes "limit") used) n × (traced ≡ is_given (first_of (codes "trace") used))
-IsNamed Check name used = name ≡ codes "check"
+-- a subcommand with these arguments is this command, by so many workers
+abbrev pub IsNamed : Command → ℕ → List ℕ → List Used → Type 0
+IsNamed (Plan n traced) by name used = (name ≡ codes "plan") × IsLimit (first_of (codes "limit") used) n × (traced ≡ is_given (first_of (codes "trace") used)) × IsWorkers (first_of (codes "workers") used) by
+IsNamed Check by name used = (name ≡ codes "check") × (by ≡ 1)
 
--- the words, of which the first is the program's name, name this command
-abbrev pub Name : List (List ℕ) → Command → Type 0
-Name words command = IsSomeAnd (subcommand_of app words) (λ p. IsNamed command p.0 p.1)
+-- the words, of which the first is the program's name, name this command by so many workers
+abbrev pub Name : List (List ℕ) → Command → ℕ → Type 0
+Name words command by = IsSomeAnd (subcommand_of app words) (λ p. IsNamed command by p.0 p.1)

@@ -5,7 +5,7 @@ ghost use Rattle.csv.specs.Records.{fields_of};
 ghost use Rattle.onfi_problem.specs.Left.{InLimits};
 ghost use Rattle.onfi_schedule.specs.Schedule.{Optimal};
 ghost use Rattle.onfi_script.specs.Text.{planned as spec_planned};
-ghost use Rattle.onfi_script.specs.Answer.{AnswersCheck, AnswersCommand, AnswersPlan, AnswersSchedule, Traces, Refuses, AnswersProblem, AnswersRows, AnswersRecords, IsAnswer, Answers, BeginsAnswer};
+ghost use Rattle.onfi_script.specs.Answer.{AnswersCheck, AnswersCommand, AnswersPlan, AnswersSchedule, Traces, Refuses, AnswersProblem, AnswersRows, AnswersRecords, IsAnswerBy, Answers, AnswersBy, BeginsAnswer, BeginsAnswerBy, PartsTell};
 ghost use Rattle.onfi_script.specs.AnswerOf.{answer_of};
 ghost use Rattle.onfi_script.specs.Device.{TellsDevice};
 ghost use Rattle.onfi_script.specs.Limit.{IsLimited};
@@ -16,23 +16,26 @@ use crate::device::Device;
 use crate::fault::{Refusal, RowStop, ScriptFault, Stop};
 use crate::forms::device_of;
 use crate::plan_text::{PlanStop, read_plan};
+use crate::purpose::Purpose;
 use crate::row::Row;
 use crate::rows::rows;
 use crate::script::{behind_end, script_len};
+use crate::search::{One, Search, Team};
 use crate::setup::{Setup, absent, set_up};
 use crate::text::{
     Answer, accepted, over, plan_text, refused, refused_at, refused_for, text_refused,
 };
-use crate::transfer::{EngineFault, InputFault, read_all, write_text};
+use crate::transfer::{EngineFault, InputFault, read_all, tell};
 use csv::ByteRecord;
 use onfi_cert::write;
 use onfi_check::check_text;
-use onfi_planner::{PlanFault, Planned, plan};
+use onfi_planner::{PlanFault, Planned};
 use onfi_problem::{Problem, ProblemFault};
 use onfi_schedule::{Schedule, trace};
 use onfi_timing::read_records;
 use std::alloc::{AllocError, Global};
 use std::io::{Read, Write};
+use std::thread::Threads;
 
 /// The text of a plan, with its certificate behind it.
 fn plan_answer(alloc: Global, problem: &Problem, planned: &Planned) -> Result<Answer, AllocError>
@@ -59,13 +62,20 @@ fn trace_answer(alloc: Global, problem: &Problem, planned: &Planned) -> Result<A
     Ok(Answer { text, status: 0 })
 }
 
-/// The answer that plans a problem with a search of at most so many nodes.
-fn planned(alloc: Global, problem: &Problem, limit: u32, traced: bool) -> Result<Answer, AllocError>
+/// The answer that plans a problem by a search with this limit of nodes.
+fn planned<S: Search>(
+    alloc: Global,
+    search: &S,
+    problem: &Problem,
+    limit: u32,
+    traced: bool,
+) -> Result<Answer, AllocError>
+    requires ready { S.ready search.now }
     requires some { 1 ≤ limit }
     requires few { limit ≤ 1048576 }
-    ensures { IfOk result (λ a. AnswersPlan limit traced problem.now.problem (answer_of a)) }
+    ensures { IfOk result (λ a. AnswersPlan S.tells limit traced problem.now.problem (answer_of a)) }
 {
-    match plan(alloc, problem, limit) {
+    match search.plan(alloc, problem, limit) {
         Ok(planned) if traced => trace_answer(alloc, problem, &planned),
         Ok(planned) => plan_answer(alloc, problem, &planned),
         Err(PlanFault::Over { opened }) => over(alloc, opened),
@@ -107,18 +117,20 @@ fn checked(alloc: Global, problem: &Problem, text: &[u8]) -> Result<Answer, Allo
 }
 
 /// What the command asks for; `text` stands behind the script.
-fn commanded(
+fn commanded<S: Search>(
     alloc: Global,
+    search: &S,
     command: Command,
     text: &[u8],
     problem: &Problem,
 ) -> Result<Answer, AllocError>
+    requires ready { S.ready search.now }
     requires limit { IsLimited command }
     requires begun { problem.now.all ≡ problem.now.problem.wants }
-    ensures { IfOk result (λ a. AnswersCommand command text.now problem.now.problem (answer_of a)) }
+    ensures { IfOk result (λ a. AnswersCommand S.tells command text.now problem.now.problem (answer_of a)) }
 {
     match command {
-        Command::Plan { limit, trace } => planned(alloc, problem, limit, trace),
+        Command::Plan { limit, trace } => planned(alloc, search, problem, limit, trace),
         Command::Check => checked(alloc, problem, text),
     }
 }
@@ -145,14 +157,16 @@ fn refused_problem(alloc: Global, fault: ProblemFault) -> Result<Answer, AllocEr
 }
 
 /// The answer to what a script sets up.
-fn answer_problem(
+fn answer_problem<S: Search>(
     alloc: Global,
+    search: &S,
     command: Command,
     text: &[u8],
     setup: &Setup,
 ) -> Result<Answer, AllocError>
+    requires ready { S.ready search.now }
     requires limit { IsLimited command }
-    ensures { IfOk result (λ a. AnswersProblem command text.now (problem_of setup.now) (answer_of a)) }
+    ensures { IfOk result (λ a. AnswersProblem S.tells command text.now (problem_of setup.now) (answer_of a)) }
 {
     let problem = Problem::new(
         alloc,
@@ -165,7 +179,7 @@ fn answer_problem(
     match problem {
         Ok(problem) => {
             keeps_limits(&problem);
-            commanded(alloc, command, text, &problem)
+            commanded(alloc, search, command, text, &problem)
         }
         Err(ProblemFault::TooMany) => refused_problem(alloc, ProblemFault::TooMany),
         Err(ProblemFault::BadLun) => refused_problem(alloc, ProblemFault::BadLun),
@@ -175,16 +189,18 @@ fn answer_problem(
 }
 
 /// The answer to rows that are each in order, and that tell of this device.
-fn answer_device(
+fn answer_device<S: Search>(
     alloc: Global,
+    search: &S,
     command: Command,
     text: &[u8],
     rows: &[Row],
     device: &Device,
 ) -> Result<Answer, AllocError>
+    requires ready { S.ready search.now }
     requires limit { IsLimited command }
     requires told { TellsDevice rows.now (Ok device.now) }
-    ensures { IfOk result (λ a. AnswersRows command text.now rows.now (answer_of a)) }
+    ensures { IfOk result (λ a. AnswersRows S.tells command text.now rows.now (answer_of a)) }
 {
     if let Some(at) = absent(rows, device.luns) {
         return refused(
@@ -196,47 +212,57 @@ fn answer_device(
         );
     }
     let setup = set_up(alloc, rows, device)?;
-    answer_problem(alloc, command, text, &setup)
+    answer_problem(alloc, search, command, text, &setup)
 }
 
 /// The answer to rows that are each in order.
-fn answer_rows(
+fn answer_rows<S: Search>(
     alloc: Global,
+    search: &S,
     command: Command,
     text: &[u8],
     rows: &[Row],
 ) -> Result<Answer, AllocError>
+    requires ready { S.ready search.now }
     requires limit { IsLimited command }
-    ensures { IfOk result (λ a. AnswersRows command text.now rows.now (answer_of a)) }
+    ensures { IfOk result (λ a. AnswersRows S.tells command text.now rows.now (answer_of a)) }
 {
     match device_of(alloc, rows) {
-        Ok(device) => answer_device(alloc, command, text, rows, &device),
+        Ok(device) => answer_device(alloc, search, command, text, rows, &device),
         Err(RowStop::Fault(fault)) => refused_whole(alloc, fault),
         Err(RowStop::Memory) => Err(AllocError),
     }
 }
 
 /// The answer to the records of a script.
-fn answer_records(
+fn answer_records<S: Search>(
     alloc: Global,
+    search: &S,
     command: Command,
     text: &[u8],
     records: &[ByteRecord],
 ) -> Result<Answer, AllocError>
+    requires ready { S.ready search.now }
     requires limit { IsLimited command }
-    ensures { IfOk result (λ a. AnswersRecords command text.now (map fields_of records.now) (answer_of a)) }
+    ensures { IfOk result (λ a. AnswersRecords S.tells command text.now (map fields_of records.now) (answer_of a)) }
 {
-    match rows(alloc, command, records) {
-        Ok(rows) => answer_rows(alloc, command, text, rows.as_slice()),
+    match rows(alloc, Purpose::Problem, records) {
+        Ok(rows) => answer_rows(alloc, search, command, text, rows.as_slice()),
         Err(Stop::Refused(refusal)) => refused(alloc, refusal),
         Err(Stop::Memory) => Err(AllocError),
     }
 }
 
 /// The answer to an input.
-fn answer(alloc: Global, command: Command, input: &[u8]) -> Result<Answer, AllocError>
+fn answer<S: Search>(
+    alloc: Global,
+    search: &S,
+    command: Command,
+    input: &[u8],
+) -> Result<Answer, AllocError>
+    requires ready { S.ready search.now }
     requires limit { IsLimited command }
-    ensures { IfOk result (λ a. IsAnswer command input.now (answer_of a)) }
+    ensures { IfOk result (λ a. IsAnswerBy S.tells command input.now (answer_of a)) }
 {
     let Some(size) = script_len(input) else {
         return refused_whole(alloc, ScriptFault::NoEnd);
@@ -245,16 +271,7 @@ fn answer(alloc: Global, command: Command, input: &[u8]) -> Result<Answer, Alloc
     let Ok(found) = read_records(alloc, script) else {
         return Err(AllocError);
     };
-    answer_records(alloc, command, behind_end(closed), found.as_slice())
-}
-
-/// Writes a text, and answers the status that goes with it.
-fn tell<W: Write>(writer: &mut W, text: &[u8], status: u8) -> Result<u8, EngineFault>
-    ensures whole { IfOk result (λ s. (s ≡ status) × Appends (W.contents writer.old) (W.contents writer.new) text.now) }
-    ensures part { IfErr result (λ e. (e ≡ EngineFault.Write) × (n : ℕ) × Appends (W.contents writer.old) (W.contents writer.new) (take n text.now)) }
-{
-    write_text(writer, text)?;
-    Ok(status)
+    answer_records(alloc, search, command, behind_end(closed), found.as_slice())
 }
 
 /// Reads all that there is, and writes the answer to it and nothing else.
@@ -277,12 +294,58 @@ pub fn engine<R: Read, W: Write>(
     ensures unread { result ≡ Err EngineFault.Read → Keeps (W.contents writer.old) (W.contents writer.new) }
     ensures unwritten { result ≡ Err EngineFault.Write → BeginsAnswer command (R.remaining reader.old) (W.contents writer.old) (W.contents writer.new) }
 {
+    engine_by(alloc, &One, command, reader, writer)
+}
+
+/// What [`engine`] does for a plan, with the search of [`plan_split`](onfi_planner::plan_split) by so many workers, 1 to
+/// 8, and `limit` nodes, 1 to 1,048,576, for each part: the same text for any number of workers.
+///
+/// Answers the status that `engine` does: 6 where a part has more nodes than the limit, or the parts together have more
+/// than 1,048,575.
+///
+/// # Errors
+/// As `engine`.
+pub fn engine_split<T: Threads + Sync, R: Read, W: Write>(
+    rt: &T,
+    alloc: Global,
+    limit: u32,
+    trace: bool,
+    workers: usize,
+    reader: &mut R,
+    writer: &mut W,
+) -> Result<u8, EngineFault>
+    requires some { 1 ≤ limit }
+    requires few { limit ≤ 1048576 }
+    requires some_workers { 1 ≤ workers }
+    requires few_workers { workers ≤ 8 }
+    ensures answer { IfOk result (λ status. AnswersBy PartsTell (Command.Plan limit trace) (R.remaining reader.old) (W.contents writer.old) (W.contents writer.new) status) }
+    ensures unread { result ≡ Err EngineFault.Read → Keeps (W.contents writer.old) (W.contents writer.new) }
+    ensures unwritten { result ≡ Err EngineFault.Write → BeginsAnswerBy PartsTell (Command.Plan limit trace) (R.remaining reader.old) (W.contents writer.old) (W.contents writer.new) }
+{
+    let team = Team { rt, workers };
+    engine_by(alloc, &team, Command::Plan { limit, trace }, reader, writer)
+}
+
+/// Reads all that there is, and writes the answer to it, with this search, and nothing else.
+fn engine_by<S: Search, R: Read, W: Write>(
+    alloc: Global,
+    search: &S,
+    command: Command,
+    reader: &mut R,
+    writer: &mut W,
+) -> Result<u8, EngineFault>
+    requires ready { S.ready search.now }
+    requires limit { IsLimited command }
+    ensures answer { IfOk result (λ status. AnswersBy S.tells command (R.remaining reader.old) (W.contents writer.old) (W.contents writer.new) status) }
+    ensures unread { result ≡ Err EngineFault.Read → Keeps (W.contents writer.old) (W.contents writer.new) }
+    ensures unwritten { result ≡ Err EngineFault.Write → BeginsAnswerBy S.tells command (R.remaining reader.old) (W.contents writer.old) (W.contents writer.new) }
+{
     let input = match read_all(alloc, reader) {
         Ok(input) => input,
         Err(InputFault::Read) => return Err(EngineFault::Read),
         Err(InputFault::Memory) => return tell(writer, b"memory\n", 4),
     };
-    match answer(alloc, command, input.as_slice()) {
+    match answer(alloc, search, command, input.as_slice()) {
         Ok(answer) => tell(writer, answer.text.as_slice(), answer.status),
         Err(AllocError) => tell(writer, b"memory\n", 4),
     }

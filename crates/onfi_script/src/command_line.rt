@@ -20,8 +20,20 @@ pub enum WordsFault {
     Memory,
 }
 
+/// What a command line names.
+#[derive(Clone, Copy)]
+pub struct Named {
+    /// What to do with a script.
+    pub command: Command,
+    /// By how many workers a plan is searched, 1 to 8; one where none are named.
+    pub workers: usize,
+}
+
 /// The greatest limit of a search, and the one where none is named.
 const MOST: u32 = 1_048_576;
+
+/// As many workers as a search may have.
+const MOST_WORKERS: u64 = 8;
 
 /// `--NAME`
 fn option<'a>(alloc: Global, name: &'a str, action: ArgAction) -> Arg<'a>
@@ -31,12 +43,13 @@ fn option<'a>(alloc: Global, name: &'a str, action: ArgAction) -> Arg<'a>
     Arg::new(alloc, name).long(name).action(action)
 }
 
-/// The program with the command `plan [--limit N] [--trace]`.
+/// The program with the command `plan [--limit N] [--trace] [--workers N]`.
 fn with_plan<'a>(alloc: Global) -> Result<App<'a>, AllocError>
     ensures { IfOk result (λ a. app_of a ≡ spec.with_plan) }
 {
     let plan = App::new(alloc, "plan").arg(option(alloc, "limit", ArgAction::Set))?;
     let plan = plan.arg(option(alloc, "trace", ArgAction::SetTrue))?;
+    let plan = plan.arg(option(alloc, "workers", ArgAction::Set))?;
     App::new(alloc, "onfi_sim").subcommand(plan)
 }
 
@@ -58,6 +71,20 @@ fn limit_of(matches: &ArgMatches<'_>) -> Result<u32, WordsFault>
     };
     match number(text.as_bytes(), 1, u64::from(MOST)) {
         Ok(limit) => Ok(limit as u32),
+        Err(_) => Err(WordsFault::Refused),
+    }
+}
+
+/// A number of workers in its range, or one where none is named.
+fn workers_of(matches: &ArgMatches<'_>) -> Result<usize, WordsFault>
+    ensures range { IfOk result (λ n. (1 ≤ n) × (n ≤ 8)) }
+    ensures value { IfOk result (λ n. spec.IsWorkers (first_value (found_of matches.now) (codes "workers")) n) }
+{
+    let Some(text) = matches.get_str("workers") else {
+        return Ok(1);
+    };
+    match number(text.as_bytes(), 1, MOST_WORKERS) {
+        Ok(workers) => Ok(workers as usize),
         Err(_) => Err(WordsFault::Refused),
     }
 }
@@ -89,14 +116,15 @@ fn matches_of<'a>(alloc: Global, words: &'a [String]) -> Result<ArgMatches<'a>, 
     }
 }
 
-/// The command that the words name; the first word is the program's.
+/// What the words name; the first word is the program's.
 ///
 /// # Errors
 /// `Refused` where the words are no command line of the program, a call for help included; `Memory` where a growth
 /// was refused.
-pub fn words<'a>(alloc: Global, words: &'a [String]) -> Result<Command, WordsFault>
-    ensures limit { IfOk result (λ command. IsLimited command) }
-    ensures names { IfOk result (λ command. spec.Name (map string_bytes words.entry.now) command) }
+pub fn words<'a>(alloc: Global, words: &'a [String]) -> Result<Named, WordsFault>
+    ensures limit { IfOk result (λ named. IsLimited named.command) }
+    ensures workers { IfOk result (λ named. (1 ≤ named.workers) × (named.workers ≤ 8)) }
+    ensures names { IfOk result (λ named. spec.Name (map string_bytes words.entry.now) named.command named.workers) }
 {
     let matches = matches_of(alloc, words)?;
     let Some((name, used)) = matches.subcommand() else {
@@ -104,12 +132,16 @@ pub fn words<'a>(alloc: Global, words: &'a [String]) -> Result<Command, WordsFau
     };
     if name == "plan" {
         let limit = limit_of(used)?;
-        Ok(Command::Plan {
-            limit,
-            trace: is_traced(used),
-        })
+        let workers = workers_of(used)?;
+        let trace = is_traced(used);
+        let command = Command::Plan { limit, trace };
+        Ok(Named { command, workers })
     } else if name == "check" {
-        Ok(Command::Check)
+        let command = Command::Check;
+        Ok(Named {
+            command,
+            workers: 1,
+        })
     } else {
         Err(WordsFault::Refused)
     }

@@ -1,5 +1,6 @@
 ghost use Rattle.std.specs.Prelude.{◌≤◌};
 
+use onfi_addr::Geometry;
 use onfi_timing::Timing;
 
 /// What a script tells of its device.
@@ -17,4 +18,11 @@ pub struct Device {
     ghost some_luns: { 1 ≤ luns },
     ghost few_luns: { luns ≤ 8 },
     ghost few_planes: { plane_bits ≤ 2 },
+}
+
+/// The device that a parameter page and a timing sheet tell of.
+#[derive(Clone, Copy)]
+pub struct PageDevice {
+    pub geometry: Geometry,
+    pub timing: Timing,
 }

@@ -1,10 +1,11 @@
 ghost use Rattle.std.specs.Prelude.{◌≡◌};
 ghost use Rattle.onfi_script.specs.Stop.{stop_at};
-ghost use Rattle.onfi_script.specs.Text.{name_of, page_name, geometry_name, sheet_name, problem_name};
+ghost use Rattle.onfi_script.specs.Text.{name_of, page_name, geometry_name, sheet_name, problem_name, request_name};
 
 use onfi_addr::GeometryFault;
 use onfi_param::PageFault;
 use onfi_problem::ProblemFault;
+use onfi_request::RequestFault;
 use onfi_timing::SheetFault;
 
 /// Why a script is refused.
@@ -34,6 +35,8 @@ pub enum ScriptFault {
     Sheet(SheetFault),
     /// What the rows set up is no problem.
     Problem(ProblemFault),
+    /// The device doesn't take an operation.
+    Request(RequestFault),
     /// A row that the command or the form of the script does not take.
     NotHere,
 }
@@ -89,6 +92,17 @@ fn problem_name(fault: ProblemFault) -> &'static str
     }
 }
 
+fn request_name(fault: RequestFault) -> &'static str
+    ensures { result.now ≡ request_name fault }
+{
+    match fault {
+        RequestFault::Lun => "Request Lun",
+        RequestFault::Block => "Request Block",
+        RequestFault::Page => "Request Page",
+        RequestFault::DataLength => "Request DataLength",
+    }
+}
+
 impl ScriptFault {
     /// Its name in the line that refuses a script.
     pub fn name(self) -> &'static str
@@ -107,6 +121,7 @@ impl ScriptFault {
             ScriptFault::Geometry(fault) => geometry_name(fault),
             ScriptFault::Sheet(fault) => sheet_name(fault),
             ScriptFault::Problem(fault) => problem_name(fault),
+            ScriptFault::Request(fault) => request_name(fault),
             ScriptFault::NotHere => "NotHere",
         }
     }

@@ -6,7 +6,7 @@ ghost use Rattle.onfi_script.specs.Seen.{seen};
 ghost use Rattle.onfi_script.specs.Stop.{IfFault};
 ghost use Rattle.onfi_script.specs.Subject.{row_on as spec_row_on};
 
-use crate::device::Device;
+use crate::device::{Device, PageDevice};
 use crate::fault::{RowStop, ScriptFault};
 use crate::row::{Row, ShapeRow, Subject};
 use crate::row_name::Form;
@@ -90,9 +90,9 @@ fn page_bytes(alloc: Global, rows: &[Row]) -> Result<Vec<u8>, AllocError>
     Ok(bytes)
 }
 
-/// The device that page and sheet tell of.
-fn described(bytes: &[u8], sheet: &Sheet) -> Result<Device, ScriptFault>
-    ensures { spec.TellsPage bytes.now sheet.now result }
+/// The chips that page and sheet tell of.
+fn described(bytes: &[u8], sheet: &Sheet) -> Result<PageDevice, ScriptFault>
+    ensures { spec.TellsPageDevice bytes.now sheet.now result }
 {
     let page = match read_page(bytes) {
         Ok(page) => page,
@@ -106,19 +106,13 @@ fn described(bytes: &[u8], sheet: &Sheet) -> Result<Device, ScriptFault>
         Ok(timing) => timing,
         Err(fault) => return Err(ScriptFault::Sheet(fault)),
     };
-    Ok(Device {
-        luns: geometry.lun_count,
-        plane_bits: geometry.plane_address_bits,
-        reads: geometry.multi_plane_reads,
-        writes: geometry.multi_plane_writes,
-        timing,
-    })
+    Ok(PageDevice { geometry, timing })
 }
 
-/// The device of a script of the second form.
-fn second_form(alloc: Global, rows: &[Row], sheet: &Sheet) -> Result<Device, RowStop>
+/// The chips that rows with this sheet tell of.
+fn chips_of(alloc: Global, rows: &[Row], sheet: &Sheet) -> Result<PageDevice, RowStop>
     requires { sheet.now ≡ (seen rows.now).sheet }
-    ensures { MatchResult result (λ device. spec.TellsSecond rows.now (Ok device)) (λ stop. IfFault stop (λ fault. spec.TellsSecond rows.now (Err fault))) }
+    ensures { MatchResult result (λ device. spec.TellsChips rows.now (Ok device)) (λ stop. IfFault stop (λ fault. spec.TellsChips rows.now (Err fault))) }
 {
     if !has_page(rows) {
         return Err(RowStop::Fault(ScriptFault::Missing));
@@ -130,6 +124,32 @@ fn second_form(alloc: Global, rows: &[Row], sheet: &Sheet) -> Result<Device, Row
         Ok(device) => Ok(device),
         Err(fault) => Err(RowStop::Fault(fault)),
     }
+}
+
+/// The chips that the rows of a run tell of.
+///
+/// # Errors
+/// `Missing` where no row has bytes of a page, else what is wrong with page, geometry or sheet; want of memory.
+pub fn page_device(alloc: Global, rows: &[Row]) -> Result<PageDevice, RowStop>
+    ensures { MatchResult result (λ device. spec.TellsChips rows.now (Ok device)) (λ stop. IfFault stop (λ fault. spec.TellsChips rows.now (Err fault))) }
+{
+    let seen = Seen::of(rows);
+    chips_of(alloc, rows, &seen.sheet)
+}
+
+/// The device of a script of the second form.
+fn second_form(alloc: Global, rows: &[Row], sheet: &Sheet) -> Result<Device, RowStop>
+    requires { sheet.now ≡ (seen rows.now).sheet }
+    ensures { MatchResult result (λ device. spec.TellsSecond rows.now (Ok device)) (λ stop. IfFault stop (λ fault. spec.TellsSecond rows.now (Err fault))) }
+{
+    let PageDevice { geometry, timing } = chips_of(alloc, rows, sheet)?;
+    Ok(Device {
+        luns: geometry.lun_count,
+        plane_bits: geometry.plane_address_bits,
+        reads: geometry.multi_plane_reads,
+        writes: geometry.multi_plane_writes,
+        timing,
+    })
 }
 
 /// The device that the rows tell of.

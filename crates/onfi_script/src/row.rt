@@ -8,16 +8,18 @@ ghost use Rattle.onfi_script.specs.Stop.{IfFault};
 ghost use Rattle.onfi_script.specs.Device.{HasLengths, bytes_in, is_page};
 ghost use Rattle.onfi_script.specs.Setup.{names_absent, want_in, members, plane_of as spec_plane_of};
 ghost use Rattle.onfi_problem.specs.declared.lun_state.LunState.TheVariants.{Running};
-ghost use Rattle.onfi_script.specs.Subject.{subject_of, settles, is_subject, is_kind};
+ghost use Rattle.onfi_script.specs.Subject.{subject_of, settles, is_subject, is_kind, is_op};
 
+use crate::count::{Batch, Capacity, Few};
 use crate::fault::{RowStop, ScriptFault};
 use crate::field::{block, field, flag, kind, lun, page, small, span, time};
+use crate::operation::Operation;
 use crate::row_name::Form;
 use csv::ByteRecord;
 use hex::FromHexError;
 use onfi_group::Group;
 use onfi_problem::LunState;
-use onfi_request::Want;
+use onfi_request::{Fault, Want};
 use onfi_timing::{Kind, Sheet, Spans};
 use smallvec::SmallVec;
 use std::alloc::Global;
@@ -157,6 +159,42 @@ pub enum Row {
     Strict {
         strict: bool,
     },
+    /// How many channels there are.
+    Channels {
+        count: Few,
+    },
+    /// How many hosts there are.
+    Hosts {
+        count: Few,
+    },
+    /// How many wants one plan takes up.
+    Batch {
+        count: Batch,
+    },
+    /// How many items a submission queue holds.
+    SubmitCap {
+        count: Capacity,
+    },
+    /// How many replies a completion queue holds.
+    PostCap {
+        count: Capacity,
+    },
+    Op(Operation),
+    /// A program or erase of the channel's chip that fails.
+    Fault {
+        channel: u8,
+        fault: Fault,
+    },
+    /// The number, from 0, of a call whose bus fails.
+    ChipFail {
+        channel: u8,
+        number: u32,
+    },
+    /// The number, from 0, of a status call that tells of a LUN that isn't ready.
+    NotReady {
+        channel: u8,
+        number: u32,
+    },
 }
 
 /// What a row settles for a script; two rows that settle the same don't go together.
@@ -167,6 +205,11 @@ pub enum Subject {
     Bus,
     Lun(u8),
     Strict,
+    Channels,
+    Hosts,
+    Batch,
+    SubmitCap,
+    PostCap,
 }
 
 impl Row {
@@ -183,6 +226,22 @@ impl Row {
             Row::Running(row) => Some(Subject::Lun(row.lun())),
             Row::Want { .. } => None,
             Row::Strict { .. } => Some(Subject::Strict),
+            Row::Channels { .. } => Some(Subject::Channels),
+            Row::Hosts { .. } => Some(Subject::Hosts),
+            Row::Batch { .. } => Some(Subject::Batch),
+            Row::SubmitCap { .. } => Some(Subject::SubmitCap),
+            Row::PostCap { .. } => Some(Subject::PostCap),
+            Row::Op(_) | Row::Fault { .. } | Row::ChipFail { .. } | Row::NotReady { .. } => None,
+        }
+    }
+
+    /// Whether it is an operation of a host.
+    pub fn is_op(&self) -> bool
+        ensures { result ≡ is_op self.now }
+    {
+        match self {
+            Row::Op(_) => true,
+            _ => false,
         }
     }
 
@@ -280,7 +339,12 @@ impl Subject {
         match (self, other) {
             (Subject::Shape, Subject::Shape)
             | (Subject::Bus, Subject::Bus)
-            | (Subject::Strict, Subject::Strict) => true,
+            | (Subject::Strict, Subject::Strict)
+            | (Subject::Channels, Subject::Channels)
+            | (Subject::Hosts, Subject::Hosts)
+            | (Subject::Batch, Subject::Batch)
+            | (Subject::SubmitCap, Subject::SubmitCap)
+            | (Subject::PostCap, Subject::PostCap) => true,
             (Subject::Spans(kind), Subject::Spans(other)) => is_kind(kind, other),
             (Subject::Lun(lun), Subject::Lun(other)) => lun == other,
             _ => false,

@@ -1,8 +1,10 @@
 ghost use Rattle.std.specs.Prelude.{◌≡◌};
+ghost use Rattle.csv.specs.Records.{fields_of};
 ghost use Rattle.onfi_script.specs.RowName as spec;
 
-use crate::command::Command;
-use crate::field::is_word;
+use crate::field::{field, is_word};
+use crate::purpose::Purpose;
+use csv::ByteRecord;
 
 /// The name that a row of a script begins with.
 #[derive(Clone, Copy)]
@@ -103,23 +105,52 @@ impl RowName {
         }
     }
 
-    /// Whether the command takes rows of this name.
-    pub fn is_taken(self, command: Command) -> bool
-        ensures { result ≡ spec.is_taken command self }
+    /// Whether it tells of a problem.
+    fn is_of_problem(self) -> bool
+        ensures { result ≡ spec.is_of_problem self }
     {
-        match command {
-            Command::Plan { .. } | Command::Check => matches!(
-                self,
-                RowName::Shape
-                    | RowName::Spans
-                    | RowName::Page
-                    | RowName::Sheet
-                    | RowName::Bus
-                    | RowName::Free
-                    | RowName::Running
-                    | RowName::Want
-                    | RowName::Strict
-            ),
+        matches!(
+            self,
+            RowName::Shape
+                | RowName::Spans
+                | RowName::Page
+                | RowName::Sheet
+                | RowName::Bus
+                | RowName::Free
+                | RowName::Running
+                | RowName::Want
+                | RowName::Strict
+        )
+    }
+
+    /// Whether it tells of hosts and channels, or of their device.
+    fn is_of_run(self) -> bool
+        ensures { result ≡ spec.is_of_run self }
+    {
+        matches!(
+            self,
+            RowName::Page
+                | RowName::Sheet
+                | RowName::Strict
+                | RowName::Channels
+                | RowName::Hosts
+                | RowName::Batch
+                | RowName::SubmitCap
+                | RowName::PostCap
+                | RowName::Op
+                | RowName::Fault
+                | RowName::ChipFail
+                | RowName::NotReady
+        )
+    }
+
+    /// Whether rows of this name are taken for that purpose.
+    pub fn is_taken(self, purpose: Purpose) -> bool
+        ensures { result ≡ spec.is_taken purpose self }
+    {
+        match purpose {
+            Purpose::Problem => self.is_of_problem(),
+            Purpose::Run => self.is_of_run(),
         }
     }
 
@@ -144,17 +175,47 @@ impl RowName {
         }
     }
 
-    /// Whether its rows may have that many fields, the name with them.
-    pub fn has_fields(self, count: usize) -> bool
-        ensures { result ≡ spec.has_fields self count }
+    /// Whether a row of this name has as many fields as it needs, the name with them.
+    pub fn has_fields(self, row: &ByteRecord) -> bool
+        ensures { result ≡ spec.has_fields self (fields_of row.now) }
     {
+        let count = row.len();
         match self {
             RowName::Page | RowName::Bus | RowName::Strict => count == 2,
             RowName::Sheet | RowName::Free => count == 3,
             RowName::Shape | RowName::Want => count == 5,
             RowName::Spans => count == 6,
             RowName::Running => 7 <= count && count <= 10,
+            _ => self.has_run_fields(row),
+        }
+    }
+
+    /// The same of a row that is taken for a run alone.
+    fn has_run_fields(self, row: &ByteRecord) -> bool
+        ensures { result ≡ spec.has_run_fields self (fields_of row.now) }
+    {
+        let count = row.len();
+        match self {
+            RowName::Channels
+            | RowName::Hosts
+            | RowName::Batch
+            | RowName::SubmitCap
+            | RowName::PostCap => count == 2,
+            RowName::ChipFail | RowName::NotReady => count == 3,
+            RowName::Fault => count == 5,
+            RowName::Op => count == op_fields(row),
             _ => false,
         }
+    }
+}
+
+/// How many fields a row `op` needs: one more for the bytes of a program.
+fn op_fields(row: &ByteRecord) -> usize
+    ensures { result ≡ spec.op_fields (fields_of row.now) }
+{
+    if is_word(field(row, 3), "program") {
+        8
+    } else {
+        7
     }
 }

@@ -5,12 +5,17 @@ use crate::row::Row;
 use crate::row_name::Form;
 use onfi_timing::Sheet;
 
+/// The most operations of a script.
+const MOST_OPS: u16 = 10_000;
+
 /// What the rows so far show of a script.
 #[derive(Clone, Copy)]
 pub struct Seen {
     /// The form of the script, where a row told it.
     pub form: Option<Form>,
     pub sheet: Sheet,
+    /// How many operations may come.
+    pub ops_left: u16,
 }
 
 impl Seen {
@@ -21,6 +26,7 @@ impl Seen {
         Seen {
             form: None,
             sheet: Sheet::new(),
+            ops_left: MOST_OPS,
         }
     }
 
@@ -31,6 +37,11 @@ impl Seen {
         Seen {
             form: self.form.or(row.form()),
             sheet: row.sheet().unwrap_or(self.sheet),
+            ops_left: if row.is_op() {
+                self.ops_left.saturating_sub(1)
+            } else {
+                self.ops_left
+            },
         }
     }
 

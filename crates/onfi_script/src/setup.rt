@@ -36,7 +36,7 @@ fn bus_free(rows: &[Row]) -> u64
 }
 
 /// Whether groups are strict.
-fn is_strict(rows: &[Row]) -> bool
+pub fn is_strict(rows: &[Row]) -> bool
     ensures { result ≡ spec.strict_from (spec_row_on on.Strict rows.now) }
 {
     match row_on(rows, Subject::Strict) {

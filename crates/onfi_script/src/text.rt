@@ -20,6 +20,9 @@ pub struct Answer {
 }
 
 /// The line that refuses a script.
+///
+/// # Errors
+/// Want of memory.
 pub fn refused(alloc: Global, refusal: Refusal) -> Result<Answer, AllocError>
     ensures { IfOk result (λ a. answer_of a ≡ spec.refused refusal) }
 {
@@ -117,7 +120,15 @@ pub fn text_refused(alloc: Global, fault: TextFault) -> Result<Answer, AllocErro
 }
 
 /// Puts a mark and a number behind a text.
-fn put_number(alloc: Global, text: &mut String, mark: &str, number: u64) -> Result<(), AllocError>
+///
+/// # Errors
+/// Want of memory.
+pub fn put_number(
+    alloc: Global,
+    text: &mut String,
+    mark: &str,
+    number: u64,
+) -> Result<(), AllocError>
     ensures { OnOk result (string_bytes text.new ≡ string_bytes text.old ++ (mark.now ++ decimal number)) }
 {
     let piece = format!(in alloc; "{mark}{number}")?;

@@ -1,7 +1,7 @@
-use onfi_script::{Command, WordsFault, words};
+use onfi_script::{Command, Named, WordsFault, words};
 use std::alloc::Global;
 
-fn asked(alloc: Global, line: &str) -> Option<Result<Command, WordsFault>> {
+fn asked(alloc: Global, line: &str) -> Option<Result<Named, WordsFault>> {
     let mut given = Vec::new(alloc);
     for word in line.split(' ') {
         given.push(String::from_str(alloc, word).ok()?).ok()?;
@@ -9,10 +9,17 @@ fn asked(alloc: Global, line: &str) -> Option<Result<Command, WordsFault>> {
     Some(words(alloc, given.as_slice()))
 }
 
-// Whether a command line asks for a plan within a limit, with or without its trace.
-fn asks_plan(alloc: Global, line: &str, within: u32, traced: bool) -> bool {
+// Whether a command line asks for a plan within a limit, with or without its trace, by so many workers.
+fn asks_plan(alloc: Global, line: &str, within: u32, traced: bool, by: usize) -> bool {
     match asked(alloc, line) {
-        Some(Ok(Command::Plan { limit, trace })) => limit == within && trace == traced,
+        Some(
+            Ok(
+                Named {
+                    command: Command::Plan { limit, trace },
+                    workers,
+                },
+            ),
+        ) => limit == within && trace == traced && workers == by,
         _ => false,
     }
 }
@@ -20,10 +27,20 @@ fn asks_plan(alloc: Global, line: &str, within: u32, traced: bool) -> bool {
 #[test]
 fn reads_the_command_line(rt: HostRuntime) {
     let alloc = rt.alloc();
-    assert!(rt; asks_plan(alloc, "onfi_sim plan", 1_048_576, false));
-    assert!(rt; asks_plan(alloc, "onfi_sim plan --limit 7", 7, false));
-    assert!(rt; asks_plan(alloc, "onfi_sim plan --limit 6 --trace", 6, true));
-    assert!(rt; matches!(asked(alloc, "onfi_sim check"), Some(Ok(Command::Check))));
+    assert!(rt; asks_plan(alloc, "onfi_sim plan", 1_048_576, false, 1));
+    assert!(rt; asks_plan(alloc, "onfi_sim plan --limit 7", 7, false, 1));
+    assert!(rt; asks_plan(alloc, "onfi_sim plan --limit 6 --trace", 6, true, 1));
+    assert!(rt; asks_plan(alloc, "onfi_sim plan --workers 1", 1_048_576, false, 1));
+    assert!(rt; asks_plan(alloc, "onfi_sim plan --workers 8 --limit 5", 5, false, 8));
+    assert!(rt;
+        matches!(
+            asked(alloc, "onfi_sim check"),
+            Some(Ok(Named {
+                command: Command::Check,
+                workers: 1
+            }))
+        )
+    );
     let table = "\
         onfi_sim\n\
         onfi_sim --limit 7 plan\n\
@@ -31,6 +48,11 @@ fn reads_the_command_line(rt: HostRuntime) {
         onfi_sim plan --limit 1048577\n\
         onfi_sim plan --limit +7\n\
         onfi_sim plan --limit 7 --limit 7\n\
+        onfi_sim plan --workers 0\n\
+        onfi_sim plan --workers 9\n\
+        onfi_sim plan --workers +2\n\
+        onfi_sim plan --workers 2 --workers 2\n\
+        onfi_sim check --workers 2\n\
         onfi_sim plan extra\n\
         onfi_sim plan --trace --trace\n\
         onfi_sim plan --tracer\n\

@@ -1,17 +1,21 @@
 // Plans ONFI channels and checks plans: reads a script from standard input and writes its answer to standard output.
 #![tactic(auto)]
 
-ghost use Rattle.std.specs.Prelude.{IfOk};
+ghost use Rattle.std.specs.Prelude.{◌≤◌, IfOk};
 ghost use Rattle.onfi_script.specs.Limit.{IsLimited};
 
-use onfi_script::{Command, EngineFault, WordsFault, engine, words};
+use onfi_script::{Command, EngineFault, Named, WordsFault, engine, engine_split, words};
+use std::io::ErrorKind;
 use std::process::ExitCode;
 
-fn asked(rt: &(impl std::rt::Env + AllocGlobal)) -> Result<Command, WordsFault>
-    ensures { IfOk result (λ command. IsLimited command) }
+fn asked(rt: &(impl std::rt::Env + AllocGlobal)) -> Result<Named, WordsFault>
+    ensures limit { IfOk result (λ named. IsLimited named.command) }
+    ensures workers { IfOk result (λ named. (1 ≤ named.workers) × (named.workers ≤ 8)) }
 {
-    let Ok(args) = std::env::args(rt) else {
-        return Err(WordsFault::Refused);
+    let args = match std::env::args(rt) {
+        Ok(args) => args,
+        Err(fault) if fault.kind() == ErrorKind::OutOfMemory => return Err(WordsFault::Memory),
+        Err(_) => return Err(WordsFault::Refused),
     };
     let Ok(given) = args.collect::<Vec<String>>(rt.alloc()) else {
         return Err(WordsFault::Memory);
@@ -20,19 +24,28 @@ fn asked(rt: &(impl std::rt::Env + AllocGlobal)) -> Result<Command, WordsFault>
 }
 
 fn main(rt: HostRuntime) -> ExitCode {
-    let command = match asked(&rt) {
-        Ok(command) => command,
+    let Named { command, workers } = match asked(&rt) {
+        Ok(named) => named,
         Err(WordsFault::Memory) => {
             let _ = rt.println("memory");
             return ExitCode::from(4);
         }
         Err(WordsFault::Refused) => {
-            let _ = rt.eprintln("usage: onfi_sim plan [--limit N] [--trace] | onfi_sim check");
+            let _ = rt.eprintln(
+                "usage: onfi_sim plan [--limit N] [--trace] [--workers N] | onfi_sim check",
+            );
             return ExitCode::from(5);
         }
     };
     let (mut reader, mut writer) = (rt.reader(), std::io::writer(&rt));
-    match engine(rt.alloc(), command, &mut reader, &mut writer) {
+    let answered = match command {
+        Command::Plan { limit, trace } if workers > 1 => {
+            let alloc = rt.alloc();
+            engine_split(&rt, alloc, limit, trace, workers, &mut reader, &mut writer)
+        }
+        _ => engine(rt.alloc(), command, &mut reader, &mut writer),
+    };
+    match answered {
         Ok(status) => ExitCode::from(status),
         Err(EngineFault::Read) | Err(EngineFault::Write) => ExitCode::from(7),
     }

@@ -15,5 +15,6 @@ returns-then-eq-clause-names c =
     let used = c.in-Some.ensures.rows ∙ ap (option_map (λ p. p.1)) same in
     let plan : c.in-Some.name.now ≡ codes "plan" = (bytes_eq-Decides c.in-Some.name.now (codes "plan")).0 (sym c.eq.ensures ∙ c.if-eq.true) in
     let limit = rw first_value-rows at c.in_ok-limit.ensures.value in
-    let trace = rw first_value-rows at c.is_traced.ensures in
-    named found c.in-Some.name.now (rows_of (found_of c.in-Some.used.now)) c.in_ok-limit.limit c.is_traced.result name used plan limit trace
+    let workers = rw first_value-rows at c.in_ok-workers.ensures.value in
+    let trace = rw first_value-rows at c.is_traced-trace.ensures in
+    named found c.in-Some.name.now (rows_of (found_of c.in-Some.used.now)) c.in_ok-limit.limit c.is_traced-trace.result c.in_ok-workers.workers name used plan limit trace workers

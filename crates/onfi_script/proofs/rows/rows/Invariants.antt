@@ -6,7 +6,7 @@ use Rattle.onfi_script.proofs.rows.rows.Given as goal
 
 abbrev pub invariant-loop-at : goal.invariant-loop-at
 invariant-loop-at l = record {
-  read : rows_of l.command (map fields_of l.records) ≡ rows_after l.command l.rows.items (map fields_of (drop l.at l.records));
+  read : rows_of l.purpose (map fields_of l.records) ≡ rows_after l.purpose l.rows.items (map fields_of (drop l.at l.records));
   len : length l.rows.items ≡ l.at;
   seen : l.seen ≡ seen l.rows.items;
 }

@@ -1,0 +1,99 @@
+-- What a row that is taken for a run alone says.
+use Rattle.std.specs.Prelude.{ℕ, ◌==◌, if◌then◌else◌, List, [], ◌∷◌, Result, Ok, Err}
+use Rattle.hex.specs.Hex.{decode_of}
+use Rattle.hex.specs.declared.error.FromHexError.{FromHexError}
+use Rattle.onfi_script.specs.declared.fault.ScriptFault.{ScriptFault}
+use Rattle.onfi_script.specs.declared.fault.ScriptFault.TheVariants.{Hex}
+use Rattle.onfi_script.specs.declared.operation.Aim.{Aim}
+use Rattle.onfi_script.specs.declared.operation.Content.{Content}
+use Rattle.onfi_script.specs.declared.operation.Content.TheVariants.{Given, Filled}
+use Rattle.onfi_script.specs.declared.row.Row.{Row}
+use Rattle.onfi_script.specs.declared.row.Row.TheVariants.{Channels, Hosts, Batch, SubmitCap, PostCap, Op, Fault, ChipFail, NotReady}
+use Rattle.onfi_script.specs.Field.{given, field, number, kind, lun, block, page}
+use Rattle.onfi_script.specs.Row.{Record}
+
+-- how many places a queue has
+abbrev pub capacity : List ℕ → Result ℕ ScriptFault
+capacity text = number 1 1024 text
+
+-- how many channels or hosts there are
+abbrev pub few : List ℕ → Result ℕ ScriptFault
+few text = number 1 4 text
+
+-- how many wants one plan takes up
+abbrev pub batch : List ℕ → Result ℕ ScriptFault
+batch text = number 1 8 text
+
+-- the number of a call, below 2^32
+abbrev pub call_number : List ℕ → Result ℕ ScriptFault
+call_number text = number 0 4294967295 text
+
+-- the number of a channel or a host
+abbrev pub end_number : List ℕ → Result ℕ ScriptFault
+end_number text = number 0 3 text
+
+abbrev pub channels_row : Record → Result Row ScriptFault
+channels_row row = given (few (field row 1)) (λ count. Ok (Channels count))
+
+abbrev pub hosts_row : Record → Result Row ScriptFault
+hosts_row row = given (few (field row 1)) (λ count. Ok (Hosts count))
+
+abbrev pub batch_row : Record → Result Row ScriptFault
+batch_row row = given (batch (field row 1)) (λ count. Ok (Batch count))
+
+abbrev pub submit_cap_row : Record → Result Row ScriptFault
+submit_cap_row row = given (capacity (field row 1)) (λ count. Ok (SubmitCap count))
+
+abbrev pub post_cap_row : Record → Result Row ScriptFault
+post_cap_row row = given (capacity (field row 1)) (λ count. Ok (PostCap count))
+
+abbrev pub chip_fail_row : Record → Result Row ScriptFault
+chip_fail_row row = given (end_number (field row 1)) (λ channel. given (call_number (field row 2)) (λ number. Ok (ChipFail channel number)))
+
+abbrev pub not_ready_row : Record → Result Row ScriptFault
+not_ready_row row = given (end_number (field row 1)) (λ channel. given (call_number (field row 2)) (λ number. Ok (NotReady channel number)))
+
+abbrev pub fault_row : Record → Result Row ScriptFault
+fault_row row =
+    given (end_number (field row 1)) (λ channel.
+    given (lun (field row 2)) (λ lun.
+    given (block (field row 3)) (λ block.
+    given (call_number (field row 4)) (λ number.
+    Ok (Fault channel (record { lun = lun; block = block; number = number }))))))
+
+-- bytes in hexadecimal
+abbrev pub in_hex : Result (List ℕ) FromHexError → Result (List ℕ) ScriptFault
+in_hex (Ok bytes) = Ok bytes
+in_hex (Err fault) = Err Hex
+
+abbrev pub hex_bytes : List ℕ → Result (List ℕ) ScriptFault
+hex_bytes text = in_hex (decode_of text)
+
+-- the only one of the bytes
+abbrev pub only : List ℕ → Result ℕ ScriptFault
+only [] = Err Hex
+only (byte ∷ []) = Ok byte
+only (byte ∷ other ∷ bytes) = Err Hex
+
+-- a page of one byte
+abbrev pub filled : List ℕ → Result Content ScriptFault
+filled digits = given (hex_bytes digits) (λ bytes. given (only bytes) (λ byte. Ok (Filled byte)))
+
+-- bytes in hexadecimal, or behind a star the one byte of a whole page
+abbrev pub content : List ℕ → Result Content ScriptFault
+content [] = given (hex_bytes []) (λ bytes. Ok (Given bytes))
+content (c ∷ text) = if c == 42 then filled text else given (hex_bytes (c ∷ text)) (λ bytes. Ok (Given bytes))
+
+-- who asks which channel for what
+abbrev pub aim : Record → Result Aim ScriptFault
+aim row =
+    given (end_number (field row 1)) (λ host.
+    given (end_number (field row 2)) (λ channel.
+    given (kind (field row 3)) (λ kind.
+    given (lun (field row 4)) (λ lun.
+    given (block (field row 5)) (λ block.
+    given (page (field row 6)) (λ page.
+    Ok (record { host = host; channel = channel; kind = kind; place = record { lun = lun; block = block; page = page } })))))))
+
+abbrev pub op_row : Record → Result Row ScriptFault
+op_row row = given (aim row) (λ aim. given (content (field row 7)) (λ content. Ok (Op (record { aim = aim; content = content }))))

@@ -1,0 +1,8 @@
+/// What the rows of a script are read for.
+#[derive(Clone, Copy)]
+pub enum Purpose {
+    /// A problem, which is planned or whose plan is checked.
+    Problem,
+    /// Operations of hosts, which are run on channels.
+    Run,
+}
