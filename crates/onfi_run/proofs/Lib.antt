@@ -1,0 +1,5 @@
+pub mod Numbered
+pub mod Rows
+pub mod OnDevice
+pub mod Ports
+pub mod Links

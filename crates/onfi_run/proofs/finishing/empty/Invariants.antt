@@ -1,0 +1,6 @@
+use Rattle.std.proofs.Common.{◌≡◌}
+use Rattle.onfi_run.specs.Keys.{queues_of}
+use Rattle.onfi_run.proofs.finishing.empty.Given as goal
+
+abbrev pub invariant-loop : goal.invariant-loop
+invariant-loop g l = queues_of l.inboxes ≡ queues_of l.fn.inboxes

@@ -1,0 +1,17 @@
+use Rattle.std.proofs.Common.{◌++◌, ap, ◌∙◌}
+use Rattle.std.specs.Prelude.{string_bytes}
+use Rattle.onfi_run.specs.Report.{answers_lines}
+use Rattle.onfi_run.proofs.Numbered.{numbered_none, numbered_more, numbered_all}
+use Rattle.onfi_run.proofs.text.put_got.Goals as goal
+
+pub loop-channel-init : goal.loop-channel-init
+loop-channel-init c = numbered_none (answers_lines c.args.host) c.args.got.now (string_bytes c.args.text.now)
+
+pub loop-channel-preserved : goal.loop-channel-preserved
+loop-channel-preserved c =
+    numbered_more (answers_lines c.args.host) c.args.got.now c.loop-channel.channel c.index-got-channel.result (string_bytes c.args.text.now) (string_bytes c.loop-channel.text) (string_bytes c.put_answers.new.text)
+    c.loop-channel-test.true c.loop-channel.invariant
+    (c.in_ok-put_answers.ensures ∙ ap (λ l. string_bytes c.loop-channel.text ++ answers_lines c.args.host c.loop-channel.channel l) (c.as_slice.ensures ∙ c.index-got-channel.is))
+
+pub returns : goal.returns
+returns c = numbered_all (answers_lines c.args.host) c.args.got.now c.loop-channel.channel (string_bytes c.args.text.now) (string_bytes c.loop-channel.text) c.loop-channel-test.false c.loop-channel.invariant

@@ -1,0 +1,68 @@
+-- Which ends of queues belong together.
+use Rattle.std.specs.Prelude.{◌≡◌, ℕ, Bool, true, false, List, length, map, Option, Some, slice_get}
+use Rattle.atomic_table.specs.Seated.{TableId}
+use Rattle.onfi_request.specs.declared.reply.Reply.{Reply}
+use Rattle.onfi_queue.specs.Ends.{HostView, AreHostsOf}
+use Rattle.onfi_reply.specs.Ends.{InboxView, after_collecting}
+use Rattle.onfi_run.specs.declared.port.Port.{Port}
+use Rattle.onfi_run.specs.declared.station.Stations.{Stations}
+use Rattle.onfi_run.specs.Answers.{with_reply}
+
+-- the queues of a channel: the submission queue, and the completion queue of each host
+pub record ChannelQueues : Type 0 where
+  pub requests : TableId
+  pub replies : List TableId
+
+-- a host's ends on a channel: the submission queue, the host's number there, its completion queue, and how many hosts the channel has
+pub record PortKey : Type 0 where
+  pub queue : TableId
+  pub number : ℕ
+  pub inbox : Option TableId
+  pub hosts : ℕ
+
+abbrev pub port_key : Port → PortKey
+port_key p = record { queue = p.host.queue; number = p.host.number; inbox = Some p.inbox.queue; hosts = 4 }
+
+-- the ends of that host on a channel
+abbrev pub end_of : ℕ → ChannelQueues → PortKey
+end_of host q = record { queue = q.requests; number = host; inbox = slice_get q.replies host; hosts = length q.replies }
+
+-- the next reply is with the answers
+pub record TookReply (old new : Port) : Type 0 where
+  pub reply : Reply
+  pub inbox : new.inbox ≡ after_collecting old.inbox reply
+  pub answers : new.answers ≡ with_reply old.answers reply
+
+-- a reply was collected, or none was to be had
+abbrev pub Collects : Bool → Port → Port → Type 0
+Collects true old new = TookReply old new
+Collects false old new = new ≡ old
+
+-- the same ends, in the same order
+abbrev pub HasSamePorts : List Port → List Port → Type 0
+HasSamePorts old new = map port_key new ≡ map port_key old
+
+-- the same of each host
+pub record HaveSamePorts (old new : Stations) : Type 0 where
+  pub first : HasSamePorts old.first.ports.items new.first.ports.items
+  pub second : HasSamePorts old.second.ports.items new.second.ports.items
+  pub third : HasSamePorts old.third.ports.items new.third.ports.items
+  pub fourth : HasSamePorts old.fourth.ports.items new.fourth.ports.items
+
+-- the ports are that host's ends on these channels
+abbrev pub AreLinked : ℕ → List ChannelQueues → List Port → Type 0
+AreLinked host qs ports = map port_key ports ≡ map (end_of host) qs
+
+-- .. of each host
+pub record AreAllLinked (qs : List ChannelQueues) (stations : Stations) : Type 0 where
+  pub first : AreLinked 0 qs stations.first.ports.items
+  pub second : AreLinked 1 qs stations.second.ports.items
+  pub third : AreLinked 2 qs stations.third.ports.items
+  pub fourth : AreLinked 3 qs stations.fourth.ports.items
+
+abbrev pub queues_of : List InboxView → List TableId
+queues_of inboxes = map (λ (i : InboxView). i.queue) inboxes
+
+-- hosts and inboxes are the other ends of the channel's queues, in host order
+abbrev pub AreEnds : ChannelQueues → List HostView → List InboxView → Type 0
+AreEnds q hosts inboxes = AreHostsOf q.requests 0 hosts × (queues_of inboxes ≡ q.replies)

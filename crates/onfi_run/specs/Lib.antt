@@ -1,0 +1,9 @@
+pub mod Requests
+pub mod Setup
+pub mod Chips
+pub mod Prepared
+pub mod Prepares
+pub mod Report
+pub mod Answers
+pub mod Keys
+pub mod Threads

@@ -1,0 +1,106 @@
+-- What a run came to, and its text.
+use Rattle.std.specs.Prelude.{ℕ, ◌+◌, ◌==◌, if◌then◌else◌, Bool, true, false, List, [], ◌∷◌, ◌++◌, Option, Some, None, codes}
+use Rattle.std.specs.Fmt.{decimal}
+use Rattle.std.specs.List.{list_all, list_any}
+use Rattle.hex.specs.Hex.{encode_upper}
+use Rattle.onfi_core.specs.declared.outcome.Cause.{Cause}
+use Rattle.onfi_core.specs.declared.outcome.Cause.TheVariants.{Bus, NotReady, Clock}
+use Rattle.onfi_request.specs.declared.answer.Answer.{Answer}
+use Rattle.onfi_request.specs.declared.answer.Answer.TheVariants as answer
+use Rattle.onfi_run.specs.declared.channel_end.ChannelEnd.{ChannelEnd}
+use Rattle.onfi_run.specs.declared.channel_end.ChannelEnd.TheVariants as end
+use Rattle.onfi_script.specs.Text.{Answer as Written}
+
+-- what a host got from a channel: of each request that it sent there, by serial from 0, the answer, where it came
+abbrev pub AnswersView : Type 0
+AnswersView = List (Option Answer)
+
+-- .. from each channel
+abbrev pub GotView : Type 0
+GotView = List AnswersView
+
+-- what each host got, how each channel ended, and whether memory was refused on the way
+pub record ReportView : Type 0 where
+  pub got : List GotView
+  pub ends : List ChannelEnd
+  pub short_of_memory : Bool
+
+-- the pieces of a list's elements, which are numbered from `number` on
+unfoldable pub numbered : {X : Type 0} → (ℕ → X → List ℕ) → ℕ → List X → List ℕ
+numbered piece number [] = []
+numbered piece number (x ∷ xs) = piece number x ++ numbered piece (number + 1) xs
+
+abbrev pub are_all : ℕ → List ℕ → Bool
+are_all byte bytes = list_all (λ b. b == byte) bytes
+
+-- a page: the one byte that it holds throughout, or all its bytes
+abbrev pub page_text : List ℕ → List ℕ
+page_text [] = []
+page_text (byte ∷ bytes) = if are_all byte bytes then codes "*" ++ encode_upper (byte ∷ []) else encode_upper (byte ∷ bytes)
+
+abbrev pub answer_text : Answer → List ℕ
+answer_text (answer.Read bytes) = codes "read," ++ page_text bytes
+answer_text answer.Done = codes "done"
+answer_text answer.Failed = codes "failed"
+
+-- the line of a reply
+abbrev pub reply_line : ℕ → ℕ → ℕ → Option Answer → List ℕ
+reply_line host channel serial None = []
+reply_line host channel serial (Some a) =
+    (codes "reply," ++ (decimal host ++ (codes "," ++ (decimal channel ++ (codes "," ++ (decimal serial ++ codes ",")))))) ++ (answer_text a ++ codes "\n")
+
+-- the replies of a channel to a host by serial
+abbrev pub answers_lines : ℕ → ℕ → AnswersView → List ℕ
+answers_lines host channel answers = numbered (reply_line host channel) 0 answers
+
+-- the replies to a host by channel and serial
+abbrev pub got_lines : ℕ → GotView → List ℕ
+got_lines host channels = numbered (answers_lines host) 0 channels
+
+-- all replies by host, channel and serial
+abbrev pub reply_lines : List GotView → List ℕ
+reply_lines got = numbered got_lines 0 got
+
+abbrev pub stop_line : ℕ → Cause → List ℕ
+stop_line channel Bus = codes "stopped," ++ (decimal channel ++ codes ",Bus\n")
+stop_line channel (NotReady lun) = codes "stopped," ++ (decimal channel ++ (codes ",NotReady " ++ (decimal lun ++ codes "\n")))
+stop_line channel Clock = codes "stopped," ++ (decimal channel ++ codes ",Clock\n")
+
+-- the line of a channel that did not end as it should
+abbrev pub end_line : ℕ → ChannelEnd → List ℕ
+end_line channel end.Done = []
+end_line channel (end.Stopped cause) = stop_line channel cause
+end_line channel (end.Over opened) = codes "over," ++ (decimal channel ++ (codes "," ++ (decimal opened ++ codes "\n")))
+end_line channel end.Unfinished = codes "unfinished," ++ (decimal channel ++ codes "\n")
+
+abbrev pub closing_line : Bool → List ℕ
+closing_line true = codes "memory\n"
+closing_line false = codes "closed\n"
+
+-- it stopped or was left unfinished
+abbrev pub is_cut_short : ChannelEnd → Bool
+is_cut_short (end.Stopped cause) = true
+is_cut_short end.Unfinished = true
+is_cut_short _ = false
+
+abbrev pub is_over : ChannelEnd → Bool
+is_over (end.Over opened) = true
+is_over _ = false
+
+abbrev pub is_any_cut_short : List ChannelEnd → Bool
+is_any_cut_short ends = list_any is_cut_short ends
+
+abbrev pub is_any_over : List ChannelEnd → Bool
+is_any_over ends = list_any is_over ends
+
+-- 4 for want of memory, else 3 where a channel stopped or was left unfinished, else 6 where one was over, else 0
+abbrev pub status_of : Bool → List ChannelEnd → ℕ
+status_of true ends = 4
+status_of false ends = if is_any_cut_short ends then 3 else if is_any_over ends then 6 else 0
+
+abbrev pub report_text : ReportView → List ℕ
+report_text r = (reply_lines r.got ++ numbered end_line 0 r.ends) ++ closing_line r.short_of_memory
+
+-- what is written of a run
+abbrev pub report_answer : ReportView → Written
+report_answer r = record { text = report_text r; status = status_of r.short_of_memory r.ends }

@@ -1,0 +1,61 @@
+//! What the threads of a run tell each other.
+use std::sync::atomic::{AtomicU64, Ordering};
+
+/// How many hosts a run has room for.
+pub(crate) const HOSTS: u64 = 4;
+
+/// What the threads of a run tell each other: how many hosts have ended, and which channels. It carries no fact that a
+/// contract rests on.
+#[derive(Drop)]
+pub(crate) struct Board {
+    hosts: AtomicU64,
+    channels: [AtomicU64; 4],
+}
+
+impl Board {
+    /// No channel has ended, and of the hosts those that aren't used.
+    pub(crate) fn new(unused: u64) -> Board {
+        Board {
+            hosts: AtomicU64::new(unused),
+            channels: [
+                AtomicU64::new(0),
+                AtomicU64::new(0),
+                AtomicU64::new(0),
+                AtomicU64::new(0),
+            ],
+        }
+    }
+
+    /// A host has made its last operation.
+    pub(crate) fn end_host(&self) {
+        self.hosts.fetch_add(1, Ordering::SeqCst);
+    }
+
+    /// Whether all hosts have made their last operation.
+    pub(crate) fn have_hosts_ended(&self) -> bool {
+        self.hosts.load(Ordering::SeqCst) >= HOSTS
+    }
+
+    /// A channel makes no more turns in its thread.
+    pub(crate) fn end_channel(&self, channel: usize) {
+        if let Some(flag) = self.channels.get(channel) {
+            flag.store(1, Ordering::SeqCst);
+        }
+    }
+
+    /// Whether a channel makes no more turns in its thread.
+    pub(crate) fn has_channel_ended(&self, channel: usize) -> bool {
+        match self.channels.get(channel) {
+            Some(flag) => flag.load(Ordering::SeqCst) != 0,
+            None => true,
+        }
+    }
+
+    /// A thread can't be made: all that others wait for has ended.
+    pub(crate) fn give_up(&self) {
+        self.hosts.store(HOSTS, Ordering::SeqCst);
+        for channel in 0..4usize {
+            self.end_channel(channel);
+        }
+    }
+}

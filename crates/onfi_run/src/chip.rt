@@ -1,0 +1,99 @@
+//! The simulated chip of a channel.
+ghost use Rattle.std.specs.Prelude.{◌≡◌, IfOk};
+ghost use Rattle.onfi_core.specs.Queues.{IsFresh};
+ghost use Rattle.onfi_chip.specs.SimChip.{chip_in, failing_calls, failing_statuses};
+ghost use Rattle.onfi_run.specs.Chips as spec;
+
+use onfi_chip::SimChip;
+use onfi_core::Setup;
+use onfi_request::Fault;
+use onfi_script::Row;
+use std::alloc::{AllocError, Global};
+
+/// The fault of the channel's chip that a row tells.
+fn fault_on(row: &Row, channel: u8) -> Option<Fault>
+    ensures { result ≡ spec.fault_on channel row.now }
+{
+    match row {
+        Row::Fault { channel: on, fault } if *on == channel => Some(*fault),
+        _ => None,
+    }
+}
+
+/// The failing call of the channel's chip that a row tells.
+fn failing_on(row: &Row, channel: u8) -> Option<u32>
+    ensures { result ≡ spec.failing_on channel row.now }
+{
+    match row {
+        Row::ChipFail {
+            channel: on,
+            number,
+        } if *on == channel => Some(*number),
+        _ => None,
+    }
+}
+
+/// The status call of the channel's chip that tells of a LUN that isn't ready, as a row tells.
+fn unready_on(row: &Row, channel: u8) -> Option<u32>
+    ensures { result ≡ spec.unready_on channel row.now }
+{
+    match row {
+        Row::NotReady {
+            channel: on,
+            number,
+        } if *on == channel => Some(*number),
+        _ => None,
+    }
+}
+
+/// All faults of the channel's chip.
+fn faults(alloc: Global, rows: &[Row], channel: u8) -> Result<Vec<Fault>, AllocError>
+    ensures { IfOk result (λ v. v.items ≡ spec.all_on (spec.fault_on channel) rows.now) }
+{
+    rows.iter()
+        .filter_map(|row| fault_on(row, channel))
+        .collect(alloc)
+}
+
+/// All failing calls of the channel's chip.
+fn failing(alloc: Global, rows: &[Row], channel: u8) -> Result<Vec<u32>, AllocError>
+    ensures { IfOk result (λ v. v.items ≡ spec.all_on (spec.failing_on channel) rows.now) }
+{
+    rows.iter()
+        .filter_map(|row| failing_on(row, channel))
+        .collect(alloc)
+}
+
+/// All status calls of the channel's chip that tell of a LUN that isn't ready.
+fn unready(alloc: Global, rows: &[Row], channel: u8) -> Result<Vec<u32>, AllocError>
+    ensures { IfOk result (λ v. v.items ≡ spec.all_on (spec.unready_on channel) rows.now) }
+{
+    rows.iter()
+        .filter_map(|row| unready_on(row, channel))
+        .collect(alloc)
+}
+
+/// The chip of a channel as it opens, with the faults and failing calls that the rows tell of it.
+///
+/// # Errors
+/// Want of memory.
+pub fn chip_of(
+    alloc: Global,
+    setup: &Setup,
+    rows: &[Row],
+    channel: u8,
+) -> Result<SimChip, AllocError>
+    ensures fresh { IfOk result (λ chip. IsFresh setup.now (chip_in chip)) }
+    ensures faults { IfOk result (λ chip. (chip_in chip).faults ≡ spec.all_on (spec.fault_on channel) rows.now) }
+    ensures calls { IfOk result (λ chip. failing_calls chip ≡ spec.all_on (spec.failing_on channel) rows.now) }
+    ensures statuses { IfOk result (λ chip. failing_statuses chip ≡ spec.all_on (spec.unready_on channel) rows.now) }
+{
+    SimChip::new(
+        alloc,
+        setup.geometry,
+        setup.timing,
+        faults(alloc, rows, channel)?,
+        failing(alloc, rows, channel)?,
+        unready(alloc, rows, channel)?,
+    )
+}

@@ -1,0 +1,28 @@
+//! Runs a script of hosts' operations on up to four channels, and tells what each host got.
+#![tactic(auto)]
+
+mod answers;
+mod board;
+mod channel;
+mod channel_end;
+mod chip;
+mod finishing;
+mod lane;
+mod port;
+mod preparing;
+mod report;
+mod request;
+mod setup;
+mod station;
+mod text;
+mod threads;
+
+pub use answers::{Answers, Got};
+pub use channel::{Channel, Drained, Progress};
+pub use channel_end::ChannelEnd;
+pub use chip::chip_of;
+pub use preparing::{Prepared, prepare};
+pub use report::Report;
+pub use request::request_of;
+pub use setup::setup_of;
+pub use text::report_answer;

@@ -1,0 +1,129 @@
+//! Reading the script of a run, with all refusals in their order.
+ghost use Rattle.std.specs.Prelude.{◌≡◌, IfOk, MatchResult, Ok, Err};
+ghost use Rattle.onfi_script.specs.Stop.{IfRefused};
+ghost use Rattle.onfi_run.specs.Prepared as spec;
+ghost use Rattle.onfi_run.specs.Prepares.{IsPrepared, IsRefused};
+ghost use Rattle.onfi_run.specs.Setup.{channels_in, hosts_in};
+
+use crate::request::request_fault;
+use crate::setup::{channel_count, host_count};
+use onfi_addr::Geometry;
+use onfi_script::{
+    Operation, PageDevice, Purpose, Refusal, Row, RowStop, ScriptFault, Stop, page_device,
+    read_rows,
+};
+use std::alloc::{AllocError, Global};
+
+/// The rows of a run that are each in order, and the device that they tell of.
+#[derive(Drop)]
+pub struct Prepared {
+    pub rows: Vec<Row>,
+    pub device: PageDevice,
+}
+
+/// How many channels and hosts there are, and what their chips are.
+#[derive(Clone, Copy)]
+struct Bounds {
+    channels: u8,
+    hosts: u8,
+    geometry: Geometry,
+}
+
+/// Out of range, unless that is there.
+fn unless_there(there: bool) -> Option<ScriptFault>
+    ensures { result ≡ spec.unless_there there }
+{
+    if there {
+        None
+    } else {
+        Some(ScriptFault::OutOfRange)
+    }
+}
+
+/// What is wrong with an operation.
+fn op_fault(
+    alloc: Global,
+    bounds: &Bounds,
+    operation: &Operation,
+) -> Result<Option<ScriptFault>, AllocError>
+    ensures { IfOk result (λ f. f ≡ spec.op_fault bounds.now.channels bounds.now.hosts bounds.now.geometry operation.now) }
+{
+    let aim = operation.aim;
+    if !(aim.host < bounds.hosts && aim.channel < bounds.channels) {
+        return Ok(Some(ScriptFault::OutOfRange));
+    }
+    match request_fault(alloc, &bounds.geometry, operation)? {
+        Some(fault) => Ok(Some(ScriptFault::Request(fault))),
+        None => Ok(None),
+    }
+}
+
+/// What is wrong with a row on this device.
+fn row_fault(alloc: Global, bounds: &Bounds, row: &Row) -> Result<Option<ScriptFault>, AllocError>
+    ensures { IfOk result (λ f. f ≡ spec.row_fault bounds.now.channels bounds.now.hosts bounds.now.geometry row.now) }
+{
+    match row {
+        Row::Op(operation) => op_fault(alloc, bounds, operation),
+        Row::Fault { channel, fault } => Ok(unless_there(
+            *channel < bounds.channels
+                && fault.lun < bounds.geometry.lun_count
+                && u32::from(fault.block) < bounds.geometry.blocks_per_lun,
+        )),
+        Row::ChipFail { channel, .. } | Row::NotReady { channel, .. } => {
+            Ok(unless_there(*channel < bounds.channels))
+        }
+        _ => Ok(None),
+    }
+}
+
+/// The first row with which something is wrong on this device.
+fn first_refused(
+    alloc: Global,
+    bounds: &Bounds,
+    rows: &[Row],
+) -> Result<Option<Refusal>, AllocError>
+    ensures { IfOk result (λ r. r ≡ spec.first_refused bounds.now.channels bounds.now.hosts bounds.now.geometry 1 rows.now) }
+{
+    for (at, row) in rows.iter().enumerate() {
+        if let Some(fault) = row_fault(alloc, bounds, row)? {
+            return Ok(Some(Refusal {
+                row: at as u64 + 1,
+                fault,
+            }));
+        }
+    }
+    Ok(None)
+}
+
+/// The rows on their device, where nothing is wrong with one.
+fn on_device(alloc: Global, rows: Vec<Row>, device: PageDevice) -> Result<Prepared, Stop>
+    ensures { MatchResult result (λ p. (p.rows.items ≡ rows.items) × (p.device ≡ device) × (spec.first_refused (channels_in rows.items) (hosts_in rows.items) device.geometry 1 rows.items ≡ None)) (λ stop. IfRefused stop (λ refusal. spec.first_refused (channels_in rows.items) (hosts_in rows.items) device.geometry 1 rows.items ≡ Some refusal)) }
+{
+    let bounds = Bounds {
+        channels: channel_count(rows.as_slice()),
+        hosts: host_count(rows.as_slice()),
+        geometry: device.geometry,
+    };
+    match first_refused(alloc, &bounds, rows.as_slice()) {
+        Ok(None) => Ok(Prepared { rows, device }),
+        Ok(Some(refusal)) => Err(Stop::Refused(refusal)),
+        Err(AllocError) => Err(Stop::Memory),
+    }
+}
+
+/// The rows of an input, where nothing is wrong with the script.
+///
+/// # Errors
+/// The first refusal: no line `end`; the rows from the top, each for its name, its place, its count of fields, its
+/// fields, and what an earlier row said; the device; the rows once more, for hosts, channels, LUNs and blocks that
+/// aren't there and for operations that the device doesn't take. Want of memory.
+pub fn prepare(alloc: Global, input: &[u8]) -> Result<Prepared, Stop>
+    ensures { MatchResult result (λ p. IsPrepared input.now p.rows.items p.device) (λ stop. IfRefused stop (λ refusal. IsRefused input.now refusal)) }
+{
+    let rows = read_rows(alloc, Purpose::Run, input)?;
+    match page_device(alloc, rows.as_slice()) {
+        Ok(device) => on_device(alloc, rows, device),
+        Err(RowStop::Fault(fault)) => Err(Stop::Refused(Refusal { row: 0, fault })),
+        Err(RowStop::Memory) => Err(Stop::Memory),
+    }
+}
