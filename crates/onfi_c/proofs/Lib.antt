@@ -1,0 +1,4 @@
+mod Answering
+mod Few
+mod Judging
+mod Mapped

@@ -1,0 +1,6 @@
+use Rattle.std.proofs.Common.{◌≡◌, map, take}
+use Rattle.onfi_c.specs.SaidSchedule.{group_of}
+use Rattle.onfi_c.proofs.said_schedule.groups_of.Given as goal
+
+abbrev pub invariant-loop-group : goal.invariant-loop-group
+invariant-loop-group l = l.groups.items ≡ map (group_of l.wants) (take l.group-index l.said)

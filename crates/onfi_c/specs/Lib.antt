@@ -1,0 +1,13 @@
+pub mod Answered
+pub mod Checked
+pub mod Device
+pub mod Planned
+pub mod Refusal
+pub mod Refused
+pub mod Room
+pub mod Said
+pub mod SaidSchedule
+pub mod Script
+pub mod Status
+pub mod StatusText
+pub mod Written

@@ -1,0 +1,113 @@
+//! Plans of problems that plain structs say.
+ghost use Rattle.std.specs.Prelude.{◌≡◌, ◌≤◌, IfOk, IfErr};
+ghost use Rattle.onfi_cert.specs.Text.{text_of};
+ghost use Rattle.onfi_c.specs.Planned.{GivesAsked, GivesPlan, IsPlan, IsPlanSaid, IsRefusedPlan, IsUnplanned};
+
+use crate::channel::PlainChannel;
+use crate::lun::{PlainLun, PlainWant};
+use crate::room::give;
+use crate::said::problem_of;
+use crate::schedule::PlainPlan;
+use crate::status::Status;
+use crate::told::Told;
+use crate::written;
+use onfi_cert::write;
+use onfi_planner::{PlanFault, Planned, plan};
+use onfi_problem::Problem;
+use std::alloc::{AllocError, Global};
+
+/// The most nodes that a search may open.
+const MOST_NODES: u32 = 1_048_576;
+
+/// The text of a plan's certificate.
+fn certificate(alloc: Global, strict: bool, planned: &Planned) -> Result<Vec<u8>, AllocError>
+    ensures { IfOk result (λ text. text.items ≡ text_of strict planned.now.cert.items) }
+{
+    match write(alloc, strict, planned.cert.as_slice()) {
+        Ok(text) => Ok(text),
+        Err(_) => Err(AllocError),
+    }
+}
+
+/// A plan, as it is told.
+fn tell(alloc: Global, problem: &Problem, limit: u32) -> Result<Told, Status>
+    requires some { 1 ≤ limit }
+    requires few { limit ≤ 1048576 }
+    ensures plan { IfOk result (λ t. IsPlan problem.now.problem limit t.plan t.text.items) }
+    ensures none { IfErr result (λ status. IsUnplanned problem.now.problem limit status) }
+{
+    let planned = match plan(alloc, problem, limit) {
+        Ok(planned) => planned,
+        Err(PlanFault::Over { .. }) => return Err(Status::Over),
+        Err(PlanFault::Memory) => return Err(Status::Memory),
+    };
+    let Ok(text) = certificate(alloc, problem.rules().strict, &planned) else {
+        return Err(Status::Memory);
+    };
+    let Ok(plan) = written::plan(alloc, problem, &planned) else {
+        return Err(Status::Memory);
+    };
+    Ok(Told { plan, text })
+}
+
+/// A plan of what is said.
+fn tell_said(
+    alloc: Global,
+    channel: &PlainChannel,
+    luns: &[PlainLun],
+    wants: &[PlainWant],
+    limit: u32,
+) -> Result<Told, Status>
+    ensures plan { IfOk result (λ t. IsPlanSaid channel.now luns.now wants.now limit t.plan t.text.items) }
+    ensures none { IfErr result (λ status. IsRefusedPlan channel.now luns.now wants.now limit status) }
+{
+    if limit == 0 || limit > MOST_NODES {
+        return Err(Status::BadLimit);
+    }
+    match problem_of(alloc, channel, luns, wants) {
+        Ok(problem) => tell(alloc, &problem, limit),
+        Err(status) => Err(status),
+    }
+}
+
+/// Gives a text where there is room for any, and tells how many bytes it has.
+fn give_asked(text: &[u8], room: &mut [u8], bytes: &mut usize) -> u32
+    ensures { GivesAsked text.now room.old room.new bytes.new result }
+{
+    if room.is_empty() {
+        *bytes = text.len();
+        return 0;
+    }
+    give(text, 0, room, bytes)
+}
+
+/// Plans the wants of a channel: the schedule that no legal schedule beats, when it ends, how many nodes the search
+/// opened, at most `limit` of them, 1 to 1,048,576, and where `certificate` has room for any byte, the text of the
+/// certificate that shows it. `bytes` tells how many bytes that text has.
+///
+/// Answers 0, or 3 where the certificate has more bytes than there is room for, which is then as it was; or the number
+/// of a [`Status`], and nothing is given.
+#[unsafe(no_mangle)]
+pub extern "C" fn onfi_plan(
+    alloc: Global,
+    channel: &PlainChannel,
+    luns: &[PlainLun],
+    wants: &[PlainWant],
+    limit: u32,
+    plan: &mut PlainPlan,
+    certificate: &mut [u8],
+    bytes: &mut usize,
+) -> u32
+    ensures { GivesPlan channel.now luns.now wants.now limit plan.old plan.new certificate.old certificate.new bytes.new result }
+{
+    match tell_said(alloc, channel, luns, wants, limit) {
+        Ok(told) => {
+            *plan = told.plan;
+            give_asked(told.text.as_slice(), certificate, bytes)
+        }
+        Err(status) => {
+            *bytes = 0;
+            status.number()
+        }
+    }
+}

@@ -1,0 +1,243 @@
+//! From what a caller says to a problem.
+ghost use Rattle.std.specs.Prelude.{◌≡◌, ◌≤◌, ◌%◌, ◌^◌, Bool, false, true, IfOk, IfErr, MatchResult};
+ghost use Rattle.std.specs.List.{list_any};
+ghost use Rattle.onfi_c.specs.Said as spec;
+ghost use Rattle.onfi_c.specs.Refused.{AreBadSpans, AreGoodSpans, IsBadTiming, IsGoodTiming, IsBadProblem, IsBadSaid, IsRefused};
+ghost use Rattle.onfi_problem.specs.Kept.{problem_of as parts_of};
+
+use crate::channel::{PlainChannel, PlainRules, PlainSpans, PlainTiming};
+use crate::lun::{PlainLun, PlainWant};
+use crate::status::Status;
+use onfi_group::{Group, Rules};
+use onfi_problem::{LunState, Problem, ProblemFault};
+use onfi_request::Want;
+use onfi_timing::{Kind, Spans, Timing};
+use std::alloc::{AllocError, Global};
+
+/// The lengths of a kind.
+fn spans(said: &PlainSpans) -> Result<Spans, Status>
+    ensures ok { IfOk result (λ spans. spec.AreSpans said.now spans × AreGoodSpans said.now) }
+    ensures err { IfErr result (λ status. AreBadSpans said.now status) }
+{
+    match Spans::new(said.cmd, said.gap, said.array, said.post) {
+        Ok(spans) => Ok(spans),
+        Err(fault) => Err(Status::of_spans(fault)),
+    }
+}
+
+/// The lengths of each kind.
+fn timing(said: &PlainTiming) -> Result<Timing, Status>
+    ensures ok { IfOk result (λ timing. spec.IsTiming said.now timing × IsGoodTiming said.now) }
+    ensures err { IfErr result (λ status. IsBadTiming said.now status) }
+{
+    let read = match spans(&said.read) {
+        Ok(spans) => spans,
+        Err(status) => return Err(status),
+    };
+    let program = match spans(&said.program) {
+        Ok(spans) => spans,
+        Err(status) => return Err(status),
+    };
+    match spans(&said.erase) {
+        Ok(erase) => Ok(Timing::new(read, program, erase)),
+        Err(status) => Err(status),
+    }
+}
+
+/// The plane of a block.
+fn plane_of(plane_bits: u8, block: u16) -> u8
+    requires { plane_bits ≤ 2 }
+    ensures { result ≡ block % 2 ^ plane_bits }
+{
+    (block % (1 << plane_bits)) as u8
+}
+
+/// The kind of a number.
+fn kind_of(kind: u8) -> Kind
+    ensures { result ≡ spec.kind_of kind }
+{
+    if kind == 0 {
+        return Kind::Read;
+    }
+    if kind == 1 {
+        return Kind::Program;
+    }
+    Kind::Erase
+}
+
+/// A request.
+fn want_of(plane_bits: u8, said: &PlainWant) -> Want
+    requires { plane_bits ≤ 2 }
+    ensures { result ≡ spec.want_of plane_bits said.now }
+{
+    Want {
+        id: said.id,
+        kind: kind_of(said.kind),
+        lun: said.lun,
+        plane: plane_of(plane_bits, said.block),
+        block: said.block,
+        page: said.page,
+    }
+}
+
+/// Requests.
+fn wants_of(alloc: Global, plane_bits: u8, said: &[PlainWant]) -> Result<Vec<Want>, AllocError>
+    requires { plane_bits ≤ 2 }
+    ensures { IfOk result (λ v. v.items ≡ spec.wants_of plane_bits said.now) }
+{
+    let mut wants = Vec::new(alloc);
+    for want in said {
+        wants.push(want_of(plane_bits, want))?;
+    }
+    Ok(wants)
+}
+
+/// What a LUN does.
+fn state_of(alloc: Global, plane_bits: u8, said: &PlainLun) -> Result<LunState, AllocError>
+    requires bits { plane_bits ≤ 2 }
+    requires members { spec.has_bad_count said.now ≡ false }
+    ensures { IfOk result (λ state. state ≡ spec.state_of plane_bits said.now) }
+{
+    if said.members == 0 {
+        return Ok(LunState::Free { since: said.since });
+    }
+    let members = wants_of(alloc, plane_bits, &said.member[..said.members as usize])?;
+    Ok(LunState::Running {
+        group: Group::of(alloc, members.as_slice()),
+        next: said.next,
+        ready: said.since,
+    })
+}
+
+/// What each LUN does.
+fn states_of(alloc: Global, plane_bits: u8, said: &[PlainLun]) -> Result<Vec<LunState>, AllocError>
+    requires bits { plane_bits ≤ 2 }
+    requires members { list_any spec.has_bad_count said.now ≡ false }
+    ensures { IfOk result (λ v. v.items ≡ spec.states_of plane_bits said.now) }
+{
+    let mut states = Vec::new(alloc);
+    for lun in said {
+        states.push(state_of(alloc, plane_bits, lun)?)?;
+    }
+    Ok(states)
+}
+
+/// Whether a running group has more members than there are places.
+fn have_bad_count(said: &[PlainLun]) -> bool
+    ensures { result ≡ list_any spec.has_bad_count said.now }
+{
+    said.iter().any(|lun| lun.members > 4)
+}
+
+/// Whether a request is of no kind.
+fn has_bad_kind(said: &[PlainWant]) -> bool
+    ensures { result ≡ list_any spec.has_bad_kind said.now }
+{
+    said.iter().any(|want| want.kind > 2)
+}
+
+/// Whether a member of a running group is of no kind.
+fn has_bad_member(said: &PlainLun) -> bool
+    ensures { result ≡ spec.has_bad_member said.now }
+{
+    said.member
+        .iter()
+        .take(said.members as usize)
+        .any(|want| want.kind > 2)
+}
+
+/// The same of several LUNs.
+fn have_bad_member(said: &[PlainLun]) -> bool
+    ensures { result ≡ list_any spec.has_bad_member said.now }
+{
+    said.iter().any(|lun| has_bad_member(lun))
+}
+
+/// The rules of a channel.
+fn rules(said: &PlainRules) -> Rules
+    requires { said.now.plane_bits ≤ 2 }
+    ensures { spec.AreRules said.now result }
+{
+    Rules::new(said.read, said.write, said.strict, said.plane_bits)
+}
+
+/// The problem of these parts.
+fn open(
+    alloc: Global,
+    timing: Timing,
+    rules: Rules,
+    bus_free: u64,
+    luns: &[LunState],
+    wants: &[Want],
+) -> Result<Problem, Status>
+    ensures parts { IfOk result (λ p. p.problem ≡ parts_of timing rules bus_free luns.now wants.now) }
+    ensures begun { IfOk result (λ p. p.all ≡ p.problem.wants) }
+    ensures bad { IfErr result (λ status. IsBadProblem (parts_of timing rules bus_free luns.now wants.now) status) }
+{
+    match Problem::new(alloc, timing, rules, bus_free, luns, wants) {
+        Ok(problem) => Ok(problem),
+        Err(ProblemFault::TooMany) => Err(Status::TooMany),
+        Err(ProblemFault::BadLun) => Err(Status::BadLun),
+        Err(ProblemFault::Clock) => Err(Status::Clock),
+        Err(ProblemFault::Memory) => Err(Status::Memory),
+    }
+}
+
+/// The same of parts whose numbers are in their ranges.
+fn open_said(
+    alloc: Global,
+    timing: Timing,
+    channel: &PlainChannel,
+    luns: &[PlainLun],
+    wants: &[PlainWant],
+) -> Result<Problem, Status>
+    requires timing { spec.IsTiming channel.now.timing timing }
+    requires bits { channel.now.rules.plane_bits ≤ 2 }
+    requires members { list_any spec.has_bad_count luns.now ≡ false }
+    ensures said { IfOk result (λ p. spec.IsSaid channel.now luns.now wants.now p.problem) }
+    ensures begun { IfOk result (λ p. p.all ≡ p.problem.wants) }
+    ensures bad { IfErr result (λ status. IsBadSaid channel.now luns.now wants.now status) }
+{
+    let plane_bits = channel.rules.plane_bits;
+    let Ok(luns) = states_of(alloc, plane_bits, luns) else {
+        return Err(Status::Memory);
+    };
+    let Ok(wants) = wants_of(alloc, plane_bits, wants) else {
+        return Err(Status::Memory);
+    };
+    open(
+        alloc,
+        timing,
+        rules(&channel.rules),
+        channel.bus_free,
+        luns.as_slice(),
+        wants.as_slice(),
+    )
+}
+
+/// The problem that a caller says.
+pub fn problem_of(
+    alloc: Global,
+    channel: &PlainChannel,
+    luns: &[PlainLun],
+    wants: &[PlainWant],
+) -> Result<Problem, Status>
+    ensures said { IfOk result (λ p. spec.IsSaid channel.now luns.now wants.now p.problem) }
+    ensures begun { IfOk result (λ p. p.all ≡ p.problem.wants) }
+    ensures refused { IfErr result (λ status. IsRefused channel.now luns.now wants.now status) }
+{
+    let timing = match timing(&channel.timing) {
+        Ok(timing) => timing,
+        Err(status) => return Err(status),
+    };
+    if channel.rules.plane_bits > 2 {
+        return Err(Status::BadPlaneBits);
+    }
+    if have_bad_count(luns) {
+        return Err(Status::BadMembers);
+    }
+    if have_bad_member(luns) || has_bad_kind(wants) {
+        return Err(Status::BadKind);
+    }
+    open_said(alloc, timing, channel, luns, wants)
+}

@@ -1,0 +1,99 @@
+//! Scripts and their answers, as bytes.
+ghost use Rattle.std.specs.Prelude.{◌≡◌, ◌≤◌, IfSome};
+ghost use Rattle.onfi_script.specs.Answer.{IsAnswer};
+ghost use Rattle.onfi_script.specs.Limit.{IsLimited};
+ghost use Rattle.onfi_script.specs.declared.command.Command.TheVariants.{Check, Plan};
+ghost use Rattle.onfi_c.specs.Answered.{answer_of};
+ghost use Rattle.onfi_c.specs.Script.{GivesAnswer, IsBadLimit, bad_limit};
+
+use crate::answered::Answered;
+use crate::room::give;
+use onfi_script::{Command, engine};
+use std::alloc::Global;
+
+/// The most nodes that a search may open.
+const MOST_NODES: u32 = 1_048_576;
+
+/// The status of a limit that is 0 or above the most.
+const BAD_LIMIT: u32 = 5;
+
+/// The status of an answer that memory ran out.
+const MEMORY: u32 = 4;
+
+/// The answer to a script; nothing where memory ran out.
+fn answered(alloc: Global, command: Command, script: &[u8]) -> Option<Answered>
+    requires limit { IsLimited command }
+    ensures { IfSome result (λ a. IsAnswer command script.now (answer_of a)) }
+{
+    let mut reader = script;
+    let mut text = Vec::new(alloc);
+    match engine(alloc, command, &mut reader, &mut text) {
+        Ok(status) => Some(Answered { text, status }),
+        Err(_) => None,
+    }
+}
+
+/// Gives the caller the answer to a script.
+fn give_answer(
+    alloc: Global,
+    command: Command,
+    script: &[u8],
+    answer: &mut [u8],
+    bytes: &mut usize,
+) -> u32
+    requires limit { IsLimited command }
+    ensures { GivesAnswer command script.now answer.old answer.new bytes.new result }
+{
+    match answered(alloc, command, script) {
+        Some(answered) => give(
+            answered.text.as_slice(),
+            u32::from(answered.status),
+            answer,
+            bytes,
+        ),
+        None => give(b"memory\n", MEMORY, answer, bytes),
+    }
+}
+
+/// The bytes of a script in, out the plan that `onfi_sim plan` prints for it, or with `trace` its trace; the search
+/// opens at most `limit` nodes, 1 to 1,048,576. `bytes` tells how many bytes the answer has.
+///
+/// Answers the status of that program: 0 for a plan, 1 where the script is refused, 4 for want of memory, 6 where as
+/// many nodes were opened as may be. 3 where the answer has more bytes than there is room for, and 5 where the limit is
+/// out of its range: the room is then as it was.
+#[unsafe(no_mangle)]
+pub extern "C" fn onfi_text_plan(
+    alloc: Global,
+    script: &[u8],
+    limit: u32,
+    trace: bool,
+    answer: &mut [u8],
+    bytes: &mut usize,
+) -> u32
+    ensures limited { IsBadLimit limit → (result ≡ bad_limit) × (answer.new ≡ answer.old) × (bytes.new ≡ 0) }
+    ensures answer { 1 ≤ limit → limit ≤ 1048576 → GivesAnswer (Plan limit trace) script.now answer.old answer.new bytes.new result }
+{
+    if limit == 0 || limit > MOST_NODES {
+        *bytes = 0;
+        return BAD_LIMIT;
+    }
+    give_answer(alloc, Command::Plan { limit, trace }, script, answer, bytes)
+}
+
+/// The bytes of a script and of a plan text behind it in, out the line that `onfi_sim check` prints. `bytes` tells how
+/// many bytes the answer has.
+///
+/// Answers the status of that program: 0 where the plan is accepted, 1 where the script is refused, 2 where the plan
+/// text or its certificate is, 4 for want of memory. 3 where the answer has more bytes than there is room for: the room
+/// is then as it was.
+#[unsafe(no_mangle)]
+pub extern "C" fn onfi_text_check(
+    alloc: Global,
+    script: &[u8],
+    answer: &mut [u8],
+    bytes: &mut usize,
+) -> u32
+    ensures { GivesAnswer Check script.now answer.old answer.new bytes.new result }
+{
+    give_answer(alloc, Command::Check, script, answer, bytes)
+}

@@ -1,0 +1,264 @@
+//! What a call tells.
+ghost use Rattle.std.specs.Prelude.{◌≡◌};
+ghost use Rattle.onfi_c.specs.Status.{number_of, spans_status, text_of};
+
+use onfi_timing::SpanFault;
+
+/// What a call tells by a number, what scripts are answered with apart.
+#[derive(Clone, Copy)]
+pub enum Status {
+    /// All went well.
+    Done,
+    /// A text is longer than the room for it.
+    NoRoom,
+    /// Memory was refused.
+    Memory,
+    /// A search may open no node, or more than 1,048,576.
+    BadLimit,
+    /// As many nodes were opened as may be, and the search isn't over.
+    Over,
+    /// A command or a post takes no time.
+    ZeroSpan,
+    /// A length or a wait is 2^50 ns or more.
+    LongSpan,
+    /// More than 2 bits name the plane.
+    BadPlaneBits,
+    /// The kind of a want is above 2.
+    BadKind,
+    /// A running group has more than 4 members.
+    BadMembers,
+    /// More than eight wants, no LUN, or more than eight.
+    TooMany,
+    /// A want or a running group that the LUNs can't have.
+    BadLun,
+    /// Times that reach 2^62 ns.
+    Clock,
+    /// A count of a schedule is out of its range, or a start is 2^63 ns or more.
+    BadSchedule,
+    /// The header line is none of a certificate.
+    BadHeader,
+    /// No token stands at the place, or so many good ones do and the text doesn't end with one LF behind them.
+    BadToken,
+    /// A certificate has more than 100,000,000 tokens.
+    TooManyTokens,
+    /// The header names another option than the channel has.
+    OtherOption,
+    /// The schedule isn't legal.
+    Illegal,
+    /// The tokens end inside a tree.
+    Short,
+    /// A token stands behind the tree.
+    Trailing,
+    /// A branch has another width than there are moves, or there is no move.
+    Width,
+    /// A bound doesn't reach the finish, or there is none.
+    BoundLow,
+    /// A move of the LUN that is yielded to doesn't end in time, or there is none.
+    YieldNoFit,
+    /// A move yields to its own LUN, to one that yields, or was yielded to.
+    YieldLoop,
+    /// Something is left to do, or less time has passed.
+    NotEnd,
+    /// A parameter page has fewer than 256 bytes.
+    PageShort,
+    /// No copy of a parameter page has two signature bytes and the right check value.
+    NoCopy,
+    /// The data bus has 16 bits.
+    WideBus,
+    /// The device has no Read Status Enhanced.
+    NoStatusEnhanced,
+    /// The device has no Change Read Column Enhanced.
+    NoColumnEnhanced,
+    /// Several LUNs, and not at the same time.
+    NoMultiLun,
+    /// No LUN, or more than eight.
+    LunCount,
+    /// More than 2 plane address bits.
+    PlaneBits,
+    /// No page, no block or no data byte.
+    Zero,
+    /// A row address doesn't fit the row address cycles.
+    RowTooWide,
+    /// A column address doesn't fit the column address cycles.
+    ColumnTooWide,
+    /// More than 4,096 pages a block, 65,536 blocks a LUN or 65,535 bytes a page.
+    TooLarge,
+    /// The sheet gives no value for a parameter.
+    SheetMissing,
+    /// The sheet gives a parameter twice.
+    SheetRepeated,
+    /// A row of the sheet is no parameter with its value.
+    SheetUnknown,
+    /// The value of a row of the sheet is no number.
+    SheetNotANumber,
+    /// tWC or tRC is 0.
+    SheetZeroCycle,
+    /// A value is 2^32 ns or more.
+    SheetTooLong,
+}
+
+/// Each of them.
+pub const ALL: [Status; 44] = [
+    Status::Done,
+    Status::NoRoom,
+    Status::Memory,
+    Status::BadLimit,
+    Status::Over,
+    Status::ZeroSpan,
+    Status::LongSpan,
+    Status::BadPlaneBits,
+    Status::BadKind,
+    Status::BadMembers,
+    Status::TooMany,
+    Status::BadLun,
+    Status::Clock,
+    Status::BadSchedule,
+    Status::BadHeader,
+    Status::BadToken,
+    Status::TooManyTokens,
+    Status::OtherOption,
+    Status::Illegal,
+    Status::Short,
+    Status::Trailing,
+    Status::Width,
+    Status::BoundLow,
+    Status::YieldNoFit,
+    Status::YieldLoop,
+    Status::NotEnd,
+    Status::PageShort,
+    Status::NoCopy,
+    Status::WideBus,
+    Status::NoStatusEnhanced,
+    Status::NoColumnEnhanced,
+    Status::NoMultiLun,
+    Status::LunCount,
+    Status::PlaneBits,
+    Status::Zero,
+    Status::RowTooWide,
+    Status::ColumnTooWide,
+    Status::TooLarge,
+    Status::SheetMissing,
+    Status::SheetRepeated,
+    Status::SheetUnknown,
+    Status::SheetNotANumber,
+    Status::SheetZeroCycle,
+    Status::SheetTooLong,
+];
+
+impl Status {
+    /// Its number.
+    pub fn number(self) -> u32
+        ensures { result ≡ number_of self }
+    {
+        match self {
+            Status::Done => 0,
+            Status::NoRoom => 3,
+            Status::Memory => 4,
+            Status::BadLimit => 5,
+            Status::Over => 6,
+            Status::ZeroSpan => 10,
+            Status::LongSpan => 11,
+            Status::BadPlaneBits => 12,
+            Status::BadKind => 13,
+            Status::BadMembers => 14,
+            Status::TooMany => 20,
+            Status::BadLun => 21,
+            Status::Clock => 22,
+            Status::BadSchedule => 30,
+            Status::BadHeader => 40,
+            Status::BadToken => 41,
+            Status::TooManyTokens => 42,
+            Status::OtherOption => 43,
+            Status::Illegal => 50,
+            Status::Short => 51,
+            Status::Trailing => 52,
+            Status::Width => 53,
+            Status::BoundLow => 54,
+            Status::YieldNoFit => 55,
+            Status::YieldLoop => 56,
+            Status::NotEnd => 57,
+            Status::PageShort => 60,
+            Status::NoCopy => 61,
+            Status::WideBus => 70,
+            Status::NoStatusEnhanced => 71,
+            Status::NoColumnEnhanced => 72,
+            Status::NoMultiLun => 73,
+            Status::LunCount => 74,
+            Status::PlaneBits => 75,
+            Status::Zero => 76,
+            Status::RowTooWide => 77,
+            Status::ColumnTooWide => 78,
+            Status::TooLarge => 79,
+            Status::SheetMissing => 80,
+            Status::SheetRepeated => 81,
+            Status::SheetUnknown => 82,
+            Status::SheetNotANumber => 83,
+            Status::SheetZeroCycle => 84,
+            Status::SheetTooLong => 85,
+        }
+    }
+
+    /// What it says.
+    pub fn text(self) -> &'static str
+        ensures { result.now ≡ text_of self }
+    {
+        match self {
+            Status::Done => "all went well",
+            Status::NoRoom => "a text is longer than the room for it",
+            Status::Memory => "memory was refused",
+            Status::BadLimit => "a search opens 1 to 1,048,576 nodes",
+            Status::Over => "the limit of nodes was met and the search isn't over",
+            Status::ZeroSpan => "a phase without length",
+            Status::LongSpan => "a length or a wait of 2^50 ns or more",
+            Status::BadPlaneBits => "more than 2 bits name the plane",
+            Status::BadKind => "a kind that is none",
+            Status::BadMembers => "a running group of more than 4 members",
+            Status::TooMany => "more than 8 wants, or not 1 to 8 LUNs",
+            Status::BadLun => "a want, or a running group, that the LUNs can't have",
+            Status::Clock => "times that reach 2^62 ns",
+            Status::BadSchedule =>
+                "a count of the schedule out of its range, or a start of 2^63 ns or more",
+            Status::BadHeader => "the header line is none of a certificate",
+            Status::BadToken => "no token of a certificate",
+            Status::TooManyTokens => "more than 100,000,000 tokens",
+            Status::OtherOption => "the header names another option than the channel has",
+            Status::Illegal => "the schedule isn't legal",
+            Status::Short => "the tokens end too soon",
+            Status::Trailing => "a token behind the tree",
+            Status::Width => "a branch of another width than there are moves",
+            Status::BoundLow => "a bound that doesn't reach the finish",
+            Status::YieldNoFit => "a yield that doesn't fit",
+            Status::YieldLoop => "a yield that goes round",
+            Status::NotEnd => "no end",
+            Status::PageShort => "fewer than 256 bytes of a parameter page",
+            Status::NoCopy => "no copy of the parameter page is sound",
+            Status::WideBus => "the data bus has 16 bits",
+            Status::NoStatusEnhanced => "the device has no Read Status Enhanced",
+            Status::NoColumnEnhanced => "the device has no Change Read Column Enhanced",
+            Status::NoMultiLun => "several LUNs, and not at the same time",
+            Status::LunCount => "no LUN, or more than 8",
+            Status::PlaneBits => "more than 2 plane address bits",
+            Status::Zero => "no page, no block or no data byte",
+            Status::RowTooWide => "a row address doesn't fit the row address cycles",
+            Status::ColumnTooWide => "a column address doesn't fit the column address cycles",
+            Status::TooLarge =>
+                "more than 4096 pages a block, 65536 blocks a LUN or 65535 bytes a page",
+            Status::SheetMissing => "the sheet gives no value for a parameter",
+            Status::SheetRepeated => "the sheet gives a parameter twice",
+            Status::SheetUnknown => "a row of the sheet is no parameter with its value",
+            Status::SheetNotANumber => "the value of a row of the sheet is no number",
+            Status::SheetZeroCycle => "a cycle without length",
+            Status::SheetTooLong => "a value of 2^32 ns or more",
+        }
+    }
+
+    /// What tells a fault of lengths.
+    pub fn of_spans(fault: SpanFault) -> Status
+        ensures { result ≡ spans_status fault }
+    {
+        match fault {
+            SpanFault::Zero => Status::ZeroSpan,
+            SpanFault::TooLong => Status::LongSpan,
+        }
+    }
+}

@@ -1,0 +1,265 @@
+/*
+ * The planner and the checker of ONFI channels, for C99 and C++.
+ *
+ * A plan is the bus schedule of up to eight requests that no legal schedule beats, with a certificate that shows it; the
+ * checker says of any schedule and certificate whether they do. Both are proved: each call repeats the contract of the
+ * function that it calls (docs/CLAIMS.md).
+ *
+ * Times are ns of the channel's clock, below 2^62; lengths and waits are below 2^50.
+ *
+ * What each call asks of its caller, and can't test:
+ *   - No pointer is null, also where the count behind it is 0; each points to as many items as the count says.
+ *   - Memory that a call writes overlaps no other memory of that call.
+ *   - A bool is 0 or 1. All else may have any value: what is out of its range is refused by a number.
+ *   - malloc, realloc and free are those of one allocator, and align as C says.
+ *   - It isn't called from a signal handler, nor from a forked child of a process with threads.
+ *
+ * All memory is the caller's, or is asked of malloc and given back before the call returns. Calls keep nothing, start no
+ * thread and take no lock; several threads may call at the same time, each with memory of its own. A call takes some tens
+ * of kilobytes of stack.
+ */
+#ifndef ONFI_H
+#define ONFI_H
+
+#include <stdbool.h>
+#include <stddef.h>
+#include <stdint.h>
+
+#ifdef __cplusplus
+extern "C" {
+#endif
+
+/* The greatest counts. */
+enum { ONFI_LUNS = 8, ONFI_WANTS = 8, ONFI_MEMBERS = 4, ONFI_STARTS = 8 };
+
+/* The most nodes that a search may open. */
+#define ONFI_NODES UINT32_C(1048576)
+
+/* What a call answers. onfi_status_text gives a text of each. */
+enum onfi_status {
+    ONFI_DONE = 0, /* All went well. */
+    ONFI_NO_ROOM = 3, /* A text is longer than the room for it. */
+    ONFI_MEMORY = 4, /* Memory was refused. */
+    ONFI_BAD_LIMIT = 5, /* A search may open no node, or more than 1,048,576. */
+    ONFI_OVER = 6, /* As many nodes were opened as may be, and the search isn't over. */
+    /* what a caller says of a channel */
+    ONFI_ZERO_SPAN = 10, /* A command or a post takes no time. */
+    ONFI_LONG_SPAN = 11, /* A length or a wait is 2^50 ns or more. */
+    ONFI_BAD_PLANE_BITS = 12, /* More than 2 bits name the plane. */
+    ONFI_BAD_KIND = 13, /* The kind of a want is above 2. */
+    ONFI_BAD_MEMBERS = 14, /* A running group has more than 4 members. */
+    /* problems */
+    ONFI_TOO_MANY = 20, /* More than eight wants, no LUN, or more than eight. */
+    ONFI_BAD_LUN = 21, /* A want or a running group that the LUNs can't have. */
+    ONFI_CLOCK = 22, /* Times that reach 2^62 ns. */
+    /* schedules */
+    ONFI_BAD_SCHEDULE = 30, /* A count of a schedule is out of its range, or a start is 2^63 ns or more. */
+    /* texts of certificates */
+    ONFI_BAD_HEADER = 40, /* The header line is none of a certificate. */
+    ONFI_BAD_TOKEN = 41, /* No token stands at the place, or so many good ones do and the text doesn't end with one LF behind them. */
+    ONFI_TOO_MANY_TOKENS = 42, /* A certificate has more than 100,000,000 tokens. */
+    ONFI_OTHER_OPTION = 43, /* The header names another option than the channel has. */
+    /* certificates; the place is that of the token, counted from 0 */
+    ONFI_ILLEGAL = 50, /* The schedule isn't legal. */
+    ONFI_SHORT = 51, /* The tokens end inside a tree. */
+    ONFI_TRAILING = 52, /* A token stands behind the tree. */
+    ONFI_WIDTH = 53, /* A branch has another width than there are moves, or there is no move. */
+    ONFI_BOUND_LOW = 54, /* A bound doesn't reach the finish, or there is none. */
+    ONFI_YIELD_NO_FIT = 55, /* A move of the LUN that is yielded to doesn't end in time, or there is none. */
+    ONFI_YIELD_LOOP = 56, /* A move yields to its own LUN, to one that yields, or was yielded to. */
+    ONFI_NOT_END = 57, /* Something is left to do, or less time has passed. */
+    /* parameter pages */
+    ONFI_PAGE_SHORT = 60, /* A parameter page has fewer than 256 bytes. */
+    ONFI_NO_COPY = 61, /* No copy of a parameter page has two signature bytes and the right check value. */
+    /* devices that can't be driven */
+    ONFI_WIDE_BUS = 70, /* The data bus has 16 bits. */
+    ONFI_NO_STATUS_ENHANCED = 71, /* The device has no Read Status Enhanced. */
+    ONFI_NO_COLUMN_ENHANCED = 72, /* The device has no Change Read Column Enhanced. */
+    ONFI_NO_MULTI_LUN = 73, /* Several LUNs, and not at the same time. */
+    ONFI_LUN_COUNT = 74, /* No LUN, or more than eight. */
+    ONFI_PLANE_BITS = 75, /* More than 2 plane address bits. */
+    ONFI_ZERO = 76, /* No page, no block or no data byte. */
+    ONFI_ROW_TOO_WIDE = 77, /* A row address doesn't fit the row address cycles. */
+    ONFI_COLUMN_TOO_WIDE = 78, /* A column address doesn't fit the column address cycles. */
+    ONFI_TOO_LARGE = 79, /* More than 4,096 pages a block, 65,536 blocks a LUN or 65,535 bytes a page. */
+    /* timing sheets; the place is that of the row, counted from 1, or the number of the parameter */
+    ONFI_SHEET_MISSING = 80, /* The sheet gives no value for a parameter. */
+    ONFI_SHEET_REPEATED = 81, /* The sheet gives a parameter twice. */
+    ONFI_SHEET_UNKNOWN = 82, /* A row of the sheet is no parameter with its value. */
+    ONFI_SHEET_NOT_A_NUMBER = 83, /* The value of a row of the sheet is no number. */
+    ONFI_SHEET_ZERO_CYCLE = 84, /* tWC or tRC is 0. */
+    ONFI_SHEET_TOO_LONG = 85 /* A value is 2^32 ns or more. */
+};
+
+/* What onfi_text_plan and onfi_text_check answer besides ONFI_DONE, ONFI_NO_ROOM, ONFI_MEMORY, ONFI_BAD_LIMIT and ONFI_OVER. */
+enum { ONFI_SCRIPT_REFUSED = 1, ONFI_PLAN_REFUSED = 2 };
+
+/* Kinds of requests. */
+enum onfi_kind { ONFI_READ = 0, ONFI_PROGRAM = 1, ONFI_ERASE = 2 };
+
+/* How long the phases of a kind take, in ns. */
+typedef struct onfi_spans {
+    uint64_t cmd;   /* a command with its address and data; at least 1 */
+    uint64_t gap;   /* the wait between two commands of a group */
+    uint64_t array; /* the wait between the last command and the first post */
+    uint64_t post;  /* a post: a data output or a status byte; at least 1 */
+} onfi_spans;
+
+typedef struct onfi_timing {
+    onfi_spans read;
+    onfi_spans program;
+    onfi_spans erase;
+} onfi_timing;
+
+/* What may run as one on several planes of a LUN. */
+typedef struct onfi_rules {
+    bool read;          /* reads may */
+    bool write;         /* programs may, and erases */
+    bool strict;        /* only blocks whose numbers agree above the plane bits */
+    uint8_t plane_bits; /* how many low bits of a block number name its plane, 0 to 2 */
+} onfi_rules;
+
+typedef struct onfi_channel {
+    onfi_timing timing;
+    onfi_rules rules;
+    uint64_t bus_free; /* from when on the bus is free, in ns */
+} onfi_channel;
+
+/* A request. Its plane is the one that the low bits of its block name. */
+typedef struct onfi_want {
+    uint64_t id;    /* a number of the caller's; numbers rise along a list of wants */
+    uint8_t kind;   /* an onfi_kind */
+    uint8_t lun;    /* from 0 */
+    uint16_t block; /* from 0 */
+    uint16_t page;  /* from 0; an erase names page 0 */
+} onfi_want;
+
+/* What a LUN does as the planning begins. The place in the list of LUNs is its number. */
+typedef struct onfi_lun {
+    uint64_t since;  /* from when on a group may begin, or the next phase of the running group may start, in ns */
+    uint8_t members; /* how many wants its running group has, 1 to 4, planes rising; 0 where it is free */
+    uint8_t next;    /* which phase of the running group comes next: its commands are 0 .., its posts follow */
+    onfi_want member[ONFI_MEMBERS]; /* the wants of the running group; their ids are not looked at */
+} onfi_lun;
+
+/* The starts of the phases that are left of a LUN's running group. */
+typedef struct onfi_rest {
+    uint8_t starts;
+    uint64_t start[ONFI_STARTS]; /* in ns */
+} onfi_rest;
+
+/* A new group: one to four wants of one LUN that run as one. */
+typedef struct onfi_group {
+    uint8_t members;
+    uint64_t want[ONFI_MEMBERS]; /* the ids of its wants, planes rising */
+    uint64_t start[ONFI_STARTS]; /* in ns: for each member of its command, then for each of its post */
+} onfi_group;
+
+typedef struct onfi_schedule {
+    uint8_t luns;
+    uint8_t groups;
+    onfi_rest rest[ONFI_LUNS];    /* one for each LUN; no starts where the LUN is free */
+    onfi_group group[ONFI_WANTS]; /* in a plan, by rising first start */
+} onfi_schedule;
+
+typedef struct onfi_planned {
+    onfi_schedule schedule; /* places that it doesn't fill are 0 */
+    uint64_t finish;        /* when its last phase ends, in ns; where there is none, from when on the bus is free */
+    uint32_t opened;        /* how many nodes the search opened, at least 1 */
+} onfi_planned;
+
+typedef struct onfi_verdict {
+    uint64_t finish; /* when the schedule ends, in ns, where it is accepted; else 0 */
+    uint64_t place;  /* the token that a refusal speaks of, counted from 0; else 0 */
+} onfi_verdict;
+
+typedef struct onfi_geometry {
+    uint32_t blocks_per_lun; /* 1 to 65,536 */
+    uint32_t page_bits;      /* bits of a page number in a row address, at most 12 */
+    uint32_t block_bits;     /* of a block number, at most 16 */
+    uint32_t lun_bits;       /* of a LUN number, at most 3 */
+    uint16_t pages_per_block; /* 1 to 4,096 */
+    uint16_t data_bytes;      /* of a page, at least 1 */
+    uint16_t spare_bytes;     /* of a page */
+    uint8_t lun_count;          /* 1 to 8 */
+    uint8_t plane_address_bits; /* 0 to 2 */
+    uint8_t column_address_cycles;
+    uint8_t row_address_cycles;
+    bool any_page_order;     /* pages of a block may be programmed in any order */
+    bool multi_plane_writes; /* several planes may program or erase at the same time */
+    bool multi_plane_reads;  /* several planes may read at the same time */
+} onfi_geometry;
+
+typedef struct onfi_device {
+    onfi_timing timing;
+    onfi_rules rules; /* not strict: a page doesn't tell */
+    onfi_geometry geometry;
+} onfi_device;
+
+/*
+ * Plans the wants of a channel.
+ *
+ * Gives the plan, and where there is room for any byte the text of its certificate; *certificate_bytes tells how many
+ * bytes that text has, without a final NUL. The search opens at most `limit` nodes, 1 to ONFI_NODES. Eight wants have
+ * certificates of some hundred bytes mostly, and of megabytes at worst.
+ *
+ * ONFI_DONE, or ONFI_NO_ROOM where 0 < certificate_room < *certificate_bytes: the plan is given, and the room is as it
+ * was. Else nothing is given and *certificate_bytes is 0; told is the first of: ONFI_BAD_LIMIT; ONFI_ZERO_SPAN or
+ * ONFI_LONG_SPAN of reads, programs, erases; ONFI_BAD_PLANE_BITS; ONFI_BAD_MEMBERS; ONFI_BAD_KIND; ONFI_TOO_MANY;
+ * ONFI_BAD_LUN; ONFI_CLOCK; ONFI_OVER. ONFI_MEMORY may stand in place of any behind ONFI_BAD_KIND.
+ */
+uint32_t onfi_plan(const onfi_channel *channel, const onfi_lun *luns, size_t lun_count, const onfi_want *wants, size_t want_count,
+                   uint32_t limit, onfi_planned *plan, uint8_t *certificate, size_t certificate_room, size_t *certificate_bytes);
+
+/*
+ * Checks by the text of a certificate that no legal schedule of the wants ends sooner than this one. Whoever made the two
+ * need not be trusted.
+ *
+ * ONFI_DONE: the schedule is optimal, and verdict->finish says when it ends. Else told is the first of the channel's
+ * faults as by onfi_plan; ONFI_BAD_SCHEDULE; a fault of the text (40 ..), ONFI_ILLEGAL, a fault of the tokens (51 ..) with
+ * verdict->place. An id that no want has makes a schedule illegal. ONFI_MEMORY may stand in place of any behind
+ * ONFI_BAD_KIND.
+ */
+uint32_t onfi_check(const onfi_channel *channel, const onfi_lun *luns, size_t lun_count, const onfi_want *wants, size_t want_count,
+                    const onfi_schedule *schedule, const uint8_t *certificate, size_t certificate_bytes, onfi_verdict *verdict);
+
+/*
+ * Reads a device from the bytes of its parameter page, with as many redundant copies as there are, and from the text of a
+ * timing sheet: rows NAME,VALUE for tWC, tRC, tADL, tWHR, tRHW, tWB, tPLRBSY, tPLPBSY and tPLEBSY, in ns, digits alone.
+ *
+ * ONFI_DONE and *place 0; else nothing is given, and told is the first fault of the page (60 ..), of the device (70 ..), of
+ * the sheet (80 ..), or ONFI_MEMORY. *place is the row that ONFI_SHEET_UNKNOWN and ONFI_SHEET_NOT_A_NUMBER speak of,
+ * counted from 1, the parameter of ONFI_SHEET_MISSING and ONFI_SHEET_REPEATED, from 1 in the order above, else 0.
+ */
+uint32_t onfi_timing_of_page(const uint8_t *page, size_t page_bytes, const char *sheet, size_t sheet_bytes, onfi_device *device, uint64_t *place);
+
+/*
+ * What `onfi_sim plan` writes for a script (docs/FORMATS.md), or with `trace` what `onfi_sim plan --trace` writes; the
+ * search opens at most `limit` nodes. *answer_bytes tells how many bytes there are, without a final NUL.
+ *
+ * ONFI_DONE, ONFI_SCRIPT_REFUSED, ONFI_MEMORY and ONFI_OVER with the answer; ONFI_NO_ROOM where it is longer than the room,
+ * which is then as it was; ONFI_BAD_LIMIT with no answer.
+ */
+uint32_t onfi_text_plan(const char *script, size_t script_bytes, uint32_t limit, bool trace, char *answer, size_t answer_room, size_t *answer_bytes);
+
+/*
+ * What `onfi_sim check` writes for a script with a plan text behind it. *answer_bytes tells how many bytes there are.
+ *
+ * ONFI_DONE where the plan is accepted, ONFI_SCRIPT_REFUSED, ONFI_PLAN_REFUSED and ONFI_MEMORY with the answer;
+ * ONFI_NO_ROOM as above.
+ */
+uint32_t onfi_text_check(const char *script, size_t script_bytes, char *answer, size_t answer_room, size_t *answer_bytes);
+
+/*
+ * The text of an onfi_status, without a final NUL; of any other number there is none. *text_bytes tells how many bytes
+ * it has, at most 80.
+ *
+ * ONFI_DONE, or ONFI_NO_ROOM where it is longer than the room, which is then as it was.
+ */
+uint32_t onfi_status_text(uint32_t status, char *text, size_t text_room, size_t *text_bytes);
+
+#ifdef __cplusplus
+}
+#endif
+
+#endif

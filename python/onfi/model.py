@@ -1,0 +1,157 @@
+"""What calls take and give, as plain dataclasses. Times and lengths are ns."""
+
+from __future__ import annotations
+
+import enum
+from dataclasses import dataclass, field
+from typing import List, Sequence
+
+
+class Kind(enum.IntEnum):
+    """What a request does to a page or a block."""
+
+    READ = 0
+    PROGRAM = 1
+    ERASE = 2
+
+
+@dataclass(frozen=True)
+class Spans:
+    """How long the phases of a kind take, in ns, each below 2^50."""
+
+    cmd: int
+    """A command with its address and data, at least 1."""
+    gap: int
+    """The wait between two commands of a group."""
+    array: int
+    """The wait between the last command and the first post."""
+    post: int
+    """A post, which is a data output or a status byte, at least 1."""
+
+
+@dataclass(frozen=True)
+class Timing:
+    """The lengths of each kind."""
+
+    read: Spans
+    program: Spans
+    erase: Spans
+
+
+@dataclass(frozen=True)
+class Rules:
+    """What may run as one on several planes of a LUN."""
+
+    read: bool = False
+    """Reads may."""
+    write: bool = False
+    """Programs may, and erases."""
+    strict: bool = False
+    """Only blocks whose numbers agree above the plane bits."""
+    plane_bits: int = 0
+    """How many low bits of a block number name its plane, 0 to 2."""
+
+
+@dataclass(frozen=True)
+class Channel:
+    """A channel: its lengths, its rules, and from when on its bus is free, in ns."""
+
+    timing: Timing
+    rules: Rules = Rules()
+    bus_free: int = 0
+
+
+@dataclass(frozen=True)
+class Want:
+    """A request. Its plane is the one that the low bits of its block name."""
+
+    id: int
+    """A number of the caller's, below 2^64; numbers rise along a list of wants."""
+    kind: Kind
+    lun: int
+    """From 0."""
+    block: int
+    """From 0, below 65,536."""
+    page: int = 0
+    """From 0, below 65,536; an erase names page 0."""
+
+
+@dataclass(frozen=True)
+class Lun:
+    """What a LUN does as the planning begins: nothing, or the group of `members`, of which phase `next` comes next."""
+
+    since: int = 0
+    """From when on a group may begin, or the next phase may start, in ns."""
+    members: Sequence[Want] = ()
+    """The wants of the running group, one to four, planes rising; none where the LUN is free."""
+    next: int = 0
+    """Commands are phases 0 .., posts follow; at least one is over and one is left."""
+
+
+@dataclass(frozen=True)
+class Group:
+    """A new group: one to four wants of one LUN that run as one."""
+
+    wants: Sequence[int]
+    """Their ids, planes rising."""
+    starts: Sequence[int]
+    """In ns: for each member of its command, then for each of its post."""
+
+
+@dataclass(frozen=True)
+class Schedule:
+    """Starts for all phases of a problem, in ns."""
+
+    rest: Sequence[Sequence[int]]
+    """For each LUN the starts of the phases that are left of its running group, none where it is free."""
+    groups: Sequence[Group]
+    """The new groups; in a plan by rising first start."""
+
+
+@dataclass(frozen=True)
+class Plan:
+    """A schedule that no legal schedule beats, and what shows it."""
+
+    schedule: Schedule
+    finish: int
+    """When its last phase ends, in ns; where there is none, from when on the bus is free."""
+    opened: int
+    """How many nodes the search opened, at least 1."""
+    certificate: bytes
+
+
+@dataclass(frozen=True)
+class Geometry:
+    """What of a device its addressing rests on, and what it may do at the same time."""
+
+    blocks_per_lun: int
+    page_bits: int
+    block_bits: int
+    lun_bits: int
+    pages_per_block: int
+    data_bytes: int
+    spare_bytes: int
+    lun_count: int
+    plane_address_bits: int
+    column_address_cycles: int
+    row_address_cycles: int
+    any_page_order: bool
+    multi_plane_writes: bool
+    multi_plane_reads: bool
+
+
+@dataclass(frozen=True)
+class Device:
+    """A device by its parameter page and its timing sheet. A page doesn't tell whether groups are strict."""
+
+    timing: Timing
+    rules: Rules
+    geometry: Geometry
+
+
+@dataclass(frozen=True)
+class Answer:
+    """What the program onfi_sim writes, and the status that it ends with."""
+
+    text: bytes
+    status: int

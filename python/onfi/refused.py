@@ -1,0 +1,320 @@
+"""What is refused, as exceptions that are named like the refusals."""
+
+from __future__ import annotations
+
+from typing import Dict, Type
+
+
+class Refused(Exception):
+    """A call gives nothing."""
+
+    status = 0
+    """The number that onfi.h gives it."""
+
+    def __init__(self, text: str, place: int = 0) -> None:
+        super().__init__(text)
+        self.place = place
+        """The token of a certificate that it speaks of, counted from 0, or the row, from 1, or the parameter of a timing sheet."""
+
+
+class Memory(Refused):
+    """Memory was refused."""
+
+    status = 4
+
+
+class BadLimit(Refused):
+    """A search may open no node, or more than 1,048,576."""
+
+    status = 5
+
+
+class Over(Refused):
+    """As many nodes were opened as may be, and the search isn't over."""
+
+    status = 6
+
+
+class ZeroSpan(Refused):
+    """A command or a post takes no time."""
+
+    status = 10
+
+
+class LongSpan(Refused):
+    """A length or a wait is 2^50 ns or more."""
+
+    status = 11
+
+
+class BadPlaneBits(Refused):
+    """More than 2 bits name the plane."""
+
+    status = 12
+
+
+class BadKind(Refused):
+    """The kind of a want is above 2."""
+
+    status = 13
+
+
+class BadMembers(Refused):
+    """A running group has more than 4 members."""
+
+    status = 14
+
+
+class TooMany(Refused):
+    """More than eight wants, no LUN, or more than eight."""
+
+    status = 20
+
+
+class BadLun(Refused):
+    """A want or a running group that the LUNs can't have."""
+
+    status = 21
+
+
+class Clock(Refused):
+    """Times that reach 2^62 ns."""
+
+    status = 22
+
+
+class BadSchedule(Refused):
+    """A count of a schedule is out of its range, or a start is 2^63 ns or more."""
+
+    status = 30
+
+
+class BadHeader(Refused):
+    """The header line is none of a certificate."""
+
+    status = 40
+
+
+class BadToken(Refused):
+    """No token stands at the place, or so many good ones do and the text doesn't end with one LF behind them."""
+
+    status = 41
+
+
+class TooManyTokens(Refused):
+    """A certificate has more than 100,000,000 tokens."""
+
+    status = 42
+
+
+class OtherOption(Refused):
+    """The header names another option than the channel has."""
+
+    status = 43
+
+
+class Illegal(Refused):
+    """The schedule isn't legal."""
+
+    status = 50
+
+
+class Short(Refused):
+    """The tokens end inside a tree."""
+
+    status = 51
+
+
+class Trailing(Refused):
+    """A token stands behind the tree."""
+
+    status = 52
+
+
+class Width(Refused):
+    """A branch has another width than there are moves, or there is no move."""
+
+    status = 53
+
+
+class BoundLow(Refused):
+    """A bound doesn't reach the finish, or there is none."""
+
+    status = 54
+
+
+class YieldNoFit(Refused):
+    """A move of the LUN that is yielded to doesn't end in time, or there is none."""
+
+    status = 55
+
+
+class YieldLoop(Refused):
+    """A move yields to its own LUN, to one that yields, or was yielded to."""
+
+    status = 56
+
+
+class NotEnd(Refused):
+    """Something is left to do, or less time has passed."""
+
+    status = 57
+
+
+class PageShort(Refused):
+    """A parameter page has fewer than 256 bytes."""
+
+    status = 60
+
+
+class NoCopy(Refused):
+    """No copy of a parameter page has two signature bytes and the right check value."""
+
+    status = 61
+
+
+class WideBus(Refused):
+    """The data bus has 16 bits."""
+
+    status = 70
+
+
+class NoStatusEnhanced(Refused):
+    """The device has no Read Status Enhanced."""
+
+    status = 71
+
+
+class NoColumnEnhanced(Refused):
+    """The device has no Change Read Column Enhanced."""
+
+    status = 72
+
+
+class NoMultiLun(Refused):
+    """Several LUNs, and not at the same time."""
+
+    status = 73
+
+
+class LunCount(Refused):
+    """No LUN, or more than eight."""
+
+    status = 74
+
+
+class PlaneBits(Refused):
+    """More than 2 plane address bits."""
+
+    status = 75
+
+
+class Zero(Refused):
+    """No page, no block or no data byte."""
+
+    status = 76
+
+
+class RowTooWide(Refused):
+    """A row address doesn't fit the row address cycles."""
+
+    status = 77
+
+
+class ColumnTooWide(Refused):
+    """A column address doesn't fit the column address cycles."""
+
+    status = 78
+
+
+class TooLarge(Refused):
+    """More than 4,096 pages a block, 65,536 blocks a LUN or 65,535 bytes a page."""
+
+    status = 79
+
+
+class SheetMissing(Refused):
+    """The sheet gives no value for a parameter."""
+
+    status = 80
+
+
+class SheetRepeated(Refused):
+    """The sheet gives a parameter twice."""
+
+    status = 81
+
+
+class SheetUnknown(Refused):
+    """A row of the sheet is no parameter with its value."""
+
+    status = 82
+
+
+class SheetNotANumber(Refused):
+    """The value of a row of the sheet is no number."""
+
+    status = 83
+
+
+class SheetZeroCycle(Refused):
+    """tWC or tRC is 0."""
+
+    status = 84
+
+
+class SheetTooLong(Refused):
+    """A value is 2^32 ns or more."""
+
+    status = 85
+
+
+REFUSALS: Dict[int, Type[Refused]] = {
+    it.status: it
+    for it in (
+        Memory,
+        BadLimit,
+        Over,
+        ZeroSpan,
+        LongSpan,
+        BadPlaneBits,
+        BadKind,
+        BadMembers,
+        TooMany,
+        BadLun,
+        Clock,
+        BadSchedule,
+        BadHeader,
+        BadToken,
+        TooManyTokens,
+        OtherOption,
+        Illegal,
+        Short,
+        Trailing,
+        Width,
+        BoundLow,
+        YieldNoFit,
+        YieldLoop,
+        NotEnd,
+        PageShort,
+        NoCopy,
+        WideBus,
+        NoStatusEnhanced,
+        NoColumnEnhanced,
+        NoMultiLun,
+        LunCount,
+        PlaneBits,
+        Zero,
+        RowTooWide,
+        ColumnTooWide,
+        TooLarge,
+        SheetMissing,
+        SheetRepeated,
+        SheetUnknown,
+        SheetNotANumber,
+        SheetZeroCycle,
+        SheetTooLong,
+    )
+}
+
+__all__ = [it.__name__ for it in REFUSALS.values()]

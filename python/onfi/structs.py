@@ -1,0 +1,160 @@
+"""The plain structs of onfi.h, from and to the dataclasses."""
+
+from __future__ import annotations
+
+import ctypes
+from typing import Sequence
+
+from onfi.model import Channel, Device, Geometry, Group, Lun, Rules, Schedule, Spans, Timing, Want
+
+LUNS, WANTS, MEMBERS, STARTS = 8, 8, 4, 8
+
+
+def number(value: int, below: int, what: str) -> int:
+    """The number, where it fits its place."""
+    if not 0 <= value < below:
+        raise ValueError(f"{what} is not from 0 to {below - 1}: {value}")
+    return value
+
+
+class CSpans(ctypes.Structure):
+    _fields_ = [(name, ctypes.c_uint64) for name in ("cmd", "gap", "array", "post")]
+
+    @classmethod
+    def of(cls, spans: Spans) -> CSpans:
+        return cls(*(number(value, 1 << 64, "a length") for value in (spans.cmd, spans.gap, spans.array, spans.post)))
+
+    def told(self) -> Spans:
+        return Spans(self.cmd, self.gap, self.array, self.post)
+
+
+class CTiming(ctypes.Structure):
+    _fields_ = [("read", CSpans), ("program", CSpans), ("erase", CSpans)]
+
+    def told(self) -> Timing:
+        return Timing(self.read.told(), self.program.told(), self.erase.told())
+
+
+class CRules(ctypes.Structure):
+    _fields_ = [("read", ctypes.c_bool), ("write", ctypes.c_bool), ("strict", ctypes.c_bool), ("plane_bits", ctypes.c_uint8)]
+
+    def told(self) -> Rules:
+        return Rules(self.read, self.write, self.strict, self.plane_bits)
+
+
+class CChannel(ctypes.Structure):
+    _fields_ = [("timing", CTiming), ("rules", CRules), ("bus_free", ctypes.c_uint64)]
+
+    @classmethod
+    def of(cls, channel: Channel) -> CChannel:
+        timing, rules = channel.timing, channel.rules
+        plane_bits = number(rules.plane_bits, 256, "the count of plane bits")
+        return cls(
+            CTiming(CSpans.of(timing.read), CSpans.of(timing.program), CSpans.of(timing.erase)),
+            CRules(rules.read, rules.write, rules.strict, plane_bits),
+            number(channel.bus_free, 1 << 64, "a time"),
+        )
+
+
+class CWant(ctypes.Structure):
+    _fields_ = [
+        ("id", ctypes.c_uint64),
+        ("kind", ctypes.c_uint8),
+        ("lun", ctypes.c_uint8),
+        ("block", ctypes.c_uint16),
+        ("page", ctypes.c_uint16),
+    ]
+
+    @classmethod
+    def of(cls, want: Want) -> CWant:
+        return cls(
+            number(want.id, 1 << 64, "the id of a want"),
+            number(want.kind, 256, "the kind of a want"),
+            number(want.lun, 256, "the LUN of a want"),
+            number(want.block, 65536, "the block of a want"),
+            number(want.page, 65536, "the page of a want"),
+        )
+
+
+class CLun(ctypes.Structure):
+    _fields_ = [("since", ctypes.c_uint64), ("members", ctypes.c_uint8), ("next", ctypes.c_uint8), ("member", CWant * MEMBERS)]
+
+    @classmethod
+    def of(cls, lun: Lun) -> CLun:
+        made = cls(number(lun.since, 1 << 64, "a time"), number(len(lun.members), 256, "the count of members"), number(lun.next, 256, "a phase"))
+        for at, want in enumerate(lun.members[:MEMBERS]):
+            made.member[at] = CWant.of(want)
+        return made
+
+
+class CRest(ctypes.Structure):
+    _fields_ = [("starts", ctypes.c_uint8), ("start", ctypes.c_uint64 * STARTS)]
+
+    @classmethod
+    def of(cls, starts: Sequence[int]) -> CRest:
+        made = cls(min(len(starts), 255))
+        for at, start in enumerate(starts[:STARTS]):
+            made.start[at] = number(start, 1 << 64, "a start")
+        return made
+
+
+class CGroup(ctypes.Structure):
+    _fields_ = [("members", ctypes.c_uint8), ("want", ctypes.c_uint64 * MEMBERS), ("start", ctypes.c_uint64 * STARTS)]
+
+    @classmethod
+    def of(cls, group: Group) -> CGroup:
+        if len(group.starts) != 2 * len(group.wants):
+            raise ValueError("a group has two starts for each member")
+        made = cls(min(len(group.wants), 255))
+        for at, want in enumerate(group.wants[:MEMBERS]):
+            made.want[at] = number(want, 1 << 64, "the id of a want")
+        for at, start in enumerate(group.starts[:STARTS]):
+            made.start[at] = number(start, 1 << 64, "a start")
+        return made
+
+    def told(self) -> Group:
+        return Group(tuple(self.want[: self.members]), tuple(self.start[: 2 * self.members]))
+
+
+class CSchedule(ctypes.Structure):
+    _fields_ = [("luns", ctypes.c_uint8), ("groups", ctypes.c_uint8), ("rest", CRest * LUNS), ("group", CGroup * WANTS)]
+
+    @classmethod
+    def of(cls, schedule: Schedule) -> CSchedule:
+        made = cls(min(len(schedule.rest), 255), min(len(schedule.groups), 255))
+        for at, starts in enumerate(schedule.rest[:LUNS]):
+            made.rest[at] = CRest.of(starts)
+        for at, group in enumerate(schedule.groups[:WANTS]):
+            made.group[at] = CGroup.of(group)
+        return made
+
+    def told(self) -> Schedule:
+        rest = tuple(tuple(it.start[: it.starts]) for it in self.rest[: self.luns])
+        return Schedule(rest, tuple(it.told() for it in self.group[: self.groups]))
+
+
+class CPlan(ctypes.Structure):
+    _fields_ = [("schedule", CSchedule), ("finish", ctypes.c_uint64), ("opened", ctypes.c_uint32)]
+
+
+class CVerdict(ctypes.Structure):
+    _fields_ = [("finish", ctypes.c_uint64), ("place", ctypes.c_uint64)]
+
+
+class CGeometry(ctypes.Structure):
+    _fields_ = [
+        *((name, ctypes.c_uint32) for name in ("blocks_per_lun", "page_bits", "block_bits", "lun_bits")),
+        *((name, ctypes.c_uint16) for name in ("pages_per_block", "data_bytes", "spare_bytes")),
+        *((name, ctypes.c_uint8) for name in ("lun_count", "plane_address_bits", "column_address_cycles", "row_address_cycles")),
+        *((name, ctypes.c_bool) for name in ("any_page_order", "multi_plane_writes", "multi_plane_reads")),
+    ]
+
+    def told(self) -> Geometry:
+        return Geometry(*(getattr(self, name) for name, *_ in self._fields_))
+
+
+class CDevice(ctypes.Structure):
+    _fields_ = [("timing", CTiming), ("rules", CRules), ("geometry", CGeometry)]
+
+    def told(self) -> Device:
+        return Device(self.timing.told(), self.rules.told(), self.geometry.told())

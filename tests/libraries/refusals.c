@@ -1,0 +1,203 @@
+/* Refused calls, each by its number, and what they leave as it was. */
+#include <onfi.h>
+
+#include <stdio.h>
+#include <stdlib.h>
+#include <string.h>
+
+static unsigned tried, failed;
+
+static void expect(const char *what, uint64_t got, uint64_t wanted)
+{
+    tried++;
+    if (got != wanted) {
+        failed++;
+        printf("%s: %llu in place of %llu\n", what, (unsigned long long)got, (unsigned long long)wanted);
+    }
+}
+
+typedef struct {
+    onfi_channel channel;
+    onfi_lun luns[9];
+    onfi_want wants[9];
+    size_t lun_count, want_count;
+    uint32_t limit;
+} problem;
+
+/* Two reads of two LUNs; LUN 1 runs an erase. */
+static problem usual(void)
+{
+    problem p = {
+        .channel = {.timing = {.read = {140, 600, 25100, 11000}, .program = {10800, 600, 200100, 280}, .erase = {100, 600, 1500100, 280}},
+                    .rules = {.read = true, .write = true, .plane_bits = 1}},
+        .lun_count = 2, .want_count = 2, .limit = ONFI_NODES,
+    };
+    p.luns[1] = (onfi_lun){.since = 1000, .members = 1, .next = 1, .member = {{.kind = ONFI_ERASE, .lun = 1, .block = 3}}};
+    for (unsigned at = 0; at < 9; at++)
+        p.wants[at] = (onfi_want){.id = 7 + at, .kind = ONFI_READ, .lun = (uint8_t)(at & 1), .block = (uint16_t)at};
+    return p;
+}
+
+static uint32_t plan_of(const problem *p, onfi_planned *plan, uint8_t *certificate, size_t room, size_t *bytes)
+{
+    return onfi_plan(&p->channel, p->luns, p->lun_count, p->wants, p->want_count, p->limit, plan, certificate, room, bytes);
+}
+
+/* A refused plan leaves all as it was, and there is no certificate. */
+static void refuses(const char *what, const problem *p, uint32_t wanted)
+{
+    onfi_planned plan, before;
+    uint8_t certificate[64], room[64];
+    size_t bytes = 1;
+    onfi_verdict verdict = {1, 1};
+    memset(&plan, 0xA5, sizeof plan);
+    memset(certificate, 0x5A, sizeof certificate);
+    memcpy(&before, &plan, sizeof plan);
+    memcpy(room, certificate, sizeof room);
+    expect(what, plan_of(p, &plan, certificate, sizeof certificate, &bytes), wanted);
+    expect(what, bytes, 0);
+    expect(what, (uint64_t)memcmp(&plan, &before, sizeof plan), 0);
+    expect(what, (uint64_t)memcmp(room, certificate, sizeof room), 0);
+    if (wanted == ONFI_BAD_LIMIT || wanted == ONFI_OVER)
+        return;
+    const onfi_schedule none = {.luns = 2};
+    expect(what, onfi_check(&p->channel, p->luns, p->lun_count, p->wants, p->want_count, &none, room, sizeof room, &verdict), wanted);
+    expect(what, verdict.finish + verdict.place, 0);
+}
+
+static void channels(void)
+{
+    problem p = usual();
+    p.limit = 0, refuses("limit 0", &p, ONFI_BAD_LIMIT);
+    p.limit = ONFI_NODES + 1, refuses("a limit too high", &p, ONFI_BAD_LIMIT);
+    p.limit = 1, refuses("one node", &p, ONFI_OVER);
+    p = usual(), p.channel.timing.read.cmd = 0, refuses("no command", &p, ONFI_ZERO_SPAN);
+    p = usual(), p.channel.timing.erase.post = 0, refuses("no post", &p, ONFI_ZERO_SPAN);
+    p = usual(), p.channel.timing.program.gap = UINT64_C(1) << 50, refuses("a long gap", &p, ONFI_LONG_SPAN);
+    p.channel.timing.erase.cmd = 0, refuses("the first kind is told", &p, ONFI_LONG_SPAN);
+    p = usual(), p.channel.rules.plane_bits = 3, refuses("three plane bits", &p, ONFI_BAD_PLANE_BITS);
+    p = usual(), p.luns[1].members = 5, refuses("five members", &p, ONFI_BAD_MEMBERS);
+    p.luns[1].members = 255, refuses("255 members", &p, ONFI_BAD_MEMBERS);
+    p = usual(), p.luns[1].member[0].kind = 3, refuses("a running kind", &p, ONFI_BAD_KIND);
+    p = usual(), p.wants[1].kind = 255, refuses("a kind", &p, ONFI_BAD_KIND);
+    p = usual(), p.want_count = 9, refuses("nine wants", &p, ONFI_TOO_MANY);
+    p = usual(), p.lun_count = 9, refuses("nine LUNs", &p, ONFI_TOO_MANY);
+    p = usual(), p.lun_count = 0, refuses("no LUN", &p, ONFI_TOO_MANY);
+    p = usual(), p.wants[0].lun = 2, refuses("a LUN that isn't there", &p, ONFI_BAD_LUN);
+    p = usual(), p.wants[1].id = 7, refuses("ids that don't rise", &p, ONFI_BAD_LUN);
+    p = usual(), p.luns[1].next = 2, refuses("a running group that is over", &p, ONFI_BAD_LUN);
+    p = usual(), p.luns[1].member[0].lun = 0, refuses("a running group of another LUN", &p, ONFI_BAD_LUN);
+    p = usual(), p.channel.bus_free = UINT64_MAX, refuses("the end of time", &p, ONFI_CLOCK);
+}
+
+static void rooms(void)
+{
+    problem p = usual();
+    onfi_planned plan, again;
+    uint8_t room[256] = {0}, one[1] = {0};
+    size_t bytes, told;
+    expect("a plan", plan_of(&p, &plan, room, sizeof room, &bytes), ONFI_DONE);
+    expect("no byte behind the certificate", room[bytes], 0);
+    expect("no room", plan_of(&p, &again, one, 0, &told), ONFI_DONE);
+    expect("its length all the same", told, bytes);
+    expect("the same plan", (uint64_t)memcmp(&plan.schedule, &again.schedule, sizeof plan.schedule), 0);
+    memset(&again, 0, sizeof again);
+    expect("a byte of room", plan_of(&p, &again, one, 1, &told), ONFI_NO_ROOM);
+    expect("the length", told, bytes);
+    expect("the room is as it was", one[0], 0);
+    expect("the plan is there", again.finish, plan.finish);
+    expect("just the room", plan_of(&p, &again, room, bytes, &told), ONFI_DONE);
+}
+
+static uint32_t check_of(const problem *p, const onfi_schedule *s, const char *certificate, size_t bytes, onfi_verdict *verdict)
+{
+    return onfi_check(&p->channel, p->luns, p->lun_count, p->wants, p->want_count, s, (const uint8_t *)certificate, bytes, verdict);
+}
+
+static void refuses_schedule(const char *what, const onfi_schedule *s, uint32_t wanted)
+{
+    problem p = usual();
+    onfi_verdict verdict;
+    expect(what, check_of(&p, s, "ONFICERT 1\nX\n", 13, &verdict), wanted);
+}
+
+static void schedules(void)
+{
+    problem p = usual();
+    onfi_planned plan;
+    char text[256];
+    size_t bytes;
+    onfi_verdict verdict;
+    expect("a plan", plan_of(&p, &plan, (uint8_t *)text, sizeof text, &bytes), ONFI_DONE);
+    expect("is accepted", check_of(&p, &plan.schedule, text, bytes, &verdict), ONFI_DONE);
+    expect("with its finish", verdict.finish, plan.finish);
+    onfi_schedule s = plan.schedule;
+    s.luns = 9, refuses_schedule("nine LUNs", &s, ONFI_BAD_SCHEDULE);
+    s.luns = 255, refuses_schedule("255 LUNs", &s, ONFI_BAD_SCHEDULE);
+    s = plan.schedule, s.groups = 9, refuses_schedule("nine groups", &s, ONFI_BAD_SCHEDULE);
+    s = plan.schedule, s.rest[1].starts = 9, refuses_schedule("nine starts", &s, ONFI_BAD_SCHEDULE);
+    s = plan.schedule, s.rest[1].start[0] = UINT64_C(1) << 63, refuses_schedule("a late start", &s, ONFI_BAD_SCHEDULE);
+    s = plan.schedule, s.group[0].members = 0, refuses_schedule("no member", &s, ONFI_BAD_SCHEDULE);
+    s = plan.schedule, s.group[0].members = 5, refuses_schedule("five members", &s, ONFI_BAD_SCHEDULE);
+    s = plan.schedule, s.group[0].start[1] = UINT64_MAX, refuses_schedule("a late start of a group", &s, ONFI_BAD_SCHEDULE);
+    s = plan.schedule, s.group[0].want[0] = 99, refuses_schedule("a number that no want has", &s, ONFI_ILLEGAL);
+    s = plan.schedule, s.groups--, refuses_schedule("a want left out", &s, ONFI_ILLEGAL);
+    s = plan.schedule, s.group[0].start[0]++, refuses_schedule("a start moved", &s, ONFI_ILLEGAL);
+    expect("another header", check_of(&p, &plan.schedule, "ONFICERT 3\n", 11, &verdict), ONFI_BAD_HEADER);
+    expect("no certificate", check_of(&p, &plan.schedule, "", 0, &verdict), ONFI_BAD_HEADER);
+    expect("the other option", check_of(&p, &plan.schedule, "ONFICERT 2 strict\nX\n", 20, &verdict), ONFI_OTHER_OPTION);
+    expect("no token", check_of(&p, &plan.schedule, "ONFICERT 1\nB3 L q\n", 18, &verdict), ONFI_BAD_TOKEN);
+    expect("at its place", verdict.place, 2);
+    expect("no end", check_of(&p, &plan.schedule, "ONFICERT 1\nX\n", 13, &verdict), ONFI_NOT_END);
+    expect("cut", check_of(&p, &plan.schedule, text, bytes - 1, &verdict), ONFI_BAD_TOKEN);
+}
+
+static void devices(void)
+{
+    static uint8_t page[768];
+    onfi_device device, before;
+    uint64_t place = 9;
+    memset(&device, 0xA5, sizeof device);
+    memcpy(&before, &device, sizeof device);
+    expect("a short page", onfi_timing_of_page(page, 255, "", 0, &device, &place), ONFI_PAGE_SHORT);
+    expect("no place", place, 0);
+    expect("no copy", onfi_timing_of_page(page, sizeof page, "", 0, &device, &place), ONFI_NO_COPY);
+    expect("the device is as it was", (uint64_t)memcmp(&device, &before, sizeof device), 0);
+}
+
+static void texts(void)
+{
+    const char script[] = "end\n";
+    char room[80];
+    size_t bytes;
+    memset(room, 7, sizeof room);
+    expect("a script without rows", onfi_text_plan(script, 4, ONFI_NODES, false, room, sizeof room, &bytes), ONFI_SCRIPT_REFUSED);
+    expect("its answer", (uint64_t)strncmp(room, "script refused 0 Missing\n\7", bytes + 1), 0);
+    expect("no end", onfi_text_check(script, 2, room, sizeof room, &bytes), ONFI_SCRIPT_REFUSED);
+    expect("no bytes", onfi_text_plan(script, 0, ONFI_NODES, true, room, sizeof room, &bytes), ONFI_SCRIPT_REFUSED);
+    memset(room, 7, sizeof room);
+    expect("no limit", onfi_text_plan(script, 4, 0, false, room, sizeof room, &bytes), ONFI_BAD_LIMIT);
+    expect("a high limit", onfi_text_plan(script, 4, ONFI_NODES + 1, false, room, sizeof room, &bytes), ONFI_BAD_LIMIT);
+    expect("no answer", bytes, 0);
+    expect("too little room", onfi_text_check(script, 4, room, 3, &bytes), ONFI_NO_ROOM);
+    expect("which is told", bytes, 25);
+    expect("and as it was", (uint64_t)room[0], 7);
+    expect("a text", onfi_status_text(ONFI_CLOCK, room, sizeof room, &bytes), ONFI_DONE);
+    expect("as it is", (uint64_t)strncmp(room, "times that reach 2^62 ns", bytes), 0);
+    expect("no text", onfi_status_text(1000, room, sizeof room, &bytes), ONFI_DONE);
+    expect("of no bytes", bytes, 0);
+    expect("no room for a text", onfi_status_text(ONFI_CLOCK, room, 3, &bytes), ONFI_NO_ROOM);
+    for (uint32_t status = 0; status < 100; status++)
+        expect("texts are short", onfi_status_text(status, room, sizeof room, &bytes), ONFI_DONE);
+}
+
+int main(void)
+{
+    channels();
+    rooms();
+    schedules();
+    devices();
+    texts();
+    printf("%u tried, %u failed\n", tried, failed);
+    return failed ? EXIT_FAILURE : EXIT_SUCCESS;
+}

@@ -1,0 +1,86 @@
+"""Devices by page and sheet: against the lengths that tools/onfi_tools reckons, and each refusal by its name."""
+
+from __future__ import annotations
+
+import subprocess
+import sys
+import tempfile
+import unittest
+from pathlib import Path
+from typing import Dict, Tuple
+
+sys.path.insert(0, str(Path(__file__).resolve().parent))
+import test_libraries  # noqa: E402
+
+import onfi  # noqa: E402
+from onfi_tools import device  # noqa: E402
+from onfi_tools.script import lengths_of  # noqa: E402
+
+SCRIPT = (test_libraries.ROOT / "examples/program-by-page.onfi").read_text()
+SHEET = "".join(line[len("sheet,"):] + "\n" for line in SCRIPT.splitlines() if line.startswith("sheet,"))
+PAGE = bytes.fromhex("".join(line[len("page,"):] for line in SCRIPT.splitlines() if line.startswith("page,")))
+NUMBERS = {name: value for name, value in device.numbers_of(PAGE).items() if value}
+
+
+def page(**fields: int) -> bytes:
+    return device.page_of({**NUMBERS, **fields}, {})
+
+
+def check_example(test: unittest.TestCase, program: str) -> None:
+    """The example in C prints the lengths, and what is refused."""
+    with tempfile.TemporaryDirectory() as room:
+        files = [Path(room) / name for name in ("page", "sheet")]
+        files[0].write_bytes(PAGE)
+        files[1].write_text(SHEET)
+        told = subprocess.run([program, *map(str, files)], capture_output=True, text=True)
+        wanted = [" ".join(map(str, (kind, *spans))) for kind, spans in lengths_of(SCRIPT).items()]
+        test.assertEqual((told.returncode, told.stderr), (0, ""))
+        test.assertEqual(sorted(told.stdout.splitlines()[:3]), sorted(wanted))
+        test.assertEqual(told.stdout.splitlines()[3], "2 LUNs of 1000 blocks of 64 pages of 512 + 16 bytes, 2 planes")
+        files[1].write_text("tWC,20\ntRC,x\n")
+        told = subprocess.run([program, *map(str, files)], capture_output=True, text=True)
+        test.assertEqual((told.returncode, told.stdout), (1, "refused 83 the value of a row of the sheet is no number, place 2\n"))
+
+
+class Devices(unittest.TestCase):
+    def test_lengths(self) -> None:
+        found = onfi.timing_of_page(PAGE, SHEET)
+        told = {kind: (it.cmd, it.gap, it.array, it.post) for kind, it in (("read", found.timing.read), ("program", found.timing.program), ("erase", found.timing.erase))}
+        self.assertEqual(told, {kind: tuple(spans) for kind, spans in lengths_of(SCRIPT).items()})
+        self.assertEqual(found.rules, onfi.Rules(read=True, write=True, strict=False, plane_bits=1))
+
+    def test_geometry(self) -> None:
+        self.assertEqual(onfi.timing_of_page(PAGE, SHEET).geometry, onfi.Geometry(
+            blocks_per_lun=1000, page_bits=6, block_bits=10, lun_bits=1, pages_per_block=64, data_bytes=512, spare_bytes=16, lun_count=2,
+            plane_address_bits=1, column_address_cycles=2, row_address_cycles=3, any_page_order=False, multi_plane_writes=True, multi_plane_reads=True))
+
+    def test_a_later_copy(self) -> None:
+        self.assertEqual(onfi.timing_of_page(bytes(256) + PAGE, SHEET), onfi.timing_of_page(PAGE, SHEET))
+
+    def refused(self, name: type, bytes_: bytes = PAGE, sheet: str = SHEET, place: int = 0) -> None:
+        with self.assertRaises(name) as told:
+            onfi.timing_of_page(bytes_, sheet)
+        self.assertEqual(told.exception.place, place)
+
+    def test_pages(self) -> None:
+        self.refused(onfi.PageShort, PAGE[:255])
+        self.refused(onfi.NoCopy, PAGE[:-1] + b"\0")
+        faults: Dict[type, Tuple[str, int]] = {
+            onfi.WideBus: ("wide_bus", 1), onfi.NoStatusEnhanced: ("status_enhanced", 0), onfi.NoColumnEnhanced: ("column_enhanced", 0),
+            onfi.NoMultiLun: ("multi_lun", 0), onfi.LunCount: ("luns", 9), onfi.PlaneBits: ("plane_bits", 3), onfi.Zero: ("data_bytes", 0),
+            onfi.RowTooWide: ("row_cycles", 1), onfi.ColumnTooWide: ("column_cycles", 1), onfi.TooLarge: ("blocks_per_lun", 65537),
+        }
+        for name, (field, value) in faults.items():
+            self.refused(name, page(**{field: value}))
+
+    def test_sheets(self) -> None:
+        self.refused(onfi.SheetMissing, sheet=SHEET.replace("tADL,100\n", ""), place=3)
+        self.refused(onfi.SheetRepeated, sheet=SHEET + "tWB,1\n", place=6)
+        self.refused(onfi.SheetUnknown, sheet="tXX,1\n" + SHEET, place=1)
+        self.refused(onfi.SheetNotANumber, sheet="tWC,-1\n", place=1)
+        self.refused(onfi.SheetTooLong, sheet="tWC,4294967296\n")
+        self.refused(onfi.SheetZeroCycle, sheet=SHEET.replace("tRC,20", "tRC,0"))
+
+
+if __name__ == "__main__":
+    unittest.main()

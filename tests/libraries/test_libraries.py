@@ -1,0 +1,219 @@
+"""The libraries for C and for Python: their examples, refusals, and that both plan what onfi_sim plans."""
+
+from __future__ import annotations
+
+import os
+import random
+import subprocess
+import sys
+import tempfile
+import unittest
+from pathlib import Path
+from typing import Dict, List, Sequence, Tuple
+
+ROOT = Path(__file__).resolve().parent.parent.parent
+sys.dont_write_bytecode = True
+sys.path[:0] = [str(ROOT / "python"), str(ROOT / "tools")]
+
+LIBRARY = Path(os.environ.get("ONFI_LIBRARIES", ROOT / "lib")).resolve()
+PROGRAM = os.environ.get("ONFI_SIM", str(ROOT / "bin/onfi_sim"))
+os.environ["ONFI_LIBRARY"] = str(LIBRARY / "libonfi.so")
+
+import onfi  # noqa: E402
+from onfi_tools.cases import read_cases  # noqa: E402
+
+STRICT = ["-Wall", "-Wextra", "-Werror", "-pedantic"]
+SANE = ["-fsanitize=address,undefined", "-fno-sanitize-recover=all", "-g"]
+SCRIPTS = 300
+
+
+def run(*words: str, given: bytes = b"", **how: str) -> "subprocess.CompletedProcess[bytes]":
+    return subprocess.run(list(words), input=given, capture_output=True, env={**os.environ, **how}, timeout=600)
+
+
+def setUpModule() -> None:
+    global BUILT
+    BUILT = tempfile.TemporaryDirectory(prefix="onfi-c-")
+
+
+def tearDownModule() -> None:
+    BUILT.cleanup()
+
+
+def build(source: Path) -> str:
+    """A program of C11 with the archive, under the sanitizers."""
+    made = Path(BUILT.name) / source.stem
+    if not made.is_file():
+        line = ["cc", "-std=c11", *STRICT, *SANE, f"-I{ROOT / 'include'}", str(source), str(LIBRARY / "libonfi.a"), "-o", str(made)]
+        told = run(*line)
+        if told.returncode:
+            raise AssertionError(told.stderr.decode())
+    return str(made)
+
+
+def example(name: str) -> str:
+    return build(ROOT / "examples/c" / f"{name}.c")
+
+
+class Headers(unittest.TestCase):
+    def test_is_c99_and_c11_and_cxx(self) -> None:
+        for line in (["cc", "-std=c99", "-x", "c"], ["cc", "-std=c11", "-x", "c"], ["c++", "-std=c++11", "-x", "c++"], ["c++", "-std=c++20", "-x", "c++"]):
+            told = run(*line, *STRICT, "-fsyntax-only", str(ROOT / "include/onfi.h"))
+            self.assertEqual((told.returncode, told.stderr), (0, b""), line)
+
+    def test_is_linked_from_cxx(self) -> None:
+        source, made = Path(BUILT.name) / "sizes.cpp", Path(BUILT.name) / "sizes"
+        source.write_text('#include <onfi.h>\n#include <cstdio>\nint main() { char t[80]; size_t n; onfi_status_text(ONFI_CLOCK, t, sizeof t, &n); std::printf("%.*s", (int)n, t); }\n')
+        told = run("c++", "-std=c++17", *STRICT, *SANE, f"-I{ROOT / 'include'}", str(source), str(LIBRARY / "libonfi.a"), "-o", str(made))
+        self.assertEqual((told.returncode, told.stderr), (0, b""))
+        self.assertEqual(run(str(made)).stdout, b"times that reach 2^62 ns")
+
+    def test_shared_library_shows_its_calls_alone(self) -> None:
+        told = run("nm", "-D", "--defined-only", str(LIBRARY / "libonfi.so")).stdout.decode().split()[2::3]
+        self.assertEqual(sorted(told), ["onfi_check", "onfi_plan", "onfi_status_text", "onfi_text_check", "onfi_text_plan", "onfi_timing_of_page"])
+
+    def test_numbers_are_those_of_python(self) -> None:
+        source, made = Path(BUILT.name) / "numbers.c", Path(BUILT.name) / "numbers"
+        names = {it.__name__: "ONFI_" + "".join("_" + c if c.isupper() and at else c for at, c in enumerate(it.__name__)).upper() for it in onfi.REFUSALS.values()}
+        names["SheetNotANumber"], names["NoMultiLun"] = "ONFI_SHEET_NOT_A_NUMBER", "ONFI_NO_MULTI_LUN"
+        lines = "".join(f'    printf("%d ", {name});\n' for name in names.values())
+        source.write_text(f"#include <onfi.h>\n#include <stdio.h>\nint main(void)\n{{\n{lines}}}\n")
+        told = run("cc", f"-I{ROOT / 'include'}", str(source), "-o", str(made))
+        self.assertEqual(told.returncode, 0, told.stderr)
+        self.assertEqual([int(it) for it in run(str(made)).stdout.split()], list(onfi.REFUSALS))
+
+
+class Examples(unittest.TestCase):
+    def test_batch(self) -> None:
+        told = run(example("batch"))
+        self.assertEqual((told.returncode, told.stderr), (0, b""))
+        self.assertEqual(told.stdout.decode().splitlines(), [
+            "finish 58240",
+            "request 2: command at 0, data output at 25240",
+            "request 0: command at 140, data output at 36240",
+            "request 1: command at 880, data output at 47240",
+            "ONFICERT 1",
+            "L",
+            "accepted 58240",
+        ])
+
+    def test_simulator(self) -> None:
+        told = run(example("simulator"))
+        self.assertEqual((told.returncode, told.stderr), (0, b""))
+        busy = [float(line.split()[-2]) for line in told.stdout.decode().splitlines()]
+        self.assertEqual(len(busy), 3)
+        self.assertGreater(busy[2], busy[1])
+        self.assertGreater(busy[1], busy[0])
+
+    def test_device(self) -> None:
+        import test_devices_of_page
+
+        test_devices_of_page.check_example(self, example("device"))
+
+    def test_python(self) -> None:
+        for source in sorted((ROOT / "examples/python").glob("*.py")):
+            told = run(sys.executable, str(source), PYTHONPATH=str(ROOT / "python"))
+            self.assertEqual((told.returncode, told.stderr), (0, b""), source)
+            self.assertTrue(told.stdout, source)
+
+
+class Refusals(unittest.TestCase):
+    def test_in_c(self) -> None:
+        told = run(build(ROOT / "tests/libraries/refusals.c"))
+        self.assertEqual((told.returncode, told.stderr), (0, b""), told.stdout.decode())
+
+
+def drawn_script(draw: random.Random) -> str:
+    """A script of the first form without faults: eight wants mostly, some LUNs running a group."""
+    luns, bits = draw.choice((1, 2, 4, 8)), draw.randrange(3)
+    rows = [f"shape,{luns},{bits},{draw.randrange(2)},{draw.randrange(2)}"]
+    rows += ["spans,read,140,600,25100,11000", "spans,program,10800,600,200100,280", "spans,erase,100,600,1500100,280"]
+    if draw.randrange(3) == 0:
+        rows.append(f"bus,{draw.randrange(100000)}")
+    for lun in range(luns):
+        if draw.randrange(4) == 0:
+            rows.append(f"free,{lun},{draw.randrange(100000)}")
+        elif draw.randrange(4) == 0:
+            kind = draw.choice(("read", "program", "erase"))
+            rows.append(f"running,{lun},1,{draw.randrange(100000)},{kind},{0 if kind == 'erase' else 5},{draw.randrange(64)}")
+    if draw.randrange(4) == 0:
+        rows.append("strict,1")
+    for _ in range(draw.choice((0, 1, 4, 6, 8, 8))):
+        kind = draw.choice(("read", "read", "program", "erase"))
+        rows.append(f"want,{kind},{draw.randrange(luns)},{draw.randrange(16)},{0 if kind == 'erase' else draw.randrange(2)}")
+    return "\n".join([*rows, "end"]) + "\n"
+
+
+def said(script: str) -> Tuple[onfi.Channel, List[onfi.Lun], List[onfi.Want]]:
+    """What a script without faults says, as dataclasses."""
+    spans: Dict[str, onfi.Spans] = {}
+    shape, bus, strict = (0, 0, 0, 0), 0, False
+    luns: Dict[int, onfi.Lun] = {}
+    wants: List[onfi.Want] = []
+    for row in script.splitlines()[:-1]:
+        name, *fields = row.split(",")
+        if name == "shape":
+            shape = tuple(map(int, fields))
+        elif name == "spans":
+            spans[fields[0]] = onfi.Spans(*map(int, fields[1:]))
+        elif name == "bus":
+            bus = int(fields[0])
+        elif name == "strict":
+            strict = fields[0] == "1"
+        elif name == "free":
+            luns[int(fields[0])] = onfi.Lun(int(fields[1]))
+        elif name == "running":
+            members = [onfi.Want(0, onfi.Kind[fields[3].upper()], int(fields[0]), int(block), int(fields[4])) for block in fields[5:]]
+            luns[int(fields[0])] = onfi.Lun(int(fields[2]), members, int(fields[1]))
+        else:
+            wants.append(onfi.Want(len(wants), onfi.Kind[fields[0].upper()], int(fields[1]), int(fields[2]), int(fields[3])))
+    timing = onfi.Timing(spans["read"], spans["program"], spans["erase"])
+    channel = onfi.Channel(timing, onfi.Rules(bool(shape[2]), bool(shape[3]), strict, shape[1]), bus)
+    return channel, [luns.get(lun, onfi.Lun()) for lun in range(shape[0])], wants
+
+
+def plan_text(plan: onfi.Plan) -> bytes:
+    lines = ["ONFIPLAN 1", f"finish {plan.finish}"]
+    lines += [" ".join(["rest", str(lun), *map(str, starts)]) for lun, starts in enumerate(plan.schedule.rest) if starts]
+    lines += [" ".join(["group", "+".join(map(str, group.wants)), *map(str, group.starts)]) for group in plan.schedule.groups]
+    return ("\n".join(lines) + "\n").encode() + plan.certificate
+
+
+class Same(unittest.TestCase):
+    """By C, by Python and by onfi_sim there is one answer."""
+
+    def test_plans(self) -> None:
+        draw, by_structs = random.Random(1), build(ROOT / "tests/libraries/plan_script.c")
+        for number in range(SCRIPTS):
+            script = drawn_script(draw)
+            wanted = run(PROGRAM, "plan", given=script.encode())
+            c = run(by_structs, given=script.encode())
+            self.assertEqual((c.stdout, c.returncode, c.stderr), (wanted.stdout, wanted.returncode, b""), script)
+            text = onfi.text_plan(script.encode())
+            self.assertEqual((text.text, text.status), (wanted.stdout, wanted.returncode), script)
+            channel, luns, wants = said(script)
+            if wanted.returncode == 6:
+                self.assertRaises(onfi.Over, onfi.plan, channel, luns, wants)
+                continue
+            plan = onfi.plan(channel, luns, wants)
+            self.assertEqual(plan_text(plan), wanted.stdout, script)
+            self.assertEqual(onfi.check(channel, luns, wants, plan.schedule, plan.certificate), plan.finish, script)
+
+    def test_cases_of_the_program(self) -> None:
+        by_text, tried = example("script"), 0
+        for case in read_cases([]):
+            what = {(b"plan",): "plan", (b"plan", b"--trace"): "trace", (b"check",): "check"}.get(tuple(case.arguments))
+            if not what:
+                continue
+            tried += 1
+            given = Path(BUILT.name) / "script.onfi"
+            given.write_bytes(case.input)
+            c = run(by_text, what, str(given))
+            self.assertEqual((c.stdout, c.returncode, c.stderr), (case.output, case.status, b""), case.place)
+            python = onfi.text_check(case.input) if what == "check" else onfi.text_plan(case.input, trace=what == "trace")
+            self.assertEqual((python.text, python.status), (case.output, case.status), case.place)
+        self.assertGreaterEqual(tried, 300)
+
+
+if __name__ == "__main__":
+    unittest.main()
