@@ -1,0 +1,12 @@
+pub mod Alike
+pub mod Sooner
+pub mod Sums
+pub mod Bounding
+pub mod Opened
+pub mod Between
+pub mod WindowAsks
+pub mod Keeping
+pub mod Working
+pub mod Leading
+pub mod Stepping
+pub mod Seeing

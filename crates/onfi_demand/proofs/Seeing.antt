@@ -1,0 +1,166 @@
+-- What is seen of phases within a window, one by one.
+use Rattle.std.proofs.Common.{◌≡◌, ℕ, zero, suc, ◌+◌, ◌*◌, ◌-◌, ◌≤◌, ◌<◌, inl, inr, true, false, List, [], ◌∷◌, ◌++◌, length, get_or, drop, Option, Some, None, refl, sym, ap, ◌∙◌, subst, arith}
+use Rattle.std.specs.Prelude.{max, nat_le, slice_get}
+use Rattle.std.specs.Option.{option_map}
+use Rattle.std.proofs.lemmas.Bool.{cases_Bool, cases_lt, leb-true, le-leb}
+use Rattle.onfi_timing.specs.declared.kind.Kind.{Kind}
+use Rattle.onfi_timing.specs.declared.spans.Spans.{Spans}
+use Rattle.onfi_timing.specs.declared.timing.Timing.{Timing}
+use Rattle.onfi_timing.specs.Kinds.{spans_of}
+use Rattle.onfi_timing.specs.Phases.{phase_length, wait_before}
+use Rattle.onfi_request.specs.declared.want.Want.{Want}
+use Rattle.onfi_group.specs.Group.{kind_of}
+use Rattle.onfi_problem.specs.declared.lun_state.LunState.{LunState}
+use Rattle.onfi_problem.specs.declared.lun_state.LunState.TheVariants.{Free, Running}
+use Rattle.onfi_problem.specs.Problem.{Problem, IsProblem}
+use Rattle.onfi_problem.specs.Moves.{may_go}
+use Rattle.onfi_problem.specs.Left.{chain_time}
+use Rattle.onfi_bound.specs.Bounds.{on_lun, wants_work, die, die_at}
+use Rattle.onfi_demand.specs.Left.{LunLeft, Idle, Rest, left_on, has_left, has_left_at}
+use Rattle.onfi_demand.specs.Work.{left_of, IsWork}
+use Rattle.onfi_demand.specs.declared.left.LunLeft.TheVariants.{Idle as KeptIdle, Rest as KeptRest}
+use Rattle.onfi_demand.specs.declared.left.LunWork.{LunWork}
+use Rattle.onfi_demand.proofs.Sums.{die_is}
+use Rattle.onfi_demand.proofs.Opened.{left_there}
+use Rattle.onfi_demand.proofs.WindowAsks.{rest_left, phases_by, idle_phases}
+use Rattle.onfi_demand.specs.Kept.{IsKept}
+use Rattle.onfi_demand.specs.declared.demand.Demand.{Demand as Kept}
+use Rattle.onfi_demand.specs.Look.{phase_at, within_look, needed_look, Sees}
+use Rattle.onfi_demand.specs.Window.{PhaseLeft, chain_from, group_phase, group_left, wants_left, phases_left_on, is_within, within, needed, window, window_demand}
+use Rattle.onfi_demand.specs.declared.look.Look.{Look}
+use Rattle.onfi_demand.specs.declared.look.Seen.{Seen}
+use Rattle.onfi_demand.proofs.Between.{chain_step, within_append}
+
+within_true : (go r q : ℕ) (x : PhaseLeft) → r ≤ go + x.from → q ≤ x.tail → is_within go r q x ≡ true
+within_true go r q x h k = rw (le-leb r (go + x.from) h, le-leb q x.tail k) refl
+
+pub sees_in : (look : Look) (before behind : Seen) (from long tail : ℕ) → look.window.start ≤ look.go + from → look.window.tail ≤ tail → behind.length ≡ before.length + long → behind.time ≡ max before.time (look.time - from) → Sees look before (phase_at from long tail ∷ []) behind
+sees_in look before behind from long tail h k l t =
+    let w = within_true look.go look.window.start look.window.tail (phase_at from long tail) h k in
+    record { length = rw w (omega arith); time = rw w (omega arith) }
+
+sees_out : (look : Look) (before : Seen) (from long tail : ℕ) → is_within look.go look.window.start look.window.tail (phase_at from long tail) ≡ false → Sees look before (phase_at from long tail ∷ []) before
+sees_out look before from long tail w = record { length = rw w (omega arith); time = rw w (omega arith) }
+
+pub sees_early : (look : Look) (before : Seen) (from long tail : ℕ) → look.go + from < look.window.start → Sees look before (phase_at from long tail ∷ []) before
+sees_early look before from long tail h = elim (cases_Bool (nat_le look.window.start (look.go + from))) [
+  | inl k ↦ (let le = leb-true look.window.start (look.go + from) k in absurd (omega arith))
+  | inr k ↦ sees_out look before from long tail (rw k refl)
+]
+
+pub sees_short : (look : Look) (before : Seen) (from long tail : ℕ) → tail < look.window.tail → Sees look before (phase_at from long tail ∷ []) before
+sees_short look before from long tail h = elim (cases_Bool (nat_le look.window.start (look.go + from))) [
+  | inr k ↦ sees_out look before from long tail (rw k refl)
+  | inl k ↦ elim (cases_Bool (nat_le look.window.tail tail)) [
+    | inl j ↦ (let le = leb-true look.window.tail tail j in absurd (omega arith))
+    | inr j ↦ sees_out look before from long tail (rw (k, j) refl)
+  ]
+]
+
+pub sees_none : (look : Look) (seen : Seen) → Sees look seen [] seen
+sees_none look seen = record { length = omega arith; time = omega arith }
+
+needed_append : (go r q n : ℕ) (xs ys : List PhaseLeft) → needed go r q n (xs ++ ys) ≡ max (needed go r q n xs) (needed go r q n ys)
+needed_append go r q n [] ys = omega arith
+needed_append go r q n (x ∷ xs) ys = let e = needed_append go r q n xs ys in omega arith
+
+pub sees_append : (look : Look) (before middle behind : Seen) (xs ys : List PhaseLeft) → Sees look before xs middle → Sees look middle ys behind → Sees look before (xs ++ ys) behind
+sees_append look before middle behind xs ys a b =
+    let w = within_append look.go look.window.start look.window.tail xs ys in
+    let n = needed_append look.go look.window.start look.window.tail look.time xs ys in
+    let al = a.length in
+    let bl = b.length in
+    let at = a.time in
+    let bt = b.time in
+    record { length = omega arith; time = omega arith }
+
+-- one phase of a group more
+pub group_more : (look : Look) (spans : Spans) (k rest n from long left : ℕ) (before middle behind : Seen) → n < 2 * k → left ≡ chain_from spans k n → long ≡ phase_length spans k n → Sees look before (phase_at from long (left - long + rest) ∷ []) middle → Sees look middle (group_left spans k rest (2 * k - (n + 1)) (n + 1) (from + phase_length spans k n + wait_before spans k (n + 1))) behind → Sees look before (group_left spans k rest (2 * k - n) n from) behind
+group_more look spans k rest n from long left before middle behind h l is one others =
+    let step = chain_step spans k n h in
+    let count : 2 * k - n ≡ suc (2 * k - (n + 1)) = omega arith in
+    let tail : left - long + rest ≡ wait_before spans k (n + 1) + chain_from spans k (n + 1) + rest = omega arith in
+    let one' = subst (λ z. Sees look before (phase_at from z (left - long + rest) ∷ []) middle) is one in
+    let one'' = subst (λ z. Sees look before (phase_at from (phase_length spans k n) z ∷ []) middle) tail one' in
+    rw count (sees_append look before middle behind (group_phase spans k rest n from ∷ []) (group_left spans k rest (2 * k - (n + 1)) (n + 1) (from + phase_length spans k n + wait_before spans k (n + 1))) one'' others)
+
+-- one want more
+pub want_more : (look : Look) (timing : Timing) (from : ℕ) (w : Want) (ws : List Want) (spans : Spans) (before middle next behind : Seen) → spans ≡ spans_of timing w.kind → Sees look before (phase_at from spans.cmd (spans.array + spans.post) ∷ []) middle → Sees look middle (phase_at (from + spans.cmd + spans.array) spans.post 0 ∷ []) next → Sees look next (wants_left timing from ws) behind → Sees look before (wants_left timing from (w ∷ ws)) behind
+want_more look timing from w ws spans before middle next behind is a b rest =
+    let spans' = spans_of timing w.kind in
+    let a' = subst (λ (z : Spans). Sees look before (phase_at from z.cmd (z.array + z.post) ∷ []) middle) is a in
+    let b' = subst (λ (z : Spans). Sees look middle (phase_at (from + z.cmd + z.array) z.post 0 ∷ []) next) is b in
+    sees_append look before middle behind (phase_at from spans'.cmd (spans'.array + spans'.post) ∷ []) (phase_at (from + spans'.cmd + spans'.array) spans'.post 0 ∷ wants_left timing from ws) a' (sees_append look middle next behind (phase_at (from + spans'.cmd + spans'.array) spans'.post 0 ∷ []) (wants_left timing from ws) b' rest)
+
+pub drop_one : {A : Type 0} (xs : List A) (i : ℕ) (d : A) → i < length xs → drop i xs ≡ get_or xs i d ∷ drop (i + 1) xs
+drop_one xs i d h = let e : suc i ≡ i + 1 = omega arith in subst (λ n. drop i xs ≡ get_or xs i d ∷ drop n xs) e (go xs i h d)
+  where
+    go : {A : Type 0} (ys : List A) (j : ℕ) → j < length ys → (d : A) → drop j ys ≡ get_or ys j d ∷ drop (suc j) ys
+    go [] j h d = absurd (omega arith)
+    go (y ∷ ys) zero h d = refl
+    go (y ∷ ys) (suc j) h d = go ys j (omega arith) d
+
+pub drop_all : {A : Type 0} (xs : List A) (i : ℕ) → length xs ≤ i → drop i xs ≡ []
+drop_all [] zero h = refl
+drop_all [] (suc i) h = refl
+drop_all (x ∷ xs) zero h = absurd (omega arith)
+drop_all (x ∷ xs) (suc i) h = drop_all xs i (omega arith)
+
+some_state : (o : Option LunState) (l : LunLeft) → option_map left_on o ≡ Some l → (x : LunState) × (o ≡ Some x) × (left_on x ≡ l)
+some_state None l h = cc
+some_state (Some x) l h = (x, refl, cc)
+
+-- all that is left to a LUN without a group
+pub idle_sees : (p : Problem) (lun : ℕ) (timing : Timing) (work : LunWork) (look : Look) (ws : List Want) (before behind : Seen) → IsWork p lun work → work.left ≡ KeptIdle → timing ≡ p.timing → ws ≡ work.wants.items → Sees look before (wants_left timing 0 ws) behind → Sees look before (phases_left_on p lun) behind
+idle_sees p lun timing work look ws before behind w idle t e s =
+    let q = phases_by p.timing p.rules (on_lun lun p.wants) (slice_get p.luns lun) (left_of work.left) w.left ∙ ap (λ z. rest_left p.timing p.rules (on_lun lun p.wants) (left_of z)) idle in
+    let s' = subst (λ z. Sees look before (wants_left timing 0 z) behind) (e ∙ w.wants) s in
+    rw q (subst (λ z. Sees look before (wants_left z 0 (on_lun lun p.wants)) behind) t s')
+
+abbrev chain_of : Timing → LunLeft → ℕ
+chain_of timing Idle = 0
+chain_of timing (Rest kind k i) = chain_from (spans_of timing kind) k i
+
+has_running : (ws : List Want) (g : List Want) (n r : ℕ) → has_left_at ws (Some (Running g n r)) ≡ true
+has_running [] g n r = refl
+has_running (w ∷ ws) g n r = refl
+
+-- what the wants of a LUN with a group take, by its die bound
+pub rest_is : (p : Problem) (lun k n go chain d : ℕ) (kind : Kind) (spans : Spans) (work : LunWork) → IsWork p lun work → work.left ≡ KeptRest kind k n → spans ≡ spans_of p.timing kind → chain ≡ chain_from spans k n → go ≡ work.go → d ≡ die p lun → d - (go + chain) ≡ wants_work p.timing p.rules (on_lun lun p.wants)
+rest_is p lun k n go chain d kind spans work w rest s c g is =
+    let x = some_state (slice_get p.luns lun) (left_of work.left) w.left in
+    of_state x.0 x.1 (x.2 ∙ ap left_of rest)
+  where
+    of_state : (y : LunState) → slice_get p.luns lun ≡ Some y → left_on y ≡ Rest kind k n → d - (go + chain) ≡ wants_work p.timing p.rules (on_lun lun p.wants)
+    of_state (Free a) at q = cc
+    of_state (Running g' n' r) at q =
+        let value : die p lun ≡ may_go p lun + chain_time p.timing (Running g' n' r) + wants_work p.timing p.rules (on_lun lun p.wants) = ap (die_at p lun (on_lun lun p.wants)) at ∙ (die_is p lun (on_lun lun p.wants) (Some (Running g' n' r)) (has_running (on_lun lun p.wants) g' n' r) ∙ (omega arith)) in
+        let same : chain_of p.timing (Rest (kind_of g') (length g') n') ≡ chain_of p.timing (Rest kind k n) = ap (chain_of p.timing) q in
+        let chain_is : chain ≡ chain_from (spans_of p.timing kind) k n = c ∙ ap (λ (z : Spans). chain_from z k n) s in
+        let go_is = w.go in
+        omega arith
+
+-- .. and all that is left to it
+pub rest_sees : (p : Problem) (lun k n chain rest : ℕ) (kind : Kind) (timing : Timing) (spans : Spans) (work : LunWork) (look : Look) (ws : List Want) (before middle behind : Seen) → IsWork p lun work → work.left ≡ KeptRest kind k n → timing ≡ p.timing → spans ≡ spans_of timing kind → chain ≡ chain_from spans k n → rest ≡ wants_work p.timing p.rules (on_lun lun p.wants) → ws ≡ work.wants.items → Sees look before (group_left spans k rest (2 * k - n) n 0) middle → Sees look middle (wants_left timing chain ws) behind → Sees look before (phases_left_on p lun) behind
+rest_sees p lun k n chain rest kind timing spans work look ws before middle behind w left t s c r e a b =
+    let q = phases_by p.timing p.rules (on_lun lun p.wants) (slice_get p.luns lun) (left_of work.left) w.left ∙ ap (λ z. rest_left p.timing p.rules (on_lun lun p.wants) (left_of z)) left in
+    let s' : spans ≡ spans_of p.timing kind = s ∙ ap (λ z. spans_of z kind) t in
+    let a' = subst (λ (z : Spans). Sees look before (group_left z k rest (2 * k - n) n 0) middle) s' a in
+    let a'' = subst (λ z. Sees look before (group_left (spans_of p.timing kind) k z (2 * k - n) n 0) middle) r a' in
+    let b' = subst (λ z. Sees look middle (wants_left timing chain z) behind) (e ∙ w.wants) b in
+    let b'' = subst (λ z. Sees look middle (wants_left z chain (on_lun lun p.wants)) behind) t b' in
+    let b''' = subst (λ z. Sees look middle (wants_left p.timing z (on_lun lun p.wants)) behind) (c ∙ ap (λ (z : Spans). chain_from z k n) s') b'' in
+    rw q (sees_append look before middle behind (group_left (spans_of p.timing kind) k (wants_work p.timing p.rules (on_lun lun p.wants)) (2 * k - n) n 0) (wants_left p.timing (chain_from (spans_of p.timing kind) k n) (on_lun lun p.wants)) a'' b''')
+
+-- the numbers of the window bound's demand
+pub window_kept : (p : Problem) (e r q time : ℕ) (luns : List ℕ) (d : Kept) → IsProblem p → time ≡ e - (window p r q + q) → d.bus ≡ 0 → d.luns ≡ luns → ((l : ℕ) → l < length p.luns → get_or luns l 0 ≡ needed (may_go p l) r q time (phases_left_on p l)) → ((l : ℕ) → length p.luns ≤ l → get_or luns l 0 ≡ 0) → IsKept d (window_demand p r q e)
+window_kept p e r q time luns d ip t bus same value rest = record { bus = bus; luns = λ l small. rw same (at l) }
+  where
+    at : (l : ℕ) → get_or luns l 0 ≡ needed (may_go p l) r q (e - (window p r q + q)) (phases_left_on p l)
+    at l = elim (cases_lt l (length p.luns)) [
+      | inl h ↦ subst (λ z. get_or luns l 0 ≡ needed (may_go p l) r q z (phases_left_on p l)) t (value l h)
+      | inr h ↦ elim (cases_Bool (has_left p l)) [
+        | inl k ↦ (let there = left_there p l ip k in absurd (omega arith))
+        | inr k ↦ (let none = idle_phases p.timing p.rules (on_lun l p.wants) (slice_get p.luns l) k in rest l h ∙ sym (ap (needed (may_go p l) r q (e - (window p r q + q))) none))
+      ]
+    ]

@@ -1,0 +1,138 @@
+-- What has the same left has the same sums.
+use Rattle.std.proofs.Common.{◌≡◌, ℕ, zero, suc, ◌+◌, ◌*◌, ◌-◌, ◌≤◌, ◌<◌, Bool, true, false, if◌then◌else◌, List, [], ◌∷◌, ◌++◌, length, map, Option, Some, None, refl, sym, ap, ◌∙◌, subst, arith}
+use Rattle.std.specs.Prelude.{slice_get, nat_lt, max}
+use Rattle.std.specs.List.{list_any}
+use Rattle.std.specs.Option.{option_map}
+use Rattle.onfi_timing.specs.declared.kind.Kind.{Kind}
+use Rattle.onfi_timing.specs.declared.kind.Kind.TheVariants.{Read, Program, Erase}
+use Rattle.onfi_timing.specs.declared.timing.Timing.{Timing}
+use Rattle.onfi_timing.specs.Kinds.{spans_of}
+use Rattle.onfi_request.specs.declared.want.Want.{Want}
+use Rattle.onfi_group.specs.declared.rules.Rules.{Rules}
+use Rattle.onfi_group.specs.Words.{total}
+use Rattle.onfi_group.specs.Group.{kind_of}
+use Rattle.onfi_problem.specs.declared.lun_state.LunState.{LunState}
+use Rattle.onfi_problem.specs.declared.lun_state.LunState.TheVariants.{Free, Running}
+use Rattle.onfi_problem.specs.Problem.{Problem}
+use Rattle.onfi_problem.specs.Moves.{may_go}
+use Rattle.onfi_problem.specs.Left.{commands_left, posts_left, waits_left, command_time, post_time, chain_time, want_command, want_post, all_commands, all_posts}
+use Rattle.onfi_bound.specs.Bounds.{on_lun, least, to_post, post_starts, plus_each, commands_next, same_kind, has_command, behind_commands, trail, trail_from, wants_work, die_at}
+use Rattle.onfi_demand.specs.Left.{LunLeft, Idle, Rest, left_on, SameLeft, has_left_at}
+use Rattle.onfi_demand.proofs.Alike.{Alike, of_same, with_times}
+
+total_by : (f : LunState → ℕ) (g : LunLeft → ℕ) → ((x : LunState) → f x ≡ g (left_on x)) → (xs : List LunState) → total f xs ≡ total g (map left_on xs)
+total_by f g h [] = refl
+total_by f g h (x ∷ xs) = let a = h x in let b = total_by f g h xs in omega arith
+
+total_alike : (f : LunState → ℕ) (g : LunLeft → ℕ) → ((x : LunState) → f x ≡ g (left_on x)) → (xs ys : List LunState) → Alike xs ys → total f xs ≡ total f ys
+total_alike f g h xs ys e = total_by f g h xs ∙ (ap (total g) e ∙ sym (total_by f g h ys))
+
+any_by : (f : LunState → Bool) (g : LunLeft → Bool) → ((x : LunState) → f x ≡ g (left_on x)) → (xs : List LunState) → list_any f xs ≡ list_any g (map left_on xs)
+any_by f g h [] = refl
+any_by f g h (x ∷ xs) = rw (h x, any_by f g h xs) refl
+
+any_alike : (f : LunState → Bool) (g : LunLeft → Bool) → ((x : LunState) → f x ≡ g (left_on x)) → (xs ys : List LunState) → Alike xs ys → list_any f xs ≡ list_any f ys
+any_alike f g h xs ys e = any_by f g h xs ∙ (ap (list_any g) e ∙ sym (any_by f g h ys))
+
+command_rest : Timing → LunLeft → ℕ
+command_rest timing Idle = 0
+command_rest timing (Rest kind k n) = commands_left k n * (spans_of timing kind).cmd
+
+post_rest : Timing → LunLeft → ℕ
+post_rest timing Idle = 0
+post_rest timing (Rest kind k n) = posts_left k n * (spans_of timing kind).post
+
+next_rest : Kind → LunLeft → Bool
+next_rest kind Idle = false
+next_rest kind (Rest other k n) = if same_kind kind other then nat_lt n k else false
+
+command_by : (timing : Timing) (x : LunState) → command_time timing x ≡ command_rest timing (left_on x)
+unfolding command_rest
+command_by timing (Free since) = refl
+command_by timing (Running g n r) = refl
+
+post_by : (timing : Timing) (x : LunState) → post_time timing x ≡ post_rest timing (left_on x)
+unfolding post_rest
+post_by timing (Free since) = refl
+post_by timing (Running g n r) = refl
+
+next_by : (kind : Kind) (x : LunState) → commands_next kind x ≡ next_rest kind (left_on x)
+unfolding next_rest
+next_by kind (Free since) = refl
+next_by kind (Running g n r) = refl
+
+pub same_commands : (p q : Problem) → SameLeft p q → all_commands p ≡ all_commands q
+same_commands p q s = of_same (λ z. all_commands p ≡ all_commands z) p q s (ap (λ n. n + total (want_command p.timing) p.wants) (total_alike (command_time p.timing) (command_rest p.timing) (command_by p.timing) p.luns q.luns s.luns))
+
+pub same_posts : (p q : Problem) → SameLeft p q → all_posts p ≡ all_posts q
+same_posts p q s = of_same (λ z. all_posts p ≡ all_posts z) p q s (ap (λ n. n + total (want_post p.timing) p.wants) (total_alike (post_time p.timing) (post_rest p.timing) (post_by p.timing) p.luns q.luns s.luns))
+
+same_command : (p q : Problem) (kind : Kind) → SameLeft p q → has_command p kind ≡ has_command q kind
+same_command p q kind s = of_same (λ z. has_command p kind ≡ has_command z kind) p q s (rw (any_alike (commands_next kind) (next_rest kind) (next_by kind) p.luns q.luns s.luns) refl)
+
+-- what is behind the last command
+abbrev pub rest_behind : Problem → Option ℕ
+rest_behind p = least (behind_commands p Read ++ (behind_commands p Program ++ behind_commands p Erase))
+
+same_rest : (p q : Problem) → SameLeft p q → rest_behind p ≡ rest_behind q
+same_rest p q s = rw (same_command p q Read s, same_command p q Program s, same_command p q Erase s, s.timing) refl
+
+pub trail_alike : (p q : Problem) (t : ℕ) → SameLeft p q → trail p ≡ Some t → (u : ℕ) × (t ≡ p.bus_free + u) × (trail q ≡ Some (q.bus_free + u))
+trail_alike p q t s h = go (rest_behind p) refl
+  where
+    go : (o : Option ℕ) → rest_behind p ≡ o → (u : ℕ) × (t ≡ p.bus_free + u) × (trail q ≡ Some (q.bus_free + u))
+    go None e = let k : trail_from p None ≡ Some t = rw e at h in cc
+    go (Some rest) e =
+        let k : trail_from p (Some rest) ≡ Some t = rw e at h in
+        let v : p.bus_free + all_commands p + rest ≡ t = cc in
+        let c = same_commands p q s in
+        let there : rest_behind q ≡ Some rest = sym (same_rest p q s) ∙ e in
+        let sum : q.bus_free + all_commands q + rest ≡ q.bus_free + (all_commands p + rest) = omega arith in
+        (all_commands p + rest, omega arith, rw there (ap Some sum))
+
+-- how long to the first post
+pub post_alike : (timing : Timing) (ws : List Want) (x y : LunState) → left_on x ≡ left_on y → to_post timing ws x ≡ to_post timing ws y
+post_alike timing ws (Free a) (Free b) e = refl
+post_alike timing ws (Free a) (Running g n r) e = cc
+post_alike timing ws (Running g n r) (Free b) e = cc
+post_alike timing ws (Running g n r) (Running g' n' r') e = ap (λ z. rest_to_post timing z) e
+  where
+    rest_to_post : Timing → LunLeft → Option ℕ
+    rest_to_post timing Idle = None
+    rest_to_post timing (Rest kind k i) = Some (commands_left k i * (spans_of timing kind).cmd + waits_left (spans_of timing kind) k i)
+
+-- what a LUN with something left takes behind the time from which it may go on
+abbrev pub work_at : Timing → Rules → List Want → Option LunState → ℕ
+work_at timing rules ws (Some (Running g n r)) = chain_time timing (Running g n r) + wants_work timing rules ws
+work_at timing rules ws _ = wants_work timing rules ws
+
+pub die_is : (p : Problem) (l : ℕ) (ws : List Want) (o : Option LunState) → has_left_at ws o ≡ true → die_at p l ws o ≡ may_go p l + work_at p.timing p.rules ws o
+die_is p l ws (Some (Running g n r)) h = omega arith
+die_is p l [] None h = cc
+die_is p l [] (Some (Free a)) h = cc
+die_is p l (w ∷ ws) None h = refl
+die_is p l (w ∷ ws) (Some (Free a)) h = refl
+
+pub die_idle : (p : Problem) (l : ℕ) (ws : List Want) (o : Option LunState) → has_left_at ws o ≡ false → die_at p l ws o ≡ p.bus_free
+die_idle p l ws (Some (Running g n r)) h = cc
+die_idle p l [] None h = refl
+die_idle p l [] (Some (Free a)) h = refl
+die_idle p l (w ∷ ws) None h = cc
+die_idle p l (w ∷ ws) (Some (Free a)) h = cc
+
+pub work_alike : (timing : Timing) (rules : Rules) (ws : List Want) (a b : Option LunState) → option_map left_on a ≡ option_map left_on b → work_at timing rules ws a ≡ work_at timing rules ws b
+work_alike timing rules ws None None e = refl
+work_alike timing rules ws None (Some (Free b)) e = refl
+work_alike timing rules ws None (Some (Running g n r)) e = cc
+work_alike timing rules ws (Some (Free a)) None e = refl
+work_alike timing rules ws (Some (Free a)) (Some (Free b)) e = refl
+work_alike timing rules ws (Some (Free a)) (Some (Running g n r)) e = cc
+work_alike timing rules ws (Some (Running g n r)) None e = cc
+work_alike timing rules ws (Some (Running g n r)) (Some (Free b)) e = cc
+work_alike timing rules ws (Some (Running g n r)) (Some (Running g' n' r')) e =
+    let k : Rest (kind_of g) (length g) n ≡ Rest (kind_of g') (length g') n' = cc in
+    ap (λ z. chain_rest timing z + wants_work timing rules ws) k
+  where
+    chain_rest : Timing → LunLeft → ℕ
+    chain_rest timing Idle = 0
+    chain_rest timing (Rest kind k i) = commands_left k i * (spans_of timing kind).cmd + posts_left k i * (spans_of timing kind).post + waits_left (spans_of timing kind) k i

@@ -1,0 +1,83 @@
+-- What is left to a LUN, as it is read.
+use Rattle.std.proofs.Common.{◌≡◌, ℕ, zero, suc, ◌+◌, ◌*◌, ◌≤◌, ◌<◌, inl, inr, Bool, true, false, List, [], ◌∷◌, ◌++◌, length, map, get_or, take, Option, Some, None, refl, sym, ap, ◌∙◌, subst, arith}
+use Rattle.std.specs.Prelude.{slice_get, ◌==◌}
+use Rattle.std.specs.List.{AllByRecursion as All, filter}
+use Rattle.std.specs.Option.{option_map}
+use Rattle.std.proofs.lemmas.Bool.{cases_Bool, eq-eqb, ne_eqb}
+use Rattle.onfi_request.specs.declared.want.Want.{Want}
+use Rattle.onfi_problem.specs.declared.lun_state.LunState.{LunState}
+use Rattle.onfi_problem.specs.declared.lun_state.LunState.TheVariants.{Free, Running}
+use Rattle.onfi_problem.specs.declared.moves.Lun.{Lun}
+use Rattle.onfi_problem.specs.Left.{InLimits}
+use Rattle.onfi_problem.specs.Position.{state_of, waiting_of}
+use Rattle.onfi_problem.specs.Problem.{Problem}
+use Rattle.onfi_problem.proofs.Lists.{map_found}
+use Rattle.onfi_problem.proofs.Places.{get_within}
+use Rattle.onfi_problem.proofs.Perm.{append_nil}
+use Rattle.onfi_bound.specs.Bounds.{on_lun}
+use Rattle.onfi_bound.proofs.Parts.{placed}
+use Rattle.onfi_bound.proofs.Steps.{all_at, waiting_yes, waiting_no}
+use Rattle.onfi_demand.specs.Left.{LunLeft, Idle, Rest, left_on, has_left, has_left_at}
+use Rattle.onfi_demand.specs.Work.{left_of, IsShape, IsWork}
+use Rattle.onfi_demand.specs.declared.left.LunLeft.{LunLeft as KeptLeft}
+use Rattle.onfi_demand.specs.declared.left.LunLeft.TheVariants.{Idle as KeptIdle, Rest as KeptRest}
+use Rattle.onfi_demand.specs.declared.left.LunWork.{LunWork}
+
+abbrev pub no_lun : Lun
+no_lun = record { next = 0; place = 0; time = 0 }
+
+pub lun_within : (p : Problem) (groups : List (List Want)) (luns : List Lun) (lun : ℕ) → map (state_of groups) luns ≡ p.luns → lun < length p.luns → lun < length luns
+lun_within p groups luns lun e h = let a = ap length e in let b = length_map (state_of groups) luns in omega arith
+  where
+    length_map : {A B : Type 0} (f : A → B) (xs : List A) → length (map f xs) ≡ length xs
+    length_map f [] = refl
+    length_map f (x ∷ xs) = ap suc (length_map f xs)
+
+pub place_there : (p : Problem) (groups gs : List (List Want)) (luns : List Lun) (lun : ℕ) → InLimits p → map (state_of groups) luns ≡ p.luns → gs ≡ groups → lun < length p.luns → 1 ≤ (get_or luns lun no_lun).next → (get_or luns lun no_lun).place < length gs
+place_there p groups gs luns lun limits e g h = rw g (all_at (λ (x : Lun). 1 ≤ x.next → x.place < length groups) luns lun no_lun (lun_within p groups luns lun e h) (placed p groups luns limits e))
+
+pub state_at : (p : Problem) (groups gs : List (List Want)) (luns : List Lun) (lun : ℕ) (left : KeptLeft) → map (state_of groups) luns ≡ p.luns → lun < length p.luns → gs ≡ groups → left_of left ≡ left_on (state_of gs (get_or luns lun no_lun)) → option_map left_on (slice_get p.luns lun) ≡ Some (left_of left)
+state_at p groups gs luns lun left e h g q =
+    let x = get_within p.luns lun h in
+    let s = map_found (state_of groups) luns lun no_lun x.0 (subst (λ z. slice_get z lun ≡ Some x.0) (sym e) x.1) in
+    rw x.1 (ap Some (sym (q ∙ (ap (λ z. left_on (state_of z (get_or luns lun no_lun))) g ∙ ap left_on s))))
+
+pub shape_of : (p : Problem) (lun : ℕ) (left : KeptLeft) → InLimits p → option_map left_on (slice_get p.luns lun) ≡ Some (left_of left) → IsShape left
+shape_of p lun KeptIdle limits h = tt
+shape_of p lun (KeptRest kind k n) limits h = go (slice_get p.luns lun) refl h
+  where
+    go : (o : Option LunState) → slice_get p.luns lun ≡ o → option_map left_on o ≡ Some (Rest kind k n) → IsShape (KeptRest kind k n)
+    go None e q = cc
+    go (Some (Free a)) e q = cc
+    go (Some (Running g n' r)) e q =
+        let i = limits.problem.running lun g n' r e in
+        let some = i.group.some in
+        let few = i.group.few in
+        let started = i.started in
+        let unfinished = i.unfinished in
+        let same_size : length g ≡ k = cc in
+        let same_next : n' ≡ n = cc in
+        (omega arith, omega arith, omega arith, omega arith)
+
+filter_append : (f : Want → Bool) (xs ys : List Want) → filter f (xs ++ ys) ≡ filter f xs ++ filter f ys
+filter_append f [] ys = refl
+filter_append f (x ∷ xs) ys =
+    let e = filter_append f xs ys in
+    elim (cases_Bool (f x)) [ inl k ↦ simp k (ap (λ zs. x ∷ zs) e) | inr k ↦ simp k e ]
+
+pub wants_yes : (lun : ℕ) (marks : List Bool) (ws : List Want) (i : ℕ) (d : Want) (before now : List Want) → i < length ws → get_or marks i false ≡ true → (get_or ws i d).lun ≡ lun → before ≡ on_lun lun (waiting_of marks (take i ws)) → now ≡ before ++ get_or ws i d ∷ [] → now ≡ on_lun lun (waiting_of marks (take (i + 1) ws))
+wants_yes lun marks ws i d before now h m at b n =
+    let e = waiting_yes marks ws i d h m in
+    let t : ((get_or ws i d).lun == lun) ≡ true = eq-eqb (get_or ws i d).lun lun at in
+    let one : filter (λ w. w.lun == lun) (get_or ws i d ∷ []) ≡ get_or ws i d ∷ [] = rw t refl in
+    n ∙ (ap (λ z. z ++ get_or ws i d ∷ []) b ∙ sym (ap (on_lun lun) e ∙ (filter_append (λ w. w.lun == lun) (waiting_of marks (take i ws)) (get_or ws i d ∷ []) ∙ ap (λ z. on_lun lun (waiting_of marks (take i ws)) ++ z) one)))
+
+pub wants_other : (lun : ℕ) (marks : List Bool) (ws : List Want) (i : ℕ) (d : Want) (before : List Want) → i < length ws → get_or marks i false ≡ true → ((get_or ws i d).lun ≡ lun → ⊥) → before ≡ on_lun lun (waiting_of marks (take i ws)) → before ≡ on_lun lun (waiting_of marks (take (i + 1) ws))
+wants_other lun marks ws i d before h m at b =
+    let e = waiting_yes marks ws i d h m in
+    let t : ((get_or ws i d).lun == lun) ≡ false = ne_eqb (get_or ws i d).lun lun at in
+    let one : filter (λ w. w.lun == lun) (get_or ws i d ∷ []) ≡ [] = rw t refl in
+    b ∙ sym (ap (on_lun lun) e ∙ (filter_append (λ w. w.lun == lun) (waiting_of marks (take i ws)) (get_or ws i d ∷ []) ∙ (ap (λ z. on_lun lun (waiting_of marks (take i ws)) ++ z) one ∙ append_nil (on_lun lun (waiting_of marks (take i ws))))))
+
+pub wants_no : (lun : ℕ) (marks : List Bool) (ws : List Want) (i : ℕ) (before : List Want) → get_or marks i false ≡ false → before ≡ on_lun lun (waiting_of marks (take i ws)) → before ≡ on_lun lun (waiting_of marks (take (i + 1) ws))
+wants_no lun marks ws i before m b = b ∙ sym (ap (on_lun lun) (waiting_no marks ws i m))

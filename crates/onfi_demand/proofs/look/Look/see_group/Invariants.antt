@@ -1,0 +1,14 @@
+use Rattle.std.proofs.Common.{◌≡◌, ◌+◌, ◌*◌, ◌-◌, ◌^◌, ◌≤◌}
+use Rattle.onfi_demand.specs.Look.{Sees}
+use Rattle.onfi_demand.specs.Window.{chain_from, group_left}
+use Rattle.onfi_demand.specs.declared.look.Seen.{Seen}
+use Rattle.onfi_demand.proofs.look.Look.see_group.Given as goal
+
+abbrev pub invariant-loop-phase : goal.invariant-loop-phase
+invariant-loop-phase l = record {
+  left : l.left ≡ chain_from l.spans l.members l.phase;
+  less : l.left ≤ l.chain;
+  from : l.from ≤ l.phase * 2 ^ 51;
+  small : l.seen.length ≤ l.phase * 2 ^ 50;
+  sees : (behind : Seen) → Sees l.self l.seen (group_left l.spans l.members l.rest (2 * l.members - l.phase) l.phase l.from) behind → Sees l.self (record { length = 0; time = 0 }) (group_left l.spans l.members l.rest (2 * l.members - l.fn.next) l.fn.next 0) behind;
+}

@@ -1,0 +1,35 @@
+-- What is left to a problem, whatever the times.
+use Rattle.std.specs.Prelude.{◌≡◌, ℕ, ◌==◌, Bool, true, false, List, [], ◌∷◌, length, map, Option, Some, slice_get}
+use Rattle.onfi_timing.specs.declared.kind.Kind.{Kind}
+use Rattle.onfi_request.specs.declared.want.Want.{Want}
+use Rattle.onfi_group.specs.Group.{kind_of}
+use Rattle.onfi_problem.specs.declared.lun_state.LunState.{LunState}
+use Rattle.onfi_problem.specs.declared.lun_state.LunState.TheVariants.{Free, Running}
+use Rattle.onfi_problem.specs.Problem.{Problem}
+use Rattle.onfi_bound.specs.Bounds.{on_lun}
+
+-- what is left of what a LUN does: nothing, or a group of a kind and a size from one of its phases on
+pub data LunLeft : Type 0 where
+  Idle : LunLeft
+  Rest : Kind → ℕ → ℕ → LunLeft
+
+-- which wants run doesn't matter: their blocks and pages bind nothing any more
+abbrev pub left_on : LunState → LunLeft
+left_on (Free since) = Idle
+left_on (Running group next ready) = Rest (kind_of group) (length group) next
+
+-- two problems that differ in times and in the wants of running groups alone
+pub record SameLeft (p q : Problem) : Type 0 where
+  pub timing : p.timing ≡ q.timing
+  pub rules : p.rules ≡ q.rules
+  pub luns : map left_on p.luns ≡ map left_on q.luns
+  pub wants : p.wants ≡ q.wants
+
+abbrev pub has_left_at : List Want → Option LunState → Bool
+has_left_at wants (Some (Running group next ready)) = true
+has_left_at (w ∷ wants) _ = true
+has_left_at [] _ = false
+
+-- a group runs on the LUN, or a want waits for it
+abbrev pub has_left : Problem → ℕ → Bool
+has_left p lun = has_left_at (on_lun lun p.wants) (slice_get p.luns lun)

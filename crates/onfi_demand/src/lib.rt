@@ -1,0 +1,16 @@
+//! Demands: from a problem that can't end before a finish, how late any problem with the same left must go on to share
+//! that. A search or a checker can so close a node by another one that it has done with.
+#![tactic(auto)]
+
+mod asked;
+mod closings;
+mod demand;
+pub mod laws;
+mod lead;
+mod left;
+mod look;
+
+pub use asked::Step;
+pub use demand::Demand;
+pub use left::{LunLeft, LunWork, left_on};
+pub use look::Window;

@@ -1,0 +1,140 @@
+use Rattle.std.proofs.Common.{◌≡◌, ◌+◌, ◌≤◌, ◌<◌, [], ◌∷◌, List, length, get_or, refl, sym, ap, ◌∙◌, subst, arith}
+use Rattle.std.specs.List.{AllByRecursion as All}
+use Rattle.onfi_problem.specs.declared.moves.Move.TheVariants.{Next}
+use Rattle.onfi_problem.specs.Moves.{IsMove, AreMoves, after}
+use Rattle.onfi_problem.specs.Position.{Position, move_of, moves_of}
+use Rattle.onfi_problem.specs.Starts.{IsNamed}
+use Rattle.onfi_check.specs.Ends.{AreLastEnds}
+use Rattle.onfi_check.proofs.LastEnds.{move_at, at_place}
+use Rattle.onfi_demand.specs.Asked.{GoesOn}
+use Rattle.onfi_demand.specs.Kept.{IsKept}
+use Rattle.onfi_known.specs.Closing.{Closes, closing_demand}
+use Rattle.onfi_known.specs.Proves.{Proves, Children, Remembers, Yielded, Below, Grows, IsAgain, closed, none}
+use Rattle.onfi_known.proofs.Walking.{on_ok, ok_so, each_ok, fewer_left, again_proves, yield_grows, below_grows, raised_by, step_is, children_more, children_all, branch_proves}
+use Rattle.onfi_known.proofs.walk.+read.Goals as goal
+
+pub read_below-returns-clause-ok : goal.read_below-returns-clause-ok
+read_below-returns-clause-ok g t c =
+    let x = c.args.problem.now in
+    let m = move_of x.groups c.args.m in
+    let d = c.in_ok-demand.demand in
+    let step = c.step_behind-step.result in
+    let behind = c.in_ok-demand.ensures.problem ∙ c.advance-undo.ensures.moved in
+    let own = c.lun.ensures ∙ sym c.requires.named.lun in
+    let is = step_is x.problem m step c.lun.result c.earliest-start.result c.step_behind-step.ensures.lun own c.step_behind-step.ensures.start c.earliest-start.ensures
+    (c.step_behind-step.ensures.end ∙ ap (λ (z : Position). z.problem.bus_free) behind) (subst (λ (z : Position). GoesOn z.problem c.lun.result step.go) behind c.step_behind-step.ensures.go) in (
+      d,
+      subst (λ (z : Position). Proves c.args.e z.all z.problem c.args.known.now.items (c.args.token ∷ g.S.TokenSource.left c.args.tokens.now.source) d c.read_tree.new.known.items (g.S.TokenSource.left c.read_tree.new.tokens.source)) c.advance-undo.ensures.moved c.in_ok-demand.ensures.ok,
+      raised_by x.problem m d step c.lun_count-count.result c.args.standing.now.asked c.raise.new.asked is c.lun_count-count.ensures.value c.raise.ensures,
+    )
+
+pub read_branch-returns-clause-ok : goal.read_branch-returns-clause-ok
+read_branch-returns-clause-ok g t c =
+    let x = c.args.problem.now in
+    let s = c.in_ok-standing.standing in
+    let items = c.list_steps.new.moves in
+    let left = g.S.TokenSource.left c.read_children.new.tokens.source in
+    let long = c.len.ensures.value in
+    let wide = c.get.ensures.value in
+    let some = c.get.ensures.low in
+    each_ok _ _ c.remember.result
+    (λ d r. branch_proves c.args.e x items c.args.width s c.in-Some.times c.args.known.now.items c.read_children.new.known.items c.remember.new.known.items (g.S.TokenSource.left c.args.tokens.now.source) left d c.list_steps.ensures.moves (omega (arith, c.if-len-get.false)) (omega arith) c.in_ok-standing.ensures.ok c.in-Some.ensures
+    (subst (λ (z : Position). Remembers z.all z.problem c.in-Some.times c.read_children.new.known.items c.remember.new.known.items d) c.in_ok-standing.ensures.problem r)) c.remember.ensures
+
+pub read_child-returns-in-Yield-clause-ok : goal.read_child-returns-in-Yield-clause-ok
+read_child-returns-in-Yield-clause-ok g t c =
+    let x = c.args.problem.now in
+    ok_so c.take_yield.result (yield_grows c.args.e x.all x.problem (moves_of x.groups c.args.moves.now) (move_of x.groups c.args.m) c.args.standing.now c.take_yield.new.standing c.args.known.now.items c.args.ends.now c.lun.result c.in-Yield.lun c.get.result c.in-Some.token (g.S.TokenSource.left c.args.tokens.now.source) (g.S.TokenSource.left c.take.new.self.source) c.in-Yield.is c.get.ensures.value c.get.ensures.below (c.lun.ensures ∙ sym c.requires.named.lun) c.in-Some.ensures.token c.requires.ends c.take_yield.ensures.asked) c.take_yield.ensures.ok
+
+pub read_child-returns-in_default-token : goal.read_child-returns-in_default-token
+read_child-returns-in_default-token g t c =
+    let x = c.args.problem.now in
+    let tokens = g.S.TokenSource.left c.args.tokens.now.source in
+    let left = g.S.TokenSource.left c.take.new.self.source in
+    let next = g.S.TokenSource.left c.read_below.new.tokens.source in
+    let same = ap (λ z. length z.items) c.read_below.ensures.given in
+    record {
+      problem = c.read_below.ensures.problem;
+      fewer = fewer_left tokens left next c.in-Some.token c.read_below.result c.in-Some.ensures.token c.read_below.ensures.fewer;
+      more = on_ok c.read_below.result (omega arith);
+      ok = ok_so c.read_below.result (below_grows c.args.e x.all x.problem (moves_of x.groups c.args.moves.now) (move_of x.groups c.args.m) c.args.standing.now c.read_below.new.standing c.args.known.now.items c.read_below.new.known.items c.in-Some.token tokens left next c.in-Some.ensures.token c.read_below.ensures.given) c.read_below.ensures.ok;
+    }
+
+pub read_children-loop-m-init : goal.read_children-loop-m-init
+read_children-loop-m-init g t c =
+    let x = c.args.problem.now in
+    let all = moves_of x.groups c.as_slice-listed.result.now in
+    let tokens = g.S.TokenSource.left c.args.tokens.now.source in
+    let known = c.args.known.now.items in
+    let asked = c.new-standing.result.asked in
+    let empty = ap length c.new-standing.ensures.given in
+    record {
+      problem = refl;
+      fewer = omega arith;
+      room = omega arith;
+      children = subst (λ z. Children c.args.e x.all x.problem all [] known tokens asked z known tokens) (sym c.new-standing.ensures.given) (none x.problem all known tokens asked c.new-standing.ensures.asked);
+    }
+
+pub read_children-read_child-requires : goal.read_children-read_child-requires
+read_children-read_child-requires g t c κs within =
+    let x = c.args.problem.now in
+    let items = c.as_slice-listed.result.now in
+    let i = c.loop-m.m-index in
+    let named = subst (All (IsNamed x.groups)) (sym c.as_slice-listed.ensures.value) c.requires.named in
+    let are = subst (λ z. AreMoves x.problem (moves_of x.groups z)) (sym c.as_slice-listed.ensures.value) c.requires.moves in
+    let same = sym c.loop-m.invariant.problem in
+    let fewer = c.loop-m.invariant.fewer in
+    let room = c.loop-m.invariant.room in
+    let few = c.as_slice-listed.ensures.few in (
+      omega (arith, c.decreases),
+      (
+        within,
+        (
+          subst (λ (z : Position). IsMove z.problem (move_of z.groups (get_or items i (Next 0)))) same (move_at x.problem x.groups items i (Next 0) c.loop-m-test.true are.moves_only),
+          (
+            subst (λ (z : Position). IsNamed z.groups (get_or items i (Next 0))) same (at_place (IsNamed x.groups) items i (Next 0) c.loop-m-test.true named),
+            (
+              subst (λ (z : Position). AreLastEnds z.problem (moves_of z.groups items) c.last_ends-ends.result) same c.last_ends-ends.ensures.ends,
+              omega arith,
+            ),
+          ),
+        ),
+      ),
+    )
+
+pub read_children-loop-m-preserved : goal.read_children-loop-m-preserved
+read_children-loop-m-preserved g t c =
+    let x = c.args.problem.now in
+    let items = c.as_slice-listed.result.now in
+    let i = c.loop-m.m-index in
+    let tokens = g.S.TokenSource.left c.loop-m.tokens.source in
+    let left = g.S.TokenSource.left c.read_child.new.tokens.source in
+    let begun = g.S.TokenSource.left c.args.tokens.now.source in
+    let grows = subst (λ (z : Position). Grows c.args.e z.all z.problem (moves_of z.groups items) (move_of z.groups (get_or items i (Next 0))) c.loop-m.standing c.loop-m.known.items tokens c.read_child.new.standing c.read_child.new.known.items left) c.loop-m.invariant.problem c.in_ok-read_child.ensures.ok in
+    let less = c.in_ok-read_child.ensures.fewer in
+    let more = c.in_ok-read_child.ensures.more in
+    let fewer = c.loop-m.invariant.fewer in
+    let room = c.loop-m.invariant.room in
+    record {
+      problem = c.in_ok-read_child.ensures.problem ∙ c.loop-m.invariant.problem;
+      fewer = omega arith;
+      room = omega arith;
+      children = children_more c.args.e x items i (Next 0) c.loop-m.standing c.read_child.new.standing c.args.known.now.items c.loop-m.known.items c.read_child.new.known.items begun tokens left c.loop-m-test.true grows c.loop-m.invariant.children;
+    }
+
+pub read_tree-returns-in-Again-clause-ok : goal.read_tree-returns-in-Again-clause-ok
+read_tree-returns-in-Again-clause-ok g t c =
+    let x = c.args.problem.now in
+    let left = g.S.TokenSource.left c.args.tokens.now.source in
+    let e : c.deref.result.now ≡ c.args.known.now.items = cc in
+    each_ok _ _ c.read_again.result (λ d h. again_proves c.args.e x.all x.problem c.args.known.now.items c.in-Again.number c.args.token left d c.in-Again.is (subst (λ z. IsAgain x.all x.problem z c.in-Again.number d) e h)) c.read_again.ensures
+
+pub read_tree-returns-in_default : goal.read_tree-returns-in_default
+read_tree-returns-in_default g t c =
+    let x = c.args.problem.now in
+    let left = g.S.TokenSource.left c.args.tokens.now.source in
+    record {
+      problem = on_ok c.read_closing.result refl;
+      fewer = on_ok c.read_closing.result (omega arith);
+      ok = each_ok _ _ c.read_closing.result (λ d h. closed x.problem c.args.known.now.items c.args.token d left h.0 h.1) c.read_closing.ensures;
+    }

@@ -1,0 +1,29 @@
+//! Checks certificates that remember states: a yes means that the schedule is legal and no legal schedule of the
+//! problem ends sooner.
+//!
+//! Beside the tokens of a plain certificate there are two: `W` closes a node by the window bound, and `R` closes it by
+//! an open node that was read before, to which the same was left and of which no more was asked than the node meets.
+//! Who made the certificate need not be trusted.
+#![tactic(auto)]
+
+mod checking;
+mod closes;
+mod fault;
+mod given;
+mod known;
+pub mod laws;
+mod numbered;
+mod source;
+mod standing;
+mod token;
+mod token_list;
+mod walk;
+
+pub use checking::check_known;
+pub use fault::KnownFault;
+pub use given::Given;
+pub use known::Known;
+pub use source::TokenSource;
+pub use token::Token;
+pub use token_list::TokenList;
+pub use walk::MOST_KNOWN;

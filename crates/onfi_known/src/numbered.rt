@@ -1,0 +1,32 @@
+ghost use Rattle.std.specs.Prelude.{◌≡◌, ◌∷◌, [], IfSome, IfNone};
+
+use crate::source::TokenSource;
+use crate::token::Token;
+
+/// Tokens from a source, each with its place, counted from 0.
+#[derive(Drop)]
+pub struct Numbered<S> {
+    pub source: S,
+    /// The place of the next token; the greatest number stands for all places above it.
+    pub place: usize,
+}
+
+impl<S: TokenSource> Numbered<S> {
+    /// All tokens of a source.
+    pub fn of(source: S) -> Numbered<S>
+        ensures { result.source ≡ source }
+    {
+        Numbered { source, place: 0 }
+    }
+
+    /// The next token and its place, or None where no token is left.
+    pub fn take(&mut self) -> Option<(Token, usize)>
+        ensures token { IfSome result (λ r. S.left self.old.source ≡ r.0 ∷ S.left self.new.source) }
+        ensures end { IfNone result (S.left self.old.source ≡ []) }
+    {
+        let token = self.source.next()?;
+        let place = self.place;
+        self.place = place.saturating_add(1);
+        Some((token, place))
+    }
+}

@@ -1,0 +1,129 @@
+//! How the LUNs of a node stand while its children are read.
+
+ghost use Rattle.std.specs.Prelude.{◌≡◌, ◌≢◌, ◌≤◌, ◌<◌, ◌∷◌, ◌++◌, ℕ, [], false, List, IfSome, IsTrue, OnOk, IfOk, length, slice_index, slice_index_or, None, Some};
+ghost use Rattle.std.specs.List.{AllByRecursion as Each};
+ghost use Rattle.onfi_problem.specs.Moves.{Move as OneMove, may_go, after};
+ghost use Rattle.onfi_problem.specs.Problem.{Problem as AnyProblem};
+ghost use Rattle.onfi_check.specs.Ends.{IsLastEnd};
+ghost use Rattle.onfi_demand.specs.Asked.{GoesOn};
+ghost use Rattle.onfi_known.specs.Proves.{MayYield, Yielded, with_yields};
+
+use crate::fault::KnownFault;
+use crate::given::Given;
+use arrayvec::ArrayVec;
+use onfi_demand::{LunWork, Step};
+use onfi_problem::Problem;
+
+/// What is asked of each LUN so far, in ns, and which children yield.
+#[derive(Drop)]
+pub struct Standing {
+    pub asked: [u64; 8],
+    pub given: ArrayVec<Given, 87>,
+}
+
+impl Standing {
+    /// Before the first child.
+    pub fn new() -> Standing
+        ensures asked { (lun : ℕ) → slice_index result.asked lun ≡ 0 }
+        ensures given { result.given.items ≡ [] }
+    {
+        Standing {
+            asked: [0; 8],
+            given: ArrayVec::new(),
+        }
+    }
+
+    /// From when on each LUN must go on, where those that yield wait for the LUNs that they yield to; None where that
+    /// is no number of 64 bits.
+    pub fn times(&self) -> Option<[u64; 8]>
+        ensures { IfSome result (λ times. (lun : ℕ) → lun < 8 → slice_index times lun ≡ with_yields self.now.asked self.now.given.items lun) }
+    {
+        let mut times = [0; 8];
+        for lun in 0..8usize {
+            times[lun] = self.time_of(lun)?;
+        }
+        Some(times)
+    }
+
+    // That of one LUN.
+    fn time_of(&self, lun: usize) -> Option<u64>
+        requires { lun < 8 }
+        ensures { IfSome result (λ time. time ≡ with_yields self.now.asked self.now.given.items lun) }
+    {
+        let mut time = self.asked[lun];
+        for y in self.given.as_slice() {
+            if y.own as usize == lun {
+                let behind = self.asked.get(y.lun as usize)?.checked_add(y.longest)?;
+                time = time.max(behind);
+            }
+        }
+        Some(time)
+    }
+}
+
+/// The numbers of a move's phase, where the move of that LUN was made that started then.
+pub(crate) fn step_behind(problem: &Problem, lun: u8, start: u64) -> Step
+    requires { lun < length problem.now.problem.luns }
+    ensures lun { result.lun ≡ lun }
+    ensures start { result.start ≡ start }
+    ensures end { result.end ≡ problem.now.problem.bus_free }
+    ensures go { GoesOn problem.now.problem lun result.go }
+{
+    let work = LunWork::of(problem, lun);
+    let go = if work.is_some() { Some(work.go) } else { None };
+    Step {
+        lun,
+        start,
+        end: problem.bus_free(),
+        go,
+    }
+}
+
+// Whether a yield of a move of LUN `own` to LUN `lun` goes round with those before it.
+fn goes_round(given: &[Given], own: u8, lun: u8) -> bool
+    ensures { result ≡ false → Each (λ g. g.lun ≢ own) given.now × Each (λ g. g.own ≢ lun) given.now }
+{
+    for y in given {
+        if y.lun == own || y.own == lun {
+            return true;
+        }
+    }
+    false
+}
+
+/// Takes a yield of a move of LUN `own` to LUN `lun` that stands at that place, where the moves of each LUN end by
+/// `ends`.
+///
+/// # Errors
+/// `YieldLoop` where the move yields to its own LUN, to one of which a move yields, or was yielded to; else
+/// `YieldNoFit` where the other LUN has no move, or one that ends later than this one may start.
+pub(crate) fn take_yield(
+    problem: &Problem,
+    ends: &[Option<u64>; 8],
+    standing: &mut Standing,
+    own: u8,
+    lun: u8,
+    place: usize,
+) -> Result<(), KnownFault>
+    requires own { own < length problem.now.problem.luns }
+    requires lun { lun < 8 }
+    requires room { length standing.old.given.items < 87 }
+    ensures asked { standing.new.asked ≡ standing.old.asked }
+    ensures ok { OnOk result (Yielded problem.now.problem ends.now standing.old.given.items own lun standing.new.given.items) }
+{
+    if lun == own || goes_round(&standing.given, own, lun) {
+        return Err(KnownFault::YieldLoop(place));
+    }
+    let Some(end) = ends[lun as usize] else {
+        return Err(KnownFault::YieldNoFit(place));
+    };
+    if lun as usize >= problem.lun_count() || end > problem.may_go(own) {
+        return Err(KnownFault::YieldNoFit(place));
+    }
+    standing.given.push(Given {
+        own,
+        lun,
+        longest: end.saturating_sub(problem.may_go(lun)),
+    });
+    Ok(())
+}
