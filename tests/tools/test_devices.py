@@ -11,6 +11,8 @@ from onfi_tools import device
 from onfi_tools.script import lengths_of
 
 EXAMPLES = support.ROOT / "examples"
+# Those of the program; those of the libraries are built and run by tests/libraries.
+PAGES = [EXAMPLES / user / "README.md" for user in ("firmware", "simulator", "test-bench")]
 WORKED = ("multi_lun=1 multi_plane_writes=1 multi_plane_reads=1 status_enhanced=1 column_enhanced=1 data_bytes=512 "
           "spare_bytes=16 pages_per_block=64 blocks_per_lun=1000 luns=2 column_cycles=2 row_cycles=3 plane_bits=1 "
           "tPROG_us=200 tBERS_us=1500 tR_us=25 tCCS_ns=200").split()
@@ -94,13 +96,13 @@ class Examples(unittest.TestCase):
             self.assertEqual(ran.stdout.splitlines(), page_rows(EXAMPLES / script / "batch.onfi"))
 
     def test_their_pages_are_short(self) -> None:
-        for page in EXAMPLES.glob("*/README.md"):
+        for page in PAGES:
             self.assertLessEqual(len(page.read_text().splitlines()), 10)
 
     @unittest.skipUnless(support.program(), "no built program")
     def test_their_commands_print_what_is_written(self) -> None:
         ran = 0
-        for page in (support.ROOT / "README.md", *EXAMPLES.glob("*/README.md")):
+        for page in (support.ROOT / "README.md", *PAGES):
             for command, written in commands_of(page):
                 self.assertEqual(support.run_shell(command), written, command)
                 ran += 1

@@ -1,0 +1,65 @@
+//! Makes calls of the libraries, and prints a line for what each answers. A call that answers Memory is told as `memory`
+//! and made once more: so whoever refuses it memory sees whether anything else changed.
+#![tactic(auto)]
+
+mod channel;
+mod ended;
+mod judging;
+mod planning;
+mod sample;
+
+use crate::channel::{run_events, step_by_step};
+use crate::ended::Ended;
+use crate::judging::{judge_text, judge_tokens};
+use crate::planning::{plan_apart, plan_in_parts, plan_running};
+use std::alloc::Global;
+use std::process::ExitCode;
+use std::thread::Threads;
+
+/// The first argument; empty where there is none.
+fn name_of(rt: &(impl std::rt::Env + AllocGlobal)) -> Result<String, Ended> {
+    let Ok(mut args) = std::env::args(rt) else {
+        return Err(Ended::Memory);
+    };
+    let _program = args.next();
+    match args.next() {
+        Some(name) => Ok(name),
+        None => Err(Ended::NoTrial),
+    }
+}
+
+/// Makes the calls of the trial with this name.
+fn try_calls<R: Print + Threads + Sync>(rt: &R, alloc: Global, name: &str) -> Result<(), Ended> {
+    match name {
+        "apart" => plan_apart(rt, alloc),
+        "running" => plan_running(rt, alloc),
+        "parts" => plan_in_parts(rt, alloc),
+        "tokens" => judge_tokens(rt, alloc),
+        "text" => judge_text(rt, alloc),
+        "channel" => step_by_step(rt, alloc),
+        "events" => run_events(rt, alloc),
+        _ => Err(Ended::NoTrial),
+    }
+}
+
+fn tried(rt: &(impl std::rt::Env + AllocGlobal + Print + Threads + Sync)) -> Result<(), Ended> {
+    let name = name_of(rt)?;
+    try_calls(rt, rt.alloc(), name.as_str())
+}
+
+fn main(rt: HostRuntime) -> ExitCode {
+    match tried(&rt) {
+        Ok(()) => ExitCode::SUCCESS,
+        Err(Ended::Memory) => {
+            let _ = rt.println("memory");
+            ExitCode::from(4)
+        }
+        Err(Ended::NoTrial) => {
+            let _ = rt.eprintln(
+                "usage: onfi_trials apart|running|parts|tokens|text|channel|events",
+            );
+            ExitCode::from(5)
+        }
+        Err(Ended::Write) => ExitCode::from(7),
+    }
+}

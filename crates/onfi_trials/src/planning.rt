@@ -1,0 +1,110 @@
+ghost use Rattle.std.specs.Prelude.{◌≤◌};
+
+use crate::ended::Ended;
+use crate::sample::{problem, running, want};
+use onfi_planner::{NoGate, PlanFault, Planned, plan, plan_split};
+use onfi_problem::{LunState, Problem};
+use onfi_samples::sample_timing;
+use onfi_timing::{Kind, Spans, Timing};
+use std::alloc::Global;
+use std::thread::Threads;
+
+fn say_plan(rt: &impl Print, planned: &Planned) -> Result<(), Ended> {
+    println!(rt; "finish {}", planned.finish)?;
+    for token in planned.cert.as_slice() {
+        println!(rt; "{token:?}")?;
+    }
+    for group in planned.schedule.groups() {
+        println!(rt; "group {:?}", group.starts().as_slice())?;
+    }
+    Ok(())
+}
+
+/// Plans with a search of at most so many nodes; once more where memory was refused.
+fn plan_within(rt: &impl Print, alloc: Global, problem: &Problem, limit: u32) -> Result<(), Ended>
+    requires some { 1 ≤ limit }
+    requires few { limit ≤ 1048576 }
+{
+    for _try in 0..2u8 {
+        match plan(alloc, problem, limit) {
+            Ok(planned) => return say_plan(rt, &planned),
+            Err(PlanFault::Over { opened }) => {
+                println!(rt; "over {opened}")?;
+                return Ok(());
+            }
+            Err(PlanFault::Memory) => println!(rt; "memory")?,
+        }
+    }
+    Err(Ended::Memory)
+}
+
+/// The same by two workers.
+fn split_within<R: Print + Threads + Sync>(
+    rt: &R,
+    alloc: Global,
+    problem: &Problem,
+    limit: u32,
+) -> Result<(), Ended>
+    requires some { 1 ≤ limit }
+    requires few { limit ≤ 1048576 }
+{
+    for _try in 0..2u8 {
+        match plan_split(rt, alloc, problem, limit, 2, &NoGate) {
+            Ok(planned) => return say_plan(rt, &planned),
+            Err(PlanFault::Over { opened }) => {
+                println!(rt; "over {opened}")?;
+                return Ok(());
+            }
+            Err(PlanFault::Memory) => println!(rt; "memory")?,
+        }
+    }
+    Err(Ended::Memory)
+}
+
+/// The sample device with grouped reads that wait longer between their commands than the array takes.
+fn long_gap() -> Result<Timing, Ended> {
+    let timing = sample_timing();
+    let Ok(read) = Spans::new(140, 30_100, 25_100, 11_000) else {
+        return Err(Ended::NoTrial);
+    };
+    Ok(Timing::new(read, timing.spans(Kind::Program), timing.spans(Kind::Erase)))
+}
+
+/// Two reads of one LUN that could be grouped and are better apart.
+fn reads_apart(alloc: Global) -> Result<Problem, Ended> {
+    let luns = [LunState::Free { since: 0 }, LunState::Free { since: 0 }];
+    let wants = [want(0, Kind::Read, 0, 0), want(1, Kind::Read, 0, 1)];
+    problem(alloc, long_gap()?, &luns, &wants)
+}
+
+/// A data output of LUN 0, a status of LUN 1 that is ready later, and an erase behind it.
+fn erase_behind(alloc: Global) -> Result<Problem, Ended> {
+    let luns = [
+        running(alloc, want(0, Kind::Read, 0, 0), 0),
+        running(alloc, want(0, Kind::Erase, 1, 0), 50),
+    ];
+    let wants = [want(0, Kind::Erase, 1, 1)];
+    problem(alloc, sample_timing(), &luns, &wants)
+}
+
+/// Plans of two reads, one node too few first.
+pub(crate) fn plan_apart(rt: &impl Print, alloc: Global) -> Result<(), Ended> {
+    let problem = reads_apart(alloc)?;
+    plan_within(rt, alloc, &problem, 6)?;
+    plan_within(rt, alloc, &problem, 7)
+}
+
+/// Plans beside running groups, one node too few first.
+pub(crate) fn plan_running(rt: &impl Print, alloc: Global) -> Result<(), Ended> {
+    let problem = erase_behind(alloc)?;
+    plan_within(rt, alloc, &problem, 6)?;
+    plan_within(rt, alloc, &problem, 7)
+}
+
+/// Plans of both by two workers, of the first with one node too few for its parts first.
+pub(crate) fn plan_in_parts<R: Print + Threads + Sync>(rt: &R, alloc: Global) -> Result<(), Ended> {
+    let (apart, behind) = (reads_apart(alloc)?, erase_behind(alloc)?);
+    split_within(rt, alloc, &apart, 3)?;
+    split_within(rt, alloc, &apart, 4)?;
+    split_within(rt, alloc, &behind, 1_048_576)
+}

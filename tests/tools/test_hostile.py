@@ -1,0 +1,93 @@
+"""The built program on inputs that break off at each byte, and on readers and writers that fail."""
+
+from __future__ import annotations
+
+import os
+import re
+import subprocess
+import unittest
+from concurrent.futures import ThreadPoolExecutor
+from typing import Callable, List, Tuple
+
+import support
+from onfi_tools.cases import Case, read_cases
+
+Answer = Tuple[bytes, int]
+TOKEN = re.compile(rb"(B[1-9][0-9]?|[ULTX]|[DY][0-7])\Z")
+NO_END = (b"script refused 0 NoEnd\n", 1)
+
+
+def case_named(name: str) -> Case:
+    found = [case for case in read_cases([name]) if case.name == name]
+    return found[0]
+
+
+def answer(case: Case, given: bytes) -> Answer:
+    ran = subprocess.run([str(support.program()), *case.arguments], input=given, capture_output=True, timeout=20)
+    return ran.stdout + ran.stderr, ran.returncode
+
+
+def good_tokens(text: bytes) -> int:
+    """How many words from the first on are tokens; the last one may break off."""
+    words = text.split(b" ")
+    return next((place for place, word in enumerate(words) if not TOKEN.match(word)), len(words))
+
+
+def answer_to_cut(script: bytes, plan: bytes, size: int) -> Answer:
+    """What `check` answers to so many bytes of a script and its plan, but not all of them."""
+    if size < len(script) - 1:
+        return NO_END
+    text = plan[: max(0, size - len(script))]
+    lines = text.split(b"\n")
+    if not any(line.startswith(b"ONFICERT") for line in lines[:-1]):
+        return b"refused plan %d\n" % len(lines), 2
+    return b"refused cert BadToken %d\n" % good_tokens(lines[-1]), 2
+
+
+@unittest.skipUnless(support.program(), "no built program")
+class Cuts(unittest.TestCase):
+    def assert_cut(self, case: Case, expected: Callable[[int], Answer]) -> None:
+        """At each size the answer is the expected one; the whole input has the case's."""
+        sizes = range(len(case.input))
+        with ThreadPoolExecutor(os.cpu_count()) as pool:
+            answers: List[Answer] = list(pool.map(lambda size: answer(case, case.input[:size]), sizes))
+        for size in sizes:
+            self.assertEqual(answers[size], expected(size), case.input[:size])
+        self.assertEqual(answer(case, case.input), (case.output, case.status))
+
+    def test_a_script_cut_before_its_last_line_end_has_no_end(self) -> None:
+        case = case_named("an output, a status and an erase open seven nodes")
+        last = len(case.input) - 1
+        self.assert_cut(case, lambda size: (case.output, 0) if size == last else NO_END)
+
+    def test_a_judged_plan_cut_anywhere_is_refused_by_what_is_left(self) -> None:
+        for name in ("a yield, then the bound of the die", "a late status yields to programs"):
+            case = case_named(name)
+            begun = case.input.index(b"ONFIPLAN")
+            script, plan = case.input[:begun], case.input[begun:]
+            self.assertIn(b"accepted", case.output)
+            self.assert_cut(case, lambda size: answer_to_cut(script, plan, size))
+
+
+@unittest.skipUnless(support.program(), "no built program")
+class Streams(unittest.TestCase):
+    COMMANDS = (["plan"], ["plan", "--trace"], ["check"])
+
+    def test_a_read_that_fails_writes_nothing(self) -> None:
+        folder = os.open(support.ROOT, os.O_RDONLY)
+        for words in self.COMMANDS:
+            ran = subprocess.run([str(support.program()), *words], stdin=folder, capture_output=True, timeout=20)
+            self.assertEqual((ran.stdout, ran.stderr, ran.returncode), (b"", b"", 7))
+        os.close(folder)
+
+    def test_a_write_that_fails_is_told_by_the_status(self) -> None:
+        for words in self.COMMANDS:
+            for given in (b"", (support.ROOT / "examples/batch.onfi").read_bytes()):
+                with open("/dev/full", "wb") as full:
+                    ran = subprocess.run([str(support.program()), *words], input=given, stdout=full, stderr=subprocess.PIPE,
+                                         timeout=20)
+                self.assertEqual((ran.stderr, ran.returncode), (b"", 7))
+
+
+if __name__ == "__main__":
+    unittest.main()

@@ -1,0 +1,132 @@
+"""tools/soak and its die model: worked answers, and programs that answer rightly and wrongly."""
+
+from __future__ import annotations
+
+import os
+import stat
+import sys
+import tempfile
+import unittest
+from pathlib import Path
+from typing import List, Tuple
+
+import support
+from onfi_tools.die import Block, Device, Operation
+
+USUAL = Device(64, 528, False)
+PROGRAM = """#!{python} -B
+import csv, sys
+sys.path.insert(0, {tools!r})
+from onfi_tools.device import first_copy, numbers_of
+from onfi_tools.die import Block, Device, Operation
+
+rows = list(csv.reader(sys.stdin.read().split("\\nend")[0].splitlines()))
+page = numbers_of(first_copy(bytes.fromhex("".join(row[1] for row in rows if row[0] == "page"))))
+device = Device(page["pages_per_block"], page["data_bytes"] + page["spare_bytes"], bool(page["any_page_order"]))
+faults, fails, unready, blocks, serials, calls, stopped, lines = {{}}, {{}}, {{}}, {{}}, {{}}, {{}}, {{}}, []
+for row in rows:
+    if row[0] == "fault":
+        faults.setdefault(tuple(map(int, row[1:4])), set()).add(int(row[4]))
+    if row[0] in ("chipfail", "notready"):
+        (fails if row[0] == "chipfail" else unready)[int(row[1])] = int(row[2])
+
+
+def run(channel, spot, operation):
+    done, statuses = calls.setdefault(channel, [0, 0])
+    calls[channel] = [done + 2, statuses + (operation.kind != "read")]
+    if done <= fails.get(channel, -1) < done + 2:
+        stopped[channel] = "Bus"
+    elif operation.kind != "read" and statuses == unready.get(channel):
+        stopped[channel] = f"NotReady {{spot[1]}}"
+    block = blocks.setdefault(spot, Block(device, frozenset(faults.get(spot, ()))))
+    return block.apply(operation)
+
+
+for row in rows:
+    if row[0] == "op":
+        host, channel, kind, lun, number, at = int(row[1]), int(row[2]), row[3], int(row[4]), int(row[5]), int(row[6])
+        serial = serials.setdefault((host, channel), 0)
+        serials[(host, channel)] += 1
+        content = bytes.fromhex(row[7]) if kind == "program" else b""
+        answer = None if channel in stopped else run(channel, (channel, lun, number), Operation(kind, at, content))
+        if channel not in stopped:
+            lines.append((host, channel, serial, answer))
+{spoilt}
+for line in sorted(lines):
+    print("reply,%d,%d,%d,%s" % line)
+for channel, cause in sorted(stopped.items()):
+    print(f"stopped,{{channel}},{{cause}}")
+print("closed")
+sys.exit(3 if stopped else 0)
+"""
+
+
+def soaked(spoilt: str, *words: str, scripts: int = 30) -> Tuple[int, str]:
+    """Status and output of the tool on a program that does this with its lines before it prints them."""
+    with tempfile.TemporaryDirectory() as folder:
+        program = Path(folder) / "program"
+        program.write_text(PROGRAM.format(python=sys.executable, tools=str(support.ROOT / "tools"), spoilt=spoilt))
+        os.chmod(program, stat.S_IRWXU)
+        said = support.run_tool("soak", "1", str(program), "--scripts", str(scripts), *words)
+    return said.returncode, said.stdout + said.stderr
+
+
+def answers(device: Device, faults: "frozenset[int]", asked: List[Operation]) -> List[str]:
+    block = Block(device, faults)
+    return [block.apply(operation) for operation in asked]
+
+
+class DieModel(unittest.TestCase):
+    def test_a_program_of_a_page_that_holds_bytes_fails_and_changes_nothing(self) -> None:
+        asked = [Operation("program", 0, b"\xa5" * 528), Operation("program", 0, b"\x5a" * 528), Operation("read", 0)]
+        self.assertEqual(answers(USUAL, frozenset(), asked), ["done", "failed", "read,*A5"])
+
+    def test_an_erase_makes_each_page_erased(self) -> None:
+        asked = [Operation("program", 0, b"\xa5" * 528), Operation("erase", 0), Operation("read", 0)]
+        self.assertEqual(answers(USUAL, frozenset(), asked), ["done", "done", "read,*FF"])
+
+    def test_pages_go_in_order_where_the_device_asks_for_it(self) -> None:
+        asked = [Operation("program", 3, b"\x11" * 528), Operation("program", 2, b"\x22" * 528), Operation("read", 2)]
+        self.assertEqual(answers(USUAL, frozenset(), asked), ["done", "failed", "read,*FF"])
+        self.assertEqual(answers(USUAL._replace(any_page_order=True), frozenset(), asked), ["done", "done", "read,*22"])
+
+    def test_a_fault_tears_and_counts_among_failed_ones(self) -> None:
+        program, read = Operation("program", 0, b"\x22" * 528), Operation("read", 0)
+        self.assertEqual(answers(USUAL, frozenset([0]), [program, read]), ["failed", "read,*00"])
+        erased = [program, program, Operation("erase", 0), read, program]
+        self.assertEqual(answers(USUAL, frozenset([2]), erased), ["done", "failed", "failed", "read,*00", "failed"])
+
+
+class Soak(unittest.TestCase):
+    def assert_told(self, spoilt: str, told: str) -> None:
+        status, said = soaked(spoilt)
+        self.assertEqual(status, 1, said)
+        self.assertIn(told, said)
+
+    def test_a_program_that_answers_as_the_model_has_no_difference(self) -> None:
+        status, said = soaked("")
+        self.assertEqual((status, said.splitlines()[-1]), (0, "30 passed, 0 failed"))
+        self.assertRegex(said, r"\n?[1-9]\d+ operations, 0 differences")
+
+    def test_a_heavy_script_has_a_thousand_operations_of_each_host(self) -> None:
+        status, said = soaked("", "--heavy", scripts=1)
+        self.assertEqual((status, said.splitlines()), (0, ["4000 operations, 0 differences", "1 passed, 0 failed"]))
+
+    def test_a_lost_reply_is_told(self) -> None:
+        self.assert_told("lines = lines[:-1]", "or none to [(")
+
+    def test_a_reply_twice_is_told(self) -> None:
+        self.assert_told("lines += lines[-1:]", "replies that don't rise")
+
+    def test_a_wrong_answer_is_told(self) -> None:
+        self.assert_told('lines = [line[:3] + ("failed",) for line in lines]', "no order of acceptance")
+
+    def test_a_stop_told_as_a_closing_is_told(self) -> None:
+        self.assert_told("stopped = {}", "the lines behind the replies")
+
+    def test_another_cause_is_told(self) -> None:
+        self.assert_told('stopped = dict.fromkeys(stopped, "Clock")', "the lines behind the replies")
+
+
+if __name__ == "__main__":
+    unittest.main()

@@ -1,0 +1,104 @@
+"""The pages of tests/cases: arguments, input, status and output of the built program. Their README has the format."""
+
+from __future__ import annotations
+
+import pathlib
+import re
+import shlex
+from typing import Dict, Iterator, List, NamedTuple
+
+CASES = pathlib.Path(__file__).resolve().parent.parent.parent / "tests" / "cases"
+MARK = re.compile(r"^(===|\+\+\+|---) (.+)$", re.MULTILINE)
+ESCAPE = re.compile(rb"\\(x.{0,2}|[^x])")
+ESCAPED = {b"\n": b"", b"n": b"\n", b"r": b"\r", b"t": b"\t", b"0": b"\0", b"\\": b"\\"}
+ESCAPED.update((b"x%02X" % byte, bytes([byte])) for byte in range(256))
+
+
+class Part(NamedTuple):
+    """A part of a page: where it begins, its mark, what stands behind that, and the text up to the next mark."""
+
+    place: str
+    mark: str
+    title: str
+    body: str
+
+
+class Case(NamedTuple):
+    place: str
+    name: str
+    arguments: List[bytes]
+    input: bytes
+    status: int
+    output: bytes
+
+
+def parts_of(path: pathlib.Path) -> Iterator[Part]:
+    """The parts of a page; what stands before the first mark is for readers alone."""
+    page = path.read_bytes().decode() + "\n"
+    for number, line in enumerate(page.split("\n"), 1):
+        if line != line.rstrip():
+            raise ValueError(f"{path.name}:{number}: white space ends the line (write \\x20, \\t or \\r)")
+    marks = list(MARK.finditer(page))
+    ends = [mark.start() for mark in marks[1:]] + [len(page)]
+    for mark, end in zip(marks, ends):
+        place = f"{path.name}:{page.count(chr(10), 0, mark.start()) + 1}"
+        yield Part(place, mark[1], mark[2], page[mark.end() + 1 : end])
+
+
+def unescaped(text: str) -> bytes:
+    return ESCAPE.sub(lambda found: ESCAPED[found[1]], text.encode())
+
+
+def text_of(body: str, texts: Dict[str, bytes]) -> bytes:
+    """The bytes that a body stands for, with named texts put in."""
+    lines = body.split("\n")[:-1]
+    return b"".join(texts[line[1:-1]] if re.fullmatch("<.+>", line) else unescaped(line + "\n") for line in lines)
+
+
+def without_end(body: str) -> str:
+    """The body without the empty lines at its end."""
+    return re.sub(r"(^|\n)\n*\Z", r"\1", body)
+
+
+def case_of(asked: Part, answer: Part, texts: Dict[str, bytes]) -> Case:
+    line, _, input = asked.body.partition("\n")
+    if not line.startswith("$"):
+        raise ValueError("no line of arguments behind the name")
+    arguments = [unescaped(word) for word in shlex.split(line[1:])]
+    output = text_of(without_end(answer.body), texts)
+    return Case(asked.place, asked.title, arguments, text_of(input, texts), int(answer.title), output)
+
+
+def read_page(path: pathlib.Path, texts: Dict[str, bytes]) -> Iterator[Case]:
+    """The cases of a page, in order; its named texts are added to the given ones."""
+    names = set(texts)
+    asked = None
+    for part in parts_of(path):
+        try:
+            if (part.mark == "---") != (asked is not None):
+                raise ValueError("a case without an answer, or an answer without a case")
+            if part.mark != "---" and part.title in names:
+                raise ValueError("this name stands twice")
+            names.add(part.title)
+            if part.mark == "+++":
+                texts[part.title] = text_of(without_end(part.body), texts)
+            elif part.mark == "===":
+                asked = part
+            elif asked:
+                yield case_of(asked, part, texts)
+                asked = None
+        except (ValueError, KeyError) as fault:
+            raise ValueError(f"{part.place}: {fault!r}") from fault
+    if asked:
+        raise ValueError(f"{asked.place}: a case without an answer")
+
+
+def read_cases(words: List[str], folder: pathlib.Path = CASES) -> List[Case]:
+    """The cases of a folder's pages, or those whose place ('worked.cases:17') or name has one of the words.
+
+    ValueError and OSError: a page can't be read.
+    """
+    shared: Dict[str, bytes] = {}
+    cases = [case for path in sorted(folder.glob("*.texts")) for case in read_page(path, shared)]
+    cases += [case for path in sorted(folder.glob("*.cases")) for case in read_page(path, dict(shared))]
+    return [case for case in cases if not words or any(word in case.place or word in case.name for word in words)]

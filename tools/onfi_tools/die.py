@@ -1,0 +1,94 @@
+"""What a die answers: the contents of blocks, as the definitions of the simulated chip tell them."""
+
+from __future__ import annotations
+
+from typing import Dict, FrozenSet, NamedTuple, Optional
+
+ERASED = "erased"
+TORN = "torn"
+
+
+class Device(NamedTuple):
+    """What of a device its answers depend on."""
+
+    pages: int
+    page_bytes: int
+    any_page_order: bool
+
+
+class Operation(NamedTuple):
+    """A request at a page; an erase names page 0, a program brings a page of bytes."""
+
+    kind: str
+    page: int
+    content: bytes = b""
+
+
+class Block:
+    """A block that opens erased. `faults` are the numbers, from 0, of its programs and erases that fail and tear it."""
+
+    def __init__(self, device: Device, faults: FrozenSet[int] = frozenset()) -> None:
+        self.device = device
+        self.faults = faults
+        self.done = 0
+        self.others = ERASED
+        self.pages: Dict[int, object] = {}
+
+    def copy(self) -> "Block":
+        made = Block(self.device, self.faults)
+        made.done, made.others, made.pages = self.done, self.others, dict(self.pages)
+        return made
+
+    def page(self, number: int) -> object:
+        """Erased, torn or its bytes."""
+        return self.pages.get(number, self.others)
+
+    def apply(self, asked: Operation) -> str:
+        """Does the operation; its answer as a report spells it."""
+        if asked.kind == "read":
+            return "read," + spelled(self.bytes_of(asked.page))
+        number = self.done
+        self.done += 1
+        if asked.kind == "erase":
+            self.pages, self.others = {}, TORN if number in self.faults else ERASED
+            return "failed" if number in self.faults else "done"
+        if number in self.faults:
+            self.pages[asked.page] = TORN
+            return "failed"
+        if not self.takes_program(asked.page):
+            return "failed"
+        self.pages[asked.page] = asked.content
+        return "done"
+
+    def bytes_of(self, number: int) -> bytes:
+        held = self.page(number)
+        if isinstance(held, bytes):
+            return held
+        return (b"\xff" if held == ERASED else b"\0") * self.device.page_bytes
+
+    def takes_program(self, number: int) -> bool:
+        """Whether the page is erased and, where pages go in order, each higher one is."""
+        higher = [] if self.device.any_page_order else range(number + 1, self.device.pages)
+        return self.page(number) == ERASED and all(self.page(other) == ERASED for other in higher)
+
+
+def spelled(content: bytes) -> str:
+    """Bytes as a report has them: `*HH` where all are equal."""
+    return f"*{content[0]:02X}" if len(set(content)) == 1 else content.hex().upper()
+
+
+class Line(NamedTuple):
+    """A line `reply` of a report."""
+
+    host: int
+    channel: int
+    serial: int
+    answer: str
+
+
+def line_of(text: str) -> Optional[Line]:
+    """A line `reply`; None where it is another."""
+    words = text.split(",", 4)
+    if words[0] != "reply" or len(words) != 5 or not all(word.isdigit() for word in words[1:4]):
+        return None
+    return Line(int(words[1]), int(words[2]), int(words[3]), words[4])
