@@ -1,6 +1,8 @@
 # make plan: prove and build bin/onfi_sim, and plan one read with it.
 # make try:  the same script with the program unproved, in one to two minutes.
 # make test: the whole gate: what must not compile, every proof and test, the cases of the program, and all wrong bodies.
+# make library: prove and build lib/libonfi.a and lib/libonfi.so for C and for Python.
+# make install PREFIX=DIR: these with their header and a pkg-config file into DIR.
 # make wrong-bodies: these alone; tools/wrong-bodies CRATE tries those of one crate.
 
 # The crates that a line of crates.txt says a crate stands on.
@@ -19,7 +21,7 @@ only_onfi_script := command_line script row rows row_name field forms text fault
 # One job for each processor, up to four; a job takes about a gigabyte of memory.
 JOBS ?= $(shell n=$$(nproc); echo $$((n < 4 ? n : 4)))
 
-.PHONY: plan try test wrong-bodies
+.PHONY: plan try test library install wrong-bodies
 
 plan:
 	@$(MAKE) --no-print-directory -j3 bin/onfi_sim
@@ -50,6 +52,23 @@ bin/onfi_sim: $(call proved,$(LIBRARIES)) $(call sources_of,onfi_sim) crates.txt
 	@tools/prove program onfi_sim --jobs $(JOBS)
 	@mkdir -p bin
 	@cp crates/onfi_sim/out/onfi_sim bin/onfi_sim
+
+# What the library asks of the kit in C: its calls of malloc, realloc and free.
+KIT := $(shell dirname $$(dirname $$(readlink -f $$(command -v rt))))
+
+library: lib/libonfi.a lib/libonfi.so
+
+lib/libonfi.a: $(call proved,$(LIBRARIES)) $(call sources_of,onfi_c) crates.txt
+	@echo "proving onfi_c"
+	@tools/prove static onfi_c --jobs $(JOBS)
+	@tools/make-library crates/onfi_c/out/libonfi_c.a $(KIT)/c/liblibc_c.a lib
+
+lib/libonfi.so: lib/libonfi.a
+
+PREFIX ?= /usr/local
+
+install: library
+	@tools/install-library lib "$(DESTDIR)$(PREFIX)" "$(PREFIX)"
 
 try:
 	@echo "unproved: this run says nothing of the proofs"
