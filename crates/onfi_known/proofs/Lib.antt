@@ -1,3 +1,5 @@
+pub mod Spelled
+pub mod Ahead
 pub mod Sound
 pub mod Keeping
 pub mod Walking

@@ -1,6 +1,6 @@
 -- What is accepted bounds each run.
-use Rattle.std.proofs.Common.{◌≡◌, ◌≢◌, ℕ, zero, suc, ◌+◌, ◌-◌, ◌≤◌, ◌<◌, ◌⊎◌, inl, inr, List, [], ◌∷◌, ◌++◌, length, map, Some, refl, sym, ap, ◌∙◌, subst, arith}
-use Rattle.std.specs.Prelude.{slice_get, slice_index, true, max, ◌==◌}
+use Rattle.std.proofs.Common.{◌≡◌, ◌≢◌, ℕ, zero, suc, ◌+◌, ◌-◌, ◌≤◌, ◌<◌, ◌⊎◌, inl, inr, List, [], ◌∷◌, ◌++◌, length, Some, refl, sym, ap, ◌∙◌, subst, arith}
+use Rattle.std.specs.Prelude.{slice_get, slice_index, true, ◌==◌}
 use Rattle.std.specs.List.{AllByRecursion as All}
 use Rattle.std.proofs.lemmas.Bool.{cases_Bool, eq-eqb, ne_eqb, eqb-true}
 use Rattle.onfi_timing.specs.declared.timing.Timing.{Timing}
@@ -11,21 +11,19 @@ use Rattle.onfi_problem.specs.Problem.{Problem, IsProblem, IsSmall}
 use Rattle.onfi_problem.specs.Moves.{Move, Next, Start, IsMove, AreMoves, move_lun, may_go, placed, after, earliest}
 use Rattle.onfi_problem.proofs.Kept.{kept, kept_small}
 use Rattle.onfi_problem.proofs.Perm.{All-has, All-append, Has-append_cases, Has-append_left, Has-append_right}
-use Rattle.onfi_problem.proofs.Places.{same_place}
-use Rattle.onfi_schedule.specs.Runs.{Step, Run}
-use Rattle.onfi_schedule.specs.Schedule.{Schedule, Legal, Optimal, finish}
+use Rattle.onfi_schedule.specs.Schedule.{finish}
 use Rattle.onfi_schedule.proofs.Exchange.{bus_after}
 use Rattle.onfi_schedule.proofs.Least.{legal_run}
 use Rattle.onfi_check.specs.Ends.{IsLastEnd}
 use Rattle.onfi_demand.specs.Left.{SameLeft, has_left}
-use Rattle.onfi_demand.specs.Demand.{Demand, Meets, Holds, of_luns, asked, length_of}
+use Rattle.onfi_demand.specs.Demand.{Demand, Meets, Holds, of_luns, asked}
 use Rattle.onfi_demand.specs.Asked.{AreRaised}
 use Rattle.onfi_demand.specs.Laws.{Asks, Shows, GivesWay}
 use Rattle.onfi_demand.specs.Kept.{demand_of, IsKept}
 use Rattle.onfi_demand.specs.declared.demand.Demand.{Demand as Kept}
 use Rattle.onfi_demand.proofs.Bounding.{bus_asks, lead_asks, trail_asks, die_asks, end_asks}
 use Rattle.onfi_demand.proofs.Keeping.{kept_asks, left_few, small_same}
-use Rattle.onfi_demand.proofs.Opened.{open_asks, asked_is_met, left_there, same_self}
+use Rattle.onfi_demand.proofs.Opened.{open_asks, asked_is_met, same_self}
 use Rattle.onfi_demand.proofs.Sooner.{move_has}
 use Rattle.onfi_demand.proofs.WindowAsks.{window_asks}
 use Rattle.onfi_known.specs.declared.given.Given.{Given}

@@ -1,13 +1,13 @@
 -- How the token, the child or the tree that was read tells of the whole.
-use Rattle.std.proofs.Common.{◌≡◌, ◌≢◌, ℕ, ◌+◌, ◌-◌, ◌≤◌, ◌<◌, List, [], ◌∷◌, ◌++◌, length, map, take, drop, get_or, Some, refl, sym, ap, ◌∙◌, subst, arith}
-use Rattle.std.specs.Prelude.{Option, None, Result, Ok, Err, OnOk, IfOk, slice_index, slice_index_or, max}
+use Rattle.std.proofs.Common.{◌≡◌, ◌≢◌, ℕ, zero, suc, ◌+◌, ◌≤◌, ◌<◌, List, [], ◌∷◌, ◌++◌, length, take, get_or, Some, refl, sym, ap, ◌∙◌, subst, arith}
+use Rattle.std.specs.Prelude.{Option, Result, Ok, Err, OnOk, IfOk, slice_index, max}
 use Rattle.std.specs.List.{AllByRecursion as All}
 use Rattle.std.proofs.lemmas.List.{map-append, take_more, take_all}
 use Rattle.onfi_request.specs.declared.want.Want.{Want}
 use Rattle.onfi_problem.specs.Problem.{Problem}
-use Rattle.onfi_problem.specs.Moves.{Move, IsMove, AreMoves, move_lun, may_go, after, earliest}
+use Rattle.onfi_problem.specs.Moves.{Move, AreMoves, move_lun, may_go, after, earliest}
 use Rattle.onfi_problem.specs.declared.moves.Move.{Move as KeptMove}
-use Rattle.onfi_problem.specs.Position.{Position, move_of, moves_of, moved}
+use Rattle.onfi_problem.specs.Position.{Position, move_of, moves_of}
 use Rattle.onfi_check.specs.Ends.{AreLastEnds, IsLastEnd}
 use Rattle.onfi_check.proofs.OneList.{map_length}
 use Rattle.onfi_demand.specs.Asked.{AreRaised, GoesOn, IsStep, asked_by}
@@ -22,7 +22,13 @@ use Rattle.onfi_known.specs.declared.known.Known.{Known}
 use Rattle.onfi_known.specs.declared.standing.Standing.{Standing}
 use Rattle.onfi_known.specs.declared.token.Token.{Token}
 use Rattle.onfi_known.specs.declared.token.Token.TheVariants.{Branch, Yield, Again}
-use Rattle.onfi_known.specs.Proves.{Describes, IsAgain, times_of, MayYield, with_yields, Proves, Children, Remembers, Yielded, Below, Grows, closed, again, opened, none, tree, yielded}
+use Rattle.onfi_known.specs.Proves.{IsAgain, times_of, MayYield, with_yields, Proves, Children, Remembers, Yielded, Below, Grows, again, opened, tree, yielded}
+
+-- what all have, that at a place has
+pub at_place : {A : Type 0} (P : A → Type 0) (xs : List A) (i : ℕ) (d : A) → i < length xs → All P xs → P (get_or xs i d)
+at_place P [] i d h all = absurd (omega arith)
+at_place P (x ∷ xs) zero d h all = all.0
+at_place P (x ∷ xs) (suc i) d h all = at_place P xs i d (omega arith) all.1
 
 -- a yield was read
 pub yield_grows : (e : ℕ) (all : List Want) (p : Problem) (moves : List Move) (m : Move) (before behind : Standing) (known : List Known) (ends : List (Option ℕ)) (own lun n : ℕ) (token : Token) (tokens left : List Token) → token ≡ Yield lun → n ≡ lun → n < 8 → own ≡ move_lun m → tokens ≡ token ∷ left → AreLastEnds p moves ends → behind.asked ≡ before.asked → Yielded p ends before.given.items own n behind.given.items → Grows e all p moves m before known tokens behind known left

@@ -1,8 +1,7 @@
 -- Certificates that remember states: which tokens are accepted, and what each node asks for and leaves to be remembered.
-use Rattle.std.specs.Prelude.{◌≡◌, ◌≢◌, ℕ, ◌+◌, ◌-◌, ◌<◌, ◌≤◌, ◌==◌, max, if◌then◌else◌, List, [], ◌∷◌, ◌++◌, length, map, Option, Some, None, slice_get, slice_index, slice_index_or}
+use Rattle.std.specs.Prelude.{◌≡◌, ◌≢◌, ℕ, ◌+◌, ◌-◌, ◌≤◌, ◌==◌, max, if◌then◌else◌, List, [], ◌∷◌, ◌++◌, length, map, Option, Some, None, slice_get, slice_index, slice_index_or}
 use Rattle.std.specs.List.{AllByRecursion as Each}
 use Rattle.onfi_request.specs.declared.want.Want.{Want}
-use Rattle.onfi_group.specs.Words.{Has}
 use Rattle.onfi_problem.specs.Problem.{Problem}
 use Rattle.onfi_problem.specs.Moves.{Move, AreMoves, move_lun, may_go, after}
 use Rattle.onfi_problem.specs.Position.{waiting_of}
@@ -11,7 +10,7 @@ use Rattle.onfi_demand.specs.Asked.{AreRaised}
 use Rattle.onfi_demand.specs.Left.{left_on}
 use Rattle.onfi_demand.specs.Work.{left_of}
 use Rattle.onfi_demand.specs.Demand.{Demand, Meets, of_luns}
-use Rattle.onfi_demand.specs.Kept.{demand_of, IsKept}
+use Rattle.onfi_demand.specs.Kept.{IsKept}
 use Rattle.onfi_demand.specs.declared.demand.Demand.{Demand as Kept}
 use Rattle.onfi_known.specs.declared.given.Given.{Given}
 use Rattle.onfi_known.specs.declared.known.Known.{Known}

@@ -15,14 +15,11 @@ use crate::known::Known;
 use crate::numbered::Numbered;
 use crate::source::TokenSource;
 use crate::standing::{Standing, step_behind, take_yield};
-use crate::token::Token;
+use crate::token::{MOST_KNOWN, Token};
 use onfi_cert::Width;
 use onfi_check::last_ends;
 use onfi_demand::Demand;
 use onfi_problem::{Move, Moves, Problem};
-
-/// How many nodes are remembered at most.
-pub const MOST_KNOWN: usize = 1_048_576;
 
 // Remembers a node that was read, and answers what it asks for.
 fn remember(
@@ -33,7 +30,7 @@ fn remember(
 ) -> Result<Demand, KnownFault>
     ensures { IfOk result (λ d. Remembers problem.now.all problem.now.problem times known.old.items known.new.items d) }
 {
-    if known.len() >= MOST_KNOWN {
+    if known.len() >= MOST_KNOWN as usize {
         return Err(KnownFault::TooMany(place));
     }
     match known.push(Known::of(problem, times)) {
@@ -63,6 +60,7 @@ fn read_tree<S: TokenSource>(
 ) -> Result<Demand, KnownFault>
     ensures problem { OnOk result (problem.new ≡ problem.old) }
     ensures fewer { OnOk result (length (S.left tokens.new.source) ≤ length (S.left tokens.old.source)) }
+    ensures behind { S.behind tokens.new.source ≡ S.behind tokens.old.source }
     ensures ok { IfOk result (λ d. Proves e problem.old.all problem.old.problem known.old.items (token ∷ S.left tokens.old.source) d known.new.items (S.left tokens.new.source)) }
 {
     match token {
@@ -84,6 +82,7 @@ fn read_branch<S: TokenSource>(
 ) -> Result<Demand, KnownFault>
     ensures problem { OnOk result (problem.new ≡ problem.old) }
     ensures fewer { OnOk result (length (S.left tokens.new.source) ≤ length (S.left tokens.old.source)) }
+    ensures behind { S.behind tokens.new.source ≡ S.behind tokens.old.source }
     ensures ok { IfOk result (λ d. Proves e problem.old.all problem.old.problem known.old.items (Token.Branch width ∷ S.left tokens.old.source) d known.new.items (S.left tokens.new.source)) }
 {
     let mut moves = Moves::new();
@@ -112,6 +111,7 @@ fn read_children<S: TokenSource>(
     requires few { length moves.now ≤ 87 }
     ensures problem { OnOk result (problem.new ≡ problem.old) }
     ensures fewer { OnOk result (length (S.left tokens.new.source) ≤ length (S.left tokens.old.source)) }
+    ensures behind { S.behind tokens.new.source ≡ S.behind tokens.old.source }
     ensures ok { IfOk result (λ s. Children e problem.old.all problem.old.problem (moves_of problem.old.groups moves.now) (moves_of problem.old.groups moves.now) known.old.items (S.left tokens.old.source) s.asked s.given.items known.new.items (S.left tokens.new.source)) }
 {
     let listed = moves.as_slice();
@@ -141,6 +141,7 @@ fn read_child<S: TokenSource>(
     requires room { length standing.old.given.items < 87 }
     ensures problem { OnOk result (problem.new ≡ problem.old) }
     ensures fewer { OnOk result (length (S.left tokens.new.source) ≤ length (S.left tokens.old.source)) }
+    ensures behind { S.behind tokens.new.source ≡ S.behind tokens.old.source }
     ensures more { OnOk result (length standing.new.given.items ≤ length standing.old.given.items + 1) }
     ensures ok { OnOk result (Grows e problem.old.all problem.old.problem (moves_of problem.old.groups moves.now) (move_of problem.old.groups m) standing.old known.old.items (S.left tokens.old.source) standing.new known.new.items (S.left tokens.new.source)) }
 {
@@ -169,6 +170,7 @@ fn read_below<S: TokenSource>(
     requires named { IsNamed problem.old.groups m }
     ensures problem { OnOk result (problem.new ≡ problem.old) }
     ensures fewer { OnOk result (length (S.left tokens.new.source) ≤ length (S.left tokens.old.source)) }
+    ensures behind { S.behind tokens.new.source ≡ S.behind tokens.old.source }
     ensures given { standing.new.given ≡ standing.old.given }
     ensures ok { OnOk result (Below e problem.old.all problem.old.problem (move_of problem.old.groups m) known.old.items (token ∷ S.left tokens.old.source) standing.old.asked standing.new.asked known.new.items (S.left tokens.new.source)) }
 {
@@ -195,6 +197,7 @@ pub(crate) fn read_whole<S: TokenSource>(
 ) -> Result<(), KnownFault>
     requires { known.old.items ≡ [] }
     ensures problem { OnOk result (problem.new ≡ problem.old) }
+    ensures behind { S.behind tokens.new.source ≡ S.behind tokens.old.source }
     ensures ok { OnOk result (ProvesTokens problem.old.all (S.left tokens.old.source) problem.old.problem e) }
 {
     let Some((token, place)) = tokens.take() else {

@@ -1,16 +1,14 @@
-use Rattle.std.proofs.Common.{◌≡◌, ◌+◌, ◌≤◌, ◌<◌, [], ◌∷◌, List, length, get_or, refl, sym, ap, ◌∙◌, subst, arith}
+use Rattle.std.proofs.Common.{◌≡◌, [], ◌∷◌, length, get_or, refl, sym, ap, ◌∙◌, subst, arith}
 use Rattle.std.specs.List.{AllByRecursion as All}
 use Rattle.onfi_problem.specs.declared.moves.Move.TheVariants.{Next}
-use Rattle.onfi_problem.specs.Moves.{IsMove, AreMoves, after}
+use Rattle.onfi_problem.specs.Moves.{IsMove, AreMoves}
 use Rattle.onfi_problem.specs.Position.{Position, move_of, moves_of}
 use Rattle.onfi_problem.specs.Starts.{IsNamed}
 use Rattle.onfi_check.specs.Ends.{AreLastEnds}
-use Rattle.onfi_check.proofs.LastEnds.{move_at, at_place}
+use Rattle.onfi_check.proofs.LastEnds.{move_at}
 use Rattle.onfi_demand.specs.Asked.{GoesOn}
-use Rattle.onfi_demand.specs.Kept.{IsKept}
-use Rattle.onfi_known.specs.Closing.{Closes, closing_demand}
-use Rattle.onfi_known.specs.Proves.{Proves, Children, Remembers, Yielded, Below, Grows, IsAgain, closed, none}
-use Rattle.onfi_known.proofs.Walking.{on_ok, ok_so, each_ok, fewer_left, again_proves, yield_grows, below_grows, raised_by, step_is, children_more, children_all, branch_proves}
+use Rattle.onfi_known.specs.Proves.{Proves, Children, Remembers, Grows, IsAgain, closed, none}
+use Rattle.onfi_known.proofs.Walking.{at_place, on_ok, ok_so, each_ok, fewer_left, again_proves, yield_grows, below_grows, raised_by, step_is, children_more, branch_proves}
 use Rattle.onfi_known.proofs.walk.+read.Goals as goal
 
 pub read_below-returns-clause-ok : goal.read_below-returns-clause-ok
@@ -56,6 +54,7 @@ read_child-returns-in_default-token g t c =
     record {
       problem = c.read_below.ensures.problem;
       fewer = fewer_left tokens left next c.in-Some.token c.read_below.result c.in-Some.ensures.token c.read_below.ensures.fewer;
+      behind = c.read_below.ensures.behind ∙ c.in-Some.ensures.behind;
       more = on_ok c.read_below.result (omega arith);
       ok = ok_so c.read_below.result (below_grows c.args.e x.all x.problem (moves_of x.groups c.args.moves.now) (move_of x.groups c.args.m) c.args.standing.now c.read_below.new.standing c.args.known.now.items c.read_below.new.known.items c.in-Some.token tokens left next c.in-Some.ensures.token c.read_below.ensures.given) c.read_below.ensures.ok;
     }
@@ -71,6 +70,7 @@ read_children-loop-m-init g t c =
     record {
       problem = refl;
       fewer = omega arith;
+      behind = refl;
       room = omega arith;
       children = subst (λ z. Children c.args.e x.all x.problem all [] known tokens asked z known tokens) (sym c.new-standing.ensures.given) (none x.problem all known tokens asked c.new-standing.ensures.asked);
     }
@@ -118,6 +118,7 @@ read_children-loop-m-preserved g t c =
     record {
       problem = c.in_ok-read_child.ensures.problem ∙ c.loop-m.invariant.problem;
       fewer = omega arith;
+      behind = c.in_ok-read_child.ensures.behind ∙ c.loop-m.invariant.behind;
       room = omega arith;
       children = children_more c.args.e x items i (Next 0) c.loop-m.standing c.read_child.new.standing c.args.known.now.items c.loop-m.known.items c.read_child.new.known.items begun tokens left c.loop-m-test.true grows c.loop-m.invariant.children;
     }
@@ -136,5 +137,6 @@ read_tree-returns-in_default g t c =
     record {
       problem = on_ok c.read_closing.result refl;
       fewer = on_ok c.read_closing.result (omega arith);
+      behind = refl;
       ok = each_ok _ _ c.read_closing.result (λ d h. closed x.problem c.args.known.now.items c.args.token d left h.0 h.1) c.read_closing.ensures;
     }

@@ -1,4 +1,4 @@
-use Rattle.std.proofs.Common.{◌<◌, length, arith}
+use Rattle.std.proofs.Common.{arith}
 use Rattle.onfi_demand.proofs.Opened.{left_there}
 use Rattle.onfi_known.proofs.known.Known.is_met.Goals as goal
 
