@@ -1,5 +1,5 @@
 -- A half with its chip: what its calls come to, and what they keep.
-use Rattle.std.proofs.Common.{◌≡◌, ◌≢◌, ℕ, ◌<◌, ◌^◌, List, [], ◌∷◌, ◌++◌, length, Some, None, Option, Result, Ok, Err, IfOk, IfErr, refl, sym, ap, ◌∙◌, subst}
+use Rattle.std.proofs.Common.{◌≡◌, ◌≢◌, ℕ, ◌<◌, ◌≤◌, ◌^◌, List, [], ◌∷◌, ◌++◌, length, Some, None, Option, Result, Ok, Err, IfOk, IfErr, refl, sym, ap, ◌∙◌, subst}
 use Rattle.std.specs.Prelude.{replicate}
 use Rattle.std.specs.List.{filter}
 use Rattle.onfi_addr.specs.declared.geometry.Geometry.{Geometry}
@@ -27,16 +27,20 @@ use Rattle.onfi_core.specs.Queues.{IsFresh}
 use Rattle.onfi_core.specs.Reaching.{Reaches}
 use Rattle.onfi_core.specs.Refusals.{planned_outcome}
 use Rattle.onfi_core.specs.State.{HalfState, ChannelState, Planning, is_to, item_at, quiet}
-use Rattle.onfi_core.specs.Steps.{GoesOut, Plans, Step, bus_refusal, plan_refusal, planned_by, taken_next}
-use Rattle.onfi_core.specs.View.{HalfView, IsOldest, PlanRefused}
+use Rattle.onfi_core.specs.Steps.{GoesOut, Plans, Step, accept_refusal, bus_refusal, plan_refusal, planned_by, taken_next}
+use Rattle.onfi_core.specs.View.{HalfView, IsOldest, PlanRefused, accepting}
+use Rattle.onfi_core.specs.View.{IsNext as IsHostsNext}
 use Rattle.onfi_core.proofs.HeldFor.{next_behind}
-use Rattle.onfi_core.proofs.Reaching.{events_reach, opened_reaches, posting_reached, step_reaches}
+use Rattle.onfi_core.proofs.Reach.{none_first, not_stopped}
+use Rattle.onfi_core.proofs.Reaching.{accepting_reached, batch_reached, events_reach, opened_reaches, posting_reached, step_reaches}
 use Rattle.onfi_core.proofs.Running.{after_planning, cause_is, lost_by, no_memory, nothing_posted, ran_step, refused_alone, same_by, stop_step}
 use Rattle.onfi_lun.specs.declared.lanes.any_lun.AnyLun.{AnyLun}
-use Rattle.onfi_lun.specs.Lanes.{LanesAgree}
+use Rattle.onfi_lun.specs.declared.target.Target.{Target}
+use Rattle.onfi_lun.specs.Lanes.{LanesAgree, MayRunDue}
+use Rattle.onfi_lun.proofs.Dues.{may_run_due}
 use Rattle.onfi_reply.specs.Ends.{PosterView}
 use Rattle.onfi_reply.specs.Replies.{IsNext}
-use Rattle.onfi_seq.specs.Driver.{IsDriven}
+use Rattle.onfi_seq.specs.Driver.{DriverFields, DriverView, IsDriven}
 
 -- a half of which neither what is accepted nor what is posted changed
 pub quiet_is : (h h' : HalfState) (chip chip' : Chip) → h'.accepted ≡ h.accepted → h'.posted ≡ h.posted → (let z : ChannelState = record (quiet h chip) { half = h'; chip = chip' } in z) ≡ quiet h' chip'
@@ -55,6 +59,30 @@ driven_opened s h chip lanes is fresh agree =
       lanes_are = λ going. agree chip (ap (λ (x : Chip). x.luns) fresh);
     } in
     subst (λ (v : HalfView). IsDriven v.setup v.lent v.state chip lanes) (sym is) opened
+
+-- What is told of a driver, of its fields and back
+module _ {C : Type 0} where
+  pub within : (P : DriverFields → Type 0) (inside now : DriverView C) → inside ≡ now → P now.0 → P inside.0
+  within P inside now is h = subst (λ (x : DriverView C). P x.0) (sym is) h
+
+  pub outside : (state : C → Chip) (P : DriverFields → Chip → Type 0) (inside now : DriverView C) → inside ≡ now → P inside.0 (state inside.1) → P now.0 (state now.1)
+  outside state P inside now is h = subst (λ (x : DriverView C). P x.0 (state x.1)) is h
+
+-- Accepting, and the batch
+
+pub driven_accepting : (s : Setup) (lent : Option Reply) (h : HalfState) (chip : Chip) (lanes : List AnyLun) (x : Item) → accept_refusal h ≡ None → IsHostsNext s h x → IsDriven s lent h chip lanes → IsDriven s lent (accepting h x) chip lanes
+driven_accepting s lent h chip lanes x room next driven = record {
+  settled = driven.settled;
+  reached = (accepting_reached s h chip x room next).1 driven.reached;
+  lanes_are = driven.lanes_are;
+}
+
+pub driven_batch : (s : Setup) (lent : Option Reply) (h : HalfState) (chip : Chip) (lanes : List AnyLun) (batch : ℕ) → 1 ≤ batch → batch ≤ 8 → IsDriven s lent h chip lanes → IsDriven s lent (record h { batch = batch }) chip lanes
+driven_batch s lent h chip lanes batch some few driven = record {
+  settled = driven.settled;
+  reached = (batch_reached s (quiet h chip) batch some few).1 driven.reached;
+  lanes_are = driven.lanes_are;
+}
 
 -- Planning
 
@@ -97,6 +125,9 @@ driven_planned old h chip lanes result driven planned why settled setup =
 
 -- Phases
 
+pub going_on : (h : HalfState) → bus_refusal h ≡ None → h.stopped ≡ None
+going_on h open' = not_stopped h.stopped (none_first _ _ open')
+
 module _ (s : Setup) (h : HalfState) (chip : Chip) (reached : Reaches s (quiet h chip)) (due : Due) (is : IsDue h due) (open' : bus_refusal h ≡ None) (item : Item) (member : (m : Want) × (member_of due.group due.phase ≡ Some m) × (item ≡ item_at h.accepted m.id)) where
   pub ran_phase : (channel : ℕ) (chip' : Chip) (given : PhaseResult) (h' : HalfState) → HasRun chip s.geometry due item given chip' → h' ≡ after_due h due (replies_of h.accepted chip'.faults due given) → Step s (quiet h chip) (event.Bus channel) (outcome.Phase due.start) (quiet h' chip')
   ran_phase channel chip' given h' run after =
@@ -108,6 +139,25 @@ module _ (s : Setup) (h : HalfState) (chip : Chip) (reached : Reaches s (quiet h
       let why = cause_is s (quiet h chip) (events_reach s (quiet h chip) reached) due is open' item member fault stop cause status in
       let step = stop_step s (quiet h chip) channel stop chip' h' open' why (lost_by fault due.lun stop chip chip' cause after) is_stopped in
       subst (λ (c : ChannelState). Step s (quiet h chip) (event.Bus channel) (outcome.Stopped stop) c) (quiet_is h h' chip chip' (ap (λ (x : HalfState). x.accepted) is_stopped) (ap (λ (x : HalfState). x.posted) is_stopped)) step
+
+  pub may_run_here : (target : Target) → s.geometry ≡ target.geometry → s.timing ≡ target.timing → due.start < 2 ^ 63 → MayRunDue target chip due item
+  may_run_here target geometry timing time =
+      let r = events_reach s (quiet h chip) reached in
+      may_run_due s target h chip geometry timing r.half.sound (r.chip (going_on h open')) due is member.0 member.1 item member.2 time
+
+  pub driven_ran : (lent : Option Reply) (chip' : Chip) (lanes : List AnyLun) (given : PhaseResult) (h' : HalfState) → HasRun chip s.geometry due item given chip' → h' ≡ after_due h due (replies_of h.accepted chip'.faults due given) → lent ≡ None → LanesAgree chip' lanes → IsDriven s lent h' chip' lanes
+  driven_ran lent chip' lanes given h' run after settled agree = record {
+    settled = settled;
+    reached = step_reaches s (quiet h chip) (event.Bus 0) (outcome.Phase due.start) (quiet h' chip') reached (ran_phase 0 chip' given h' run after);
+    lanes_are = λ going. agree;
+  }
+
+  pub driven_stopped : (lent : Option Reply) (chip' : Chip) (lanes : List AnyLun) (fault : DriveFault) (stop : Cause) (h' : HalfState) → cause_of fault due.lun ≡ Some stop → (fault ≡ drive.NotReady → IsStatus due item) → AfterDrive fault chip chip' → h' ≡ record h { stopped = Some stop } → lent ≡ None → IsDriven s lent h' chip' lanes
+  driven_stopped lent chip' lanes fault stop h' cause status after is_stopped settled = record {
+    settled = settled;
+    reached = step_reaches s (quiet h chip) (event.Bus 0) (outcome.Stopped stop) (quiet h' chip') reached (stopped_phase 0 fault stop chip' h' cause status after is_stopped);
+    lanes_are = λ going. absurd (let q : Some stop ≡ None = sym (ap (λ (x : HalfState). x.stopped) is_stopped) ∙ going in cc);
+  }
 
   pub memory_phase : (channel : ℕ) (chip' : Chip) → chip' ≡ chip → Step s (quiet h chip) (event.Bus channel) (outcome.Memory None) (quiet h chip')
   memory_phase channel chip' same = no_memory s (quiet h chip) channel chip' open' same

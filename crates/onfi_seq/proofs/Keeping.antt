@@ -1,32 +1,50 @@
 -- What the fields of a sequencer keep from call to call.
-use Rattle.std.proofs.Common.{◌≡◌, ◌≢◌, ℕ, ◌+◌, ◌<◌, ◌≤◌, ◌^◌, inl, inr, Bool, false, List, [], ◌∷◌, ◌++◌, length, Some, None, refl, sym, ap, ◌∙◌, subst, length-append, arith}
+use Rattle.std.proofs.Common.{◌≡◌, ◌≢◌, ℕ, zero, suc, ◌+◌, ◌<◌, ◌≤◌, inl, inr, Bool, false, List, [], ◌∷◌, ◌++◌, length, Some, None, refl, sym, ap, ◌∙◌, subst, length-append, arith}
 use Rattle.std.specs.Prelude.{replicate, slice_get, slice_set}
 use Rattle.std.specs.List.{filter}
 use Rattle.onfi_request.specs.declared.request.Item.{Item}
 use Rattle.onfi_request.specs.declared.reply.Reply.{Reply}
-use Rattle.onfi_request.specs.Range.{Fits}
+use Rattle.onfi_chip.specs.Chip.{Chip}
 use Rattle.onfi_problem.proofs.Places.{get_set_other, get_set_same, get_within, length_set, same_place, same_some}
 use Rattle.onfi_core.specs.declared.setup.Setup.{Setup}
 use Rattle.onfi_core.specs.Kept.{first_half}
 use Rattle.onfi_core.specs.State.{HalfState, is_from, is_to}
 use Rattle.onfi_core.specs.Steps.{GoesOut}
 use Rattle.onfi_core.specs.View.{accepting}
-use Rattle.onfi_core.specs.View.{IsNext as IsHostsNext}
+use Rattle.onfi_core.specs.Reaching.{Reaches}
 use Rattle.onfi_core.proofs.Opening.{get_same}
+use Rattle.onfi_core.proofs.Promise.{promise}
+use Rattle.onfi_core.proofs.Reaching.{events_reach}
 use Rattle.onfi_core.proofs.Hosted.{from_other, from_own, to_other, to_own}
-use Rattle.onfi_queue.specs.declared.opened.Opened.{Opened}
 use Rattle.onfi_queue.specs.Ends.{IntakeView, after_accepting}
 use Rattle.onfi_queue.specs.Items.{IsNext}
 use Rattle.onfi_reply.specs.Ends.{PosterView, after_posting}
-use Rattle.onfi_seq.specs.Sequencer.{AreCounts, AreFreshPosters, IsFreshIntake, IsFreshPoster, IsKept, IsPosterFor, SequencerFields, opened_as, opened_for}
+use Rattle.onfi_seq.specs.declared.offer.Offer.{Offer}
+use Rattle.onfi_seq.specs.declared.offer.Offer.TheVariants as offer
+use Rattle.onfi_seq.specs.Driver.{Offered}
+use Rattle.onfi_seq.specs.Sequencer.{AreCounts, AreFreshPosters, IsFreshIntake, IsFreshPoster, IsKept, IsPosterFor, IsRight, Seen, SequencerFields, SequencerView, channel_of, opened_as, opened_for, seen_in}
+
+-- What is told of a sequencer, of its fields and back
+module _ {C : Type 0} where
+  pub seen_within : (state : C → Chip) (P : Seen → Type 0) (inside now : SequencerView C) → inside ≡ now → P (seen_in state now) → P (seen_in state inside)
+  seen_within state P inside now is h = subst (λ (x : SequencerView C). P (seen_in state x)) (sym is) h
+
+  pub seen_outside : (state : C → Chip) (P : Seen → Type 0) (inside now : SequencerView C) → inside ≡ now → P (seen_in state inside) → P (seen_in state now)
+  seen_outside state P inside now is h = subst (λ (x : SequencerView C). P (seen_in state x)) is h
 
 -- Opening
+
+no_some : (count : ℕ) → None ≡ Some count → count ≡ 0
+no_some count e = cc
+
+same_some_is : (n count : ℕ) → Some n ≡ Some count → count ≡ n
+same_some_is n count e = cc
 
 -- no item is accepted as a channel opens
 no_item : (host count : ℕ) → slice_get (replicate 4 0) host ≡ Some count → count ≡ 0
 no_item host count there = elim (get_same 4 0 host) [
-  | inl none ↦ (let q : None ≡ Some count = sym none ∙ there in cc)
-  | inr some ↦ (let q : Some 0 ≡ Some count = sym some ∙ there in cc)
+  | inl none ↦ no_some count (sym none ∙ there)
+  | inr some ↦ same_some_is 0 count (sym some ∙ there)
 ]
 
 counts_opened : (q : SequencerFields) → q.half.accepted ≡ [] → AreCounts q (replicate 4 0)
@@ -83,27 +101,18 @@ kept_same q counts s h refused kept setup accepted posted = record {
 -- An item more
 
 module _ (q : SequencerFields) (counts : List ℕ) (x : Item) (kept : IsKept q counts) where
-  -- the intake's next item is the half's next
-  pub next_item : IsNext q.intake.opened.geometry 4 q.intake.accepted x → x.serial < 2 ^ 32 → IsHostsNext q.setup q.half x
-  next_item next small = record {
-    in_range = subst (λ (o : Opened). Fits o.geometry x.request) kept.opened next.fits;
-    host = subst (λ n. x.host < n) (sym kept.hosts) next.host;
-    serial = next.serial ∙ ap (λ (xs : List Item). length (filter (is_from x.host) xs)) kept.accepted;
-    fits = small;
-  }
-
-  one_more : (counts' : List ℕ) → IsHostsNext q.setup q.half x → counts' ≡ slice_set counts x.host (x.serial + 1) → AreCounts (record q { half = accepting q.half x; intake = after_accepting q.intake x }) counts'
+  one_more : (counts' : List ℕ) → IsNext q.intake.opened.geometry 4 q.intake.accepted x → counts' ≡ slice_set counts x.host (x.serial + 1) → AreCounts (record q { half = accepting q.half x; intake = after_accepting q.intake x }) counts'
   one_more counts' next set = record {
     hosts = ap length set ∙ length_set counts x.host (x.serial + 1) ∙ kept.counts_are.hosts;
     each = λ host count there. elim (same_place host x.host) [
       | inl e ↦ (
-          let low : x.host < length counts = (let a = next.host in let b = kept.hosts in let c = kept.counts_are.hosts in omega arith) in
+          let low : x.host < length counts = (let a = next.host in let c = kept.counts_are.hosts in omega arith) in
           let at = get_within counts x.host low in
           let here : slice_get counts' host ≡ Some (x.serial + 1) = ap (λ (cs : List ℕ). slice_get cs host) set ∙ ap (slice_get (slice_set counts x.host (x.serial + 1))) e ∙ get_set_same counts x.host at.0 (x.serial + 1) at.1 in
           let is : count ≡ x.serial + 1 = same_some count (x.serial + 1) (slice_get counts' host) there here in
           let more : length (filter (is_from x.host) (q.half.accepted ++ x ∷ [])) ≡ length (filter (is_from x.host) q.half.accepted) + 1 = ap length (from_own x.host q.half.accepted x refl) ∙ length-append (filter (is_from x.host) q.half.accepted) (x ∷ []) in
           let all : length (filter (is_from host) (q.half.accepted ++ x ∷ [])) ≡ length (filter (is_from x.host) (q.half.accepted ++ x ∷ [])) = ap (λ n. length (filter (is_from n) (q.half.accepted ++ x ∷ []))) e in
-          let serial = next.serial in
+          let serial : x.serial ≡ length (filter (is_from x.host) q.half.accepted) = next.serial ∙ ap (λ (xs : List Item). length (filter (is_from x.host) xs)) kept.accepted in
           omega (arith, is, more, all, serial))
       | inr d ↦ (
           let there' : slice_get counts host ≡ Some count = sym (get_set_other counts x.host host (x.serial + 1) d) ∙ sym (ap (λ (cs : List ℕ). slice_get cs host) set) ∙ there in
@@ -111,7 +120,7 @@ module _ (q : SequencerFields) (counts : List ℕ) (x : Item) (kept : IsKept q c
     ];
   }
 
-  pub kept_accepting : (counts' : List ℕ) → IsHostsNext q.setup q.half x → counts' ≡ slice_set counts x.host (x.serial + 1) → IsKept (record q { half = accepting q.half x; intake = after_accepting q.intake x }) counts'
+  pub kept_accepting : (counts' : List ℕ) → IsNext q.intake.opened.geometry 4 q.intake.accepted x → counts' ≡ slice_set counts x.host (x.serial + 1) → IsKept (record q { half = accepting q.half x; intake = after_accepting q.intake x }) counts'
   kept_accepting counts' next set = record {
     hosts = kept.hosts;
     opened = kept.opened;
@@ -168,3 +177,39 @@ module _ (q : SequencerFields) (counts : List ℕ) (host : ℕ) (p : PosterView)
       each = λ j count there. kept.counts_are.each j count there ∙ sym (ap (λ (x : HalfState). length (filter (is_from j) x.accepted)) goes.after);
     };
   }
+
+-- An offer to a poster
+
+pub set_same : {A : Type 0} (xs : List A) (i : ℕ) (x : A) → slice_get xs i ≡ Some x → slice_set xs i x ≡ xs
+set_same [] i x there = refl
+set_same (y ∷ xs) zero x there = (let e : y ≡ x = cc in ap (λ z. z ∷ xs) (sym e))
+set_same (y ∷ xs) (suc i) x there = ap (λ zs. y ∷ zs) (set_same xs i x there)
+
+kept_unposted : (q : SequencerFields) (counts : List ℕ) (host : ℕ) (p : PosterView) (h : HalfState) (p' : PosterView) → IsKept q counts → slice_get q.posters host ≡ Some p → h ≡ q.half → p' ≡ p
+    → IsKept (record q { half = h; posters = slice_set q.posters host p' }) counts
+kept_unposted q counts host p h p' kept at same is =
+    let posters : slice_set q.posters host p' ≡ q.posters = ap (λ (x : PosterView). slice_set q.posters host x) is ∙ set_same q.posters host p at in
+    let back : (let x : SequencerFields = record q { half = h; posters = slice_set q.posters host p' } in x) ≡ q =
+    ap (λ (x : HalfState). let y : SequencerFields = record q { half = x; posters = slice_set q.posters host p' } in y) same ∙ ap (λ (ps : List PosterView). let y : SequencerFields = record q { posters = ps } in y) posters in
+    subst (λ (x : SequencerFields). IsKept x counts) (sym back) kept
+
+pub kept_offered : (q : SequencerFields) (counts : List ℕ) (host : ℕ) (p : PosterView) (o : Offer) (h : HalfState) (p' : PosterView) → IsKept q counts → slice_get q.posters host ≡ Some p → Offered host q.half p o h p'
+    → IsKept (record q { half = h; posters = slice_set q.posters host p' }) counts
+kept_offered q counts host p offer.Posted h p' kept at (r, goes, is) =
+    subst (λ (x : PosterView). IsKept (record q { half = h; posters = slice_set q.posters host x }) counts) (sym is) (kept_posting q counts host p r h kept at goes)
+kept_offered q counts host p offer.Full h p' kept at (same, is, some, saw) = kept_unposted q counts host p h p' kept at same is
+kept_offered q counts host p offer.Nothing h p' kept at (same, is, none) = kept_unposted q counts host p h p' kept at same is
+
+-- What always holds
+
+pub right_is : (q : Seen) (counts : List ℕ) → IsKept q.0 counts → Reaches q.0.setup (channel_of q) → IsRight q
+right_is q counts kept reached =
+    let keeps = promise q.0.setup (channel_of q) (events_reach q.0.setup (channel_of q) reached) in
+    record {
+      accepted = kept.accepted;
+      posters = kept.posters;
+      posted = λ host p there. (kept.each host p there).posted;
+      rightful = keeps.rightful;
+      made = keeps.made;
+      reached = reached;
+    }

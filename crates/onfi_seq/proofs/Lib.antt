@@ -1,3 +1,4 @@
 pub mod Driving
 pub mod Keeping
 pub mod Turning
+pub mod Same

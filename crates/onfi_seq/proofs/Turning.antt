@@ -1,23 +1,30 @@
 -- Why a turn does what it does.
 use Rattle.std.proofs.Common.{◌≡◌, ◌≢◌, ◌⊎◌, ℕ, ◌+◌, ◌<◌, ◌≤◌, inl, inr, Bool, true, false, List, [], length, Option, Some, None, refl, sym, ap, ◌∙◌, subst, arith}
-use Rattle.std.specs.Prelude.{nat_le, slice_get}
+use Rattle.std.specs.Prelude.{nat_le, slice_get, slice_set}
 use Rattle.std.specs.List.{filter}
 use Rattle.std.proofs.lemmas.Bool.Decides.{nat_tests}
+use Rattle.onfi_chip.specs.Chip.{Chip}
 use Rattle.onfi_core.specs.declared.outcome.Cause.{Cause}
 use Rattle.onfi_core.specs.declared.outcome.Cause.TheVariants.{Clock}
 use Rattle.onfi_core.specs.declared.outcome.Outcome.{Outcome}
 use Rattle.onfi_core.specs.declared.outcome.Outcome.TheVariants.{NoPlan, NothingToPlan, Stopped, WindowFull}
 use Rattle.onfi_core.specs.Reaching.{Reaches}
-use Rattle.onfi_core.specs.State.{HalfState, is_to}
+use Rattle.onfi_core.specs.State.{ChannelState, HalfState, is_to}
 use Rattle.onfi_core.specs.Steps.{accept_refusal, bus_refusal, held_for, if_stopped, is_empty, none_left, or_else, plan_refusal, refused_where, taken_next, unanswered}
 use Rattle.onfi_core.specs.declared.setup.Setup.{Setup}
 use Rattle.onfi_core.proofs.HeldFor.{idle_is, is_nil, nothing_held}
 use Rattle.onfi_core.proofs.Dues.{next_cases}
 use Rattle.onfi_core.proofs.Reaching.{events_reach}
+use Rattle.onfi_queue.specs.Ends.{IntakeView}
+use Rattle.onfi_reply.specs.Ends.{PosterView}
 use Rattle.onfi_seq.specs.declared.offer.Offer.{Offer}
 use Rattle.onfi_seq.specs.declared.offer.Offer.TheVariants as offer
+use Rattle.onfi_seq.specs.Driver.{DriverView, Offered}
 use Rattle.onfi_seq.specs.Sequencer.{Seen, channel_of}
-use Rattle.onfi_seq.specs.Turned.{HeldBelow, IsPostRefused, MayRunPhase, NothingPosts, OfferedAll, OfferedTo, Rests}
+use Rattle.onfi_seq.proofs.Keeping.{set_same}
+use Rattle.onfi_seq.specs.declared.turn.Turn.{Turn}
+use Rattle.onfi_seq.specs.declared.turn.Turn.TheVariants as turn
+use Rattle.onfi_seq.specs.Turned.{HeldBelow, IsPostRefused, IsRest, MayRunPhase, NothingPosts, OfferedAll, OfferedTo, Rests, Turned}
 
 -- Refusals of a half that goes on
 
@@ -56,6 +63,52 @@ rests_is q reached may refused =
     ] in
     let idle = idle_is q.0.setup q.0.half (events_reach q.0.setup (channel_of q) reached).half.sound none taken in
     record { before = may.before; phases = none; wants = idle.0; items = idle.1 }
+
+-- neither half nor chip changed
+pub seen_same : (intake : IntakeView) (posters : List PosterView) (refused : Bool) (s s' : Setup) (c c' : ChannelState) → s' ≡ s → c' ≡ c
+    → (let q : Seen = (record { setup = s'; half = c'.half; intake = intake; posters = posters; refused = refused }, c'.chip) in q) ≡ (record { setup = s; half = c.half; intake = intake; posters = posters; refused = refused }, c.chip)
+seen_same intake posters refused s s' c c' setup same =
+    ap (λ (x : Setup). let q : Seen = (record { setup = x; half = c'.half; intake = intake; posters = posters; refused = refused }, c'.chip) in q) setup
+    ∙ ap (λ (x : ChannelState). let q : Seen = (record { setup = s; half = x.half; intake = intake; posters = posters; refused = refused }, x.chip) in q) same
+
+-- the half alone changed, and what is said of refusals
+pub planned_seen : {C : Type 0} (state : C → Chip) (intake : IntakeView) (posters : List PosterView) (refused : Bool) (d d' : DriverView C) → d' ≡ (record d.0 { half = d'.0.half }, d.1)
+    → (let q : Seen = (record { setup = d'.0.setup; half = d'.0.half; intake = intake; posters = posters; refused = refused }, state d'.1) in q) ≡ (record { setup = d.0.setup; half = d'.0.half; intake = intake; posters = posters; refused = refused }, state d.1)
+planned_seen {C} state intake posters refused d d' same =
+    ap (λ (x : DriverView C). let q : Seen = (record { setup = x.0.setup; half = d'.0.half; intake = intake; posters = posters; refused = refused }, state x.1) in q) same
+
+-- how a turn ends where nothing is left to do
+pub rest_turned : (q q' : Seen) (rest : Turn) → IsRest q rest → Rests q → q' ≡ q → Turned q rest q'
+rest_turned q q' turn.PostFull is rests same = (rests, is, same)
+rest_turned q q' turn.Idle is rests same = (rests, is, same)
+rest_turned q q' turn.Posted is rests same = absurd is
+rest_turned q q' (turn.Stopped cause) is rests same = absurd is
+rest_turned q q' turn.Accepted is rests same = absurd is
+rest_turned q q' turn.Planned is rests same = absurd is
+rest_turned q q' (turn.Over opened) is rests same = absurd is
+rest_turned q q' turn.Phase is rests same = absurd is
+rest_turned q q' turn.Memory is rests same = absurd is
+
+seen_back : (q : Seen) (host : ℕ) (p : PosterView) (h : HalfState) (p' : PosterView) → slice_get q.0.posters host ≡ Some p → h ≡ q.0.half → p' ≡ p → (let y : Seen = (record q.0 { half = h; posters = slice_set q.0.posters host p' }, q.1) in y) ≡ q
+seen_back q host p h p' at same is =
+    let posters : slice_set q.0.posters host p' ≡ q.0.posters = ap (λ (x : PosterView). slice_set q.0.posters host x) is ∙ set_same q.0.posters host p at in
+    ap (λ (x : HalfState). let y : Seen = (record q.0 { half = x; posters = slice_set q.0.posters host p' }, q.1) in y) same ∙ ap (λ (ps : List PosterView). let y : Seen = (record q.0 { posters = ps }, q.1) in y) posters
+
+-- an offer to one host's poster
+pub offered_to : (q : Seen) (host : ℕ) (p : PosterView) (o : Offer) (h : HalfState) (p' : PosterView) → host < 4 → slice_get q.0.posters host ≡ Some p → Offered host q.0.half p o h p'
+    → OfferedTo q host o (record q.0 { half = h; posters = slice_set q.0.posters host p' }, q.1)
+offered_to q host p offer.Posted h p' known at (r, goes, is) = λ lower. record {
+  host = host;
+  known = known;
+  lower = lower;
+  reply = r;
+  goes = goes;
+  poster = p;
+  there = at;
+  after = ap (λ (x : PosterView). let y : Seen = (record q.0 { half = h; posters = slice_set q.0.posters host x }, q.1) in y) is;
+}
+offered_to q host p offer.Full h p' known at (same, is, some, saw) = (seen_back q host p h p' at same is, inr (p, at, saw), some)
+offered_to q host p offer.Nothing h p' known at (same, is, none) = (seen_back q host p h p' at same is, inl none, none)
 
 -- Offers, host by host
 

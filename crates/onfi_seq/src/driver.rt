@@ -1,6 +1,6 @@
 //! A half with its chip.
 
-ghost use Rattle.std.specs.Prelude.{◌≡◌, ℕ, ◌<◌, ◌≤◌, ◌^◌, None, Some, IfOk, IfErr};
+ghost use Rattle.std.specs.Prelude.{◌≡◌, ◌⊎◌, ℕ, ◌<◌, ◌≤◌, ◌^◌, false, length, None, Some, IfOk, IfErr, IsTrue};
 ghost use Rattle.std.specs.List.{filter};
 ghost use Rattle.onfi_core.specs.declared.event.Event.TheVariants as event;
 ghost use Rattle.onfi_core.specs.Dues.{IsDue};
@@ -9,14 +9,14 @@ ghost use Rattle.onfi_core.specs.Queues.{IsFresh};
 ghost use Rattle.onfi_core.specs.Reaching.{Reaches};
 ghost use Rattle.onfi_core.specs.Refusals.{planned_outcome};
 ghost use Rattle.onfi_core.specs.State.{is_to};
-ghost use Rattle.onfi_core.specs.Steps.{Step, accept_refusal, bus_refusal};
+ghost use Rattle.onfi_core.specs.Steps.{Step, accept_refusal, bus_refusal, unanswered, unplanned};
 ghost use Rattle.onfi_core.specs.View.{IsNext, PlanRefused, accepting};
 ghost use Rattle.onfi_seq.specs.Driver.{Offered, RanTo, channel_in};
 
 use crate::offer::Offer;
 use crate::ran::Ran;
 use onfi_chip::Chip;
-use onfi_core::{Due, DueRefusal, Half, PlanRefusal, Setup, cause_of};
+use onfi_core::{AcceptFault, Cause, Due, DueRefusal, Half, PlanRefusal, Setup, cause_of};
 use onfi_lun::{Lanes, Target};
 use onfi_reply::Poster;
 use onfi_request::Item;
@@ -64,6 +64,30 @@ impl<C: Chip> Driver<C> {
         ensures reached { Reaches self.now.0.setup (channel_in C.state self.now) }
     {
         &self.half
+    }
+
+    /// Why the channel stopped, if it did.
+    pub(crate) fn cause(&self) -> Option<Cause>
+        ensures { result ≡ self.now.0.half.stopped }
+    {
+        match self.half.refuses() {
+            Some(AcceptFault::Stopped(cause)) => Some(cause),
+            Some(AcceptFault::WindowFull) => None,
+            None => None,
+        }
+    }
+
+    /// Whether an item may be accepted: fewer than 64 are unanswered, and fewer than the batch unplanned.
+    pub(crate) fn has_room(&self) -> bool
+        ensures room { IsTrue result → accept_refusal self.now.0.half ≡ None }
+        ensures few { IsTrue result → length (unplanned self.now.0.setup self.now.0.half) < self.now.0.half.batch }
+        ensures none { result ≡ false → self.now.0.half.stopped ≡ None
+            → (64 ≤ unanswered self.now.0.half) ⊎ (self.now.0.half.batch ≤ length (unplanned self.now.0.setup self.now.0.half)) }
+    {
+        match self.half.refuses() {
+            Some(_) => false,
+            None => self.half.wants_item(),
+        }
     }
 
     /// Takes an item in. It takes no memory.

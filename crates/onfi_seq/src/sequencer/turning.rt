@@ -11,7 +11,7 @@ use crate::ran::Ran;
 use crate::sequencer::Sequencer;
 use crate::turn::Turn;
 use onfi_chip::Chip;
-use onfi_core::{AcceptFault, PlanRefusal};
+use onfi_core::PlanRefusal;
 use std::alloc::Global;
 use std::sync::Wait;
 
@@ -52,7 +52,7 @@ impl<C: Chip> Sequencer<C> {
         requires rest { IsRest (seen_in C.state self.old) rest }
         ensures { Turned (seen_in C.state self.old) result (seen_in C.state self.new) }
     {
-        if let Some(AcceptFault::Stopped(cause)) = self.driver.half().refuses() {
+        if let Some(cause) = self.driver.cause() {
             return Turn::Stopped(cause);
         }
         if self.accept_one(rt) {
@@ -94,8 +94,8 @@ impl<C: Chip> Sequencer<C> {
         requires { host < 4 }
         ensures { OfferedTo (seen_in C.state self.old) host result (seen_in C.state self.new) }
     {
-        let at = usize::from(host);
-        self.driver.post(rt, host, &mut self.posters[at])
+        let poster = &mut self.posters[usize::from(host)];
+        self.driver.post(rt, host, poster)
     }
 
     // Accepts the item that has waited longest, where there is room for one.
@@ -104,7 +104,7 @@ impl<C: Chip> Sequencer<C> {
         ensures accepted { IsTrue result → Turned (seen_in C.state self.old) Turn.Accepted (seen_in C.state self.new) }
         ensures none { result ≡ false → (seen_in C.state self.new ≡ seen_in C.state self.old) × WhyNoItem (seen_in C.state self.old) }
     {
-        if self.driver.half().refuses().is_some() || !self.driver.half().wants_item() {
+        if !self.driver.has_room() {
             return false;
         }
         let Some(item) = self.intake.accept(rt) else {
