@@ -34,23 +34,23 @@ module _ {C : Type 0} where
 
 -- Opening
 
-no_some : (count : ℕ) → None ≡ Some count → count ≡ 0
-no_some count e = cc
+no_some : (n count : ℕ) → None ≡ Some count → n ≡ count
+no_some n count e = cc
 
-same_some_is : (n count : ℕ) → Some n ≡ Some count → count ≡ n
+same_some_is : (n count : ℕ) → Some n ≡ Some count → n ≡ count
 same_some_is n count e = cc
 
--- no item is accepted as a channel opens
-no_item : (host count : ℕ) → slice_get (replicate 4 0) host ≡ Some count → count ≡ 0
-no_item host count there = elim (get_same 4 0 host) [
-  | inl none ↦ no_some count (sym none ∙ there)
-  | inr some ↦ same_some_is 0 count (sym some ∙ there)
+-- each of so many equal numbers is that number
+each_same : (n x i count : ℕ) → slice_get (replicate n x) i ≡ Some count → x ≡ count
+each_same n x i count there = elim (get_same n x i) [
+  | inl none ↦ no_some x count (sym none ∙ there)
+  | inr some ↦ same_some_is x count (sym some ∙ there)
 ]
 
 counts_opened : (q : SequencerFields) → q.half.accepted ≡ [] → AreCounts q (replicate 4 0)
 counts_opened q none = record {
   hosts = refl;
-  each = λ host count there. no_item host count there ∙ sym (ap (λ (xs : List Item). length (filter (is_from host) xs)) none);
+  each = λ host count there. sym (each_same 4 0 host count there) ∙ sym (ap (λ (xs : List Item). length (filter (is_from host) xs)) none);
 }
 
 poster_opened : (q : SequencerFields) (channel host : ℕ) (p : PosterView) → q.intake.opened.channel ≡ channel → q.half.posted ≡ [] → IsFreshPoster q.setup channel host p → IsPosterFor q host p
