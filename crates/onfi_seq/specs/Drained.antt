@@ -1,5 +1,5 @@
 -- What draining and closing a channel come to.
-use Rattle.std.specs.Prelude.{◌≡◌, ℕ, ◌+◌, ◌<◌, ◌≤◌, true, List, [], ◌∷◌, ◌++◌, length, map, Some, slice_get}
+use Rattle.std.specs.Prelude.{◌≡◌, ◌≢◌, ℕ, ◌+◌, ◌<◌, ◌≤◌, true, List, [], ◌∷◌, ◌++◌, length, map, Some, slice_get}
 use Rattle.std.specs.List.{filter}
 use Rattle.atomic_table.specs.Seated.{TableId}
 use Rattle.onfi_request.specs.declared.reply.Reply.{Reply}
@@ -59,15 +59,23 @@ abbrev pub IsLast : Turn → List Turn → Type 0
 IsLast answer [] = ⊥
 IsLast answer (last ∷ answers) = last ≡ answer
 
--- as many items of each host are accepted as it sent, and each accepted item has exactly one posted reply
+-- as many items of each host are accepted as it sent
+abbrev pub AreAccepted : HalfState → List HostView → Type 0
+AreAccepted h hosts = (host : ℕ) (x : HostView) → slice_get hosts host ≡ Some x → length x.sent ≡ length (filter (is_from host) h.accepted)
+
+-- .. and each accepted item has exactly one posted reply
 pub record IsAnswered (h : HalfState) (hosts : List HostView) : Type 0 where
-  pub accepted : (host : ℕ) (x : HostView) → slice_get hosts host ≡ Some x → length x.sent ≡ length (filter (is_from host) h.accepted)
+  pub accepted : AreAccepted h hosts
   pub each : (place : ℕ) → place < length h.accepted → number (is_of_place place) h.posted ≡ 1
 
--- How the draining ended. Memory: the last turn answered so with no phase left, or a take-in was refused.
+-- an item that was sent isn't accepted, or an accepted one has no posted reply
+abbrev pub IsShort : HalfState → List HostView → Type 0
+IsShort h hosts = AreAccepted h hosts → length h.posted ≢ length h.accepted
+
+-- How the draining ended. TurnsSpent: not all is answered then. Memory: the last turn answered so with no phase left, or a take-in was refused.
 abbrev pub EndsAs : Drained → HalfState → List HostView → ℕ → List Turn → Type 0
 EndsAs drained.Empty h hosts turns answers = IsAnswered h hosts
-EndsAs drained.TurnsSpent h hosts turns answers = length answers ≡ turns
+EndsAs drained.TurnsSpent h hosts turns answers = (length answers ≡ turns) × IsShort h hosts
 EndsAs (drained.Stopped cause) h hosts turns answers = IsLast (turn.Stopped cause) answers
 EndsAs (drained.Over opened) h hosts turns answers = IsLast (turn.Over opened) answers × (none_left h ≡ true)
 EndsAs drained.Memory h hosts turns answers = Unit {0}

@@ -5,7 +5,7 @@ use onfi_core::Cause;
 pub enum Drained {
     /// All that the hosts sent is accepted, and each accepted item has its reply posted.
     Empty,
-    /// The turns that it was given were made.
+    /// The turns that it was given were made, and not all is accepted and answered.
     TurnsSpent,
     /// The channel stopped.
     Stopped(Cause),

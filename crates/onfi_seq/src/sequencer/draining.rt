@@ -1,11 +1,11 @@
 //! Draining: turns, with replies taken in before each, until everything is answered.
 
-ghost use Rattle.std.specs.Prelude.{◌≡◌, ◌↔◌, ℕ, ◌<◌, ◌≤◌, length, true, IfSome, IfNone, IsTrue, List, ◌∷◌, Some, slice_get};
+ghost use Rattle.std.specs.Prelude.{◌≡◌, ◌↔◌, ℕ, ◌<◌, ◌≤◌, length, false, IfSome, IfNone, IsTrue, List, ◌∷◌, Some, slice_get};
 ghost use Rattle.std.specs.List.{filter};
 ghost use Rattle.onfi_core.specs.State.{is_from};
 ghost use Rattle.onfi_queue.specs.Ends.{HostView};
 ghost use Rattle.onfi_seq.specs.declared.turn.Turn.{Turn as ATurn};
-ghost use Rattle.onfi_seq.specs.Drained.{AreOtherEnds, Drains, EndsAs, HasGrown, HaveGrown, IsAnswered};
+ghost use Rattle.onfi_seq.specs.Drained.{AreAccepted, AreOtherEnds, Drains, EndsAs, HasGrown, HaveGrown, IsAnswered, IsShort};
 ghost use Rattle.onfi_seq.specs.Sequencer.{IsRight, IsSameChannel, seen_in};
 
 use crate::drained::Drained;
@@ -39,16 +39,14 @@ impl<C: Chip> Sequencer<C> {
         ensures right { IsRight (seen_in C.state self.new) }
         ensures same { IsSameChannel (seen_in C.state self.old) (seen_in C.state self.new) }
     {
+        self.look();
         let mut made = 0u64;
         loop {
             if take_in_all(rt, alloc, inboxes).is_err() {
                 return Drained::Memory;
             }
-            if self.has_answered(hosts) {
-                return Drained::Empty;
-            }
-            if made >= turns {
-                return Drained::TurnsSpent;
+            if let Some(end) = self.end_before_turn(hosts, made, turns) {
+                return end;
             }
             let turn = self.turn(rt, alloc, gate);
             made += 1;
@@ -58,15 +56,39 @@ impl<C: Chip> Sequencer<C> {
         }
     }
 
-    // Whether all that the hosts sent is accepted, host by host, and each accepted item has its reply posted.
-    fn has_answered(&self, hosts: &[Host; 4]) -> bool
-        ensures { IsTrue result → IsAnswered self.now.0.half hosts.now }
+    // How a draining ends where so many of its turns are made, if it does.
+    fn end_before_turn(&self, hosts: &[Host; 4], made: u64, turns: u64) -> Option<Drained>
+        requires { made ≤ turns }
+        ensures some { (answers : List ATurn) → length answers ≡ made → IfSome result (λ end. EndsAs end self.now.0.half hosts.now turns answers) }
+        ensures none { IfNone result (made < turns) }
     {
-        self.accepted_by[0] == hosts[0].sent()
-            && self.accepted_by[1] == hosts[1].sent()
-            && self.accepted_by[2] == hosts[2].sent()
-            && self.accepted_by[3] == hosts[3].sent()
-            && self.driver.half().is_answered()
+        if self.has_answered(hosts) {
+            return Some(Drained::Empty);
+        }
+        if made >= turns {
+            return Some(Drained::TurnsSpent);
+        }
+        None
+    }
+
+    // Whether all that the hosts sent is accepted, and each accepted item has its reply posted.
+    fn has_answered(&self, hosts: &[Host; 4]) -> bool
+        ensures answered { IsTrue result → IsAnswered self.now.0.half hosts.now }
+        ensures waits { result ≡ false → IsShort self.now.0.half hosts.now }
+    {
+        self.has_accepted(hosts) && self.driver.half().is_answered()
+    }
+
+    // Whether all that the hosts sent is accepted, host by host.
+    fn has_accepted(&self, hosts: &[Host; 4]) -> bool
+        ensures { IsTrue result ↔ AreAccepted self.now.0.half hosts.now }
+    {
+        for host in 0..4usize {
+            if self.accepted_by[host] != hosts[host].sent() {
+                return false;
+            }
+        }
+        true
     }
 
     // How a draining ends behind that answer, if it does.
@@ -87,7 +109,8 @@ fn take_in_all<R: Wait>(rt: &R, alloc: Global, inboxes: &mut [Inbox; 4]) -> Resu
     ensures { HaveGrown inboxes.old inboxes.new }
 {
     for at in 0..4usize {
-        take_in(rt, alloc, &mut inboxes[at])?;
+        let inbox = &mut inboxes[at];
+        take_in(rt, alloc, inbox)?;
     }
     Ok(())
 }
