@@ -6,6 +6,8 @@
 //! why nothing earlier was done. Hosts submit and collect from other threads meanwhile; no lock stands round the channel.
 #![tactic(auto)]
 
+mod closed;
+mod drained;
 mod driver;
 mod gate;
 mod offer;
@@ -13,6 +15,8 @@ mod ran;
 mod sequencer;
 mod turn;
 
+pub use closed::Closed;
+pub use drained::Drained;
 pub use gate::Gate;
 pub use sequencer::Sequencer;
 pub use turn::Turn;

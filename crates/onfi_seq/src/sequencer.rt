@@ -17,6 +17,8 @@ use onfi_reply::Poster;
 use std::alloc::{AllocError, Global};
 use std::marker::Model;
 
+mod closing;
+mod draining;
 mod turning;
 
 /// The sequencer of one channel: its half, its chip, the intake of its submission queue and the posters of its four
