@@ -258,8 +258,8 @@ impl<C: Chip> Channel<C> {
     }
 }
 
-// Why the channel stops where the phase on that LUN wasn't run; want of memory stops nothing.
-fn cause_of(fault: DriveFault, lun: u8) -> Option<Cause>
+/// Why a channel stops where the phase on that LUN wasn't run; want of memory stops nothing.
+pub fn cause_of(fault: DriveFault, lun: u8) -> Option<Cause>
     ensures { result ≡ cause_of fault lun }
 {
     match fault {

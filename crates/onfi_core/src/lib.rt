@@ -24,6 +24,7 @@ mod starting;
 mod traffic;
 mod wants;
 
+pub use channel::cause_of;
 pub use drive::{DriveFault, run_phase};
 pub use due::Due;
 pub use event::Event;

@@ -160,7 +160,7 @@ certificate text strict bytes e behind =
     let bytes_are : bytes ≡ line ts = ap (drop 1) (spelled ∙ fronted_line ts some) in
     record { some = some; in_range = sound.in_range; spelled = e ∙ ap (λ z. header strict ++ z) bytes_are }
 
-line_read : (ts : List Token) → 1 ≤ length ts → All InRange ts → ahead_of false (line ts) ≡ record { tokens = ts; behind = 10 ∷ [] }
+pub line_read : (ts : List Token) → 1 ≤ length ts → All InRange ts → ahead_of false (line ts) ≡ record { tokens = ts; behind = 10 ∷ [] }
 line_read ts some h =
     let same = fronted_line ts some in
     let long = ap length same in

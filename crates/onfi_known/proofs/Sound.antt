@@ -239,7 +239,7 @@ module _ (e : ℕ) (all : List Want) (timing : Timing) (rules : Rules) where
     sound : (p : Problem) (known : List Known) (tokens : List Token) (d : Kept) (behind : List Known) (rest : List Token) → Proves e all p known tokens d behind rest → IsOf p → All Remembered known → Asks e p (demand_of d) × All Remembered behind
     sound _ _ _ _ _ _ (closed p known token d rest c is) o k = (kept_asks p e d (closing_demand p e token) o.problem o.small is (closing_asks p e token o.problem c), k)
     sound _ _ _ _ _ _ (again p known number d rest (r, at, is, meets, same)) o k = (again_asks p r d o (get_each Remembered known number r k at) is meets same, k)
-    sound _ _ _ _ _ _ (opened p known width more moves asks given r d middle rest are some wide children is needs same) o k =
+    sound _ _ _ _ _ _ (opened p known width more moves asks given r d middle rest are some wide children fit is needs same) o k =
         let f = sound_children p moves moves known more asks given middle rest children o are (λ m h. h) k in
         let a = kept_asks p e d (of_luns (with_yields asks given)) o.problem o.small needs (node_asks p moves asks given o are some f.0) in
         (a, All-append Remembered middle (r ∷ []) f.1 (remember p r d (times_of r) o is same a, tt))
@@ -256,7 +256,7 @@ module _ (e : ℕ) (all : List Want) (timing : Timing) (rules : Rules) where
         (subst (λ xs. Facts p moves xs asks (before ++ y ∷ [])) (sym is) (one_yield p moves firsts m asks before y f.0 may), f.1)
 
 pub proved_is_optimal : ProvedLaw
-proved_is_optimal all p s tokens ip small lg (d, behind, proves) = record {
+proved_is_optimal all p s tokens ip small lg (d, behind, proves, few) = record {
   legal = lg;
   least = λ other lg'.
       let r = legal_run p other ip lg' in

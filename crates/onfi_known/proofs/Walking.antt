@@ -22,7 +22,7 @@ use Rattle.onfi_known.specs.declared.known.Known.{Known}
 use Rattle.onfi_known.specs.declared.standing.Standing.{Standing}
 use Rattle.onfi_known.specs.declared.token.Token.{Token}
 use Rattle.onfi_known.specs.declared.token.Token.TheVariants.{Branch, Yield, Again}
-use Rattle.onfi_known.specs.Proves.{IsAgain, times_of, MayYield, with_yields, Proves, Children, Remembers, Yielded, Below, Grows, again, opened, tree, yielded}
+use Rattle.onfi_known.specs.Proves.{FitTimes, IsAgain, times_of, MayYield, with_yields, Proves, Children, Remembers, Yielded, Below, Grows, again, opened, tree, yielded}
 
 -- what all have, that at a place has
 pub at_place : {A : Type 0} (P : A → Type 0) (xs : List A) (i : ℕ) (d : A) → i < length xs → All P xs → P (get_or xs i d)
@@ -77,12 +77,12 @@ pub children_all : (e : ℕ) (x : Position) (items : List KeptMove) (i : ℕ) (a
 children_all e x items i asks given first known begun left h children = subst (λ z. Children e x.all x.problem (moves_of x.groups items) (moves_of x.groups z) first begun asks given known left) (take_all i items h) children
 
 -- a branch was read
-pub branch_proves : (e : ℕ) (x : Position) (items : List KeptMove) (width : ℕ) (s : Standing) (times : List ℕ) (first known known' : List Known) (tokens left : List Token) (d : Kept) → AreMoves x.problem (moves_of x.groups items) → length items ≡ width → 1 ≤ width → Children e x.all x.problem (moves_of x.groups items) (moves_of x.groups items) first tokens s.asked s.given.items known left → ((lun : ℕ) → lun < 8 → slice_index times lun ≡ with_yields s.asked s.given.items lun) → Remembers x.all x.problem times known known' d → Proves e x.all x.problem first (Branch width ∷ tokens) d known' left
-branch_proves e x items width s times first known known' tokens left d are wide some children needs r =
+pub branch_proves : (e : ℕ) (x : Position) (items : List KeptMove) (width : ℕ) (s : Standing) (times : List ℕ) (first known known' : List Known) (tokens left : List Token) (d : Kept) → AreMoves x.problem (moves_of x.groups items) → length items ≡ width → 1 ≤ width → Children e x.all x.problem (moves_of x.groups items) (moves_of x.groups items) first tokens s.asked s.given.items known left → ((lun : ℕ) → lun < 8 → slice_index times lun ≡ with_yields s.asked s.given.items lun) → FitTimes s.asked s.given.items → Remembers x.all x.problem times known known' d → Proves e x.all x.problem first (Branch width ∷ tokens) d known' left
+branch_proves e x items width s times first known known' tokens left d are wide some children needs fit r =
     let long = map_length x items in
     let k : IsKept d (of_luns (with_yields s.asked s.given.items)) = record { bus = r.bus; luns = λ l h. ap (λ z. slice_index z l) r.luns ∙ needs l h } in
     let k' : IsKept d (times_of r.node) = record { bus = r.bus; luns = λ l h. ap (λ z. slice_index z l) (r.luns ∙ sym r.times_are) } in
-    let proves = opened x.problem first width tokens (moves_of x.groups items) s.asked s.given.items r.node d known left are (omega arith) (omega arith) children r.describes k k' in
+    let proves = opened x.problem first width tokens (moves_of x.groups items) s.asked s.given.items r.node d known left are (omega arith) (omega arith) children fit r.describes k k' in
     subst (λ z. Proves e x.all x.problem first (Branch width ∷ tokens) d z left) (sym r.grown) proves
 
 pub on_ok : {A P : Type 0} (r : Result A KnownFault) → P → OnOk r P

@@ -4,3 +4,4 @@ pub mod Laws
 pub mod Text
 pub mod Word
 pub mod Faults
+pub mod Refused

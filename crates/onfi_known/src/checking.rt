@@ -1,6 +1,6 @@
 ghost use Rattle.std.specs.Prelude.{◌≡◌, ◌↔◌, IfOk, IfErr, List};
 ghost use Rattle.onfi_schedule.specs.Schedule.{Legal, Optimal, finish};
-ghost use Rattle.onfi_known.specs.Faults.{IsTextFault};
+ghost use Rattle.onfi_known.specs.Faults.{IsKnownFault, IsTextFault};
 ghost use Rattle.onfi_known.specs.Proves.{ProvesTokens};
 ghost use Rattle.onfi_known.specs.Text.{IsCertificate};
 ghost use Rattle.onfi_known.specs.declared.token.Token.{Token as OneToken};
@@ -25,8 +25,8 @@ fn check_source<S: TokenSource>(
     tokens: &mut Numbered<S>,
 ) -> Result<u64, KnownFault>
     ensures optimal { IfOk result (λ e. Optimal problem.now.problem schedule.now × (finish problem.now.problem schedule.now ≡ e)) }
-    ensures illegal { (Legal problem.now.problem schedule.now → ⊥) → result ≡ Err KnownFault.Illegal }
     ensures accepted { IfOk result (λ e. ProvesTokens problem.now.all (S.left tokens.old.source) problem.now.problem e) }
+    ensures fault { IfErr result (IsKnownFault problem.now.all problem.now.problem schedule.now (S.left tokens.old.source)) }
     ensures behind { S.behind tokens.new.source ≡ S.behind tokens.old.source }
 {
     if !legal(problem, schedule) {
@@ -46,8 +46,8 @@ fn check_source<S: TokenSource>(
 /// who bounds the tokens bounds the memory.
 ///
 /// # Errors
-/// `Illegal` where the schedule isn't legal. Else `Memory` where the memory for a copy of the problem or for the
-/// records was refused, or the first fault of the tokens in reading order.
+/// `Illegal` exactly where the schedule isn't legal. Else `Memory` where the memory for a copy of the problem or for the
+/// records was refused. Else the first fault of the tokens in reading order, only where they aren't accepted.
 pub fn check_known(
     alloc: Global,
     problem: &Problem,
@@ -55,8 +55,9 @@ pub fn check_known(
     tokens: &[Token],
 ) -> Result<u64, KnownFault>
     ensures optimal { IfOk result (λ e. Optimal problem.now.problem schedule.now × (finish problem.now.problem schedule.now ≡ e)) }
-    ensures illegal { (Legal problem.now.problem schedule.now → ⊥) → result ≡ Err KnownFault.Illegal }
     ensures accepted { IfOk result (λ e. ProvesTokens problem.now.all tokens.now problem.now.problem e) }
+    ensures illegal { (result ≡ Err KnownFault.Illegal) ↔ (Legal problem.now.problem schedule.now → ⊥) }
+    ensures fault { IfErr result (IsKnownFault problem.now.all problem.now.problem schedule.now tokens.now) }
 {
     let mut tokens = Numbered::of(TokenList::new(tokens));
     check_source(alloc, problem, schedule, &mut tokens)
@@ -78,7 +79,7 @@ pub fn check_known_text(
 ) -> Result<u64, KnownTextFault>
     ensures optimal { IfOk result (λ e. Optimal problem.now.problem schedule.now × (finish problem.now.problem schedule.now ≡ e)) }
     ensures accepted { IfOk result (λ e. (tokens : List OneToken) × IsCertificate text.now problem.now.problem.rules.strict tokens × ProvesTokens problem.now.all tokens problem.now.problem e) }
-    ensures fault { IfErr result (IsTextFault problem.now.problem schedule.now text.now) }
+    ensures fault { IfErr result (IsTextFault problem.now.all problem.now.problem schedule.now text.now) }
 {
     let Some((strict, bytes)) = header_of(text) else {
         return Err(KnownTextFault::Header);

@@ -1,4 +1,5 @@
 use Rattle.std.proofs.Common.{false, sym, ap, ◌∙◌, subst}
+use Rattle.onfi_known.specs.Faults.{IsKnownFault}
 use Rattle.onfi_known.specs.Proves.{ProvesTokens}
 use Rattle.onfi_known.specs.Text.{IsCertificate}
 use Rattle.onfi_known.specs.Word.{Ahead, ahead_of}
@@ -26,4 +27,4 @@ pub returns-in-Err-clause-fault : goal.returns-in-Err-clause-fault
 returns-in-Err-clause-fault c =
     let same = c.read_on.ensures.behind ∙ c.check_source-checked.ensures.behind ∙ ap (λ (a : Ahead). a.behind) (c.of-tokens.ensures ∙ c.new.ensures) in
     let is = ended c.args.text.now c.in-Some.strict c.in-Some.bytes.now c.read_on.new.self.source c.is_at_end.result c.in-Some.ensures.some same (c.is_at_end.ensures c.read_on.ensures.left) c.if-not-is_at_end.false in
-    ((ahead_of false c.in-Some.bytes.now).tokens, subst (λ b. IsCertificate c.args.text.now b (ahead_of false c.in-Some.bytes.now).tokens) (same_flag c.in-Some.strict c.rules.result.strict c.if-strict-rules.false ∙ ap (λ (r : Rules). r.strict) c.rules.ensures) is)
+    ((ahead_of false c.in-Some.bytes.now).tokens, subst (λ b. IsCertificate c.args.text.now b (ahead_of false c.in-Some.bytes.now).tokens) (same_flag c.in-Some.strict c.rules.result.strict c.if-strict-rules.false ∙ ap (λ (r : Rules). r.strict) c.rules.ensures) is, subst (λ (a : Ahead). IsKnownFault c.args.problem.now.all c.args.problem.now.problem c.args.schedule.now a.tokens c.in-Err.fault) (c.of-tokens.ensures ∙ c.new.ensures) c.in-Err.ensures.fault)

@@ -1,0 +1,138 @@
+-- What draining keeps from turn to turn.
+use Rattle.std.proofs.Common.{◌≡◌, ℕ, ◌+◌, ◌<◌, ◌≤◌, inl, inr, Bool, true, false, List, [], ◌∷◌, ◌++◌, length, Some, refl, sym, ap, ◌∙◌, subst, append_assoc, append-nil, arith}
+use Rattle.std.specs.Prelude.{slice_get, slice_set}
+use Rattle.onfi_request.specs.declared.reply.Reply.{Reply}
+use Rattle.onfi_problem.proofs.Places.{get_set_other, get_set_same, get_within, length_set, same_place, same_some, within_get}
+use Rattle.onfi_queue.specs.Ends.{HostView}
+use Rattle.onfi_reply.specs.declared.opened_for.OpenedFor.{OpenedFor}
+use Rattle.onfi_reply.specs.Ends.{InboxView, TookIn}
+use Rattle.onfi_seq.specs.declared.drained.Drained.{Drained}
+use Rattle.onfi_seq.specs.declared.turn.Turn.{Turn}
+use Rattle.onfi_seq.specs.Drained.{AreAccepted, AreNextBehind, Drains, EndsAs, HasGrown, HaveGrown, Makes}
+use Rattle.onfi_seq.specs.Sequencer.{AreCounts, IsSameChannel, Seen, SequencerFields}
+use Rattle.onfi_seq.specs.Turned.{Turned}
+
+-- What one inbox takes in
+
+next_all : (opened : OpenedFor) (before xs ys : List Reply) → AreNextBehind opened before xs → AreNextBehind opened (before ++ xs) ys → AreNextBehind opened before (xs ++ ys)
+next_all opened before [] ys all behind = subst (λ (rs : List Reply). AreNextBehind opened rs ys) (append-nil before) behind
+next_all opened before (x ∷ xs) ys (here, all) behind =
+    (here, next_all opened (before ++ x ∷ []) xs ys all (subst (λ (rs : List Reply). AreNextBehind opened rs ys) (sym (append_assoc before (x ∷ []) xs)) behind))
+
+pub grown_none : (i : InboxView) → HasGrown i i
+grown_none i = record { more = []; after = ap (λ (rs : List Reply). let z : InboxView = record i { waiting = rs } in z) (sym (append-nil i.waiting)); next = tt }
+
+grown_behind : (i : InboxView) (xs ys : List Reply) → AreNextBehind i.opened (i.given ++ i.waiting) xs → AreNextBehind i.opened (i.given ++ (i.waiting ++ xs)) ys → HasGrown i (record i { waiting = (i.waiting ++ xs) ++ ys })
+grown_behind i xs ys all behind = record {
+  more = xs ++ ys;
+  after = ap (λ (rs : List Reply). let z : InboxView = record i { waiting = rs } in z) (append_assoc i.waiting xs ys);
+  next = next_all i.opened (i.given ++ i.waiting) xs ys all (subst (λ (rs : List Reply). AreNextBehind i.opened rs ys) (sym (append_assoc i.given i.waiting xs)) behind);
+}
+
+pub grown_all : (i j k : InboxView) → HasGrown i j → HasGrown j k → HasGrown i k
+grown_all i j k a b =
+    let P : InboxView → Type 0 = λ (x : InboxView). AreNextBehind x.opened (x.given ++ x.waiting) b.more → HasGrown i (record x { waiting = x.waiting ++ b.more }) in
+    subst (HasGrown i) (sym b.after) (subst P (sym a.after) (λ behind. grown_behind i a.more b.more a.next behind) b.next)
+
+pub grown_taken : (moved : Bool) (i j k : InboxView) → HasGrown i j → TookIn moved j k → HasGrown i k
+grown_taken true i j k grown (x, after, next) = grown_all i j k grown (record { more = x ∷ []; after = after; next = (next, tt) })
+grown_taken false i j k grown (same, empty) = subst (HasGrown i) (sym same) grown
+
+-- What all take in
+
+pub all_grown_none : (xs : List InboxView) → HaveGrown xs xs
+all_grown_none xs = record {
+  count = refl;
+  each = λ at i i' there here. subst (HasGrown i) (same_some i i' (slice_get xs at) there here) (grown_none i);
+}
+
+pub all_grown_all : (xs ys zs : List InboxView) → HaveGrown xs ys → HaveGrown ys zs → HaveGrown xs zs
+all_grown_all xs ys zs a b = record {
+  count = b.count ∙ a.count;
+  each = λ at i k there here. (
+      let low = within_get xs at i there in
+      let count = a.count in
+      let mid = get_within ys at (omega arith) in
+      grown_all i mid.0 k (a.each at i mid.0 there mid.1) (b.each at mid.0 k mid.1 here));
+}
+
+one_grown : (xs : List InboxView) (at : ℕ) (i j : InboxView) → slice_get xs at ≡ Some i → HasGrown i j → HaveGrown xs (slice_set xs at j)
+one_grown xs at i j there grown = record {
+  count = length_set xs at j;
+  each = λ k x y was is. elim (same_place k at) [
+    | inl e ↦ (
+        let x_is : i ≡ x = same_some i x (slice_get xs at) there (sym (ap (slice_get xs) e) ∙ was) in
+        let y_is : j ≡ y = same_some j y (slice_get (slice_set xs at j) k) (ap (slice_get (slice_set xs at j)) e ∙ get_set_same xs at i j there) is in
+        subst (HasGrown x) y_is (subst (λ (z : InboxView). HasGrown z j) x_is grown))
+    | inr d ↦ subst (HasGrown x) (same_some x y (slice_get xs k) was (sym (get_set_other xs at k j d) ∙ is)) (grown_none x)
+  ];
+}
+
+pub all_grown_one : (xs ys : List InboxView) (at : ℕ) (i j : InboxView) → HaveGrown xs ys → slice_get ys at ≡ Some i → HasGrown i j → HaveGrown xs (slice_set ys at j)
+all_grown_one xs ys at i j grown there one = all_grown_all xs ys (slice_set ys at j) grown (one_grown ys at i j there one)
+
+-- The channel from turn to turn
+
+same_channel_none : (q : Seen) → IsSameChannel q q
+same_channel_none q = record { setup = refl; faults = refl; intake = refl; posters = refl }
+
+pub same_channel_all : (q q' q'' : Seen) → IsSameChannel q q' → IsSameChannel q' q'' → IsSameChannel q q''
+same_channel_all q q' q'' a b = record {
+  setup = b.setup ∙ a.setup;
+  faults = b.faults ∙ a.faults;
+  intake = b.intake ∙ a.intake;
+  posters = b.posters ∙ a.posters;
+}
+
+-- so many turns were made, on the same channel, and the inboxes took in
+pub record Draining (q : Seen) (inboxes : List InboxView) (made : ℕ) (q' : Seen) (inboxes' : List InboxView) : Type 0 where
+  pub answers : List Turn
+  pub ran : Makes q answers q'
+  pub count : length answers ≡ made
+  pub same : IsSameChannel q q'
+  pub grown : HaveGrown inboxes inboxes'
+
+pub draining_first : (q : Seen) (inboxes : List InboxView) → Draining q inboxes 0 q inboxes
+draining_first q inboxes = record { answers = []; ran = refl; count = refl; same = same_channel_none q; grown = all_grown_none inboxes }
+
+pub draining_taken : (q : Seen) (inboxes : List InboxView) (made : ℕ) (q' : Seen) (inboxes' inboxes'' : List InboxView) → Draining q inboxes made q' inboxes' → HaveGrown inboxes' inboxes'' → Draining q inboxes made q' inboxes''
+draining_taken q inboxes made q' inboxes' inboxes'' so_far more = record {
+  answers = so_far.answers;
+  ran = so_far.ran;
+  count = so_far.count;
+  same = so_far.same;
+  grown = all_grown_all inboxes inboxes' inboxes'' so_far.grown more;
+}
+
+pub draining_turned : (q : Seen) (inboxes : List InboxView) (made : ℕ) (q' : Seen) (inboxes' : List InboxView) (answer : Turn) (q'' : Seen) → Draining q inboxes made q' inboxes' → Turned q' answer q'' → IsSameChannel q' q''
+    → Draining q inboxes (made + 1) q'' inboxes'
+draining_turned q inboxes made q' inboxes' answer q'' so_far turned same =
+    let count = so_far.count in
+    record {
+      answers = answer ∷ so_far.answers;
+      ran = (q', so_far.ran, turned);
+      count = omega arith;
+      same = same_channel_all q q' q'' so_far.same same;
+      grown = so_far.grown;
+    }
+
+-- ended where no turn was made
+pub drains_here : (q : Seen) (inboxes : List InboxView) (made : ℕ) (q' : Seen) (inboxes' : List InboxView) (hosts : List HostView) (turns : ℕ) (end : Drained) → (so_far : Draining q inboxes made q' inboxes') → made ≤ turns → EndsAs end q'.0.half hosts turns so_far.answers
+    → Drains q hosts turns end q'
+drains_here q inboxes made q' inboxes' hosts turns end so_far few ends = let count = so_far.count in record { answers = so_far.answers; ran = so_far.ran; few = omega arith; ends = ends }
+
+-- ended behind a turn
+pub drains_behind : (q : Seen) (inboxes : List InboxView) (made : ℕ) (q' : Seen) (inboxes' : List InboxView) (answer : Turn) (q'' : Seen) (hosts : List HostView) (turns : ℕ) (end : Drained) → Draining q inboxes made q' inboxes' → made < turns → Turned q' answer q''
+    → ((answers : List Turn) → EndsAs end q''.0.half hosts turns (answer ∷ answers)) → Drains q hosts turns end q''
+drains_behind q inboxes made q' inboxes' answer q'' hosts turns end so_far few turned ends =
+    let count = so_far.count in
+    record { answers = answer ∷ so_far.answers; ran = (q', so_far.ran, turned); few = omega arith; ends = ends so_far.answers }
+
+-- What the hosts sent, and what is accepted
+
+-- of the hosts below that number
+abbrev pub AcceptedBelow : ℕ → List ℕ → List HostView → Type 0
+AcceptedBelow low counts hosts = (host : ℕ) → host < low → (x : HostView) → slice_get hosts host ≡ Some x → slice_get counts host ≡ Some (length x.sent)
+
+pub all_accepted : (q : SequencerFields) (counts : List ℕ) (hosts : List HostView) (low : ℕ) → AreCounts q counts → length hosts ≡ 4 → 4 ≤ low → AcceptedBelow low counts hosts → AreAccepted q.half hosts
+all_accepted q counts hosts low are four all below host x there = let within = within_get hosts host x there in are.each host (length x.sent) (below host (omega arith) x there)

@@ -1,0 +1,184 @@
+-- A half with its chip: what its calls come to, and what they keep.
+use Rattle.std.proofs.Common.{◌≡◌, ◌≢◌, ℕ, ◌<◌, ◌≤◌, ◌^◌, List, [], ◌∷◌, ◌++◌, length, Some, None, Option, Result, Ok, Err, IfOk, IfErr, refl, sym, ap, ◌∙◌, subst}
+use Rattle.std.specs.Prelude.{replicate}
+use Rattle.std.specs.List.{filter}
+use Rattle.onfi_addr.specs.declared.geometry.Geometry.{Geometry}
+use Rattle.onfi_request.specs.declared.request.Item.{Item}
+use Rattle.onfi_request.specs.declared.reply.Reply.{Reply}
+use Rattle.onfi_request.specs.declared.want.Want.{Want}
+use Rattle.onfi_chip.specs.Chip.{Chip}
+use Rattle.onfi_chip.specs.Chip.Lun.{Idle}
+use Rattle.onfi_die.specs.Order.{AreRightfulIn}
+use Rattle.onfi_core.specs.declared.drive.DriveFault.{DriveFault}
+use Rattle.onfi_core.specs.declared.drive.DriveFault.TheVariants as drive
+use Rattle.onfi_core.specs.declared.due.Due.{Due}
+use Rattle.onfi_core.specs.declared.event.Event.TheVariants as event
+use Rattle.onfi_core.specs.declared.half.PlanRefusal.{PlanRefusal}
+use Rattle.onfi_core.specs.declared.half.PlanRefusal.TheVariants as refused
+use Rattle.onfi_core.specs.declared.outcome.Cause.{Cause}
+use Rattle.onfi_core.specs.declared.outcome.Outcome.{Outcome}
+use Rattle.onfi_core.specs.declared.outcome.Outcome.TheVariants as outcome
+use Rattle.onfi_core.specs.declared.phase_result.PhaseResult.{PhaseResult}
+use Rattle.onfi_core.specs.declared.setup.Setup.{Setup}
+use Rattle.onfi_core.specs.Drive.{HasRun, AfterDrive, IsStatus, cause_of}
+use Rattle.onfi_core.specs.Dues.{IsDue, after_due, member_of, replies_of}
+use Rattle.onfi_core.specs.Kept.{first_half}
+use Rattle.onfi_core.specs.Queues.{IsFresh}
+use Rattle.onfi_core.specs.Reaching.{Reaches}
+use Rattle.onfi_core.specs.Refusals.{planned_outcome}
+use Rattle.onfi_core.specs.State.{HalfState, ChannelState, Planning, is_to, item_at, quiet}
+use Rattle.onfi_core.specs.Steps.{GoesOut, Plans, Step, accept_refusal, bus_refusal, plan_refusal, planned_by, taken_next}
+use Rattle.onfi_core.specs.View.{HalfView, IsOldest, PlanRefused, accepting}
+use Rattle.onfi_core.specs.View.{IsNext as IsHostsNext}
+use Rattle.onfi_core.proofs.HeldFor.{next_behind}
+use Rattle.onfi_core.proofs.Reach.{none_first, not_stopped}
+use Rattle.onfi_core.proofs.Reaching.{accepting_reached, batch_reached, events_reach, opened_reaches, posting_reached, step_reaches}
+use Rattle.onfi_core.proofs.Running.{after_planning, cause_is, lost_by, no_memory, nothing_posted, ran_step, refused_alone, same_by, stop_step}
+use Rattle.onfi_lun.specs.declared.lanes.any_lun.AnyLun.{AnyLun}
+use Rattle.onfi_lun.specs.declared.target.Target.{Target}
+use Rattle.onfi_lun.specs.Lanes.{LanesAgree, MayRunDue}
+use Rattle.onfi_lun.proofs.Dues.{may_run_due}
+use Rattle.onfi_reply.specs.Ends.{PosterView}
+use Rattle.onfi_reply.specs.Replies.{IsNext}
+use Rattle.onfi_seq.specs.Driver.{DriverFields, DriverView, IsDriven}
+
+-- a half of which neither what is accepted nor what is posted changed
+pub quiet_is : (h h' : HalfState) (chip chip' : Chip) → h'.accepted ≡ h.accepted → h'.posted ≡ h.posted → (let z : ChannelState = record (quiet h chip) { half = h'; chip = chip' } in z) ≡ quiet h' chip'
+quiet_is h h' chip chip' accepted posted =
+    ap (λ (xs : List Item). let z : ChannelState = record { half = h'; chip = chip'; sent = xs; waiting = []; collected = h.posted } in z) (sym accepted)
+    ∙ ap (λ (rs : List Reply). let z : ChannelState = record { half = h'; chip = chip'; sent = h'.accepted; waiting = []; collected = rs } in z) (sym posted)
+
+-- Opening
+
+pub driven_opened : (s : Setup) (h : HalfView) (chip : Chip) (lanes : List AnyLun) → h ≡ record { setup = s; state = first_half s; lent = None } → IsFresh s chip → ((other : Chip) → other.luns ≡ replicate s.geometry.lun_count Idle → LanesAgree other lanes) → IsDriven h.setup h.lent h.state chip lanes
+driven_opened s h chip lanes is fresh agree =
+    let here : ChannelState = quiet (first_half s) chip in
+    let opened : IsDriven s None (first_half s) chip lanes = record {
+      settled = refl;
+      reached = opened_reaches s here (chip.faults, chip.failures, ap (λ (x : Chip). quiet (first_half s) x) fresh);
+      lanes_are = λ going. agree chip (ap (λ (x : Chip). x.luns) fresh);
+    } in
+    subst (λ (v : HalfView). IsDriven v.setup v.lent v.state chip lanes) (sym is) opened
+
+-- What is told of a driver, of its fields and back
+module _ {C : Type 0} where
+  pub within : (P : DriverFields → Type 0) (inside now : DriverView C) → inside ≡ now → P now.0 → P inside.0
+  within P inside now is h = subst (λ (x : DriverView C). P x.0) (sym is) h
+
+  pub outside : (state : C → Chip) (P : DriverFields → Chip → Type 0) (inside now : DriverView C) → inside ≡ now → P inside.0 (state inside.1) → P now.0 (state now.1)
+  outside state P inside now is h = subst (λ (x : DriverView C). P x.0 (state x.1)) is h
+
+-- Accepting, and the batch
+
+pub driven_accepting : (s : Setup) (lent : Option Reply) (h : HalfState) (chip : Chip) (lanes : List AnyLun) (x : Item) → accept_refusal h ≡ None → IsHostsNext s h x → IsDriven s lent h chip lanes → IsDriven s lent (accepting h x) chip lanes
+driven_accepting s lent h chip lanes x room next driven = record {
+  settled = driven.settled;
+  reached = (accepting_reached s h chip x room next).1 driven.reached;
+  lanes_are = driven.lanes_are;
+}
+
+pub driven_batch : (s : Setup) (lent : Option Reply) (h : HalfState) (chip : Chip) (lanes : List AnyLun) (batch : ℕ) → 1 ≤ batch → batch ≤ 8 → IsDriven s lent h chip lanes → IsDriven s lent (record h { batch = batch }) chip lanes
+driven_batch s lent h chip lanes batch some few driven = record {
+  settled = driven.settled;
+  reached = (batch_reached s (quiet h chip) batch some few).1 driven.reached;
+  lanes_are = driven.lanes_are;
+}
+
+-- Planning
+
+abbrev PlannedAs : HalfView → HalfView → Result ℕ PlanRefusal → Type 0
+PlannedAs old h result = IfOk result (λ finish. (plan_refusal old.setup old.state ≡ None) × (plan : Planning) × (finish ≡ plan.finish) × Plans old.setup old.state plan × (h ≡ record old { state = planned_by old.state (length (taken_next old.setup old.state)) plan }))
+
+abbrev RefusedAs : HalfView → HalfView → Result ℕ PlanRefusal → Type 0
+RefusedAs old h result = IfErr result (λ refusal. PlanRefused old.setup old.state refusal h.state × (h ≡ record old { state = h.state }))
+
+pub accepted_kept : (old h : HalfView) (result : Result ℕ PlanRefusal) → PlannedAs old h result → RefusedAs old h result → h.state.accepted ≡ old.state.accepted
+accepted_kept old h (Ok finish) (open', plan, e, plans, is) none = ap (λ (v : HalfView). v.state.accepted) is
+accepted_kept old h (Err (refused.Stopped cause)) none ((e, is), same) = ap (λ (x : HalfState). x.accepted) is
+accepted_kept old h (Err refused.NothingToPlan) none ((e, is), same) = ap (λ (x : HalfState). x.accepted) is
+accepted_kept old h (Err (refused.Over opened)) none ((e, count, more, is), same) = ap (λ (x : HalfState). x.accepted) is
+accepted_kept old h (Err refused.Memory) none ((e, is), same) = ap (λ (x : HalfState). x.accepted) is
+
+pub posted_kept : (old h : HalfView) (chip : Chip) (result : Result ℕ PlanRefusal) → PlannedAs old h result → RefusedAs old h result → h.state.posted ≡ old.state.posted
+posted_kept old h chip result planned why = nothing_posted old.setup (quiet old.state chip) old result h planned (refused_alone old.setup old.state result h old why)
+
+going_before : (old h : HalfView) (result : Result ℕ PlanRefusal) → PlannedAs old h result → RefusedAs old h result → h.state.stopped ≡ None → old.state.stopped ≡ None
+going_before old h (Ok finish) (open', plan, e, plans, is) none going = sym (ap (λ (v : HalfView). v.state.stopped) is) ∙ going
+going_before old h (Err (refused.Stopped cause)) none ((e, is), same) going = let q : Some cause ≡ None = sym (ap (λ (x : HalfState). x.stopped) is) ∙ going in cc
+going_before old h (Err refused.NothingToPlan) none ((e, is), same) going = sym (ap (λ (x : HalfState). x.stopped) is) ∙ going
+going_before old h (Err (refused.Over opened)) none ((e, count, more, is), same) going = sym (ap (λ (x : HalfState). x.stopped) is) ∙ going
+going_before old h (Err refused.Memory) none ((e, is), same) going = sym (ap (λ (x : HalfState). x.stopped) is) ∙ going
+
+pub planning_step : (old h : HalfView) (chip : Chip) (channel : ℕ) (result : Result ℕ PlanRefusal) → PlannedAs old h result → RefusedAs old h result → Step old.setup (quiet old.state chip) (event.Plan channel) (planned_outcome result) (quiet h.state chip)
+planning_step old h chip channel result planned why =
+    let step = after_planning old.setup (quiet old.state chip) channel old result h planned (refused_alone old.setup old.state result h old why) in
+    subst (λ (c : ChannelState). Step old.setup (quiet old.state chip) (event.Plan channel) (planned_outcome result) c) (quiet_is old.state h.state chip chip (accepted_kept old h result planned why) (posted_kept old h chip result planned why)) step
+
+pub driven_planned : (old h : HalfView) (chip : Chip) (lanes : List AnyLun) (result : Result ℕ PlanRefusal) → IsDriven old.setup old.lent old.state chip lanes → PlannedAs old h result → RefusedAs old h result → h.lent ≡ None → h.setup ≡ old.setup → IsDriven h.setup h.lent h.state chip lanes
+driven_planned old h chip lanes result driven planned why settled setup =
+    let reached = step_reaches old.setup (quiet old.state chip) (event.Plan 0) (planned_outcome result) (quiet h.state chip) driven.reached (planning_step old h chip 0 result planned why) in
+    record {
+      settled = settled;
+      reached = subst (λ (s : Setup). Reaches s (quiet h.state chip)) (sym setup) reached;
+      lanes_are = λ going. driven.lanes_are (going_before old h result planned why going);
+    }
+
+-- Phases
+
+pub going_on : (h : HalfState) → bus_refusal h ≡ None → h.stopped ≡ None
+going_on h open' = not_stopped h.stopped (none_first _ _ open')
+
+module _ (s : Setup) (h : HalfState) (chip : Chip) (reached : Reaches s (quiet h chip)) (due : Due) (is : IsDue h due) (open' : bus_refusal h ≡ None) (item : Item) (member : (m : Want) × (member_of due.group due.phase ≡ Some m) × (item ≡ item_at h.accepted m.id)) where
+  pub ran_phase : (channel : ℕ) (chip' : Chip) (given : PhaseResult) (h' : HalfState) → HasRun chip s.geometry due item given chip' → h' ≡ after_due h due (replies_of h.accepted chip'.faults due given) → Step s (quiet h chip) (event.Bus channel) (outcome.Phase due.start) (quiet h' chip')
+  ran_phase channel chip' given h' run after =
+      let step = ran_step s (quiet h chip) (events_reach s (quiet h chip) reached) due is open' item member channel chip' given h' run after in
+      subst (λ (c : ChannelState). Step s (quiet h chip) (event.Bus channel) (outcome.Phase due.start) c) (quiet_is h h' chip chip' (ap (λ (x : HalfState). x.accepted) after) (ap (λ (x : HalfState). x.posted) after)) step
+
+  pub stopped_phase : (channel : ℕ) (fault : DriveFault) (stop : Cause) (chip' : Chip) (h' : HalfState) → cause_of fault due.lun ≡ Some stop → (fault ≡ drive.NotReady → IsStatus due item) → AfterDrive fault chip chip' → h' ≡ record h { stopped = Some stop } → Step s (quiet h chip) (event.Bus channel) (outcome.Stopped stop) (quiet h' chip')
+  stopped_phase channel fault stop chip' h' cause status after is_stopped =
+      let why = cause_is s (quiet h chip) (events_reach s (quiet h chip) reached) due is open' item member fault stop cause status in
+      let step = stop_step s (quiet h chip) channel stop chip' h' open' why (lost_by fault due.lun stop chip chip' cause after) is_stopped in
+      subst (λ (c : ChannelState). Step s (quiet h chip) (event.Bus channel) (outcome.Stopped stop) c) (quiet_is h h' chip chip' (ap (λ (x : HalfState). x.accepted) is_stopped) (ap (λ (x : HalfState). x.posted) is_stopped)) step
+
+  pub may_run_here : (target : Target) → s.geometry ≡ target.geometry → s.timing ≡ target.timing → due.start < 2 ^ 63 → MayRunDue target chip due item
+  may_run_here target geometry timing time =
+      let r = events_reach s (quiet h chip) reached in
+      may_run_due s target h chip geometry timing r.half.sound (r.chip (going_on h open')) due is member.0 member.1 item member.2 time
+
+  pub driven_ran : (lent : Option Reply) (chip' : Chip) (lanes : List AnyLun) (given : PhaseResult) (h' : HalfState) → HasRun chip s.geometry due item given chip' → h' ≡ after_due h due (replies_of h.accepted chip'.faults due given) → lent ≡ None → LanesAgree chip' lanes → IsDriven s lent h' chip' lanes
+  driven_ran lent chip' lanes given h' run after settled agree = record {
+    settled = settled;
+    reached = step_reaches s (quiet h chip) (event.Bus 0) (outcome.Phase due.start) (quiet h' chip') reached (ran_phase 0 chip' given h' run after);
+    lanes_are = λ going. agree;
+  }
+
+  pub driven_stopped : (lent : Option Reply) (chip' : Chip) (lanes : List AnyLun) (fault : DriveFault) (stop : Cause) (h' : HalfState) → cause_of fault due.lun ≡ Some stop → (fault ≡ drive.NotReady → IsStatus due item) → AfterDrive fault chip chip' → h' ≡ record h { stopped = Some stop } → lent ≡ None → IsDriven s lent h' chip' lanes
+  driven_stopped lent chip' lanes fault stop h' cause status after is_stopped settled = record {
+    settled = settled;
+    reached = step_reaches s (quiet h chip) (event.Bus 0) (outcome.Stopped stop) (quiet h' chip') reached (stopped_phase 0 fault stop chip' h' cause status after is_stopped);
+    lanes_are = λ going. absurd (let q : Some stop ≡ None = sym (ap (λ (x : HalfState). x.stopped) is_stopped) ∙ going in cc);
+  }
+
+  pub memory_phase : (channel : ℕ) (chip' : Chip) → chip' ≡ chip → Step s (quiet h chip) (event.Bus channel) (outcome.Memory None) (quiet h chip')
+  memory_phase channel chip' same = no_memory s (quiet h chip) channel chip' open' same
+
+-- Posts
+
+module _ (s : Setup) (h : HalfState) (chip : Chip) (reached : Reaches s (quiet h chip)) (host : ℕ) (r : Reply) where
+  pub may_post : (p : PosterView) → IsOldest host h.held r → p.opened.host ≡ host → p.opened.geometry ≡ s.geometry → p.posted ≡ filter (is_to host) h.posted → IsNext p.opened p.posted r
+  may_post p oldest host_is geometry posted =
+      let after : HalfState = record h { held = oldest.before ++ oldest.behind; posted = h.posted ++ r ∷ [] } in
+      let goes : GoesOut h after host r = record { before = oldest.before; behind = oldest.behind; held = oldest.is; oldest = oldest.none; own = oldest.own; after = refl } in
+      let right = next_behind s (quiet h chip) after host r (events_reach s (quiet h chip) reached) goes in
+      let here = subst (λ (x : Geometry). AreRightfulIn x r (filter (is_to host) h.posted ++ r ∷ [])) (sym geometry) right in
+      record {
+        host = oldest.own ∙ sym host_is;
+        rightful = subst (λ (rs : List Reply). AreRightfulIn p.opened.geometry r (rs ++ r ∷ [])) (sym posted) here;
+      }
+
+  pub driven_posted : (lent : Option Reply) (h' : HalfState) (lanes : List AnyLun) → GoesOut h h' host r → lent ≡ None → (h.stopped ≡ None → LanesAgree chip lanes) → IsDriven s lent h' chip lanes
+  driven_posted lent h' lanes goes settled agree = record {
+    settled = settled;
+    reached = (posting_reached s h h' chip host r goes).1 reached;
+    lanes_are = λ going. agree (sym (ap (λ (x : HalfState). x.stopped) goes.after) ∙ going);
+  }

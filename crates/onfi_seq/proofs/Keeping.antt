@@ -1,0 +1,215 @@
+-- What the fields of a sequencer keep from call to call.
+use Rattle.std.proofs.Common.{◌≡◌, ◌≢◌, ℕ, zero, suc, ◌+◌, ◌<◌, ◌≤◌, inl, inr, Bool, false, List, [], ◌∷◌, ◌++◌, length, Some, None, refl, sym, ap, ◌∙◌, subst, length-append, arith}
+use Rattle.std.specs.Prelude.{replicate, slice_get, slice_set}
+use Rattle.std.specs.List.{filter}
+use Rattle.onfi_request.specs.declared.request.Item.{Item}
+use Rattle.onfi_request.specs.declared.reply.Reply.{Reply}
+use Rattle.onfi_chip.specs.Chip.{Chip}
+use Rattle.onfi_problem.proofs.Places.{get_set_other, get_set_same, get_within, length_set, same_place, same_some}
+use Rattle.onfi_core.specs.declared.setup.Setup.{Setup}
+use Rattle.onfi_core.specs.Kept.{first_half}
+use Rattle.onfi_core.specs.State.{HalfState, is_from, is_to}
+use Rattle.onfi_core.specs.Steps.{GoesOut}
+use Rattle.onfi_core.specs.View.{accepting}
+use Rattle.onfi_core.specs.Reaching.{Reaches}
+use Rattle.onfi_core.proofs.Opening.{get_same}
+use Rattle.onfi_core.proofs.Promise.{promise}
+use Rattle.onfi_core.proofs.Reaching.{events_reach}
+use Rattle.onfi_core.proofs.Hosted.{from_other, from_own, to_other, to_own}
+use Rattle.onfi_queue.specs.Ends.{IntakeView, after_accepting}
+use Rattle.onfi_queue.specs.Items.{IsNext}
+use Rattle.onfi_reply.specs.Ends.{PosterView, after_posting}
+use Rattle.onfi_seq.specs.declared.offer.Offer.{Offer}
+use Rattle.onfi_seq.specs.declared.offer.Offer.TheVariants as offer
+use Rattle.onfi_seq.specs.Driver.{Offered}
+use Rattle.onfi_seq.specs.Sequencer.{AreCounts, AreFreshPosters, IsFreshIntake, IsFreshPoster, IsKept, IsPosterFor, IsRight, Seen, SequencerFields, SequencerView, channel_of, opened_as, opened_for, seen_in}
+
+-- What is told of a sequencer, of its fields and back
+module _ {C : Type 0} where
+  pub seen_within : (state : C → Chip) (P : Seen → Type 0) (inside now : SequencerView C) → inside ≡ now → P (seen_in state now) → P (seen_in state inside)
+  seen_within state P inside now is h = subst (λ (x : SequencerView C). P (seen_in state x)) (sym is) h
+
+  pub seen_outside : (state : C → Chip) (P : Seen → Type 0) (inside now : SequencerView C) → inside ≡ now → P (seen_in state inside) → P (seen_in state now)
+  seen_outside state P inside now is h = subst (λ (x : SequencerView C). P (seen_in state x)) is h
+
+-- Opening
+
+no_some : (n count : ℕ) → None ≡ Some count → n ≡ count
+no_some n count e = cc
+
+same_some_is : (n count : ℕ) → Some n ≡ Some count → n ≡ count
+same_some_is n count e = cc
+
+-- each of so many equal numbers is that number
+each_same : (n x i count : ℕ) → slice_get (replicate n x) i ≡ Some count → x ≡ count
+each_same n x i count there = elim (get_same n x i) [
+  | inl none ↦ no_some x count (sym none ∙ there)
+  | inr some ↦ same_some_is x count (sym some ∙ there)
+]
+
+counts_opened : (q : SequencerFields) → q.half.accepted ≡ [] → AreCounts q (replicate 4 0)
+counts_opened q none = record {
+  hosts = refl;
+  each = λ host count there. sym (each_same 4 0 host count there) ∙ sym (ap (λ (xs : List Item). length (filter (is_from host) xs)) none);
+}
+
+poster_opened : (q : SequencerFields) (channel host : ℕ) (p : PosterView) → q.intake.opened.channel ≡ channel → q.half.posted ≡ [] → IsFreshPoster q.setup channel host p → IsPosterFor q host p
+poster_opened q channel host p number none fresh = record {
+  opened = ap (λ (x : PosterView). x.opened) fresh ∙ ap (λ n. opened_for q.setup n host) (sym number);
+  room = ap (λ (x : PosterView). x.capacity) fresh;
+  posted = ap (λ (x : PosterView). x.posted) fresh ∙ sym (ap (filter (is_to host)) none);
+}
+
+pub kept_opened : (s : Setup) (channel : ℕ) (intake : IntakeView) (posters : List PosterView) (counts : List ℕ) → s.hosts ≡ 4 → IsFreshIntake s channel intake → AreFreshPosters s channel posters → counts ≡ replicate 4 0
+    → IsKept (record { setup = s; half = first_half s; intake = intake; posters = posters; refused = false }) counts
+kept_opened s channel intake posters counts hosts fresh_intake fresh_posters zeros =
+    let q : SequencerFields = record { setup = s; half = first_half s; intake = intake; posters = posters; refused = false } in
+    let number : intake.opened.channel ≡ channel = ap (λ (x : IntakeView). x.opened.channel) fresh_intake.is in
+    record {
+      hosts = hosts;
+      opened = ap (λ (x : IntakeView). x.opened) fresh_intake.is ∙ ap (opened_as s) (sym number);
+      room = ap (λ (x : IntakeView). x.capacity) fresh_intake.is;
+      accepted = ap (λ (x : IntakeView). x.accepted) fresh_intake.is;
+      posters = fresh_posters.count;
+      each = λ host p there. poster_opened q channel host p number refl (fresh_posters.each host p there);
+      counts_are = subst (AreCounts q) (sym zeros) (counts_opened q refl);
+    }
+
+-- Where neither what is accepted nor what is posted changes
+
+pub kept_same : (q : SequencerFields) (counts : List ℕ) (s : Setup) (h : HalfState) (refused : Bool) → IsKept q counts → s ≡ q.setup → h.accepted ≡ q.half.accepted → h.posted ≡ q.half.posted
+    → IsKept (record q { setup = s; half = h; refused = refused }) counts
+kept_same q counts s h refused kept setup accepted posted = record {
+  hosts = ap (λ (x : Setup). x.hosts) setup ∙ kept.hosts;
+  opened = kept.opened ∙ ap (λ (x : Setup). opened_as x q.intake.opened.channel) (sym setup);
+  room = kept.room ∙ sym (ap (λ (x : Setup). x.submit_cap) setup);
+  accepted = kept.accepted ∙ sym accepted;
+  posters = kept.posters;
+  each = λ host p there. (
+      let old = kept.each host p there in
+      record {
+        opened = old.opened ∙ ap (λ (x : Setup). opened_for x q.intake.opened.channel host) (sym setup);
+        room = old.room ∙ sym (ap (λ (x : Setup). x.post_cap) setup);
+        posted = old.posted ∙ sym (ap (filter (is_to host)) posted);
+      });
+  counts_are = record {
+    hosts = kept.counts_are.hosts;
+    each = λ host count there. kept.counts_are.each host count there ∙ sym (ap (λ (xs : List Item). length (filter (is_from host) xs)) accepted);
+  };
+}
+
+-- An item more
+
+module _ (q : SequencerFields) (counts : List ℕ) (x : Item) (kept : IsKept q counts) where
+  one_more : (counts' : List ℕ) → IsNext q.intake.opened.geometry 4 q.intake.accepted x → counts' ≡ slice_set counts x.host (x.serial + 1) → AreCounts (record q { half = accepting q.half x; intake = after_accepting q.intake x }) counts'
+  one_more counts' next set = record {
+    hosts = ap length set ∙ length_set counts x.host (x.serial + 1) ∙ kept.counts_are.hosts;
+    each = λ host count there. elim (same_place host x.host) [
+      | inl e ↦ (
+          let low : x.host < length counts = (let a = next.host in let c = kept.counts_are.hosts in omega arith) in
+          let at = get_within counts x.host low in
+          let here : slice_get counts' host ≡ Some (x.serial + 1) = ap (λ (cs : List ℕ). slice_get cs host) set ∙ ap (slice_get (slice_set counts x.host (x.serial + 1))) e ∙ get_set_same counts x.host at.0 (x.serial + 1) at.1 in
+          let is : count ≡ x.serial + 1 = same_some count (x.serial + 1) (slice_get counts' host) there here in
+          let more : length (filter (is_from x.host) (q.half.accepted ++ x ∷ [])) ≡ length (filter (is_from x.host) q.half.accepted) + 1 = ap length (from_own x.host q.half.accepted x refl) ∙ length-append (filter (is_from x.host) q.half.accepted) (x ∷ []) in
+          let all : length (filter (is_from host) (q.half.accepted ++ x ∷ [])) ≡ length (filter (is_from x.host) (q.half.accepted ++ x ∷ [])) = ap (λ n. length (filter (is_from n) (q.half.accepted ++ x ∷ []))) e in
+          let serial : x.serial ≡ length (filter (is_from x.host) q.half.accepted) = next.serial ∙ ap (λ (xs : List Item). length (filter (is_from x.host) xs)) kept.accepted in
+          omega (arith, is, more, all, serial))
+      | inr d ↦ (
+          let there' : slice_get counts host ≡ Some count = sym (get_set_other counts x.host host (x.serial + 1) d) ∙ sym (ap (λ (cs : List ℕ). slice_get cs host) set) ∙ there in
+          kept.counts_are.each host count there' ∙ sym (ap length (from_other x.host host q.half.accepted x refl d)))
+    ];
+  }
+
+  pub kept_accepting : (counts' : List ℕ) → IsNext q.intake.opened.geometry 4 q.intake.accepted x → counts' ≡ slice_set counts x.host (x.serial + 1) → IsKept (record q { half = accepting q.half x; intake = after_accepting q.intake x }) counts'
+  kept_accepting counts' next set = record {
+    hosts = kept.hosts;
+    opened = kept.opened;
+    room = kept.room;
+    accepted = ap (λ (xs : List Item). xs ++ x ∷ []) kept.accepted;
+    posters = kept.posters;
+    each = λ host p there. (let old = kept.each host p there in record { opened = old.opened; room = old.room; posted = old.posted });
+    counts_are = one_more counts' next set;
+  }
+
+-- A reply more
+
+module _ (q : SequencerFields) (counts : List ℕ) (host : ℕ) (p : PosterView) (r : Reply) (h : HalfState) (kept : IsKept q counts) (at : slice_get q.posters host ≡ Some p) (goes : GoesOut q.half h host r) where
+  abbrev posted_there : SequencerFields
+  posted_there = record q { half = h; posters = slice_set q.posters host (after_posting p r) }
+
+  posted_is : h.posted ≡ q.half.posted ++ r ∷ []
+  posted_is = ap (λ (x : HalfState). x.posted) goes.after
+
+  own_poster : IsPosterFor posted_there host (after_posting p r)
+  own_poster =
+      let old = kept.each host p at in
+      record {
+        opened = old.opened;
+        room = old.room;
+        posted = ap (λ (rs : List Reply). rs ++ r ∷ []) old.posted ∙ sym (to_own host q.half.posted r goes.own) ∙ sym (ap (filter (is_to host)) posted_is);
+      }
+
+  other_poster : (j : ℕ) (p' : PosterView) → j ≢ host → slice_get q.posters j ≡ Some p' → IsPosterFor posted_there j p'
+  other_poster j p' d there =
+      let old = kept.each j p' there in
+      record {
+        opened = old.opened;
+        room = old.room;
+        posted = old.posted ∙ sym (to_other host j q.half.posted r goes.own d) ∙ sym (ap (filter (is_to j)) posted_is);
+      }
+
+  pub kept_posting : IsKept posted_there counts
+  kept_posting = record {
+    hosts = kept.hosts;
+    opened = kept.opened;
+    room = kept.room;
+    accepted = kept.accepted ∙ sym (ap (λ (x : HalfState). x.accepted) goes.after);
+    posters = length_set q.posters host (after_posting p r) ∙ kept.posters;
+    each = λ j p' there. elim (same_place j host) [
+      | inl e ↦ (
+          let here : slice_get (slice_set q.posters host (after_posting p r)) j ≡ Some (after_posting p r) = ap (slice_get (slice_set q.posters host (after_posting p r))) e ∙ get_set_same q.posters host p (after_posting p r) at in
+          let is : after_posting p r ≡ p' = same_some (after_posting p r) p' (slice_get (slice_set q.posters host (after_posting p r)) j) here there in
+          subst (IsPosterFor posted_there j) is (subst (λ n. IsPosterFor posted_there n (after_posting p r)) (sym e) own_poster))
+      | inr d ↦ other_poster j p' d (sym (get_set_other q.posters host j (after_posting p r) d) ∙ there)
+    ];
+    counts_are = record {
+      hosts = kept.counts_are.hosts;
+      each = λ j count there. kept.counts_are.each j count there ∙ sym (ap (λ (x : HalfState). length (filter (is_from j) x.accepted)) goes.after);
+    };
+  }
+
+-- An offer to a poster
+
+pub set_same : {A : Type 0} (xs : List A) (i : ℕ) (x : A) → slice_get xs i ≡ Some x → slice_set xs i x ≡ xs
+set_same [] i x there = refl
+set_same (y ∷ xs) zero x there = (let e : y ≡ x = cc in ap (λ z. z ∷ xs) (sym e))
+set_same (y ∷ xs) (suc i) x there = ap (λ zs. y ∷ zs) (set_same xs i x there)
+
+kept_unposted : (q : SequencerFields) (counts : List ℕ) (host : ℕ) (p : PosterView) (h : HalfState) (p' : PosterView) → IsKept q counts → slice_get q.posters host ≡ Some p → h ≡ q.half → p' ≡ p
+    → IsKept (record q { half = h; posters = slice_set q.posters host p' }) counts
+kept_unposted q counts host p h p' kept at same is =
+    let posters : slice_set q.posters host p' ≡ q.posters = ap (λ (x : PosterView). slice_set q.posters host x) is ∙ set_same q.posters host p at in
+    let back : (let x : SequencerFields = record q { half = h; posters = slice_set q.posters host p' } in x) ≡ q =
+    ap (λ (x : HalfState). let y : SequencerFields = record q { half = x; posters = slice_set q.posters host p' } in y) same ∙ ap (λ (ps : List PosterView). let y : SequencerFields = record q { posters = ps } in y) posters in
+    subst (λ (x : SequencerFields). IsKept x counts) (sym back) kept
+
+pub kept_offered : (q : SequencerFields) (counts : List ℕ) (host : ℕ) (p : PosterView) (o : Offer) (h : HalfState) (p' : PosterView) → IsKept q counts → slice_get q.posters host ≡ Some p → Offered host q.half p o h p'
+    → IsKept (record q { half = h; posters = slice_set q.posters host p' }) counts
+kept_offered q counts host p offer.Posted h p' kept at (r, goes, is) =
+    subst (λ (x : PosterView). IsKept (record q { half = h; posters = slice_set q.posters host x }) counts) (sym is) (kept_posting q counts host p r h kept at goes)
+kept_offered q counts host p offer.Full h p' kept at (same, is, some, saw) = kept_unposted q counts host p h p' kept at same is
+kept_offered q counts host p offer.Nothing h p' kept at (same, is, none) = kept_unposted q counts host p h p' kept at same is
+
+-- What always holds
+
+pub right_is : (q : Seen) (counts : List ℕ) → IsKept q.0 counts → Reaches q.0.setup (channel_of q) → IsRight q
+right_is q counts kept reached =
+    let keeps = promise q.0.setup (channel_of q) (events_reach q.0.setup (channel_of q) reached) in
+    record {
+      accepted = kept.accepted;
+      posters = kept.posters;
+      posted = λ host p there. (kept.each host p there).posted;
+      rightful = keeps.rightful;
+      made = keeps.made;
+      reached = reached;
+    }

@@ -1,0 +1,6 @@
+pub mod Driving
+pub mod Keeping
+pub mod Turning
+pub mod Draining
+pub mod Closing
+pub mod Same

@@ -1,0 +1,9 @@
+use Rattle.onfi_seq.specs.Sequencer.{IsSameChannel, Seen, seen_in}
+use Rattle.onfi_seq.proofs.Keeping.{seen_outside}
+use Rattle.onfi_seq.proofs.Same.{same_by_turn}
+use Rattle.onfi_seq.proofs.sequencer.Sequencer.turn.Goals as goal
+
+pub returns-clause-same : goal.returns-clause-same
+returns-clause-same g c =
+    let new = seen_in g.C.Chip.state c.take_turn-turn.new.self in
+    seen_outside g.C.Chip.state (λ (q : Seen). IsSameChannel q new) _ _ c.self.view_is (same_by_turn _ c.take_turn-turn.result new c.take_turn-turn.ensures)

@@ -1,0 +1,4 @@
+pub mod Driver
+pub mod Sequencer
+pub mod Turned
+pub mod Drained

@@ -1,0 +1,139 @@
+-- What a turn did, and why it did nothing earlier.
+use Rattle.std.specs.Prelude.{◌≡◌, ◌≢◌, ◌⊎◌, ℕ, ◌<◌, ◌≤◌, Bool, true, false, List, [], length, None, Some, slice_get, slice_set}
+use Rattle.onfi_request.specs.declared.reply.Reply.{Reply}
+use Rattle.onfi_request.specs.declared.request.Item.{Item}
+use Rattle.onfi_core.specs.declared.event.Event.TheVariants as event
+use Rattle.onfi_core.specs.declared.outcome.Cause.{Cause}
+use Rattle.onfi_core.specs.declared.outcome.Outcome.{Outcome}
+use Rattle.onfi_core.specs.declared.outcome.Outcome.TheVariants as outcome
+use Rattle.onfi_core.specs.Steps.{GoesOut, Step, accept_refusal, held_for, none_left, taken_next, unanswered, unplanned}
+use Rattle.onfi_core.specs.View.{IsNext, accepting}
+use Rattle.onfi_queue.specs.Ends.{SawEmpty, after_accepting}
+use Rattle.onfi_reply.specs.Ends.{PosterView, SawFull, after_posting}
+use Rattle.onfi_seq.specs.declared.offer.Offer.{Offer}
+use Rattle.onfi_seq.specs.declared.offer.Offer.TheVariants as offer
+use Rattle.onfi_seq.specs.declared.turn.Turn.{Turn}
+use Rattle.onfi_seq.specs.declared.turn.Turn.TheVariants as turn
+use Rattle.onfi_seq.specs.Sequencer.{Seen, channel_of}
+
+-- ---- why nothing earlier was done
+-- nothing goes out to the host: nothing is held for it, or its completion queue was full
+abbrev pub IsPostRefused : Seen → ℕ → Type 0
+IsPostRefused q host = (held_for host q.0.half ≡ []) ⊎ ((p : PosterView) × (slice_get q.0.posters host ≡ Some p) × SawFull p)
+
+-- nothing goes out to any host below that number
+abbrev pub NothingPosts : Seen → ℕ → Type 0
+NothingPosts q hosts = (host : ℕ) → host < hosts → IsPostRefused q host
+
+-- nothing goes out, and the channel goes on
+pub record IsGoing (q : Seen) : Type 0 where
+  pub posts : NothingPosts q 4
+  pub going : q.0.half.stopped ≡ None
+
+-- no item is accepted: 64 are unanswered, or the batch is unplanned, or the submission queue was empty
+abbrev pub WhyNoItem : Seen → Type 0
+WhyNoItem q = (64 ≤ unanswered q.0.half) ⊎ (q.0.half.batch ≤ length (unplanned q.0.setup q.0.half)) ⊎ SawEmpty q.0.intake
+
+-- .. and no item is accepted
+pub record TakesNothing (q : Seen) : Type 0 where
+  pub before : IsGoing q
+  pub items : WhyNoItem q
+
+-- .. and no planning was refused since the last phase while a phase is left
+pub record MayPlan (q : Seen) : Type 0 where
+  pub before : TakesNothing q
+  pub again : (q.0.refused ≡ false) ⊎ (none_left q.0.half ≡ true)
+
+-- nothing is planned: nothing is to be planned, or a planning was refused since the last phase, and a phase is left
+abbrev pub WhyNoPlan : Seen → Type 0
+WhyNoPlan q = (taken_next q.0.setup q.0.half ≡ []) ⊎ ((q.0.refused ≡ true) × (none_left q.0.half ≡ false))
+
+-- nothing goes out, no item is accepted, and nothing is planned
+pub record MayRunPhase (q : Seen) : Type 0 where
+  pub before : TakesNothing q
+  pub plans : WhyNoPlan q
+
+-- .. and nothing is left to run: each accepted item was planned, and all its phases ran
+pub record Rests (q : Seen) : Type 0 where
+  pub before : TakesNothing q
+  pub phases : none_left q.0.half ≡ true
+  pub wants : q.0.half.now.wants ≡ []
+  pub items : unplanned q.0.setup q.0.half ≡ []
+
+-- ---- what was done
+-- the oldest reply that is held for a host went out, and nothing goes out to the hosts below
+pub record Posts (q q' : Seen) : Type 0 where
+  pub host : ℕ
+  pub known : host < 4
+  pub lower : NothingPosts q host
+  pub reply : Reply
+  pub goes : GoesOut q.0.half q'.0.half host reply
+  pub poster : PosterView
+  pub there : slice_get q.0.posters host ≡ Some poster
+  pub after : q' ≡ (record q.0 { half = q'.0.half; posters = slice_set q.0.posters host (after_posting poster reply) }, q.1)
+
+-- the item that waited longest was accepted: it is its host's next, and in range
+pub record Takes (q q' : Seen) : Type 0 where
+  pub before : IsGoing q
+  pub room : accept_refusal q.0.half ≡ None
+  pub few : length (unplanned q.0.setup q.0.half) < q.0.half.batch
+  pub item : Item
+  pub next : IsNext q.0.setup q.0.half item
+  pub after : q' ≡ (record q.0 { half = accepting q.0.half item; intake = after_accepting q.0.intake item }, q.1)
+
+-- a planning came to that, whichever number the channel has; the half alone changed, and what is said of refusals
+pub record PlansTo (q : Seen) (o : Outcome) (refused : Bool) (q' : Seen) : Type 0 where
+  pub may : MayPlan q
+  pub step : (channel : ℕ) → Step q.0.setup (channel_of q) (event.Plan channel) o (channel_of q')
+  pub after : q' ≡ (record q.0 { half = q'.0.half; refused = refused }, q.1)
+
+-- the next phase came to that; half and chip alone changed, and what is said of refusals
+pub record RunsTo (q : Seen) (o : Outcome) (refused : Bool) (q' : Seen) : Type 0 where
+  pub may : MayRunPhase q
+  pub step : (channel : ℕ) → Step q.0.setup (channel_of q) (event.Bus channel) o (channel_of q')
+  pub after : q' ≡ (record q.0 { half = q'.0.half; refused = refused }, q'.1)
+
+-- what each answer of a turn says
+abbrev pub Turned : Seen → Turn → Seen → Type 0
+Turned q turn.Posted q' = Posts q q'
+Turned q (turn.Stopped cause) q' =
+    (NothingPosts q 4 × (q.0.half.stopped ≡ Some cause) × (q' ≡ q))
+    ⊎ PlansTo q (outcome.Stopped cause) q.0.refused q' ⊎ RunsTo q (outcome.Stopped cause) q.0.refused q'
+Turned q turn.Accepted q' = Takes q q'
+Turned q turn.Planned q' = (finish : ℕ) × PlansTo q (outcome.Planned finish) q.0.refused q'
+Turned q (turn.Over opened) q' = PlansTo q (outcome.Over opened) true q'
+Turned q turn.Phase q' = (start : ℕ) × RunsTo q (outcome.Phase start) false q'
+Turned q turn.Memory q' = PlansTo q (outcome.Memory None) true q' ⊎ RunsTo q (outcome.Memory None) q.0.refused q'
+Turned q turn.PostFull q' = Rests q × (q.0.half.held ≢ []) × (q' ≡ q)
+Turned q turn.Idle q' = Rests q × (q.0.half.held ≡ []) × (q' ≡ q)
+
+-- ---- inside a turn
+-- what came of all held replies
+abbrev pub OfferedAll : Seen → Offer → Seen → Type 0
+OfferedAll q offer.Posted q' = Posts q q'
+OfferedAll q offer.Full q' = (q' ≡ q) × NothingPosts q 4 × (q.0.half.held ≢ [])
+OfferedAll q offer.Nothing q' = (q' ≡ q) × NothingPosts q 4 × (q.0.half.held ≡ [])
+
+-- what came of those for one host
+abbrev pub OfferedTo : Seen → ℕ → Offer → Seen → Type 0
+OfferedTo q host offer.Posted q' = NothingPosts q host → Posts q q'
+OfferedTo q host offer.Full q' = (q' ≡ q) × IsPostRefused q host × (held_for host q.0.half ≢ [])
+OfferedTo q host offer.Nothing q' = (q' ≡ q) × IsPostRefused q host × (held_for host q.0.half ≡ [])
+
+-- what is held for the hosts below that number
+abbrev pub HeldBelow : Seen → ℕ → Offer → Type 0
+HeldBelow q hosts offer.Posted = ⊥
+HeldBelow q hosts offer.Full = q.0.half.held ≢ []
+HeldBelow q hosts offer.Nothing = (host : ℕ) → host < hosts → held_for host q.0.half ≡ []
+
+-- how a turn ends where nothing is left to do
+abbrev pub IsRest : Seen → Turn → Type 0
+IsRest q turn.PostFull = q.0.half.held ≢ []
+IsRest q turn.Idle = q.0.half.held ≡ []
+IsRest q turn.Posted = ⊥
+IsRest q (turn.Stopped cause) = ⊥
+IsRest q turn.Accepted = ⊥
+IsRest q turn.Planned = ⊥
+IsRest q (turn.Over opened) = ⊥
+IsRest q turn.Phase = ⊥
+IsRest q turn.Memory = ⊥

@@ -1,0 +1,196 @@
+//! A half with its chip.
+
+ghost use Rattle.std.specs.Prelude.{◌≡◌, ◌⊎◌, ℕ, ◌<◌, ◌≤◌, ◌^◌, false, length, None, Some, IfOk, IfErr, IsTrue};
+ghost use Rattle.std.specs.List.{filter};
+ghost use Rattle.onfi_core.specs.declared.event.Event.TheVariants as event;
+ghost use Rattle.onfi_core.specs.Dues.{IsDue};
+ghost use Rattle.onfi_core.specs.Kept.{first_half};
+ghost use Rattle.onfi_core.specs.Queues.{IsFresh};
+ghost use Rattle.onfi_core.specs.Reaching.{Reaches};
+ghost use Rattle.onfi_core.specs.Refusals.{planned_outcome};
+ghost use Rattle.onfi_core.specs.State.{is_to};
+ghost use Rattle.onfi_core.specs.Steps.{Step, accept_refusal, bus_refusal, unanswered, unplanned};
+ghost use Rattle.onfi_core.specs.View.{IsNext, PlanRefused, accepting};
+ghost use Rattle.onfi_seq.specs.Driver.{Offered, RanTo, channel_in};
+
+use crate::offer::Offer;
+use crate::ran::Ran;
+use onfi_chip::Chip;
+use onfi_core::{AcceptFault, Cause, Due, DueRefusal, Half, PlanRefusal, Setup, cause_of};
+use onfi_lun::{Lanes, Target};
+use onfi_reply::Poster;
+use onfi_request::Item;
+use std::alloc::{AllocError, Global};
+use std::marker::Model;
+use std::sync::Wait;
+
+/// A half with its chip, and the chip's LUNs in their typed phases.
+#[derive(Drop)]
+pub(crate) struct Driver<C: Chip> {
+    half: Half,
+    chip: C,
+    lanes: Lanes,
+}
+
+impl<C: Chip> Model for Driver<C> {
+    ghost use Rattle.onfi_seq.specs.Driver.{DriverView, IsDriven};
+
+    ghost Value = { DriverView C };
+
+    ghost view = { λ d. (record { setup = d.half.setup; half = d.half.state }, d.chip) };
+
+    ghost invariant = { λ d. IsDriven d.half.setup d.half.lent d.half.state (C.state d.chip) d.lanes };
+}
+
+impl<C: Chip> Driver<C> {
+    /// Nothing is accepted yet, and the chip's LUNs are idle.
+    ///
+    /// # Errors
+    /// Want of memory.
+    pub(crate) fn open(alloc: Global, setup: Setup, chip: C) -> Result<Driver<C>, AllocError>
+    where
+        C: Drop,
+        requires { IsFresh setup (C.state chip) }
+        ensures { IfOk result (λ d. d ≡ (record { setup = setup; half = first_half setup }, chip)) }
+    {
+        let half = Half::open(alloc, setup)?;
+        let lanes = Lanes::open(alloc, setup.geometry.lun_count)?;
+        Ok(Driver { half, chip, lanes })
+    }
+
+    /// The half, to look at.
+    pub(crate) fn half(&self) -> &Half
+        ensures half { result.now ≡ record { setup = self.now.0.setup; state = self.now.0.half; lent = None } }
+        ensures reached { Reaches self.now.0.setup (channel_in C.state self.now) }
+    {
+        &self.half
+    }
+
+    /// Why the channel stopped, if it did.
+    pub(crate) fn cause(&self) -> Option<Cause>
+        ensures { result ≡ self.now.0.half.stopped }
+    {
+        match self.half.refuses() {
+            Some(AcceptFault::Stopped(cause)) => Some(cause),
+            Some(AcceptFault::WindowFull) => None,
+            None => None,
+        }
+    }
+
+    /// Whether an item may be accepted: fewer than 64 are unanswered, and fewer than the batch unplanned.
+    pub(crate) fn has_room(&self) -> bool
+        ensures room { IsTrue result → accept_refusal self.now.0.half ≡ None }
+        ensures few { IsTrue result → length (unplanned self.now.0.setup self.now.0.half) < self.now.0.half.batch }
+        ensures none { result ≡ false → self.now.0.half.stopped ≡ None
+            → (64 ≤ unanswered self.now.0.half) ⊎ (self.now.0.half.batch ≤ length (unplanned self.now.0.setup self.now.0.half)) }
+    {
+        match self.half.refuses() {
+            Some(_) => false,
+            None => self.half.wants_item(),
+        }
+    }
+
+    /// Takes an item in. It takes no memory.
+    pub(crate) fn accept(&mut self, item: Item)
+        requires open { accept_refusal self.old.0.half ≡ None }
+        requires next { IsNext self.old.0.setup self.old.0.half item }
+        ensures { self.new ≡ (record self.old.0 { half = accepting self.old.0.half item }, self.old.1) }
+    {
+        self.half.accept(item);
+    }
+
+    /// Sets the batch of later plannings, 1 to 8, and nothing else.
+    pub(crate) fn set_batch(&mut self, batch: u8)
+        requires some { 1 ≤ batch }
+        requires few { batch ≤ 8 }
+        ensures { self.new ≡ (record self.old.0 { half = record self.old.0.half { batch = batch } }, self.old.1) }
+    {
+        self.half.set_batch(batch);
+    }
+
+    /// Plans, and answers when the plan ends, in ns of the channel's clock.
+    ///
+    /// # Errors
+    /// As [`Half::plan`].
+    pub(crate) fn plan(&mut self, alloc: Global) -> Result<u64, PlanRefusal>
+        ensures step { (channel : ℕ) → Step self.old.0.setup (channel_in C.state self.old) (event.Plan channel) (planned_outcome result) (channel_in C.state self.new) }
+        ensures same { self.new ≡ (record self.old.0 { half = self.new.0.half }, self.old.1) }
+        ensures refused { IfErr result (λ refusal. PlanRefused self.old.0.setup self.old.0.half refusal self.new.0.half) }
+        ensures accepted { self.new.0.half.accepted ≡ self.old.0.half.accepted }
+        ensures posted { self.new.0.half.posted ≡ self.old.0.half.posted }
+    {
+        self.half.plan(alloc)
+    }
+
+    /// Runs the undone phase of least start on the chip. Memory is asked for before the chip is called.
+    pub(crate) fn run(&mut self, alloc: Global) -> Ran
+        ensures ran { RanTo self.old.0.setup (channel_in C.state self.old) result (channel_in C.state self.new) }
+        ensures setup { self.new.0.setup ≡ self.old.0.setup }
+        ensures accepted { self.new.0.half.accepted ≡ self.old.0.half.accepted }
+        ensures posted { self.new.0.half.posted ≡ self.old.0.half.posted }
+    {
+        match self.half.due(alloc) {
+            Ok(due) => self.run_due(alloc, due),
+            Err(DueRefusal::Stopped(cause)) => Ran::Stopped(cause),
+            Err(DueRefusal::NoPlan) => Ran::NoPhase,
+        }
+    }
+
+    // Runs the due phase on its LUN, or stops the channel.
+    fn run_due(&mut self, alloc: Global, due: Due) -> Ran
+        requires due { IsDue self.old.0.half due }
+        requires open { bus_refusal self.old.0.half ≡ None }
+        requires time { due.start < 2 ^ 63 }
+        ensures ran { RanTo self.old.0.setup (channel_in C.state self.old) result (channel_in C.state self.new) }
+        ensures setup { self.new.0.setup ≡ self.old.0.setup }
+        ensures accepted { self.new.0.half.accepted ≡ self.old.0.half.accepted }
+        ensures posted { self.new.0.half.posted ≡ self.old.0.half.posted }
+    {
+        let start = due.start;
+        let setup = self.half.setup();
+        let target = Target {
+            geometry: setup.geometry,
+            timing: setup.timing,
+        };
+        let item = self.half.member(&due);
+        match self
+            .lanes
+            .run_due(alloc, &mut self.chip, &target, &due, item)
+        {
+            Ok(ran) => {
+                self.half.done(due, ran, &self.chip);
+                Ran::Phase { start }
+            }
+            Err(fault) => match cause_of(fault, due.lun) {
+                Some(cause) => {
+                    self.half.stop(cause);
+                    Ran::Stopped(cause)
+                }
+                None => Ran::Memory,
+            },
+        }
+    }
+
+    /// Posts the oldest reply that is held for the host, at its poster. It takes no memory.
+    pub(crate) fn post<R: Wait>(&mut self, rt: &R, host: u8, poster: &mut Poster) -> Offer
+        requires host { poster.old.opened.host ≡ host }
+        requires geometry { poster.old.opened.geometry ≡ self.old.0.setup.geometry }
+        requires posted { poster.old.posted ≡ filter (is_to host) self.old.0.half.posted }
+        ensures offered { Offered host self.old.0.half poster.old result self.new.0.half poster.new }
+        ensures same { self.new ≡ (record self.old.0 { half = self.new.0.half }, self.old.1) }
+    {
+        let Some(reply) = self.half.held(host) else {
+            return Offer::Nothing;
+        };
+        match poster.post(rt, reply) {
+            Ok(()) => {
+                self.half.posted(host);
+                Offer::Posted
+            }
+            Err(reply) => {
+                self.half.keep(reply);
+                Offer::Full
+            }
+        }
+    }
+}

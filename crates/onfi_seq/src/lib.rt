@@ -1,0 +1,22 @@
+//! The sequencer of a channel: one thread's loop between the channel's submission queue, its chip and its four completion
+//! queues. Alone, it serves the hosts of one channel over one chip.
+//!
+//! A [`Sequencer`] holds the channel's half, its chip with the typed phases of its LUNs, the intake of the submission queue
+//! and the posters of the four completion queues. Each [`Sequencer::turn`] does one thing, the first that it can, and says
+//! why nothing earlier was done. Hosts submit and collect from other threads meanwhile; no lock stands round the channel.
+#![tactic(auto)]
+
+mod closed;
+mod drained;
+mod driver;
+mod gate;
+mod offer;
+mod ran;
+mod sequencer;
+mod turn;
+
+pub use closed::Closed;
+pub use drained::Drained;
+pub use gate::Gate;
+pub use sequencer::Sequencer;
+pub use turn::Turn;

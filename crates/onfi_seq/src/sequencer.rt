@@ -1,0 +1,134 @@
+//! The sequencer of one channel.
+
+ghost use Rattle.std.specs.Prelude.{◌≡◌, ◌↔◌, ℕ, ◌<◌, ◌≤◌, false, length, IfOk, IsTrue, MatchOption, None, Some};
+ghost use Rattle.onfi_core.specs.Kept.{first_half};
+ghost use Rattle.onfi_core.specs.Queues.{IsFresh};
+ghost use Rattle.onfi_core.specs.Steps.{none_left};
+ghost use Rattle.onfi_core.specs.Unanswered.{unanswered_senders};
+ghost use Rattle.onfi_seq.specs.Sequencer.{AreFreshPosters, IsFreshIntake, IsRight, seen_in};
+
+use crate::driver::Driver;
+use onfi_chip::Chip;
+use onfi_core::Setup;
+use onfi_planner::Planned;
+use onfi_problem::Problem;
+use onfi_queue::Intake;
+use onfi_reply::Poster;
+use std::alloc::{AllocError, Global};
+use std::marker::Model;
+
+mod closing;
+mod draining;
+mod turning;
+
+/// The sequencer of one channel: its half, its chip, the intake of its submission queue and the posters of its four
+/// completion queues. One thread drives it; hosts use their ends from threads of their own meanwhile.
+///
+/// Contracts see the setup, the half's state, the two kinds of ends, whether a planning was refused since the last phase,
+/// and the chip.
+#[derive(Drop)]
+pub struct Sequencer<C: Chip> {
+    driver: Driver<C>,
+    intake: Intake,
+    /// By host.
+    posters: [Poster; 4],
+    /// How many items of each host are accepted.
+    accepted_by: [u64; 4],
+    /// Whether a planning was over, or lacked memory, since the last phase.
+    refused: bool,
+    channel: u8,
+    /// How many turns were begun, at most 2^64 - 1.
+    turns: u64,
+}
+
+impl<C: Chip> Model for Sequencer<C> {
+    ghost use Rattle.onfi_seq.specs.Sequencer.{SequencerView, IsKept};
+
+    ghost Value = { SequencerView C };
+
+    ghost view = { λ q. (
+      record { setup = q.driver.0.setup; half = q.driver.0.half; intake = q.intake; posters = q.posters; refused = q.refused },
+      q.driver.1,
+    ) };
+
+    ghost invariant = { λ q. IsKept
+        (record { setup = q.driver.0.setup; half = q.driver.0.half; intake = q.intake; posters = q.posters; refused = q.refused })
+        q.accepted_by };
+}
+
+impl<C: Chip> Sequencer<C> {
+    /// The sequencer of a channel of a setup with four hosts, over its chip as that opened, with the intake and the posters
+    /// of the channel's queues as those were opened: for the setup's geometry, with its capacities, host h at place h.
+    ///
+    /// # Errors
+    /// Want of memory; chip, intake and posters are dropped then.
+    pub fn open(
+        alloc: Global,
+        setup: Setup,
+        channel: u8,
+        chip: C,
+        intake: Intake,
+        posters: [Poster; 4],
+    ) -> Result<Sequencer<C>, AllocError>
+    where
+        C: Drop,
+        requires hosts { setup.hosts ≡ 4 }
+        requires channel { channel < setup.channels }
+        requires chip { IsFresh setup (C.state chip) }
+        requires intake { IsFreshIntake setup channel intake }
+        requires posters { AreFreshPosters setup channel posters }
+        ensures { IfOk result (λ q. q ≡ (record { setup = setup; half = first_half setup; intake = intake; posters = posters; refused = false }, chip)) }
+    {
+        let driver = Driver::open(alloc, setup, chip)?;
+        Ok(Sequencer {
+            driver,
+            intake,
+            posters,
+            accepted_by: [0; 4],
+            refused: false,
+            channel,
+            turns: 0,
+        })
+    }
+
+    /// What always holds of a sequencer, for a caller's proof; nothing happens.
+    pub fn look(&self)
+        ensures { IsRight (seen_in C.state self.now) }
+    {
+        let _half = self.driver.half();
+    }
+
+    /// The problem and the plan of the last accepting planning; none before one.
+    pub fn last(&self) -> Option<(&Problem, &Planned)>
+        ensures { MatchOption result (self.now.0.half.last ≡ None)
+            (λ r. self.now.0.half.last ≡ Some (record { problem = r.0.now.problem; schedule = r.1.now.schedule; finish = r.1.now.finish; cert = r.1.now.cert.items })) }
+    {
+        self.driver.half().last()
+    }
+
+    /// Sets the batch of later plannings, 1 to 8, and nothing else: a planning that was refused stays so until a phase ran.
+    pub fn set_batch(&mut self, batch: u8)
+        requires some { 1 ≤ batch }
+        requires few { batch ≤ 8 }
+        ensures { self.new ≡ (record self.old.0 { half = record self.old.0.half { batch = batch } }, self.old.1) }
+    {
+        self.driver.set_batch(batch);
+    }
+
+    /// Host and serial of each accepted item without a posted reply, in acceptance order; at most 64.
+    ///
+    /// # Errors
+    /// Want of memory.
+    pub fn unanswered(&self, alloc: Global) -> Result<Vec<(u8, u32)>, AllocError>
+        ensures { IfOk result (λ senders. senders.items ≡ unanswered_senders self.now.0.half) }
+    {
+        self.driver.half().unanswered(alloc)
+    }
+
+    /// Whether a phase of the plan is left, stopped or not.
+    pub fn has_phase(&self) -> bool
+        ensures { IsTrue result ↔ (none_left self.now.0.half ≡ false) }
+    {
+        self.driver.half().has_phase()
+    }
+}

@@ -1,0 +1,128 @@
+//! Draining: turns, with replies taken in before each, until everything is answered.
+
+ghost use Rattle.std.specs.Prelude.{◌≡◌, ◌↔◌, ℕ, ◌<◌, ◌≤◌, length, false, IfSome, IfNone, IsTrue, List, ◌∷◌, Some, slice_get};
+ghost use Rattle.std.specs.List.{filter};
+ghost use Rattle.onfi_core.specs.State.{is_from};
+ghost use Rattle.onfi_queue.specs.Ends.{HostView};
+ghost use Rattle.onfi_seq.specs.declared.turn.Turn.{Turn as ATurn};
+ghost use Rattle.onfi_seq.specs.Drained.{AreAccepted, AreOtherEnds, Drains, EndsAs, HasGrown, HaveGrown, IsAnswered, IsShort};
+ghost use Rattle.onfi_seq.specs.Sequencer.{IsRight, IsSameChannel, seen_in};
+
+use crate::drained::Drained;
+use crate::gate::Gate;
+use crate::sequencer::Sequencer;
+use crate::turn::Turn;
+use onfi_chip::Chip;
+use onfi_queue::Host;
+use onfi_reply::Inbox;
+use std::alloc::{AllocError, Global};
+use std::sync::Wait;
+
+impl<C: Chip> Sequencer<C> {
+    /// Makes turns, at most so many, until all that the hosts sent is accepted and answered, and takes replies in before each,
+    /// so that no queue stays full. Hosts and inboxes are the other ends of the channel's queues, in the order of the hosts'
+    /// numbers. Over and Memory of a turn end it only where no phase is left then.
+    ///
+    /// Behind the last turn it takes in and looks once more, so turns that just suffice give Empty.
+    pub fn drain<R: Wait, G: Gate>(
+        &mut self,
+        rt: &R,
+        alloc: Global,
+        gate: &mut G,
+        hosts: &[Host; 4],
+        inboxes: &mut [Inbox; 4],
+        turns: u64,
+    ) -> Drained
+        requires { AreOtherEnds self.old.0 hosts.now inboxes.old }
+        ensures drains { Drains (seen_in C.state self.old) hosts.now turns result (seen_in C.state self.new) }
+        ensures inboxes { HaveGrown inboxes.old inboxes.new }
+        ensures right { IsRight (seen_in C.state self.new) }
+        ensures same { IsSameChannel (seen_in C.state self.old) (seen_in C.state self.new) }
+    {
+        self.look();
+        let mut made = 0u64;
+        loop {
+            if take_in_all(rt, alloc, inboxes).is_err() {
+                return Drained::Memory;
+            }
+            if let Some(end) = self.end_before_turn(hosts, made, turns) {
+                return end;
+            }
+            let turn = self.turn(rt, alloc, gate);
+            made += 1;
+            if let Some(end) = self.end_of(turn) {
+                return end;
+            }
+        }
+    }
+
+    // How a draining ends where so many of its turns are made, if it does.
+    fn end_before_turn(&self, hosts: &[Host; 4], made: u64, turns: u64) -> Option<Drained>
+        requires { made ≤ turns }
+        ensures some { (answers : List ATurn) → length answers ≡ made → IfSome result (λ end. EndsAs end self.now.0.half hosts.now turns answers) }
+        ensures none { IfNone result (made < turns) }
+    {
+        if self.has_answered(hosts) {
+            return Some(Drained::Empty);
+        }
+        if made >= turns {
+            return Some(Drained::TurnsSpent);
+        }
+        None
+    }
+
+    // Whether all that the hosts sent is accepted, and each accepted item has its reply posted.
+    fn has_answered(&self, hosts: &[Host; 4]) -> bool
+        ensures answered { IsTrue result → IsAnswered self.now.0.half hosts.now }
+        ensures waits { result ≡ false → IsShort self.now.0.half hosts.now }
+    {
+        self.has_accepted(hosts) && self.driver.half().is_answered()
+    }
+
+    // Whether all that the hosts sent is accepted, host by host.
+    fn has_accepted(&self, hosts: &[Host; 4]) -> bool
+        ensures { IsTrue result ↔ AreAccepted self.now.0.half hosts.now }
+    {
+        for host in 0..4usize {
+            if self.accepted_by[host] != hosts[host].sent() {
+                return false;
+            }
+        }
+        true
+    }
+
+    // How a draining ends behind that answer, if it does.
+    fn end_of(&self, turn: Turn) -> Option<Drained>
+        ensures { (hosts : List HostView) (turns : ℕ) (answers : List ATurn) → IfSome result (λ end. EndsAs end self.now.0.half hosts turns (turn ∷ answers)) }
+    {
+        match turn {
+            Turn::Stopped(cause) => Some(Drained::Stopped(cause)),
+            Turn::Over { opened } if !self.has_phase() => Some(Drained::Over { opened }),
+            Turn::Memory if !self.has_phase() => Some(Drained::Memory),
+            _ => None,
+        }
+    }
+}
+
+// Takes in what waits for each host.
+fn take_in_all<R: Wait>(rt: &R, alloc: Global, inboxes: &mut [Inbox; 4]) -> Result<(), AllocError>
+    ensures { HaveGrown inboxes.old inboxes.new }
+{
+    for at in 0..4usize {
+        let inbox = &mut inboxes[at];
+        take_in(rt, alloc, inbox)?;
+    }
+    Ok(())
+}
+
+// Takes in what waits in the inbox's queue, at most as much as a queue holds.
+fn take_in<R: Wait>(rt: &R, alloc: Global, inbox: &mut Inbox) -> Result<(), AllocError>
+    ensures { HasGrown inbox.old inbox.new }
+{
+    for _reply in 0..1024u16 {
+        if !inbox.take_in(rt, alloc)? {
+            break;
+        }
+    }
+    Ok(())
+}

@@ -1,0 +1,159 @@
+//! A turn: the first thing that can be done.
+
+ghost use Rattle.std.specs.Prelude.{◌≡◌, ℕ, ◌<◌, ◌≤◌, false, length, IfSome, IfNone, IsTrue, None, Some, slice_set};
+ghost use Rattle.onfi_core.specs.Steps.{none_left};
+ghost use Rattle.onfi_seq.specs.Sequencer.{IsRight, IsSameChannel, seen_in};
+ghost use Rattle.onfi_seq.specs.Turned.{IsGoing, IsRest, MayRunPhase, NothingPosts, OfferedAll, OfferedTo, TakesNothing, Turned, WhyNoItem, WhyNoPlan};
+
+use crate::gate::Gate;
+use crate::offer::Offer;
+use crate::ran::Ran;
+use crate::sequencer::Sequencer;
+use crate::turn::Turn;
+use onfi_chip::Chip;
+use onfi_core::PlanRefusal;
+use std::alloc::Global;
+use std::sync::Wait;
+
+impl<C: Chip> Sequencer<C> {
+    /// Does the first of these that it can: post the oldest held reply of the lowest host whose queue isn't full; answer
+    /// Stopped; accept one item, while fewer than 64 are unanswered and fewer than the batch unplanned; plan, unless a
+    /// planning was refused as Over or Memory since the last phase and a phase is left; run the next phase. Else it answers
+    /// PostFull where a reply is held, and Idle where none is.
+    ///
+    /// The gate is called once, before all that. Acceptance and post take no memory, a phase asks for its own before the chip
+    /// is called, so a turn that answers Memory has lost no item and made no event.
+    pub fn turn<R: Wait, G: Gate>(&mut self, rt: &R, alloc: Global, gate: &mut G) -> Turn
+        ensures turned { Turned (seen_in C.state self.old) result (seen_in C.state self.new) }
+        ensures right { IsRight (seen_in C.state self.new) }
+        ensures same { IsSameChannel (seen_in C.state self.old) (seen_in C.state self.new) }
+    {
+        gate.before(self.channel, self.turns);
+        self.turns = self.turns.saturating_add(1);
+        let turn = self.take_turn(rt, alloc);
+        self.look();
+        turn
+    }
+
+    // The turn behind its gate.
+    fn take_turn<R: Wait>(&mut self, rt: &R, alloc: Global) -> Turn
+        ensures { Turned (seen_in C.state self.old) result (seen_in C.state self.new) }
+    {
+        match self.post_one(rt) {
+            Offer::Posted => Turn::Posted,
+            Offer::Full => self.serve(rt, alloc, Turn::PostFull),
+            Offer::Nothing => self.serve(rt, alloc, Turn::Idle),
+        }
+    }
+
+    // What is done where nothing goes out; `rest` is the answer where nothing is left to do.
+    fn serve<R: Wait>(&mut self, rt: &R, alloc: Global, rest: Turn) -> Turn
+        requires posts { NothingPosts (seen_in C.state self.old) 4 }
+        requires rest { IsRest (seen_in C.state self.old) rest }
+        ensures { Turned (seen_in C.state self.old) result (seen_in C.state self.new) }
+    {
+        if let Some(cause) = self.driver.cause() {
+            return Turn::Stopped(cause);
+        }
+        if self.accept_one(rt) {
+            return Turn::Accepted;
+        }
+        self.plan_or_run(alloc, rest)
+    }
+
+    // What is done where no item is accepted.
+    fn plan_or_run(&mut self, alloc: Global, rest: Turn) -> Turn
+        requires before { TakesNothing (seen_in C.state self.old) }
+        requires rest { IsRest (seen_in C.state self.old) rest }
+        ensures { Turned (seen_in C.state self.old) result (seen_in C.state self.new) }
+    {
+        match self.plan_once(alloc) {
+            Some(turn) => turn,
+            None => self.run_next(alloc, rest),
+        }
+    }
+
+    // Posts the oldest reply that is held for the lowest host whose queue isn't full.
+    fn post_one<R: Wait>(&mut self, rt: &R) -> Offer
+        ensures { OfferedAll (seen_in C.state self.old) result (seen_in C.state self.new) }
+    {
+        let _half = self.driver.half();
+        let mut held = Offer::Nothing;
+        for host in 0..4u8 {
+            match self.post_to(rt, host) {
+                Offer::Posted => return Offer::Posted,
+                Offer::Full => held = Offer::Full,
+                Offer::Nothing => {}
+            }
+        }
+        held
+    }
+
+    // Posts the oldest reply that is held for the host.
+    fn post_to<R: Wait>(&mut self, rt: &R, host: u8) -> Offer
+        requires { host < 4 }
+        ensures { OfferedTo (seen_in C.state self.old) host result (seen_in C.state self.new) }
+    {
+        let poster = &mut self.posters[usize::from(host)];
+        self.driver.post(rt, host, poster)
+    }
+
+    // Accepts the item that has waited longest, where there is room for one.
+    fn accept_one<R: Wait>(&mut self, rt: &R) -> bool
+        requires { IsGoing (seen_in C.state self.old) }
+        ensures accepted { IsTrue result → Turned (seen_in C.state self.old) Turn.Accepted (seen_in C.state self.new) }
+        ensures none { result ≡ false → (seen_in C.state self.new ≡ seen_in C.state self.old) × WhyNoItem (seen_in C.state self.old) }
+    {
+        if !self.driver.has_room() {
+            return false;
+        }
+        let Some(item) = self.intake.accept(rt) else {
+            return false;
+        };
+        self.accepted_by[usize::from(item.host)] = u64::from(item.serial) + 1;
+        self.driver.accept(item);
+        true
+    }
+
+    // Plans, unless a planning was refused since the last phase and a phase is left.
+    fn plan_once(&mut self, alloc: Global) -> Option<Turn>
+        requires { TakesNothing (seen_in C.state self.old) }
+        ensures some { IfSome result (λ turn. Turned (seen_in C.state self.old) turn (seen_in C.state self.new)) }
+        ensures none { IfNone result ((seen_in C.state self.new ≡ seen_in C.state self.old) × WhyNoPlan (seen_in C.state self.old)) }
+    {
+        if self.refused && self.has_phase() {
+            return None;
+        }
+        match self.driver.plan(alloc) {
+            Ok(_) => Some(Turn::Planned),
+            Err(PlanRefusal::Stopped(cause)) => Some(Turn::Stopped(cause)),
+            Err(PlanRefusal::NothingToPlan) => None,
+            Err(PlanRefusal::Over { opened }) => {
+                self.refused = true;
+                Some(Turn::Over { opened })
+            }
+            Err(PlanRefusal::Memory) => {
+                self.refused = true;
+                Some(Turn::Memory)
+            }
+        }
+    }
+
+    // Runs the next phase; `rest` is the answer where none is left.
+    fn run_next(&mut self, alloc: Global, rest: Turn) -> Turn
+        requires before { MayRunPhase (seen_in C.state self.old) }
+        requires rest { IsRest (seen_in C.state self.old) rest }
+        ensures { Turned (seen_in C.state self.old) result (seen_in C.state self.new) }
+    {
+        let _half = self.driver.half();
+        match self.driver.run(alloc) {
+            Ran::Phase { start: _ } => {
+                self.refused = false;
+                Turn::Phase
+            }
+            Ran::Stopped(cause) => Turn::Stopped(cause),
+            Ran::Memory => Turn::Memory,
+            Ran::NoPhase => rest,
+        }
+    }
+}
