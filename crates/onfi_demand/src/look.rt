@@ -1,6 +1,6 @@
 //! The window bound: phases that start at a time or later and leave some time behind them stand in between.
 
-ghost use Rattle.std.specs.Prelude.{◌≡◌, ℕ, ◌+◌, ◌-◌, ◌*◌, ◌^◌, ◌≤◌, ◌<◌, ◌∷◌, [], max, IsTrue, length};
+ghost use Rattle.std.specs.Prelude.{◌≡◌, ◌↔◌, ℕ, ◌+◌, ◌-◌, ◌*◌, ◌^◌, ◌≤◌, ◌<◌, ◌∷◌, [], max, IsTrue, length};
 ghost use Rattle.onfi_problem.specs.Problem.{Problem as AnyProblem};
 ghost use Rattle.onfi_bound.specs.Bounds.{on_lun, wants_work};
 ghost use Rattle.onfi_demand.specs.Kept.{IsKept};
@@ -160,7 +160,7 @@ impl Window {
 
     /// Whether some phase is within, and what is within reaches `e` ns.
     pub fn reaches(self, problem: &Problem, e: u64) -> bool
-        ensures { IsTrue result → IsWindow problem.now.problem e self.start self.tail }
+        ensures { IsTrue result ↔ IsWindow problem.now.problem e self.start self.tail }
     {
         let length = self.length(problem);
         length >= 1 && e.saturating_sub(self.start).saturating_sub(self.tail) <= length

@@ -1,3 +1,11 @@
+pub mod Views
+pub mod Unique
+pub mod Refusing
+pub mod Refused
+pub mod Marks
+pub mod Yielding
+pub mod Spelled
+pub mod Ahead
 pub mod Sound
 pub mod Keeping
 pub mod Walking

@@ -1,6 +1,6 @@
 -- What is accepted bounds each run.
-use Rattle.std.proofs.Common.{◌≡◌, ◌≢◌, ℕ, zero, suc, ◌+◌, ◌-◌, ◌≤◌, ◌<◌, ◌⊎◌, inl, inr, List, [], ◌∷◌, ◌++◌, length, map, Some, refl, sym, ap, ◌∙◌, subst, arith}
-use Rattle.std.specs.Prelude.{slice_get, slice_index, true, max, ◌==◌}
+use Rattle.std.proofs.Common.{◌≡◌, ◌≢◌, ℕ, zero, suc, ◌+◌, ◌-◌, ◌≤◌, ◌<◌, ◌⊎◌, inl, inr, List, [], ◌∷◌, ◌++◌, length, Some, refl, sym, ap, ◌∙◌, subst, arith}
+use Rattle.std.specs.Prelude.{slice_get, slice_index, true, ◌==◌}
 use Rattle.std.specs.List.{AllByRecursion as All}
 use Rattle.std.proofs.lemmas.Bool.{cases_Bool, eq-eqb, ne_eqb, eqb-true}
 use Rattle.onfi_timing.specs.declared.timing.Timing.{Timing}
@@ -11,21 +11,19 @@ use Rattle.onfi_problem.specs.Problem.{Problem, IsProblem, IsSmall}
 use Rattle.onfi_problem.specs.Moves.{Move, Next, Start, IsMove, AreMoves, move_lun, may_go, placed, after, earliest}
 use Rattle.onfi_problem.proofs.Kept.{kept, kept_small}
 use Rattle.onfi_problem.proofs.Perm.{All-has, All-append, Has-append_cases, Has-append_left, Has-append_right}
-use Rattle.onfi_problem.proofs.Places.{same_place}
-use Rattle.onfi_schedule.specs.Runs.{Step, Run}
-use Rattle.onfi_schedule.specs.Schedule.{Schedule, Legal, Optimal, finish}
+use Rattle.onfi_schedule.specs.Schedule.{finish}
 use Rattle.onfi_schedule.proofs.Exchange.{bus_after}
 use Rattle.onfi_schedule.proofs.Least.{legal_run}
 use Rattle.onfi_check.specs.Ends.{IsLastEnd}
 use Rattle.onfi_demand.specs.Left.{SameLeft, has_left}
-use Rattle.onfi_demand.specs.Demand.{Demand, Meets, Holds, of_luns, asked, length_of}
+use Rattle.onfi_demand.specs.Demand.{Demand, Meets, Holds, of_luns, asked}
 use Rattle.onfi_demand.specs.Asked.{AreRaised}
 use Rattle.onfi_demand.specs.Laws.{Asks, Shows, GivesWay}
 use Rattle.onfi_demand.specs.Kept.{demand_of, IsKept}
 use Rattle.onfi_demand.specs.declared.demand.Demand.{Demand as Kept}
 use Rattle.onfi_demand.proofs.Bounding.{bus_asks, lead_asks, trail_asks, die_asks, end_asks}
 use Rattle.onfi_demand.proofs.Keeping.{kept_asks, left_few, small_same}
-use Rattle.onfi_demand.proofs.Opened.{open_asks, asked_is_met, left_there, same_self}
+use Rattle.onfi_demand.proofs.Opened.{open_asks, asked_is_met, same_self}
 use Rattle.onfi_demand.proofs.Sooner.{move_has}
 use Rattle.onfi_demand.proofs.WindowAsks.{window_asks}
 use Rattle.onfi_known.specs.declared.given.Given.{Given}
@@ -241,7 +239,7 @@ module _ (e : ℕ) (all : List Want) (timing : Timing) (rules : Rules) where
     sound : (p : Problem) (known : List Known) (tokens : List Token) (d : Kept) (behind : List Known) (rest : List Token) → Proves e all p known tokens d behind rest → IsOf p → All Remembered known → Asks e p (demand_of d) × All Remembered behind
     sound _ _ _ _ _ _ (closed p known token d rest c is) o k = (kept_asks p e d (closing_demand p e token) o.problem o.small is (closing_asks p e token o.problem c), k)
     sound _ _ _ _ _ _ (again p known number d rest (r, at, is, meets, same)) o k = (again_asks p r d o (get_each Remembered known number r k at) is meets same, k)
-    sound _ _ _ _ _ _ (opened p known width more moves asks given r d middle rest are some wide children is needs same) o k =
+    sound _ _ _ _ _ _ (opened p known width more moves asks given r d middle rest are some wide children fit is needs same) o k =
         let f = sound_children p moves moves known more asks given middle rest children o are (λ m h. h) k in
         let a = kept_asks p e d (of_luns (with_yields asks given)) o.problem o.small needs (node_asks p moves asks given o are some f.0) in
         (a, All-append Remembered middle (r ∷ []) f.1 (remember p r d (times_of r) o is same a, tt))
@@ -258,7 +256,7 @@ module _ (e : ℕ) (all : List Want) (timing : Timing) (rules : Rules) where
         (subst (λ xs. Facts p moves xs asks (before ++ y ∷ [])) (sym is) (one_yield p moves firsts m asks before y f.0 may), f.1)
 
 pub proved_is_optimal : ProvedLaw
-proved_is_optimal all p s tokens ip small lg (d, behind, proves) = record {
+proved_is_optimal all p s tokens ip small lg (d, behind, proves, few) = record {
   legal = lg;
   least = λ other lg'.
       let r = legal_run p other ip lg' in

@@ -1,13 +1,13 @@
 -- How the token, the child or the tree that was read tells of the whole.
-use Rattle.std.proofs.Common.{◌≡◌, ◌≢◌, ℕ, ◌+◌, ◌-◌, ◌≤◌, ◌<◌, List, [], ◌∷◌, ◌++◌, length, map, take, drop, get_or, Some, refl, sym, ap, ◌∙◌, subst, arith}
-use Rattle.std.specs.Prelude.{Option, None, Result, Ok, Err, OnOk, IfOk, slice_index, slice_index_or, max}
+use Rattle.std.proofs.Common.{◌≡◌, ◌≢◌, ℕ, zero, suc, ◌+◌, ◌≤◌, ◌<◌, List, [], ◌∷◌, ◌++◌, length, take, get_or, Some, refl, sym, ap, ◌∙◌, subst, arith}
+use Rattle.std.specs.Prelude.{Option, Result, Ok, Err, OnOk, IfOk, slice_index, max}
 use Rattle.std.specs.List.{AllByRecursion as All}
 use Rattle.std.proofs.lemmas.List.{map-append, take_more, take_all}
 use Rattle.onfi_request.specs.declared.want.Want.{Want}
 use Rattle.onfi_problem.specs.Problem.{Problem}
-use Rattle.onfi_problem.specs.Moves.{Move, IsMove, AreMoves, move_lun, may_go, after, earliest}
+use Rattle.onfi_problem.specs.Moves.{Move, AreMoves, move_lun, may_go, after, earliest}
 use Rattle.onfi_problem.specs.declared.moves.Move.{Move as KeptMove}
-use Rattle.onfi_problem.specs.Position.{Position, move_of, moves_of, moved}
+use Rattle.onfi_problem.specs.Position.{Position, move_of, moves_of}
 use Rattle.onfi_check.specs.Ends.{AreLastEnds, IsLastEnd}
 use Rattle.onfi_check.proofs.OneList.{map_length}
 use Rattle.onfi_demand.specs.Asked.{AreRaised, GoesOn, IsStep, asked_by}
@@ -22,7 +22,13 @@ use Rattle.onfi_known.specs.declared.known.Known.{Known}
 use Rattle.onfi_known.specs.declared.standing.Standing.{Standing}
 use Rattle.onfi_known.specs.declared.token.Token.{Token}
 use Rattle.onfi_known.specs.declared.token.Token.TheVariants.{Branch, Yield, Again}
-use Rattle.onfi_known.specs.Proves.{Describes, IsAgain, times_of, MayYield, with_yields, Proves, Children, Remembers, Yielded, Below, Grows, closed, again, opened, none, tree, yielded}
+use Rattle.onfi_known.specs.Proves.{FitTimes, IsAgain, times_of, MayYield, with_yields, Proves, Children, Remembers, Yielded, Below, Grows, again, opened, tree, yielded}
+
+-- what all have, that at a place has
+pub at_place : {A : Type 0} (P : A → Type 0) (xs : List A) (i : ℕ) (d : A) → i < length xs → All P xs → P (get_or xs i d)
+at_place P [] i d h all = absurd (omega arith)
+at_place P (x ∷ xs) zero d h all = all.0
+at_place P (x ∷ xs) (suc i) d h all = at_place P xs i d (omega arith) all.1
 
 -- a yield was read
 pub yield_grows : (e : ℕ) (all : List Want) (p : Problem) (moves : List Move) (m : Move) (before behind : Standing) (known : List Known) (ends : List (Option ℕ)) (own lun n : ℕ) (token : Token) (tokens left : List Token) → token ≡ Yield lun → n ≡ lun → n < 8 → own ≡ move_lun m → tokens ≡ token ∷ left → AreLastEnds p moves ends → behind.asked ≡ before.asked → Yielded p ends before.given.items own n behind.given.items → Grows e all p moves m before known tokens behind known left
@@ -71,12 +77,12 @@ pub children_all : (e : ℕ) (x : Position) (items : List KeptMove) (i : ℕ) (a
 children_all e x items i asks given first known begun left h children = subst (λ z. Children e x.all x.problem (moves_of x.groups items) (moves_of x.groups z) first begun asks given known left) (take_all i items h) children
 
 -- a branch was read
-pub branch_proves : (e : ℕ) (x : Position) (items : List KeptMove) (width : ℕ) (s : Standing) (times : List ℕ) (first known known' : List Known) (tokens left : List Token) (d : Kept) → AreMoves x.problem (moves_of x.groups items) → length items ≡ width → 1 ≤ width → Children e x.all x.problem (moves_of x.groups items) (moves_of x.groups items) first tokens s.asked s.given.items known left → ((lun : ℕ) → lun < 8 → slice_index times lun ≡ with_yields s.asked s.given.items lun) → Remembers x.all x.problem times known known' d → Proves e x.all x.problem first (Branch width ∷ tokens) d known' left
-branch_proves e x items width s times first known known' tokens left d are wide some children needs r =
+pub branch_proves : (e : ℕ) (x : Position) (items : List KeptMove) (width : ℕ) (s : Standing) (times : List ℕ) (first known known' : List Known) (tokens left : List Token) (d : Kept) → AreMoves x.problem (moves_of x.groups items) → length items ≡ width → 1 ≤ width → Children e x.all x.problem (moves_of x.groups items) (moves_of x.groups items) first tokens s.asked s.given.items known left → ((lun : ℕ) → lun < 8 → slice_index times lun ≡ with_yields s.asked s.given.items lun) → FitTimes s.asked s.given.items → Remembers x.all x.problem times known known' d → Proves e x.all x.problem first (Branch width ∷ tokens) d known' left
+branch_proves e x items width s times first known known' tokens left d are wide some children needs fit r =
     let long = map_length x items in
     let k : IsKept d (of_luns (with_yields s.asked s.given.items)) = record { bus = r.bus; luns = λ l h. ap (λ z. slice_index z l) r.luns ∙ needs l h } in
     let k' : IsKept d (times_of r.node) = record { bus = r.bus; luns = λ l h. ap (λ z. slice_index z l) (r.luns ∙ sym r.times_are) } in
-    let proves = opened x.problem first width tokens (moves_of x.groups items) s.asked s.given.items r.node d known left are (omega arith) (omega arith) children r.describes k k' in
+    let proves = opened x.problem first width tokens (moves_of x.groups items) s.asked s.given.items r.node d known left are (omega arith) (omega arith) children fit r.describes k k' in
     subst (λ z. Proves e x.all x.problem first (Branch width ∷ tokens) d z left) (sym r.grown) proves
 
 pub on_ok : {A P : Type 0} (r : Result A KnownFault) → P → OnOk r P

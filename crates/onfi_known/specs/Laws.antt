@@ -1,5 +1,5 @@
 -- What certificates that remember states show.
-use Rattle.std.specs.Prelude.{◌≡◌, ℕ, List, []}
+use Rattle.std.specs.Prelude.{List}
 use Rattle.onfi_request.specs.declared.want.Want.{Want}
 use Rattle.onfi_problem.specs.Problem.{Problem, IsProblem, IsSmall}
 use Rattle.onfi_schedule.specs.Schedule.{Schedule, Legal, Optimal, finish}

@@ -1,8 +1,7 @@
 -- Certificates that remember states: which tokens are accepted, and what each node asks for and leaves to be remembered.
-use Rattle.std.specs.Prelude.{◌≡◌, ◌≢◌, ℕ, ◌+◌, ◌-◌, ◌<◌, ◌≤◌, ◌==◌, max, if◌then◌else◌, List, [], ◌∷◌, ◌++◌, length, map, Option, Some, None, slice_get, slice_index, slice_index_or}
+use Rattle.std.specs.Prelude.{◌<◌, ◌^◌, ◌≡◌, ◌≢◌, ℕ, ◌+◌, ◌-◌, ◌≤◌, ◌==◌, max, if◌then◌else◌, List, [], ◌∷◌, ◌++◌, length, map, Option, Some, None, slice_get, slice_index, slice_index_or}
 use Rattle.std.specs.List.{AllByRecursion as Each}
 use Rattle.onfi_request.specs.declared.want.Want.{Want}
-use Rattle.onfi_group.specs.Words.{Has}
 use Rattle.onfi_problem.specs.Problem.{Problem}
 use Rattle.onfi_problem.specs.Moves.{Move, AreMoves, move_lun, may_go, after}
 use Rattle.onfi_problem.specs.Position.{waiting_of}
@@ -11,12 +10,13 @@ use Rattle.onfi_demand.specs.Asked.{AreRaised}
 use Rattle.onfi_demand.specs.Left.{left_on}
 use Rattle.onfi_demand.specs.Work.{left_of}
 use Rattle.onfi_demand.specs.Demand.{Demand, Meets, of_luns}
-use Rattle.onfi_demand.specs.Kept.{demand_of, IsKept}
+use Rattle.onfi_demand.specs.Kept.{IsKept}
 use Rattle.onfi_demand.specs.declared.demand.Demand.{Demand as Kept}
 use Rattle.onfi_known.specs.declared.given.Given.{Given}
 use Rattle.onfi_known.specs.declared.known.Known.{Known}
 use Rattle.onfi_known.specs.declared.standing.Standing.{Standing}
 use Rattle.onfi_known.specs.declared.token.Token.{Token}
+use Rattle.onfi_known.specs.declared.token.TheConstants.{MOST_KNOWN}
 use Rattle.onfi_known.specs.declared.token.Token.TheVariants.{Branch, Yield, Again}
 use Rattle.onfi_known.specs.Closing.{Closes, closing_demand}
 
@@ -49,12 +49,16 @@ abbrev pub with_yields : List ℕ → List Given → ℕ → ℕ
 with_yields asked [] lun = slice_index asked lun
 with_yields asked (y ∷ given) lun = if lun == y.own then max (slice_index asked y.lun + y.longest) (with_yields asked given lun) else with_yields asked given lun
 
+-- .. and that is a number of 64 bits
+abbrev pub FitTimes : List ℕ → List Given → Type 0
+FitTimes asked given = (lun : ℕ) → lun < 8 → with_yields asked given lun < 2 ^ 64
+
 mutual
   -- tokens begin with the accepted tree of a node: what was known before it, what it asks for, what is known behind it, and the tokens left
   pub data Proves (e : ℕ) (all : List Want) : Problem → List Known → List Token → Kept → List Known → List Token → Type 0 where
     closed : (p : Problem) (known : List Known) (token : Token) (d : Kept) (rest : List Token) → Closes p e token → IsKept d (closing_demand p e token) → Proves e all p known (token ∷ rest) d known rest
     again : (p : Problem) (known : List Known) (number : ℕ) (d : Kept) (rest : List Token) → IsAgain all p known number d → Proves e all p known (Again number ∷ rest) d known rest
-    opened : (p : Problem) (known : List Known) (width : ℕ) (tokens : List Token) (moves : List Move) (asks : List ℕ) (given : List Given) (k : Known) (d : Kept) (behind : List Known) (rest : List Token) → AreMoves p moves → 1 ≤ length moves → width ≡ length moves → Children e all p moves moves known tokens asks given behind rest → Describes all k p → IsKept d (of_luns (with_yields asks given)) → IsKept d (times_of k) → Proves e all p known (Branch width ∷ tokens) d (behind ++ k ∷ []) rest
+    opened : (p : Problem) (known : List Known) (width : ℕ) (tokens : List Token) (moves : List Move) (asks : List ℕ) (given : List Given) (k : Known) (d : Kept) (behind : List Known) (rest : List Token) → AreMoves p moves → 1 ≤ length moves → width ≡ length moves → Children e all p moves moves known tokens asks given behind rest → FitTimes asks given → Describes all k p → IsKept d (of_luns (with_yields asks given)) → IsKept d (times_of k) → Proves e all p known (Branch width ∷ tokens) d (behind ++ k ∷ []) rest
 
   -- .. with accepted children of the first of a node's moves: what they ask for, and which yield
   pub data Children (e : ℕ) (all : List Want) : Problem → List Move → List Move → List Known → List Token → List ℕ → List Given → List Known → List Token → Type 0 where
@@ -62,9 +66,9 @@ mutual
     tree : (p : Problem) (moves firsts more : List Move) (m : Move) (known : List Known) (tokens : List Token) (asks raised : List ℕ) (given : List Given) (middle : List Known) (left : List Token) (d : Kept) (behind : List Known) (rest : List Token) → more ≡ firsts ++ m ∷ [] → Children e all p moves firsts known tokens asks given middle left → Proves e all (after p m) middle left d behind rest → AreRaised p m d asks raised → Children e all p moves more known tokens raised given behind rest
     yielded : (p : Problem) (moves firsts more : List Move) (m : Move) (known : List Known) (tokens : List Token) (asks : List ℕ) (given : List Given) (y : Given) (behind : List Known) (rest : List Token) → more ≡ firsts ++ m ∷ [] → Children e all p moves firsts known tokens asks given behind (Yield y.lun ∷ rest) → MayYield p moves given m y → Children e all p moves more known tokens asks (given ++ y ∷ []) behind rest
 
--- the tokens are those of one accepted tree, with nothing behind them and nothing known before
+-- the tokens are those of one accepted tree, with nothing behind them and nothing known before, and no more nodes are remembered than may be
 abbrev pub ProvesTokens : List Want → List Token → Problem → ℕ → Type 0
-ProvesTokens all tokens p e = (d : Kept) × (behind : List Known) × Proves e all p [] tokens d behind []
+ProvesTokens all tokens p e = (d : Kept) × (behind : List Known) × Proves e all p [] tokens d behind [] × (length behind ≤ MOST_KNOWN)
 
 -- the node is remembered with these times, which it asks for
 pub record Remembers (all : List Want) (p : Problem) (times : List ℕ) (before behind : List Known) (d : Kept) : Type 0 where

@@ -1,12 +1,17 @@
-ghost use Rattle.std.specs.Prelude.{◌≡◌, ◌↔◌, IfOk};
+ghost use Rattle.std.specs.Prelude.{◌≡◌, ◌↔◌, IfOk, IfErr, List};
 ghost use Rattle.onfi_schedule.specs.Schedule.{Legal, Optimal, finish};
+ghost use Rattle.onfi_known.specs.Faults.{IsKnownFault, IsTextFault};
 ghost use Rattle.onfi_known.specs.Proves.{ProvesTokens};
+ghost use Rattle.onfi_known.specs.Text.{IsCertificate};
+ghost use Rattle.onfi_known.specs.declared.token.Token.{Token as OneToken};
 
-use crate::fault::KnownFault;
+use crate::fault::{KnownFault, KnownTextFault};
+use crate::header::header_of;
 use crate::numbered::Numbered;
 use crate::source::TokenSource;
 use crate::token::Token;
 use crate::token_list::TokenList;
+use crate::tokens::Tokens;
 use crate::walk::read_whole;
 use onfi_problem::Problem;
 use onfi_schedule::{Schedule, finish, legal};
@@ -20,8 +25,9 @@ fn check_source<S: TokenSource>(
     tokens: &mut Numbered<S>,
 ) -> Result<u64, KnownFault>
     ensures optimal { IfOk result (λ e. Optimal problem.now.problem schedule.now × (finish problem.now.problem schedule.now ≡ e)) }
-    ensures illegal { (Legal problem.now.problem schedule.now → ⊥) → result ≡ Err KnownFault.Illegal }
     ensures accepted { IfOk result (λ e. ProvesTokens problem.now.all (S.left tokens.old.source) problem.now.problem e) }
+    ensures fault { IfErr result (IsKnownFault problem.now.all problem.now.problem schedule.now (S.left tokens.old.source)) }
+    ensures behind { S.behind tokens.new.source ≡ S.behind tokens.old.source }
 {
     if !legal(problem, schedule) {
         return Err(KnownFault::Illegal);
@@ -40,8 +46,8 @@ fn check_source<S: TokenSource>(
 /// who bounds the tokens bounds the memory.
 ///
 /// # Errors
-/// `Illegal` where the schedule isn't legal. Else `Memory` where the memory for a copy of the problem or for the
-/// records was refused, or the first fault of the tokens in reading order.
+/// `Illegal` exactly where the schedule isn't legal. Else `Memory` where the memory for a copy of the problem or for the
+/// records was refused. Else the first fault of the tokens in reading order, only where they aren't accepted.
 pub fn check_known(
     alloc: Global,
     problem: &Problem,
@@ -49,9 +55,46 @@ pub fn check_known(
     tokens: &[Token],
 ) -> Result<u64, KnownFault>
     ensures optimal { IfOk result (λ e. Optimal problem.now.problem schedule.now × (finish problem.now.problem schedule.now ≡ e)) }
-    ensures illegal { (Legal problem.now.problem schedule.now → ⊥) → result ≡ Err KnownFault.Illegal }
     ensures accepted { IfOk result (λ e. ProvesTokens problem.now.all tokens.now problem.now.problem e) }
+    ensures illegal { (result ≡ Err KnownFault.Illegal) ↔ (Legal problem.now.problem schedule.now → ⊥) }
+    ensures fault { IfErr result (IsKnownFault problem.now.all problem.now.problem schedule.now tokens.now) }
 {
     let mut tokens = Numbered::of(TokenList::new(tokens));
     check_source(alloc, problem, schedule, &mut tokens)
+}
+
+/// The same by the text of a certificate: a fault of the text is told before all others, so behind another fault the
+/// text is read on to its end. No list of tokens is built.
+///
+/// # Errors
+/// `Header` where the text begins with neither header line. Else `BadToken` where the text is no certificate, with the
+/// place of the first word that is no token, or with the number of good tokens where the text doesn't end behind them
+/// with one LF. Else `Option` where its header names another option than the problem's rules have. Else `Cert` with what
+/// `check_known` tells of its tokens.
+pub fn check_known_text(
+    alloc: Global,
+    problem: &Problem,
+    schedule: &Schedule,
+    text: &[u8],
+) -> Result<u64, KnownTextFault>
+    ensures optimal { IfOk result (λ e. Optimal problem.now.problem schedule.now × (finish problem.now.problem schedule.now ≡ e)) }
+    ensures accepted { IfOk result (λ e. (tokens : List OneToken) × IsCertificate text.now problem.now.problem.rules.strict tokens × ProvesTokens problem.now.all tokens problem.now.problem e) }
+    ensures fault { IfErr result (IsTextFault problem.now.all problem.now.problem schedule.now text.now) }
+{
+    let Some((strict, bytes)) = header_of(text) else {
+        return Err(KnownTextFault::Header);
+    };
+    let mut tokens = Numbered::of(Tokens::new(bytes));
+    let checked = check_source(alloc, problem, schedule, &mut tokens);
+    tokens.read_on();
+    if !tokens.source.is_at_end() {
+        return Err(KnownTextFault::BadToken(tokens.place));
+    }
+    if strict != problem.rules().strict {
+        return Err(KnownTextFault::Option);
+    }
+    match checked {
+        Ok(e) => Ok(e),
+        Err(fault) => Err(KnownTextFault::Cert(fault)),
+    }
 }

@@ -1,10 +1,13 @@
 //! Tokens that close a node.
 
-ghost use Rattle.std.specs.Prelude.{◌≡◌, IsTrue, IfOk, IfErr, Some, slice_get};
+ghost use Rattle.std.specs.Prelude.{◌≡◌, ◌<◌, ◌↔◌, IsTrue, IfOk, IfErr, Some, slice_get};
+ghost use Rattle.onfi_group.specs.Words.{Pairs};
 ghost use Rattle.onfi_problem.specs.Moves.{IsDone};
 ghost use Rattle.onfi_demand.specs.Demand.{Meets};
 ghost use Rattle.onfi_demand.specs.Kept.{IsKept};
+ghost use Rattle.onfi_demand.specs.declared.demand.Demand.{Demand as OneDemand};
 ghost use Rattle.onfi_known.specs.Closing.{Closes, closing_demand};
+ghost use Rattle.onfi_known.specs.Faults.{IsOfTokens};
 ghost use Rattle.onfi_known.specs.Proves.{Describes, IsAgain, times_of};
 ghost use Rattle.onfi_known.specs.declared.known.Known.{Known as OneKnown};
 
@@ -17,14 +20,14 @@ use onfi_problem::Problem;
 
 // Whether nothing is left and so much time has passed.
 fn is_over(problem: &Problem, e: u64) -> bool
-    ensures { IsTrue result → Closes problem.now.problem e Token.End }
+    ensures { IsTrue result ↔ Closes problem.now.problem e Token.End }
 {
     problem.bus_free() >= e && problem.steps().is_empty()
 }
 
 /// Whether a token's bound reaches the finish `e`, in ns.
 pub(crate) fn closes(problem: &Problem, token: &Token, e: u64) -> bool
-    ensures { IsTrue result → Closes problem.now.problem e token.now }
+    ensures { IsTrue result ↔ Closes problem.now.problem e token.now }
 {
     match *token {
         Token::Bus => reaches(problem, Bound::Bus, e),
@@ -54,7 +57,9 @@ fn asks(problem: &Problem, token: &Token, e: u64) -> Demand
 }
 
 // What speaks against a token that closes no node, told at that place.
-fn closing_fault(token: Token, place: usize) -> KnownFault {
+fn closing_fault(token: Token, place: usize) -> KnownFault
+    ensures { IsOfTokens result }
+{
     match token {
         Token::Yield(_) => KnownFault::YieldNoFit(place),
         Token::End => KnownFault::NotEnd(place),
@@ -69,7 +74,9 @@ pub(crate) fn read_closing(
     token: Token,
     place: usize,
 ) -> Result<Demand, KnownFault>
-    ensures { IfOk result (λ d. Closes problem.now.problem e token × IsKept d (closing_demand problem.now.problem e token)) }
+    ensures ok { IfOk result (λ d. Closes problem.now.problem e token × IsKept d (closing_demand problem.now.problem e token)) }
+    ensures err { IfErr result (λ _. Closes problem.now.problem e token → ⊥) }
+    ensures kind { IfErr result IsOfTokens }
 {
     if closes(problem, &token, e) {
         Ok(asks(problem, &token, e))
@@ -85,7 +92,10 @@ pub(crate) fn read_again(
     number: u32,
     place: usize,
 ) -> Result<Demand, KnownFault>
-    ensures { IfOk result (λ d. IsAgain problem.now.all problem.now.problem known.now number d) }
+    requires { Pairs (λ a b. a.id < b.id) problem.now.all }
+    ensures ok { IfOk result (λ d. IsAgain problem.now.all problem.now.problem known.now number d) }
+    ensures err { IfErr result (λ _. (d : OneDemand) → IsAgain problem.now.all problem.now.problem known.now number d → ⊥) }
+    ensures kind { IfErr result IsOfTokens }
 {
     let Some(node) = known.get(number as usize) else {
         return Err(KnownFault::Unknown(place));

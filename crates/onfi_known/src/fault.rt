@@ -43,3 +43,22 @@ pub enum KnownFault {
     #[error("token {0} opens one node too many")]
     TooMany(usize),
 }
+
+/// Why the text of a certificate that remembers states doesn't show that no legal schedule ends sooner, in the order in
+/// which they are told.
+#[derive(Clone, Copy, Debug, PartialEq, Eq, Error)]
+pub enum KnownTextFault {
+    /// The text begins with neither header line.
+    #[error("the header line is none of a certificate that remembers states")]
+    Header,
+    /// No token stands at this place, counted from 0; or so many good tokens stand there and the text doesn't end with
+    /// one LF behind them.
+    #[error("no token at place {0}")]
+    BadToken(usize),
+    /// Its header names another option than the problem has.
+    #[error("the header names another option than the problem has")]
+    Option,
+    /// Its tokens don't show it, or the schedule is illegal, or memory was refused.
+    #[error("{0}")]
+    Cert(KnownFault),
+}

@@ -1,6 +1,7 @@
 //! What is remembered of nodes.
 
-ghost use Rattle.std.specs.Prelude.{◌≡◌, ◌≤◌, ℕ, IsTrue, length, map, []};
+ghost use Rattle.std.specs.Prelude.{◌≡◌, ◌≤◌, ◌<◌, ◌↔◌, ℕ, IsTrue, length, map, take, []};
+ghost use Rattle.onfi_group.specs.Words.{Pairs};
 ghost use Rattle.onfi_demand.specs.Demand.{Meets};
 ghost use Rattle.onfi_demand.specs.Left.{left_on, Rest};
 ghost use Rattle.onfi_demand.specs.Work.{left_of};
@@ -33,11 +34,14 @@ fn list_left(problem: &Problem, luns: &mut ArrayVec<LunLeft, 8>)
     }
 }
 
-// Whether marks are the same.
-fn are_same(marks: &[bool; 8], others: &[bool; 8]) -> bool
-    ensures { IsTrue result → marks.now ≡ others.now }
+// Whether the first marks are the same.
+fn are_same(marks: &[bool; 8], others: &[bool; 8], count: usize) -> bool
+    requires { count ≤ 8 }
+    ensures same { IsTrue result ↔ (take count marks.now ≡ take count others.now) }
+    ensures marks { length marks.now ≡ 8 }
+    ensures others { length others.now ≡ 8 }
 {
-    for i in 0..8usize {
+    for i in 0..count {
         if marks[i] != others[i] {
             return false;
         }
@@ -47,7 +51,7 @@ fn are_same(marks: &[bool; 8], others: &[bool; 8]) -> bool
 
 // Whether the same is left of what two LUNs do.
 fn is_same(one: LunLeft, other: LunLeft) -> bool
-    ensures { IsTrue result → left_of one ≡ left_of other }
+    ensures { IsTrue result ↔ (left_of one ≡ left_of other) }
 {
     match one {
         LunLeft::Idle => matches!(other, LunLeft::Idle),
@@ -61,7 +65,7 @@ fn is_same(one: LunLeft, other: LunLeft) -> bool
 
 // Whether so much of a group is left.
 fn is_rest(left: LunLeft, kind: Kind, members: u8, next: u8) -> bool
-    ensures { IsTrue result → Rest kind members next ≡ left_of left }
+    ensures { IsTrue result ↔ (Rest kind members next ≡ left_of left) }
 {
     match left {
         LunLeft::Idle => false,
@@ -75,7 +79,7 @@ fn is_rest(left: LunLeft, kind: Kind, members: u8, next: u8) -> bool
 
 // Whether the same is left, LUN by LUN.
 fn are_alike(lefts: &[LunLeft], others: &[LunLeft]) -> bool
-    ensures { IsTrue result → map left_of lefts.now ≡ map left_of others.now }
+    ensures { IsTrue result ↔ (map left_of lefts.now ≡ map left_of others.now) }
 {
     if lefts.len() != others.len() {
         return false;
@@ -90,7 +94,7 @@ fn are_alike(lefts: &[LunLeft], others: &[LunLeft]) -> bool
 
 // Whether this is what is left of what each LUN of a problem does.
 fn are_left(problem: &Problem, luns: &[LunLeft]) -> bool
-    ensures { IsTrue result → map left_of luns.now ≡ map left_on problem.now.problem.luns }
+    ensures { IsTrue result ↔ (map left_of luns.now ≡ map left_on problem.now.problem.luns) }
 {
     let mut own = ArrayVec::new();
     list_left(problem, &mut own);
@@ -115,14 +119,16 @@ impl Known {
 
     /// Whether the same is left to a problem.
     pub fn describes(&self, problem: &Problem) -> bool
-        ensures { IsTrue result → Describes problem.now.all self.now problem.now.problem }
+        requires { Pairs (λ a b. a.id < b.id) problem.now.all }
+        ensures { IsTrue result ↔ Describes problem.now.all self.now problem.now.problem }
     {
-        are_same(&self.waiting, problem.waiting()) && are_left(problem, self.luns.as_slice())
+        let count = problem.wants().len();
+        are_same(&self.waiting, problem.waiting(), count) && are_left(problem, self.luns.as_slice())
     }
 
     /// Whether a problem goes on no sooner.
     pub fn is_met(&self, problem: &Problem) -> bool
-        ensures { IsTrue result → Meets problem.now.problem (times_of self.now) }
+        ensures { IsTrue result ↔ Meets problem.now.problem (times_of self.now) }
     {
         let _limits = problem.bus_free();
         let count = problem.lun_count();

@@ -22,11 +22,19 @@ impl<S: TokenSource> Numbered<S> {
     /// The next token and its place, or None where no token is left.
     pub fn take(&mut self) -> Option<(Token, usize)>
         ensures token { IfSome result (λ r. S.left self.old.source ≡ r.0 ∷ S.left self.new.source) }
-        ensures end { IfNone result (S.left self.old.source ≡ []) }
+        ensures end { IfNone result ((S.left self.old.source ≡ []) × (S.left self.new.source ≡ [])) }
+        ensures behind { S.behind self.new.source ≡ S.behind self.old.source }
     {
         let token = self.source.next()?;
         let place = self.place;
         self.place = place.saturating_add(1);
         Some((token, place))
+    }
+    /// Takes the tokens that are left.
+    pub fn read_on(&mut self)
+        ensures left { S.left self.new.source ≡ [] }
+        ensures behind { S.behind self.new.source ≡ S.behind self.old.source }
+    {
+        while self.take().is_some() {}
     }
 }

@@ -1,12 +1,14 @@
 //! How the LUNs of a node stand while its children are read.
 
-ghost use Rattle.std.specs.Prelude.{◌≡◌, ◌≢◌, ◌≤◌, ◌<◌, ◌∷◌, ◌++◌, ℕ, [], false, List, IfSome, IsTrue, OnOk, IfOk, length, slice_index, slice_index_or, None, Some};
+ghost use Rattle.std.specs.Prelude.{◌≡◌, ◌≢◌, ◌≤◌, ◌<◌, ◌^◌, ◌↔◌, ◌∷◌, ◌++◌, ℕ, [], false, List, IfSome, IfNone, IsTrue, OnOk, IfOk, IfErr, length, slice_index, slice_index_or, None, Some};
 ghost use Rattle.std.specs.List.{AllByRecursion as Each};
-ghost use Rattle.onfi_problem.specs.Moves.{Move as OneMove, may_go, after};
+ghost use Rattle.onfi_problem.specs.Moves.{Move as OneMove, IsMove, move_lun, may_go, after};
 ghost use Rattle.onfi_problem.specs.Problem.{Problem as AnyProblem};
-ghost use Rattle.onfi_check.specs.Ends.{IsLastEnd};
+ghost use Rattle.onfi_check.specs.Ends.{AreLastEnds, IsLastEnd};
 ghost use Rattle.onfi_demand.specs.Asked.{GoesOn};
-ghost use Rattle.onfi_known.specs.Proves.{MayYield, Yielded, with_yields};
+ghost use Rattle.onfi_known.specs.Faults.{IsOfTokens};
+ghost use Rattle.onfi_known.specs.Proves.{FitTimes, MayYield, Yielded, with_yields};
+ghost use Rattle.onfi_known.specs.declared.given.Given.{Given as OneGiven};
 
 use crate::fault::KnownFault;
 use crate::given::Given;
@@ -33,10 +35,12 @@ impl Standing {
         }
     }
 
-    /// From when on each LUN must go on, where those that yield wait for the LUNs that they yield to; None where that
-    /// is no number of 64 bits.
+    /// From when on each LUN must go on, where those that yield wait for the LUNs that they yield to; None where one of
+    /// these is no number of 64 bits.
     pub fn times(&self) -> Option<[u64; 8]>
-        ensures { IfSome result (λ times. (lun : ℕ) → lun < 8 → slice_index times lun ≡ with_yields self.now.asked self.now.given.items lun) }
+        ensures value { IfSome result (λ times. (lun : ℕ) → lun < 8 → slice_index times lun ≡ with_yields self.now.asked self.now.given.items lun) }
+        ensures fits { IfSome result (λ _. FitTimes self.now.asked self.now.given.items) }
+        ensures none { IfNone result (FitTimes self.now.asked self.now.given.items → ⊥) }
     {
         let mut times = [0; 8];
         for lun in 0..8usize {
@@ -45,15 +49,27 @@ impl Standing {
         Some(times)
     }
 
+    // What is asked of a LUN; of one that isn't there nothing is.
+    fn asked_of(&self, lun: usize) -> u64
+        ensures { result ≡ slice_index self.now.asked lun }
+    {
+        match self.asked.get(lun) {
+            Some(time) => *time,
+            None => 0,
+        }
+    }
+
     // That of one LUN.
     fn time_of(&self, lun: usize) -> Option<u64>
         requires { lun < 8 }
-        ensures { IfSome result (λ time. time ≡ with_yields self.now.asked self.now.given.items lun) }
+        ensures value { IfSome result (λ time. time ≡ with_yields self.now.asked self.now.given.items lun) }
+        ensures small { IfSome result (λ time. time < 2 ^ 64) }
+        ensures none { IfNone result (2 ^ 64 ≤ with_yields self.now.asked self.now.given.items lun) }
     {
-        let mut time = self.asked[lun];
+        let mut time = self.asked_of(lun);
         for y in self.given.as_slice() {
             if y.own as usize == lun {
-                let behind = self.asked.get(y.lun as usize)?.checked_add(y.longest)?;
+                let behind = self.asked_of(y.lun as usize).checked_add(y.longest)?;
                 time = time.max(behind);
             }
         }
@@ -81,7 +97,7 @@ pub(crate) fn step_behind(problem: &Problem, lun: u8, start: u64) -> Step
 
 // Whether a yield of a move of LUN `own` to LUN `lun` goes round with those before it.
 fn goes_round(given: &[Given], own: u8, lun: u8) -> bool
-    ensures { result ≡ false → Each (λ g. g.lun ≢ own) given.now × Each (λ g. g.own ≢ lun) given.now }
+    ensures { result ≡ false ↔ (Each (λ g. g.lun ≢ own) given.now × Each (λ g. g.own ≢ lun) given.now) }
 {
     for y in given {
         if y.lun == own || y.own == lun {
@@ -109,8 +125,11 @@ pub(crate) fn take_yield(
     requires lun { lun < 8 }
     requires room { length standing.old.given.items < 87 }
     ensures asked { standing.new.asked ≡ standing.old.asked }
+    ensures err { IfErr result (λ _. (moves : List OneMove) (m : OneMove) (y : OneGiven) → Each (IsMove problem.now.problem) moves → AreLastEnds problem.now.problem moves ends.now → move_lun m ≡ own → y.lun ≡ lun → MayYield problem.now.problem moves standing.old.given.items m y → ⊥) }
+    ensures kind { IfErr result IsOfTokens }
     ensures ok { OnOk result (Yielded problem.now.problem ends.now standing.old.given.items own lun standing.new.given.items) }
 {
+    let _limits = problem.bus_free();
     if lun == own || goes_round(&standing.given, own, lun) {
         return Err(KnownFault::YieldLoop(place));
     }

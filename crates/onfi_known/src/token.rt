@@ -2,6 +2,9 @@
 
 use onfi_cert::{LunNumber, Width};
 
+/// How many nodes are remembered at most; greater numbers aren't spelled.
+pub const MOST_KNOWN: u32 = 1_048_576;
+
 /// One token of a certificate that remembers states.
 ///
 /// A certificate is a tree over the moves of a problem, in preorder; each of its leaves says why no schedule through

@@ -30,7 +30,11 @@ impl<'a> TokenList<'a> {
 }
 
 impl<'a> TokenSource for TokenList<'a> {
+    ghost use Rattle.std.specs.Prelude.{[]};
+
     ghost left = { λ l. l };
+
+    ghost behind = { λ l. [] };
 
     fn next(&mut self) -> Option<Token> {
         match self.rest {

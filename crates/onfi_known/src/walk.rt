@@ -1,12 +1,15 @@
 //! The walk over the tokens of a tree.
 
-ghost use Rattle.std.specs.Prelude.{◌≡◌, ◌≤◌, ◌<◌, ◌∷◌, ◌+◌, [], List, IfOk, OnOk, length};
+ghost use Rattle.std.specs.Prelude.{◌≡◌, ◌≤◌, ◌<◌, ◌∷◌, ◌+◌, [], List, IfOk, IfErr, OnOk, length};
+ghost use Rattle.onfi_group.specs.Words.{Pairs};
 ghost use Rattle.std.specs.List.{AllByRecursion as Each};
 ghost use Rattle.onfi_problem.specs.Moves.{AreMoves, IsMove, after};
 ghost use Rattle.onfi_problem.specs.Position.{move_of, moves_of};
 ghost use Rattle.onfi_problem.specs.Starts.{IsNamed};
 ghost use Rattle.onfi_known.specs.declared.token.Token.{Token as OneToken};
 ghost use Rattle.onfi_known.specs.Proves.{Proves, Children, ProvesTokens, Remembers, Grows, Below};
+ghost use Rattle.onfi_known.specs.Faults.{OfTokens};
+ghost use Rattle.onfi_known.specs.Refused.{Refuses, RefusesChild, RefusesChildren};
 ghost use Rattle.onfi_check.specs.Ends.{AreLastEnds};
 
 use crate::closes::{read_again, read_closing};
@@ -15,14 +18,11 @@ use crate::known::Known;
 use crate::numbered::Numbered;
 use crate::source::TokenSource;
 use crate::standing::{Standing, step_behind, take_yield};
-use crate::token::Token;
+use crate::token::{MOST_KNOWN, Token};
 use onfi_cert::Width;
 use onfi_check::last_ends;
 use onfi_demand::Demand;
 use onfi_problem::{Move, Moves, Problem};
-
-/// How many nodes are remembered at most.
-pub const MOST_KNOWN: usize = 1_048_576;
 
 // Remembers a node that was read, and answers what it asks for.
 fn remember(
@@ -31,9 +31,11 @@ fn remember(
     known: &mut Vec<Known>,
     place: usize,
 ) -> Result<Demand, KnownFault>
-    ensures { IfOk result (λ d. Remembers problem.now.all problem.now.problem times known.old.items known.new.items d) }
+    ensures ok { IfOk result (λ d. Remembers problem.now.all problem.now.problem times known.old.items known.new.items d) }
+    ensures few { OnOk result (length known.new.items ≤ MOST_KNOWN) }
+    ensures err { IfErr result (λ f. OfTokens f (MOST_KNOWN ≤ length known.old.items)) }
 {
-    if known.len() >= MOST_KNOWN {
+    if known.len() >= MOST_KNOWN as usize {
         return Err(KnownFault::TooMany(place));
     }
     match known.push(Known::of(problem, times)) {
@@ -61,10 +63,15 @@ fn read_tree<S: TokenSource>(
     tokens: &mut Numbered<S>,
     known: &mut Vec<Known>,
 ) -> Result<Demand, KnownFault>
+    requires rising { Pairs (λ a b. a.id < b.id) problem.old.all }
     ensures problem { OnOk result (problem.new ≡ problem.old) }
     ensures fewer { OnOk result (length (S.left tokens.new.source) ≤ length (S.left tokens.old.source)) }
+    ensures behind { S.behind tokens.new.source ≡ S.behind tokens.old.source }
+    ensures few { OnOk result (length known.old.items ≤ MOST_KNOWN → length known.new.items ≤ MOST_KNOWN) }
     ensures ok { IfOk result (λ d. Proves e problem.old.all problem.old.problem known.old.items (token ∷ S.left tokens.old.source) d known.new.items (S.left tokens.new.source)) }
+    ensures err { IfErr result (λ f. OfTokens f (Refuses e problem.old.all problem.old.problem known.old.items (token ∷ S.left tokens.old.source))) }
 {
+    let _limits = problem.bus_free();
     match token {
         Token::Branch(width) => read_branch(problem, e, width, place, tokens, known),
         Token::Again(number) => read_again(problem, known, number, place),
@@ -82,10 +89,15 @@ fn read_branch<S: TokenSource>(
     tokens: &mut Numbered<S>,
     known: &mut Vec<Known>,
 ) -> Result<Demand, KnownFault>
+    requires rising { Pairs (λ a b. a.id < b.id) problem.old.all }
     ensures problem { OnOk result (problem.new ≡ problem.old) }
     ensures fewer { OnOk result (length (S.left tokens.new.source) ≤ length (S.left tokens.old.source)) }
+    ensures behind { S.behind tokens.new.source ≡ S.behind tokens.old.source }
+    ensures few { OnOk result (length known.old.items ≤ MOST_KNOWN → length known.new.items ≤ MOST_KNOWN) }
     ensures ok { IfOk result (λ d. Proves e problem.old.all problem.old.problem known.old.items (Token.Branch width ∷ S.left tokens.old.source) d known.new.items (S.left tokens.new.source)) }
+    ensures err { IfErr result (λ f. OfTokens f (Refuses e problem.old.all problem.old.problem known.old.items (Token.Branch width ∷ S.left tokens.old.source))) }
 {
+    let _limits = problem.bus_free();
     let mut moves = Moves::new();
     problem.list_steps(&mut moves);
     if moves.len() != width.get() as usize {
@@ -107,13 +119,18 @@ fn read_children<S: TokenSource>(
     tokens: &mut Numbered<S>,
     known: &mut Vec<Known>,
 ) -> Result<Standing, KnownFault>
+    requires rising { Pairs (λ a b. a.id < b.id) problem.old.all }
     requires moves { AreMoves problem.old.problem (moves_of problem.old.groups moves.now) }
     requires named { Each (IsNamed problem.old.groups) moves.now }
     requires few { length moves.now ≤ 87 }
     ensures problem { OnOk result (problem.new ≡ problem.old) }
     ensures fewer { OnOk result (length (S.left tokens.new.source) ≤ length (S.left tokens.old.source)) }
+    ensures behind { S.behind tokens.new.source ≡ S.behind tokens.old.source }
+    ensures few { OnOk result (length known.old.items ≤ MOST_KNOWN → length known.new.items ≤ MOST_KNOWN) }
     ensures ok { IfOk result (λ s. Children e problem.old.all problem.old.problem (moves_of problem.old.groups moves.now) (moves_of problem.old.groups moves.now) known.old.items (S.left tokens.old.source) s.asked s.given.items known.new.items (S.left tokens.new.source)) }
+    ensures err { IfErr result (λ f. OfTokens f (RefusesChildren e problem.old.all problem.old.problem (moves_of problem.old.groups moves.now) known.old.items (S.left tokens.old.source))) }
 {
+    let _limits = problem.bus_free();
     let listed = moves.as_slice();
     let ends = last_ends(problem, listed);
     let mut standing = Standing::new();
@@ -135,14 +152,19 @@ fn read_child<S: TokenSource>(
     tokens: &mut Numbered<S>,
     known: &mut Vec<Known>,
 ) -> Result<(), KnownFault>
+    requires rising { Pairs (λ a b. a.id < b.id) problem.old.all }
     requires step { IsMove problem.old.problem (move_of problem.old.groups m) }
     requires named { IsNamed problem.old.groups m }
+    requires moves { Each (IsMove problem.old.problem) (moves_of problem.old.groups moves.now) }
     requires ends { AreLastEnds problem.old.problem (moves_of problem.old.groups moves.now) ends.now }
     requires room { length standing.old.given.items < 87 }
     ensures problem { OnOk result (problem.new ≡ problem.old) }
     ensures fewer { OnOk result (length (S.left tokens.new.source) ≤ length (S.left tokens.old.source)) }
+    ensures behind { S.behind tokens.new.source ≡ S.behind tokens.old.source }
+    ensures few { OnOk result (length known.old.items ≤ MOST_KNOWN → length known.new.items ≤ MOST_KNOWN) }
     ensures more { OnOk result (length standing.new.given.items ≤ length standing.old.given.items + 1) }
     ensures ok { OnOk result (Grows e problem.old.all problem.old.problem (moves_of problem.old.groups moves.now) (move_of problem.old.groups m) standing.old known.old.items (S.left tokens.old.source) standing.new known.new.items (S.left tokens.new.source)) }
+    ensures err { IfErr result (λ f. OfTokens f (RefusesChild e problem.old.all problem.old.problem (moves_of problem.old.groups moves.now) (move_of problem.old.groups m) standing.old.given.items known.old.items (S.left tokens.old.source))) }
 {
     let Some((token, place)) = tokens.take() else {
         return Err(KnownFault::Short);
@@ -165,12 +187,16 @@ fn read_below<S: TokenSource>(
     tokens: &mut Numbered<S>,
     known: &mut Vec<Known>,
 ) -> Result<(), KnownFault>
+    requires rising { Pairs (λ a b. a.id < b.id) problem.old.all }
     requires step { IsMove problem.old.problem (move_of problem.old.groups m) }
     requires named { IsNamed problem.old.groups m }
     ensures problem { OnOk result (problem.new ≡ problem.old) }
     ensures fewer { OnOk result (length (S.left tokens.new.source) ≤ length (S.left tokens.old.source)) }
+    ensures behind { S.behind tokens.new.source ≡ S.behind tokens.old.source }
+    ensures few { OnOk result (length known.old.items ≤ MOST_KNOWN → length known.new.items ≤ MOST_KNOWN) }
     ensures given { standing.new.given ≡ standing.old.given }
     ensures ok { OnOk result (Below e problem.old.all problem.old.problem (move_of problem.old.groups m) known.old.items (token ∷ S.left tokens.old.source) standing.old.asked standing.new.asked known.new.items (S.left tokens.new.source)) }
+    ensures err { IfErr result (λ f. OfTokens f (Refuses e problem.old.all (after problem.old.problem (move_of problem.old.groups m)) known.old.items (token ∷ S.left tokens.old.source))) }
 {
     let start = problem.earliest(m);
     let count = problem.lun_count();
@@ -193,10 +219,14 @@ pub(crate) fn read_whole<S: TokenSource>(
     tokens: &mut Numbered<S>,
     known: &mut Vec<Known>,
 ) -> Result<(), KnownFault>
-    requires { known.old.items ≡ [] }
+    requires none { known.old.items ≡ [] }
+    requires rising { Pairs (λ a b. a.id < b.id) problem.old.all }
     ensures problem { OnOk result (problem.new ≡ problem.old) }
+    ensures behind { S.behind tokens.new.source ≡ S.behind tokens.old.source }
     ensures ok { OnOk result (ProvesTokens problem.old.all (S.left tokens.old.source) problem.old.problem e) }
+    ensures err { IfErr result (λ f. OfTokens f (ProvesTokens problem.old.all (S.left tokens.old.source) problem.old.problem e → ⊥)) }
 {
+    let _limits = problem.bus_free();
     let Some((token, place)) = tokens.take() else {
         return Err(KnownFault::Short);
     };

@@ -6,4 +6,4 @@ pub returns-then-bus_free-e : goal.returns-then-bus_free-e
 returns-then-bus_free-e c =
     let is = c.bus_free.ensures.value in
     let le = c.if-bus_free-e.true in
-    (over_where_none c.args.problem.now c.steps.result c.args.e c.is_empty.result c.bus_free.ensures.limits.problem c.steps.ensures.moves (omega arith) c.is_empty.ensures).0
+    over_where_none c.args.problem.now c.steps.result c.args.e c.is_empty.result c.bus_free.ensures.limits.problem c.steps.ensures.moves (omega arith) c.is_empty.ensures

@@ -1,16 +1,20 @@
-use Rattle.std.proofs.Common.{◌≡◌, ◌+◌, ◌≤◌, ◌<◌, [], ◌∷◌, List, length, get_or, refl, sym, ap, ◌∙◌, subst, arith}
+use Rattle.std.proofs.Common.{◌≡◌, ◌<◌, [], ◌∷◌, length, get_or, refl, sym, ap, ◌∙◌, subst, arith}
 use Rattle.std.specs.List.{AllByRecursion as All}
 use Rattle.onfi_problem.specs.declared.moves.Move.TheVariants.{Next}
-use Rattle.onfi_problem.specs.Moves.{IsMove, AreMoves, after}
+use Rattle.onfi_problem.specs.Moves.{IsMove, AreMoves}
 use Rattle.onfi_problem.specs.Position.{Position, move_of, moves_of}
 use Rattle.onfi_problem.specs.Starts.{IsNamed}
 use Rattle.onfi_check.specs.Ends.{AreLastEnds}
-use Rattle.onfi_check.proofs.LastEnds.{move_at, at_place}
+use Rattle.onfi_check.proofs.LastEnds.{move_at}
 use Rattle.onfi_demand.specs.Asked.{GoesOn}
-use Rattle.onfi_demand.specs.Kept.{IsKept}
-use Rattle.onfi_known.specs.Closing.{Closes, closing_demand}
-use Rattle.onfi_known.specs.Proves.{Proves, Children, Remembers, Yielded, Below, Grows, IsAgain, closed, none}
-use Rattle.onfi_known.proofs.Walking.{on_ok, ok_so, each_ok, fewer_left, again_proves, yield_grows, below_grows, raised_by, step_is, children_more, children_all, branch_proves}
+use Rattle.onfi_known.specs.Proves.{Proves, Children, Remembers, Grows, IsAgain, closed, none}
+use Rattle.onfi_known.proofs.Refusing.{again_refuses, child_at, children_refuse, closing_refuses, err_of, err_so, many_refuse, of_so, times_refuse, tree_child, width_refuses, yield_child}
+use Rattle.onfi_group.specs.Words.{Pairs}
+use Rattle.std.proofs.lemmas.Result.{err_from_is_err_and}
+use Rattle.onfi_known.specs.Faults.{OfTokens}
+use Rattle.onfi_known.specs.Refused.{RefusesChild, RefusesChildren}
+use Rattle.onfi_check.proofs.OneList.{map_length}
+use Rattle.onfi_known.proofs.Walking.{at_place, on_ok, ok_so, each_ok, fewer_left, again_proves, yield_grows, below_grows, raised_by, step_is, children_more, branch_proves}
 use Rattle.onfi_known.proofs.walk.+read.Goals as goal
 
 pub read_below-returns-clause-ok : goal.read_below-returns-clause-ok
@@ -38,8 +42,8 @@ read_branch-returns-clause-ok g t c =
     let wide = c.get.ensures.value in
     let some = c.get.ensures.low in
     each_ok _ _ c.remember.result
-    (λ d r. branch_proves c.args.e x items c.args.width s c.in-Some.times c.args.known.now.items c.read_children.new.known.items c.remember.new.known.items (g.S.TokenSource.left c.args.tokens.now.source) left d c.list_steps.ensures.moves (omega (arith, c.if-len-get.false)) (omega arith) c.in_ok-standing.ensures.ok c.in-Some.ensures
-    (subst (λ (z : Position). Remembers z.all z.problem c.in-Some.times c.read_children.new.known.items c.remember.new.known.items d) c.in_ok-standing.ensures.problem r)) c.remember.ensures
+    (λ d r. branch_proves c.args.e x items c.args.width s c.in-Some.times c.args.known.now.items c.read_children.new.known.items c.remember.new.known.items (g.S.TokenSource.left c.args.tokens.now.source) left d c.list_steps.ensures.moves (omega (arith, c.if-len-get.false)) (omega arith) c.in_ok-standing.ensures.ok c.in-Some.ensures.value c.in-Some.ensures.fits
+    (subst (λ (z : Position). Remembers z.all z.problem c.in-Some.times c.read_children.new.known.items c.remember.new.known.items d) c.in_ok-standing.ensures.problem r)) c.remember.ensures.ok
 
 pub read_child-returns-in-Yield-clause-ok : goal.read_child-returns-in-Yield-clause-ok
 read_child-returns-in-Yield-clause-ok g t c =
@@ -56,7 +60,10 @@ read_child-returns-in_default-token g t c =
     record {
       problem = c.read_below.ensures.problem;
       fewer = fewer_left tokens left next c.in-Some.token c.read_below.result c.in-Some.ensures.token c.read_below.ensures.fewer;
+      behind = c.read_below.ensures.behind ∙ c.in-Some.ensures.behind;
+      few = c.read_below.ensures.few;
       more = on_ok c.read_below.result (omega arith);
+      err = err_so c.read_below.result _ _ (tree_child c.args.e x.all x.problem (moves_of x.groups c.args.moves.now) (move_of x.groups c.args.m) c.args.standing.now.given.items c.args.known.now.items tokens left c.in-Some.token c.in-Some.ensures.token c.in_default-token.not-Yield) c.read_below.ensures.err;
       ok = ok_so c.read_below.result (below_grows c.args.e x.all x.problem (moves_of x.groups c.args.moves.now) (move_of x.groups c.args.m) c.args.standing.now c.read_below.new.standing c.args.known.now.items c.read_below.new.known.items c.in-Some.token tokens left next c.in-Some.ensures.token c.read_below.ensures.given) c.read_below.ensures.ok;
     }
 
@@ -71,6 +78,8 @@ read_children-loop-m-init g t c =
     record {
       problem = refl;
       fewer = omega arith;
+      behind = refl;
+      few = λ h. h;
       room = omega arith;
       children = subst (λ z. Children c.args.e x.all x.problem all [] known tokens asked z known tokens) (sym c.new-standing.ensures.given) (none x.problem all known tokens asked c.new-standing.ensures.asked);
     }
@@ -90,12 +99,18 @@ read_children-read_child-requires g t c κs within =
       (
         within,
         (
-          subst (λ (z : Position). IsMove z.problem (move_of z.groups (get_or items i (Next 0)))) same (move_at x.problem x.groups items i (Next 0) c.loop-m-test.true are.moves_only),
+          subst (λ (z : Position). Pairs (λ a b. a.id < b.id) z.all) same c.requires.rising,
           (
-            subst (λ (z : Position). IsNamed z.groups (get_or items i (Next 0))) same (at_place (IsNamed x.groups) items i (Next 0) c.loop-m-test.true named),
+            subst (λ (z : Position). IsMove z.problem (move_of z.groups (get_or items i (Next 0)))) same (move_at x.problem x.groups items i (Next 0) c.loop-m-test.true are.moves_only),
             (
-              subst (λ (z : Position). AreLastEnds z.problem (moves_of z.groups items) c.last_ends-ends.result) same c.last_ends-ends.ensures.ends,
-              omega arith,
+              subst (λ (z : Position). IsNamed z.groups (get_or items i (Next 0))) same (at_place (IsNamed x.groups) items i (Next 0) c.loop-m-test.true named),
+              (
+                subst (λ (z : Position). All (IsMove z.problem) (moves_of z.groups items)) same are.moves_only,
+                (
+                  subst (λ (z : Position). AreLastEnds z.problem (moves_of z.groups items) c.last_ends-ends.result) same c.last_ends-ends.ensures.ends,
+                  omega arith,
+                ),
+              ),
             ),
           ),
         ),
@@ -118,6 +133,8 @@ read_children-loop-m-preserved g t c =
     record {
       problem = c.in_ok-read_child.ensures.problem ∙ c.loop-m.invariant.problem;
       fewer = omega arith;
+      behind = c.in_ok-read_child.ensures.behind ∙ c.loop-m.invariant.behind;
+      few = λ h. c.in_ok-read_child.ensures.few (c.loop-m.invariant.few h);
       room = omega arith;
       children = children_more c.args.e x items i (Next 0) c.loop-m.standing c.read_child.new.standing c.args.known.now.items c.loop-m.known.items c.read_child.new.known.items begun tokens left c.loop-m-test.true grows c.loop-m.invariant.children;
     }
@@ -127,7 +144,7 @@ read_tree-returns-in-Again-clause-ok g t c =
     let x = c.args.problem.now in
     let left = g.S.TokenSource.left c.args.tokens.now.source in
     let e : c.deref.result.now ≡ c.args.known.now.items = cc in
-    each_ok _ _ c.read_again.result (λ d h. again_proves c.args.e x.all x.problem c.args.known.now.items c.in-Again.number c.args.token left d c.in-Again.is (subst (λ z. IsAgain x.all x.problem z c.in-Again.number d) e h)) c.read_again.ensures
+    each_ok _ _ c.read_again.result (λ d h. again_proves c.args.e x.all x.problem c.args.known.now.items c.in-Again.number c.args.token left d c.in-Again.is (subst (λ z. IsAgain x.all x.problem z c.in-Again.number d) e h)) c.read_again.ensures.ok
 
 pub read_tree-returns-in_default : goal.read_tree-returns-in_default
 read_tree-returns-in_default g t c =
@@ -136,5 +153,66 @@ read_tree-returns-in_default g t c =
     record {
       problem = on_ok c.read_closing.result refl;
       fewer = on_ok c.read_closing.result (omega arith);
-      ok = each_ok _ _ c.read_closing.result (λ d h. closed x.problem c.args.known.now.items c.args.token d left h.0 h.1) c.read_closing.ensures;
+      behind = refl;
+      ok = each_ok _ _ c.read_closing.result (λ d h. closed x.problem c.args.known.now.items c.args.token d left h.0 h.1) c.read_closing.ensures.ok;
+      few = on_ok c.read_closing.result (λ h. h);
+      err = err_of c.read_closing.result _ _ (closing_refuses c.args.e x.all x.problem c.args.known.now.items c.args.token left c.in_default.not-Branch c.in_default.not-Again) c.read_closing.ensures.err c.read_closing.ensures.kind;
     }
+
+pub read_tree-returns-in-Again-clause-err : goal.read_tree-returns-in-Again-clause-err
+read_tree-returns-in-Again-clause-err g t c =
+    let x = c.args.problem.now in
+    let left = g.S.TokenSource.left c.args.tokens.now.source in
+    let limits = c.bus_free-limits.ensures.limits in
+    let e : c.deref.result.now ≡ c.args.known.now.items = cc in
+    err_of c.read_again.result _ _ (λ none. again_refuses c.args.e x.all x.problem c.args.known.now.items c.args.token c.in-Again.number left (record { problem = limits.problem; small = limits.small }) c.in-Again.is (λ d h. none d (subst (λ z. IsAgain x.all x.problem z c.in-Again.number d) (sym e) h))) c.read_again.ensures.err c.read_again.ensures.kind
+
+pub read_branch-returns-then-len-get-clause-err : goal.read_branch-returns-then-len-get-clause-err
+read_branch-returns-then-len-get-clause-err g t c =
+    let x = c.args.problem.now in
+    let items = c.list_steps.new.moves in
+    let long = map_length x items in
+    let a = c.len.ensures.value in
+    let b = c.get.ensures.value in
+    width_refuses c.args.e x.all x.problem (moves_of x.groups items) c.args.known.now.items c.args.width (g.S.TokenSource.left c.args.tokens.now.source) c.list_steps.ensures.moves (λ q. omega (arith, c.if-len-get.true))
+
+pub read_branch-returns-in_err-standing-clause-err : goal.read_branch-returns-in_err-standing-clause-err
+read_branch-returns-in_err-standing-clause-err g t c =
+    let x = c.args.problem.now in
+    let items = c.list_steps.new.moves in
+    let p = err_from_is_err_and c.from_residual.result c.from_residual.ensures.1 in
+    rw (p.1, p.2) (of_so _ _ _ (children_refuse c.args.e x.all x.problem (moves_of x.groups items) c.args.known.now.items c.args.width (g.S.TokenSource.left c.args.tokens.now.source) c.list_steps.ensures.moves) c.in_err-standing.ensures.err)
+
+pub read_branch-returns-in_default-clause-err : goal.read_branch-returns-in_default-clause-err
+read_branch-returns-in_default-clause-err g t c =
+    let x = c.args.problem.now in
+    let items = c.list_steps.new.moves in
+    let s = c.in_ok-standing.standing in
+    let limits = c.bus_free-limits.ensures.limits in
+    times_refuse c.args.e x.all x.problem (moves_of x.groups items) c.args.known.now.items c.read_children.new.known.items c.args.width (g.S.TokenSource.left c.args.tokens.now.source) (g.S.TokenSource.left c.read_children.new.tokens.source) s.asked s.given.items (record { problem = limits.problem; small = limits.small }) c.list_steps.ensures.moves c.in_ok-standing.ensures.ok c.in_default.ensures.none
+
+pub read_branch-returns-clause-err : goal.read_branch-returns-clause-err
+read_branch-returns-clause-err g t c =
+    let x = c.args.problem.now in
+    let items = c.list_steps.new.moves in
+    let s = c.in_ok-standing.standing in
+    let limits = c.bus_free-limits.ensures.limits in
+    err_so c.remember.result _ _ (many_refuse c.args.e x.all x.problem (moves_of x.groups items) c.args.known.now.items c.read_children.new.known.items c.args.width (g.S.TokenSource.left c.args.tokens.now.source) (g.S.TokenSource.left c.read_children.new.tokens.source) s.asked s.given.items (record { problem = limits.problem; small = limits.small }) c.list_steps.ensures.moves c.in_ok-standing.ensures.ok) c.remember.ensures.err
+
+pub read_child-returns-in-Yield-clause-err : goal.read_child-returns-in-Yield-clause-err
+read_child-returns-in-Yield-clause-err g t c =
+    let x = c.args.problem.now in
+    err_of c.take_yield.result _ _ (λ none. yield_child c.args.e x.all x.problem (moves_of x.groups c.args.moves.now) (move_of x.groups c.args.m) c.args.standing.now.given.items c.args.known.now.items (g.S.TokenSource.left c.args.tokens.now.source) (g.S.TokenSource.left c.take.new.self.source) c.in-Some.token c.in-Yield.lun c.in-Some.ensures.token c.in-Yield.is (λ y q may. none (moves_of x.groups c.args.moves.now) (move_of x.groups c.args.m) y c.requires.moves c.requires.ends (c.requires.named.lun ∙ sym c.lun.ensures) (q ∙ sym c.get.ensures.value) may)) c.take_yield.ensures.err c.take_yield.ensures.kind
+
+pub read_children-returns-in_err-read_child-clause-err : goal.read_children-returns-in_err-read_child-clause-err
+read_children-returns-in_err-read_child-clause-err g t c =
+    let x = c.args.problem.now in
+    let items = c.as_slice-listed.result.now in
+    let i = c.loop-m.m-index in
+    let limits = c.bus_free-limits.ensures.limits in
+    let tokens = g.S.TokenSource.left c.loop-m.tokens.source in
+    let begun = g.S.TokenSource.left c.args.tokens.now.source in
+    let are = subst (λ z. AreMoves x.problem (moves_of x.groups z)) (sym c.as_slice-listed.ensures.value) c.requires.moves in
+    let p = err_from_is_err_and c.from_residual.result c.from_residual.ensures.1 in
+    let none = subst (λ (z : Position). OfTokens c.in_err-read_child.field-0.0 (RefusesChild c.args.e z.all z.problem (moves_of z.groups items) (move_of z.groups (get_or items i (Next 0))) c.loop-m.standing.given.items c.loop-m.known.items tokens)) c.loop-m.invariant.problem c.in_err-read_child.ensures.err in
+    rw (p.1, p.2) (subst (λ z. OfTokens c.in_err-read_child.field-0.0 (RefusesChildren c.args.e x.all x.problem (moves_of x.groups z) c.args.known.now.items begun)) c.as_slice-listed.ensures.value (of_so _ _ _ (child_at c.args.e x items i (Next 0) c.args.known.now.items c.loop-m.known.items begun tokens c.loop-m.standing.asked c.loop-m.standing.given.items c.loop-m-test.true (record { problem = limits.problem; small = limits.small }) are c.loop-m.invariant.children) none))

@@ -1,6 +1,7 @@
-use Rattle.std.proofs.Common.{◌≡◌, ◌+◌, ◌*◌, ◌≤◌, List, length, take}
+use Rattle.std.proofs.Common.{◌≡◌, ◌+◌, ◌*◌, ◌≤◌, length, take}
 use Rattle.onfi_problem.specs.Position.{moves_of}
 use Rattle.onfi_known.specs.Proves.{Children}
+use Rattle.onfi_known.specs.declared.token.TheConstants.{MOST_KNOWN}
 use Rattle.onfi_known.proofs.walk.+read.Given as goal
 
 abbrev pub decreases-read_tree : goal.decreases-read_tree
@@ -27,6 +28,8 @@ invariant-read_children-loop-m g l =
     record {
       problem : l.problem ≡ l.fn.problem;
       fewer : length left ≤ length begun;
+      behind : g.S.TokenSource.behind l.tokens.source ≡ g.S.TokenSource.behind l.fn.tokens.source;
+      few : length l.fn.known.items ≤ MOST_KNOWN → length l.known.items ≤ MOST_KNOWN;
       room : length l.standing.given.items ≤ l.m-index;
       children : Children l.e x.all x.problem all (moves_of x.groups (take l.m-index l.listed)) l.fn.known.items begun l.standing.asked l.standing.given.items l.known.items left;
     }

@@ -1,0 +1,89 @@
+-- Words of a text, and the tokens that they spell. What a token looks like is said by `spelling` alone; here stands
+-- the way back, for the readers' own contracts.
+use Rattle.std.specs.Prelude.{ℕ, zero, suc, ◌+◌, ◌==◌, ◌^◌, length, List, [], ◌∷◌, Bool, false, Option, Some, None, option_map, option_and_then, take, drop, position, nat_le, nat_lt, if◌then◌else◌}
+use Rattle.onfi_timing.specs.Decimal.{number_of}
+use Rattle.onfi_cert.specs.Word.{word, behind_word}
+use Rattle.onfi_known.specs.declared.token.Token.{Token}
+use Rattle.onfi_known.specs.declared.token.Token.TheVariants as tk
+use Rattle.onfi_known.specs.declared.token.TheConstants.{MOST_KNOWN}
+
+-- more digits than one, the first a zero
+abbrev pub has_leading_zero : List ℕ → Bool
+has_leading_zero [] = false
+has_leading_zero (c ∷ []) = false
+has_leading_zero (c ∷ d ∷ more) = c == 48
+
+-- a number, where it is below a limit
+abbrev pub below : ℕ → ℕ → Option ℕ
+below limit n = if nat_lt n limit then Some n else None
+
+-- a number below 2^63 in digits, without a leading zero
+abbrev pub number : List ℕ → Option ℕ
+number text = if has_leading_zero text then None else option_and_then (below (2 ^ 63)) (number_of text)
+
+-- U, L, T or X
+abbrev pub letter_token : ℕ → Option Token
+letter_token letter =
+    if letter == 85 then Some tk.Bus
+    else if letter == 76 then Some tk.Lead
+    else if letter == 84 then Some tk.Trail
+    else if letter == 88 then Some tk.End
+    else None
+
+abbrev pub branch_token : ℕ → Option Token
+branch_token n = if nat_le 1 n then option_map tk.Branch (below 100 n) else None
+
+-- B, D, Y or R with its number
+abbrev pub numbered : ℕ → ℕ → Option Token
+numbered letter n =
+    if letter == 66 then branch_token n
+    else if letter == 68 then option_map tk.Die (below 8 n)
+    else if letter == 89 then option_map tk.Yield (below 8 n)
+    else if letter == 82 then option_map tk.Again (below MOST_KNOWN n)
+    else None
+
+-- two numbers with a comma between them
+abbrev pub window_token : List ℕ → Option Token
+window_token text =
+    option_and_then (λ at. option_and_then (λ start. option_map (tk.Window start) (number (drop (at + 1) text))) (number (take at text))) (position (λ b. b == 44) text)
+
+-- the token that a word spells
+abbrev pub token_of : List ℕ → Option Token
+token_of [] = None
+token_of (letter ∷ []) = letter_token letter
+token_of (letter ∷ d ∷ more) = if letter == 87 then window_token (d ∷ more) else option_and_then (numbered letter) (number (d ∷ more))
+
+-- what is ahead of a reader: tokens, and the bytes behind them
+pub record Ahead : Type 0 where
+  pub tokens : List Token
+  pub behind : List ℕ
+
+abbrev pub found : List ℕ → Option Token → Option (Token × List ℕ)
+found rest None = None
+found rest (Some t) = Some (t, rest)
+
+-- the token in front of a text, and what stands behind it
+abbrev pub token_in : List ℕ → Option (Token × List ℕ)
+token_in text = found (behind_word text) (token_of (word text))
+
+-- the same where a space stands before the token
+abbrev pub next_in : List ℕ → Option (Token × List ℕ)
+next_in [] = None
+next_in (b ∷ text) = if b == 32 then token_in text else None
+
+-- a text with a space before each token, where the first has none
+abbrev pub led : Bool → List ℕ → List ℕ
+led begun text = if begun then text else 32 ∷ text
+
+abbrev pub taken : List ℕ → Option (Token × List ℕ) → (List ℕ → Ahead) → Ahead
+taken text None next = record { tokens = []; behind = text }
+taken text (Some p) next = record { tokens = p.0 ∷ (next p.1).tokens; behind = (next p.1).behind }
+
+-- the tokens in front of a text, fewer than `room`
+unfoldable pub walk : ℕ → List ℕ → Ahead
+walk zero text = record { tokens = []; behind = text }
+walk (suc room) text = taken text (next_in text) (walk room)
+
+-- what is ahead of a reader that stands before this text, at its begin or behind a token
+unfoldable pub ahead_of : Bool → List ℕ → Ahead
+ahead_of begun text = walk (length text + 1) (led begun text)
