@@ -9,6 +9,7 @@
 mod closed;
 mod drained;
 mod driver;
+mod ends;
 mod gate;
 mod offer;
 mod ran;
@@ -17,6 +18,7 @@ mod turn;
 
 pub use closed::Closed;
 pub use drained::Drained;
+pub use ends::Ends;
 pub use gate::Gate;
 pub use sequencer::Sequencer;
 pub use turn::Turn;
