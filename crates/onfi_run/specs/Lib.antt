@@ -7,3 +7,5 @@ pub mod Report
 pub mod Answers
 pub mod Keys
 pub mod Threads
+pub mod Opening
+pub mod Running

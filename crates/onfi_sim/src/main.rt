@@ -1,16 +1,17 @@
-// Plans ONFI channels and checks plans: reads a script from standard input and writes its answer to standard output.
+// Plans ONFI channels, checks plans and runs hosts' operations: reads a script from standard input and writes its answer
+// to standard output.
 #![tactic(auto)]
 
-ghost use Rattle.std.specs.Prelude.{◌≤◌, IfOk};
-ghost use Rattle.onfi_script.specs.Limit.{IsLimited};
+ghost use Rattle.std.specs.Prelude.{IfOk};
+ghost use Rattle.onfi_script.specs.Words.{IsInRange};
 
+use onfi_run::run_freely;
 use onfi_script::{Command, EngineFault, Named, WordsFault, engine, engine_split, words};
 use std::io::ErrorKind;
 use std::process::ExitCode;
 
 fn asked(rt: &(impl std::rt::Env + AllocGlobal)) -> Result<Named, WordsFault>
-    ensures limit { IfOk result (λ named. IsLimited named.command) }
-    ensures workers { IfOk result (λ named. (1 ≤ named.workers) × (named.workers ≤ 8)) }
+    ensures { IfOk result (λ named. IsInRange named) }
 {
     let args = match std::env::args(rt) {
         Ok(args) => args,
@@ -24,7 +25,7 @@ fn asked(rt: &(impl std::rt::Env + AllocGlobal)) -> Result<Named, WordsFault>
 }
 
 fn main(rt: HostRuntime) -> ExitCode {
-    let Named { command, workers } = match asked(&rt) {
+    let named = match asked(&rt) {
         Ok(named) => named,
         Err(WordsFault::Memory) => {
             let _ = rt.println("memory");
@@ -32,18 +33,21 @@ fn main(rt: HostRuntime) -> ExitCode {
         }
         Err(WordsFault::Refused) => {
             let _ = rt.eprintln(
-                "usage: onfi_sim plan [--limit N] [--trace] [--workers N] | onfi_sim check",
+                "usage: onfi_sim plan [--limit N] [--trace] [--workers N] | onfi_sim check | onfi_sim run [--limit N]",
             );
             return ExitCode::from(5);
         }
     };
-    let (mut reader, mut writer) = (rt.reader(), std::io::writer(&rt));
-    let answered = match command {
-        Command::Plan { limit, trace } if workers > 1 => {
-            let alloc = rt.alloc();
+    let (alloc, mut reader, mut writer) = (rt.alloc(), rt.reader(), std::io::writer(&rt));
+    let answered = match named {
+        Named::Run { limit } => run_freely(&rt, alloc, limit, &mut reader, &mut writer),
+        Named::Problem {
+            command: Command::Plan { limit, trace },
+            workers,
+        } if workers > 1 => {
             engine_split(&rt, alloc, limit, trace, workers, &mut reader, &mut writer)
         }
-        _ => engine(rt.alloc(), command, &mut reader, &mut writer),
+        Named::Problem { command, .. } => engine(alloc, command, &mut reader, &mut writer),
     };
     match answered {
         Ok(status) => ExitCode::from(status),

@@ -1,0 +1,85 @@
+-- Channels that open with all ends of their queues.
+use Rattle.std.proofs.Common.{◌≡◌, ℕ, ◌+◌, List, [], ◌∷◌, ◌++◌, length, map, refl, sym, ap, ◌∙◌, subst, add-zero, arith, Some}
+use Rattle.std.specs.Prelude.{Option}
+use Rattle.std.proofs.lemmas.List.{map-append}
+use Rattle.onfi_core.specs.declared.setup.Setup.{Setup}
+use Rattle.onfi_queue.specs.Ends.{HostView, IntakeView, four_hosts, fresh_host}
+use Rattle.onfi_reply.specs.Ends.{InboxView, PosterView, inbox_of}
+use Rattle.onfi_script.specs.declared.row.Row.{Row}
+use Rattle.onfi_seq.specs.Drained.{poster_queues}
+use Rattle.onfi_run.specs.declared.gated.Gated.{Gated}
+use Rattle.onfi_run.specs.declared.lane.Lane.{Lane}
+use Rattle.onfi_run.specs.declared.port.Port.{Port}
+use Rattle.onfi_run.specs.declared.station.Stations.{Stations}
+use Rattle.onfi_run.specs.Keys.{ChannelQueues, PortKey, port_key, end_of, AreLinked, AreAllLinked, HasSamePorts}
+use Rattle.onfi_run.specs.Opening.{IsOpened, AreOpened}
+
+-- ---- the ends of one channel
+-- the queues of a channel with that intake and those posters
+abbrev pub queues_with : IntakeView → List PosterView → ChannelQueues
+queues_with t posters = record { requests = t.queue; replies = poster_queues posters }
+
+-- what a host's ends tell
+abbrev pub key_of : HostView → InboxView → PortKey
+key_of h i = record { queue = h.queue; number = h.number; inbox = Some i.queue; hosts = 4 }
+
+key_is : (t : IntakeView) (number : ℕ) (p : PosterView) (h : HostView) (i : InboxView) → h ≡ fresh_host t number → i ≡ inbox_of p
+    → key_of h i ≡ (let k : PortKey = record { queue = t.queue; number = number; inbox = Some p.queue; hosts = 4 } in k)
+key_is t number p h i host inbox = ap (λ (x : HostView). key_of x i) host ∙ ap (λ (x : InboxView). key_of (fresh_host t number) x) inbox
+
+-- each of two lists of four
+four_same : {A : Type 0} (a b c d a' b' c' d' : A) → a ∷ b ∷ c ∷ d ∷ [] ≡ a' ∷ b' ∷ c' ∷ d' ∷ [] → (a ≡ a') × (b ≡ b') × (c ≡ c') × (d ≡ d')
+four_same a b c d a' b' c' d' e = (cc, cc, cc, cc)
+
+-- these are the ends of the four hosts
+pub record AreKeys (q : ChannelQueues) (h0 h1 h2 h3 : HostView) (i0 i1 i2 i3 : InboxView) : Type 0 where
+  pub first : key_of h0 i0 ≡ end_of 0 q
+  pub second : key_of h1 i1 ≡ end_of 1 q
+  pub third : key_of h2 i2 ≡ end_of 2 q
+  pub fourth : key_of h3 i3 ≡ end_of 3 q
+
+-- what opens together with an intake and four posters
+pub keys_are : (t : IntakeView) (posters : List PosterView) (h0 h1 h2 h3 : HostView) (i0 i1 i2 i3 : InboxView) → length posters ≡ 4
+    → h0 ∷ h1 ∷ h2 ∷ h3 ∷ [] ≡ four_hosts t → i0 ∷ i1 ∷ i2 ∷ i3 ∷ [] ≡ map inbox_of posters → AreKeys (queues_with t posters) h0 h1 h2 h3 i0 i1 i2 i3
+keys_are t [] h0 h1 h2 h3 i0 i1 i2 i3 four hosts inboxes = absurd (omega (arith, four))
+keys_are t (w ∷ []) h0 h1 h2 h3 i0 i1 i2 i3 four hosts inboxes = absurd (omega (arith, four))
+keys_are t (w ∷ x ∷ []) h0 h1 h2 h3 i0 i1 i2 i3 four hosts inboxes = absurd (omega (arith, four))
+keys_are t (w ∷ x ∷ y ∷ []) h0 h1 h2 h3 i0 i1 i2 i3 four hosts inboxes = absurd (omega (arith, four))
+keys_are t (w ∷ x ∷ y ∷ z ∷ []) h0 h1 h2 h3 i0 i1 i2 i3 four hosts inboxes =
+    let h = four_same h0 h1 h2 h3 (fresh_host t 0) (fresh_host t 1) (fresh_host t 2) (fresh_host t 3) hosts in
+    let i = four_same i0 i1 i2 i3 (inbox_of w) (inbox_of x) (inbox_of y) (inbox_of z) inboxes in
+    record {
+      first = key_is t 0 w h0 i0 h.0 i.0;
+      second = key_is t 1 x h1 i1 h.1 i.1;
+      third = key_is t 2 y h2 i2 h.2 i.2;
+      fourth = key_is t 3 z h3 i3 h.3 i.3;
+    }
+keys_are t (w ∷ x ∷ y ∷ z ∷ v ∷ posters) h0 h1 h2 h3 i0 i1 i2 i3 four hosts inboxes = absurd (omega (arith, four))
+
+-- ---- one channel more
+snoc_same : {A : Type 0} (xs ys : List A) (x y : A) → xs ≡ ys → x ≡ y → xs ++ x ∷ [] ≡ ys ++ y ∷ []
+snoc_same xs ys x y front last = ap (λ l. l ++ x ∷ []) front ∙ ap (λ z. ys ++ z ∷ []) last
+
+pub linked_more : (host : ℕ) (qs : List ChannelQueues) (q : ChannelQueues) (ports : List Port) (p : Port) → AreLinked host qs ports → port_key p ≡ end_of host q → AreLinked host (qs ++ q ∷ []) (ports ++ p ∷ [])
+linked_more host qs q ports p linked key =
+    map-append port_key ports (p ∷ []) ∙ snoc_same (map port_key ports) (map (end_of host) qs) (port_key p) (end_of host q) linked key ∙ sym (map-append (end_of host) qs (q ∷ []))
+
+-- .. where the channels are seen by `f`
+pub linked_with : {X : Type 0} (f : X → ChannelQueues) (host : ℕ) (xs : List X) (x : X) (all : List X) (ports all_ports : List Port) (p : Port) → AreLinked host (map f xs) ports → port_key p ≡ end_of host (f x)
+    → all ≡ xs ++ x ∷ [] → all_ports ≡ ports ++ p ∷ [] → AreLinked host (map f all) all_ports
+linked_with f host xs x all ports all_ports p linked key is ports_are =
+    ap (map port_key) ports_are ∙ linked_more host (map f xs) (f x) ports p linked key ∙ ap (map (end_of host)) (sym (map-append f xs (x ∷ []))) ∙ ap (λ l. map (end_of host) (map f l)) (sym is)
+
+pub opened_more : {G : Type 0} (setup : Setup) (rows : List Row) (number : ℕ) (gates : List G) (gate : G) (lanes : List (Lane (Gated G))) (lane : Lane (Gated G)) → AreOpened setup rows number gates lanes
+    → IsOpened setup rows (number + length gates) gate lane → AreOpened setup rows number (gates ++ gate ∷ []) (lanes ++ lane ∷ [])
+opened_more setup rows number [] gate [] lane all one = (subst (λ n. IsOpened setup rows n gate lane) (add-zero number) one, tt)
+opened_more setup rows number (g ∷ gates) gate [] lane all one = absurd all
+opened_more setup rows number [] gate (l ∷ lanes) lane all one = absurd all
+opened_more setup rows number (g ∷ gates) gate (l ∷ lanes) lane (here, all) one =
+    let n : number + length (g ∷ gates) ≡ number + 1 + length gates = omega arith in
+    (here, opened_more setup rows (number + 1) gates gate lanes lane all (subst (λ n. IsOpened setup rows n gate lane) n one))
+
+-- ---- behind the threads
+-- what comes back from threads is linked as what went in
+pub linked_behind : (host : ℕ) (qs qs' : List ChannelQueues) (old new : List Port) → AreLinked host qs old → HasSamePorts old new → qs' ≡ qs → AreLinked host qs' new
+linked_behind host qs qs' old new linked same is = same ∙ linked ∙ ap (map (end_of host)) (sym is)

@@ -1,0 +1,121 @@
+//! From the bytes of an input to the bytes of its answer.
+ghost use Rattle.std.specs.Prelude.{◌≡◌, ◌≤◌, length, IfOk};
+ghost use Rattle.std.specs.Io.KnownBytes.{Keeps};
+ghost use Rattle.onfi_script.specs.AnswerOf.{answer_of};
+ghost use Rattle.onfi_run.specs.Prepares.{IsPrepared};
+ghost use Rattle.onfi_run.specs.Running.{IsAnswer, Answers, BeginsAnswer};
+
+use crate::finishing::finish_all;
+use crate::no_gate::no_gates;
+use crate::opening::Stage;
+use crate::preparing::{Prepared, prepare};
+use crate::report::Report;
+use crate::setup::setup_of;
+use crate::text::report_answer;
+use crate::threads::run_threads;
+use onfi_script::{Answer, EngineFault, InputFault, Stop, read_all, refused, tell};
+use onfi_seq::Gate;
+use std::alloc::{AllocError, Global};
+use std::io::{Read, Write};
+use std::sync::Wait;
+use std::thread::Threads;
+
+/// Runs what was prepared, and answers what it came to.
+fn run<R: Threads + Wait + Sync, G: Gate + Send + Drop>(
+    rt: &R,
+    alloc: Global,
+    limit: u32,
+    gates: Vec<G>,
+    prepared: &Prepared,
+) -> Result<Report, AllocError>
+    requires some { 1 ≤ limit }
+    requires few { limit ≤ 1048576 }
+{
+    let rows = prepared.rows.as_slice();
+    let setup = setup_of(rows, &prepared.device, limit);
+    let Stage { lanes, stations } = Stage::open(alloc, setup, rows, gates)?;
+    match run_threads(rt, alloc, &setup.geometry, rows, lanes, stations) {
+        Some((lanes, stations)) => finish_all(rt, alloc, lanes, stations),
+        None => Err(AllocError),
+    }
+}
+
+/// The answer to an input.
+fn answer<R: Threads + Wait + Sync, G: Gate + Send + Drop>(
+    rt: &R,
+    alloc: Global,
+    limit: u32,
+    gates: Vec<G>,
+    input: &[u8],
+) -> Result<Answer, AllocError>
+    requires some { 1 ≤ limit }
+    requires few { limit ≤ 1048576 }
+    ensures { IfOk result (λ a. IsAnswer input.now (answer_of a)) }
+{
+    match prepare(alloc, input) {
+        Ok(prepared) => {
+            let report = run(rt, alloc, limit, gates, &prepared)?;
+            report_answer(alloc, &report)
+        }
+        Err(Stop::Refused(refusal)) => refused(alloc, refusal),
+        Err(Stop::Memory) => Err(AllocError),
+    }
+}
+
+/// Reads a script of hosts' operations, runs each channel and each host in a thread of its own, and writes what each host
+/// got. Gate i, of four, is called before each turn of channel i; one planning opens at most `limit` nodes, 1 to 1,048,576.
+///
+/// Answers the exit status of the program: 0 where everything is answered, 1 where the script is refused, 3 where a
+/// channel stopped or was left unfinished, 4 for want of memory, 6 where a planning opened `limit` nodes and wasn't over.
+///
+/// # Errors
+/// `Read` where a read failed or 2^40 reads did not come to the end: nothing was written. `Write` where a write failed: a
+/// beginning of the answer was written.
+pub fn run_script<R: Threads + Wait + Sync, G: Gate + Send + Drop, I: Read, O: Write>(
+    rt: &R,
+    alloc: Global,
+    limit: u32,
+    gates: Vec<G>,
+    reader: &mut I,
+    writer: &mut O,
+) -> Result<u8, EngineFault>
+    requires some { 1 ≤ limit }
+    requires few { limit ≤ 1048576 }
+    requires gates { length gates.items ≡ 4 }
+    ensures answer { IfOk result (λ status. Answers (I.remaining reader.old) (O.contents writer.old) (O.contents writer.new) status) }
+    ensures unread { result ≡ Err EngineFault.Read → Keeps (O.contents writer.old) (O.contents writer.new) }
+    ensures unwritten { result ≡ Err EngineFault.Write → BeginsAnswer (I.remaining reader.old) (O.contents writer.old) (O.contents writer.new) }
+{
+    let input = match read_all(alloc, reader) {
+        Ok(input) => input,
+        Err(InputFault::Read) => return Err(EngineFault::Read),
+        Err(InputFault::Memory) => return tell(writer, b"memory\n", 4),
+    };
+    match answer(rt, alloc, limit, gates, input.as_slice()) {
+        Ok(answer) => tell(writer, answer.text.as_slice(), answer.status),
+        Err(AllocError) => tell(writer, b"memory\n", 4),
+    }
+}
+
+/// What [`run_script`] does, with gates that hold nothing up: the command `run` of the program.
+///
+/// # Errors
+/// As `run_script`.
+pub fn run_freely<R: Threads + Wait + Sync, I: Read, O: Write>(
+    rt: &R,
+    alloc: Global,
+    limit: u32,
+    reader: &mut I,
+    writer: &mut O,
+) -> Result<u8, EngineFault>
+    requires some { 1 ≤ limit }
+    requires few { limit ≤ 1048576 }
+    ensures answer { IfOk result (λ status. Answers (I.remaining reader.old) (O.contents writer.old) (O.contents writer.new) status) }
+    ensures unread { result ≡ Err EngineFault.Read → Keeps (O.contents writer.old) (O.contents writer.new) }
+    ensures unwritten { result ≡ Err EngineFault.Write → BeginsAnswer (I.remaining reader.old) (O.contents writer.old) (O.contents writer.new) }
+{
+    match no_gates(alloc) {
+        Ok(gates) => run_script(rt, alloc, limit, gates, reader, writer),
+        Err(AllocError) => tell(writer, b"memory\n", 4),
+    }
+}
