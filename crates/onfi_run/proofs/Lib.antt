@@ -3,6 +3,6 @@ pub mod Rows
 pub mod OnDevice
 pub mod Ports
 pub mod Links
-pub mod Opening
+pub mod Lanes
 pub mod Told
 pub mod Same

@@ -1,5 +1,5 @@
 -- From what was written to what a run promises.
-use Rattle.std.proofs.Common.{◌≡◌, ℕ, List, Ok, Err, Some, None, refl, sym, take}
+use Rattle.std.proofs.Common.{◌≡◌, ℕ, List, Ok, Err, Some, None, refl, sym, subst, take}
 use Rattle.std.specs.Prelude.{Option, Result, IfOk, IfErr, IfSome}
 use Rattle.std.specs.Io.KnownBytes.{Appends}
 use Rattle.onfi_script.specs.Text.{Answer, memory}
@@ -30,3 +30,8 @@ told input old new answer (Err e) is w = tt
 pub told_part : (input old new : Option (List ℕ)) (answer : Answer) (r : Result ℕ EngineFault) → AnswersInput input answer → IfErr r (λ e. (e ≡ Write) × (n : ℕ) × Appends old new (take n answer.text)) → r ≡ Err Write → BeginsAnswer input old new
 told_part input old new answer (Ok s) is w e = absurd (cc)
 told_part input old new answer (Err f) is w e = told_start input old new answer w.1 is w.2
+
+-- an answer to bytes that were all that the reader had
+pub answered : (input : Option (List ℕ)) (bytes : List ℕ) (answer : Answer) → IfSome input (λ xs. bytes ≡ xs) → IsAnswer bytes answer → AnswersInput input answer
+answered None bytes answer all is = tt
+answered (Some xs) bytes answer all is = subst (λ (ys : List ℕ). IsAnswer ys answer) all is

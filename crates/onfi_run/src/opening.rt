@@ -1,7 +1,7 @@
 //! Opening the channels of a run with all their ends.
 ghost use Rattle.std.specs.Prelude.{◌≡◌, ◌<◌, ◌≤◌, ◌++◌, [], ◌∷◌, length, take, IfOk, map};
-ghost use Rattle.onfi_core.specs.Queues.{IsFresh};
-ghost use Rattle.onfi_chip.specs.SimChip.{chip_in};
+ghost use Rattle.onfi_queue.specs.Ends.{four_hosts};
+ghost use Rattle.onfi_reply.specs.Ends.{inbox_of};
 ghost use Rattle.onfi_seq.specs.Sequencer.{AreFreshPosters, IsFreshIntake};
 ghost use Rattle.onfi_run.specs.Keys.{port_key, end_of, AreAllLinked};
 ghost use Rattle.onfi_run.specs.Opening.{IsOpened, AreOpened, lane_queues};
@@ -75,6 +75,33 @@ fn open_lane<G: Gate + Drop>(
     })
 }
 
+/// A lane with the ports of its four hosts, whose ends these are.
+fn with_ports<G: Gate + Drop>(
+    alloc: Global,
+    lane: Lane<Gated<G>>,
+    hosts: [Host; 4],
+    inboxes: [Inbox; 4],
+) -> Opened<G>
+    requires posters { length lane.channel.sequencer.0.posters ≡ 4 }
+    requires hosts { hosts ≡ four_hosts lane.channel.sequencer.0.intake }
+    requires inboxes { inboxes ≡ map inbox_of lane.channel.sequencer.0.posters }
+    ensures lane { result.lane ≡ lane }
+    ensures first_port { port_key result.p0 ≡ end_of 0 (lane_queues lane) }
+    ensures second_port { port_key result.p1 ≡ end_of 1 (lane_queues lane) }
+    ensures third_port { port_key result.p2 ≡ end_of 2 (lane_queues lane) }
+    ensures fourth_port { port_key result.p3 ≡ end_of 3 (lane_queues lane) }
+{
+    let [h0, h1, h2, h3] = hosts;
+    let [i0, i1, i2, i3] = inboxes;
+    Opened {
+        lane,
+        p0: port(alloc, h0, i0),
+        p1: port(alloc, h1, i1),
+        p2: port(alloc, h2, i2),
+        p3: port(alloc, h3, i3),
+    }
+}
+
 /// Opens a channel with its gate: its lane, and the ports of the four hosts.
 fn open_channel<G: Gate + Drop>(
     alloc: Global,
@@ -91,22 +118,9 @@ fn open_channel<G: Gate + Drop>(
     ensures third_port { IfOk result (λ o. port_key o.p2 ≡ end_of 2 (lane_queues o.lane)) }
     ensures fourth_port { IfOk result (λ o. port_key o.p3 ≡ end_of 3 (lane_queues o.lane)) }
 {
-    let Ends {
-        intake,
-        posters,
-        hosts,
-        inboxes,
-    } = Ends::open(alloc, &setup, channel)?;
-    let [h0, h1, h2, h3] = hosts;
-    let [i0, i1, i2, i3] = inboxes;
-    let lane = open_lane(alloc, setup, rows, channel, gate, intake, posters)?;
-    Ok(Opened {
-        lane,
-        p0: port(alloc, h0, i0),
-        p1: port(alloc, h1, i1),
-        p2: port(alloc, h2, i2),
-        p3: port(alloc, h3, i3),
-    })
+    let ends = Ends::open(alloc, &setup, channel)?;
+    let lane = open_lane(alloc, setup, rows, channel, gate, ends.intake, ends.posters)?;
+    Ok(with_ports(alloc, lane, ends.hosts, ends.inboxes))
 }
 
 impl Station {

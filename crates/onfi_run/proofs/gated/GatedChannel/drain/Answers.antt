@@ -1,0 +1,10 @@
+use Rattle.onfi_chip.specs.SimChip.{chip_in}
+use Rattle.onfi_seq.specs.Sequencer.{seen_in}
+use Rattle.onfi_run.proofs.Same.{grown_queues, same_queues}
+use Rattle.onfi_run.proofs.gated.GatedChannel.drain.Goals as goal
+
+pub returns-clause-same : goal.returns-clause-same
+returns-clause-same g c = same_queues (seen_in chip_in c.args.self.now.sequencer) (seen_in chip_in c.drain-end.new.self) c.drain-end.ensures.same
+
+pub returns-clause-inboxes : goal.returns-clause-inboxes
+returns-clause-inboxes g c = grown_queues c.args.inboxes.now c.drain-end.new.inboxes c.drain-end.ensures.inboxes.count c.drain-end.ensures.inboxes.each

@@ -1,0 +1,23 @@
+use Rattle.std.proofs.Common.{◌≡◌, subst}
+use Rattle.std.proofs.lemmas.Result.{IfOk-weaker}
+use Rattle.onfi_script.specs.AnswerOf.{answer_of}
+use Rattle.onfi_script.specs.Stop.{IfRefused}
+use Rattle.onfi_script.specs.Text.{refused}
+use Rattle.onfi_run.specs.Prepares.{IsRefused}
+use Rattle.onfi_run.specs.Report.{report_answer}
+use Rattle.onfi_run.specs.Running.{IsAnswer, is_refused, is_report}
+use Rattle.onfi_run.proofs.running.answer.Goals as goal
+
+pub returns-in-Ok : goal.returns-in-Ok
+returns-in-Ok g c =
+    let input = c.args.input.now in
+    let p = c.in-Ok.prepared in
+    let report = c.in_ok-report.report in
+    IfOk-weaker c.report_answer.result (λ a. answer_of a ≡ report_answer report) (λ a. IsAnswer input (answer_of a)) (λ a e. is_report p.rows.items p.device report c.in-Ok.ensures e) c.report_answer.ensures
+
+pub returns-in-Err-Refused : goal.returns-in-Err-Refused
+returns-in-Err-Refused g c =
+    let input = c.args.input.now in
+    let refusal = c.in-Err-Refused.refusal in
+    let why = subst (λ s. IfRefused s (λ r. IsRefused input r)) c.in-Err-Refused.field-0-is c.in-Err-Refused.ensures in
+    IfOk-weaker c.refused.result (λ a. answer_of a ≡ refused refusal) (λ a. IsAnswer input (answer_of a)) (λ a e. is_refused refusal why e) c.refused.ensures
