@@ -25,9 +25,13 @@ workers = record (new_rule (codes "workers")) { long = Some (codes "workers"); a
 abbrev pub plan : App
 plan = with_rule (with_rule (with_rule (new_app (codes "plan")) limit) trace) workers
 
--- `check`
+-- `--remember`
+abbrev pub remember : Rule
+remember = record (new_rule (codes "remember")) { long = Some (codes "remember"); action = Some SetTrue }
+
+-- `check [--remember]`
 abbrev pub check : App
-check = new_app (codes "check")
+check = with_rule (new_app (codes "check")) remember
 
 -- `run [--limit N]`
 abbrev pub run : App
@@ -67,7 +71,7 @@ IsInRange (Run limit) = (1 ≤ limit) × (limit ≤ 1048576)
 -- a subcommand with these arguments is what is named
 abbrev pub IsNamed : Named → List ℕ → List Used → Type 0
 IsNamed (Problem (Plan limit traced) workers) name used = (name ≡ codes "plan") × IsLimit (first_of (codes "limit") used) limit × (traced ≡ is_given (first_of (codes "trace") used)) × IsWorkers (first_of (codes "workers") used) workers
-IsNamed (Problem Check workers) name used = (name ≡ codes "check") × (workers ≡ 1)
+IsNamed (Problem (Check remembers) workers) name used = (name ≡ codes "check") × (remembers ≡ is_given (first_of (codes "remember") used)) × (workers ≡ 1)
 IsNamed (Run limit) name used = (name ≡ codes "run") × IsLimit (first_of (codes "limit") used) limit
 
 -- the words, of which the first is the program's name, name this

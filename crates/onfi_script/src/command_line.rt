@@ -53,12 +53,13 @@ fn with_plan<'a>(alloc: Global) -> Result<App<'a>, AllocError>
     App::new(alloc, "onfi_sim").subcommand(plan)
 }
 
-/// .. and the command `check`.
+/// .. and the command `check [--remember]`.
 fn with_check<'a>(alloc: Global) -> Result<App<'a>, AllocError>
     ensures { IfOk result (λ a. app_of a ≡ spec.with_check) }
 {
+    let check = App::new(alloc, "check").arg(option(alloc, "remember", ArgAction::SetTrue))?;
     let program = with_plan(alloc)?;
-    program.subcommand(App::new(alloc, "check"))
+    program.subcommand(check)
 }
 
 /// What the program understands.
@@ -98,11 +99,11 @@ fn workers_of(matches: &ArgMatches<'_>) -> Result<usize, WordsFault>
     }
 }
 
-/// Whether a trace is asked for.
-fn is_traced(matches: &ArgMatches<'_>) -> bool
-    ensures { result ≡ spec.is_given (first_value (found_of matches.now) (codes "trace")) }
+/// Whether a flag is given.
+fn is_given(matches: &ArgMatches<'_>, flag: &str) -> bool
+    ensures { result ≡ spec.is_given (first_value (found_of matches.now) flag.now) }
 {
-    match matches.get_str("trace") {
+    match matches.get_str(flag) {
         Some(text) => text == "true",
         None => false,
     }
@@ -141,11 +142,12 @@ pub fn words<'a>(alloc: Global, words: &'a [String]) -> Result<Named, WordsFault
     if name == "plan" {
         let limit = limit_of(used)?;
         let workers = workers_of(used)?;
-        let trace = is_traced(used);
+        let trace = is_given(used, "trace");
         let command = Command::Plan { limit, trace };
         Ok(Named::Problem { command, workers })
     } else if name == "check" {
-        let command = Command::Check;
+        let remember = is_given(used, "remember");
+        let command = Command::Check { remember };
         Ok(Named::Problem {
             command,
             workers: 1,

@@ -31,7 +31,7 @@ fn main(rt: HostRuntime) -> ExitCode {
         }
         Ok(Named::Run { .. }) | Err(WordsFault::Refused) => {
             let _ = rt.eprintln(
-                "usage: onfi_sim plan [--limit N] [--trace] [--workers N] | onfi_sim check",
+                "usage: onfi_sim plan [--limit N] [--trace] [--workers N] | onfi_sim check [--remember]",
             );
             return ExitCode::from(5);
         }
