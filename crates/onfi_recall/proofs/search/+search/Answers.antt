@@ -66,10 +66,10 @@ search_below-search-requires t c =
     )
 
 pub search_below-numbers_of-behind-requires : goal.search_below-numbers_of-behind-requires
-search_below-numbers_of-behind-requires t c = subst (λ (z : Position). c.lun.result < length z.problem.luns) (sym (c.in_ok-shown.ensures ∙ c.advance-undo.ensures.moved)) (there_behind c.args.problem.now c.args.step c.lun.result c.requires.step c.lun.ensures)
+search_below-numbers_of-behind-requires t c = subst (λ (z : Position). c.lun.result < length z.problem.luns) (sym (c.in_ok-shown.ensures.problem ∙ c.advance-undo.ensures.moved)) (there_behind c.args.problem.now c.args.step c.lun.result c.requires.step c.lun.ensures)
 
 pub search_below-undo-requires-clause-limits : goal.search_below-undo-requires-clause-limits
-search_below-undo-requires-clause-limits t c = subst (λ (z : Position). InLimits (restored z c.advance-undo.result).problem) (sym c.in_ok-shown.ensures) c.advance-undo.ensures.limits
+search_below-undo-requires-clause-limits t c = subst (λ (z : Position). InLimits (restored z c.advance-undo.result).problem) (sym c.in_ok-shown.ensures.problem) c.advance-undo.ensures.limits
 
 pub search_below-undo-requires-clause-lun : goal.search_below-undo-requires-clause-lun
-search_below-undo-requires-clause-lun t c = subst (λ (z : Position). c.advance-undo.result.lun < length z.problem.luns) (sym c.in_ok-shown.ensures) c.advance-undo.ensures.within
+search_below-undo-requires-clause-lun t c = subst (λ (z : Position). c.advance-undo.result.lun < length z.problem.luns) (sym c.in_ok-shown.ensures.problem) c.advance-undo.ensures.within
