@@ -1,5 +1,5 @@
 -- Groups by rising first start, one after another.
-use Rattle.std.proofs.Common.{◌≡◌, ℕ, ◌+◌, ◌<◌, ◌≤◌, List, [], ◌∷◌, ◌++◌, length, take, get_or, sym, subst, arith}
+use Rattle.std.proofs.Common.{◌≡◌, ℕ, ◌+◌, ◌<◌, ◌≤◌, List, [], ◌∷◌, ◌++◌, length, take, get_or, sym, ap, ◌∙◌, subst, arith}
 use Rattle.std.specs.List.{AllByRecursion as All}
 use Rattle.std.proofs.lemmas.List.{take_more, take_all}
 use Rattle.onfi_problem.proofs.Perm.{All-append, All-weaker}
@@ -16,10 +16,9 @@ pub record RiseBelow (groups : List Placed) (i least : ℕ) : Type 0 where
   pub below : All (λ g. first_start g < least) (take i groups)
 
 -- one group more, which starts then or later
-pub one_higher : (groups : List Placed) (i least start : ℕ) (d : Placed) → i < length groups → start ≡ first_start (get_or groups i d) → least ≤ start → RiseBelow groups i least → RiseBelow groups (i + 1) (start + 1)
-one_higher groups i least start d h e le r =
-    let y = get_or groups i d in
-    let all = sym (take_more groups i d h) in
+pub one_higher : (groups : List Placed) (i least start : ℕ) (y : Placed) → i < length groups → y ≡ get_or groups i y → start ≡ first_start y → least ≤ start → RiseBelow groups i least → RiseBelow groups (i + 1) (start + 1)
+one_higher groups i least start y h at e le r =
+    let all : take i groups ++ y ∷ [] ≡ take (i + 1) groups = sym (take_more groups i y h ∙ ap (λ z. take i groups ++ z ∷ []) (sym at)) in
     record {
       rising = subst AreRising all (rise_last (take i groups) y r.rising (All-weaker _ _ (λ g k. omega arith) (take i groups) r.below));
       below = subst (All (λ g. first_start g < start + 1)) all (All-append _ (take i groups) (y ∷ []) (All-weaker _ _ (λ g k. omega arith) (take i groups) r.below) (omega arith, tt));

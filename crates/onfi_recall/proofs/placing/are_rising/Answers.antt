@@ -1,4 +1,3 @@
-use Rattle.std.proofs.Common.{get_or}
 use Rattle.std.proofs.lemmas.Bool.{false≢true}
 use Rattle.onfi_recall.proofs.Rising.{one_higher, all_rise}
 use Rattle.onfi_recall.proofs.placing.are_rising.Goals as goal
@@ -7,7 +6,7 @@ pub loop-group-init : goal.loop-group-init
 loop-group-init c = record { rising = tt; below = tt }
 
 pub loop-group-preserved : goal.loop-group-preserved
-loop-group-preserved c = one_higher c.args.groups.now c.loop-group.group-index c.loop-group.least c.first_start-start.result _ c.loop-group-test.true c.first_start-start.ensures.value c.if-start-least.false c.loop-group.invariant
+loop-group-preserved c = one_higher c.args.groups.now c.loop-group.group-index c.loop-group.least c.first_start-start.result c.group-item.result c.loop-group-test.true c.group-item.is c.first_start-start.ensures.value c.if-start-least.false c.loop-group.invariant
 
 pub returns-then-start-least : goal.returns-then-start-least
 returns-then-start-least c = λ t. absurd (false≢true t)
