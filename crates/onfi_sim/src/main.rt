@@ -33,7 +33,7 @@ fn main(rt: HostRuntime) -> ExitCode {
         }
         Err(WordsFault::Refused) => {
             let _ = rt.eprintln(
-                "usage: onfi_sim plan [--limit N] [--trace] [--workers N] | onfi_sim check | onfi_sim run [--limit N]",
+                "usage: onfi_sim plan [--limit N] [--trace] [--workers N] | onfi_sim check [--remember] | onfi_sim run [--limit N]",
             );
             return ExitCode::from(5);
         }
