@@ -9,7 +9,9 @@
 below = $(filter onfi_%,$(shell sed -n 's/^$(1)\( [^:]*\)\{0,1\}://p' crates.txt))
 proved = $(patsubst %,crates/%/out/proved,$(1))
 sources_of = $(shell find $(wildcard crates/$(1)/src crates/$(1)/specs crates/$(1)/proofs) -type f)
+# What the library for C stands on, and what the program does.
 LIBRARIES := $(sort $(foreach crate,$(call below,onfi_script),$(call below,$(crate)) $(crate))) onfi_script
+PROGRAM := $(sort $(LIBRARIES) $(foreach crate,$(call below,onfi_run),$(call below,$(crate)) $(crate))) onfi_run
 
 # The crates are a chain but for one. So some are proved ahead, beside the crates named here, from their sources.
 ahead_onfi_addr := onfi_param
@@ -36,7 +38,7 @@ crates/$(1)/out/proved: $(call proved,$(call below,$(1))) $(call sources_of,$(1)
 	@$(if $(beside_$(1)),nice) tools/prove library $(1) --source $(ahead_$(1)) --jobs $(if $(beside_$(1)),1,$(JOBS))
 	@touch $$@
 endef
-$(foreach crate,$(LIBRARIES),$(eval $(call library,$(crate))))
+$(foreach crate,$(PROGRAM),$(eval $(call library,$(crate))))
 
 # Only where nothing of the crate is kept: its own check finds what was proved here, and decides.
 define ahead
@@ -45,9 +47,9 @@ crates/$(1)/out/ahead: | $(call proved,$(filter-out $(ahead_$(1)),$(call below,$
 	@nice tools/prove ahead $(1) --source $(ahead_$(1)) $(only_$(1):%=--only %) --jobs 2 || true
 	@touch $$@
 endef
-$(foreach crate,$(LIBRARIES),$(if $(ahead_$(crate)),$(eval $(call ahead,$(crate)))))
+$(foreach crate,$(PROGRAM),$(if $(ahead_$(crate)),$(eval $(call ahead,$(crate)))))
 
-bin/onfi_sim: $(call proved,$(LIBRARIES)) $(call sources_of,onfi_sim) crates.txt
+bin/onfi_sim: $(call proved,$(PROGRAM)) $(call sources_of,onfi_sim) crates.txt
 	@echo "proving onfi_sim"
 	@tools/prove program onfi_sim --jobs $(JOBS)
 	@mkdir -p bin

@@ -12,7 +12,7 @@ use Rattle.onfi_run.specs.declared.lane.Lane.{Lane}
 use Rattle.onfi_run.specs.declared.port.Port.{Port}
 use Rattle.onfi_run.specs.declared.station.Stations.{Stations}
 use Rattle.onfi_run.specs.Keys.{ChannelQueues, PortKey, port_key, end_of, AreLinked, AreAllLinked, HasSamePorts}
-use Rattle.onfi_run.specs.Opening.{IsOpened, AreOpened}
+use Rattle.onfi_run.specs.Opening.{IsOpened, AreOpened, lane_queues}
 
 -- ---- the ends of one channel
 -- the queues of a channel with that intake and those posters
@@ -56,6 +56,18 @@ keys_are t (w ∷ x ∷ y ∷ z ∷ []) h0 h1 h2 h3 i0 i1 i2 i3 four hosts inbox
     }
 keys_are t (w ∷ x ∷ y ∷ z ∷ v ∷ posters) h0 h1 h2 h3 i0 i1 i2 i3 four hosts inboxes = absurd (omega (arith, four))
 
+-- the ports of a lane that has these ends
+pub ports_are : {G : Type 0} (lane made : Lane (Gated G)) (t : IntakeView) (posters : List PosterView) (p0 p1 p2 p3 : Port) (hosts : List HostView) (inboxes : List InboxView) → made ≡ lane
+    → lane.channel.sequencer.0.intake ≡ t → lane.channel.sequencer.0.posters ≡ posters → length posters ≡ 4 → hosts ≡ four_hosts t → inboxes ≡ map inbox_of posters
+    → p0.host ∷ p1.host ∷ p2.host ∷ p3.host ∷ [] ≡ hosts → p0.inbox ∷ p1.inbox ∷ p2.inbox ∷ p3.inbox ∷ [] ≡ inboxes
+    → AreKeys (lane_queues made) p0.host p1.host p2.host p3.host p0.inbox p1.inbox p2.inbox p3.inbox
+ports_are lane made t posters p0 p1 p2 p3 hosts inboxes made_is intake_is posters_are four hosts_are inboxes_are host_list inbox_list =
+    let P : ChannelQueues → Type 0 = λ q. AreKeys q p0.host p1.host p2.host p3.host p0.inbox p1.inbox p2.inbox p3.inbox in
+    let keys = keys_are t posters p0.host p1.host p2.host p3.host p0.inbox p1.inbox p2.inbox p3.inbox four (host_list ∙ hosts_are) (inbox_list ∙ inboxes_are) in
+    let there = subst (λ (x : IntakeView). P (queues_with x posters)) (sym intake_is) keys in
+    let here = subst (λ (xs : List PosterView). P (queues_with lane.channel.sequencer.0.intake xs)) (sym posters_are) there in
+    subst (λ l. P (lane_queues l)) (sym made_is) here
+
 -- ---- one channel more
 snoc_same : {A : Type 0} (xs ys : List A) (x y : A) → xs ≡ ys → x ≡ y → xs ++ x ∷ [] ≡ ys ++ y ∷ []
 snoc_same xs ys x y front last = ap (λ l. l ++ x ∷ []) front ∙ ap (λ z. ys ++ z ∷ []) last
@@ -78,6 +90,14 @@ opened_more setup rows number [] gate (l ∷ lanes) lane all one = absurd all
 opened_more setup rows number (g ∷ gates) gate (l ∷ lanes) lane (here, all) one =
     let n : number + length (g ∷ gates) ≡ number + 1 + length gates = omega arith in
     (here, opened_more setup rows (number + 1) gates gate lanes lane all (subst (λ n. IsOpened setup rows n gate lane) n one))
+
+-- .. where all are told by equations
+pub opened_with : {G : Type 0} (setup : Setup) (rows : List Row) (gates left : List G) (gate : G) (lanes all : List (Lane (Gated G))) (lane : Lane (Gated G)) (number : ℕ) → gates ≡ left ++ gate ∷ [] → number ≡ length left
+    → AreOpened setup rows 0 left lanes → IsOpened setup rows number gate lane → all ≡ lanes ++ lane ∷ [] → AreOpened setup rows 0 gates all
+opened_with setup rows gates left gate lanes all lane number gates_are number_is opened one all_are =
+    let n : number ≡ 0 + length left = omega (arith, number_is) in
+    let more = opened_more setup rows 0 left gate lanes lane opened (subst (λ k. IsOpened setup rows k gate lane) n one) in
+    subst (λ gs. AreOpened setup rows 0 gs all) (sym gates_are) (subst (λ ls. AreOpened setup rows 0 (left ++ gate ∷ []) ls) (sym all_are) more)
 
 -- ---- behind the threads
 -- what comes back from threads is linked as what went in

@@ -1,7 +1,5 @@
 //! Opening the channels of a run with all their ends.
 ghost use Rattle.std.specs.Prelude.{◌≡◌, ◌<◌, ◌≤◌, ◌++◌, [], ◌∷◌, length, take, IfOk, map};
-ghost use Rattle.onfi_queue.specs.Ends.{four_hosts};
-ghost use Rattle.onfi_reply.specs.Ends.{inbox_of};
 ghost use Rattle.onfi_seq.specs.Sequencer.{AreFreshPosters, IsFreshIntake};
 ghost use Rattle.onfi_run.specs.Keys.{port_key, end_of, AreAllLinked};
 ghost use Rattle.onfi_run.specs.Opening.{IsOpened, AreOpened, lane_queues};
@@ -75,21 +73,16 @@ fn open_lane<G: Gate + Drop>(
     })
 }
 
-/// A lane with the ports of its four hosts, whose ends these are.
+/// A lane with the ports of its four hosts, which have these ends.
 fn with_ports<G: Gate + Drop>(
     alloc: Global,
     lane: Lane<Gated<G>>,
     hosts: [Host; 4],
     inboxes: [Inbox; 4],
 ) -> Opened<G>
-    requires posters { length lane.channel.sequencer.0.posters ≡ 4 }
-    requires hosts { hosts ≡ four_hosts lane.channel.sequencer.0.intake }
-    requires inboxes { inboxes ≡ map inbox_of lane.channel.sequencer.0.posters }
     ensures lane { result.lane ≡ lane }
-    ensures first_port { port_key result.p0 ≡ end_of 0 (lane_queues lane) }
-    ensures second_port { port_key result.p1 ≡ end_of 1 (lane_queues lane) }
-    ensures third_port { port_key result.p2 ≡ end_of 2 (lane_queues lane) }
-    ensures fourth_port { port_key result.p3 ≡ end_of 3 (lane_queues lane) }
+    ensures hosts { result.p0.host ∷ result.p1.host ∷ result.p2.host ∷ result.p3.host ∷ [] ≡ hosts }
+    ensures inboxes { result.p0.inbox ∷ result.p1.inbox ∷ result.p2.inbox ∷ result.p3.inbox ∷ [] ≡ inboxes }
 {
     let [h0, h1, h2, h3] = hosts;
     let [i0, i1, i2, i3] = inboxes;
@@ -120,7 +113,8 @@ fn open_channel<G: Gate + Drop>(
 {
     let ends = Ends::open(alloc, &setup, channel)?;
     let lane = open_lane(alloc, setup, rows, channel, gate, ends.intake, ends.posters)?;
-    Ok(with_ports(alloc, lane, ends.hosts, ends.inboxes))
+    let opened = with_ports(alloc, lane, ends.hosts, ends.inboxes);
+    Ok(opened)
 }
 
 impl Station {
