@@ -1,5 +1,5 @@
 -- Channels that open with all ends of their queues.
-use Rattle.std.proofs.Common.{◌≡◌, ℕ, ◌+◌, List, [], ◌∷◌, ◌++◌, length, map, refl, sym, ap, ◌∙◌, subst, add-zero, arith, Some}
+use Rattle.std.proofs.Common.{◌≡◌, ℕ, ◌+◌, List, [], ◌∷◌, ◌++◌, length, map, get_or, refl, sym, ap, ◌∙◌, subst, add-zero, arith, Some}
 use Rattle.std.specs.Prelude.{Option}
 use Rattle.std.proofs.lemmas.List.{map-append}
 use Rattle.onfi_core.specs.declared.setup.Setup.{Setup}
@@ -30,6 +30,15 @@ key_is t number p h i host inbox = ap (λ (x : HostView). key_of x i) host ∙ a
 -- each of two lists of four
 four_same : {A : Type 0} (a b c d a' b' c' d' : A) → a ∷ b ∷ c ∷ d ∷ [] ≡ a' ∷ b' ∷ c' ∷ d' ∷ [] → (a ≡ a') × (b ≡ b') × (c ≡ c') × (d ≡ d')
 four_same a b c d a' b' c' d' e = (cc, cc, cc, cc)
+
+-- a list of four is told by what stands at its places
+pub four_at : {A : Type 0} (xs : List A) (a b c d : A) → length xs ≡ 4 → a ≡ get_or xs 0 a → b ≡ get_or xs 1 b → c ≡ get_or xs 2 c → d ≡ get_or xs 3 d → a ∷ b ∷ c ∷ d ∷ [] ≡ xs
+four_at [] a b c d n e0 e1 e2 e3 = absurd (omega (arith, n))
+four_at (w ∷ []) a b c d n e0 e1 e2 e3 = absurd (omega (arith, n))
+four_at (w ∷ x ∷ []) a b c d n e0 e1 e2 e3 = absurd (omega (arith, n))
+four_at (w ∷ x ∷ y ∷ []) a b c d n e0 e1 e2 e3 = absurd (omega (arith, n))
+four_at (w ∷ x ∷ y ∷ z ∷ []) a b c d n e0 e1 e2 e3 = cc
+four_at (w ∷ x ∷ y ∷ z ∷ v ∷ xs) a b c d n e0 e1 e2 e3 = absurd (omega (arith, n))
 
 -- these are the ends of the four hosts
 pub record AreKeys (q : ChannelQueues) (h0 h1 h2 h3 : HostView) (i0 i1 i2 i3 : InboxView) : Type 0 where
