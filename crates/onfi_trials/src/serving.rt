@@ -1,0 +1,218 @@
+ghost use Rattle.std.specs.Prelude.{◌≡◌, List, IfOk};
+ghost use Rattle.atomic_table.specs.Seated.{TableId};
+ghost use Rattle.onfi_queue.specs.Ends.{AreHostsOf, HostView};
+ghost use Rattle.onfi_reply.specs.Ends.{InboxView};
+ghost use Rattle.onfi_seq.specs.Drained.{AreOtherEnds};
+
+use crate::channel::{fresh_chip, page_0, say_reply, setup};
+use crate::ended::Ended;
+use onfi_chip::SimChip;
+use onfi_queue::Host;
+use onfi_reply::Inbox;
+use onfi_seq::{Drained, Ends, Gate, Sequencer, Turn};
+use onfi_timing::Kind;
+use std::alloc::Global;
+use std::sync::Wait;
+
+/// Holds no channel.
+#[derive(Drop)]
+struct NoGate;
+
+impl Gate for NoGate {
+    fn before(&mut self, _channel: u8, _turn: u64) {}
+}
+
+/// A channel, and the ends of its four hosts.
+#[derive(Drop)]
+struct Served {
+    sequencer: Sequencer<SimChip>,
+    hosts: [Host; 4],
+    inboxes: [Inbox; 4],
+}
+
+/// With room for one reply to each host.
+fn open_served(alloc: Global) -> Result<Served, Ended>
+    ensures { IfOk result (λ served. AreOtherEnds served.sequencer.0 served.hosts served.inboxes) }
+{
+    let setup = setup(4, 4)?;
+    let chip = fresh_chip(alloc, setup)?;
+    let Ends {
+        intake,
+        posters,
+        hosts,
+        inboxes,
+    } = Ends::open(alloc, &setup, 0)?;
+    Ok(Served {
+        sequencer: Sequencer::open(alloc, setup, 0, chip, intake, posters)?,
+        hosts,
+        inboxes,
+    })
+}
+
+/// Submits operations of page 0.
+fn submit<R: Print + Wait>(
+    rt: &R,
+    alloc: Global,
+    host: &mut Host,
+    kinds: &[Kind],
+) -> Result<(), Ended>
+    ensures { (host.new.queue ≡ host.old.queue) × (host.new.number ≡ host.old.number) }
+{
+    for kind in kinds {
+        if host.submit(rt, page_0(alloc, *kind)?).is_err() {
+            return Err(Ended::NoTrial);
+        }
+    }
+    Ok(())
+}
+
+/// Hosts 0 and 1 submit these operations of page 0.
+fn submit_both<R: Print + Wait>(
+    rt: &R,
+    alloc: Global,
+    hosts: [Host; 4],
+    first_kinds: &[Kind],
+    second_kinds: &[Kind],
+) -> Result<[Host; 4], Ended>
+    ensures { IfOk result (λ sent. (queue : TableId) → AreHostsOf queue 0 hosts → AreHostsOf queue 0 sent) }
+{
+    let [mut first, mut second, third, fourth] = hosts;
+    submit(rt, alloc, &mut first, first_kinds)?;
+    submit(rt, alloc, &mut second, second_kinds)?;
+    Ok([first, second, third, fourth])
+}
+
+/// A turn, told; once more where memory was refused.
+fn turn<R: Print + Wait>(
+    rt: &R,
+    alloc: Global,
+    sequencer: &mut Sequencer<SimChip>,
+) -> Result<Turn, Ended>
+    ensures { (hosts : List HostView) (inboxes : List InboxView) → AreOtherEnds sequencer.old.0 hosts inboxes → AreOtherEnds sequencer.new.0 hosts inboxes }
+{
+    for _try in 0..2u8 {
+        let turn = sequencer.turn(rt, alloc, &mut NoGate);
+        if turn != Turn::Memory {
+            println!(rt; "{turn:?}")?;
+            return Ok(turn);
+        }
+        println!(rt; "memory")?;
+    }
+    Err(Ended::Memory)
+}
+
+/// Turns until nothing is left to do but to post to hosts that don't collect.
+fn turn_by_turn<R: Print + Wait>(
+    rt: &R,
+    alloc: Global,
+    sequencer: &mut Sequencer<SimChip>,
+) -> Result<(), Ended>
+    ensures { (hosts : List HostView) (inboxes : List InboxView) → AreOtherEnds sequencer.old.0 hosts inboxes → AreOtherEnds sequencer.new.0 hosts inboxes }
+{
+    for _turn in 0..100u8 {
+        if turn(rt, alloc, sequencer)? == Turn::PostFull {
+            return Ok(());
+        }
+    }
+    Err(Ended::NoTrial)
+}
+
+/// Host and serial of each item that waits for its reply; once more where memory was refused.
+fn say_unanswered(
+    rt: &impl Print,
+    alloc: Global,
+    sequencer: &Sequencer<SimChip>,
+) -> Result<(), Ended> {
+    for _try in 0..2u8 {
+        let Ok(senders) = sequencer.unanswered(alloc) else {
+            println!(rt; "memory")?;
+            continue;
+        };
+        for (host, serial) in senders.as_slice() {
+            println!(rt; "unanswered {host} {serial}")?;
+        }
+        return Ok(());
+    }
+    Err(Ended::Memory)
+}
+
+/// Drains the channel; once more where memory was refused. Its turns are spent only where each answers Memory.
+fn drain<R: Print + Wait>(rt: &R, alloc: Global, served: Served) -> Result<[Inbox; 4], Ended>
+    requires { AreOtherEnds served.sequencer.0 served.hosts served.inboxes }
+{
+    let Served {
+        mut sequencer,
+        hosts,
+        mut inboxes,
+    } = served;
+    for _try in 0..2u8 {
+        match sequencer.drain(rt, alloc, &mut NoGate, &hosts, &mut inboxes, 100) {
+            Drained::Memory | Drained::TurnsSpent => println!(rt; "memory")?,
+            end => {
+                println!(rt; "{end:?}")?;
+                return Ok(inboxes);
+            }
+        }
+    }
+    Err(Ended::Memory)
+}
+
+/// All that the inbox gives.
+fn say_replies<R: Print + Wait>(rt: &R, mut inbox: Inbox) -> Result<(), Ended> {
+    for _reply in 0..100u8 {
+        match inbox.collect(rt) {
+            Some(reply) => say_reply(rt, &reply)?,
+            None => break,
+        }
+    }
+    Ok(())
+}
+
+/// Drains the channel, and tells what hosts 0 and 1 collect.
+fn drain_and_collect<R: Print + Wait>(rt: &R, alloc: Global, served: Served) -> Result<(), Ended>
+    requires { AreOtherEnds served.sequencer.0 served.hosts served.inboxes }
+{
+    let [first, second, _, _] = drain(rt, alloc, served)?;
+    say_replies(rt, first)?;
+    say_replies(rt, second)
+}
+
+/// Three reads of host 0 and one of host 1, who don't collect; then the channel is drained.
+pub(crate) fn serve_reads<R: Print + Wait>(rt: &R, alloc: Global) -> Result<(), Ended> {
+    let Served {
+        mut sequencer,
+        hosts,
+        inboxes,
+    } = open_served(alloc)?;
+    let hosts = submit_both(rt, alloc, hosts, &[Kind::Read; 3], &[Kind::Read])?;
+    turn_by_turn(rt, alloc, &mut sequencer)?;
+    say_unanswered(rt, alloc, &sequencer)?;
+    let served = Served {
+        sequencer,
+        hosts,
+        inboxes,
+    };
+    drain_and_collect(rt, alloc, served)
+}
+
+/// An erase and a program of host 0 and a read of host 1: all turns are those of the draining.
+pub(crate) fn drain_at_once<R: Print + Wait>(rt: &R, alloc: Global) -> Result<(), Ended> {
+    let Served {
+        sequencer,
+        hosts,
+        inboxes,
+    } = open_served(alloc)?;
+    let hosts = submit_both(
+        rt,
+        alloc,
+        hosts,
+        &[Kind::Erase, Kind::Program],
+        &[Kind::Read],
+    )?;
+    let served = Served {
+        sequencer,
+        hosts,
+        inboxes,
+    };
+    drain_and_collect(rt, alloc, served)
+}
