@@ -6,6 +6,7 @@ use onfi_chip::SimChip;
 use onfi_core::Setup;
 use onfi_queue::{Host, SubmitFault};
 use onfi_reply::Inbox;
+use onfi_request::{Reply, Request};
 use onfi_samples::sample_geometry;
 use onfi_seq::{Closed, Drained, Ends, Gate, Sequencer, Turn};
 use std::alloc::{AllocError, Global};
@@ -62,22 +63,25 @@ impl Bench {
         requires channel { channel < setup.channels }
     {
         let chip = fresh_chip(alloc, setup, trouble)?;
+        let ends = Ends::open(alloc, &setup, channel)?;
         let Ends {
             intake,
             posters,
             hosts,
             inboxes,
-        } = Ends::open(alloc, &setup, channel)?;
+        } = ends;
+        let sequencer = Sequencer::open(alloc, setup, channel, chip, intake, posters)?;
+        let gate = Watch {
+            channel,
+            begun: 0,
+            missed: 0,
+        };
         Ok(Bench {
             alloc,
-            sequencer: Sequencer::open(alloc, setup, channel, chip, intake, posters)?,
+            sequencer,
             hosts,
             inboxes,
-            gate: Watch {
-                channel,
-                begun: 0,
-                missed: 0,
-            },
+            gate,
         })
     }
 
@@ -102,10 +106,7 @@ impl Bench {
     {
         let request = request_for(self.alloc, &sample_geometry(), op).expect(rt, "memory");
         let end = &mut self.hosts[usize::from(host)];
-        match end.submit(rt, request) {
-            Ok(serial) => Ok(serial),
-            Err((fault, _)) => Err(fault),
-        }
+        submit_by(rt, end, request)
     }
 
     /// A turn, which its gate is told of once.
@@ -128,8 +129,10 @@ impl Bench {
     /// The next turn plans, and its plan ends then, in ns of the channel's clock.
     pub(crate) fn plans<R: Wait + Abort>(&mut self, rt: &R, finish: u64) {
         self.turns(rt, &[Turn::Planned]);
-        let planned = self.sequencer.last().map(|last| last.1.finish);
-        assert_eq!(rt; planned, Some(finish));
+        let Some((_, planned)) = self.sequencer.last() else {
+            panic!(rt; "no plan");
+        };
+        assert_eq!(rt; planned.finish, finish);
     }
 
     pub(crate) fn set_batch(&mut self, batch: u8)
@@ -175,6 +178,13 @@ impl Bench {
         }
     }
 
+    fn collect<R: Wait>(&mut self, rt: &R, host: u8) -> Option<Reply>
+        requires { host < 4 }
+    {
+        let inbox = &mut self.inboxes[usize::from(host)];
+        inbox.collect(rt)
+    }
+
     /// The host's inbox gives these replies, the first with that place and serial, the others with those behind.
     pub(crate) fn gives<R: Wait + Abort>(
         &mut self,
@@ -186,8 +196,7 @@ impl Bench {
         assert!(rt; host < 4);
         let (mut place, mut serial) = first;
         for told in replies {
-            let inbox = &mut self.inboxes[usize::from(host)];
-            let reply = inbox.collect(rt).expect(rt, "a reply");
+            let reply = self.collect(rt, host).expect(rt, "a reply");
             assert_eq!(rt; (reply.host, reply.serial), (host, serial));
             assert_eq!(rt; told_by(&reply), (place, *told));
             place = place.wrapping_add(1);
@@ -211,22 +220,22 @@ impl Bench {
 
     /// No inbox has a reply left, and that much went through the channel.
     pub(crate) fn closes<R: Wait + Abort>(
-        self,
+        mut self,
         rt: &R,
         sent: [u64; 4],
         accepted: u64,
         posted: u64,
     ) {
+        for host in 0..4u8 {
+            let none_left = self.collect(rt, host).is_none();
+            assert!(rt; none_left);
+        }
         let Bench {
             sequencer,
             hosts,
-            mut inboxes,
+            inboxes,
             ..
         } = self;
-        for host in 0..4usize {
-            let inbox = &mut inboxes[host];
-            assert!(rt; inbox.collect(rt).is_none());
-        }
         let closed = sequencer.close(rt, hosts, inboxes);
         let told = Closed {
             sent,
@@ -234,5 +243,14 @@ impl Bench {
             posted,
         };
         assert_eq!(rt; closed, told);
+    }
+}
+
+fn submit_by<R: Wait>(rt: &R, host: &mut Host, request: Request) -> Result<u32, SubmitFault>
+    ensures { (host.new.queue ≡ host.old.queue) × (host.new.number ≡ host.old.number) }
+{
+    match host.submit(rt, request) {
+        Ok(serial) => Ok(serial),
+        Err((fault, _)) => Err(fault),
     }
 }

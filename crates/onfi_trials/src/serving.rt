@@ -1,4 +1,4 @@
-ghost use Rattle.std.specs.Prelude.{◌≡◌, List, IfOk};
+ghost use Rattle.std.specs.Prelude.{◌≡◌, ◌<◌, List, IfOk};
 ghost use Rattle.atomic_table.specs.Seated.{TableId};
 ghost use Rattle.onfi_queue.specs.Ends.{AreHostsOf, HostView};
 ghost use Rattle.onfi_reply.specs.Ends.{InboxView};
@@ -9,6 +9,7 @@ use crate::ended::Ended;
 use onfi_chip::SimChip;
 use onfi_queue::Host;
 use onfi_reply::Inbox;
+use onfi_request::Request;
 use onfi_seq::{Drained, Ends, Gate, Sequencer, Turn};
 use onfi_timing::Kind;
 use std::alloc::Global;
@@ -36,50 +37,47 @@ fn open_served(alloc: Global) -> Result<Served, Ended>
 {
     let setup = setup(4, 4)?;
     let chip = fresh_chip(alloc, setup)?;
+    let ends = Ends::open(alloc, &setup, 0)?;
     let Ends {
         intake,
         posters,
         hosts,
         inboxes,
-    } = Ends::open(alloc, &setup, 0)?;
+    } = ends;
+    let sequencer = Sequencer::open(alloc, setup, 0, chip, intake, posters)?;
     Ok(Served {
-        sequencer: Sequencer::open(alloc, setup, 0, chip, intake, posters)?,
+        sequencer,
         hosts,
         inboxes,
     })
 }
 
-/// Submits operations of page 0.
-fn submit<R: Print + Wait>(
+/// The host submits operations of page 0.
+fn submit<R: Wait>(
     rt: &R,
     alloc: Global,
-    host: &mut Host,
+    hosts: &mut [Host; 4],
+    host: usize,
     kinds: &[Kind],
 ) -> Result<(), Ended>
-    ensures { (host.new.queue ≡ host.old.queue) × (host.new.number ≡ host.old.number) }
+    requires { host < 4 }
+    ensures { (queue : TableId) → AreHostsOf queue 0 hosts.old → AreHostsOf queue 0 hosts.new }
 {
     for kind in kinds {
-        if host.submit(rt, page_0(alloc, *kind)?).is_err() {
-            return Err(Ended::NoTrial);
-        }
+        let request = page_0(alloc, *kind)?;
+        let end = &mut hosts[host];
+        submit_one(rt, end, request)?;
     }
     Ok(())
 }
 
-/// Hosts 0 and 1 submit these operations of page 0.
-fn submit_both<R: Print + Wait>(
-    rt: &R,
-    alloc: Global,
-    hosts: [Host; 4],
-    first_kinds: &[Kind],
-    second_kinds: &[Kind],
-) -> Result<[Host; 4], Ended>
-    ensures { IfOk result (λ sent. (queue : TableId) → AreHostsOf queue 0 hosts → AreHostsOf queue 0 sent) }
+fn submit_one<R: Wait>(rt: &R, host: &mut Host, request: Request) -> Result<(), Ended>
+    ensures { (host.new.queue ≡ host.old.queue) × (host.new.number ≡ host.old.number) }
 {
-    let [mut first, mut second, third, fourth] = hosts;
-    submit(rt, alloc, &mut first, first_kinds)?;
-    submit(rt, alloc, &mut second, second_kinds)?;
-    Ok([first, second, third, fourth])
+    match host.submit(rt, request) {
+        Ok(_) => Ok(()),
+        Err(_) => Err(Ended::NoTrial),
+    }
 }
 
 /// A turn, told; once more where memory was refused.
@@ -158,7 +156,7 @@ fn drain<R: Print + Wait>(rt: &R, alloc: Global, served: Served) -> Result<[Inbo
 }
 
 /// All that the inbox gives.
-fn say_replies<R: Print + Wait>(rt: &R, mut inbox: Inbox) -> Result<(), Ended> {
+fn say_replies<R: Print + Wait>(rt: &R, inbox: &mut Inbox) -> Result<(), Ended> {
     for _reply in 0..100u8 {
         match inbox.collect(rt) {
             Some(reply) => say_reply(rt, &reply)?,
@@ -172,19 +170,23 @@ fn say_replies<R: Print + Wait>(rt: &R, mut inbox: Inbox) -> Result<(), Ended> {
 fn drain_and_collect<R: Print + Wait>(rt: &R, alloc: Global, served: Served) -> Result<(), Ended>
     requires { AreOtherEnds served.sequencer.0 served.hosts served.inboxes }
 {
-    let [first, second, _, _] = drain(rt, alloc, served)?;
-    say_replies(rt, first)?;
-    say_replies(rt, second)
+    let mut inboxes = drain(rt, alloc, served)?;
+    for host in 0..2usize {
+        let inbox = &mut inboxes[host];
+        say_replies(rt, inbox)?;
+    }
+    Ok(())
 }
 
 /// Three reads of host 0 and one of host 1, who don't collect; then the channel is drained.
 pub(crate) fn serve_reads<R: Print + Wait>(rt: &R, alloc: Global) -> Result<(), Ended> {
     let Served {
         mut sequencer,
-        hosts,
+        mut hosts,
         inboxes,
     } = open_served(alloc)?;
-    let hosts = submit_both(rt, alloc, hosts, &[Kind::Read; 3], &[Kind::Read])?;
+    submit(rt, alloc, &mut hosts, 0, &[Kind::Read; 3])?;
+    submit(rt, alloc, &mut hosts, 1, &[Kind::Read])?;
     turn_by_turn(rt, alloc, &mut sequencer)?;
     say_unanswered(rt, alloc, &sequencer)?;
     let served = Served {
@@ -199,16 +201,11 @@ pub(crate) fn serve_reads<R: Print + Wait>(rt: &R, alloc: Global) -> Result<(), 
 pub(crate) fn drain_at_once<R: Print + Wait>(rt: &R, alloc: Global) -> Result<(), Ended> {
     let Served {
         sequencer,
-        hosts,
+        mut hosts,
         inboxes,
     } = open_served(alloc)?;
-    let hosts = submit_both(
-        rt,
-        alloc,
-        hosts,
-        &[Kind::Erase, Kind::Program],
-        &[Kind::Read],
-    )?;
+    submit(rt, alloc, &mut hosts, 0, &[Kind::Erase, Kind::Program])?;
+    submit(rt, alloc, &mut hosts, 1, &[Kind::Read])?;
     let served = Served {
         sequencer,
         hosts,
