@@ -1,5 +1,5 @@
 -- Hosts and inboxes stay the other ends of a channel's queues.
-use Rattle.std.proofs.Common.{◌≡◌, ℕ, zero, suc, ◌+◌, List, [], ◌∷◌, get_or, length, refl, sym, ap, ◌∙◌, subst, arith}
+use Rattle.std.proofs.Common.{◌≡◌, ℕ, zero, suc, ◌+◌, List, [], ◌∷◌, get_or, refl, sym, ap, ◌∙◌, subst, arith}
 use Rattle.std.specs.Prelude.{map, slice_set}
 use Rattle.atomic_table.specs.Seated.{TableId}
 use Rattle.onfi_queue.specs.declared.opened.Opened.{Opened}
@@ -7,7 +7,7 @@ use Rattle.onfi_queue.specs.Ends.{AreHostsOf, HostView, four_hosts}
 use Rattle.onfi_reply.specs.declared.opened_for.OpenedFor.{OpenedFor}
 use Rattle.onfi_reply.specs.Ends.{InboxView, PosterView, inbox_of}
 use Rattle.onfi_seq.specs.Drained.{AreOtherEnds, HasGrown, HaveGrown, inbox_queues, poster_queues}
-use Rattle.onfi_seq.specs.Sequencer.{IsSameChannel, Seen, SequencerFields, intake_ends, poster_ends}
+use Rattle.onfi_seq.specs.Sequencer.{IsSameChannel, Seen, SequencerFields, poster_ends}
 
 -- As they open
 

@@ -80,6 +80,12 @@ fn submit_one<R: Wait>(rt: &R, host: &mut Host, request: Request) -> Result<(), 
     }
 }
 
+fn make_turn<R: Wait>(rt: &R, alloc: Global, sequencer: &mut Sequencer<SimChip>) -> Turn
+    ensures { (hosts : List HostView) (inboxes : List InboxView) → AreOtherEnds sequencer.old.0 hosts inboxes → AreOtherEnds sequencer.new.0 hosts inboxes }
+{
+    sequencer.turn(rt, alloc, &mut NoGate)
+}
+
 /// A turn, told; once more where memory was refused.
 fn turn<R: Print + Wait>(
     rt: &R,
@@ -89,7 +95,7 @@ fn turn<R: Print + Wait>(
     ensures { (hosts : List HostView) (inboxes : List InboxView) → AreOtherEnds sequencer.old.0 hosts inboxes → AreOtherEnds sequencer.new.0 hosts inboxes }
 {
     for _try in 0..2u8 {
-        let turn = sequencer.turn(rt, alloc, &mut NoGate);
+        let turn = make_turn(rt, alloc, sequencer);
         if turn != Turn::Memory {
             println!(rt; "{turn:?}")?;
             return Ok(turn);
