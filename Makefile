@@ -9,12 +9,12 @@
 below = $(filter onfi_%,$(shell sed -n 's/^$(1)\( [^:]*\)\{0,1\}://p' crates.txt))
 proved = $(patsubst %,crates/%/out/proved,$(1))
 sources_of = $(shell find $(wildcard crates/$(1)/src crates/$(1)/specs crates/$(1)/proofs) -type f)
-LIBRARIES := $(call below,onfi_script) onfi_script
+LIBRARIES := $(sort $(foreach crate,$(call below,onfi_script),$(call below,$(crate)) $(crate))) onfi_script
 
 # The crates are a chain but for one. So some are proved ahead, beside the crates named here, from their sources.
 ahead_onfi_addr := onfi_param
 ahead_onfi_request := onfi_timing
-ahead_onfi_script := onfi_group onfi_problem onfi_schedule onfi_bound onfi_cert onfi_check onfi_planner
+ahead_onfi_script := onfi_group onfi_problem onfi_schedule onfi_bound onfi_cert onfi_check onfi_demand onfi_known onfi_planner
 # Of onfi_script the modules that only read and write text.
 only_onfi_script := command_line script row rows row_name field forms text fault seen parts transfer plan_line plan_text
 

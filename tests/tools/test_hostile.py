@@ -7,13 +7,13 @@ import re
 import subprocess
 import unittest
 from concurrent.futures import ThreadPoolExecutor
-from typing import Callable, List, Tuple
+from typing import Callable, List, Tuple, Union
 
 import support
 from onfi_tools.cases import Case, read_cases
 
 Answer = Tuple[bytes, int]
-TOKEN = re.compile(rb"(B[1-9][0-9]?|[ULTX]|[DY][0-7])\Z")
+TOKEN = re.compile(rb"(B[1-9][0-9]?|[ULTX]|[DY][0-7]|R(0|[1-9]\d*)|W(0|[1-9]\d*),(0|[1-9]\d*))\Z")
 NO_END = (b"script refused 0 NoEnd\n", 1)
 
 
@@ -61,7 +61,8 @@ class Cuts(unittest.TestCase):
         self.assert_cut(case, lambda size: (case.output, 0) if size == last else NO_END)
 
     def test_a_judged_plan_cut_anywhere_is_refused_by_what_is_left(self) -> None:
-        for name in ("a yield, then the bound of the die", "a late status yields to programs"):
+        for name in ("a yield, then the bound of the die", "a late status yields to programs", "the statuses within a window",
+                     "a node in which the other LUN is later, closed by the node that was read"):
             case = case_named(name)
             begun = case.input.index(b"ONFIPLAN")
             script, plan = case.input[:begun], case.input[begun:]
@@ -69,9 +70,41 @@ class Cuts(unittest.TestCase):
             self.assert_cut(case, lambda size: answer_to_cut(script, plan, size))
 
 
+def every_move(nodes: int) -> Tuple[List[str], int]:
+    """The tokens of all moves of four reads on each of two LUNs, up to the end of so many open nodes, and the last one's place."""
+    tokens: List[str] = []
+    todo: List[Union[int, Tuple[int, int]]] = [(8, 8)]
+    place = ended = 0
+    while ended < nodes:
+        node = todo.pop()
+        if isinstance(node, int):
+            place, ended = node, ended + 1
+            continue
+        moves = [1 if left % 2 else left // 2 for left in node]
+        if sum(moves):
+            todo.append(len(tokens))
+        todo += [(node[0], node[1] - 1)] * moves[1] + [(node[0] - 1, node[1])] * moves[0]
+        tokens.append(f"B{sum(moves)}" if sum(moves) else "X")
+    return tokens, place
+
+
+@unittest.skipUnless(support.program(), "no built program")
+class Remembered(unittest.TestCase):
+    def test_no_more_open_nodes_are_read_than_may_be_remembered(self) -> None:
+        wants = "".join(f"want,read,{lun},{block},0\n" for lun in range(2) for block in range(4))
+        spans = "spans,read,140,600,25100,11000\nspans,program,10800,600,200100,280\nspans,erase,100,600,1500100,280\n"
+        script = "shape,2,0,0,0\n" + spans + wants + "end\n"
+        plan = support.run_program("plan", given=script).stdout.split("ONFICERT")[0]
+        tokens, place = every_move(1_048_577)
+        for kept, told in ((tokens, f"refused 13 TooMany {place}\n"), (tokens[:-1], "refused 2 Short\n")):
+            given = script + plan + "ONFICERT 3 remember\n" + " ".join(kept) + "\n"
+            ran = support.run_program("check", "--remember", given=given)
+            self.assertEqual((ran.stdout, ran.returncode), (told, 2))
+
+
 @unittest.skipUnless(support.program(), "no built program")
 class Streams(unittest.TestCase):
-    COMMANDS = (["plan"], ["plan", "--trace"], ["check"])
+    COMMANDS = (["plan"], ["plan", "--trace"], ["check"], ["check", "--remember"])
 
     def test_a_read_that_fails_writes_nothing(self) -> None:
         folder = os.open(support.ROOT, os.O_RDONLY)

@@ -1,5 +1,5 @@
 //! Scripts and their answers, as bytes.
-ghost use Rattle.std.specs.Prelude.{◌≡◌, ◌≤◌, IfSome};
+ghost use Rattle.std.specs.Prelude.{◌≡◌, ◌≤◌, false, IfSome};
 ghost use Rattle.onfi_script.specs.Answer.{IsAnswer};
 ghost use Rattle.onfi_script.specs.Limit.{IsLimited};
 ghost use Rattle.onfi_script.specs.declared.command.Command.TheVariants.{Check, Plan};
@@ -93,7 +93,8 @@ pub extern "C" fn onfi_text_check(
     answer: &mut [u8],
     bytes: &mut usize,
 ) -> u32
-    ensures { GivesAnswer Check script.now answer.old answer.new bytes.new result }
+    ensures { GivesAnswer (Check false) script.now answer.old answer.new bytes.new result }
 {
-    give_answer(alloc, Command::Check, script, answer, bytes)
+    let command = Command::Check { remember: false };
+    give_answer(alloc, command, script, answer, bytes)
 }

@@ -1,2 +1,3 @@
 pub mod Erases
 mod OneMember
+mod OtherEnds

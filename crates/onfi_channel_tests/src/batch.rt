@@ -19,11 +19,17 @@ use std::process::Abort;
 
 /// An operation: its kind, LUN, block and page, and the byte that a program fills its page with.
 #[derive(Clone, Copy, Debug)]
-struct Op(Kind, u8, u16, u16, u8);
+pub(crate) struct Op(
+    pub(crate) Kind,
+    pub(crate) u8,
+    pub(crate) u16,
+    pub(crate) u16,
+    pub(crate) u8,
+);
 
 /// What a reply tells; `All` where each byte of a page is that one.
 #[derive(Clone, Copy, Debug, PartialEq, Eq)]
-enum Told {
+pub(crate) enum Told {
     Done,
     Failed,
     All(u8),
@@ -32,19 +38,19 @@ enum Told {
 
 /// Which calls of the chip go wrong.
 #[derive(Clone, Copy, Debug)]
-struct Trouble<'a> {
-    faults: &'a [Fault],
-    calls: &'a [u32],
-    statuses: &'a [u32],
+pub(crate) struct Trouble<'a> {
+    pub(crate) faults: &'a [Fault],
+    pub(crate) calls: &'a [u32],
+    pub(crate) statuses: &'a [u32],
 }
 
-const NONE: Trouble<'static> = Trouble {
+pub(crate) const NONE: Trouble<'static> = Trouble {
     faults: &[],
     calls: &[],
     statuses: &[],
 };
 
-fn told_by(reply: &Reply) -> (u64, Told) {
+pub(crate) fn told_by(reply: &Reply) -> (u64, Told) {
     let told = match &reply.answer {
         Answer::Done => Told::Done,
         Answer::Failed => Told::Failed,
@@ -56,7 +62,11 @@ fn told_by(reply: &Reply) -> (u64, Told) {
     (reply.place, told)
 }
 
-fn request_for(alloc: Global, geometry: &Geometry, op: &Op) -> Result<Request, AllocError> {
+pub(crate) fn request_for(
+    alloc: Global,
+    geometry: &Geometry,
+    op: &Op,
+) -> Result<Request, AllocError> {
     let place = Place {
         lun: op.1,
         block: op.2,
@@ -229,7 +239,7 @@ fn pages_go_in_order_where_the_device_asks(rt: HostRuntime) -> Result<(), AllocE
 }
 
 /// The chip fails the program or the erase of that number of a block of LUN 0.
-fn torn<'a>(faults: &'a [Fault]) -> Trouble<'a> {
+pub(crate) fn torn<'a>(faults: &'a [Fault]) -> Trouble<'a> {
     Trouble {
         faults,
         calls: &[],

@@ -1,8 +1,10 @@
-//! Tests of the queues, the core and the batches of a channel, through their public calls, on the sample device.
+//! Tests of the queues, the core, the batches and the sequencer of a channel, through their public calls, on the sample device.
 #![tactic(auto)]
 
 #[cfg(test)]
 mod batch;
+#[cfg(test)]
+mod bench;
 #[cfg(test)]
 mod half;
 #[cfg(test)]
@@ -17,6 +19,8 @@ mod play;
 mod queue;
 #[cfg(test)]
 mod reply;
+#[cfg(test)]
+mod sequencer;
 #[cfg(test)]
 mod setup;
 #[cfg(test)]

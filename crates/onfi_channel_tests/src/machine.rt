@@ -1,6 +1,7 @@
 ghost use Rattle.std.specs.Prelude.{◌≡◌, ◌<◌};
 ghost use Rattle.onfi_chip.specs.SimChip.{chip_in};
 
+use crate::batch::NONE;
 use crate::play::{Act, Told, event_of, fresh_chip, named, open_core, open_with, play, play_on};
 use crate::setup::one_channel;
 use onfi_chip::{Chip, ChipFault, Closer, SimChip};
@@ -366,7 +367,7 @@ fn memory_that_is_refused_changes_nothing(rt: HostRuntime) -> Result<(), AllocEr
     ];
     let setup = one_channel(&rt, true, 1, 8, 1, 1_000);
     let chip = Starved {
-        chip: fresh_chip(alloc, setup, &[], &[])?,
+        chip: fresh_chip(alloc, setup, NONE)?,
         refused: false,
     };
     let mut core = open_with(&rt, alloc, setup, chip)?;

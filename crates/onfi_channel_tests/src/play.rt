@@ -2,6 +2,7 @@ ghost use Rattle.std.specs.Prelude.{◌≡◌, IfOk};
 ghost use Rattle.onfi_chip.specs.SimChip.{chip_in};
 ghost use Rattle.onfi_core.specs.Queues.{IsFresh};
 
+use crate::batch::Trouble;
 use onfi_addr::Place;
 use onfi_chip::{Chip, SimChip};
 use onfi_core::{Cause, Core, Event, Outcome, Setup};
@@ -152,28 +153,30 @@ pub(crate) fn open_core(
     requires { setup.channels ≡ 1 }
     ensures { IfOk result (λ core. core.0 ≡ setup) }
 {
-    let chip = fresh_chip(alloc, setup, calls, statuses)?;
+    let trouble = Trouble {
+        faults: &[],
+        calls,
+        statuses,
+    };
+    let chip = fresh_chip(alloc, setup, trouble)?;
     open_with(rt, alloc, setup, chip)
 }
 
-// A chip of the setup that fails at these calls and statuses.
+// A chip of the setup that has that trouble.
 pub(crate) fn fresh_chip(
     alloc: Global,
     setup: Setup,
-    calls: &[u32],
-    statuses: &[u32],
+    trouble: Trouble,
 ) -> Result<SimChip, AllocError>
     ensures { IfOk result (λ chip. IsFresh setup (chip_in chip)) }
 {
-    let calls = Vec::from_slice(alloc, calls)?;
-    let statuses = Vec::from_slice(alloc, statuses)?;
     SimChip::new(
         alloc,
         setup.geometry,
         setup.timing,
-        Vec::new(alloc),
-        calls,
-        statuses,
+        Vec::from_slice(alloc, trouble.faults)?,
+        Vec::from_slice(alloc, trouble.calls)?,
+        Vec::from_slice(alloc, trouble.statuses)?,
     )
 }
 

@@ -17,16 +17,45 @@ pub(crate) fn one_channel(
 ) -> Setup
     ensures { (result.channels ≡ 1) × (result.hosts ≡ hosts) }
 {
+    setup_of(rt, 1, together, hosts, batch, room, room, limit)
+}
+
+/// Two channels of the sample device with four hosts and a batch of eight, whose submission and completion queues have
+/// that room each.
+pub(crate) fn two_channels(
+    rt: &impl Abort,
+    together: bool,
+    submit_cap: u16,
+    post_cap: u16,
+    limit: u32,
+) -> Setup
+    ensures { (result.channels ≡ 2) × (result.hosts ≡ 4) }
+{
+    setup_of(rt, 2, together, 4, 8, submit_cap, post_cap, limit)
+}
+
+fn setup_of(
+    rt: &impl Abort,
+    channels: u8,
+    together: bool,
+    hosts: u8,
+    batch: u8,
+    submit_cap: u16,
+    post_cap: u16,
+    limit: u32,
+) -> Setup
+    ensures { (result.channels ≡ channels) × (result.hosts ≡ hosts) }
+{
     let rules = Rules::new(true, together, false, 1);
     Setup::new(
         sample_geometry(),
         sample_timing(),
         rules,
-        1,
+        channels,
         hosts,
         batch,
-        room,
-        room,
+        submit_cap,
+        post_cap,
         limit,
     )
     .expect(rt, "in range")

@@ -1,28 +1,27 @@
 -- What is found of a subcommand.
-use Rattle.std.proofs.Common.{◌≡◌, ℕ, List, Some, None, refl, sym, ap, ◌∙◌, subst, codes}
-use Rattle.std.specs.Prelude.{Bool, Option, option_map, IsSomeAnd}
-use Rattle.clap.specs.Words.{Row, first_of, subcommand_rows_of}
+use Rattle.std.proofs.Common.{◌≡◌, ℕ, List, Some, None, refl, sym, ap, ◌∙◌, subst}
+use Rattle.std.specs.Prelude.{Option, option_map, IsSomeAnd}
+use Rattle.clap.specs.Words.{Row, subcommand_of, subcommand_rows_of}
 use Rattle.clap.specs.Matches.{subcommand_name_of}
 use Rattle.clap.specs.declared.parser.matches.ArgMatches.{ArgMatches}
-use Rattle.onfi_script.specs.declared.command.Command.TheVariants.{Check, Plan}
-use Rattle.onfi_script.specs.Words.{IsLimit, IsNamed, IsWorkers, is_given}
+use Rattle.onfi_script.specs.declared.command_line.Named.{Named}
+use Rattle.onfi_script.specs.Words.{IsNamed, Name, app}
 
-pub named : (found : Option (List ℕ × List Row)) (name : List ℕ) (used : List Row) (limit : ℕ) (trace : Bool) (by : ℕ) → Some name ≡ option_map (λ p. p.0) found → Some used ≡ option_map (λ p. p.1) found
-    → name ≡ codes "plan" → IsLimit (first_of (codes "limit") used) limit
-    → trace ≡ is_given (first_of (codes "trace") used) → IsWorkers (first_of (codes "workers") used) by → IsSomeAnd found (λ p. IsNamed (Plan limit trace) by p.0 p.1)
-named None name used limit trace by e f is at given workers = cc
-named (Some p) name used limit trace by e f is at given workers =
+found_named : (found : Option (List ℕ × List Row)) (name : List ℕ) (used : List Row) (n : Named) → Some name ≡ option_map (λ p. p.0) found → Some used ≡ option_map (λ p. p.1) found → IsNamed n name used → IsSomeAnd found (λ p. IsNamed n p.0 p.1)
+found_named None name used n e f is = cc
+found_named (Some p) name used n e f is =
     let same : name ≡ p.0 = cc in
     let rows : used ≡ p.1 = cc in
-    (sym same ∙ is, subst (λ r. IsLimit (first_of (codes "limit") r) limit) rows at, given ∙ ap (λ r. is_given (first_of (codes "trace") r)) rows, subst (λ r. IsWorkers (first_of (codes "workers") r) by) rows workers)
+    subst (λ x. IsNamed n x p.1) same (subst (λ r. IsNamed n name r) rows is)
 
 twice : {A B C : Type 0} (f : A → B) (g : A → C) (h : C → B) (o : Option A) → ((x : A) → f x ≡ h (g x)) → option_map f o ≡ option_map h (option_map g o)
 twice f g h None e = refl
 twice f g h (Some x) e = ap Some (e x)
 
-pub name_found : (m : ArgMatches) → subcommand_name_of m ≡ option_map (λ p. p.0) (subcommand_rows_of m)
+name_found : (m : ArgMatches) → subcommand_name_of m ≡ option_map (λ p. p.0) (subcommand_rows_of m)
 name_found m = twice _ _ (λ p. p.0) _ (λ x. refl)
 
-pub named_check : (found : Option (List ℕ × List Row)) (name : List ℕ) → Some name ≡ option_map (λ p. p.0) found → name ≡ codes "check" → IsSomeAnd found (λ p. IsNamed Check 1 p.0 p.1)
-named_check None name e is = cc
-named_check (Some p) name e is = let same : name ≡ p.0 = cc in (sym same ∙ is, refl)
+-- what clap found in the words is named
+pub named : (m : ArgMatches) (words : List (List ℕ)) (name : List ℕ) (used : List Row) (n : Named) → subcommand_rows_of m ≡ subcommand_of app words → Some name ≡ subcommand_name_of m → Some used ≡ option_map (λ p. p.1) (subcommand_rows_of m) → IsNamed n name used → Name words n
+named m words name used n same is rows holds =
+    found_named (subcommand_of app words) name used n (is ∙ name_found m ∙ ap (option_map (λ p. p.0)) same) (rows ∙ ap (option_map (λ p. p.1)) same) holds

@@ -12,6 +12,11 @@ use Rattle.onfi_cert.specs.Text.{IsCertificate}
 use Rattle.onfi_check.specs.Tree.{AcceptsTokens}
 use Rattle.onfi_check.specs.Faults.{IsTextFault}
 use Rattle.onfi_check.specs.declared.fault.TextFault.{TextFault}
+use Rattle.onfi_known.specs.Faults.{IsTextFault as IsKnownTextFault}
+use Rattle.onfi_known.specs.Proves.{ProvesTokens}
+use Rattle.onfi_known.specs.Text.{IsCertificate as IsKnownCertificate}
+use Rattle.onfi_known.specs.declared.fault.KnownTextFault.{KnownTextFault}
+use Rattle.onfi_known.specs.declared.token.Token.{Token as KnownToken}
 use Rattle.onfi_planner.specs.Nodes.{HasMoreNodes, IsSplitOver}
 use Rattle.onfi_planner.specs.Planning.{AreRising}
 use Rattle.onfi_script.specs.declared.command.Command.{Command}
@@ -29,7 +34,7 @@ use Rattle.onfi_script.specs.declared.device.Device.{Device}
 use Rattle.onfi_script.specs.Device.{TellsDevice}
 use Rattle.onfi_script.specs.Setup.{names_absent, SetsUp}
 use Rattle.onfi_script.specs.PlanText.{plan_of, schedule_of}
-use Rattle.onfi_script.specs.Text.{Answer, memory, refused, planned, over, accepted, refused_for, refused_at, text_refused}
+use Rattle.onfi_script.specs.Text.{Answer, memory, refused, planned, over, accepted, refused_for, refused_at, text_refused, known_text_refused}
 
 -- a fault of the script as a whole
 abbrev pub whole : ScriptFault → Refusal
@@ -81,21 +86,38 @@ pub record IsAccepted (p : Problem) (s : Schedule) (text : List ℕ) : Type 0 wh
   pub certificate : IsCertificate text p.rules.strict tokens
   pub certified : AcceptsTokens tokens p (finish p s)
 
+-- .. one that remembers states
+pub record IsKnown (p : Problem) (s : Schedule) (text : List ℕ) : Type 0 where
+  pub optimal : Optimal p s
+  pub tokens : List KnownToken
+  pub certificate : IsKnownCertificate text p.rules.strict tokens
+  pub certified : ProvesTokens p.wants tokens p (finish p s)
+
+-- a certificate is taken, one that remembers states or a plain one
+abbrev pub IsTaken : Bool → Problem → Schedule → List ℕ → Type 0
+IsTaken true p s text = IsKnown p s text
+IsTaken false p s text = IsAccepted p s text
+
+-- what is wrong with the schedule or its certificate is told
+abbrev pub TellsFault : Bool → Problem → Schedule → List ℕ → Answer → Type 0
+TellsFault true p s text answer = (fault : KnownTextFault) × IsKnownTextFault p.wants p s text fault × (answer ≡ known_text_refused fault)
+TellsFault false p s text answer = (fault : TextFault) × IsTextFault p s text fault × (answer ≡ text_refused fault)
+
 -- the answer to a schedule that is said to end at `ends`, and the text of its certificate: what is wrong with them,
 -- that the schedule ends at another time, or that it is accepted
-pub data AnswersSchedule (p : Problem) (s : Schedule) (ends : ℕ) (text : List ℕ) (answer : Answer) : Type 0 where
-  is_refused : (fault : TextFault) → IsTextFault p s text fault → answer ≡ text_refused fault → AnswersSchedule p s ends text answer
-  ends_otherwise : IsAccepted p s text → finish p s ≢ ends → answer ≡ refused_for (codes "finish") → AnswersSchedule p s ends text answer
-  is_accepted : IsAccepted p s text → finish p s ≡ ends → answer ≡ accepted ends → AnswersSchedule p s ends text answer
+pub data AnswersSchedule (remember : Bool) (p : Problem) (s : Schedule) (ends : ℕ) (text : List ℕ) (answer : Answer) : Type 0 where
+  is_refused : TellsFault remember p s text answer → AnswersSchedule remember p s ends text answer
+  ends_otherwise : IsTaken remember p s text → finish p s ≢ ends → answer ≡ refused_for (codes "finish") → AnswersSchedule remember p s ends text answer
+  is_accepted : IsTaken remember p s text → finish p s ≡ ends → answer ≡ accepted ends → AnswersSchedule remember p s ends text answer
 
 -- the answer to a plan text: its first wrong line, or the answer to the schedule and the certificate that it says
-abbrev pub AnswersCheck : Problem → List ℕ → Answer → Type 0
-AnswersCheck p text answer = MatchResult (plan_of p.wants text) (λ r. AnswersSchedule p (schedule_of p r.0) r.0.finish r.1 answer) (λ number. answer ≡ refused_at (codes "plan") number)
+abbrev pub AnswersCheck : Bool → Problem → List ℕ → Answer → Type 0
+AnswersCheck remember p text answer = MatchResult (plan_of p.wants text) (λ r. AnswersSchedule remember p (schedule_of p r.0) r.0.finish r.1 answer) (λ number. answer ≡ refused_at (codes "plan") number)
 
 -- what the command asks for; `check` reads the plan text behind the script
 abbrev pub AnswersCommand : (ℕ → Problem → ℕ → Type 0) → Command → List ℕ → Problem → Answer → Type 0
 AnswersCommand Tells (Plan limit trace) text p answer = AnswersPlan Tells limit trace p answer
-AnswersCommand Tells Check text p answer = AnswersCheck p text answer
+AnswersCommand Tells (Check remember) text p answer = AnswersCheck remember p text answer
 
 -- the answer to a problem: its first fault, or what the command asks for
 pub data AnswersProblem (Tells : ℕ → Problem → ℕ → Type 0) (command : Command) (text : List ℕ) (p : Problem) (answer : Answer) : Type 0 where

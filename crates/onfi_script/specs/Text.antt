@@ -23,6 +23,10 @@ use Rattle.onfi_check.specs.declared.fault.CertFault.{CertFault}
 use Rattle.onfi_check.specs.declared.fault.CertFault.TheVariants as cert
 use Rattle.onfi_check.specs.declared.fault.TextFault.{TextFault}
 use Rattle.onfi_check.specs.declared.fault.TextFault.TheVariants as in_text
+use Rattle.onfi_known.specs.declared.fault.KnownFault.{KnownFault}
+use Rattle.onfi_known.specs.declared.fault.KnownFault.TheVariants as known
+use Rattle.onfi_known.specs.declared.fault.KnownTextFault.{KnownTextFault}
+use Rattle.onfi_known.specs.declared.fault.KnownTextFault.TheVariants as in_known
 use Rattle.onfi_script.specs.declared.fault.ScriptFault.{ScriptFault}
 use Rattle.onfi_script.specs.declared.fault.ScriptFault.TheVariants.{NoEnd, UnknownRow, FieldCount, NotANumber, OutOfRange, Repeated, Missing, Hex, Page, Geometry, Sheet, Problem, Request, NotHere}
 use Rattle.onfi_script.specs.declared.fault.Refusal.{Refusal}
@@ -160,6 +164,28 @@ abbrev pub text_refused : TextFault → Answer
 text_refused (in_text.Text fault) = cert_text_refused fault
 text_refused in_text.Option = refused_for (codes "cert Option")
 text_refused (in_text.Cert fault) = cert_refused fault
+
+-- the same of certificates that remember states
+abbrev pub known_refused : KnownFault → Answer
+known_refused known.Illegal = refused_for (codes "1 Illegal")
+known_refused known.Short = refused_for (codes "2 Short")
+known_refused (known.Trailing place) = refused_at (codes "3 Trailing") place
+known_refused (known.Width place) = refused_at (codes "4 Width") place
+known_refused (known.BoundLow place) = refused_at (codes "5 BoundLow") place
+known_refused (known.YieldNoFit place) = refused_at (codes "6 YieldNoFit") place
+known_refused (known.YieldLoop place) = refused_at (codes "7 YieldLoop") place
+known_refused (known.NotEnd place) = refused_at (codes "8 NotEnd") place
+known_refused known.Memory = memory
+known_refused (known.Unknown place) = refused_at (codes "10 Unknown") place
+known_refused (known.OtherLeft place) = refused_at (codes "11 OtherLeft") place
+known_refused (known.Sooner place) = refused_at (codes "12 Sooner") place
+known_refused (known.TooMany place) = refused_at (codes "13 TooMany") place
+
+abbrev pub known_text_refused : KnownTextFault → Answer
+known_text_refused in_known.Header = refused_for (codes "cert Header")
+known_text_refused (in_known.BadToken place) = refused_at (codes "cert BadToken") place
+known_text_refused in_known.Option = refused_for (codes "cert Option")
+known_text_refused (in_known.Cert fault) = known_refused fault
 
 -- the answer where so many nodes were opened, and the search is not over
 abbrev pub over : ℕ → Answer

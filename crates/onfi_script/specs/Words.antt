@@ -1,10 +1,13 @@
 -- What the words of a command line name.
-use Rattle.std.specs.Prelude.{◌≡◌, ℕ, List, Bool, false, bytes_eq, Option, Some, None, IsSomeAnd, Ok, codes}
+use Rattle.std.specs.Prelude.{◌≡◌, ◌≤◌, ℕ, List, Bool, false, bytes_eq, Option, Some, None, IsSomeAnd, Ok, codes}
 use Rattle.clap.specs.Words.{App, Row as Used, Rule, first_of, new_app, new_rule, subcommand_of, with_rule, with_subcommand}
 use Rattle.clap.specs.declared.builder.ArgAction.TheVariants.{Set, SetTrue}
 use Rattle.onfi_script.specs.declared.command.Command.{Command}
 use Rattle.onfi_script.specs.declared.command.Command.TheVariants.{Plan, Check}
+use Rattle.onfi_script.specs.declared.command_line.Named.{Named}
+use Rattle.onfi_script.specs.declared.command_line.Named.TheVariants.{Problem, Run}
 use Rattle.onfi_script.specs.Field.{number}
+use Rattle.onfi_script.specs.Limit.{IsLimited}
 
 -- `--limit N`
 abbrev pub limit : Rule
@@ -22,16 +25,28 @@ workers = record (new_rule (codes "workers")) { long = Some (codes "workers"); a
 abbrev pub plan : App
 plan = with_rule (with_rule (with_rule (new_app (codes "plan")) limit) trace) workers
 
--- `check`
+-- `--remember`
+abbrev pub remember : Rule
+remember = record (new_rule (codes "remember")) { long = Some (codes "remember"); action = Some SetTrue }
+
+-- `check [--remember]`
 abbrev pub check : App
-check = new_app (codes "check")
+check = with_rule (new_app (codes "check")) remember
+
+-- `run [--limit N]`
+abbrev pub run : App
+run = with_rule (new_app (codes "run")) limit
 
 -- the program with `plan` alone
 abbrev pub with_plan : App
 with_plan = with_subcommand (new_app (codes "onfi_sim")) plan.top
 
+-- .. and with `check`
+abbrev pub with_check : App
+with_check = with_subcommand with_plan check.top
+
 abbrev pub app : App
-app = with_subcommand with_plan check.top
+app = with_subcommand with_check run.top
 
 -- the number that was given, 1 to 1,048,576; the greatest where none was
 abbrev pub IsLimit : Option (List ℕ) → ℕ → Type 0
@@ -48,11 +63,17 @@ abbrev pub is_given : Option (List ℕ) → Bool
 is_given None = false
 is_given (Some text) = bytes_eq text (codes "true")
 
--- a subcommand with these arguments is this command, by so many workers
-abbrev pub IsNamed : Command → ℕ → List ℕ → List Used → Type 0
-IsNamed (Plan n traced) by name used = (name ≡ codes "plan") × IsLimit (first_of (codes "limit") used) n × (traced ≡ is_given (first_of (codes "trace") used)) × IsWorkers (first_of (codes "workers") used) by
-IsNamed Check by name used = (name ≡ codes "check") × (by ≡ 1)
+-- limits are 1 to 1,048,576, workers 1 to 8
+abbrev pub IsInRange : Named → Type 0
+IsInRange (Problem command workers) = IsLimited command × (1 ≤ workers) × (workers ≤ 8)
+IsInRange (Run limit) = (1 ≤ limit) × (limit ≤ 1048576)
 
--- the words, of which the first is the program's name, name this command by so many workers
-abbrev pub Name : List (List ℕ) → Command → ℕ → Type 0
-Name words command by = IsSomeAnd (subcommand_of app words) (λ p. IsNamed command by p.0 p.1)
+-- a subcommand with these arguments is what is named
+abbrev pub IsNamed : Named → List ℕ → List Used → Type 0
+IsNamed (Problem (Plan limit traced) workers) name used = (name ≡ codes "plan") × IsLimit (first_of (codes "limit") used) limit × (traced ≡ is_given (first_of (codes "trace") used)) × IsWorkers (first_of (codes "workers") used) workers
+IsNamed (Problem (Check remembers) workers) name used = (name ≡ codes "check") × (remembers ≡ is_given (first_of (codes "remember") used)) × (workers ≡ 1)
+IsNamed (Run limit) name used = (name ≡ codes "run") × IsLimit (first_of (codes "limit") used) limit
+
+-- the words, of which the first is the program's name, name this
+abbrev pub Name : List (List ℕ) → Named → Type 0
+Name words named = IsSomeAnd (subcommand_of app words) (λ p. IsNamed named p.0 p.1)

@@ -1,5 +1,5 @@
 //! From the bytes of an input to the bytes of its answer.
-ghost use Rattle.std.specs.Prelude.{◌≡◌, ◌≤◌, ℕ, take, length, map, IfOk, IfErr, OnErr, IsTrue, string_bytes, Ok};
+ghost use Rattle.std.specs.Prelude.{◌≡◌, ◌≤◌, ℕ, take, length, map, false, IfOk, IfErr, OnErr, IsTrue, string_bytes, Ok};
 ghost use Rattle.std.specs.Io.KnownBytes.{Appends, Keeps};
 ghost use Rattle.csv.specs.Records.{fields_of};
 ghost use Rattle.onfi_problem.specs.Left.{InLimits};
@@ -17,6 +17,7 @@ use crate::fault::{Refusal, RowStop, ScriptFault, Stop};
 use crate::forms::device_of;
 use crate::plan_text::{PlanStop, read_plan};
 use crate::purpose::Purpose;
+use crate::remembered::judged_known;
 use crate::row::Row;
 use crate::rows::rows;
 use crate::script::{behind_end, script_len};
@@ -91,7 +92,7 @@ fn judged(
     ends: u64,
     certificate: &[u8],
 ) -> Result<Answer, AllocError>
-    ensures { IfOk result (λ a. AnswersSchedule problem.now.problem schedule.now ends certificate.now (answer_of a)) }
+    ensures { IfOk result (λ a. AnswersSchedule false problem.now.problem schedule.now ends certificate.now (answer_of a)) }
 {
     match check_text(alloc, problem, schedule, certificate) {
         Ok(finish) if finish == ends => accepted(alloc, ends),
@@ -100,16 +101,25 @@ fn judged(
     }
 }
 
-/// The answer to a plan text.
-fn checked(alloc: Global, problem: &Problem, text: &[u8]) -> Result<Answer, AllocError>
+/// The answer to a plan text, whose certificate remembers states where `remember` says so.
+fn checked(
+    alloc: Global,
+    remember: bool,
+    problem: &Problem,
+    text: &[u8],
+) -> Result<Answer, AllocError>
     requires begun { problem.now.all ≡ problem.now.problem.wants }
-    ensures { IfOk result (λ a. AnswersCheck problem.now.problem text.now (answer_of a)) }
+    ensures { IfOk result (λ a. AnswersCheck remember problem.now.problem text.now (answer_of a)) }
 {
     match read_plan(alloc, problem.wants(), text) {
         Ok((plan, certificate)) => {
             let ends = plan.finish();
             let schedule = plan.schedule(alloc, problem.lun_count())?;
-            judged(alloc, problem, &schedule, ends, certificate)
+            if remember {
+                judged_known(alloc, problem, &schedule, ends, certificate)
+            } else {
+                judged(alloc, problem, &schedule, ends, certificate)
+            }
         }
         Err(PlanStop::Wrong(number)) => refused_at(alloc, "plan", number),
         Err(PlanStop::Memory) => Err(AllocError),
@@ -131,7 +141,7 @@ fn commanded<S: Search>(
 {
     match command {
         Command::Plan { limit, trace } => planned(alloc, search, problem, limit, trace),
-        Command::Check => checked(alloc, problem, text),
+        Command::Check { remember } => checked(alloc, remember, problem, text),
     }
 }
 

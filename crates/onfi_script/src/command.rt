@@ -4,6 +4,7 @@ pub enum Command {
     /// Print an optimal schedule with its certificate, or its trace in their place; the search opens at most `limit`
     /// nodes, 1 to 1,048,576.
     Plan { limit: u32, trace: bool },
-    /// Say whether the plan text behind the script shows by its certificate that its schedule is optimal.
-    Check,
+    /// Say whether the plan text behind the script shows by its certificate that its schedule is optimal; by one that
+    /// remembers states where `remember` says so, else by a plain one.
+    Check { remember: bool },
 }

@@ -2,7 +2,6 @@
 ghost use Rattle.std.specs.Prelude.{◌≡◌, ◌≤◌, IfOk, Some, false, map, string_bytes, codes};
 ghost use Rattle.clap.specs.Words.{app_of, first_value, found_of, new_rule, rule_of, subcommand_of, subcommand_rows_of};
 ghost use Rattle.onfi_script.specs.Words as spec;
-ghost use Rattle.onfi_script.specs.Limit.{IsLimited};
 
 use crate::command::Command;
 use crate::field::number;
@@ -22,11 +21,12 @@ pub enum WordsFault {
 
 /// What a command line names.
 #[derive(Clone, Copy)]
-pub struct Named {
-    /// What to do with a script.
-    pub command: Command,
-    /// By how many workers a plan is searched, 1 to 8; one where none are named.
-    pub workers: usize,
+pub enum Named {
+    /// The problem of a script is planned, or a plan of it checked, by so many workers, 1 to 8; one where none are
+    /// named.
+    Problem { command: Command, workers: usize },
+    /// The operations of a script are run; each planning opens at most `limit` nodes, 1 to 1,048,576.
+    Run { limit: u32 },
 }
 
 /// The greatest limit of a search, and the one where none is named.
@@ -53,12 +53,22 @@ fn with_plan<'a>(alloc: Global) -> Result<App<'a>, AllocError>
     App::new(alloc, "onfi_sim").subcommand(plan)
 }
 
+/// .. and the command `check [--remember]`.
+fn with_check<'a>(alloc: Global) -> Result<App<'a>, AllocError>
+    ensures { IfOk result (λ a. app_of a ≡ spec.with_check) }
+{
+    let check = App::new(alloc, "check").arg(option(alloc, "remember", ArgAction::SetTrue))?;
+    let program = with_plan(alloc)?;
+    program.subcommand(check)
+}
+
 /// What the program understands.
 fn app<'a>(alloc: Global) -> Result<App<'a>, AllocError>
     ensures { IfOk result (λ a. app_of a ≡ spec.app) }
 {
-    let program = with_plan(alloc)?;
-    program.subcommand(App::new(alloc, "check"))
+    let run = App::new(alloc, "run").arg(option(alloc, "limit", ArgAction::Set))?;
+    let program = with_check(alloc)?;
+    program.subcommand(run)
 }
 
 /// A limit in its range, or the greatest where none is named.
@@ -89,11 +99,11 @@ fn workers_of(matches: &ArgMatches<'_>) -> Result<usize, WordsFault>
     }
 }
 
-/// Whether a trace is asked for.
-fn is_traced(matches: &ArgMatches<'_>) -> bool
-    ensures { result ≡ spec.is_given (first_value (found_of matches.now) (codes "trace")) }
+/// Whether a flag is given.
+fn is_given(matches: &ArgMatches<'_>, flag: &str) -> bool
+    ensures { result ≡ spec.is_given (first_value (found_of matches.now) flag.now) }
 {
-    match matches.get_str("trace") {
+    match matches.get_str(flag) {
         Some(text) => text == "true",
         None => false,
     }
@@ -122,9 +132,8 @@ fn matches_of<'a>(alloc: Global, words: &'a [String]) -> Result<ArgMatches<'a>, 
 /// `Refused` where the words are no command line of the program, a call for help included; `Memory` where a growth
 /// was refused.
 pub fn words<'a>(alloc: Global, words: &'a [String]) -> Result<Named, WordsFault>
-    ensures limit { IfOk result (λ named. IsLimited named.command) }
-    ensures workers { IfOk result (λ named. (1 ≤ named.workers) × (named.workers ≤ 8)) }
-    ensures names { IfOk result (λ named. spec.Name (map string_bytes words.entry.now) named.command named.workers) }
+    ensures range { IfOk result (λ named. spec.IsInRange named) }
+    ensures names { IfOk result (λ named. spec.Name (map string_bytes words.entry.now) named) }
 {
     let matches = matches_of(alloc, words)?;
     let Some((name, used)) = matches.subcommand() else {
@@ -133,15 +142,19 @@ pub fn words<'a>(alloc: Global, words: &'a [String]) -> Result<Named, WordsFault
     if name == "plan" {
         let limit = limit_of(used)?;
         let workers = workers_of(used)?;
-        let trace = is_traced(used);
+        let trace = is_given(used, "trace");
         let command = Command::Plan { limit, trace };
-        Ok(Named { command, workers })
+        Ok(Named::Problem { command, workers })
     } else if name == "check" {
-        let command = Command::Check;
-        Ok(Named {
+        let remember = is_given(used, "remember");
+        let command = Command::Check { remember };
+        Ok(Named::Problem {
             command,
             workers: 1,
         })
+    } else if name == "run" {
+        let limit = limit_of(used)?;
+        Ok(Named::Run { limit })
     } else {
         Err(WordsFault::Refused)
     }

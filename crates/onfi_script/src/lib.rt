@@ -18,6 +18,7 @@ mod plan_line;
 mod plan_text;
 mod purpose;
 mod reading;
+mod remembered;
 mod row;
 mod row_name;
 mod rows;

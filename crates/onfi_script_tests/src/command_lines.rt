@@ -14,12 +14,35 @@ fn asks_plan(alloc: Global, line: &str, within: u32, traced: bool, by: usize) ->
     match asked(alloc, line) {
         Some(
             Ok(
-                Named {
+                Named::Problem {
                     command: Command::Plan { limit, trace },
                     workers,
                 },
             ),
         ) => limit == within && trace == traced && workers == by,
+        _ => false,
+    }
+}
+
+// Whether a command line asks for a check, by a certificate that remembers states or by a plain one.
+fn asks_check(alloc: Global, line: &str, remembers: bool) -> bool {
+    match asked(alloc, line) {
+        Some(
+            Ok(
+                Named::Problem {
+                    command: Command::Check { remember },
+                    workers,
+                },
+            ),
+        ) => remember == remembers && workers == 1,
+        _ => false,
+    }
+}
+
+// Whether a command line asks for a run within a limit.
+fn asks_run(alloc: Global, line: &str, within: u32) -> bool {
+    match asked(alloc, line) {
+        Some(Ok(Named::Run { limit })) => limit == within,
         _ => false,
     }
 }
@@ -32,15 +55,10 @@ fn reads_the_command_line(rt: HostRuntime) {
     assert!(rt; asks_plan(alloc, "onfi_sim plan --limit 6 --trace", 6, true, 1));
     assert!(rt; asks_plan(alloc, "onfi_sim plan --workers 1", 1_048_576, false, 1));
     assert!(rt; asks_plan(alloc, "onfi_sim plan --workers 8 --limit 5", 5, false, 8));
-    assert!(rt;
-        matches!(
-            asked(alloc, "onfi_sim check"),
-            Some(Ok(Named {
-                command: Command::Check,
-                workers: 1
-            }))
-        )
-    );
+    assert!(rt; asks_check(alloc, "onfi_sim check", false));
+    assert!(rt; asks_check(alloc, "onfi_sim check --remember", true));
+    assert!(rt; asks_run(alloc, "onfi_sim run", 1_048_576));
+    assert!(rt; asks_run(alloc, "onfi_sim run --limit 7", 7));
     let table = "\
         onfi_sim\n\
         onfi_sim --limit 7 plan\n\
@@ -58,8 +76,16 @@ fn reads_the_command_line(rt: HostRuntime) {
         onfi_sim plan --tracer\n\
         onfi_sim check --trace\n\
         onfi_sim check --limit 7\n\
+        onfi_sim check --remember --remember\n\
+        onfi_sim check --remember true\n\
+        onfi_sim run --remember\n\
         onfi_sim check extra\n\
-        onfi_sim run\n\
+        onfi_sim run --limit 0\n\
+        onfi_sim run --limit 1048577\n\
+        onfi_sim run --limit 7 --limit 7\n\
+        onfi_sim run --trace\n\
+        onfi_sim run --workers 2\n\
+        onfi_sim run extra\n\
         onfi_sim --help";
     for line in table.lines() {
         assert!(rt;

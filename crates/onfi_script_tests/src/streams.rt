@@ -78,7 +78,12 @@ fn an_input_in_pieces_is_answered_whole(rt: HostRuntime) -> Result<(), Fail> {
         calls: 0,
         bad: u32::MAX,
     };
-    let got = engine(rt.alloc(), Command::Check, &mut reader, &mut out);
+    let got = engine(
+        rt.alloc(),
+        Command::Check { remember: false },
+        &mut reader,
+        &mut out,
+    );
     assert!(rt; matches!(&got, Ok(0)));
     assert!(rt; out.got.as_slice() == b"accepted 36240\n".as_slice());
     Ok(())
@@ -127,7 +132,12 @@ fn a_read_of_a_plan_text_fails(rt: HostRuntime) -> Result<(), Fail> {
             bad,
         };
         let mut out = Vec::new(rt.alloc());
-        let got = engine(rt.alloc(), Command::Check, &mut reader, &mut out);
+        let got = engine(
+            rt.alloc(),
+            Command::Check { remember: false },
+            &mut reader,
+            &mut out,
+        );
         assert!(rt; matches!(&got, Err(EngineFault::Read)), "at {bad}");
         assert!(rt; out.is_empty());
     }
@@ -143,7 +153,12 @@ fn a_write_of_a_judgement_fails(rt: HostRuntime) -> Result<(), Fail> {
             calls: 0,
             bad,
         };
-        let got = engine(rt.alloc(), Command::Check, &mut reader, &mut out);
+        let got = engine(
+            rt.alloc(),
+            Command::Check { remember: false },
+            &mut reader,
+            &mut out,
+        );
         assert!(rt; matches!(&got, Err(EngineFault::Write)), "at {bad}");
         assert!(rt; b"accepted 36240\n".starts_with(out.got.as_slice()));
     }

@@ -1,16 +1,15 @@
 // Plans ONFI channels and checks plans: reads a script from standard input and writes its answer to standard output.
 #![tactic(auto)]
 
-ghost use Rattle.std.specs.Prelude.{◌≤◌, IfOk};
-ghost use Rattle.onfi_script.specs.Limit.{IsLimited};
+ghost use Rattle.std.specs.Prelude.{IfOk};
+ghost use Rattle.onfi_script.specs.Words.{IsInRange};
 
 use onfi_script::{Command, EngineFault, Named, WordsFault, engine, engine_split, words};
 use std::io::ErrorKind;
 use std::process::ExitCode;
 
 fn asked(rt: &(impl std::rt::Env + AllocGlobal)) -> Result<Named, WordsFault>
-    ensures limit { IfOk result (λ named. IsLimited named.command) }
-    ensures workers { IfOk result (λ named. (1 ≤ named.workers) × (named.workers ≤ 8)) }
+    ensures { IfOk result (λ named. IsInRange named) }
 {
     let args = match std::env::args(rt) {
         Ok(args) => args,
@@ -24,15 +23,15 @@ fn asked(rt: &(impl std::rt::Env + AllocGlobal)) -> Result<Named, WordsFault>
 }
 
 fn main(rt: HostRuntime) -> ExitCode {
-    let Named { command, workers } = match asked(&rt) {
-        Ok(named) => named,
+    let (command, workers) = match asked(&rt) {
+        Ok(Named::Problem { command, workers }) => (command, workers),
         Err(WordsFault::Memory) => {
             let _ = rt.println("memory");
             return ExitCode::from(4);
         }
-        Err(WordsFault::Refused) => {
+        Ok(Named::Run { .. }) | Err(WordsFault::Refused) => {
             let _ = rt.eprintln(
-                "usage: onfi_sim plan [--limit N] [--trace] [--workers N] | onfi_sim check",
+                "usage: onfi_sim plan [--limit N] [--trace] [--workers N] | onfi_sim check [--remember]",
             );
             return ExitCode::from(5);
         }

@@ -51,7 +51,7 @@ const ACTS: [Act; 21] = [
 ];
 
 /// A request of page 0 of block 0 of LUN 0.
-fn page_0(alloc: Global, kind: Kind) -> Result<Request, AllocError> {
+pub(crate) fn page_0(alloc: Global, kind: Kind) -> Result<Request, AllocError> {
     let place = Place {
         lun: 0,
         block: 0,
@@ -87,7 +87,7 @@ fn event_of(alloc: Global, act: Act) -> Result<Event, AllocError> {
     })
 }
 
-fn say_reply(rt: &impl Print, reply: &Reply) -> Result<(), Ended> {
+pub(crate) fn say_reply(rt: &impl Print, reply: &Reply) -> Result<(), Ended> {
     let (place, serial) = (reply.place, reply.serial);
     match &reply.answer {
         Answer::Read(bytes) => {
@@ -118,20 +118,20 @@ fn say_outcome(rt: &impl Print, outcome: &Outcome) -> Result<(), Ended> {
     }
 }
 
-/// One channel of the sample device, one host, room for one item and one reply.
-fn setup() -> Result<Setup, Ended>
-    ensures { IfOk result (λ setup. setup.channels ≡ 1) }
+/// One channel of the sample device, with room for so many items, and for one reply to each of its hosts.
+pub(crate) fn setup(hosts: u8, items: u16) -> Result<Setup, Ended>
+    ensures { IfOk result (λ setup. (setup.channels ≡ 1) × (setup.hosts ≡ hosts)) }
 {
     let rules = Rules::new(true, true, false, 1);
     let (geometry, timing) = (sample_geometry(), sample_timing());
-    match Setup::new(geometry, timing, rules, 1, 1, 8, 1, 1, 1_000) {
+    match Setup::new(geometry, timing, rules, 1, hosts, 8, items, 1, 1_000) {
         Ok(setup) => Ok(setup),
         Err(_) => Err(Ended::NoTrial),
     }
 }
 
 /// A chip of the setup as it is opened.
-fn fresh_chip(alloc: Global, setup: Setup) -> Result<SimChip, AllocError>
+pub(crate) fn fresh_chip(alloc: Global, setup: Setup) -> Result<SimChip, AllocError>
     ensures { IfOk result (λ chip. IsFresh setup (chip_in chip)) }
 {
     let (faults, calls, statuses) = (Vec::new(alloc), Vec::new(alloc), Vec::new(alloc));
@@ -148,7 +148,7 @@ fn fresh_chips(alloc: Global, setup: Setup) -> Result<Vec<SimChip>, AllocError>
 }
 
 fn open_core(alloc: Global) -> Result<Core<SimChip>, Ended> {
-    let setup = setup()?;
+    let setup = setup(1, 1)?;
     let chips = fresh_chips(alloc, setup)?;
     match Core::open(alloc, setup, chips) {
         Ok(core) => Ok(core),

@@ -7,13 +7,16 @@ mod ended;
 mod judging;
 mod planning;
 mod sample;
+mod serving;
 
 use crate::channel::{run_events, step_by_step};
 use crate::ended::Ended;
 use crate::judging::{judge_text, judge_tokens};
 use crate::planning::{plan_apart, plan_in_parts, plan_running};
+use crate::serving::{drain_at_once, serve_reads};
 use std::alloc::Global;
 use std::process::ExitCode;
+use std::sync::Wait;
 use std::thread::Threads;
 
 /// The first argument; empty where there is none.
@@ -29,7 +32,11 @@ fn name_of(rt: &(impl std::rt::Env + AllocGlobal)) -> Result<String, Ended> {
 }
 
 /// Makes the calls of the trial with this name.
-fn try_calls<R: Print + Threads + Sync>(rt: &R, alloc: Global, name: &str) -> Result<(), Ended> {
+fn try_calls<R: Print + Threads + Wait + Sync>(
+    rt: &R,
+    alloc: Global,
+    name: &str,
+) -> Result<(), Ended> {
     match name {
         "apart" => plan_apart(rt, alloc),
         "running" => plan_running(rt, alloc),
@@ -38,11 +45,15 @@ fn try_calls<R: Print + Threads + Sync>(rt: &R, alloc: Global, name: &str) -> Re
         "text" => judge_text(rt, alloc),
         "channel" => step_by_step(rt, alloc),
         "events" => run_events(rt, alloc),
+        "turns" => serve_reads(rt, alloc),
+        "drain" => drain_at_once(rt, alloc),
         _ => Err(Ended::NoTrial),
     }
 }
 
-fn tried(rt: &(impl std::rt::Env + AllocGlobal + Print + Threads + Sync)) -> Result<(), Ended> {
+fn tried(
+    rt: &(impl std::rt::Env + AllocGlobal + Print + Threads + Wait + Sync),
+) -> Result<(), Ended> {
     let name = name_of(rt)?;
     try_calls(rt, rt.alloc(), name.as_str())
 }
@@ -56,7 +67,7 @@ fn main(rt: HostRuntime) -> ExitCode {
         }
         Err(Ended::NoTrial) => {
             let _ = rt.eprintln(
-                "usage: onfi_trials apart|running|parts|tokens|text|channel|events",
+                "usage: onfi_trials apart|running|parts|tokens|text|channel|events|turns|drain",
             );
             ExitCode::from(5)
         }

@@ -1,0 +1,17 @@
+use onfi_schedule::Schedule;
+
+/// A schedule of a problem that ends first, and what shows it.
+#[derive(Drop)]
+pub struct PlannedKnown {
+    /// For each LUN the starts of the phases that are left of its running group, and the new groups by rising first
+    /// start; in ns of the channel's clock.
+    pub schedule: Schedule,
+    /// When the last phase ends, in ns; where no phase is left, from when on the bus is free.
+    pub finish: u64,
+    /// The text of the certificate, which remembers states.
+    pub cert: Vec<u8>,
+    /// How many nodes the search opened that found the finish.
+    pub opened: u32,
+    /// How many nodes were opened once more to write the certificate; 0 where the first schedule was the best.
+    pub reopened: u32,
+}

@@ -1,0 +1,116 @@
+//! What was searched, found again by what was left there.
+
+ghost use Rattle.std.specs.Prelude.{◌≤◌, ◌<◌};
+ghost use Rattle.onfi_group.specs.Words.{Pairs};
+
+use onfi_demand::{LunLeft, left_on};
+use onfi_known::Known;
+use onfi_problem::Problem;
+use onfi_timing::Kind;
+use std::alloc::{AllocError, Global};
+use std::collections::HashMap;
+
+/// How many nodes with the same left are looked at for one.
+const MOST_LOOKS: u32 = 64;
+
+/// The nodes that a walk is done with, in the order in which they ended.
+#[derive(Drop)]
+pub struct Records {
+    nodes: Vec<Known>,
+    /// For each node the one before it with the same left.
+    older: Vec<Option<u32>>,
+    /// The last node to which the same is left, by its key.
+    newest: HashMap<u64, u32>,
+}
+
+/// A node that closes another: its number, and from when on each LUN must go on, in ns.
+#[derive(Clone, Copy)]
+pub struct Hit {
+    pub number: u32,
+    pub times: [u64; 8],
+}
+
+impl Records {
+    /// No node yet.
+    pub fn new(alloc: Global) -> Records {
+        Records {
+            nodes: Vec::new(alloc),
+            older: Vec::new(alloc),
+            newest: HashMap::new(alloc),
+        }
+    }
+
+    /// A node to which the same is left and of which no more is asked than the problem meets, the last one first.
+    pub fn find(&self, problem: &Problem) -> Option<Hit>
+        requires { Pairs (λ a b. a.id < b.id) problem.now.all }
+    {
+        let mut next = self.newest.get(&key_of(problem)).copied();
+        for _ in 0..MOST_LOOKS {
+            let number = next?;
+            let node = self.nodes.get(number as usize)?;
+            if node.describes(problem) && node.is_met(problem) {
+                let times = node.times;
+                return Some(Hit { number, times });
+            }
+            next = *self.older.get(number as usize)?;
+        }
+        None
+    }
+
+    /// Keeps a node that has ended, with what it asks of each LUN, in ns.
+    ///
+    /// # Errors
+    /// Only where memory was refused.
+    pub fn keep(&mut self, problem: &Problem, times: [u64; 8]) -> Result<(), AllocError> {
+        let Ok(number) = u32::try_from(self.nodes.len()) else {
+            return Err(AllocError);
+        };
+        let Ok(older) = self.newest.insert(key_of(problem), number) else {
+            return Err(AllocError);
+        };
+        self.older.push(older)?;
+        self.nodes.push(Known::of(problem, times))?;
+        Ok(())
+    }
+}
+
+// A number that is the same where the same is left: seven bits for each LUN, and a bit for each want.
+fn key_of(problem: &Problem) -> u64 {
+    let mut key = 0u64;
+    for lun in 0..problem.lun_count() as u8 {
+        key = key
+            .wrapping_mul(128)
+            .wrapping_add(code_of(left_on(problem, lun)));
+    }
+    with_marks(key, problem.waiting())
+}
+
+fn with_marks(key: u64, marks: &[bool; 8]) -> u64 {
+    let mut key = key;
+    for i in 0..8usize {
+        key = key.wrapping_mul(2).wrapping_add(marks[i] as u64);
+    }
+    key
+}
+
+// Another number for each that a LUN can have left.
+fn code_of(left: LunLeft) -> u64 {
+    match left {
+        LunLeft::Idle => 0,
+        LunLeft::Rest {
+            kind,
+            members,
+            next,
+        } => place_of(kind) + 4 * (members as u64 + 8 * next as u64),
+    }
+}
+
+fn place_of(kind: Kind) -> u64
+    ensures { result ≤ 3 }
+{
+    match kind {
+        Kind::Read => 1,
+        Kind::Program => 2,
+        Kind::Erase => 3,
+    }
+}

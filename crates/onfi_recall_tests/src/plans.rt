@@ -1,0 +1,104 @@
+ghost use Rattle.std.specs.Prelude.{◌≡◌, ◌≤◌};
+
+use onfi_addr::Place;
+use onfi_group::{Group, Rules};
+use onfi_known::check_known_text;
+use onfi_planner::plan;
+use onfi_problem::{LunState, Problem, ProblemFault};
+use onfi_recall::{PlanKnownFault, plan_known};
+use onfi_request::Want;
+use onfi_samples::{sample_timing, want_of};
+use onfi_timing::Kind;
+use std::alloc::Global;
+use std::test::Fail;
+
+// A want of page 0 of a block.
+fn want(id: u64, kind: Kind, lun: u8, block: u16) -> Want
+    ensures id { result.id ≡ id }
+    ensures plane { result.plane ≤ 3 }
+{
+    let page = 0;
+    want_of(id, kind, Place { lun, block, page })
+}
+
+// Reads, programs and an erase of four LUNs, while the status of a program on LUN 1 is next.
+fn mixed(alloc: Global) -> Result<Problem, ProblemFault> {
+    let luns = [
+        LunState::Free { since: 0 },
+        LunState::Running {
+            group: Group::of(alloc, &[want(0, Kind::Program, 1, 3)]),
+            next: 1,
+            ready: 300_000,
+        },
+        LunState::Free { since: 50_000 },
+        LunState::Free { since: 0 },
+    ];
+    let wants = [
+        want(0, Kind::Read, 0, 0),
+        want(1, Kind::Program, 0, 1),
+        want(2, Kind::Read, 1, 0),
+        want(3, Kind::Program, 2, 2),
+        want(4, Kind::Read, 2, 0),
+        want(5, Kind::Erase, 3, 1),
+        want(6, Kind::Program, 3, 0),
+        want(7, Kind::Read, 3, 2),
+    ];
+    let rules = Rules::new(true, true, false, 1);
+    Problem::new(alloc, sample_timing(), rules, 1000, &luns, &wants)
+}
+
+#[test]
+fn a_plan_ends_when_that_of_the_plain_search_does(rt: HostRuntime) -> Result<(), Fail> {
+    let alloc = rt.alloc();
+    let problem = mixed(alloc)?;
+    let plain = plan(alloc, &problem, 1_048_576)?;
+    let planned = plan_known(alloc, &problem, 1_048_576)?;
+    assert_eq!(rt; planned.finish, plain.finish);
+    assert!(rt; planned.opened <= plain.opened);
+    let text = planned.cert.as_slice();
+    let checked = check_known_text(alloc, &problem, &planned.schedule, text);
+    assert_eq!(rt; checked, Ok(plain.finish));
+    Ok(())
+}
+
+// Six reads of three LUNs, of which the first schedules aren't the best.
+fn six_reads(alloc: Global) -> Result<Problem, ProblemFault> {
+    let luns = [
+        LunState::Free { since: 0 },
+        LunState::Free { since: 0 },
+        LunState::Free { since: 0 },
+    ];
+    let wants = [
+        want(0, Kind::Read, 1, 1),
+        want(1, Kind::Read, 2, 1),
+        want(2, Kind::Read, 1, 2),
+        want(3, Kind::Read, 2, 0),
+        want(4, Kind::Read, 2, 2),
+        want(5, Kind::Read, 0, 1),
+    ];
+    let rules = Rules::new(true, true, false, 1);
+    Problem::new(alloc, sample_timing(), rules, 0, &luns, &wants)
+}
+
+#[test]
+fn a_tree_is_walked_once_more_where_a_sooner_finish_was_found(rt: HostRuntime) -> Result<(), Fail> {
+    let alloc = rt.alloc();
+    let problem = six_reads(alloc)?;
+    let planned = plan_known(alloc, &problem, 1000)?;
+    assert_eq!(rt; planned.finish, 92_120);
+    assert!(rt; planned.reopened > 0);
+    let text = planned.cert.as_slice();
+    assert!(rt; text.starts_with(b"ONFICERT 3 remember\nB"));
+    let checked = check_known_text(alloc, &problem, &planned.schedule, text);
+    assert_eq!(rt; checked, Ok(92_120));
+    Ok(())
+}
+
+#[test]
+fn a_search_that_needs_more_nodes_is_over(rt: HostRuntime) -> Result<(), Fail> {
+    let alloc = rt.alloc();
+    let problem = six_reads(alloc)?;
+    let over = plan_known(alloc, &problem, 100);
+    assert!(rt; matches!(over, Err(PlanKnownFault::Over { opened: 100 })));
+    Ok(())
+}
