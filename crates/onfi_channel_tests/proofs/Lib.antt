@@ -1,3 +1,2 @@
 pub mod Erases
 mod OneMember
-mod OtherEnds

@@ -19,6 +19,9 @@ mod yields;
 
 pub use fault::PlanFault;
 pub use gate::{NoGate, PartGate};
+pub use placing::schedule_of;
 pub use planned::Planned;
 pub use planning::plan;
+pub use root::{Root, root_of};
+pub use search::{Begun, Best, Stop};
 pub use split::plan_split;

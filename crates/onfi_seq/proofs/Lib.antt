@@ -5,3 +5,4 @@ pub mod Draining
 pub mod Closing
 pub mod Same
 pub mod Opening
+pub mod OtherEnds

@@ -1,6 +1,6 @@
 use Rattle.onfi_chip.specs.SimChip.{chip_in}
 use Rattle.onfi_seq.specs.Sequencer.{seen_in}
-use Rattle.onfi_trials.proofs.OtherEnds.{drained}
+use Rattle.onfi_seq.proofs.OtherEnds.{drained}
 use Rattle.onfi_trials.proofs.serving.drain.Goals as goal
 
 pub loop-try-preserved : goal.loop-try-preserved

@@ -1,6 +1,6 @@
 use Rattle.onfi_chip.specs.SimChip.{chip_in}
 use Rattle.onfi_seq.specs.Sequencer.{seen_in}
-use Rattle.onfi_trials.proofs.OtherEnds.{still_ends}
+use Rattle.onfi_seq.proofs.OtherEnds.{still_ends}
 use Rattle.onfi_trials.proofs.serving.make_turn.Goals as goal
 
 pub returns : goal.returns

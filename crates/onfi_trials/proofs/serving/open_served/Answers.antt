@@ -1,4 +1,4 @@
-use Rattle.onfi_trials.proofs.OtherEnds.{opened}
+use Rattle.onfi_seq.proofs.OtherEnds.{opened}
 use Rattle.onfi_trials.proofs.serving.open_served.Goals as goal
 
 pub returns : goal.returns

@@ -1,4 +1,4 @@
-use Rattle.onfi_trials.proofs.OtherEnds.{set_host}
+use Rattle.onfi_seq.proofs.OtherEnds.{set_host}
 use Rattle.onfi_trials.proofs.serving.submit.Goals as goal
 
 pub loop-kind-preserved : goal.loop-kind-preserved

@@ -1,4 +1,4 @@
-use Rattle.onfi_channel_tests.proofs.OtherEnds.{collected}
+use Rattle.onfi_seq.proofs.OtherEnds.{collected}
 use Rattle.onfi_channel_tests.proofs.bench.Bench.collect.Goals as goal
 
 pub invariant_of-self : goal.invariant_of-self

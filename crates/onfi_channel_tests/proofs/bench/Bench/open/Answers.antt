@@ -1,4 +1,4 @@
-use Rattle.onfi_channel_tests.proofs.OtherEnds.{opened}
+use Rattle.onfi_seq.proofs.OtherEnds.{opened}
 use Rattle.onfi_channel_tests.proofs.bench.Bench.open.Goals as goal
 
 pub invariant_of-result : goal.invariant_of-result

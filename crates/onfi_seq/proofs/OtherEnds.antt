@@ -1,11 +1,12 @@
 -- Hosts and inboxes stay the other ends of a channel's queues.
-use Rattle.std.proofs.Common.{◌≡◌, ℕ, zero, suc, ◌+◌, List, [], ◌∷◌, get_or, refl, sym, ap, ◌∙◌, subst, arith}
-use Rattle.std.specs.Prelude.{map, slice_set}
+use Rattle.std.proofs.Common.{◌≡◌, ℕ, zero, suc, ◌+◌, List, [], ◌∷◌, get_or, Option, Some, None, refl, sym, ap, ◌∙◌, subst, arith}
+use Rattle.std.specs.Prelude.{IfNone, IfSome, map, slice_set}
 use Rattle.atomic_table.specs.Seated.{TableId}
 use Rattle.onfi_queue.specs.declared.opened.Opened.{Opened}
 use Rattle.onfi_queue.specs.Ends.{AreHostsOf, HostView, four_hosts}
 use Rattle.onfi_reply.specs.declared.opened_for.OpenedFor.{OpenedFor}
-use Rattle.onfi_reply.specs.Ends.{InboxView, PosterView, inbox_of}
+use Rattle.onfi_reply.specs.Ends.{InboxView, PosterView, after_collecting, inbox_of}
+use Rattle.onfi_request.specs.declared.reply.Reply.{Reply}
 use Rattle.onfi_seq.specs.Drained.{AreOtherEnds, HasGrown, HaveGrown, inbox_queues, poster_queues}
 use Rattle.onfi_seq.specs.Sequencer.{IsSameChannel, Seen, SequencerFields, poster_ends}
 
@@ -44,7 +45,26 @@ set_host queue number [] at x y are same_queue same_number = are
 set_host queue number (h ∷ hosts) zero x y (of_queue, is, are) same_queue same_number = (same_queue ∙ of_queue, same_number ∙ is, are)
 set_host queue number (h ∷ hosts) (suc at) x y (of_queue, is, are) same_queue same_number = (of_queue, is, set_host queue (number + 1) hosts at x y are same_queue same_number)
 
--- The inboxes take in
+pub submitted : (q : SequencerFields) (hosts : List HostView) (inboxes : List InboxView) (at : ℕ) (x y : HostView) → AreOtherEnds q hosts inboxes → (y.queue ≡ (get_or hosts at x).queue) × (y.number ≡ (get_or hosts at x).number)
+    → AreOtherEnds q (slice_set hosts at y) inboxes
+submitted q hosts inboxes at x y ends same = record { hosts_are = set_host q.intake.queue 0 hosts at x y ends.hosts_are same.0 same.1; inboxes_are = ends.inboxes_are }
+
+-- Inboxes give and take in
+
+set_inbox : (inboxes : List InboxView) (at : ℕ) (i j : InboxView) → j.queue ≡ (get_or inboxes at i).queue → inbox_queues (slice_set inboxes at j) ≡ inbox_queues inboxes
+set_inbox [] at i j same = refl
+set_inbox (k ∷ inboxes) zero i j same = ap (λ (queue : TableId). queue ∷ inbox_queues inboxes) same
+set_inbox (k ∷ inboxes) (suc at) i j same = ap (λ (queues : List TableId). k.queue ∷ queues) (set_inbox inboxes at i j same)
+
+-- the inbox gave a reply, or none
+given_queue : (i j : InboxView) (r : Option Reply) → IfSome r (λ x. j ≡ after_collecting i x) → IfNone r (j ≡ i) → j.queue ≡ i.queue
+given_queue i j (Some x) given same = ap (λ (z : InboxView). z.queue) given
+given_queue i j None given same = ap (λ (z : InboxView). z.queue) same
+
+pub collected : (q : SequencerFields) (hosts : List HostView) (inboxes : List InboxView) (at : ℕ) (i j : InboxView) (r : Option Reply) → AreOtherEnds q hosts inboxes
+    → IfSome r (λ x. j ≡ after_collecting (get_or inboxes at i) x) → IfNone r (j ≡ get_or inboxes at i) → AreOtherEnds q hosts (slice_set inboxes at j)
+collected q hosts inboxes at i j r ends given same =
+    record { hosts_are = ends.hosts_are; inboxes_are = set_inbox inboxes at i j (given_queue (get_or inboxes at i) j r given same) ∙ ends.inboxes_are }
 
 grown_queues : (old new : List InboxView) → HaveGrown old new → inbox_queues new ≡ inbox_queues old
 grown_queues [] [] grown = refl
