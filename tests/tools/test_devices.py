@@ -102,7 +102,7 @@ class Examples(unittest.TestCase):
     @unittest.skipUnless(support.program(), "no built program")
     def test_their_commands_print_what_is_written(self) -> None:
         ran = 0
-        for page in (support.ROOT / "README.md", *PAGES):
+        for page in (support.ROOT / "README.md", *sorted((support.ROOT / "docs").glob("**/*.md")), *PAGES):
             for command, written in commands_of(page):
                 self.assertEqual(support.run_shell(command), written, command)
                 ran += 1
