@@ -3,10 +3,12 @@
 from __future__ import annotations
 
 import dataclasses
+import re
 import sys
+import textwrap
 import unittest
 from pathlib import Path
-from typing import Any
+from typing import Any, Dict
 
 sys.path.insert(0, str(Path(__file__).resolve().parent))
 import test_libraries  # noqa: E402, F401
@@ -31,6 +33,14 @@ class Plans(unittest.TestCase):
         self.assertGreaterEqual(plan.opened, 1)
         self.assertTrue(plan.certificate.startswith(b"ONFICERT 1\n"))
         self.assertEqual(onfi.check(CHANNEL, LUNS, WANTS, plan.schedule, plan.certificate), plan.finish)
+
+    def test_the_lines_of_the_readme(self) -> None:
+        text = (Path(__file__).resolve().parent.parent.parent / "README.md").read_text()
+        block = re.search(r"^    from onfi import .*\n(?:(?:    .*)?\n)*", text, re.MULTILINE)
+        assert block
+        names: Dict[str, Any] = {}
+        exec(textwrap.dedent(block[0]), names)
+        self.assertEqual(names["made"].finish, 47_240)
 
     def test_running_groups(self) -> None:
         luns = [onfi.Lun(1000, [WANTS[0], WANTS[1]], 2), onfi.Lun()]

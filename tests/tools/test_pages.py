@@ -86,6 +86,21 @@ class Kit(unittest.TestCase):
         self.assertIn(f"`{said}`", (ROOT / "README.md").read_text())
 
 
+class Examples(unittest.TestCase):
+    def test_code_of_contributing_is_in_its_files(self) -> None:
+        bodies = ROOT / "crates/onfi_planner/wrong-bodies"
+        shown = [(ROOT / "CONTRIBUTING.md", "pub fn unrow", ROOT / "crates/onfi_addr/src/geometry.rt"),
+                 (ROOT / "CONTRIBUTING.md", "opened: limit", bodies / "over_always.edit"),
+                 (ROOT / "CONTRIBUTING.md", "u32::MAX", bodies / "over_always.twin"),
+                 (ROOT / "README.md", "Problem::new", ROOT / "examples/rattle/README.md")]
+        for page, word, source in shown:
+            blocks = [block for block in re.findall(r"(?:^    .*\n)+", page.read_text(), re.MULTILINE) if word in block]
+            lines = [line.strip() for line in source.read_text().splitlines()]
+            self.assertTrue(blocks, word)
+            for line in blocks[0].splitlines():
+                self.assertIn(line.strip(), lines, page.name)
+
+
 class Counts(unittest.TestCase):
     """READ-FIRST: 'optimal' exactly, all else within a twentieth."""
 
