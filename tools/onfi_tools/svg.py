@@ -147,7 +147,7 @@ def labels_of(scale: Scale, own: List[Stretch]) -> List[Label]:
     for bar in own:
         half = LETTER * len(bar.part.value) / 2
         foot = middle(scale, bar)
-        x = min(max(foot, half + 2), scale.width - half - 2)
+        x = min(max(foot, half + 2), scale.x(scale.end) - half - 2)
         tier = next(tier for tier in range(1, len(own) + 1) if ends.get(tier, 0) <= x - half)
         ends[tier] = x + half + LETTER
         found.append(Label(x, foot, tier, bar.part.value))
