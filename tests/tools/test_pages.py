@@ -79,6 +79,19 @@ class Cells(unittest.TestCase):
                     self.assertLessEqual(len(words), 30, f"{page.name}: {cell}")
 
 
+class Crates(unittest.TestCase):
+    def test_each_stands_below_those_on_it(self) -> None:
+        """A crate's row in ARCHITECTURE is below those of the crates that it stands on, and CLAIMS has no other crates."""
+        rows = re.findall(r"^\| `(\w+)` \|", (ROOT / "docs/ARCHITECTURE.md").read_text(), re.MULTILINE)
+        lines = re.findall(r"^(onfi_\w+)[^:\n]*:(.*)$", (ROOT / "crates.txt").read_text(), re.MULTILINE)
+        self.assertEqual(sorted(rows), sorted(name for name, _ in lines))
+        for name, below in lines:
+            for other in re.findall(r"onfi_\w+", below):
+                self.assertLess(rows.index(other), rows.index(name), name)
+        claimed = re.findall(r"^## `(\w+)`", (ROOT / "docs/CLAIMS.md").read_text(), re.MULTILINE)
+        self.assertEqual(len(claimed), len(set(claimed) & set(rows)))
+
+
 class Kit(unittest.TestCase):
     @unittest.skipUnless(shutil.which("rt"), "no kit")
     def test_the_readme_names_the_kit(self) -> None:
