@@ -2,6 +2,9 @@
 
 from __future__ import annotations
 
+import re
+import subprocess
+import tempfile
 import unittest
 from pathlib import Path
 from typing import List, Tuple
@@ -94,6 +97,15 @@ class Examples(unittest.TestCase):
                                        ("simulator/batch", "simulator/four-planes", 3), ("simulator/faults", "simulator/four-planes", 3)):
             ran = support.run_tool("make-page", "--copies", str(copies), f"@examples/{fields}.fields")
             self.assertEqual(ran.stdout.splitlines(), page_rows(EXAMPLES / f"{script}.onfi"))
+
+    def test_bytes_become_rows(self) -> None:
+        command = re.search(r"`(od [^`]+)`", (EXAMPLES / "firmware/README.md").read_text())
+        assert command
+        rows = page_rows(EXAMPLES / "firmware/batch.onfi")
+        with tempfile.TemporaryDirectory() as folder:
+            (Path(folder) / "page.bin").write_bytes(bytes.fromhex("".join(row[5:] for row in rows)))
+            made = subprocess.run(command[1], shell=True, capture_output=True, text=True, cwd=folder).stdout
+        self.assertEqual(made.splitlines(), [row[:5] + row[5:].lower() for row in rows])
 
     def test_their_pages_are_short(self) -> None:
         for page in PAGES:

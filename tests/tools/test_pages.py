@@ -3,8 +3,6 @@
 from __future__ import annotations
 
 import re
-import shutil
-import subprocess
 import unittest
 from pathlib import Path
 from typing import Iterator, List, Set
@@ -90,13 +88,6 @@ class Crates(unittest.TestCase):
                 self.assertLess(rows.index(other), rows.index(name), name)
         claimed = re.findall(r"^## `(\w+)`", (ROOT / "docs/CLAIMS.md").read_text(), re.MULTILINE)
         self.assertEqual(len(claimed), len(set(claimed) & set(rows)))
-
-
-class Kit(unittest.TestCase):
-    @unittest.skipUnless(shutil.which("rt"), "no kit")
-    def test_the_readme_names_the_kit(self) -> None:
-        said = subprocess.run(["rt", "version"], capture_output=True, text=True).stdout.strip()
-        self.assertIn(f"`{said}`", (ROOT / "README.md").read_text())
 
 
 class Examples(unittest.TestCase):
