@@ -9,8 +9,11 @@ from typing import Dict, Iterator, List, NamedTuple, Set, Tuple
 import support
 
 WORD = re.compile(r"[A-Za-z_][A-Za-z0-9_]*")
+START = re.compile(r"(?:(?:abbrev |unfoldable )?pub (?!use |mod )|(?:abbrev )?mutual\b)")
 NAME = re.compile(r"\s*(?:abbrev |unfoldable )?pub (?:record |data )?(\w+)\b")
-USE = re.compile(r"^\s*(?:ghost |pub )?use Rattle\.(onfi_\w+)\.specs\.(\w+)(\.\w+)?(?:\.\{([^}]*)\}| as (\w+))?", re.MULTILINE)
+INNER = re.compile(r"  pub (?:record |data )?(\w+)\b")
+USE = re.compile(r"^\s*(?:ghost |pub )?use Rattle\.(onfi_\w+)\.specs\.(\w+)(\.\w+)?(?:\.\{([^}]*)\}| as (\w+))?",
+                 re.MULTILINE)
 
 
 class Definition(NamedTuple):
@@ -24,28 +27,25 @@ Key = Tuple[str, str, str]
 
 
 def is_code(line: str) -> bool:
-    return bool(line.strip()) and not line.lstrip().startswith("--") and not re.match(r"(pub )?use ", line)
+    return bool(line.strip()) and not line.lstrip().startswith("--") and not re.match(r"(pub )?(use|mod) ", line)
 
 
 def blocks_of(text: str) -> Iterator[List[str]]:
-    """The lines of each definition, a mutual block as one; comments between them belong to none."""
+    """The lines of each definition, a mutual block as one; comments and imports belong to none."""
     block: List[str] = []
-    for line in text.splitlines():
-        if re.match(r"(abbrev |unfoldable )?pub |(abbrev )?mutual$|abbrev mutual", line) and not line.startswith("pub use "):
-            if block:
-                yield block
+    for line in filter(is_code, text.splitlines()):
+        if START.match(line) and block:
+            yield block
             block = []
-        if is_code(line) and (block or not line.startswith("pub mod ")):
-            block.append(line)
+        block.append(line)
     if block:
         yield block
 
 
 def names_in(block: List[str]) -> List[str]:
-    if block[0].rstrip().endswith("mutual"):
-        return [found.group(1) for found in map(NAME.match, block) if found and re.match(r"  pub ", found.group(0))]
-    found = NAME.match(block[0].replace("abbrev pub ", "pub ").replace("unfoldable pub ", "pub "))
-    return [found.group(1)] if found else []
+    pattern = INNER if "mutual" in block[0] else NAME
+    found = [pattern.match(line) for line in (block if pattern is INNER else block[:1])]
+    return [name.group(1) for name in found if name]
 
 
 class Definitions:

@@ -1,4 +1,4 @@
-"""The tables of claims: each call, clause and definition that they name is there, and the clause rests on the definition."""
+"""The tables of claims: each call, clause and definition that they name is there, and clauses rest on definitions."""
 
 from __future__ import annotations
 
@@ -55,7 +55,8 @@ class Sources:
             clause = re.match(r"\s*(ensures|requires\*?|(?:pub )?ghost)\b(?: (\w+))?", line)
             if call or kind or clause or line.strip() in ("{", "}"):
                 if word:
-                    self.clauses.append(Clause(path.name, within, owner, word, name, cited(body, taken, whole, definitions)))
+                    cites = cited(body, taken, whole, definitions)
+                    self.clauses.append(Clause(path.name, within, owner, word, name, cites))
                 word, name, body = "", "", ""
             if call or kind:
                 owner = (call or kind).group(1)  # type: ignore[union-attr]

@@ -93,8 +93,9 @@ class Lengths(unittest.TestCase):
 
 class Examples(unittest.TestCase):
     def test_their_pages_are_those_of_their_fields(self) -> None:
-        for script, fields, copies in (("firmware/batch", "firmware/two-planes", 1), ("test-bench/batch", "firmware/two-planes", 1),
-                                       ("simulator/batch", "simulator/four-planes", 3), ("simulator/faults", "simulator/four-planes", 3)):
+        two, four = "firmware/two-planes", "simulator/four-planes"
+        for script, fields, copies in (("firmware/batch", two, 1), ("test-bench/batch", two, 1),
+                                       ("simulator/batch", four, 3), ("simulator/faults", four, 3)):
             ran = support.run_tool("make-page", "--copies", str(copies), f"@examples/{fields}.fields")
             self.assertEqual(ran.stdout.splitlines(), page_rows(EXAMPLES / f"{script}.onfi"))
 
