@@ -42,6 +42,14 @@ class Manual(unittest.TestCase):
             self.assertIn(word, usage)
             self.assertIn(word, page)
 
+    @unittest.skipUnless(support.program(), "no built program")
+    def test_any_number_of_workers_gives_the_same_plan(self) -> None:
+        for user in ("firmware", "simulator", "test-bench"):
+            script = (support.ROOT / "examples" / user / "batch.onfi").read_text()
+            plans = {support.run_program("plan", "--workers", workers, given=script).stdout for workers in "1248"}
+            self.assertEqual(len(plans), 1, user)
+            self.assertIn("ONFICERT", plans.pop())
+
 
 class Refusals(unittest.TestCase):
     def test_each_has_something_to_do(self) -> None:
