@@ -1,5 +1,5 @@
 # make plan: prove and build bin/onfi_sim, and plan one read with it.
-# make try:  the same script with the program unproved, in one to two minutes.
+# make try:  the same script with the program unproved, in a few minutes.
 # make test: the whole gate: what must not compile, every proof and test, the cases of the program, and all wrong bodies.
 # make library: prove and build lib/libonfi.a and lib/libonfi.so for C and for Python.
 # make install PREFIX=DIR: these with their header and a pkg-config file into DIR.
