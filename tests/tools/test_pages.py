@@ -52,7 +52,7 @@ class Links(unittest.TestCase):
 
     def test_the_files_that_pages_name_are_there(self) -> None:
         for page in [*PAGES, ROOT / "docs/onfi_sim.1"]:
-            for name in FILE.findall(page.read_text()):
+            for name in FILE.findall(page.read_text().replace("\\-", "-")):
                 self.assertTrue((ROOT / name).exists() or (ROOT / (name + ".py")).exists(), f"{page.name}: {name}")
 
     def test_each_page_can_be_reached_from_the_readme(self) -> None:
