@@ -12,21 +12,32 @@ from pathlib import Path
 import support
 
 PLAN = "ONFIPLAN 1\\nfinish 7\\nONFICERT 1\\nU\\n"
+REMEMBERED = PLAN.replace("ONFICERT 1", "ONFICERT 3 remember")
 PROGRAM = """#!{python} -SI
 import sys
 text = sys.stdin.buffer.read()
-command = sys.argv[1]
-traced = "--trace" in sys.argv
+words = sys.argv[1:]
+command = (words + [""])[0]
+traced, remembers, split = "--trace" in words, "--remember" in words, "--workers" in words
 def say(text, status):
     sys.stdout.write(text)
     sys.exit(status)
 {body}
 """
-RIGHT = f"""
-if command == "check":
-    say("accepted 7\\n", 0) if text.endswith(b"{PLAN}") else say("refused plan 1\\n", 2)
-say("" if traced else "{PLAN}", 0)
+REFUSES = """
+form = " ".join("N" if word.isdigit() else word for word in words)
+taken = ["plan", "plan --limit N", "plan --limit N --trace", "plan --workers N", "check", "check --remember", "run --limit N"]
+if form not in taken:
+    sys.stderr.write("usage: onfi_sim plan ..\\n")
+    sys.exit(5)
 """
+ANSWERS = f"""
+if command == "check":
+    whole = b"{REMEMBERED}" if remembers else b"{PLAN}"
+    say("accepted 7\\n", 0) if text.endswith(whole) else say("refused plan 1\\n", 2)
+say("closed\\n" if command == "run" else "" if traced else "{PLAN}", 0)
+"""
+RIGHT = REFUSES + ANSWERS
 
 
 def fuzzed(body: str, inputs: int = 40) -> "tuple[int, str]":
@@ -35,21 +46,22 @@ def fuzzed(body: str, inputs: int = 40) -> "tuple[int, str]":
         program = Path(folder) / "program"
         program.write_text(PROGRAM.format(python=sys.executable, body=body))
         os.chmod(program, stat.S_IRWXU)
-        said = support.run_tool("fuzz", "60", str(program), "--inputs", str(inputs))
+        said = support.run_tool("fuzz", "600", str(program), "--inputs", str(inputs))
     return said.returncode, said.stdout
 
 
 class Fuzz(unittest.TestCase):
-    def assert_missed(self, body: str, told: str) -> None:
-        status, said = fuzzed(body)
+    def assert_missed(self, body: str, told: str, inputs: int = 40) -> None:
+        status, said = fuzzed(body, inputs)
         self.assertEqual(status, 1)
         self.assertIn(told, said)
         self.assertNotIn(" 0 failed", said.splitlines()[-1])
 
     def test_a_program_that_answers_rightly_passes(self) -> None:
-        status, said = fuzzed(RIGHT)
-        self.assertEqual((status, said.splitlines()[-1]), (0, "40 passed, 0 failed"))
-        self.assertRegex(said, r"[1-9]\d* check accepted.* [1-9]\d* plan plan")
+        status, said = fuzzed(RIGHT, 100)
+        self.assertEqual((status, said.splitlines()[-1]), (0, "100 passed, 0 failed"))
+        for told in ("check accepted", "check --remember accepted", "plan plan", "trace trace", "run ran", "words refused"):
+            self.assertRegex(said, rf"[1-9]\d* {told}\b")
 
     def test_a_status_of_another_command_is_a_miss(self) -> None:
         self.assert_missed('say("refused finish\\n", 2)', "status 2")
@@ -65,11 +77,33 @@ class Fuzz(unittest.TestCase):
 
     def test_a_plan_that_is_refused_is_a_miss(self) -> None:
         body = RIGHT.replace("accepted 7", "refused 1 Illegal").replace(", 0) if", ", 2) if")
-        self.assert_missed(body, "check doesn't accept the plan")
+        self.assert_missed(body, "['check'] doesn't accept the plan")
+
+    def test_a_plan_that_is_refused_with_the_other_header_is_a_miss(self) -> None:
+        self.assert_missed(RIGHT.replace("if remembers", "if 0"), "['check', '--remember'] doesn't accept the plan")
 
     def test_a_sooner_finish_that_is_accepted_is_a_miss(self) -> None:
         body = RIGHT.replace('say("refused plan 1\\n", 2)', 'say("accepted 6\\n", 0)')
         self.assert_missed(body, "another finish than that of the plan")
+
+    def test_another_plan_by_several_workers_is_a_miss(self) -> None:
+        body = REFUSES + 'if split: say("ONFIPLAN 1\\nfinish 7\\nONFICERT 1\\nL\\n", 0)' + ANSWERS
+        self.assert_missed(body, "another plan b'ONFIPLAN 1\\nfinish 7\\nONFICERT 1\\nL\\n'", 100)
+
+    def test_a_reply_that_is_told_twice_is_a_miss(self) -> None:
+        self.assert_missed(RIGHT.replace("closed", "reply,0,0,1,done\\nreply,0,0,1,done\\nclosed"), "replies that don't rise")
+
+    def test_a_stopped_channel_with_another_status_is_a_miss(self) -> None:
+        self.assert_missed(RIGHT.replace("closed", "stopped,0,Bus\\nclosed"), "status 0 of the report")
+
+    def test_a_command_line_that_is_refused_without_the_usage_is_a_miss(self) -> None:
+        self.assert_missed(RIGHT.replace("usage: onfi_sim plan ..", ""), "status 5", 100)
+
+    def test_a_command_line_that_is_refused_with_an_answer_is_a_miss(self) -> None:
+        self.assert_missed(RIGHT.replace("sys.exit(5)", 'say("refused\\n", 5)'), "status 5", 100)
+
+    def test_words_that_were_not_changed_are_not_refused(self) -> None:
+        self.assert_missed(RIGHT.replace("if form", "if remembers or form"), "status 5")
 
 
 if __name__ == "__main__":

@@ -28,29 +28,33 @@ int main(void)
 {
     char *text = grown(NULL, 8);
     grown(text, 4096);
-    say("ONFIPLAN 1\nfinish 7\nONFICERT 1\nU\n", 33);
-    return 0;
+    ANSWER
 }
 """
+PLANS = r'say("ONFIPLAN 1\nfinish 7\nONFICERT 1\nU\n", 33); return 0;'
 REFUSES = r'say("memory\n", 7); _exit(4);'
+ONE_ERASE = "what stands behind the line end isn't looked at"
+RUNS = r'say("reply,0,0,0,done\nclosed\n", 24); return 0;'
+TOO_GREAT = "a limit one too great"
+USAGE = r'write(2, "usage: onfi_sim plan\n", 21); return 5;'
 
 
-def said_of_program(text: str, *ways: str) -> "subprocess.CompletedProcess[str]":
+def said_of_program(text: str, *ways: str, case: str = CASE) -> "subprocess.CompletedProcess[str]":
     with tempfile.TemporaryDirectory() as folder:
         source, made = Path(folder) / "program.c", Path(folder) / "program"
         source.write_text(text)
         subprocess.run(["cc", "-O0", "-w", "-o", str(made), str(source)], check=True)
-        return support.run_tool("refuse-memory", *ways, str(made), CASE)
+        return support.run_tool("refuse-memory", *ways, str(made), case)
 
 
-def said_of(where_refused: str) -> "subprocess.CompletedProcess[str]":
-    """What the tool says of a program that does this where a growth is refused."""
-    return said_of_program(PROGRAM.replace("WHERE_REFUSED", where_refused))
+def said_of(where_refused: str, answer: str = PLANS, case: str = CASE) -> "subprocess.CompletedProcess[str]":
+    """What the tool says of a program that does this where a growth is refused, and else answers so."""
+    return said_of_program(PROGRAM.replace("WHERE_REFUSED", where_refused).replace("ANSWER", answer), case=case)
 
 
 class RefusedMemory(unittest.TestCase):
-    def assert_missed(self, where_refused: str, told: str) -> None:
-        said = said_of(where_refused)
+    def assert_missed(self, where_refused: str, told: str, answer: str = PLANS, case: str = CASE) -> None:
+        said = said_of(where_refused, answer, case)
         self.assertEqual(said.returncode, 1, said.stdout)
         self.assertEqual(said.stdout.splitlines()[-1], "0 passed, 1 failed")
         self.assertIn(told, said.stdout)
@@ -82,6 +86,21 @@ class RefusedMemory(unittest.TestCase):
     def test_a_wrong_answer_with_memory_is_a_miss(self) -> None:
         self.assert_missed(REFUSES + " } if (size == 4096) { _exit(0);", "nothing refused: status 0")
 
+    def test_a_report_that_ends_in_memory_passes(self) -> None:
+        said = said_of(r'say("reply,0,0,1,done\nreply,0,1,0,failed\nmemory\n", 43); _exit(4);', RUNS, ONE_ERASE)
+        self.assertEqual((said.returncode, said.stdout.splitlines()[-1]), (0, "1 passed, 0 failed"))
+
+    def test_a_reply_that_is_told_twice_is_a_miss(self) -> None:
+        told = r"reply,0,0,1,done\nreply,0,0,1,done\nmemory\n"
+        self.assert_missed(rf'say("{told}", 41); _exit(4);', "growth 1 refused, alone: status 4", RUNS, ONE_ERASE)
+
+    def test_a_refused_command_line_passes_with_memory_or_the_usage(self) -> None:
+        said = said_of(REFUSES, USAGE, TOO_GREAT)
+        self.assertEqual((said.returncode, said.stdout.splitlines()[-1]), (0, "1 passed, 0 failed"))
+
+    def test_a_refused_command_line_without_the_usage_is_a_miss(self) -> None:
+        self.assert_missed("_exit(5);", "growth 2 refused, alone: status 5", USAGE, TOO_GREAT)
+
     def test_a_program_that_asks_for_no_memory_shows_nothing(self) -> None:
         said = said_of_program('#include <unistd.h>\nint main(void) { return write(1, "ONFIPLAN 1\\nfinish 7\\nONFICERT 1\\nU\\n", 33) != 33; }')
         self.assertEqual((said.returncode, said.stdout.splitlines()[-1]), (1, "0 passed, 1 failed"))
@@ -111,6 +130,10 @@ def said_of_streams(where_read: str, where_written: str) -> "subprocess.Complete
 
 
 class RefusedStreams(unittest.TestCase):
+    def test_a_refused_command_line_is_left_out(self) -> None:
+        said = said_of_program(STREAMS.replace("WHERE_READ", "_exit(7);").replace("WHERE_WRITTEN", "_exit(7);"), "--streams", case=TOO_GREAT)
+        self.assertEqual((said.returncode, said.stdout.splitlines()), (1, ["0 passed, 0 failed"]))
+
     def assert_missed(self, where_read: str, where_written: str, told: str) -> None:
         said = said_of_streams(where_read, where_written)
         self.assertEqual((said.returncode, said.stdout.splitlines()[-1]), (1, "0 passed, 1 failed"))
