@@ -1,9 +1,9 @@
 # make plan: prove and build bin/onfi_sim, and plan one read with it.
 # make try:  the same script with the program unproved, in one to two minutes.
-# make test: the whole gate: what must not compile, every proof and test, the cases of the program, and all wrong bodies.
+# make test: the whole gate: what must not compile, every proof and test, the cases of the program, and the wrong bodies that are due.
 # make library: prove and build lib/libonfi.a and lib/libonfi.so for C and for Python.
 # make install PREFIX=DIR: these with their header and a pkg-config file into DIR.
-# make wrong-bodies: these alone; tools/wrong-bodies CRATE tries those of one crate.
+# make wrong-bodies: those of all crates; tools/wrong-bodies CRATE tries those of one crate.
 
 # The crates that a line of crates.txt says a crate stands on.
 below = $(filter onfi_%,$(shell sed -n 's/^$(1)\( [^:]*\)\{0,1\}://p' crates.txt))

@@ -90,10 +90,10 @@ class Lengths(unittest.TestCase):
 
 class Examples(unittest.TestCase):
     def test_their_pages_are_those_of_their_fields(self) -> None:
-        for script, fields, copies in (("firmware", "firmware/two-planes", 1), ("test-bench", "firmware/two-planes", 1),
-                                       ("simulator", "simulator/four-planes", 3)):
+        for script, fields, copies in (("firmware/batch", "firmware/two-planes", 1), ("test-bench/batch", "firmware/two-planes", 1),
+                                       ("simulator/batch", "simulator/four-planes", 3), ("simulator/faults", "simulator/four-planes", 3)):
             ran = support.run_tool("make-page", "--copies", str(copies), f"@examples/{fields}.fields")
-            self.assertEqual(ran.stdout.splitlines(), page_rows(EXAMPLES / script / "batch.onfi"))
+            self.assertEqual(ran.stdout.splitlines(), page_rows(EXAMPLES / f"{script}.onfi"))
 
     def test_their_pages_are_short(self) -> None:
         for page in PAGES:
@@ -102,7 +102,7 @@ class Examples(unittest.TestCase):
     @unittest.skipUnless(support.program(), "no built program")
     def test_their_commands_print_what_is_written(self) -> None:
         ran = 0
-        for page in (support.ROOT / "README.md", *PAGES):
+        for page in (support.ROOT / "README.md", *sorted((support.ROOT / "docs").glob("**/*.md")), *PAGES):
             for command, written in commands_of(page):
                 self.assertEqual(support.run_shell(command), written, command)
                 ran += 1

@@ -72,10 +72,10 @@ class Traces(unittest.TestCase):
 
 
 class Texts(unittest.TestCase):
-    def test_the_picture_of_the_readme(self) -> None:
+    def test_the_picture_of_its_page(self) -> None:
         self.assertEqual(text.picture(support.trace("batch"), 60), TEXT_OF_BATCH)
         indented = "".join("    " + line + "\n" for line in TEXT_OF_BATCH.splitlines())
-        self.assertIn(indented, (support.ROOT / "README.md").read_text())
+        self.assertIn(indented, (support.ROOT / "docs/pictures/README.md").read_text())
 
 
 class Drawings(unittest.TestCase):

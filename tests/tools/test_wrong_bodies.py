@@ -6,6 +6,7 @@ import contextlib
 import importlib.machinery
 import importlib.util
 import io
+import subprocess
 import sys
 import tempfile
 import unittest
@@ -222,6 +223,59 @@ class Cycles(unittest.TestCase):
 def ran(*command: str) -> Tuple[int, int, List[str]]:
     with contextlib.redirect_stdout(io.StringIO()):
         return GATE.run([*command])
+
+
+def git(folder: Path, *words: str) -> str:
+    named = ["-c", "user.name=a", "-c", "user.email=a@b"]
+    return subprocess.run(["git", *named, *words], cwd=folder, check=True, stdout=subprocess.PIPE, text=True).stdout.strip()
+
+
+class Due(unittest.TestCase):
+    """Which crates have their turn, in a repository of two commits: the second one changes crate c."""
+
+    NAMES = ["a", "b", "c", "d", "e", "f"]
+
+    def setUp(self) -> None:
+        room = tempfile.TemporaryDirectory()
+        self.addCleanup(room.cleanup)
+        self.folder = Path(room.name)
+        git(self.folder, "init", "-q")
+        for name in self.NAMES:
+            (self.folder / "crates" / name).mkdir(parents=True)
+            (self.folder / "crates" / name / "lib.rt").write_text("1")
+        self.commit()
+        self.first = git(self.folder, "rev-parse", "HEAD")
+        (self.folder / "crates" / "c" / "lib.rt").write_text("2")
+        self.commit()
+        was = TOOL.ROOT, TOOL.LANDINGS
+        self.addCleanup(lambda: (setattr(TOOL, "ROOT", was[0]), setattr(TOOL, "LANDINGS", was[1])))
+        TOOL.ROOT, TOOL.LANDINGS = self.folder, self.folder / "landings"
+
+    def commit(self) -> None:
+        git(self.folder, "add", "-A")
+        git(self.folder, "commit", "-q", "-m", "more")
+
+    def test_what_changed_and_every_third_of_the_others(self) -> None:
+        TOOL.LANDINGS.write_text(f"{self.first}\n")
+        self.assertEqual(TOOL.due(self.NAMES), ["c", "f"])
+        TOOL.LANDINGS.write_text(f"earlier\n{self.first}\n")
+        self.assertEqual(TOOL.due(self.NAMES), ["b", "c", "e"])
+        TOOL.LANDINGS.write_text("earlier\nearlier\n" + git(self.folder, "rev-parse", "HEAD"))
+        self.assertEqual(TOOL.due(self.NAMES), ["a", "d"])
+
+    def test_three_landings_try_each(self) -> None:
+        tried = [at for landings in range(7, 10) for at in range(32) if TOOL.is_turn(at, landings)]
+        self.assertEqual(sorted(tried), list(range(32)))
+
+    def test_all_where_git_cannot_tell(self) -> None:
+        self.assertEqual(TOOL.due(self.NAMES), self.NAMES)
+        TOOL.LANDINGS.write_text("0123456789012345678901234567890123456789")
+        self.assertEqual(TOOL.due(self.NAMES), self.NAMES)
+        clone = self.folder / "clone"
+        git(self.folder, "clone", "-q", "--depth", "1", f"file://{self.folder}", str(clone))
+        TOOL.ROOT, TOOL.LANDINGS = clone, clone / "landings"
+        TOOL.LANDINGS.write_text(self.first)
+        self.assertEqual(TOOL.due(self.NAMES), self.NAMES)
 
 
 class Gate(unittest.TestCase):

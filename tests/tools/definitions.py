@@ -1,0 +1,112 @@
+"""The definitions of crates/*/specs and the contracts of crates/*/src, as far as the tests of pages look at them."""
+
+from __future__ import annotations
+
+import re
+from functools import lru_cache
+from typing import Dict, Iterator, List, NamedTuple, Set, Tuple
+
+import support
+
+WORD = re.compile(r"[A-Za-z_][A-Za-z0-9_]*")
+NAME = re.compile(r"\s*(?:abbrev |unfoldable )?pub (?:record |data )?(\w+)\b")
+USE = re.compile(r"^\s*(?:ghost |pub )?use Rattle\.(onfi_\w+)\.specs\.(\w+)(\.\w+)?(?:\.\{([^}]*)\}| as (\w+))?", re.MULTILINE)
+
+
+class Definition(NamedTuple):
+    crate: str
+    module: str
+    name: str
+    lines: Tuple[str, ...]
+
+
+Key = Tuple[str, str, str]
+
+
+def is_code(line: str) -> bool:
+    return bool(line.strip()) and not line.lstrip().startswith("--") and not re.match(r"(pub )?use ", line)
+
+
+def blocks_of(text: str) -> Iterator[List[str]]:
+    """The lines of each definition, a mutual block as one; comments between them belong to none."""
+    block: List[str] = []
+    for line in text.splitlines():
+        if re.match(r"(abbrev |unfoldable )?pub |(abbrev )?mutual$|abbrev mutual", line) and not line.startswith("pub use "):
+            if block:
+                yield block
+            block = []
+        if is_code(line) and (block or not line.startswith("pub mod ")):
+            block.append(line)
+    if block:
+        yield block
+
+
+def names_in(block: List[str]) -> List[str]:
+    if block[0].rstrip().endswith("mutual"):
+        return [found.group(1) for found in map(NAME.match, block) if found and re.match(r"  pub ", found.group(0))]
+    found = NAME.match(block[0].replace("abbrev pub ", "pub ").replace("unfoldable pub ", "pub "))
+    return [found.group(1)] if found else []
+
+
+class Definitions:
+    """All definitions by crate, module and name, and what each file takes from others."""
+
+    def __init__(self) -> None:
+        self.found: Dict[Key, Definition] = {}
+        self.taken: Dict[Tuple[str, str], Dict[str, Key]] = {}
+        self.whole: Dict[Tuple[str, str], Dict[str, Tuple[str, str]]] = {}
+        for path in sorted((support.ROOT / "crates").glob("*/specs/*.antt")):
+            crate, module, text = path.parent.parent.name, path.stem, path.read_text()
+            for block in blocks_of(text):
+                for name in names_in(block):
+                    self.found[crate, module, name] = Definition(crate, module, name, tuple(block))
+            self.taken[crate, module], self.whole[crate, module] = uses_of(text)
+
+    def resolve(self, key: Key) -> List[Key]:
+        """Where the definition stands that the key names, through files that hand it on."""
+        if key in self.found:
+            return [key]
+        handed = self.taken.get(key[:2], {}).get(key[2])
+        return self.resolve(handed) if handed and handed != key else []
+
+    @lru_cache(maxsize=None)
+    def cited(self, definition: Definition) -> Set[Key]:
+        place = (definition.crate, definition.module)
+        cited: Set[Key] = set()
+        for word in set(WORD.findall("\n".join(definition.lines))):
+            cited.update(self.resolve((*place, word)))
+        for alias, module in self.whole.get(place, {}).items():
+            for word in re.findall(rf"\b{alias}\.(\w+)", "\n".join(definition.lines)):
+                cited.update(self.resolve((*module, word)))
+        return cited
+
+    def below(self, keys: Set[Key]) -> Set[Key]:
+        """The definitions that these rest on, and they themselves."""
+        seen: Set[Key] = set()
+        left = list(keys)
+        while left:
+            key = left.pop()
+            if key not in seen:
+                seen.add(key)
+                left.extend(self.cited(self.found[key]) - seen)
+        return seen
+
+    def lines(self, keys: Set[Key]) -> int:
+        """How many lines of definitions, a mutual block counted once."""
+        return sum(len(lines) for _, lines in {(key[:2], self.found[key].lines) for key in keys})
+
+    def named(self, name: str) -> Set[Key]:
+        return {key for key in self.found if key[2] == name}
+
+
+def uses_of(text: str) -> Tuple[Dict[str, Key], Dict[str, Tuple[str, str]]]:
+    taken: Dict[str, Key] = {}
+    whole: Dict[str, Tuple[str, str]] = {}
+    for crate, module, data, names, alias in USE.findall(text):
+        if alias or not names:
+            whole[alias or module] = (crate, module)
+        for word in names.split(","):
+            parts = word.split(" as ")
+            if parts[0].strip():
+                taken[parts[-1].strip()] = (crate, module, data[1:] or parts[0].strip())
+    return taken, whole
