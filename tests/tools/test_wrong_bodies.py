@@ -95,6 +95,25 @@ def told(lines: List[str], status: int = 1) -> "TOOL.Told":
 
 
 OF = ("src/half.rt", "Half", "of")
+# A function that calls itself, and two that call each other, in a cycle that has the name of one of them.
+CYCLES = """\
+impl Half {
+    fn down(n: u8) -> u8 {
+        Half::down(n - 1)
+    }
+}
+
+#[cycle(odd)]
+fn even(n: u8) -> u8 {
+    odd(n - 1)
+}
+
+#[cycle(odd)]
+fn odd(n: u8) -> u8 {
+    even(n - 1)
+}
+"""
+DOWN, EVEN, ODD = ("src/half.rt", "Half", "down"), ("src/half.rt", "", "even"), ("src/half.rt", "", "odd")
 
 
 class Edits(unittest.TestCase):
@@ -174,6 +193,31 @@ class Verdicts(unittest.TestCase):
         self.assertTrue(told(["fn demo::half::Half::of: proved", "only=1 proved=1"], 0).is_read)
         self.assertFalse(told(["src/half.rt:9:9: error: expected `;`", "only=1 proved=0"]).is_read)
         self.assertFalse(told(["rattle: no verdict: memory"], 3).is_read)
+
+
+class Cycles(unittest.TestCase):
+    def verdict_on(self, key: Tuple[str, str, str], lines: List[str]) -> "TOOL.Verdict":
+        return TOOL.Told("demo", 1, "\n".join([*lines, "only=1 proved=0"]), {"src/half.rt": CYCLES}).verdict_on(key)
+
+    def test_a_goal_of_a_function_that_calls_itself_is_its_own(self) -> None:
+        error = "./proofs/half/Half/+down/Answers.antt:5:26: error: `returns-clause-small`: type mismatch"
+        self.assertTrue(TOOL.judge_edit([self.verdict_on(DOWN, [error, "fn demo::half::Half::down: not proved"])])[0])
+        said = "no proof: expected answers in ./proofs/half/Half/+down/Answers.antt; `search` did not prove `returns-then-n-eq0`"
+        self.assertTrue(TOOL.judge_edit([self.verdict_on(DOWN, [f"fn demo::half::Half::down: {said}"])])[0])
+
+    def test_a_proof_file_of_such_a_function_that_names_what_is_gone_is_weak(self) -> None:
+        error = "./proofs/half/Half/+down/Answers.antt:5:26: error: `returns`: `gone` is not in scope"
+        self.assertRegex(TOOL.judge_edit([self.verdict_on(DOWN, [error, "fn demo::half::Half::down: not proved"])])[1], "^WEAK: ")
+
+    def test_of_functions_that_call_each_other_a_goal_is_that_of_the_one_in_front_of_it(self) -> None:
+        error = "./proofs/half/+odd/Answers.antt:5:26: error: `even-returns`: type mismatch"
+        lines = [error, "fn demo::half::even: not proved", "fn demo::half::odd: not proved"]
+        self.assertTrue(TOOL.judge_edit([self.verdict_on(EVEN, lines)])[0])
+        self.assertFalse(TOOL.judge_edit([self.verdict_on(ODD, lines)])[0])
+        said = "no proof: expected answers in ./proofs/half/+odd/Answers.antt; `search` did not prove `even-returns`"
+        lines = [f"fn demo::half::{name}: {said}" for name in ("even", "odd")]
+        self.assertTrue(TOOL.judge_edit([self.verdict_on(EVEN, lines)])[0])
+        self.assertFalse(TOOL.judge_edit([self.verdict_on(ODD, lines)])[0])
 
 
 def ran(*command: str) -> Tuple[int, int, List[str]]:

@@ -1,0 +1,147 @@
+ghost use Rattle.std.specs.Prelude.{◌<◌, ◌≤◌};
+
+use onfi_run::run_script;
+use onfi_seq::Gate;
+use std::alloc::Global;
+use std::sync::Wait;
+use std::sync::atomic::{AtomicBool, Ordering};
+use std::test::*;
+use std::thread::Threads;
+
+// The rows of a device with 64 pages of 528 bytes in a block, 1,000 blocks in a LUN, and 2 LUNs of 2 planes.
+const DEVICE: &str = "\
+    page,4F4E464900004A0048000000000000000000000000000000000000000000000000000000000000000000000000000000\n\
+    page,000000000000000000000000000000000000000000000000000000000000000000020000100000000000000040000000\n\
+    page,E8030000022300000000000000000000000100000000000000000000000000000000000000C800DC051900C800000000\n\
+    page,000000000000000000000000000000000000000000000000000000000000000000000000000000000000000000000000\n\
+    page,000000000000000000000000000000000000000000000000000000000000000000000000000000000000000000000000\n\
+    page,0000000000000000000000000000F2BD\n\
+    sheet,tWC,20\n\
+    sheet,tRC,20\n\
+    sheet,tADL,100\n\
+    sheet,tWHR,80\n\
+    sheet,tRHW,100\n\
+    sheet,tWB,100\n\
+    sheet,tPLRBSY,500\n\
+    sheet,tPLPBSY,500\n\
+    sheet,tPLEBSY,500\n";
+
+// What the gates of two channels tell each other: which of them were called, and whether one gave up, or was called for
+// another channel or out of turn.
+#[derive(Drop)]
+struct Meeting {
+    called: [AtomicBool; 2],
+    missed: AtomicBool,
+}
+
+impl Meeting {
+    fn new() -> Meeting {
+        Meeting {
+            called: [AtomicBool::new(false), AtomicBool::new(false)],
+            missed: AtomicBool::new(false),
+        }
+    }
+
+    fn tell(&self, channel: usize)
+        requires { channel < 2 }
+    {
+        self.called[channel].store(true, Ordering::SeqCst);
+    }
+
+    fn wait(&self, channel: usize)
+        requires { channel < 2 }
+    {
+        for _ in 0..1_000_000_000u64 {
+            if self.called[channel].load(Ordering::SeqCst) {
+                return;
+            }
+        }
+        self.missed.store(true, Ordering::SeqCst);
+    }
+}
+
+// The gate of one of two channels: it holds its channel until the other's gate was called too.
+#[derive(Drop)]
+struct Party<'a> {
+    channel: u8,
+    turn: u64,
+    meeting: &'a Meeting,
+}
+
+impl<'a> Party<'a> {
+    fn of(meeting: &'a Meeting, channel: u8) -> Party<'a> {
+        Party {
+            channel,
+            turn: 0,
+            meeting,
+        }
+    }
+}
+
+impl Gate for Party<'_> {
+    fn before(&mut self, channel: u8, turn: u64) {
+        if (channel, turn) != (self.channel, self.turn) {
+            self.meeting.missed.store(true, Ordering::SeqCst);
+        }
+        self.turn = self.turn.saturating_add(1);
+        let place = usize::from(self.channel % 2);
+        self.meeting.tell(place);
+        self.meeting.wait(1 - place);
+    }
+}
+
+// Status and text of a run of these rows, whose two channels wait for each other before their first turns; none where memory
+// was refused or a gate missed something.
+fn meet<R: Threads + Wait + Sync>(
+    rt: &R,
+    alloc: Global,
+    limit: u32,
+    rows: &str,
+) -> Option<(u8, Vec<u8>)>
+    requires some { 1 ≤ limit }
+    requires few { limit ≤ 1048576 }
+{
+    let meeting = Meeting::new();
+    let gates = [
+        Party::of(&meeting, 0),
+        Party::of(&meeting, 1),
+        Party::of(&meeting, 2),
+        Party::of(&meeting, 3),
+    ];
+    let gates = Vec::from_array(alloc, gates).ok()?;
+    let script = format!(in alloc; "{DEVICE}channels,2\n{rows}end\n").ok()?;
+    let mut reader = script.as_bytes();
+    let mut text = Vec::new(alloc);
+    let status = run_script(rt, alloc, limit, gates, &mut reader, &mut text).ok()?;
+    if meeting.missed.load(Ordering::SeqCst) {
+        return None;
+    }
+    Some((status, text))
+}
+
+#[test]
+fn two_channels_make_their_turns_at_once(rt: HostRuntime) {
+    let rows = "op,0,0,read,0,0,0\nop,0,1,read,0,0,0\n";
+    let (status, text) = meet(&rt, rt.alloc(), 1_048_576, rows).expect(&rt, "a meeting");
+    assert_eq!(rt; status, 0);
+    let told = b"reply,0,0,0,read,*FF\nreply,0,1,0,read,*FF\nclosed\n";
+    assert!(rt; text.as_slice() == told.as_slice());
+}
+
+// With one node each of the two can be planned alone, and not both. No gate sees what a host did, so the run is made until
+// the channel finds both in its queue: the search is over then with no phase left. Else both are answered.
+#[test]
+fn a_search_over_its_limit_ends_a_run(rt: HostRuntime) {
+    let rows = "op,0,0,read,0,0,0\nop,0,0,program,1,0,0,*A5\n";
+    for _ in 0..1_000 {
+        let (status, text) = meet(&rt, rt.alloc(), 1, rows).expect(&rt, "a meeting");
+        if status == 6 {
+            assert!(rt; text.as_slice() == b"over,0,1\nclosed\n".as_slice());
+            return;
+        }
+        assert_eq!(rt; status, 0);
+        let told = b"reply,0,0,0,read,*FF\nreply,0,0,1,done\nclosed\n";
+        assert!(rt; text.as_slice() == told.as_slice());
+    }
+    panic!(rt; "the host was never ahead of its channel");
+}
