@@ -20,6 +20,7 @@ use Rattle.onfi_planner.specs.Planning.{run_of, AreRising, IsRoot}
 use Rattle.onfi_planner.specs.Nodes.{HasMoreNodes}
 use Rattle.onfi_planner.specs.declared.fault.PlanFault.TheVariants.{Over}
 use Rattle.onfi_planner.specs.declared.search.Best.{Best}
+use Rattle.onfi_planner.proofs.Paths.{nodes_none}
 use Rattle.onfi_planner.proofs.Rising.{run_rises}
 use Rattle.onfi_planner.specs.declared.root.Root.{Root}
 use Rattle.onfi_planner.proofs.Beginning.{first_is_run}
@@ -29,7 +30,7 @@ use Rattle.onfi_bound.specs.declared.loads.Loads.{Loads}
 use Rattle.onfi_recall.specs.declared.notes.Notes.{Notes}
 use Rattle.onfi_recall.specs.declared.search.Shown.{Shown}
 use Rattle.onfi_recall.specs.Text.{ProvesText}
-use Rattle.onfi_recall.specs.Walks.{AreMore, IsAt, IsBegun, IsBetter, IsFound, IsProved, IsRunOf, IsShown, IsTree}
+use Rattle.onfi_recall.specs.Walks.{AreMore, HasSoMany, IsAt, IsBegun, IsBetter, IsFound, IsProved, IsRunOf, IsShown, IsTree}
 
 pub still_better : (x : Position) (old new : Best) (improved : Bool) → IsFound x old new improved → IsBetter x old new
 still_better x old new improved f = record {
@@ -142,3 +143,18 @@ over_told p finish limit l o opened e z q over =
     let same : limit ≡ opened = cc in
     let n : l - o + 1 ≡ limit + 1 = omega arith in
     (sym same, subst (AreMore p finish) n over)
+
+pub nodes_from_none : (p : Problem) (finish n o : ℕ) → o ≡ 0 → AreMore p finish (n - o) → AreMore p finish n
+nodes_from_none p finish n o z nodes = let e : n - o ≡ n = omega arith in subst (AreMore p finish) e nodes
+
+pub nodes_later : (at x : Position) (a b n : ℕ) → at ≡ x → a ≤ b → AreMore at.problem a n → AreMore x.problem b n
+nodes_later at x a b n e le nodes = subst (λ (z : Position). AreMore z.problem b n) e (λ f k. nodes f (omega arith))
+
+pub none_opened : (p : Problem) (finish : ℕ) → AreMore p finish 0
+none_opened p finish = λ f le. nodes_none f p
+
+pub begun_many : (x at : Position) (root : Root) (finish n told : ℕ) → IsBegun x root → at ≡ root.problem → finish ≤ root.best.finish → told ≡ n → AreMore at.problem finish n → HasSoMany x.problem told
+begun_many x at root finish n told b e le t nodes =
+    let s = b.sooner in
+    let all = nodes_later at x finish b.first n (e ∙ b.same) (omega arith) nodes in
+    subst (HasSoMany x.problem) (sym t) (b.first, b.ends, all b.first (omega arith))

@@ -41,6 +41,10 @@ use Rattle.onfi_recall.specs.declared.yields.Soonest.{Soonest}
 abbrev pub AreMore : Problem → ℕ → ℕ → Type 0
 AreMore p finish n = (f : ℕ) → finish ≤ f → HasNodes f p n
 
+-- the tree has n nodes at least, where what ends with the first schedule or later is closed
+abbrev pub HasSoMany : Problem → ℕ → Type 0
+HasSoMany p n = (f : ℕ) × EndsFirstRun p f × HasNodes f p n
+
 -- the steps are a run that ends then
 abbrev pub IsRunOf : Position → Best → Type 0
 IsRunOf x best = Run x.problem (run_of x.groups best.steps.items) best.finish

@@ -6,7 +6,7 @@ ghost use Rattle.onfi_schedule.specs.Schedule.{Optimal, finish};
 ghost use Rattle.onfi_planner.specs.Nodes.{HasMoreNodes};
 ghost use Rattle.onfi_planner.specs.Planning.{AreRising};
 ghost use Rattle.onfi_recall.specs.Text.{ProvesText};
-ghost use Rattle.onfi_recall.specs.Walks.{AreMore, IsBegun, IsBetter, IsProved, IsRunOf, IsTree};
+ghost use Rattle.onfi_recall.specs.Walks.{AreMore, HasSoMany, IsBegun, IsBetter, IsProved, IsRunOf, IsTree};
 
 use crate::choosing::best_of_rules;
 use crate::notes::Notes;
@@ -35,6 +35,7 @@ pub fn plan_known(alloc: Global, problem: &Problem, limit: u32) -> Result<Planne
     ensures cert { IfOk result (λ plan. ProvesText problem.now plan.cert.items plan.finish) }
     ensures opened { IfOk result (λ plan. plan.opened ≤ limit) }
     ensures reopened { IfOk result (λ plan. plan.reopened ≤ limit) }
+    ensures nodes { IfOk result (λ plan. HasSoMany problem.now.problem plan.opened × HasSoMany problem.now.problem plan.reopened) }
     ensures over { IfErr result (λ fault. (opened : ℕ) → fault ≡ PlanFault.Over opened → (opened ≡ limit) × HasMoreNodes problem.now.problem limit) }
 {
     let Ok(root) = begin(alloc, problem) else {
@@ -93,6 +94,7 @@ fn walk(
     ensures fallen { IfOk result (λ walked. walked.improved ≡ true → best.new.finish < best.old.finish) }
     ensures proved { IfOk result (λ walked. walked.improved ≡ false → IsProved at.old walked.tokens.items best.new.finish) }
     ensures opened { IfOk result (λ walked. walked.opened ≤ limit) }
+    ensures nodes { IfOk result (λ walked. AreMore at.old.problem best.old.finish walked.opened) }
     ensures over { IfErr result (λ fault. (opened : ℕ) → fault ≡ PlanFault.Over opened → (opened ≡ limit) × AreMore at.old.problem best.old.finish (limit + 1)) }
 {
     let mut notes = Notes::new(alloc, best.finish, limit);
@@ -122,6 +124,7 @@ fn walk_on(
     ensures found { OnOk result (IsBetter at.old best.old best.new) }
     ensures proved { IfOk result (λ walked. IsProved at.old walked.tokens.items best.new.finish) }
     ensures opened { IfOk result (λ walked. walked.opened ≤ limit) }
+    ensures nodes { IfOk result (λ walked. AreMore at.old.problem best.old.finish walked.opened) }
     ensures over { IfErr result (λ fault. (opened : ℕ) → fault ≡ PlanFault.Over opened → (opened ≡ limit) × AreMore at.old.problem best.old.finish (limit + 1)) }
 {
     let walked = walk(alloc, at, loads, best, limit)?;
@@ -147,6 +150,7 @@ fn walk_again(
     ensures found { OnOk result (IsBetter at.old best.old best.new) }
     ensures proved { IfOk result (λ walked. IsProved at.old walked.tokens.items best.new.finish) }
     ensures opened { IfOk result (λ walked. walked.opened ≤ limit) }
+    ensures nodes { IfOk result (λ walked. AreMore at.old.problem best.old.finish walked.opened) }
     ensures over { IfErr result (λ fault. (opened : ℕ) → fault ≡ PlanFault.Over opened → (opened ≡ limit) × AreMore at.old.problem best.old.finish (limit + 1)) }
 {
     if found.improved {

@@ -2,7 +2,7 @@ use Rattle.std.proofs.Common.{◌≡◌, ◌+◌, refl, sym, ◌∙◌, subst, a
 use Rattle.std.proofs.lemmas.Result.{err_from_is_err_and}
 use Rattle.onfi_problem.specs.Position.{Position}
 use Rattle.onfi_recall.specs.Walks.{AreMore, IsProved}
-use Rattle.onfi_recall.proofs.Tree.{begun_over, last_found, tree_at}
+use Rattle.onfi_recall.proofs.Tree.{begun_many, begun_over, last_found, tree_at}
 use Rattle.onfi_recall.proofs.planning.plan_known.Goals as goal
 
 pub walk-requires-clause-root : goal.walk-requires-clause-root
@@ -35,3 +35,11 @@ pub returns-in_err-written-clause-over : goal.returns-in_err-written-clause-over
 returns-in_err-written-clause-over c =
     let p = err_from_is_err_and c.from_residual-in_err-written.result c.from_residual-in_err-written.ensures.1 in
     rw (p.1, p.2) (λ opened q. begun_over c.args.problem.now c.in-Ok.root c.walk.new.best.finish c.args.limit opened c.in-Ok.ensures c.in_ok-found.ensures.found.sooner (subst (λ (z : Position). (opened ≡ c.args.limit) × AreMore z.problem c.walk.new.best.finish (c.args.limit + 1)) c.in_ok-found.ensures.problem (c.in_err-written.ensures.over opened q)))
+
+pub returns-clause-nodes : goal.returns-clause-nodes
+returns-clause-nodes c =
+    let root = c.in-Ok.root in
+    let plan = c.in-Ok-found_plan.planned in (
+      begun_many c.args.problem.now root.problem root root.best.finish c.in_ok-found.found.opened plan.opened c.in-Ok.ensures refl (omega arith) c.in-Ok-found_plan.ensures.opened c.in_ok-found.ensures.nodes,
+      begun_many c.args.problem.now c.walk.new.at root c.walk.new.best.finish c.in_ok-written.written.opened plan.reopened c.in-Ok.ensures c.in_ok-found.ensures.problem c.in_ok-found.ensures.found.sooner c.in-Ok-found_plan.ensures.reopened c.in_ok-written.ensures.nodes,
+    )

@@ -1,0 +1,5 @@
+use Rattle.onfi_recall.proofs.Tree.{none_opened}
+use Rattle.onfi_recall.proofs.planning.walk_again.Goals as goal
+
+pub returns-clause-nodes : goal.returns-clause-nodes
+returns-clause-nodes c = none_opened c.args.at.now.problem c.args.best.now.finish
