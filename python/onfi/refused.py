@@ -35,6 +35,12 @@ class Over(Refused):
     status = 6
 
 
+class Unaccepted(Refused):
+    """The checker doesn't accept what a search that remembers states found."""
+
+    status = 8
+
+
 class ZeroSpan(Refused):
     """A command or a post takes no time."""
 
@@ -269,12 +275,37 @@ class SheetTooLong(Refused):
     status = 85
 
 
+class UnknownNode(Refused):
+    """No open node has ended as that number."""
+
+    status = 90
+
+
+class OtherLeft(Refused):
+    """Something else is left at the node that is named."""
+
+    status = 91
+
+
+class Sooner(Refused):
+    """A LUN may go on sooner than is asked at the node that is named."""
+
+    status = 92
+
+
+class TooManyNodes(Refused):
+    """More than 1,048,576 open nodes."""
+
+    status = 93
+
+
 REFUSALS: Dict[int, Type[Refused]] = {
     it.status: it
     for it in (
         Memory,
         BadLimit,
         Over,
+        Unaccepted,
         ZeroSpan,
         LongSpan,
         BadPlaneBits,
@@ -314,6 +345,10 @@ REFUSALS: Dict[int, Type[Refused]] = {
         SheetNotANumber,
         SheetZeroCycle,
         SheetTooLong,
+        UnknownNode,
+        OtherLeft,
+        Sooner,
+        TooManyNodes,
     )
 }
 

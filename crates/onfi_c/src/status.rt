@@ -17,6 +17,8 @@ pub enum Status {
     BadLimit,
     /// As many nodes were opened as may be, and the search isn't over.
     Over,
+    /// The checker doesn't accept what a search that remembers states found.
+    Unaccepted,
     /// A command or a post takes no time.
     ZeroSpan,
     /// A length or a wait is 2^50 ns or more.
@@ -95,15 +97,24 @@ pub enum Status {
     SheetZeroCycle,
     /// A value is 2^32 ns or more.
     SheetTooLong,
+    /// No open node has ended as that number.
+    UnknownNode,
+    /// Something else is left at the node that is named.
+    OtherLeft,
+    /// A LUN may go on sooner than is asked at the node that is named.
+    Sooner,
+    /// More than 1,048,576 open nodes.
+    TooManyNodes,
 }
 
 /// Each of them.
-pub const ALL: [Status; 44] = [
+pub const ALL: [Status; 49] = [
     Status::Done,
     Status::NoRoom,
     Status::Memory,
     Status::BadLimit,
     Status::Over,
+    Status::Unaccepted,
     Status::ZeroSpan,
     Status::LongSpan,
     Status::BadPlaneBits,
@@ -143,6 +154,10 @@ pub const ALL: [Status; 44] = [
     Status::SheetNotANumber,
     Status::SheetZeroCycle,
     Status::SheetTooLong,
+    Status::UnknownNode,
+    Status::OtherLeft,
+    Status::Sooner,
+    Status::TooManyNodes,
 ];
 
 impl Status {
@@ -156,6 +171,7 @@ impl Status {
             Status::Memory => 4,
             Status::BadLimit => 5,
             Status::Over => 6,
+            Status::Unaccepted => 8,
             Status::ZeroSpan => 10,
             Status::LongSpan => 11,
             Status::BadPlaneBits => 12,
@@ -195,6 +211,10 @@ impl Status {
             Status::SheetNotANumber => 83,
             Status::SheetZeroCycle => 84,
             Status::SheetTooLong => 85,
+            Status::UnknownNode => 90,
+            Status::OtherLeft => 91,
+            Status::Sooner => 92,
+            Status::TooManyNodes => 93,
         }
     }
 
@@ -208,6 +228,7 @@ impl Status {
             Status::Memory => "memory was refused",
             Status::BadLimit => "a search opens 1 to 1,048,576 nodes",
             Status::Over => "the limit of nodes was met and the search isn't over",
+            Status::Unaccepted => "the checker doesn't accept the plan that was found",
             Status::ZeroSpan => "a phase without length",
             Status::LongSpan => "a length or a wait of 2^50 ns or more",
             Status::BadPlaneBits => "more than 2 bits name the plane",
@@ -249,6 +270,10 @@ impl Status {
             Status::SheetNotANumber => "the value of a row of the sheet is no number",
             Status::SheetZeroCycle => "a cycle without length",
             Status::SheetTooLong => "a value of 2^32 ns or more",
+            Status::UnknownNode => "a node that hasn't ended",
+            Status::OtherLeft => "a node at which something else is left",
+            Status::Sooner => "a node that goes on later",
+            Status::TooManyNodes => "more than 1,048,576 open nodes",
         }
     }
 

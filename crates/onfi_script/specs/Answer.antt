@@ -34,7 +34,7 @@ use Rattle.onfi_script.specs.declared.device.Device.{Device}
 use Rattle.onfi_script.specs.Device.{TellsDevice}
 use Rattle.onfi_script.specs.Setup.{names_absent, SetsUp}
 use Rattle.onfi_script.specs.PlanText.{plan_of, schedule_of}
-use Rattle.onfi_script.specs.Text.{Answer, memory, refused, planned, over, accepted, refused_for, refused_at, text_refused, known_text_refused}
+use Rattle.onfi_script.specs.Text.{Answer, memory, refused, planned, recalled, unaccepted, over, accepted, refused_for, refused_at, text_refused, known_text_refused}
 
 -- a fault of the script as a whole
 abbrev pub whole : ScriptFault → Refusal
@@ -93,6 +93,29 @@ pub record IsKnown (p : Problem) (s : Schedule) (text : List ℕ) : Type 0 where
   pub certificate : IsKnownCertificate text p.rules.strict tokens
   pub certified : ProvesTokens p.wants tokens p (finish p s)
 
+-- the text of an optimal schedule, its groups by rising first start, with a certificate that remembers states and by which
+-- nothing ends before it
+pub record Recalls (p : Problem) (answer : Answer) : Type 0 where
+  pub schedule : Schedule
+  pub ends : ℕ
+  pub certificate : List ℕ
+  pub finish : finish p schedule ≡ ends
+  pub rising : AreRising schedule.groups
+  pub known : IsKnown p schedule certificate
+  pub text : answer ≡ recalled schedule ends certificate
+
+-- a trace or such a plan, as asked for
+abbrev pub PrintsKnown : Bool → Problem → Answer → Type 0
+PrintsKnown true p answer = Traces p answer
+PrintsKnown false p answer = Recalls p answer
+
+-- the answer of a search that remembers states: what is printed, that as many nodes were opened as may be, or that what was
+-- found isn't accepted
+pub data AnswersRecall (limit : ℕ) (trace : Bool) (p : Problem) (answer : Answer) : Type 0 where
+  is_printed : PrintsKnown trace p answer → AnswersRecall limit trace p answer
+  is_over : answer ≡ over limit → AnswersRecall limit trace p answer
+  is_unaccepted : answer ≡ unaccepted → AnswersRecall limit trace p answer
+
 -- a certificate is taken, one that remembers states or a plain one
 abbrev pub IsTaken : Bool → Problem → Schedule → List ℕ → Type 0
 IsTaken true p s text = IsKnown p s text
@@ -116,7 +139,8 @@ AnswersCheck remember p text answer = MatchResult (plan_of p.wants text) (λ r. 
 
 -- what the command asks for; `check` reads the plan text behind the script
 abbrev pub AnswersCommand : (ℕ → Problem → ℕ → Type 0) → Command → List ℕ → Problem → Answer → Type 0
-AnswersCommand Tells (Plan limit trace) text p answer = AnswersPlan Tells limit trace p answer
+AnswersCommand Tells (Plan limit trace false) text p answer = AnswersPlan Tells limit trace p answer
+AnswersCommand Tells (Plan limit trace true) text p answer = AnswersRecall limit trace p answer
 AnswersCommand Tells (Check remember) text p answer = AnswersCheck remember p text answer
 
 -- the answer to a problem: its first fault, or what the command asks for
