@@ -42,7 +42,6 @@ enum onfi_status {
     ONFI_MEMORY = 4, /* Memory was refused. */
     ONFI_BAD_LIMIT = 5, /* A search may open no node, or more than 1,048,576. */
     ONFI_OVER = 6, /* As many nodes were opened as may be, and the search isn't over. */
-    ONFI_UNACCEPTED = 8, /* The checker doesn't accept what a search that remembers states found. */
     /* what a caller says of a channel */
     ONFI_ZERO_SPAN = 10, /* A command or a post takes no time. */
     ONFI_LONG_SPAN = 11, /* A length or a wait is 2^50 ns or more. */
@@ -223,7 +222,7 @@ uint32_t onfi_plan(const onfi_channel *channel, const onfi_lun *luns, size_t lun
  * neither. The search that finds the plan and the one that writes the certificate open at most `limit` nodes each;
  * plan->opened tells how many the first opened.
  *
- * The same is told, and ONFI_UNACCEPTED where ONFI_OVER may be: no wants are known of which that comes.
+ * The same is told.
  */
 uint32_t onfi_plan_known(const onfi_channel *channel, const onfi_lun *luns, size_t lun_count, const onfi_want *wants, size_t want_count,
                          uint32_t limit, onfi_planned *plan, uint8_t *certificate, size_t certificate_room, size_t *certificate_bytes);

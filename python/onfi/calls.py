@@ -67,7 +67,7 @@ def plan_known(channel: Channel, luns: Sequence[Lun], wants: Sequence[Want], lim
     It answers in practice where `plan` raises `Over`; that isn't promised. The search that finds the plan and the one that
     writes the certificate open at most `limit` nodes each; the plan tells how many the first opened.
 
-    Raises what `plan` does, and `Unaccepted` where the checker doesn't accept what was found.
+    Raises what `plan` does.
     """
     return planned(library().onfi_plan_known, Problem(channel, luns, wants), limit)
 

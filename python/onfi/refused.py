@@ -35,12 +35,6 @@ class Over(Refused):
     status = 6
 
 
-class Unaccepted(Refused):
-    """The checker doesn't accept what a search that remembers states found."""
-
-    status = 8
-
-
 class ZeroSpan(Refused):
     """A command or a post takes no time."""
 
@@ -305,7 +299,6 @@ REFUSALS: Dict[int, Type[Refused]] = {
         Memory,
         BadLimit,
         Over,
-        Unaccepted,
         ZeroSpan,
         LongSpan,
         BadPlaneBits,

@@ -13,7 +13,7 @@ use Rattle.onfi_c.specs.declared.lun.PlainWant.{PlainWant}
 use Rattle.onfi_c.specs.declared.lun.PlainLun.{PlainLun}
 use Rattle.onfi_c.specs.declared.schedule.PlainPlan.{PlainPlan}
 use Rattle.onfi_c.specs.declared.status.Status.{Status}
-use Rattle.onfi_c.specs.declared.status.Status.TheVariants.{BadLimit, Memory, Over, Unaccepted}
+use Rattle.onfi_c.specs.declared.status.Status.TheVariants.{BadLimit, Memory, Over}
 use Rattle.onfi_c.specs.Refused.{IsRefused}
 use Rattle.onfi_c.specs.Room.{Gives}
 use Rattle.onfi_c.specs.Said.{IsSaid}
@@ -53,23 +53,11 @@ IsUnplanned p limit Over = HasMoreNodes p limit
 IsUnplanned p limit Memory = Unit {0}
 IsUnplanned p limit _ = ⊥
 
--- as many nodes were opened as may be; memory ran out; or what was found isn't accepted
-abbrev pub IsUnrecalled : Status → Type 0
-IsUnrecalled Over = Unit {0}
-IsUnrecalled Memory = Unit {0}
-IsUnrecalled Unaccepted = Unit {0}
-IsUnrecalled _ = ⊥
-
--- of a search that remembers states, or of one that doesn't
-abbrev pub IsUnplannedBy : Bool → Problem → ℕ → Status → Type 0
-IsUnplannedBy true p limit status = IsUnrecalled status
-IsUnplannedBy false p limit status = IsUnplanned p limit status
-
 -- why there is no plan of what is said
-pub data IsRefusedPlan (remember : Bool) (channel : PlainChannel) (luns : List PlainLun) (wants : List PlainWant) (limit : ℕ) (status : Status) : Type 0 where
-  is_limit : IsBadLimit limit → status ≡ BadLimit → IsRefusedPlan remember channel luns wants limit status
-  is_refused : 1 ≤ limit → limit ≤ 1048576 → IsRefused channel luns wants status → IsRefusedPlan remember channel luns wants limit status
-  is_unplanned : 1 ≤ limit → limit ≤ 1048576 → (p : Problem) → IsSaid channel luns wants p → IsUnplannedBy remember p limit status → IsRefusedPlan remember channel luns wants limit status
+pub data IsRefusedPlan (channel : PlainChannel) (luns : List PlainLun) (wants : List PlainWant) (limit : ℕ) (status : Status) : Type 0 where
+  is_limit : IsBadLimit limit → status ≡ BadLimit → IsRefusedPlan channel luns wants limit status
+  is_refused : 1 ≤ limit → limit ≤ 1048576 → IsRefused channel luns wants status → IsRefusedPlan channel luns wants limit status
+  is_unplanned : 1 ≤ limit → limit ≤ 1048576 → (p : Problem) → IsSaid channel luns wants p → IsUnplanned p limit status → IsRefusedPlan channel luns wants limit status
 
 -- a plan of what is said
 pub record IsPlanSaid (remember : Bool) (channel : PlainChannel) (luns : List PlainLun) (wants : List PlainWant) (limit : ℕ) (plan : PlainPlan) (text : List ℕ) : Type 0 where
@@ -87,5 +75,5 @@ pub data GivesAsked (text old new : List ℕ) (bytes result : ℕ) : Type 0 wher
 -- a caller is given a plan and its certificate, or a number that tells why there is none, and nothing else
 pub data GivesPlan (remember : Bool) (channel : PlainChannel) (luns : List PlainLun) (wants : List PlainWant) (limit : ℕ) (old new : PlainPlan) (room_old room_new : List ℕ) (bytes result : ℕ) : Type 0 where
   gives : (text : List ℕ) → IsPlanSaid remember channel luns wants limit new text → GivesAsked text room_old room_new bytes result → GivesPlan remember channel luns wants limit old new room_old room_new bytes result
-  refuses : (status : Status) → IsRefusedPlan remember channel luns wants limit status → new ≡ old → room_new ≡ room_old → bytes ≡ 0 → result ≡ number_of status
+  refuses : (status : Status) → IsRefusedPlan channel luns wants limit status → new ≡ old → room_new ≡ room_old → bytes ≡ 0 → result ≡ number_of status
       → GivesPlan remember channel luns wants limit old new room_old room_new bytes result

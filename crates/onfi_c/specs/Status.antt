@@ -3,7 +3,7 @@ use Rattle.std.specs.Prelude.{ℕ, List, codes}
 use Rattle.onfi_timing.specs.declared.spans.SpanFault.{SpanFault}
 use Rattle.onfi_timing.specs.declared.spans.SpanFault.TheVariants.{Zero as ZeroLength, TooLong}
 use Rattle.onfi_c.specs.declared.status.Status.{Status}
-use Rattle.onfi_c.specs.declared.status.Status.TheVariants.{Done, NoRoom, Memory, BadLimit, Over, Unaccepted, ZeroSpan, LongSpan, BadPlaneBits, BadKind, BadMembers, TooMany, BadLun, Clock, BadSchedule, BadHeader, BadToken, TooManyTokens, OtherOption, Illegal, Short, Trailing, Width, BoundLow, YieldNoFit, YieldLoop, NotEnd, PageShort, NoCopy, WideBus, NoStatusEnhanced, NoColumnEnhanced, NoMultiLun, LunCount, PlaneBits, Zero, RowTooWide, ColumnTooWide, TooLarge, SheetMissing, SheetRepeated, SheetUnknown, SheetNotANumber, SheetZeroCycle, SheetTooLong, UnknownNode, OtherLeft, Sooner, TooManyNodes}
+use Rattle.onfi_c.specs.declared.status.Status.TheVariants.{Done, NoRoom, Memory, BadLimit, Over, ZeroSpan, LongSpan, BadPlaneBits, BadKind, BadMembers, TooMany, BadLun, Clock, BadSchedule, BadHeader, BadToken, TooManyTokens, OtherOption, Illegal, Short, Trailing, Width, BoundLow, YieldNoFit, YieldLoop, NotEnd, PageShort, NoCopy, WideBus, NoStatusEnhanced, NoColumnEnhanced, NoMultiLun, LunCount, PlaneBits, Zero, RowTooWide, ColumnTooWide, TooLarge, SheetMissing, SheetRepeated, SheetUnknown, SheetNotANumber, SheetZeroCycle, SheetTooLong, UnknownNode, OtherLeft, Sooner, TooManyNodes}
 
 abbrev pub number_of : Status → ℕ
 number_of Done = 0
@@ -11,7 +11,6 @@ number_of NoRoom = 3
 number_of Memory = 4
 number_of BadLimit = 5
 number_of Over = 6
-number_of Unaccepted = 8
 number_of ZeroSpan = 10
 number_of LongSpan = 11
 number_of BadPlaneBits = 12
@@ -63,7 +62,6 @@ text_of NoRoom = codes "a text is longer than the room for it"
 text_of Memory = codes "memory was refused"
 text_of BadLimit = codes "a search opens 1 to 1,048,576 nodes"
 text_of Over = codes "the limit of nodes was met and the search isn't over"
-text_of Unaccepted = codes "the checker doesn't accept the plan that was found"
 text_of ZeroSpan = codes "a phase without length"
 text_of LongSpan = codes "a length or a wait of 2^50 ns or more"
 text_of BadPlaneBits = codes "more than 2 bits name the plane"

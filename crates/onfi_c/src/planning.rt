@@ -1,10 +1,11 @@
 //! Plans of problems that plain structs say.
 ghost use Rattle.std.specs.Prelude.{◌≡◌, ◌≤◌, true, false, IfOk, IfErr};
 ghost use Rattle.onfi_cert.specs.Text.{text_of};
-ghost use Rattle.onfi_c.specs.Planned.{GivesAsked, GivesPlan, IsPlan, IsPlanBy, IsPlanSaid, IsRecalled, IsRefusedPlan, IsUnplanned, IsUnplannedBy, IsUnrecalled};
+ghost use Rattle.onfi_c.specs.Planned.{GivesAsked, GivesPlan, IsPlan, IsPlanBy, IsPlanSaid, IsRefusedPlan, IsUnplanned};
 
 use crate::channel::PlainChannel;
 use crate::lun::{PlainLun, PlainWant};
+use crate::recalling::tell_known;
 use crate::room::give;
 use crate::said::problem_of;
 use crate::schedule::PlainPlan;
@@ -14,7 +15,6 @@ use crate::written;
 use onfi_cert::write;
 use onfi_planner::{PlanFault, Planned, plan};
 use onfi_problem::Problem;
-use onfi_recall::{PlanKnownFault, plan_known};
 use std::alloc::{AllocError, Global};
 
 /// The most nodes that a search may open.
@@ -52,37 +52,13 @@ fn tell(alloc: Global, problem: &Problem, limit: u32) -> Result<Told, Status>
     Ok(Told { plan, text })
 }
 
-/// A plan by a search that remembers states, as it is told.
-fn tell_known(alloc: Global, problem: &Problem, limit: u32) -> Result<Told, Status>
-    requires some { 1 ≤ limit }
-    requires few { limit ≤ 1048576 }
-    requires begun { problem.now.all ≡ problem.now.problem.wants }
-    ensures plan { IfOk result (λ t. IsRecalled problem.now.problem limit t.plan t.text.items) }
-    ensures none { IfErr result IsUnrecalled }
-{
-    let planned = match plan_known(alloc, problem, limit) {
-        Ok(planned) => planned,
-        Err(PlanKnownFault::Over { .. }) => return Err(Status::Over),
-        Err(PlanKnownFault::Unaccepted) => return Err(Status::Unaccepted),
-        Err(PlanKnownFault::Memory) => return Err(Status::Memory),
-    };
-    let (finish, opened) = (planned.finish, planned.opened);
-    let Ok(plan) = written::plan(alloc, problem, &planned.schedule, finish, opened) else {
-        return Err(Status::Memory);
-    };
-    Ok(Told {
-        plan,
-        text: planned.cert,
-    })
-}
-
 /// A plan by a search that remembers states where `remember` says so, as it is told.
 fn tell_by(alloc: Global, remember: bool, problem: &Problem, limit: u32) -> Result<Told, Status>
     requires some { 1 ≤ limit }
     requires few { limit ≤ 1048576 }
     requires begun { problem.now.all ≡ problem.now.problem.wants }
     ensures plan { IfOk result (λ t. IsPlanBy remember problem.now.problem limit t.plan t.text.items) }
-    ensures none { IfErr result (λ status. IsUnplannedBy remember problem.now.problem limit status) }
+    ensures none { IfErr result (λ status. IsUnplanned problem.now.problem limit status) }
 {
     if remember {
         tell_known(alloc, problem, limit)
@@ -101,7 +77,7 @@ fn tell_said(
     limit: u32,
 ) -> Result<Told, Status>
     ensures plan { IfOk result (λ t. IsPlanSaid remember channel.now luns.now wants.now limit t.plan t.text.items) }
-    ensures none { IfErr result (λ status. IsRefusedPlan remember channel.now luns.now wants.now limit status) }
+    ensures none { IfErr result (λ status. IsRefusedPlan channel.now luns.now wants.now limit status) }
 {
     if limit == 0 || limit > MOST_NODES {
         return Err(Status::BadLimit);
@@ -185,7 +161,7 @@ pub extern "C" fn onfi_plan(
 /// that does so too; the search that finds the plan and the one that writes the certificate open at most `limit` nodes
 /// each, and the plan tells how many the first opened.
 ///
-/// Answers what `onfi_plan` does, and 8 where the checker doesn't accept what was found.
+/// Answers what `onfi_plan` does.
 #[unsafe(no_mangle)]
 pub extern "C" fn onfi_plan_known(
     alloc: Global,

@@ -17,8 +17,6 @@ pub enum Status {
     BadLimit,
     /// As many nodes were opened as may be, and the search isn't over.
     Over,
-    /// The checker doesn't accept what a search that remembers states found.
-    Unaccepted,
     /// A command or a post takes no time.
     ZeroSpan,
     /// A length or a wait is 2^50 ns or more.
@@ -108,13 +106,12 @@ pub enum Status {
 }
 
 /// Each of them.
-pub const ALL: [Status; 49] = [
+pub const ALL: [Status; 48] = [
     Status::Done,
     Status::NoRoom,
     Status::Memory,
     Status::BadLimit,
     Status::Over,
-    Status::Unaccepted,
     Status::ZeroSpan,
     Status::LongSpan,
     Status::BadPlaneBits,
@@ -171,7 +168,6 @@ impl Status {
             Status::Memory => 4,
             Status::BadLimit => 5,
             Status::Over => 6,
-            Status::Unaccepted => 8,
             Status::ZeroSpan => 10,
             Status::LongSpan => 11,
             Status::BadPlaneBits => 12,
@@ -228,7 +224,6 @@ impl Status {
             Status::Memory => "memory was refused",
             Status::BadLimit => "a search opens 1 to 1,048,576 nodes",
             Status::Over => "the limit of nodes was met and the search isn't over",
-            Status::Unaccepted => "the checker doesn't accept the plan that was found",
             Status::ZeroSpan => "a phase without length",
             Status::LongSpan => "a length or a wait of 2^50 ns or more",
             Status::BadPlaneBits => "more than 2 bits name the plane",

@@ -132,10 +132,6 @@ planned p s ends tokens = record { text = schedule_text s ends ++ text_of p.rule
 abbrev pub recalled : Schedule → ℕ → List ℕ → Answer
 recalled s ends certificate = record { text = schedule_text s ends ++ certificate; status = 0 }
 
--- the answer where a plan was found that the checker doesn't accept
-abbrev pub unaccepted : Answer
-unaccepted = record { text = codes "unaccepted\n"; status = 8 }
-
 -- what is refused for this reason
 abbrev pub refused_for : List ℕ → Answer
 refused_for reason = record { text = codes "refused " ++ (reason ++ codes "\n"); status = 2 }

@@ -2,7 +2,6 @@
 use Rattle.std.specs.Prelude.{◌≡◌, ◌≤◌, ℕ, List, Bool, true, false, bytes_eq, Option, Some, None, IsSomeAnd, Ok, codes}
 use Rattle.clap.specs.Words.{App, Row as Used, Rule, first_of, new_app, new_rule, subcommand_of, with_rule, with_subcommand}
 use Rattle.clap.specs.declared.builder.ArgAction.TheVariants.{Set, SetTrue}
-use Rattle.onfi_script.specs.declared.command.Command.{Command}
 use Rattle.onfi_script.specs.declared.command.Command.TheVariants.{Plan, Check}
 use Rattle.onfi_script.specs.declared.command_line.Named.{Named}
 use Rattle.onfi_script.specs.declared.command_line.Named.TheVariants.{Problem, Run}

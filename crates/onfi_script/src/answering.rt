@@ -65,7 +65,7 @@ fn planned<S: Search>(
     requires ready { S.ready search.now }
     requires some { 1 ≤ limit }
     requires few { limit ≤ 1048576 }
-    ensures { IfOk result (λ a. AnswersPlan S.tells limit traced problem.now.problem (answer_of a)) }
+    ensures { IfOk result (λ a. AnswersPlan S.tells limit traced false problem.now.problem (answer_of a)) }
 {
     match search.plan(alloc, problem, limit) {
         Ok(planned) if traced => trace_answer(alloc, problem, &planned.schedule),
@@ -288,7 +288,7 @@ fn answer<S: Search>(
 ///
 /// Answers the exit status of the program: 0 for a plan and for a schedule that is accepted, 1 where the script is
 /// refused, 2 where the plan text or its certificate is, 4 for want of memory, 6 where as many nodes were opened as may
-/// be and the search is not over, 8 where a search that remembers states found what the checker doesn't accept.
+/// be and the search is not over.
 ///
 /// # Errors
 /// `Read` where a read failed or 2^40 reads did not come to the end: nothing was written. `Write` where a write

@@ -1,14 +1,15 @@
 //! Plans and checks by certificates that remember states.
 ghost use Rattle.std.specs.Prelude.{◌≡◌, ◌≤◌, true, IfOk};
-ghost use Rattle.onfi_script.specs.Answer.{AnswersRecall, AnswersSchedule};
+ghost use Rattle.onfi_script.specs.Answer.{AnswersPlan, AnswersSchedule, OneTells};
 ghost use Rattle.onfi_script.specs.AnswerOf.{answer_of};
 ghost use Rattle.onfi_script.specs.Text as spec;
 
 use crate::text::{Answer, accepted, known_text_refused, over, plan_text, refused_for};
 use crate::traced::trace_answer;
 use onfi_known::check_known_text;
+use onfi_planner::PlanFault;
 use onfi_problem::Problem;
-use onfi_recall::{PlanKnownFault, PlannedKnown, plan_known};
+use onfi_recall::{PlannedKnown, plan_known};
 use onfi_schedule::Schedule;
 use std::alloc::{AllocError, Global};
 
@@ -25,15 +26,6 @@ fn recalled(alloc: Global, planned: &PlannedKnown) -> Result<Answer, AllocError>
     Ok(Answer { text, status: 0 })
 }
 
-/// The line of a plan that the checker doesn't accept.
-fn unaccepted(alloc: Global) -> Result<Answer, AllocError>
-    ensures { IfOk result (λ a. answer_of a ≡ spec.unaccepted) }
-{
-    let mut text = Vec::new(alloc);
-    text.extend_from_slice(b"unaccepted\n")?;
-    Ok(Answer { text, status: 8 })
-}
-
 /// The answer that plans a problem by a search that remembers states, with this limit of nodes.
 pub fn planned_known(
     alloc: Global,
@@ -44,14 +36,13 @@ pub fn planned_known(
     requires some { 1 ≤ limit }
     requires few { limit ≤ 1048576 }
     requires begun { problem.now.all ≡ problem.now.problem.wants }
-    ensures { IfOk result (λ a. AnswersRecall limit traced problem.now.problem (answer_of a)) }
+    ensures { IfOk result (λ a. AnswersPlan OneTells limit traced true problem.now.problem (answer_of a)) }
 {
     match plan_known(alloc, problem, limit) {
         Ok(planned) if traced => trace_answer(alloc, problem, &planned.schedule),
         Ok(planned) => recalled(alloc, &planned),
-        Err(PlanKnownFault::Over { opened }) => over(alloc, opened),
-        Err(PlanKnownFault::Unaccepted) => unaccepted(alloc),
-        Err(PlanKnownFault::Memory) => Err(AllocError),
+        Err(PlanFault::Over { opened }) => over(alloc, opened),
+        Err(PlanFault::Memory) => Err(AllocError),
     }
 }
 
