@@ -27,6 +27,7 @@ def say(text, status):
 REFUSES = """
 form = " ".join("N" if word.isdigit() else word for word in words)
 taken = ["plan", "plan --limit N", "plan --limit N --trace", "plan --workers N", "check", "check --remember", "run --limit N"]
+taken += ["plan --remember", "plan --remember --limit N", "plan --remember --limit N --trace"]
 if form not in taken:
     sys.stderr.write("usage: onfi_sim plan ..\\n")
     sys.exit(5)
@@ -35,7 +36,8 @@ ANSWERS = f"""
 if command == "check":
     whole = b"{REMEMBERED}" if remembers else b"{PLAN}"
     say("accepted 7\\n", 0) if text.endswith(whole) else say("refused plan 1\\n", 2)
-say("closed\\n" if command == "run" else "" if traced else "{PLAN}", 0)
+plan = "{REMEMBERED}" if remembers else "{PLAN}"
+say("closed\\n" if command == "run" else "" if traced else plan, 0)
 """
 RIGHT = REFUSES + ANSWERS
 
@@ -60,7 +62,7 @@ class Fuzz(unittest.TestCase):
     def test_a_program_that_answers_rightly_passes(self) -> None:
         status, said = fuzzed(RIGHT, 100)
         self.assertEqual((status, said.splitlines()[-1]), (0, "100 passed, 0 failed"))
-        for told in ("check accepted", "check --remember accepted", "plan plan", "trace trace", "run ran", "words refused"):
+        for told in ("check accepted", "check --remember accepted", "plan plan", "plan --remember recalled", "trace trace", "run ran", "words refused"):
             self.assertRegex(said, rf"[1-9]\d* {told}\b")
 
     def test_a_status_of_another_command_is_a_miss(self) -> None:
@@ -80,7 +82,12 @@ class Fuzz(unittest.TestCase):
         self.assert_missed(body, "['check'] doesn't accept the plan")
 
     def test_a_plan_that_is_refused_with_the_other_header_is_a_miss(self) -> None:
-        self.assert_missed(RIGHT.replace("if remembers", "if 0"), "['check', '--remember'] doesn't accept the plan")
+        self.assert_missed(RIGHT.replace("if remembers", "if 0", 1), "['check', '--remember'] doesn't accept the plan")
+
+    def test_another_finish_of_a_plan_that_remembers_is_a_miss(self) -> None:
+        body = RIGHT.replace(REMEMBERED, REMEMBERED.replace("finish 7", "finish 6"))
+        body = body.replace('say("accepted 7\\n", 0)', 'say("accepted 6\\n" if remembers else "accepted 7\\n", 0)')
+        self.assert_missed(body, "of a plan that remembers is another than that of the plan")
 
     def test_a_sooner_finish_that_is_accepted_is_a_miss(self) -> None:
         body = RIGHT.replace('say("refused plan 1\\n", 2)', 'say("accepted 6\\n", 0)')

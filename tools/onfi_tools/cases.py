@@ -24,12 +24,15 @@ class Part(NamedTuple):
 
 
 class Case(NamedTuple):
+    """What a program answers; where there is a second run, what that answers to the input and the first output."""
+
     place: str
     name: str
     arguments: List[bytes]
     input: bytes
     status: int
     output: bytes
+    second: List[bytes]
 
 
 def parts_of(path: pathlib.Path) -> Iterator[Part]:
@@ -64,9 +67,10 @@ def case_of(asked: Part, answer: Part, texts: Dict[str, bytes]) -> Case:
     line, _, input = asked.body.partition("\n")
     if not line.startswith("$"):
         raise ValueError("no line of arguments behind the name")
-    arguments = [unescaped(word) for word in shlex.split(line[1:])]
+    first, _, second = line[1:].partition(" | ")
+    arguments, behind = ([unescaped(word) for word in shlex.split(part)] for part in (first, second))
     output = text_of(without_end(answer.body), texts)
-    return Case(asked.place, asked.title, arguments, text_of(input, texts), int(answer.title), output)
+    return Case(asked.place, asked.title, arguments, text_of(input, texts), int(answer.title), output, behind)
 
 
 def read_page(path: pathlib.Path, texts: Dict[str, bytes]) -> Iterator[Case]:
@@ -91,6 +95,11 @@ def read_page(path: pathlib.Path, texts: Dict[str, bytes]) -> Iterator[Case]:
             raise ValueError(f"{part.place}: {fault!r}") from fault
     if asked:
         raise ValueError(f"{asked.place}: a case without an answer")
+
+
+def single_cases(words: List[str], folder: pathlib.Path = CASES) -> List[Case]:
+    """Those without a second run."""
+    return [case for case in read_cases(words, folder) if not case.second]
 
 
 def read_cases(words: List[str], folder: pathlib.Path = CASES) -> List[Case]:
