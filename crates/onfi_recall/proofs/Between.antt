@@ -176,7 +176,7 @@ module _ (x : Position) (moves firsts : List Move) (soonest : Soonest) (first be
 
   -- the node behind the next move was walked over
   grown_child : (step : KeptMove) (best' : Best) (notes' : Notes) (standing' : Standing) (improved : Bool) (v : Visited x step best best' notes notes' standing.asked standing'.asked improved)
-      → HasWritten before.cert.finish (record { problem = after x.problem (move_of x.groups step); all = x.all; groups = x.groups }) notes notes' v.demand
+      → HasWritten before.cert.finish (moved x step) notes notes' v.demand
       → standing'.yielded ≡ standing.yielded → Growing before.cert.finish x moves firsts soonest before notes standing → Growing before.cert.finish x moves (firsts ++ move_of x.groups step ∷ []) soonest before notes' standing'
   grown_child step best' notes' standing' improved v w same g =
       let m = move_of x.groups step in
@@ -238,7 +238,7 @@ module _ (x : Position) (moves firsts : List Move) (soonest : Soonest) (first be
         growing = λ e.
             let was : best.finish ≡ before.cert.finish = omega arith in
             let w = v.written (e ∙ sym h.same_finish) in
-            grown_child step best' notes' standing' improved v (subst (λ z. HasWritten z (record { problem = after x.problem m; all = x.all; groups = x.groups }) notes notes' v.demand) h.same_finish w) same (h.growing was);
+            grown_child step best' notes' standing' improved v (subst (λ z. HasWritten z (moved x step) notes notes' v.demand) h.same_finish w) same (h.growing was);
       }
 
   -- the search is given up behind the next move

@@ -1,16 +1,10 @@
 -- What a token that closes a node shows.
-use Rattle.std.proofs.Common.{◌≡◌, ℕ, ◌≤◌, ◌<◌, List, length, Some, sym, subst, arith}
+use Rattle.std.proofs.Common.{ℕ, ◌≤◌, List, length, arith}
 use Rattle.onfi_problem.specs.Problem.{Problem, IsProblem}
 use Rattle.onfi_problem.specs.Left.{InLimits}
 use Rattle.onfi_problem.specs.Position.{Position}
 use Rattle.onfi_problem.proofs.Places.{within_get}
-use Rattle.onfi_bound.specs.Bounds.{trail}
-use Rattle.onfi_bound.specs.Reaching.{Reaches}
-use Rattle.onfi_bound.specs.declared.bound.Bound.{Bound}
-use Rattle.onfi_bound.specs.declared.bound.Bound.TheVariants.{Bus as BusBound, Lead as LeadBound, Trail as TrailBound, Die as DieBound}
-use Rattle.onfi_demand.specs.Demand.{bus_demand, lead_demand, trail_demand, die_demand}
 use Rattle.onfi_demand.specs.Laws.{Asks}
-use Rattle.onfi_demand.specs.Kept.{IsKept}
 use Rattle.onfi_demand.specs.declared.demand.Demand.{Demand as Kept}
 use Rattle.onfi_demand.proofs.Bounding.{bus_asks, lead_asks, trail_asks, die_asks, end_asks}
 use Rattle.onfi_demand.proofs.Keeping.{kept_asks, left_few}
@@ -53,18 +47,3 @@ closed_again e x known number d limits few (k, at, describes, meets, kept) =
       met = record { bus = omega arith; luns = λ lun has. let a = kept.luns lun (left_few x.problem lun limits.problem limits.small has) in let m = meets.luns lun has in omega arith };
       proves = λ rest. again x.problem known number d rest (k, at, describes, meets, kept);
     }
-
--- the token of each bound
-pub by_bus : (p : Problem) (e : ℕ) (b : Bound) (d : Kept) → b ≡ BusBound → Reaches p e b → IsKept d (bus_demand p e) → ClosesBy p e (record { token = Bus; demand = d })
-by_bus p e b d is r k = record { closes = subst (Reaches p e) is r; asks = k; in_range = tt }
-
-pub by_lead : (p : Problem) (e : ℕ) (b : Bound) (d : Kept) → b ≡ LeadBound → Reaches p e b → IsKept d (lead_demand p e) → ClosesBy p e (record { token = Lead; demand = d })
-by_lead p e b d is r k = record { closes = subst (Reaches p e) is r; asks = k; in_range = tt }
-
-pub by_trail : (p : Problem) (e : ℕ) (b : Bound) (d : Kept) → b ≡ TrailBound → Reaches p e b → ((t : ℕ) → trail p ≡ Some t → IsKept d (trail_demand p t e)) → ClosesBy p e (record { token = Trail; demand = d })
-by_trail p e b d is r k =
-    let (t, at, le) = subst (Reaches p e) is r in
-    record { closes = (t, at, le); asks = rw at (k t at); in_range = tt }
-
-pub by_die : (p : Problem) (e lun n : ℕ) (b : Bound) (d : Kept) → lun < 8 → b ≡ DieBound lun → n ≡ lun → Reaches p e b → IsKept d (die_demand p lun e) → ClosesBy p e (record { token = Die n; demand = d })
-by_die p e lun n b d small is same r k = record { closes = subst (λ z. Reaches p e (DieBound z)) (sym same) (subst (Reaches p e) is r); asks = subst (λ z. IsKept d (die_demand p z e)) (sym same) k; in_range = omega arith }

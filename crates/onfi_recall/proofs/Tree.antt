@@ -39,7 +39,7 @@ still_better x old new improved f = record {
 }
 
 -- the tokens of a walk that found nothing sooner
-pub walk_proved : (x : Position) (old new : Best) (before behind : Notes) (shown : Shown) → IsShown x old new before.opened before behind shown → before.opened ≡ 0 → before.limit ≤ 1048576 → before.records.nodes.items ≡ [] → before.cert.tokens.items ≡ [] → new.finish ≡ before.cert.finish → IsProved x behind.cert.tokens.items new.finish
+walk_proved : (x : Position) (old new : Best) (before behind : Notes) (shown : Shown) → IsShown x old new before.opened before behind shown → before.opened ≡ 0 → before.limit ≤ 1048576 → before.records.nodes.items ≡ [] → before.cert.tokens.items ≡ [] → new.finish ≡ before.cert.finish → IsProved x behind.cert.tokens.items new.finish
 walk_proved x old new before behind shown s zero limit known none e =
     let w = s.written e in
     let o = s.opened in
@@ -124,9 +124,6 @@ better_more x at old mid new e b c =
     let t = d.sooner in
     record { sooner = omega arith; run = λ r. d.run (b.run r) }
 
-pub same_better : (x : Position) (best : Best) → IsBetter x best best
-same_better x best = record { sooner = omega arith; run = λ r. r }
-
 -- what all walks together have found
 pub last_found : (x at : Position) (root : Root) (mid last : Best) → IsBegun x root → at ≡ root.problem → IsBetter root.problem root.best mid → IsBetter at mid last → IsRunOf x last × (last.finish < 2 ^ 63)
 last_found x at root mid last b e f g =
@@ -138,11 +135,11 @@ last_found x at root mid last b e f g =
 pub over_later : (at x : Position) (a b opened limit : ℕ) → at ≡ x → a ≤ b → (opened ≡ limit) × AreMore at.problem a (limit + 1) → (opened ≡ limit) × AreMore x.problem b (limit + 1)
 over_later at x a b opened limit e le (q, over) = (q, subst (λ (z : Position). AreMore z.problem b (limit + 1)) e (λ f k. over f (omega arith)))
 
-pub over_told : (p : Problem) (finish limit l o opened : ℕ) → l ≡ limit → o ≡ 0 → Over limit ≡ Over opened → AreMore p finish (l - o + 1) → (opened ≡ limit) × AreMore p finish (limit + 1)
-over_told p finish limit l o opened e z q over =
-    let same : limit ≡ opened = cc in
+pub over_told : (p : Problem) (finish limit l o told opened : ℕ) → l ≡ limit → o ≡ 0 → told ≡ limit → Over told ≡ Over opened → AreMore p finish (l - o + 1) → (opened ≡ limit) × AreMore p finish (limit + 1)
+over_told p finish limit l o told opened e z t q over =
+    let same : told ≡ opened = cc in
     let n : l - o + 1 ≡ limit + 1 = omega arith in
-    (sym same, subst (AreMore p finish) n over)
+    (sym same ∙ t, subst (AreMore p finish) n over)
 
 pub nodes_from_none : (p : Problem) (finish n o : ℕ) → o ≡ 0 → AreMore p finish (n - o) → AreMore p finish n
 nodes_from_none p finish n o z nodes = let e : n - o ≡ n = omega arith in subst (AreMore p finish) e nodes

@@ -3,9 +3,9 @@ use Rattle.std.specs.Prelude.{◌≡◌, ◌≢◌, ℕ, ◌+◌, ◌-◌, ◌^�
 use Rattle.std.specs.List.{AllByRecursion as Each}
 use Rattle.onfi_group.specs.Words.{Pairs}
 use Rattle.onfi_problem.specs.Problem.{Problem}
-use Rattle.onfi_problem.specs.Moves.{Move, may_go, after}
+use Rattle.onfi_problem.specs.Moves.{Move, may_go}
 use Rattle.onfi_problem.specs.Left.{InLimits}
-use Rattle.onfi_problem.specs.Position.{Position, move_of}
+use Rattle.onfi_problem.specs.Position.{Position, move_of, moved}
 use Rattle.onfi_problem.specs.declared.moves.Move.{Move as KeptMove}
 use Rattle.onfi_schedule.specs.Runs.{Run}
 use Rattle.onfi_bound.specs.Loads.{AreLoads}
@@ -128,10 +128,10 @@ pub record IsShown (x : Position) (old new : Best) (began : ℕ) (before behind 
 pub record Visited (x : Position) (step : KeptMove) (old new : Best) (before behind : Notes) (asked raised : List ℕ) (improved : Bool) : Type 0 where
   pub found : IsFound x old new improved
   pub demand : Kept
-  pub met : Meets (after x.problem (move_of x.groups step)) (demand_of demand)
+  pub met : Meets (moved x step).problem (demand_of demand)
   pub raises : AreRaised x.problem (move_of x.groups step) demand asked raised
-  pub opened : HasOpened (after x.problem (move_of x.groups step)) old.finish before.opened before behind
-  pub written : new.finish ≡ before.cert.finish → HasWritten before.cert.finish (record { problem = after x.problem (move_of x.groups step); all = x.all; groups = x.groups }) before behind demand
+  pub opened : HasOpened (moved x step).problem old.finish before.opened before behind
+  pub written : new.finish ≡ before.cert.finish → HasWritten before.cert.finish (moved x step) before behind demand
 
 -- the moves of a LUN may yield to the soonest
 pub record Awaits (p : Problem) (soonest : Soonest) (own : ℕ) : Type 0 where

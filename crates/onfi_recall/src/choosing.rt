@@ -18,7 +18,7 @@ use onfi_timing::Kind;
 use std::alloc::{AllocError, Global};
 
 /// How to choose among the moves that may start first.
-#[derive(Clone, Copy, Debug, PartialEq, Eq)]
+#[derive(Clone, Copy)]
 pub enum Rule {
     /// Of the LUN with the most work left, then the most wants.
     Work,

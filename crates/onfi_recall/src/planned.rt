@@ -10,8 +10,9 @@ pub struct PlannedKnown {
     pub finish: u64,
     /// The text of the certificate, which remembers states.
     pub cert: Vec<u8>,
-    /// How many nodes the search opened that found the finish.
+    /// How many nodes the first search opened.
     pub opened: u32,
-    /// How many nodes were opened once more to write the certificate; 0 where the first schedule was the best.
+    /// How many nodes the search opened that wrote the certificate; 0 where that was the first one, since the first
+    /// schedule was the best.
     pub reopened: u32,
 }

@@ -21,7 +21,7 @@ use std::alloc::{AllocError, Global};
 
 /// The legal schedule of a problem that ends first, its groups by rising first start, with the certificate that shows
 /// it; the search that finds it and the one that writes the certificate open at most `limit` nodes each, 1 to
-/// 1,048,576.
+/// 1,048,576, all of the plain search's tree.
 ///
 /// # Errors
 /// `Over` where a search opened `limit` nodes and the tree of the problem has more: its nodes are the paths of moves on

@@ -9,7 +9,7 @@ use onfi_known::Token;
 use onfi_problem::Problem;
 
 /// The LUN whose moves end first, and by when, in ns; the moves of every LUN that may go no sooner yield to it.
-#[derive(Clone, Copy, Debug, PartialEq, Eq)]
+#[derive(Clone, Copy)]
 pub struct Soonest {
     pub lun: u8,
     pub end: u64,

@@ -1,4 +1,4 @@
-use Rattle.std.proofs.Common.{◌∙◌, arith}
+use Rattle.std.proofs.Common.{◌∙◌, arith, rules}
 use Rattle.onfi_recall.proofs.Tree.{nodes_from_none, over_told, still_better, walk_at, walk_fallen, walk_stands}
 use Rattle.onfi_recall.proofs.planning.walk.Goals as goal
 
@@ -21,7 +21,7 @@ returns-clause-opened c =
     omega (arith, c.new-notes.ensures.limit)
 
 pub returns-in-Err-Over-clause-over : goal.returns-in-Err-Over-clause-over
-returns-in-Err-Over-clause-over c = λ opened q. over_told c.args.at.now.problem c.args.best.now.finish c.args.limit c.new-notes.result.limit c.new-notes.result.opened opened c.new-notes.ensures.limit c.new-notes.ensures.opened q (c.in-Err-Over.ensures.over c.in-Err-Over.field-0-is)
+returns-in-Err-Over-clause-over c = λ opened q. over_told c.args.at.now.problem c.args.best.now.finish c.args.limit c.new-notes.result.limit c.new-notes.result.opened _ opened c.new-notes.ensures.limit c.new-notes.ensures.opened (search rules) q (c.in-Err-Over.ensures.over c.in-Err-Over.field-0-is)
 
 pub returns-clause-nodes : goal.returns-clause-nodes
 returns-clause-nodes c = nodes_from_none c.args.at.now.problem c.args.best.now.finish c.search.new.notes.opened c.new-notes.result.opened c.new-notes.ensures.opened c.in-Ok.ensures.shown.opened.nodes

@@ -22,7 +22,7 @@ use Rattle.onfi_recall.proofs.Node.{closed_shown, counted_over, counted_shown, d
 use Rattle.onfi_recall.proofs.search.+search.Goals as goal
 
 pub search-returns-then-notes-clause-over : goal.search-returns-then-notes-clause-over
-search-returns-then-notes-clause-over t c = λ q. full_over c.args.problem.now.problem c.args.best.now.finish c.args.notes.now.limit c.args.notes.now.opened c.if-notes.true
+search-returns-then-notes-clause-over t c = λ q. full_over c.args.problem.now.problem c.args.best.now.finish c.args.notes.now.limit c.args.notes.now.opened (omega (arith, c.if-notes.true, c.requires.within))
 
 pub search-returns-in-Some-clause-shown : goal.search-returns-in-Some-clause-shown
 search-returns-in-Some-clause-shown t c =
