@@ -1,3 +1,7 @@
 mod Steps
-mod Rising
 mod Put
+mod Closed
+mod Waiting
+mod Between
+mod Node
+mod Tree

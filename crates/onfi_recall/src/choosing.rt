@@ -1,15 +1,18 @@
 //! Schedules that a search may begin with.
 
-ghost use Rattle.std.specs.Prelude.{◌≡◌, ◌≤◌, ◌<◌, OnOk, length};
+ghost use Rattle.std.specs.Prelude.{◌≡◌, ◌≤◌, ◌<◌, [], IfOk, OnOk, length};
 ghost use Rattle.std.specs.List.{AllByRecursion as Each};
 ghost use Rattle.onfi_problem.specs.Moves.{AreMoves, IsMove};
-ghost use Rattle.onfi_problem.specs.Position.{move_of, moves_of};
+ghost use Rattle.onfi_problem.specs.Position.{Position, move_of, moves_of};
 ghost use Rattle.onfi_problem.specs.Starts.{IsNamed};
+ghost use Rattle.onfi_schedule.specs.Runs.{Run};
+ghost use Rattle.onfi_planner.specs.Planning.{run_of};
 ghost use Rattle.onfi_recall.specs.Steps.{IsStep};
+ghost use Rattle.onfi_recall.specs.Walks.{IsRunOf};
 
-use crate::search::{Begun, Best};
 use onfi_bound::die;
 use onfi_demand::{LunLeft, left_on};
+use onfi_planner::{Begun, Best};
 use onfi_problem::{Move, Problem};
 use onfi_timing::Kind;
 use std::alloc::{AllocError, Global};
@@ -17,8 +20,6 @@ use std::alloc::{AllocError, Global};
 /// How to choose among the moves that may start first.
 #[derive(Clone, Copy, Debug, PartialEq, Eq)]
 pub enum Rule {
-    /// The most wants.
-    Wants,
     /// Of the LUN with the most work left, then the most wants.
     Work,
     /// Commands before posts, then the most wants, then erases before programs before reads.
@@ -31,29 +32,42 @@ pub enum Rule {
 
 const RULES: [Rule; 4] = [Rule::Work, Rule::Commands, Rule::Posts, Rule::FewestWants];
 
-/// The best of the schedules of all rules.
+/// The best among a schedule and those of all rules.
 ///
 /// # Errors
 /// Only where memory was refused.
-pub fn best_of_rules(alloc: Global, problem: &mut Problem) -> Result<Best, AllocError>
-    ensures { OnOk result (problem.new ≡ problem.old) }
+pub fn best_of_rules(alloc: Global, problem: &mut Problem, first: Best) -> Result<Best, AllocError>
+    requires { IsRunOf problem.old first }
+    ensures problem { OnOk result (problem.new ≡ problem.old) }
+    ensures run { IfOk result (IsRunOf problem.old) }
+    ensures sooner { IfOk result (λ best. best.finish ≤ first.finish) }
 {
-    let finish = u64::MAX;
-    let steps = Vec::new(alloc);
-    let mut best = Best { finish, steps };
+    let mut best = first;
     for rule in RULES {
         let mut steps = Vec::new(alloc);
         let finish = run_by(problem, rule, &mut steps)?;
-        if finish < best.finish {
-            best = Best { finish, steps };
-        }
+        best = sooner(best, Best { finish, steps });
     }
     Ok(best)
 }
 
+// The one of two that ends first; the first of equals.
+fn sooner(best: Best, other: Best) -> Best
+    ensures run { (problem : Position) → IsRunOf problem best → IsRunOf problem other → IsRunOf problem result }
+    ensures sooner { result.finish ≤ best.finish }
+{
+    if other.finish < best.finish {
+        other
+    } else {
+        best
+    }
+}
+
 // Puts the steps of the schedule of a rule into the empty list, last first; answers when it ends, in ns.
 fn run_by(problem: &mut Problem, rule: Rule, steps: &mut Vec<Begun>) -> Result<u64, AllocError>
-    ensures { OnOk result (problem.new ≡ problem.old) }
+    requires none { steps.old.items ≡ [] }
+    ensures problem { OnOk result (problem.new ≡ problem.old) }
+    ensures run { IfOk result (Run problem.old.problem (run_of problem.old.groups steps.new.items)) }
 {
     let bus_free = problem.bus_free();
     let moves = problem.steps();
@@ -107,7 +121,6 @@ fn rank(problem: &Problem, rule: Rule, m: Move) -> u64
     let post = is_post(problem, m.lun());
     let kind = kind_rank(problem, m);
     match rule {
-        Rule::Wants => wants,
         Rule::Work => work.saturating_mul(16).saturating_add(wants),
         Rule::FewestWants => work.saturating_mul(16).saturating_sub(wants),
         Rule::Posts if post => wants.saturating_add(16),

@@ -2,22 +2,21 @@
 //! the kind that `onfi_known` checks.
 //!
 //! A node that was searched is remembered with what it asks of any other with the same left, and closes each such node.
-//! So batches are answered that a plain search gives up, with certificates of some kilobytes. What is found is checked
-//! before it is given.
+//! So batches are answered that a plain search gives up, with certificates of some kilobytes.
 #![tactic(auto)]
 
+mod cert;
 mod choosing;
-mod fault;
+mod closing;
 mod notes;
 mod phases;
-mod placing;
 mod planned;
 mod planning;
 mod records;
 mod search;
+mod standing;
 mod text;
 mod yields;
 
-pub use fault::PlanKnownFault;
 pub use planned::PlannedKnown;
 pub use planning::plan_known;

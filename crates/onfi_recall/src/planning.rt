@@ -1,37 +1,32 @@
 //! The plan of a batch.
 
-ghost use Rattle.std.specs.Prelude.{◌≡◌, ℕ, ◌≤◌, ◌<◌, IfOk, IfErr, OnOk};
-ghost use Rattle.onfi_group.specs.Words.{Pairs};
+ghost use Rattle.std.specs.Prelude.{◌≡◌, ◌+◌, ◌^◌, ℕ, ◌≤◌, ◌<◌, true, false, IfOk, IfErr, OnOk};
+ghost use Rattle.onfi_problem.specs.Left.{InLimits};
 ghost use Rattle.onfi_schedule.specs.Schedule.{Optimal, finish};
-ghost use Rattle.onfi_bound.specs.Loads.{AreLoads};
+ghost use Rattle.onfi_planner.specs.Nodes.{HasMoreNodes};
 ghost use Rattle.onfi_planner.specs.Planning.{AreRising};
 ghost use Rattle.onfi_recall.specs.Text.{ProvesText};
+ghost use Rattle.onfi_recall.specs.Walks.{AreMore, IsBegun, IsBetter, IsProved, IsRunOf, IsTree};
 
 use crate::choosing::best_of_rules;
-use crate::fault::PlanKnownFault;
-use crate::notes::{Notes, Stop};
-use crate::placing::{are_rising, schedule_of};
+use crate::notes::Notes;
 use crate::planned::PlannedKnown;
-use crate::search::{Best, search};
+use crate::search::search;
 use crate::text::text_of;
 use onfi_bound::Loads;
-use onfi_known::{KnownFault, KnownTextFault, Token, check_known_text};
+use onfi_known::Token;
+use onfi_planner::{Best, PlanFault, Root, Stop, root_of, schedule_of};
 use onfi_problem::Problem;
-use onfi_schedule::Schedule;
-use std::alloc::Global;
+use std::alloc::{AllocError, Global};
 
 /// The legal schedule of a problem that ends first, its groups by rising first start, with the certificate that shows
 /// it; the search that finds it and the one that writes the certificate open at most `limit` nodes each, 1 to
 /// 1,048,576.
 ///
 /// # Errors
-/// `Over` where `limit` nodes were opened. `Memory` where memory was refused. `Unaccepted` where the checker doesn't
-/// accept what was found.
-pub fn plan_known(
-    alloc: Global,
-    problem: &Problem,
-    limit: u32,
-) -> Result<PlannedKnown, PlanKnownFault>
+/// `Over` where a search opened `limit` nodes and the tree of the problem has more: its nodes are the paths of moves on
+/// which no bound reaches the finish of the first schedule. `Memory` where memory was refused.
+pub fn plan_known(alloc: Global, problem: &Problem, limit: u32) -> Result<PlannedKnown, PlanFault>
     requires some { 1 ≤ limit }
     requires few { limit ≤ 1048576 }
     ensures optimal { IfOk result (λ plan. Optimal problem.now.problem plan.schedule) }
@@ -40,45 +35,47 @@ pub fn plan_known(
     ensures cert { IfOk result (λ plan. ProvesText problem.now plan.cert.items plan.finish) }
     ensures opened { IfOk result (λ plan. plan.opened ≤ limit) }
     ensures reopened { IfOk result (λ plan. plan.reopened ≤ limit) }
-    ensures over { IfErr result (λ fault. (opened : ℕ) → fault ≡ PlanKnownFault.Over opened → opened ≡ limit) }
+    ensures over { IfErr result (λ fault. (opened : ℕ) → fault ≡ PlanFault.Over opened → (opened ≡ limit) × HasMoreNodes problem.now.problem limit) }
 {
-    let Ok(mut at) = problem.copy(alloc) else {
-        return Err(PlanKnownFault::Memory);
+    let Ok(root) = begin(alloc, problem) else {
+        return Err(PlanFault::Memory);
     };
-    let Ok(loads) = Loads::new(alloc, &at) else {
-        return Err(PlanKnownFault::Memory);
-    };
-    let Ok(mut best) = best_of_rules(alloc, &mut at) else {
-        return Err(PlanKnownFault::Memory);
-    };
+    let Root {
+        problem: mut at,
+        loads,
+        mut best,
+    } = root;
     let found = walk(alloc, &mut at, &loads, &mut best, limit)?;
     let opened = found.opened;
-    let (tokens, reopened) = if found.improved {
-        let written = walk(alloc, &mut at, &loads, &mut best, limit)?;
-        (written.tokens, written.opened)
-    } else {
-        (found.tokens, 0)
+    let written = walk_again(alloc, &mut at, &loads, &mut best, found, limit)?;
+    let tokens = written.tokens.as_slice();
+    let Ok(planned) = found_plan(alloc, problem, &best, tokens, opened, written.opened) else {
+        return Err(PlanFault::Memory);
     };
-    let Ok(cert) = text_of(alloc, problem.rules().strict, tokens.as_slice()) else {
-        return Err(PlanKnownFault::Memory);
-    };
-    let (schedule, finish) = accept(alloc, problem, &best, cert.as_slice())?;
-    Ok(PlannedKnown {
-        schedule,
-        finish,
-        cert,
-        opened,
-        reopened,
+    Ok(planned)
+}
+
+// A problem's root, where the best of the first schedules is the best so far.
+fn begin(alloc: Global, problem: &Problem) -> Result<Root, AllocError>
+    ensures { IfOk result (IsBegun problem.now) }
+{
+    let root = root_of(alloc, problem)?;
+    let mut at = root.problem;
+    let best = best_of_rules(alloc, &mut at, root.best)?;
+    Ok(Root {
+        problem: at,
+        loads: root.loads,
+        best,
     })
 }
 
-// What a walk over the tree of a problem has given.
+/// What a walk over the tree of a problem has given.
 #[derive(Drop)]
-struct Walked {
+pub struct Walked {
     /// The tokens of the tree, where no sooner finish was found.
-    tokens: Vec<Token>,
-    improved: bool,
-    opened: u32,
+    pub tokens: Vec<Token>,
+    pub improved: bool,
+    pub opened: u32,
 }
 
 // Walks over the tree of a problem for a sooner finish than the best.
@@ -88,48 +85,107 @@ fn walk(
     loads: &Loads,
     best: &mut Best,
     limit: u32,
-) -> Result<Walked, PlanKnownFault>
-    requires loads { AreLoads at.old loads.now.of.items }
-    requires rising { Pairs (λ a b. a.id < b.id) at.old.all }
+) -> Result<Walked, PlanFault>
+    requires root { IsTree at.old loads.now }
+    requires few { limit ≤ 1048576 }
     ensures problem { OnOk result (at.new ≡ at.old) }
+    ensures found { OnOk result (IsBetter at.old best.old best.new) }
+    ensures fallen { IfOk result (λ walked. walked.improved ≡ true → best.new.finish < best.old.finish) }
+    ensures proved { IfOk result (λ walked. walked.improved ≡ false → IsProved at.old walked.tokens.items best.new.finish) }
     ensures opened { IfOk result (λ walked. walked.opened ≤ limit) }
-    ensures over { IfErr result (λ fault. (opened : ℕ) → fault ≡ PlanKnownFault.Over opened → opened ≡ limit) }
+    ensures over { IfErr result (λ fault. (opened : ℕ) → fault ≡ PlanFault.Over opened → (opened ≡ limit) × AreMore at.old.problem best.old.finish (limit + 1)) }
 {
-    let mut notes = Notes::new(alloc, limit);
+    let mut notes = Notes::new(alloc, best.finish, limit);
     match search(at, loads, best, &mut notes) {
         Ok(_) => {}
-        Err(Stop::Over) => return Err(PlanKnownFault::Over { opened: limit }),
-        Err(Stop::Memory) => return Err(PlanKnownFault::Memory),
+        Err(Stop::Over) => return Err(PlanFault::Over { opened: limit }),
+        Err(Stop::Memory) => return Err(PlanFault::Memory),
     }
-    let opened = limit.saturating_sub(notes.room);
+    let improved = best.finish < notes.cert.finish;
     Ok(Walked {
-        tokens: notes.tokens,
-        improved: notes.improved,
-        opened,
+        tokens: notes.cert.tokens,
+        improved,
+        opened: notes.opened,
     })
 }
 
-// The schedule of the best and when it ends, where the checker accepts the certificate for it.
-fn accept(
+// Walks until a walk finds nothing sooner; that one has written the tokens.
+fn walk_on(
+    alloc: Global,
+    at: &mut Problem,
+    loads: &Loads,
+    best: &mut Best,
+    limit: u32,
+) -> Result<Walked, PlanFault>
+    requires root { IsTree at.old loads.now }
+    requires few { limit ≤ 1048576 }
+    ensures found { OnOk result (IsBetter at.old best.old best.new) }
+    ensures proved { IfOk result (λ walked. IsProved at.old walked.tokens.items best.new.finish) }
+    ensures opened { IfOk result (λ walked. walked.opened ≤ limit) }
+    ensures over { IfErr result (λ fault. (opened : ℕ) → fault ≡ PlanFault.Over opened → (opened ≡ limit) × AreMore at.old.problem best.old.finish (limit + 1)) }
+{
+    let walked = walk(alloc, at, loads, best, limit)?;
+    if walked.improved {
+        return walk_on(alloc, at, loads, best, limit);
+    }
+    Ok(walked)
+}
+
+// Walks once more where a walk has found a sooner finish, so that the tokens are written for it; tells how many nodes
+// were opened once more.
+fn walk_again(
+    alloc: Global,
+    at: &mut Problem,
+    loads: &Loads,
+    best: &mut Best,
+    found: Walked,
+    limit: u32,
+) -> Result<Walked, PlanFault>
+    requires root { IsTree at.old loads.now }
+    requires few { limit ≤ 1048576 }
+    requires proved { found.improved ≡ false → IsProved at.old found.tokens.items best.old.finish }
+    ensures found { OnOk result (IsBetter at.old best.old best.new) }
+    ensures proved { IfOk result (λ walked. IsProved at.old walked.tokens.items best.new.finish) }
+    ensures opened { IfOk result (λ walked. walked.opened ≤ limit) }
+    ensures over { IfErr result (λ fault. (opened : ℕ) → fault ≡ PlanFault.Over opened → (opened ≡ limit) × AreMore at.old.problem best.old.finish (limit + 1)) }
+{
+    if found.improved {
+        return walk_on(alloc, at, loads, best, limit);
+    }
+    Ok(Walked {
+        tokens: found.tokens,
+        improved: false,
+        opened: 0,
+    })
+}
+
+// The plan by the best schedule, where these tokens show that nothing ends sooner.
+fn found_plan(
     alloc: Global,
     problem: &Problem,
     best: &Best,
-    cert: &[u8],
-) -> Result<(Schedule, u64), PlanKnownFault>
-    ensures optimal { IfOk result (λ found. Optimal problem.now.problem found.0) }
-    ensures finish { IfOk result (λ found. finish problem.now.problem found.0 ≡ found.1) }
-    ensures rising { IfOk result (λ found. AreRising found.0.groups) }
-    ensures cert { IfOk result (λ found. ProvesText problem.now cert.now found.1) }
-    ensures over { IfErr result (λ fault. (opened : ℕ) → fault ≡ PlanKnownFault.Over opened → ⊥) }
+    tokens: &[Token],
+    opened: u32,
+    reopened: u32,
+) -> Result<PlannedKnown, AllocError>
+    requires limits { InLimits problem.now.problem }
+    requires run { IsRunOf problem.now best.now }
+    requires small { best.now.finish < 2 ^ 63 }
+    requires proved { IsProved problem.now tokens.now best.now.finish }
+    ensures optimal { IfOk result (λ plan. Optimal problem.now.problem plan.schedule) }
+    ensures finish { IfOk result (λ plan. finish problem.now.problem plan.schedule ≡ plan.finish) }
+    ensures rising { IfOk result (λ plan. AreRising plan.schedule.groups) }
+    ensures cert { IfOk result (λ plan. ProvesText problem.now plan.cert.items plan.finish) }
+    ensures opened { IfOk result (λ plan. plan.opened ≡ opened) }
+    ensures reopened { IfOk result (λ plan. plan.reopened ≡ reopened) }
 {
-    let schedule = match schedule_of(alloc, problem, best.steps.as_slice()) {
-        Ok(Some(schedule)) if are_rising(schedule.groups()) => schedule,
-        Ok(_) => return Err(PlanKnownFault::Unaccepted),
-        Err(_) => return Err(PlanKnownFault::Memory),
-    };
-    match check_known_text(alloc, problem, &schedule, cert) {
-        Ok(finish) => Ok((schedule, finish)),
-        Err(KnownTextFault::Cert(KnownFault::Memory)) => Err(PlanKnownFault::Memory),
-        Err(_) => Err(PlanKnownFault::Unaccepted),
-    }
+    let schedule = schedule_of(alloc, problem, best.steps.as_slice())?;
+    let cert = text_of(alloc, problem.rules().strict, tokens)?;
+    Ok(PlannedKnown {
+        schedule,
+        finish: best.finish,
+        cert,
+        opened,
+        reopened,
+    })
 }

@@ -1,9 +1,10 @@
 //! What was searched, found again by what was left there.
 
-ghost use Rattle.std.specs.Prelude.{◌≤◌, ◌<◌};
+ghost use Rattle.std.specs.Prelude.{◌≡◌, ◌≤◌, ◌<◌, [], IfSome, OnOk};
 ghost use Rattle.onfi_group.specs.Words.{Pairs};
+ghost use Rattle.onfi_known.specs.Proves.{IsAgain, Remembers};
 
-use onfi_demand::{LunLeft, left_on};
+use onfi_demand::{Demand, LunLeft, left_on};
 use onfi_known::Known;
 use onfi_problem::Problem;
 use onfi_timing::Kind;
@@ -16,23 +17,25 @@ const MOST_LOOKS: u32 = 64;
 /// The nodes that a walk is done with, in the order in which they ended.
 #[derive(Drop)]
 pub struct Records {
-    nodes: Vec<Known>,
+    pub nodes: Vec<Known>,
     /// For each node the one before it with the same left.
     older: Vec<Option<u32>>,
     /// The last node to which the same is left, by its key.
     newest: HashMap<u64, u32>,
 }
 
-/// A node that closes another: its number, and from when on each LUN must go on, in ns.
+/// A node that closes another: its number, and what it asks for.
 #[derive(Clone, Copy)]
 pub struct Hit {
     pub number: u32,
-    pub times: [u64; 8],
+    pub demand: Demand,
 }
 
 impl Records {
     /// No node yet.
-    pub fn new(alloc: Global) -> Records {
+    pub fn new(alloc: Global) -> Records
+        ensures { result.nodes.items ≡ [] }
+    {
         Records {
             nodes: Vec::new(alloc),
             older: Vec::new(alloc),
@@ -43,25 +46,41 @@ impl Records {
     /// A node to which the same is left and of which no more is asked than the problem meets, the last one first.
     pub fn find(&self, problem: &Problem) -> Option<Hit>
         requires { Pairs (λ a b. a.id < b.id) problem.now.all }
+        ensures { IfSome result (λ hit. IsAgain problem.now.all problem.now.problem self.now.nodes.items hit.number hit.demand) }
     {
         let mut next = self.newest.get(&key_of(problem)).copied();
         for _ in 0..MOST_LOOKS {
             let number = next?;
-            let node = self.nodes.get(number as usize)?;
-            if node.describes(problem) && node.is_met(problem) {
-                let times = node.times;
-                return Some(Hit { number, times });
+            if let Some(demand) = self.demand_of(problem, number) {
+                return Some(Hit { number, demand });
             }
             next = *self.older.get(number as usize)?;
         }
         None
     }
 
+    // What the node of that number asks for, where the same is left there and the problem meets it.
+    fn demand_of(&self, problem: &Problem, number: u32) -> Option<Demand>
+        requires { Pairs (λ a b. a.id < b.id) problem.now.all }
+        ensures { IfSome result (IsAgain problem.now.all problem.now.problem self.now.nodes.items number) }
+    {
+        let node = self.nodes.get(number as usize)?;
+        if !node.describes(problem) || !node.is_met(problem) {
+            return None;
+        }
+        Some(Demand {
+            bus: 0,
+            luns: node.times,
+        })
+    }
+
     /// Keeps a node that has ended, with what it asks of each LUN, in ns.
     ///
     /// # Errors
     /// Only where memory was refused.
-    pub fn keep(&mut self, problem: &Problem, times: [u64; 8]) -> Result<(), AllocError> {
+    pub fn keep(&mut self, problem: &Problem, times: [u64; 8]) -> Result<(), AllocError>
+        ensures { OnOk result (Remembers problem.now.all problem.now.problem times self.old.nodes.items self.new.nodes.items (record { bus = 0; luns = times })) }
+    {
         let Ok(number) = u32::try_from(self.nodes.len()) else {
             return Err(AllocError);
         };

@@ -1,36 +1,30 @@
 //! The walk that finds the finish, and writes the certificate.
 
-ghost use Rattle.std.specs.Prelude.{◌≡◌, ◌≤◌, ◌<◌, OnOk, length};
+ghost use Rattle.std.specs.Prelude.{◌≡◌, ◌+◌, ◌-◌, ℕ, ◌≤◌, ◌<◌, true, false, [], ◌∷◌, ◌++◌, List, IfOk, IfErr, OnOk, length, slice_index};
 ghost use Rattle.std.specs.List.{AllByRecursion as Each};
-ghost use Rattle.onfi_group.specs.Words.{Pairs};
-ghost use Rattle.onfi_problem.specs.Moves.{AreMoves};
-ghost use Rattle.onfi_problem.specs.Position.{moves_of};
+ghost use Rattle.onfi_group.specs.Words.{Has};
+ghost use Rattle.onfi_problem.specs.Moves.{AreMoves, Move as OneMove};
+ghost use Rattle.onfi_problem.specs.Position.{move_of, moves_of, moved};
 ghost use Rattle.onfi_problem.specs.Starts.{IsNamed};
-ghost use Rattle.onfi_bound.specs.Loads.{AreLoads};
+ghost use Rattle.onfi_demand.specs.Asked.{GoesOn};
+ghost use Rattle.onfi_planner.specs.Opening.{IsOpen};
 ghost use Rattle.onfi_recall.specs.Steps.{IsStep};
+ghost use Rattle.onfi_recall.specs.Walks.{AreMore, Halfway, IsAt, IsFound, IsShown, Visited};
+ghost use Rattle.onfi_recall.specs.declared.notes.Notes.{Notes as AnyNotes};
+ghost use Rattle.onfi_planner.specs.declared.search.Best.{Best as AnyBest};
 
-use crate::notes::{Notes, Stop};
+use crate::closing::find_closing;
+use crate::notes::Notes;
+use crate::standing::Standing;
 use crate::yields::Soonest;
 use onfi_bound::Loads;
 use onfi_cert::Width;
 use onfi_check::last_ends;
 use onfi_demand::{Demand, LunWork, Step};
 use onfi_known::Token;
+use onfi_planner::{Begun, Best, Stop};
 use onfi_problem::{Move, Moves, Problem};
-
-/// A step, and when it begins, in ns.
-#[derive(Clone, Copy)]
-pub struct Begun {
-    pub step: Move,
-    pub start: u64,
-}
-
-/// The soonest finish so far, in ns, and the steps to it, last first.
-#[derive(Drop)]
-pub struct Best {
-    pub finish: u64,
-    pub steps: Vec<Begun>,
-}
+use std::alloc::AllocError;
 
 /// What a walk has shown of a node: what that asks for, and whether a sooner finish stands below it.
 #[derive(Clone, Copy)]
@@ -47,21 +41,55 @@ pub fn search(
     best: &mut Best,
     notes: &mut Notes,
 ) -> Result<Shown, Stop>
-    requires loads { AreLoads problem.old loads.now.of.items }
-    requires rising { Pairs (λ a b. a.id < b.id) problem.old.all }
+    requires { IsAt problem.old loads.now best.old notes.old }
     ensures problem { OnOk result (problem.new ≡ problem.old) }
+    ensures shown { IfOk result (IsShown problem.old best.old best.new notes.old.opened notes.old notes.new) }
+    ensures over { IfErr result (λ stop. stop ≡ Stop.Over → AreMore problem.old.problem best.old.finish (notes.old.limit - notes.old.opened + 1)) }
 {
-    notes.open()?;
-    if let Some(demand) = notes.close(problem, loads, best.finish)? {
+    if notes.opened == notes.limit {
+        return Err(Stop::Over);
+    }
+    notes.opened += 1;
+    let Ok(found) = find_closing(
+        problem,
+        loads,
+        best.finish,
+        &notes.records,
+        &mut notes.phases,
+    ) else {
+        return Err(Stop::Memory);
+    };
+    if let Some(closing) = found {
+        let Ok(()) = notes.cert.write(closing.token, best.finish) else {
+            return Err(Stop::Memory);
+        };
+        let demand = closing.demand;
         let improved = false;
         return Ok(Shown { demand, improved });
     }
+    search_open(problem, loads, best, notes)
+}
+
+// Looks below an open node, which was counted.
+#[cycle(search)]
+fn search_open(
+    problem: &mut Problem,
+    loads: &Loads,
+    best: &mut Best,
+    notes: &mut Notes,
+) -> Result<Shown, Stop>
+    requires at { IsAt problem.old loads.now best.old notes.old }
+    requires counted { 1 ≤ notes.old.opened }
+    requires is_open { IsOpen best.old.finish problem.old.problem }
+    ensures problem { OnOk result (problem.new ≡ problem.old) }
+    ensures shown { IfOk result (IsShown problem.old best.old best.new (notes.old.opened - 1) notes.old notes.new) }
+    ensures over { IfErr result (λ stop. stop ≡ Stop.Over → AreMore problem.old.problem best.old.finish (notes.old.limit - (notes.old.opened - 1) + 1)) }
+{
     let mut moves = Moves::new();
     problem.list_steps(&mut moves);
     if moves.is_empty() {
         best.finish = problem.bus_free();
         best.steps.clear();
-        notes.improve();
         let demand = Demand::of_bus(best.finish);
         let improved = true;
         return Ok(Shown { demand, improved });
@@ -78,40 +106,78 @@ fn search_children(
     best: &mut Best,
     notes: &mut Notes,
 ) -> Result<Shown, Stop>
-    requires loads { AreLoads problem.old loads.now.of.items }
-    requires rising { Pairs (λ a b. a.id < b.id) problem.old.all }
+    requires at { IsAt problem.old loads.now best.old notes.old }
+    requires counted { 1 ≤ notes.old.opened }
+    requires is_open { IsOpen best.old.finish problem.old.problem }
     requires some { 1 ≤ length moves.now }
     requires few { length moves.now ≤ 87 }
     requires moves { AreMoves problem.old.problem (moves_of problem.old.groups moves.now) }
     requires named { Each (IsNamed problem.old.groups) moves.now }
     ensures problem { OnOk result (problem.new ≡ problem.old) }
+    ensures shown { IfOk result (IsShown problem.old best.old best.new (notes.old.opened - 1) notes.old notes.new) }
+    ensures over { IfErr result (λ stop. stop ≡ Stop.Over → AreMore problem.old.problem best.old.finish (notes.old.limit - (notes.old.opened - 1) + 1)) }
 {
     let _limits = problem.bus_free();
     let listed = moves.as_slice();
     let ends = last_ends(problem, listed);
     let soonest = Soonest::of(problem, &ends);
-    notes.write(Token::Branch(Width::of(listed.len() as u8)))?;
-    let mut asked = [0; 8];
-    let mut improved = false;
-    for step in listed {
-        if soonest.is_awaited(problem, step.lun()) {
-            notes.write(soonest.token())?;
-        } else if search_below(problem, loads, *step, best, &mut asked, notes)? {
-            improved = true;
-        }
-    }
-    soonest.raise(problem, &ends, &mut asked);
-    notes.remember(problem, asked)?;
-    let demand = Demand {
-        bus: 0,
-        luns: asked,
+    let branch = Token::Branch(Width::of(listed.len() as u8));
+    let Ok(()) = notes.cert.write(branch, best.finish) else {
+        return Err(Stop::Memory);
     };
+    let mut standing = Standing::new();
+    for step in listed {
+        search_child(problem, loads, *step, &soonest, best, &mut standing, notes)?;
+    }
+    soonest.raise(problem, &standing.yielded, &mut standing.asked);
+    let Ok(()) = notes.records.keep(problem, standing.asked) else {
+        return Err(Stop::Memory);
+    };
+    let luns = standing.asked;
+    let demand = Demand { bus: 0, luns };
+    let improved = standing.improved;
     Ok(Shown { demand, improved })
+}
+
+// Looks below a step, or writes that it yields.
+#[cycle(search)]
+fn search_child(
+    problem: &mut Problem,
+    loads: &Loads,
+    step: Move,
+    soonest: &Soonest,
+    best: &mut Best,
+    standing: &mut Standing,
+    notes: &mut Notes,
+) -> Result<(), Stop>
+    requires at { IsAt problem.old loads.now best.old notes.old }
+    requires step { IsStep problem.old step }
+    requires soonest { soonest.now.lun < length problem.old.problem.luns }
+    ensures problem { OnOk result (problem.new ≡ problem.old) }
+    ensures more { OnOk result ((moves firsts : List OneMove) (first : AnyBest) (before : AnyNotes) → (Has firsts (move_of problem.old.groups step) → ⊥)
+        → Halfway problem.old moves firsts soonest.now first best.old before notes.old standing.old
+        → Halfway problem.old moves (firsts ++ move_of problem.old.groups step ∷ []) soonest.now first best.new before notes.new standing.new) }
+    ensures over { IfErr result (λ stop. (moves firsts : List OneMove) (first : AnyBest) (before : AnyNotes) → (Has firsts (move_of problem.old.groups step) → ⊥)
+        → Halfway problem.old moves firsts soonest.now first best.old before notes.old standing.old
+        → stop ≡ Stop.Over → AreMore problem.old.problem first.finish (before.limit - (before.opened - 1) + 1)) }
+{
+    let own = step.lun();
+    if soonest.is_awaited(problem, own) {
+        let Ok(()) = notes.cert.write(soonest.token(), best.finish) else {
+            return Err(Stop::Memory);
+        };
+        standing.mark(own);
+        return Ok(());
+    }
+    if visit(problem, loads, step, best, &mut standing.asked, notes)? {
+        standing.improved = true;
+    }
+    Ok(())
 }
 
 // Looks below a step, and raises what its node asks; tells whether it found something.
 #[cycle(search)]
-fn search_below(
+fn visit(
     problem: &mut Problem,
     loads: &Loads,
     step: Move,
@@ -119,12 +185,12 @@ fn search_below(
     asked: &mut [u64; 8],
     notes: &mut Notes,
 ) -> Result<bool, Stop>
-    requires loads { AreLoads problem.old loads.now.of.items }
-    requires rising { Pairs (λ a b. a.id < b.id) problem.old.all }
+    requires at { IsAt problem.old loads.now best.old notes.old }
     requires step { IsStep problem.old step }
     ensures problem { OnOk result (problem.new ≡ problem.old) }
+    ensures visited { IfOk result (Visited problem.old step best.old best.new notes.old notes.new asked.old asked.new) }
+    ensures over { IfErr result (λ stop. stop ≡ Stop.Over → AreMore (moved problem.old step).problem best.old.finish (notes.old.limit - notes.old.opened + 1)) }
 {
-    let _limits = problem.bus_free();
     let start = problem.earliest(step);
     let count = problem.lun_count();
     let undo = problem.advance(step);
@@ -132,19 +198,31 @@ fn search_below(
     let behind = numbers_of(problem, step.lun(), start);
     problem.undo(undo);
     shown.demand.raise(&behind, count, asked);
-    if shown.improved {
-        match best.steps.push(Begun { step, start }) {
-            Ok(()) => {}
-            Err(_) => return Err(Stop::Memory),
-        }
-    }
+    let Ok(()) = add(best, Begun { step, start }, shown.improved) else {
+        return Err(Stop::Memory);
+    };
     Ok(shown.improved)
+}
+
+// Adds the step in front of those of the best schedule, where that was found behind it.
+fn add(best: &mut Best, begun: Begun, improved: bool) -> Result<(), AllocError>
+    ensures finish { best.new.finish ≡ best.old.finish }
+    ensures steps { OnOk result (improved ≡ true → best.new.steps.items ≡ best.old.steps.items ++ begun ∷ []) }
+    ensures kept { OnOk result (improved ≡ false → best.new ≡ best.old) }
+{
+    if improved {
+        best.steps.push(begun)?;
+    }
+    Ok(())
 }
 
 // How the phase stands of the move of that LUN that was made, and that started then.
 fn numbers_of(problem: &Problem, lun: u8, start: u64) -> Step
     requires { lun < length problem.now.problem.luns }
-    ensures { result.lun ≡ lun }
+    ensures lun { result.lun ≡ lun }
+    ensures start { result.start ≡ start }
+    ensures end { result.end ≡ problem.now.problem.bus_free }
+    ensures go { GoesOn problem.now.problem lun result.go }
 {
     let work = LunWork::of(problem, lun);
     let go = if work.is_some() { Some(work.go) } else { None };

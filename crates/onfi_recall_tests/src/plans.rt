@@ -3,9 +3,9 @@ ghost use Rattle.std.specs.Prelude.{◌≡◌, ◌≤◌};
 use onfi_addr::Place;
 use onfi_group::{Group, Rules};
 use onfi_known::check_known_text;
-use onfi_planner::plan;
+use onfi_planner::{PlanFault, plan};
 use onfi_problem::{LunState, Problem, ProblemFault};
-use onfi_recall::{PlanKnownFault, plan_known};
+use onfi_recall::plan_known;
 use onfi_request::Want;
 use onfi_samples::{sample_timing, want_of};
 use onfi_timing::Kind;
@@ -99,6 +99,6 @@ fn a_search_that_needs_more_nodes_is_over(rt: HostRuntime) -> Result<(), Fail> {
     let alloc = rt.alloc();
     let problem = six_reads(alloc)?;
     let over = plan_known(alloc, &problem, 100);
-    assert!(rt; matches!(over, Err(PlanKnownFault::Over { opened: 100 })));
+    assert!(rt; matches!(over, Err(PlanFault::Over { opened: 100 })));
     Ok(())
 }

@@ -1,15 +1,22 @@
-use Rattle.std.proofs.Common.{◌≡◌, ◌<◌, ap, sym, ◌∙◌, arith, subst, refl, length}
+use Rattle.std.proofs.Common.{◌≡◌, ◌<◌, ap, sym, ◌∙◌, arith, subst, length}
 use Rattle.std.specs.Prelude.{◌==◌}
 use Rattle.std.specs.List.{AllByRecursion as All}
+use Rattle.std.proofs.lemmas.Result.{err_from_is_err_and}
+use Rattle.std.proofs.lemmas.Bool.{eqb-true}
 use Rattle.onfi_problem.specs.Moves.{after}
 use Rattle.onfi_problem.specs.Position.{Position, move_of, restored}
 use Rattle.onfi_problem.specs.Left.{InLimits}
 use Rattle.onfi_problem.specs.Starts.{IsNamed}
-use Rattle.onfi_planner.specs.Planning.{work}
+use Rattle.onfi_schedule.specs.Runs.{Run}
+use Rattle.onfi_planner.specs.Planning.{work, run_of}
 use Rattle.onfi_bound.proofs.BusWork.{work_after}
 use Rattle.onfi_planner.proofs.Below.{handed_back}
 use Rattle.onfi_planner.proofs.Halfway.{steps_same, some_items}
+use Rattle.onfi_recall.proofs.Node.{done_run, step_run}
 use Rattle.onfi_recall.proofs.choosing.+run_by.Goals as goal
+
+pub returns-then-is_empty-clause-run : goal.returns-then-is_empty-clause-run
+returns-then-is_empty-clause-run t c = done_run c.args.problem.now c.steps-moves.result c.args.steps.now.items c.bus_free-bus_free.result c.bus_free-bus_free.ensures.limits.problem c.steps-moves.ensures.moves (eqb-true _ _ (sym c.if-is_empty.ensures)) c.requires.none c.bus_free-bus_free.ensures.value
 
 pub run_by-requires : goal.run_by-requires
 run_by-requires t c =
@@ -17,7 +24,7 @@ run_by-requires t c =
     let m = move_of x.groups c.choice-step.result in
     let less = work_after x.problem m c.bus_free-bus_free.ensures.limits.problem c.choice-step.ensures.move in
     let w : work c.advance-undo.new.self.problem ≡ work (after x.problem m) = ap (λ (z : Position). work z.problem) c.advance-undo.ensures.moved in
-    omega (arith, c.decreases, w, less)
+    (omega (arith, c.decreases, w, less), c.requires.none)
 
 pub choice-step-requires-clause-some : goal.choice-step-requires-clause-some
 choice-step-requires-clause-some t c = some_items c.as_slice.result.now (c.if-is_empty.ensures ∙ ap (λ z. length z == 0) (sym c.as_slice.ensures.value))
@@ -40,11 +47,23 @@ advance-undo-requires-clause-step t c = c.choice-step.ensures.move
 pub advance-undo-requires-clause-lun : goal.advance-undo-requires-clause-lun
 advance-undo-requires-clause-lun t c = c.choice-step.ensures.named.lun
 
+pub returns-in_err-finish-clause-run : goal.returns-in_err-finish-clause-run
+returns-in_err-finish-clause-run t c = rw (err_from_is_err_and c.from_residual.result c.from_residual.ensures.1).1 tt
+
+pub returns-in_err-push-clause-run : goal.returns-in_err-push-clause-run
+returns-in_err-push-clause-run t c = rw (err_from_is_err_and c.from_residual-in_err-push.result c.from_residual-in_err-push.ensures.1).1 tt
+
 pub undo-requires-clause-limits : goal.undo-requires-clause-limits
-undo-requires-clause-limits t c = subst (λ (z : Position). InLimits (restored z c.advance-undo.result).problem) (sym c.in_ok-finish.ensures) c.advance-undo.ensures.limits
+undo-requires-clause-limits t c = subst (λ (z : Position). InLimits (restored z c.advance-undo.result).problem) (sym c.in_ok-finish.ensures.problem) c.advance-undo.ensures.limits
 
 pub undo-requires-clause-lun : goal.undo-requires-clause-lun
-undo-requires-clause-lun t c = subst (λ (z : Position). c.advance-undo.result.lun < length z.problem.luns) (sym c.in_ok-finish.ensures) c.advance-undo.ensures.within
+undo-requires-clause-lun t c = subst (λ (z : Position). c.advance-undo.result.lun < length z.problem.luns) (sym c.in_ok-finish.ensures.problem) c.advance-undo.ensures.within
 
-pub returns : goal.returns
-returns t c = handed_back c.args.problem.now _ c.run_by.new.problem _ c.advance-undo.result c.in_ok-finish.ensures c.advance-undo.ensures.undo c.undo.ensures
+pub returns-clause-problem : goal.returns-clause-problem
+returns-clause-problem t c = handed_back c.args.problem.now _ c.run_by.new.problem _ c.advance-undo.result c.in_ok-finish.ensures.problem c.advance-undo.ensures.undo c.undo.ensures
+
+pub returns-clause-run : goal.returns-clause-run
+returns-clause-run t c =
+    let x = c.args.problem.now in
+    let run = subst (λ (z : Position). Run z.problem (run_of z.groups c.run_by.new.steps.items) c.in_ok-finish.finish) c.advance-undo.ensures.moved c.in_ok-finish.ensures.run in
+    step_run x (record { step = c.choice-step.result; start = c.earliest-start.result }) c.run_by.new.steps.items _ c.in_ok-finish.finish c.choice-step.ensures.move c.earliest-start.ensures c.in_ok-push.ensures.items run

@@ -1,5 +1,10 @@
-use Rattle.std.proofs.Common.{◌≡◌}
+use Rattle.std.proofs.Common.{◌≡◌, ◌≤◌}
+use Rattle.onfi_recall.specs.Walks.{IsRunOf}
 use Rattle.onfi_recall.proofs.choosing.best_of_rules.Given as goal
 
 abbrev pub invariant-loop-rule : goal.invariant-loop-rule
-invariant-loop-rule l = l.problem ≡ l.fn.problem
+invariant-loop-rule l = record {
+  problem : l.problem ≡ l.fn.problem;
+  run : IsRunOf l.fn.problem l.best;
+  sooner : l.best.finish ≤ l.fn.first.finish;
+}

@@ -1,4 +1,3 @@
-use Rattle.std.proofs.Common.{get_or}
 use Rattle.onfi_problem.specs.declared.moves.Move.TheVariants.{Next}
 use Rattle.onfi_planner.proofs.Choosing.{item_move, item_named}
 use Rattle.onfi_recall.proofs.choosing.choice.Goals as goal

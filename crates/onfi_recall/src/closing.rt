@@ -1,0 +1,126 @@
+//! What closes a node.
+
+ghost use Rattle.std.specs.Prelude.{◌≡◌, ◌≤◌, ◌<◌, ◌^◌, IfOk, IfSome, IfNone, length, ℕ};
+ghost use Rattle.onfi_group.specs.Words.{Pairs};
+ghost use Rattle.onfi_bound.specs.Loads.{AreLoads};
+ghost use Rattle.onfi_bound.specs.Reaching.{Reaches};
+ghost use Rattle.onfi_planner.specs.Opening.{IsOpen};
+ghost use Rattle.onfi_recall.specs.Walks.{ClosesBy, IsClosing};
+ghost use Rattle.onfi_known.specs.declared.token.TheConstants.{MOST_KNOWN as most};
+
+use crate::phases::Phases;
+use crate::records::Records;
+use onfi_bound::{Bound, Loads};
+use onfi_cert::LunNumber;
+use onfi_demand::{Demand, Window};
+use onfi_known::Token;
+use onfi_problem::Problem;
+use std::alloc::AllocError;
+
+/// A token that closes a node, and what that asks for.
+#[derive(Clone, Copy)]
+pub struct Closing {
+    pub token: Token,
+    pub demand: Demand,
+}
+
+/// The first that closes a node for the finish `e`, in ns: the bounds, the window bound, a node that is known.
+///
+/// # Errors
+/// Only where memory was refused.
+pub fn find_closing(
+    problem: &Problem,
+    loads: &Loads,
+    e: u64,
+    records: &Records,
+    phases: &mut Phases,
+) -> Result<Option<Closing>, AllocError>
+    requires loads { AreLoads problem.now loads.now.of.items }
+    requires rising { Pairs (λ a b. a.id < b.id) problem.now.all }
+    requires few { length records.now.nodes.items ≤ most }
+    ensures closing { IfOk result (λ found. IfSome found (IsClosing e problem.now records.now.nodes.items)) }
+    ensures open { IfOk result (λ found. IfNone found (IsOpen e problem.now.problem)) }
+{
+    let _limits = problem.bus_free();
+    if let Some(closing) = by_bound(problem, loads, e) {
+        return Ok(Some(closing));
+    }
+    if let Some(closing) = by_window(problem, e, phases)? {
+        return Ok(Some(closing));
+    }
+    Ok(by_known(problem, records))
+}
+
+// The first bound that reaches `e`.
+fn by_bound(problem: &Problem, loads: &Loads, e: u64) -> Option<Closing>
+    requires { AreLoads problem.now loads.now.of.items }
+    ensures closing { IfSome result (ClosesBy problem.now.problem e) }
+    ensures open { IfNone result (IsOpen e problem.now.problem) }
+{
+    match loads.closing(problem, e) {
+        None => None,
+        Some(bound) => Some(bound_closing(problem, bound, e)),
+    }
+}
+
+// The token of a bound that reaches `e`.
+fn bound_closing(problem: &Problem, bound: Bound, e: u64) -> Closing
+    requires { Reaches problem.now.problem e bound }
+    ensures { ClosesBy problem.now.problem e result }
+{
+    let _limits = problem.bus_free();
+    match bound {
+        Bound::Bus => Closing {
+            token: Token::Bus,
+            demand: Demand::of_bus_bound(problem, e),
+        },
+        Bound::Lead => Closing {
+            token: Token::Lead,
+            demand: Demand::of_lead(problem, e),
+        },
+        Bound::Trail => Closing {
+            token: Token::Trail,
+            demand: Demand::of_trail(problem, e),
+        },
+        Bound::Die(lun) => Closing {
+            token: Token::Die(LunNumber::of(lun)),
+            demand: Demand::of_die(problem, lun, e),
+        },
+    }
+}
+
+// A window that reaches `e`, where there is one.
+fn by_window(problem: &Problem, e: u64, phases: &mut Phases) -> Result<Option<Closing>, AllocError>
+    ensures { IfOk result (λ found. IfSome found (ClosesBy problem.now.problem e)) }
+{
+    let Some(window) = phases.window(problem, e)? else {
+        return Ok(None);
+    };
+    Ok(window_closing(problem, window, e))
+}
+
+// The token of a window that reaches `e`.
+fn window_closing(problem: &Problem, window: Window, e: u64) -> Option<Closing>
+    ensures { IfSome result (ClosesBy problem.now.problem e) }
+{
+    let Window { start, tail } = window;
+    if start >= 1 << 63 || tail >= 1 << 63 || !window.reaches(problem, e) {
+        return None;
+    }
+    let token = Token::Window { start, tail };
+    let demand = Demand::of_window(problem, window, e);
+    Some(Closing { token, demand })
+}
+
+// A node that is known, to which the same is left.
+fn by_known(problem: &Problem, records: &Records) -> Option<Closing>
+    requires rising { Pairs (λ a b. a.id < b.id) problem.now.all }
+    requires few { length records.now.nodes.items ≤ most }
+    ensures { (e : ℕ) → IfSome result (IsClosing e problem.now records.now.nodes.items) }
+{
+    let _limits = problem.bus_free();
+    let hit = records.find(problem)?;
+    let token = Token::Again(hit.number);
+    let demand = hit.demand;
+    Some(Closing { token, demand })
+}
