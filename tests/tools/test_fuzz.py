@@ -12,11 +12,13 @@ from pathlib import Path
 import support
 
 PLAN = "ONFIPLAN 1\\nfinish 7\\nONFICERT 1\\nU\\n"
+KNOWN = "ONFIPLAN 1\\nfinish 7\\nONFICERT 3 remember\\nU\\n"
 PROGRAM = """#!{python} -SI
 import sys
 text = sys.stdin.buffer.read()
 command = sys.argv[1]
 traced = "--trace" in sys.argv
+remembers = "--remember" in sys.argv
 def say(text, status):
     sys.stdout.write(text)
     sys.exit(status)
@@ -24,8 +26,8 @@ def say(text, status):
 """
 RIGHT = f"""
 if command == "check":
-    say("accepted 7\\n", 0) if text.endswith(b"{PLAN}") else say("refused plan 1\\n", 2)
-say("" if traced else "{PLAN}", 0)
+    say("accepted 7\\n", 0) if text.endswith(b"{KNOWN}" if remembers else b"{PLAN}") else say("refused plan 1\\n", 2)
+say("" if traced else "{KNOWN}" if remembers else "{PLAN}", 0)
 """
 
 
@@ -66,6 +68,11 @@ class Fuzz(unittest.TestCase):
     def test_a_plan_that_is_refused_is_a_miss(self) -> None:
         body = RIGHT.replace("accepted 7", "refused 1 Illegal").replace(", 0) if", ", 2) if")
         self.assert_missed(body, "check doesn't accept the plan")
+
+    def test_another_finish_of_a_plan_that_remembers_is_a_miss(self) -> None:
+        body = RIGHT.replace(KNOWN, KNOWN.replace("finish 7", "finish 6"))
+        body = body.replace('say("accepted 7\\n", 0)', 'say("accepted 6\\n" if remembers else "accepted 7\\n", 0)')
+        self.assert_missed(body, "of a plan that remembers is another than that of the plan")
 
     def test_a_sooner_finish_that_is_accepted_is_a_miss(self) -> None:
         body = RIGHT.replace('say("refused plan 1\\n", 2)', 'say("accepted 6\\n", 0)')

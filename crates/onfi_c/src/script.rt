@@ -71,13 +71,18 @@ pub extern "C" fn onfi_text_plan(
     bytes: &mut usize,
 ) -> u32
     ensures limited { IsBadLimit limit → (result ≡ bad_limit) × (answer.new ≡ answer.old) × (bytes.new ≡ 0) }
-    ensures answer { 1 ≤ limit → limit ≤ 1048576 → GivesAnswer (Plan limit trace) script.now answer.old answer.new bytes.new result }
+    ensures answer { 1 ≤ limit → limit ≤ 1048576 → GivesAnswer (Plan limit trace false) script.now answer.old answer.new bytes.new result }
 {
     if limit == 0 || limit > MOST_NODES {
         *bytes = 0;
         return BAD_LIMIT;
     }
-    give_answer(alloc, Command::Plan { limit, trace }, script, answer, bytes)
+    let command = Command::Plan {
+        limit,
+        trace,
+        remember: false,
+    };
+    give_answer(alloc, command, script, answer, bytes)
 }
 
 /// The bytes of a script and of a plan text behind it in, out the line that `onfi_sim check` prints. `bytes` tells how

@@ -6,6 +6,7 @@ pub mod SetupLemmas
 pub mod TextLemmas
 pub mod Told
 pub mod WordsLemmas
+pub mod CommandLemmas
 pub mod PartsLemmas
 pub mod NumbersLemmas
 pub mod LineLemmas

@@ -1,5 +1,5 @@
 -- What is found of a subcommand.
-use Rattle.std.proofs.Common.{◌≡◌, ℕ, List, Some, None, refl, sym, ap, ◌∙◌, subst}
+use Rattle.std.proofs.Common.{◌≡◌, ℕ, List, Some, None, refl, ap, ◌∙◌, subst}
 use Rattle.std.specs.Prelude.{Option, option_map, IsSomeAnd}
 use Rattle.clap.specs.Words.{Row, subcommand_of, subcommand_rows_of}
 use Rattle.clap.specs.Matches.{subcommand_name_of}

@@ -34,7 +34,7 @@ use Rattle.onfi_script.specs.declared.device.Device.{Device}
 use Rattle.onfi_script.specs.Device.{TellsDevice}
 use Rattle.onfi_script.specs.Setup.{names_absent, SetsUp}
 use Rattle.onfi_script.specs.PlanText.{plan_of, schedule_of}
-use Rattle.onfi_script.specs.Text.{Answer, memory, refused, planned, over, accepted, refused_for, refused_at, text_refused, known_text_refused}
+use Rattle.onfi_script.specs.Text.{Answer, memory, refused, planned, recalled, over, accepted, refused_for, refused_at, text_refused, known_text_refused}
 
 -- a fault of the script as a whole
 abbrev pub whole : ScriptFault → Refusal
@@ -43,41 +43,6 @@ whole fault = record { row = 0; fault = fault }
 -- the script is refused for this
 abbrev pub Refuses : ScriptFault → Answer → Type 0
 Refuses fault answer = answer ≡ refused (whole fault)
-
--- the text of an optimal schedule, its groups by rising first start, with tokens that show that none ends before it
-pub record Plans (p : Problem) (answer : Answer) : Type 0 where
-  pub schedule : Schedule
-  pub ends : ℕ
-  pub tokens : List Token
-  pub optimal : Optimal p schedule
-  pub finish : finish p schedule ≡ ends
-  pub rising : AreRising schedule.groups
-  pub certified : AcceptsTokens tokens p ends
-  pub text : answer ≡ planned p schedule ends tokens
-
--- the trace of an optimal schedule
-pub record Traces (p : Problem) (answer : Answer) : Type 0 where
-  pub schedule : Schedule
-  pub optimal : Optimal p schedule
-  pub is_trace : IsTrace p schedule answer.text
-  pub fine : answer.status ≡ 0
-
--- a trace or a plan, as asked for
-abbrev pub Prints : Bool → Problem → Answer → Type 0
-Prints true p answer = Traces p answer
-Prints false p answer = Plans p answer
-
--- one search with a limit tells that limit, where the tree of the problem has more nodes
-abbrev pub OneTells : ℕ → Problem → ℕ → Type 0
-OneTells limit p opened = (opened ≡ limit) × HasMoreNodes p limit
-
--- several workers with a limit for each part tell as over what `plan_split` tells
-abbrev pub PartsTell : ℕ → Problem → ℕ → Type 0
-PartsTell limit p opened = IsSplitOver p limit opened
-
--- a plan, or how many nodes were opened, where a search tells so
-abbrev pub AnswersPlan : (ℕ → Problem → ℕ → Type 0) → ℕ → Bool → Problem → Answer → Type 0
-AnswersPlan Tells limit trace p answer = Prints trace p answer ⊎ ((opened : ℕ) × Tells limit p opened × (answer ≡ over opened))
 
 -- the text is a certificate by which nothing ends before the schedule
 pub record IsAccepted (p : Problem) (s : Schedule) (text : List ℕ) : Type 0 where
@@ -92,6 +57,52 @@ pub record IsKnown (p : Problem) (s : Schedule) (text : List ℕ) : Type 0 where
   pub tokens : List KnownToken
   pub certificate : IsKnownCertificate text p.rules.strict tokens
   pub certified : ProvesTokens p.wants tokens p (finish p s)
+
+-- the text of an optimal schedule, its groups by rising first start, with tokens that show that none ends before it
+pub record Plans (p : Problem) (answer : Answer) : Type 0 where
+  pub schedule : Schedule
+  pub ends : ℕ
+  pub tokens : List Token
+  pub optimal : Optimal p schedule
+  pub finish : finish p schedule ≡ ends
+  pub rising : AreRising schedule.groups
+  pub certified : AcceptsTokens tokens p ends
+  pub text : answer ≡ planned p schedule ends tokens
+
+-- .. with a certificate that remembers states
+pub record Recalls (p : Problem) (answer : Answer) : Type 0 where
+  pub schedule : Schedule
+  pub ends : ℕ
+  pub certificate : List ℕ
+  pub finish : finish p schedule ≡ ends
+  pub rising : AreRising schedule.groups
+  pub known : IsKnown p schedule certificate
+  pub text : answer ≡ recalled schedule ends certificate
+
+-- the trace of an optimal schedule
+pub record Traces (p : Problem) (answer : Answer) : Type 0 where
+  pub schedule : Schedule
+  pub optimal : Optimal p schedule
+  pub is_trace : IsTrace p schedule answer.text
+  pub fine : answer.status ≡ 0
+
+-- a trace or a plan, as asked for; the plan of a search that remembers states has a certificate that does so too
+abbrev pub Prints : Bool → Bool → Problem → Answer → Type 0
+Prints true remember p answer = Traces p answer
+Prints false true p answer = Recalls p answer
+Prints false false p answer = Plans p answer
+
+-- one search with a limit tells that limit, where the tree of the problem has more nodes
+abbrev pub OneTells : ℕ → Problem → ℕ → Type 0
+OneTells limit p opened = (opened ≡ limit) × HasMoreNodes p limit
+
+-- several workers with a limit for each part tell as over what `plan_split` tells
+abbrev pub PartsTell : ℕ → Problem → ℕ → Type 0
+PartsTell limit p opened = IsSplitOver p limit opened
+
+-- a plan, or how many nodes were opened, where a search tells so
+abbrev pub AnswersPlan : (ℕ → Problem → ℕ → Type 0) → ℕ → Bool → Bool → Problem → Answer → Type 0
+AnswersPlan Tells limit trace remember p answer = Prints trace remember p answer ⊎ ((opened : ℕ) × Tells limit p opened × (answer ≡ over opened))
 
 -- a certificate is taken, one that remembers states or a plain one
 abbrev pub IsTaken : Bool → Problem → Schedule → List ℕ → Type 0
@@ -114,9 +125,11 @@ pub data AnswersSchedule (remember : Bool) (p : Problem) (s : Schedule) (ends : 
 abbrev pub AnswersCheck : Bool → Problem → List ℕ → Answer → Type 0
 AnswersCheck remember p text answer = MatchResult (plan_of p.wants text) (λ r. AnswersSchedule remember p (schedule_of p r.0) r.0.finish r.1 answer) (λ number. answer ≡ refused_at (codes "plan") number)
 
--- what the command asks for; `check` reads the plan text behind the script
+-- what the command asks for; a search that remembers states tells what one search tells, and `check` reads the plan text
+-- behind the script
 abbrev pub AnswersCommand : (ℕ → Problem → ℕ → Type 0) → Command → List ℕ → Problem → Answer → Type 0
-AnswersCommand Tells (Plan limit trace) text p answer = AnswersPlan Tells limit trace p answer
+AnswersCommand Tells (Plan limit trace false) text p answer = AnswersPlan Tells limit trace false p answer
+AnswersCommand Tells (Plan limit trace true) text p answer = AnswersPlan OneTells limit trace true p answer
 AnswersCommand Tells (Check remember) text p answer = AnswersCheck remember p text answer
 
 -- the answer to a problem: its first fault, or what the command asks for

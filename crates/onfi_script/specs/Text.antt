@@ -128,6 +128,10 @@ schedule_text s ends = codes "ONFIPLAN 1\n" ++ (codes "finish " ++ decimal ends)
 abbrev pub planned : ProblemOf → Schedule → ℕ → List Token → Answer
 planned p s ends tokens = record { text = schedule_text s ends ++ text_of p.rules.strict tokens; status = 0 }
 
+-- .. with the text of a certificate
+abbrev pub recalled : Schedule → ℕ → List ℕ → Answer
+recalled s ends certificate = record { text = schedule_text s ends ++ certificate; status = 0 }
+
 -- what is refused for this reason
 abbrev pub refused_for : List ℕ → Answer
 refused_for reason = record { text = codes "refused " ++ (reason ++ codes "\n"); status = 2 }

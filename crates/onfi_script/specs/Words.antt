@@ -1,8 +1,7 @@
 -- What the words of a command line name.
-use Rattle.std.specs.Prelude.{◌≡◌, ◌≤◌, ℕ, List, Bool, false, bytes_eq, Option, Some, None, IsSomeAnd, Ok, codes}
+use Rattle.std.specs.Prelude.{◌≡◌, ◌≤◌, ℕ, List, Bool, true, false, bytes_eq, Option, Some, None, IsSomeAnd, Ok, codes}
 use Rattle.clap.specs.Words.{App, Row as Used, Rule, first_of, new_app, new_rule, subcommand_of, with_rule, with_subcommand}
 use Rattle.clap.specs.declared.builder.ArgAction.TheVariants.{Set, SetTrue}
-use Rattle.onfi_script.specs.declared.command.Command.{Command}
 use Rattle.onfi_script.specs.declared.command.Command.TheVariants.{Plan, Check}
 use Rattle.onfi_script.specs.declared.command_line.Named.{Named}
 use Rattle.onfi_script.specs.declared.command_line.Named.TheVariants.{Problem, Run}
@@ -21,13 +20,13 @@ trace = record (new_rule (codes "trace")) { long = Some (codes "trace"); action 
 abbrev pub workers : Rule
 workers = record (new_rule (codes "workers")) { long = Some (codes "workers"); action = Some Set }
 
--- `plan [--limit N] [--trace] [--workers N]`
-abbrev pub plan : App
-plan = with_rule (with_rule (with_rule (new_app (codes "plan")) limit) trace) workers
-
 -- `--remember`
 abbrev pub remember : Rule
 remember = record (new_rule (codes "remember")) { long = Some (codes "remember"); action = Some SetTrue }
+
+-- `plan [--limit N] [--trace] [--workers N] [--remember]`
+abbrev pub plan : App
+plan = with_rule (with_rule (with_rule (with_rule (new_app (codes "plan")) limit) trace) workers) remember
 
 -- `check [--remember]`
 abbrev pub check : App
@@ -53,10 +52,11 @@ abbrev pub IsLimit : Option (List ℕ) → ℕ → Type 0
 IsLimit None n = n ≡ 1048576
 IsLimit (Some text) n = number 1 1048576 text ≡ Ok n
 
--- the number of workers that was given, 1 to 8; one where none was
-abbrev pub IsWorkers : Option (List ℕ) → ℕ → Type 0
-IsWorkers None n = n ≡ 1
-IsWorkers (Some text) n = number 1 8 text ≡ Ok n
+-- the number of workers that was given, 1 to 8; one where none was. A search that remembers states is given none
+abbrev pub IsWorkers : Bool → Option (List ℕ) → ℕ → Type 0
+IsWorkers remembers None n = n ≡ 1
+IsWorkers true (Some text) n = ⊥
+IsWorkers false (Some text) n = number 1 8 text ≡ Ok n
 
 -- the flag was given: its value is the word true
 abbrev pub is_given : Option (List ℕ) → Bool
@@ -70,7 +70,7 @@ IsInRange (Run limit) = (1 ≤ limit) × (limit ≤ 1048576)
 
 -- a subcommand with these arguments is what is named
 abbrev pub IsNamed : Named → List ℕ → List Used → Type 0
-IsNamed (Problem (Plan limit traced) workers) name used = (name ≡ codes "plan") × IsLimit (first_of (codes "limit") used) limit × (traced ≡ is_given (first_of (codes "trace") used)) × IsWorkers (first_of (codes "workers") used) workers
+IsNamed (Problem (Plan limit traced remembers) workers) name used = (name ≡ codes "plan") × IsLimit (first_of (codes "limit") used) limit × (traced ≡ is_given (first_of (codes "trace") used)) × (remembers ≡ is_given (first_of (codes "remember") used)) × IsWorkers remembers (first_of (codes "workers") used) workers
 IsNamed (Problem (Check remembers) workers) name used = (name ≡ codes "check") × (remembers ≡ is_given (first_of (codes "remember") used)) × (workers ≡ 1)
 IsNamed (Run limit) name used = (name ≡ codes "run") × IsLimit (first_of (codes "limit") used) limit
 

@@ -3,9 +3,8 @@ ghost use Rattle.std.specs.Prelude.{◌≡◌, ◌≤◌, ℕ, take, length, map
 ghost use Rattle.std.specs.Io.KnownBytes.{Appends, Keeps};
 ghost use Rattle.csv.specs.Records.{fields_of};
 ghost use Rattle.onfi_problem.specs.Left.{InLimits};
-ghost use Rattle.onfi_schedule.specs.Schedule.{Optimal};
 ghost use Rattle.onfi_script.specs.Text.{planned as spec_planned};
-ghost use Rattle.onfi_script.specs.Answer.{AnswersCheck, AnswersCommand, AnswersPlan, AnswersSchedule, Traces, Refuses, AnswersProblem, AnswersRows, AnswersRecords, IsAnswerBy, Answers, AnswersBy, BeginsAnswer, BeginsAnswerBy, PartsTell};
+ghost use Rattle.onfi_script.specs.Answer.{AnswersCheck, AnswersCommand, AnswersPlan, AnswersSchedule, Refuses, AnswersProblem, AnswersRows, AnswersRecords, IsAnswerBy, Answers, AnswersBy, BeginsAnswer, BeginsAnswerBy, PartsTell};
 ghost use Rattle.onfi_script.specs.AnswerOf.{answer_of};
 ghost use Rattle.onfi_script.specs.Device.{TellsDevice};
 ghost use Rattle.onfi_script.specs.Limit.{IsLimited};
@@ -17,7 +16,7 @@ use crate::fault::{Refusal, RowStop, ScriptFault, Stop};
 use crate::forms::device_of;
 use crate::plan_text::{PlanStop, read_plan};
 use crate::purpose::Purpose;
-use crate::remembered::judged_known;
+use crate::remembered::{judged_known, planned_known};
 use crate::row::Row;
 use crate::rows::rows;
 use crate::script::{behind_end, script_len};
@@ -26,13 +25,14 @@ use crate::setup::{Setup, absent, set_up};
 use crate::text::{
     Answer, accepted, over, plan_text, refused, refused_at, refused_for, text_refused,
 };
+use crate::traced::trace_answer;
 use crate::transfer::{EngineFault, InputFault, read_all, tell};
 use csv::ByteRecord;
 use onfi_cert::write;
 use onfi_check::check_text;
 use onfi_planner::{PlanFault, Planned};
 use onfi_problem::{Problem, ProblemFault};
-use onfi_schedule::{Schedule, trace};
+use onfi_schedule::Schedule;
 use onfi_timing::read_records;
 use std::alloc::{AllocError, Global};
 use std::io::{Read, Write};
@@ -54,15 +54,6 @@ fn plan_answer(alloc: Global, problem: &Problem, planned: &Planned) -> Result<An
     Ok(Answer { text, status: 0 })
 }
 
-/// The trace of a plan.
-fn trace_answer(alloc: Global, problem: &Problem, planned: &Planned) -> Result<Answer, AllocError>
-    requires { Optimal problem.now.problem planned.now.schedule }
-    ensures { IfOk result (λ a. Traces problem.now.problem (answer_of a)) }
-{
-    let text = trace(alloc, problem, &planned.schedule)?;
-    Ok(Answer { text, status: 0 })
-}
-
 /// The answer that plans a problem by a search with this limit of nodes.
 fn planned<S: Search>(
     alloc: Global,
@@ -74,10 +65,10 @@ fn planned<S: Search>(
     requires ready { S.ready search.now }
     requires some { 1 ≤ limit }
     requires few { limit ≤ 1048576 }
-    ensures { IfOk result (λ a. AnswersPlan S.tells limit traced problem.now.problem (answer_of a)) }
+    ensures { IfOk result (λ a. AnswersPlan S.tells limit traced false problem.now.problem (answer_of a)) }
 {
     match search.plan(alloc, problem, limit) {
-        Ok(planned) if traced => trace_answer(alloc, problem, &planned),
+        Ok(planned) if traced => trace_answer(alloc, problem, &planned.schedule),
         Ok(planned) => plan_answer(alloc, problem, &planned),
         Err(PlanFault::Over { opened }) => over(alloc, opened),
         Err(PlanFault::Memory) => Err(AllocError),
@@ -140,7 +131,16 @@ fn commanded<S: Search>(
     ensures { IfOk result (λ a. AnswersCommand S.tells command text.now problem.now.problem (answer_of a)) }
 {
     match command {
-        Command::Plan { limit, trace } => planned(alloc, search, problem, limit, trace),
+        Command::Plan {
+            limit,
+            trace,
+            remember: false,
+        } => planned(alloc, search, problem, limit, trace),
+        Command::Plan {
+            limit,
+            trace,
+            remember: true,
+        } => planned_known(alloc, problem, limit, trace),
         Command::Check { remember } => checked(alloc, remember, problem, text),
     }
 }
@@ -328,12 +328,17 @@ pub fn engine_split<T: Threads + Sync, R: Read, W: Write>(
     requires few { limit ≤ 1048576 }
     requires some_workers { 1 ≤ workers }
     requires few_workers { workers ≤ 8 }
-    ensures answer { IfOk result (λ status. AnswersBy PartsTell (Command.Plan limit trace) (R.remaining reader.old) (W.contents writer.old) (W.contents writer.new) status) }
+    ensures answer { IfOk result (λ status. AnswersBy PartsTell (Command.Plan limit trace false) (R.remaining reader.old) (W.contents writer.old) (W.contents writer.new) status) }
     ensures unread { result ≡ Err EngineFault.Read → Keeps (W.contents writer.old) (W.contents writer.new) }
-    ensures unwritten { result ≡ Err EngineFault.Write → BeginsAnswerBy PartsTell (Command.Plan limit trace) (R.remaining reader.old) (W.contents writer.old) (W.contents writer.new) }
+    ensures unwritten { result ≡ Err EngineFault.Write → BeginsAnswerBy PartsTell (Command.Plan limit trace false) (R.remaining reader.old) (W.contents writer.old) (W.contents writer.new) }
 {
     let team = Team { rt, workers };
-    engine_by(alloc, &team, Command::Plan { limit, trace }, reader, writer)
+    let command = Command::Plan {
+        limit,
+        trace,
+        remember: false,
+    };
+    engine_by(alloc, &team, command, reader, writer)
 }
 
 /// Reads all that there is, and writes the answer to it, with this search, and nothing else.

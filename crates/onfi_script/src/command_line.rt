@@ -43,13 +43,14 @@ fn option<'a>(alloc: Global, name: &'a str, action: ArgAction) -> Arg<'a>
     Arg::new(alloc, name).long(name).action(action)
 }
 
-/// The program with the command `plan [--limit N] [--trace] [--workers N]`.
+/// The program with the command `plan [--limit N] [--trace] [--workers N] [--remember]`.
 fn with_plan<'a>(alloc: Global) -> Result<App<'a>, AllocError>
     ensures { IfOk result (λ a. app_of a ≡ spec.with_plan) }
 {
     let plan = App::new(alloc, "plan").arg(option(alloc, "limit", ArgAction::Set))?;
     let plan = plan.arg(option(alloc, "trace", ArgAction::SetTrue))?;
     let plan = plan.arg(option(alloc, "workers", ArgAction::Set))?;
+    let plan = plan.arg(option(alloc, "remember", ArgAction::SetTrue))?;
     App::new(alloc, "onfi_sim").subcommand(plan)
 }
 
@@ -85,14 +86,17 @@ fn limit_of(matches: &ArgMatches<'_>) -> Result<u32, WordsFault>
     }
 }
 
-/// A number of workers in its range, or one where none is named.
-fn workers_of(matches: &ArgMatches<'_>) -> Result<usize, WordsFault>
+/// A number of workers in its range, or one where none is named; none may be named of a search that remembers states.
+fn workers_of(matches: &ArgMatches<'_>, remember: bool) -> Result<usize, WordsFault>
     ensures range { IfOk result (λ n. (1 ≤ n) × (n ≤ 8)) }
-    ensures value { IfOk result (λ n. spec.IsWorkers (first_value (found_of matches.now) (codes "workers")) n) }
+    ensures value { IfOk result (λ n. spec.IsWorkers remember (first_value (found_of matches.now) (codes "workers")) n) }
 {
     let Some(text) = matches.get_str("workers") else {
         return Ok(1);
     };
+    if remember {
+        return Err(WordsFault::Refused);
+    }
     match number(text.as_bytes(), 1, MOST_WORKERS) {
         Ok(workers) => Ok(workers as usize),
         Err(_) => Err(WordsFault::Refused),
@@ -141,9 +145,14 @@ pub fn words<'a>(alloc: Global, words: &'a [String]) -> Result<Named, WordsFault
     };
     if name == "plan" {
         let limit = limit_of(used)?;
-        let workers = workers_of(used)?;
+        let remember = is_given(used, "remember");
+        let workers = workers_of(used, remember)?;
         let trace = is_given(used, "trace");
-        let command = Command::Plan { limit, trace };
+        let command = Command::Plan {
+            limit,
+            trace,
+            remember,
+        };
         Ok(Named::Problem { command, workers })
     } else if name == "check" {
         let remember = is_given(used, "remember");

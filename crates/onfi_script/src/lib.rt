@@ -28,6 +28,7 @@ mod search;
 mod seen;
 mod setup;
 mod text;
+mod traced;
 mod transfer;
 
 pub use answering::{engine, engine_split};

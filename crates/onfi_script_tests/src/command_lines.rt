@@ -9,17 +9,43 @@ fn asked(alloc: Global, line: &str) -> Option<Result<Named, WordsFault>> {
     Some(words(alloc, given.as_slice()))
 }
 
-// Whether a command line asks for a plan within a limit, with or without its trace, by so many workers.
+// Whether a command line asks for a plan within a limit, with or without its trace, by so many workers, and by a search
+// that remembers nothing.
 fn asks_plan(alloc: Global, line: &str, within: u32, traced: bool, by: usize) -> bool {
     match asked(alloc, line) {
         Some(
             Ok(
                 Named::Problem {
-                    command: Command::Plan { limit, trace },
+                    command:
+                        Command::Plan {
+                            limit,
+                            trace,
+                            remember: false,
+                        },
                     workers,
                 },
             ),
         ) => limit == within && trace == traced && workers == by,
+        _ => false,
+    }
+}
+
+// Whether a command line asks for a plan by a search that remembers states, within a limit, with or without its trace.
+fn asks_recall(alloc: Global, line: &str, within: u32, traced: bool) -> bool {
+    match asked(alloc, line) {
+        Some(
+            Ok(
+                Named::Problem {
+                    command:
+                        Command::Plan {
+                            limit,
+                            trace,
+                            remember: true,
+                        },
+                    workers: 1,
+                },
+            ),
+        ) => limit == within && trace == traced,
         _ => false,
     }
 }
@@ -55,6 +81,8 @@ fn reads_the_command_line(rt: HostRuntime) {
     assert!(rt; asks_plan(alloc, "onfi_sim plan --limit 6 --trace", 6, true, 1));
     assert!(rt; asks_plan(alloc, "onfi_sim plan --workers 1", 1_048_576, false, 1));
     assert!(rt; asks_plan(alloc, "onfi_sim plan --workers 8 --limit 5", 5, false, 8));
+    assert!(rt; asks_recall(alloc, "onfi_sim plan --remember", 1_048_576, false));
+    assert!(rt; asks_recall(alloc, "onfi_sim plan --trace --remember --limit 5", 5, true));
     assert!(rt; asks_check(alloc, "onfi_sim check", false));
     assert!(rt; asks_check(alloc, "onfi_sim check --remember", true));
     assert!(rt; asks_run(alloc, "onfi_sim run", 1_048_576));
@@ -70,6 +98,10 @@ fn reads_the_command_line(rt: HostRuntime) {
         onfi_sim plan --workers 9\n\
         onfi_sim plan --workers +2\n\
         onfi_sim plan --workers 2 --workers 2\n\
+        onfi_sim plan --remember --remember\n\
+        onfi_sim plan --remember --workers 2\n\
+        onfi_sim plan --workers 1 --remember\n\
+        onfi_sim plan --remember true\n\
         onfi_sim check --workers 2\n\
         onfi_sim plan extra\n\
         onfi_sim plan --trace --trace\n\

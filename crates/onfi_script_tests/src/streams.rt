@@ -15,6 +15,7 @@ fn plan() -> Command
     Command::Plan {
         limit: 1_048_576,
         trace: false,
+        remember: false,
     }
 }
 

@@ -33,7 +33,7 @@ fn main(rt: HostRuntime) -> ExitCode {
         }
         Err(WordsFault::Refused) => {
             let _ = rt.eprintln(
-                "usage: onfi_sim plan [--limit N] [--trace] [--workers N] | onfi_sim check [--remember] | onfi_sim run [--limit N]",
+                "usage: onfi_sim plan [--limit N] [--trace] [--workers N | --remember] | onfi_sim check [--remember] | onfi_sim run [--limit N]",
             );
             return ExitCode::from(5);
         }
@@ -42,7 +42,7 @@ fn main(rt: HostRuntime) -> ExitCode {
     let answered = match named {
         Named::Run { limit } => run_freely(&rt, alloc, limit, &mut reader, &mut writer),
         Named::Problem {
-            command: Command::Plan { limit, trace },
+            command: Command::Plan { limit, trace, .. },
             workers,
         } if workers > 1 => {
             engine_split(&rt, alloc, limit, trace, workers, &mut reader, &mut writer)

@@ -1,4 +1,4 @@
-use Rattle.std.proofs.Common.{◌≡◌, ◌∷◌, sym, ap, ◌∙◌, true, false, codes}
+use Rattle.std.proofs.Common.{◌≡◌, ◌∷◌, sym, ap, ◌∙◌, false, codes}
 use Rattle.std.specs.Str.{bytes_eq}
 use Rattle.onfi_script.specs.Parts.{parts}
 use Rattle.onfi_script.specs.PlanLine.{finish_of_words}

@@ -1,0 +1,23 @@
+//! The answer that tells the trace of a plan.
+ghost use Rattle.std.specs.Prelude.{IfOk};
+ghost use Rattle.onfi_schedule.specs.Schedule.{Optimal};
+ghost use Rattle.onfi_script.specs.Answer.{Traces};
+ghost use Rattle.onfi_script.specs.AnswerOf.{answer_of};
+
+use crate::text::Answer;
+use onfi_problem::Problem;
+use onfi_schedule::{Schedule, trace};
+use std::alloc::{AllocError, Global};
+
+/// The trace of an optimal schedule.
+pub fn trace_answer(
+    alloc: Global,
+    problem: &Problem,
+    schedule: &Schedule,
+) -> Result<Answer, AllocError>
+    requires { Optimal problem.now.problem schedule.now }
+    ensures { IfOk result (λ a. Traces problem.now.problem (answer_of a)) }
+{
+    let text = trace(alloc, problem, schedule)?;
+    Ok(Answer { text, status: 0 })
+}
