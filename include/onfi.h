@@ -88,7 +88,12 @@ enum onfi_status {
     ONFI_SHEET_UNKNOWN = 82, /* A row of the sheet is no parameter with its value. */
     ONFI_SHEET_NOT_A_NUMBER = 83, /* The value of a row of the sheet is no number. */
     ONFI_SHEET_ZERO_CYCLE = 84, /* tWC or tRC is 0. */
-    ONFI_SHEET_TOO_LONG = 85 /* A value is 2^32 ns or more. */
+    ONFI_SHEET_TOO_LONG = 85, /* A value is 2^32 ns or more. */
+    /* certificates that remember states; the place is that of the token, counted from 0 */
+    ONFI_UNKNOWN_NODE = 90, /* No open node has ended as that number. */
+    ONFI_OTHER_LEFT = 91, /* Something else is left at the node that is named. */
+    ONFI_SOONER = 92, /* A LUN may go on sooner than is asked at the node that is named. */
+    ONFI_TOO_MANY_NODES = 93 /* More than 1,048,576 open nodes. */
 };
 
 /* What onfi_text_plan and onfi_text_check answer besides ONFI_DONE, ONFI_NO_ROOM, ONFI_MEMORY, ONFI_BAD_LIMIT and ONFI_OVER. */
@@ -212,6 +217,17 @@ uint32_t onfi_plan(const onfi_channel *channel, const onfi_lun *luns, size_t lun
                    uint32_t limit, onfi_planned *plan, uint8_t *certificate, size_t certificate_room, size_t *certificate_bytes);
 
 /*
+ * Plans as onfi_plan does, by a search that remembers states, and gives a certificate that does so too, for
+ * onfi_check_known. It answers in practice where onfi_plan is over, with certificates of some kilobytes, and promises
+ * neither. The search that finds the plan and the one that writes the certificate open at most `limit` nodes each;
+ * plan->opened tells how many the first opened.
+ *
+ * The same is told.
+ */
+uint32_t onfi_plan_known(const onfi_channel *channel, const onfi_lun *luns, size_t lun_count, const onfi_want *wants, size_t want_count,
+                         uint32_t limit, onfi_planned *plan, uint8_t *certificate, size_t certificate_room, size_t *certificate_bytes);
+
+/*
  * Checks by the text of a certificate that no legal schedule of the wants ends sooner than this one. Whoever made the two
  * need not be trusted.
  *
@@ -222,6 +238,15 @@ uint32_t onfi_plan(const onfi_channel *channel, const onfi_lun *luns, size_t lun
  */
 uint32_t onfi_check(const onfi_channel *channel, const onfi_lun *luns, size_t lun_count, const onfi_want *wants, size_t want_count,
                     const onfi_schedule *schedule, const uint8_t *certificate, size_t certificate_bytes, onfi_verdict *verdict);
+
+/*
+ * The same by the text of a certificate that remembers states; a plain one is ONFI_BAD_HEADER here, as one of these is
+ * there. Of each open node 80 bytes are kept until the call returns, so who bounds the text bounds the memory.
+ *
+ * The same is told, a fault of the tokens by the numbers from 90 on too, and never ONFI_TOO_MANY_TOKENS.
+ */
+uint32_t onfi_check_known(const onfi_channel *channel, const onfi_lun *luns, size_t lun_count, const onfi_want *wants, size_t want_count,
+                          const onfi_schedule *schedule, const uint8_t *certificate, size_t certificate_bytes, onfi_verdict *verdict);
 
 /*
  * Reads a device from the bytes of its parameter page, with as many redundant copies as there are, and from the text of a

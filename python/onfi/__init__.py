@@ -14,7 +14,7 @@ named like the refusal, a class of `Refused`. The library is that of the environ
 else the system's.
 """
 
-from onfi.calls import check, plan, text_check, text_plan, timing_of_page
+from onfi.calls import check, check_known, plan, plan_known, text_check, text_plan, timing_of_page
 from onfi.model import (
     Answer,
     Channel,
@@ -50,7 +50,9 @@ __all__ = [
     "Timing",
     "Want",
     "check",
+    "check_known",
     "plan",
+    "plan_known",
     "text_check",
     "text_plan",
     "timing_of_page",

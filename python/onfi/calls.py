@@ -58,8 +58,22 @@ def plan(channel: Channel, luns: Sequence[Lun], wants: Sequence[Want], limit: in
     Raises `BadLimit`; `ZeroSpan`, `LongSpan`; `BadPlaneBits`; `BadMembers`; `BadKind`; `TooMany`; `BadLun`; `Clock`;
     `Over`; `Memory`; the first of these. `ValueError` where a number doesn't fit its place in onfi.h.
     """
-    said, made = Problem(channel, luns, wants), CPlan()
-    call = library().onfi_plan
+    return planned(library().onfi_plan, Problem(channel, luns, wants), limit)
+
+
+def plan_known(channel: Channel, luns: Sequence[Lun], wants: Sequence[Want], limit: int = MOST_NODES) -> Plan:
+    """The same by a search that remembers states, with a certificate for `check_known`.
+
+    It answers in practice where `plan` raises `Over`; that isn't promised. The search that finds the plan and the one that
+    writes the certificate open at most `limit` nodes each; the plan tells how many the first opened.
+
+    Raises what `plan` does.
+    """
+    return planned(library().onfi_plan_known, Problem(channel, luns, wants), limit)
+
+
+def planned(call: Callable[..., int], said: Problem, limit: int) -> Plan:
+    made = CPlan()
     if not 0 <= limit < 1 << 32:
         raise refusal(5)
     status, certificate = with_room(lambda *room: call(*said.words, limit, ctypes.byref(made), *room))
@@ -75,8 +89,20 @@ def check(channel: Channel, luns: Sequence[Lun], wants: Sequence[Want], schedule
     `BadToken`, `TooManyTokens`, `OtherOption`; `Illegal`; `Short`, `Trailing`, `Width`, `BoundLow`, `YieldNoFit`,
     `YieldLoop`, `NotEnd`; `Memory`; those of a token have its place.
     """
-    said, verdict = Problem(channel, luns, wants), CVerdict()
-    status = library().onfi_check(*said.words, ctypes.byref(CSchedule.of(schedule)), certificate, len(certificate), ctypes.byref(verdict))
+    return judged(library().onfi_check, Problem(channel, luns, wants), schedule, certificate)
+
+
+def check_known(channel: Channel, luns: Sequence[Lun], wants: Sequence[Want], schedule: Schedule, certificate: bytes) -> int:
+    """The same by a certificate that remembers states.
+
+    Raises what `check` does but `TooManyTokens`; of the tokens `UnknownNode`, `OtherLeft`, `Sooner` and `TooManyNodes` too.
+    """
+    return judged(library().onfi_check_known, Problem(channel, luns, wants), schedule, certificate)
+
+
+def judged(call: Callable[..., int], said: Problem, schedule: Schedule, certificate: bytes) -> int:
+    verdict = CVerdict()
+    status = call(*said.words, ctypes.byref(CSchedule.of(schedule)), certificate, len(certificate), ctypes.byref(verdict))
     if status != DONE:
         raise refusal(status, verdict.place)
     return verdict.finish

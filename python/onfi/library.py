@@ -14,7 +14,9 @@ ROOM = (ctypes.c_void_p, SIZE, ctypes.POINTER(SIZE))
 PROBLEM = (ctypes.POINTER(CChannel), ctypes.POINTER(CLun), SIZE, ctypes.POINTER(CWant), SIZE)
 CALLS = {
     "onfi_plan": (*PROBLEM, ctypes.c_uint32, ctypes.POINTER(CPlan), *ROOM),
+    "onfi_plan_known": (*PROBLEM, ctypes.c_uint32, ctypes.POINTER(CPlan), *ROOM),
     "onfi_check": (*PROBLEM, ctypes.POINTER(CSchedule), BYTES, SIZE, ctypes.POINTER(CVerdict)),
+    "onfi_check_known": (*PROBLEM, ctypes.POINTER(CSchedule), BYTES, SIZE, ctypes.POINTER(CVerdict)),
     "onfi_timing_of_page": (BYTES, SIZE, BYTES, SIZE, ctypes.POINTER(CDevice), ctypes.POINTER(ctypes.c_uint64)),
     "onfi_text_plan": (BYTES, SIZE, ctypes.c_uint32, ctypes.c_bool, *ROOM),
     "onfi_text_check": (BYTES, SIZE, *ROOM),

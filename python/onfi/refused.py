@@ -269,6 +269,30 @@ class SheetTooLong(Refused):
     status = 85
 
 
+class UnknownNode(Refused):
+    """No open node has ended as that number."""
+
+    status = 90
+
+
+class OtherLeft(Refused):
+    """Something else is left at the node that is named."""
+
+    status = 91
+
+
+class Sooner(Refused):
+    """A LUN may go on sooner than is asked at the node that is named."""
+
+    status = 92
+
+
+class TooManyNodes(Refused):
+    """More than 1,048,576 open nodes."""
+
+    status = 93
+
+
 REFUSALS: Dict[int, Type[Refused]] = {
     it.status: it
     for it in (
@@ -314,6 +338,10 @@ REFUSALS: Dict[int, Type[Refused]] = {
         SheetNotANumber,
         SheetZeroCycle,
         SheetTooLong,
+        UnknownNode,
+        OtherLeft,
+        Sooner,
+        TooManyNodes,
     )
 }
 

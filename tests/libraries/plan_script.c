@@ -1,4 +1,5 @@
-/* plan_script < SCRIPT: the plan text of a script of the first form without faults, by onfi_plan, and checked by onfi_check. */
+/* plan_script [known] < SCRIPT: the plan text of a script of the first form without faults, by onfi_plan, and checked by onfi_check;
+ * with `known` by onfi_plan_known and onfi_check_known. */
 #include "script.h"
 
 static void print_starts(const uint64_t *starts, unsigned count)
@@ -25,15 +26,16 @@ static void print_plan(const onfi_planned *plan)
     }
 }
 
-int main(void)
+int main(int argc, char **argv)
 {
+    const bool known = argc > 1 && !strcmp(argv[1], "known");
     static problem p;
     static uint8_t certificate[1 << 22];
     onfi_planned plan;
     onfi_verdict verdict;
     size_t bytes;
     read_script(&p, stdin);
-    uint32_t status = onfi_plan(&p.channel, p.luns, p.lun_count, p.wants, p.want_count, ONFI_NODES, &plan, certificate, sizeof certificate, &bytes);
+    uint32_t status = (known ? onfi_plan_known : onfi_plan)(&p.channel, p.luns, p.lun_count, p.wants, p.want_count, ONFI_NODES, &plan, certificate, sizeof certificate, &bytes);
     if (status == ONFI_OVER) {
         printf("over %" PRIu32 "\n", ONFI_NODES);
         return 6;
@@ -42,6 +44,6 @@ int main(void)
         return (int)status;
     print_plan(&plan);
     fwrite(certificate, 1, bytes, stdout);
-    status = onfi_check(&p.channel, p.luns, p.lun_count, p.wants, p.want_count, &plan.schedule, certificate, bytes, &verdict);
+    status = (known ? onfi_check_known : onfi_check)(&p.channel, p.luns, p.lun_count, p.wants, p.want_count, &plan.schedule, certificate, bytes, &verdict);
     return status == ONFI_DONE && verdict.finish == plan.finish && verdict.place == 0 ? 0 : 10;
 }

@@ -43,26 +43,43 @@ static uint32_t plan_of(const problem *p, onfi_planned *plan, uint8_t *certifica
     return onfi_plan(&p->channel, p->luns, p->lun_count, p->wants, p->want_count, p->limit, plan, certificate, room, bytes);
 }
 
+typedef uint32_t plan_call(const onfi_channel *, const onfi_lun *, size_t, const onfi_want *, size_t, uint32_t, onfi_planned *, uint8_t *, size_t, size_t *);
+typedef uint32_t check_call(const onfi_channel *, const onfi_lun *, size_t, const onfi_want *, size_t, const onfi_schedule *, const uint8_t *, size_t, onfi_verdict *);
+
 /* A refused plan leaves all as it was, and there is no certificate. */
-static void refuses(const char *what, const problem *p, uint32_t wanted)
+static void refuses_plan(const char *what, plan_call *call, const problem *p, uint32_t wanted)
 {
     onfi_planned plan, before;
     uint8_t certificate[64], room[64];
     size_t bytes = 1;
-    onfi_verdict verdict = {1, 1};
     memset(&plan, 0xA5, sizeof plan);
     memset(certificate, 0x5A, sizeof certificate);
     memcpy(&before, &plan, sizeof plan);
     memcpy(room, certificate, sizeof room);
-    expect(what, plan_of(p, &plan, certificate, sizeof certificate, &bytes), wanted);
+    expect(what, call(&p->channel, p->luns, p->lun_count, p->wants, p->want_count, p->limit, &plan, certificate, sizeof certificate, &bytes), wanted);
     expect(what, bytes, 0);
     expect(what, (uint64_t)memcmp(&plan, &before, sizeof plan), 0);
     expect(what, (uint64_t)memcmp(room, certificate, sizeof room), 0);
-    if (wanted == ONFI_BAD_LIMIT || wanted == ONFI_OVER)
-        return;
+}
+
+static void refuses_check(const char *what, check_call *call, const problem *p, uint32_t wanted)
+{
+    static const uint8_t certificate[64];
     const onfi_schedule none = {.luns = 2};
-    expect(what, onfi_check(&p->channel, p->luns, p->lun_count, p->wants, p->want_count, &none, room, sizeof room, &verdict), wanted);
+    onfi_verdict verdict = {1, 1};
+    expect(what, call(&p->channel, p->luns, p->lun_count, p->wants, p->want_count, &none, certificate, sizeof certificate, &verdict), wanted);
     expect(what, verdict.finish + verdict.place, 0);
+}
+
+/* By plain certificates, and by those that remember states. */
+static void refuses(const char *what, const problem *p, uint32_t wanted)
+{
+    refuses_plan(what, onfi_plan, p, wanted);
+    refuses_plan(what, onfi_plan_known, p, wanted);
+    if (wanted == ONFI_BAD_LIMIT)
+        return;
+    refuses_check(what, onfi_check, p, wanted);
+    refuses_check(what, onfi_check_known, p, wanted);
 }
 
 static void channels(void)
@@ -70,7 +87,7 @@ static void channels(void)
     problem p = usual();
     p.limit = 0, refuses("limit 0", &p, ONFI_BAD_LIMIT);
     p.limit = ONFI_NODES + 1, refuses("a limit too high", &p, ONFI_BAD_LIMIT);
-    p.limit = 1, refuses("one node", &p, ONFI_OVER);
+    p.limit = 1, refuses_plan("one node", onfi_plan, &p, ONFI_OVER);
     p = usual(), p.channel.timing.read.cmd = 0, refuses("no command", &p, ONFI_ZERO_SPAN);
     p = usual(), p.channel.timing.erase.post = 0, refuses("no post", &p, ONFI_ZERO_SPAN);
     p = usual(), p.channel.timing.program.gap = UINT64_C(1) << 50, refuses("a long gap", &p, ONFI_LONG_SPAN);
@@ -152,6 +169,32 @@ static void schedules(void)
     expect("cut", check_of(&p, &plan.schedule, text, bytes - 1, &verdict), ONFI_BAD_TOKEN);
 }
 
+/* Two erases, one on each of two LUNs: the status of LUN 0 yields to LUN 1, so four open nodes end before the root's second move. */
+static void remembered(void)
+{
+    problem p = usual();
+    onfi_planned plan;
+    onfi_verdict verdict;
+    char text[256];
+    size_t bytes;
+    p.luns[1] = (onfi_lun){.since = 0};
+    for (unsigned at = 0; at < 2; at++)
+        p.wants[at] = (onfi_want){.id = at, .kind = ONFI_ERASE, .lun = (uint8_t)at};
+    expect("a plan that remembers", onfi_plan_known(&p.channel, p.luns, 2, p.wants, 2, ONFI_NODES, &plan, (uint8_t *)text, sizeof text, &bytes), ONFI_DONE);
+    expect("with its finish", plan.finish, 1500760);
+#define KNOWN(tokens) onfi_check_known(&p.channel, p.luns, 2, p.wants, 2, &plan.schedule, (const uint8_t *)(tokens), strlen(tokens), &verdict)
+    text[bytes] = 0;
+    expect("its certificate", KNOWN(text), ONFI_DONE);
+    expect("shows it", verdict.finish, 1500760);
+    expect("a node that was read", KNOWN("ONFICERT 3 remember\nB2 B2 Y1 B2 B1 X B1 X B2 R2 Y0\n"), ONFI_DONE);
+    expect("a node that is open", KNOWN("ONFICERT 3 remember\nB2 B2 Y1 B2 B1 X B1 X B2 R4 Y0\n"), ONFI_UNKNOWN_NODE);
+    expect("at its place", verdict.place, 9);
+    expect("a node with a status less", KNOWN("ONFICERT 3 remember\nB2 B2 Y1 B2 B1 X B1 X B2 R1 Y0\n"), ONFI_OTHER_LEFT);
+    expect("a plain certificate", KNOWN("ONFICERT 1\nL\n"), ONFI_BAD_HEADER);
+    expect("the other option", KNOWN("ONFICERT 4 strict remember\nL\n"), ONFI_OTHER_OPTION);
+    expect("where it isn't asked for", check_of(&p, &plan.schedule, text, bytes, &verdict), ONFI_BAD_HEADER);
+}
+
 static void devices(void)
 {
     static uint8_t page[768];
@@ -196,6 +239,7 @@ int main(void)
     channels();
     rooms();
     schedules();
+    remembered();
     devices();
     texts();
     printf("%u tried, %u failed\n", tried, failed);

@@ -20,7 +20,7 @@ PROGRAM = os.environ.get("ONFI_SIM", str(ROOT / "bin/onfi_sim"))
 os.environ["ONFI_LIBRARY"] = str(LIBRARY / "libonfi.so")
 
 import onfi  # noqa: E402
-from onfi_tools.cases import read_cases  # noqa: E402
+from onfi_tools.cases import single_cases  # noqa: E402
 
 STRICT = ["-Wall", "-Wextra", "-Werror", "-pedantic"]
 SANE = ["-fsanitize=address,undefined", "-fno-sanitize-recover=all", "-g"]
@@ -70,7 +70,7 @@ class Headers(unittest.TestCase):
 
     def test_shared_library_shows_its_calls_alone(self) -> None:
         told = run("nm", "-D", "--defined-only", str(LIBRARY / "libonfi.so")).stdout.decode().split()[2::3]
-        self.assertEqual(sorted(told), ["onfi_check", "onfi_plan", "onfi_status_text", "onfi_text_check", "onfi_text_plan", "onfi_timing_of_page"])
+        self.assertEqual(sorted(told), ["onfi_check", "onfi_check_known", "onfi_plan", "onfi_plan_known", "onfi_status_text", "onfi_text_check", "onfi_text_plan", "onfi_timing_of_page"])
 
     def test_numbers_are_those_of_python(self) -> None:
         source, made = Path(BUILT.name) / "numbers.c", Path(BUILT.name) / "numbers"
@@ -199,9 +199,21 @@ class Same(unittest.TestCase):
             self.assertEqual(plan_text(plan), wanted.stdout, script)
             self.assertEqual(onfi.check(channel, luns, wants, plan.schedule, plan.certificate), plan.finish, script)
 
+    def test_plans_that_remember(self) -> None:
+        draw, by_structs = random.Random(2), build(ROOT / "tests/libraries/plan_script.c")
+        for number in range(SCRIPTS):
+            script = drawn_script(draw)
+            wanted = run(PROGRAM, "plan", "--remember", given=script.encode())
+            c = run(by_structs, "known", given=script.encode())
+            self.assertEqual((c.stdout, c.returncode, c.stderr), (wanted.stdout, wanted.returncode, b""), script)
+            channel, luns, wants = said(script)
+            plan = onfi.plan_known(channel, luns, wants)
+            self.assertEqual(plan_text(plan), wanted.stdout, script)
+            self.assertEqual(onfi.check_known(channel, luns, wants, plan.schedule, plan.certificate), plan.finish, script)
+
     def test_cases_of_the_program(self) -> None:
         by_text, tried = example("script"), 0
-        for case in read_cases([]):
+        for case in single_cases([]):
             what = {(b"plan",): "plan", (b"plan", b"--trace"): "trace", (b"check",): "check"}.get(tuple(case.arguments))
             if not what:
                 continue

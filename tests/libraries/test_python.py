@@ -66,6 +66,21 @@ class Plans(unittest.TestCase):
         refused(onfi.BadLun, wants=[dataclasses.replace(WANTS[0], lun=2)])
         refused(onfi.Clock, dataclasses.replace(CHANNEL, bus_free=1 << 62))
 
+    def test_plan_and_check_that_remember(self) -> None:
+        plan = onfi.plan_known(CHANNEL, LUNS, WANTS)
+        self.assertEqual(plan.finish, onfi.plan(CHANNEL, LUNS, WANTS).finish)
+        self.assertTrue(plan.certificate.startswith(b"ONFICERT 3 remember\n"))
+        self.assertEqual(onfi.check_known(CHANNEL, LUNS, WANTS, plan.schedule, plan.certificate), plan.finish)
+        self.assertRaises(onfi.BadHeader, onfi.check, CHANNEL, LUNS, WANTS, plan.schedule, plan.certificate)
+        strict = onfi.plan_known(changed(CHANNEL, strict=True), LUNS, WANTS)
+        self.assertTrue(strict.certificate.startswith(b"ONFICERT 4 strict remember\n"))
+
+    def test_refusals_of_plans_that_remember(self) -> None:
+        programs = [onfi.Want(number, onfi.Kind.PROGRAM, number % 4, number) for number in range(8)]
+        self.assertRaises(onfi.Over, onfi.plan_known, CHANNEL, [onfi.Lun()] * 4, programs, 1)
+        self.assertRaises(onfi.BadLimit, onfi.plan_known, CHANNEL, LUNS, WANTS, 0)
+        self.assertRaises(onfi.BadLun, onfi.plan_known, CHANNEL, LUNS, [WANTS[1], WANTS[0]])
+
     def test_numbers_that_fit_no_place(self) -> None:
         for want in (dataclasses.replace(WANTS[0], block=65536), dataclasses.replace(WANTS[0], lun=-1), dataclasses.replace(WANTS[0], id=1 << 64)):
             self.assertRaises(ValueError, onfi.plan, CHANNEL, LUNS, [want])
@@ -94,6 +109,21 @@ class Checks(unittest.TestCase):
         self.refused(onfi.NotEnd, made, b"ONFICERT 1\nX\n")
         self.refused(onfi.Width, made, b"ONFICERT 1\nB99 X\n")
         self.refused(onfi.ZeroSpan, made, plan.certificate, channel=dataclasses.replace(CHANNEL, timing=dataclasses.replace(TIMING, read=onfi.Spans(1, 1, 1, 0))))
+
+    def test_refusals_that_remember(self) -> None:
+        plan = onfi.plan_known(CHANNEL, LUNS, WANTS)
+
+        def refused(name: type, certificate: bytes, place: int = 0) -> None:
+            with self.assertRaises(name) as told:
+                onfi.check_known(CHANNEL, LUNS, WANTS, plan.schedule, certificate)
+            self.assertEqual(told.exception.place, place)
+
+        refused(onfi.BadHeader, b"ONFICERT 1\nL\n")
+        refused(onfi.OtherOption, b"ONFICERT 4 strict remember\nL\n")
+        refused(onfi.BadToken, b"ONFICERT 3 remember\nW1\n")
+        refused(onfi.UnknownNode, b"ONFICERT 3 remember\nR0\n")
+        refused(onfi.BoundLow, b"ONFICERT 3 remember\nW0,0\n")
+        refused(onfi.NotEnd, b"ONFICERT 3 remember\nX\n")
 
     def test_two_starts_for_each_member(self) -> None:
         plan = onfi.plan(CHANNEL, LUNS, WANTS)

@@ -1,5 +1,5 @@
 -- What a caller is given for a problem that is to be planned.
-use Rattle.std.specs.Prelude.{◌≡◌, ◌≤◌, ℕ, List, length}
+use Rattle.std.specs.Prelude.{◌≡◌, ◌≤◌, ℕ, List, length, Bool, true, false}
 use Rattle.onfi_problem.specs.Problem.{Problem}
 use Rattle.onfi_schedule.specs.Schedule.{Schedule, Optimal, finish}
 use Rattle.onfi_cert.specs.declared.token.Token.{Token}
@@ -7,6 +7,7 @@ use Rattle.onfi_cert.specs.Text.{text_of}
 use Rattle.onfi_check.specs.Tree.{AcceptsTokens}
 use Rattle.onfi_planner.specs.Nodes.{HasMoreNodes, OpensNodes}
 use Rattle.onfi_planner.specs.Planning.{AreRising}
+use Rattle.onfi_script.specs.Answer.{IsKnown}
 use Rattle.onfi_c.specs.declared.channel.PlainChannel.{PlainChannel}
 use Rattle.onfi_c.specs.declared.lun.PlainWant.{PlainWant}
 use Rattle.onfi_c.specs.declared.lun.PlainLun.{PlainLun}
@@ -33,6 +34,19 @@ pub record IsPlan (p : Problem) (limit : ℕ) (plan : PlainPlan) (text : List �
   pub written : plan ≡ written_plan schedule (finish p schedule) plan.opened
   pub certificate : text ≡ text_of p.rules.strict tokens
 
+-- the same with the text of a certificate that remembers states
+pub record IsRecalled (p : Problem) (limit : ℕ) (plan : PlainPlan) (text : List ℕ) : Type 0 where
+  pub schedule : Schedule
+  pub known : IsKnown p schedule text
+  pub rising : AreRising schedule.groups
+  pub within : plan.opened ≤ limit
+  pub written : plan ≡ written_plan schedule (finish p schedule) plan.opened
+
+-- by a search that remembers states, or by one that doesn't
+abbrev pub IsPlanBy : Bool → Problem → ℕ → PlainPlan → List ℕ → Type 0
+IsPlanBy true p limit plan text = IsRecalled p limit plan text
+IsPlanBy false p limit plan text = IsPlan p limit plan text
+
 -- the tree of the problem has more nodes than may be opened; or memory ran out
 abbrev pub IsUnplanned : Problem → ℕ → Status → Type 0
 IsUnplanned p limit Over = HasMoreNodes p limit
@@ -46,12 +60,12 @@ pub data IsRefusedPlan (channel : PlainChannel) (luns : List PlainLun) (wants : 
   is_unplanned : 1 ≤ limit → limit ≤ 1048576 → (p : Problem) → IsSaid channel luns wants p → IsUnplanned p limit status → IsRefusedPlan channel luns wants limit status
 
 -- a plan of what is said
-pub record IsPlanSaid (channel : PlainChannel) (luns : List PlainLun) (wants : List PlainWant) (limit : ℕ) (plan : PlainPlan) (text : List ℕ) : Type 0 where
+pub record IsPlanSaid (remember : Bool) (channel : PlainChannel) (luns : List PlainLun) (wants : List PlainWant) (limit : ℕ) (plan : PlainPlan) (text : List ℕ) : Type 0 where
   pub some_limit : 1 ≤ limit
   pub few_limit : limit ≤ 1048576
   pub problem : Problem
   pub said : IsSaid channel luns wants problem
-  pub is_plan : IsPlan problem limit plan text
+  pub is_plan : IsPlanBy remember problem limit plan text
 
 -- a text is given where there is room for any
 pub data GivesAsked (text old new : List ℕ) (bytes result : ℕ) : Type 0 where
@@ -59,7 +73,7 @@ pub data GivesAsked (text old new : List ℕ) (bytes result : ℕ) : Type 0 wher
   unasked : length old ≡ 0 → bytes ≡ length text → new ≡ old → result ≡ 0 → GivesAsked text old new bytes result
 
 -- a caller is given a plan and its certificate, or a number that tells why there is none, and nothing else
-pub data GivesPlan (channel : PlainChannel) (luns : List PlainLun) (wants : List PlainWant) (limit : ℕ) (old new : PlainPlan) (room_old room_new : List ℕ) (bytes result : ℕ) : Type 0 where
-  gives : (text : List ℕ) → IsPlanSaid channel luns wants limit new text → GivesAsked text room_old room_new bytes result → GivesPlan channel luns wants limit old new room_old room_new bytes result
+pub data GivesPlan (remember : Bool) (channel : PlainChannel) (luns : List PlainLun) (wants : List PlainWant) (limit : ℕ) (old new : PlainPlan) (room_old room_new : List ℕ) (bytes result : ℕ) : Type 0 where
+  gives : (text : List ℕ) → IsPlanSaid remember channel luns wants limit new text → GivesAsked text room_old room_new bytes result → GivesPlan remember channel luns wants limit old new room_old room_new bytes result
   refuses : (status : Status) → IsRefusedPlan channel luns wants limit status → new ≡ old → room_new ≡ room_old → bytes ≡ 0 → result ≡ number_of status
-      → GivesPlan channel luns wants limit old new room_old room_new bytes result
+      → GivesPlan remember channel luns wants limit old new room_old room_new bytes result

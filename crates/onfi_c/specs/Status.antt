@@ -3,7 +3,7 @@ use Rattle.std.specs.Prelude.{ℕ, List, codes}
 use Rattle.onfi_timing.specs.declared.spans.SpanFault.{SpanFault}
 use Rattle.onfi_timing.specs.declared.spans.SpanFault.TheVariants.{Zero as ZeroLength, TooLong}
 use Rattle.onfi_c.specs.declared.status.Status.{Status}
-use Rattle.onfi_c.specs.declared.status.Status.TheVariants.{Done, NoRoom, Memory, BadLimit, Over, ZeroSpan, LongSpan, BadPlaneBits, BadKind, BadMembers, TooMany, BadLun, Clock, BadSchedule, BadHeader, BadToken, TooManyTokens, OtherOption, Illegal, Short, Trailing, Width, BoundLow, YieldNoFit, YieldLoop, NotEnd, PageShort, NoCopy, WideBus, NoStatusEnhanced, NoColumnEnhanced, NoMultiLun, LunCount, PlaneBits, Zero, RowTooWide, ColumnTooWide, TooLarge, SheetMissing, SheetRepeated, SheetUnknown, SheetNotANumber, SheetZeroCycle, SheetTooLong}
+use Rattle.onfi_c.specs.declared.status.Status.TheVariants.{Done, NoRoom, Memory, BadLimit, Over, ZeroSpan, LongSpan, BadPlaneBits, BadKind, BadMembers, TooMany, BadLun, Clock, BadSchedule, BadHeader, BadToken, TooManyTokens, OtherOption, Illegal, Short, Trailing, Width, BoundLow, YieldNoFit, YieldLoop, NotEnd, PageShort, NoCopy, WideBus, NoStatusEnhanced, NoColumnEnhanced, NoMultiLun, LunCount, PlaneBits, Zero, RowTooWide, ColumnTooWide, TooLarge, SheetMissing, SheetRepeated, SheetUnknown, SheetNotANumber, SheetZeroCycle, SheetTooLong, UnknownNode, OtherLeft, Sooner, TooManyNodes}
 
 abbrev pub number_of : Status → ℕ
 number_of Done = 0
@@ -50,6 +50,10 @@ number_of SheetUnknown = 82
 number_of SheetNotANumber = 83
 number_of SheetZeroCycle = 84
 number_of SheetTooLong = 85
+number_of UnknownNode = 90
+number_of OtherLeft = 91
+number_of Sooner = 92
+number_of TooManyNodes = 93
 
 -- what each says
 abbrev pub text_of : Status → List ℕ
@@ -97,6 +101,10 @@ text_of SheetUnknown = codes "a row of the sheet is no parameter with its value"
 text_of SheetNotANumber = codes "the value of a row of the sheet is no number"
 text_of SheetZeroCycle = codes "a cycle without length"
 text_of SheetTooLong = codes "a value of 2^32 ns or more"
+text_of UnknownNode = codes "a node that hasn't ended"
+text_of OtherLeft = codes "a node at which something else is left"
+text_of Sooner = codes "a node that goes on later"
+text_of TooManyNodes = codes "more than 1,048,576 open nodes"
 
 abbrev pub spans_status : SpanFault → Status
 spans_status ZeroLength = ZeroSpan

@@ -10,6 +10,7 @@ mod checking;
 mod device;
 mod lun;
 mod planning;
+mod recalling;
 mod refusal;
 mod room;
 mod said;

@@ -1,10 +1,11 @@
 //! Plans of problems that plain structs say.
-ghost use Rattle.std.specs.Prelude.{◌≡◌, ◌≤◌, IfOk, IfErr};
+ghost use Rattle.std.specs.Prelude.{◌≡◌, ◌≤◌, true, false, IfOk, IfErr};
 ghost use Rattle.onfi_cert.specs.Text.{text_of};
-ghost use Rattle.onfi_c.specs.Planned.{GivesAsked, GivesPlan, IsPlan, IsPlanSaid, IsRefusedPlan, IsUnplanned};
+ghost use Rattle.onfi_c.specs.Planned.{GivesAsked, GivesPlan, IsPlan, IsPlanBy, IsPlanSaid, IsRefusedPlan, IsUnplanned};
 
 use crate::channel::PlainChannel;
 use crate::lun::{PlainLun, PlainWant};
+use crate::recalling::tell_known;
 use crate::room::give;
 use crate::said::problem_of;
 use crate::schedule::PlainPlan;
@@ -44,28 +45,45 @@ fn tell(alloc: Global, problem: &Problem, limit: u32) -> Result<Told, Status>
     let Ok(text) = certificate(alloc, problem.rules().strict, &planned) else {
         return Err(Status::Memory);
     };
-    let Ok(plan) = written::plan(alloc, problem, &planned) else {
+    let (finish, opened) = (planned.finish, planned.opened);
+    let Ok(plan) = written::plan(alloc, problem, &planned.schedule, finish, opened) else {
         return Err(Status::Memory);
     };
     Ok(Told { plan, text })
 }
 
+/// A plan by a search that remembers states where `remember` says so, as it is told.
+fn tell_by(alloc: Global, remember: bool, problem: &Problem, limit: u32) -> Result<Told, Status>
+    requires some { 1 ≤ limit }
+    requires few { limit ≤ 1048576 }
+    requires begun { problem.now.all ≡ problem.now.problem.wants }
+    ensures plan { IfOk result (λ t. IsPlanBy remember problem.now.problem limit t.plan t.text.items) }
+    ensures none { IfErr result (λ status. IsUnplanned problem.now.problem limit status) }
+{
+    if remember {
+        tell_known(alloc, problem, limit)
+    } else {
+        tell(alloc, problem, limit)
+    }
+}
+
 /// A plan of what is said.
 fn tell_said(
     alloc: Global,
+    remember: bool,
     channel: &PlainChannel,
     luns: &[PlainLun],
     wants: &[PlainWant],
     limit: u32,
 ) -> Result<Told, Status>
-    ensures plan { IfOk result (λ t. IsPlanSaid channel.now luns.now wants.now limit t.plan t.text.items) }
+    ensures plan { IfOk result (λ t. IsPlanSaid remember channel.now luns.now wants.now limit t.plan t.text.items) }
     ensures none { IfErr result (λ status. IsRefusedPlan channel.now luns.now wants.now limit status) }
 {
     if limit == 0 || limit > MOST_NODES {
         return Err(Status::BadLimit);
     }
     match problem_of(alloc, channel, luns, wants) {
-        Ok(problem) => tell(alloc, &problem, limit),
+        Ok(problem) => tell_by(alloc, remember, &problem, limit),
         Err(status) => Err(status),
     }
 }
@@ -79,6 +97,32 @@ fn give_asked(text: &[u8], room: &mut [u8], bytes: &mut usize) -> u32
         return 0;
     }
     give(text, 0, room, bytes)
+}
+
+/// Gives a plan of what is said, and its certificate where there is room for any byte.
+fn give_plan(
+    alloc: Global,
+    remember: bool,
+    channel: &PlainChannel,
+    luns: &[PlainLun],
+    wants: &[PlainWant],
+    limit: u32,
+    plan: &mut PlainPlan,
+    certificate: &mut [u8],
+    bytes: &mut usize,
+) -> u32
+    ensures { GivesPlan remember channel.now luns.now wants.now limit plan.old plan.new certificate.old certificate.new bytes.new result }
+{
+    match tell_said(alloc, remember, channel, luns, wants, limit) {
+        Ok(told) => {
+            *plan = told.plan;
+            give_asked(told.text.as_slice(), certificate, bytes)
+        }
+        Err(status) => {
+            *bytes = 0;
+            status.number()
+        }
+    }
 }
 
 /// Plans the wants of a channel: the schedule that no legal schedule beats, when it ends, how many nodes the search
@@ -98,16 +142,48 @@ pub extern "C" fn onfi_plan(
     certificate: &mut [u8],
     bytes: &mut usize,
 ) -> u32
-    ensures { GivesPlan channel.now luns.now wants.now limit plan.old plan.new certificate.old certificate.new bytes.new result }
+    ensures { GivesPlan false channel.now luns.now wants.now limit plan.old plan.new certificate.old certificate.new bytes.new result }
 {
-    match tell_said(alloc, channel, luns, wants, limit) {
-        Ok(told) => {
-            *plan = told.plan;
-            give_asked(told.text.as_slice(), certificate, bytes)
-        }
-        Err(status) => {
-            *bytes = 0;
-            status.number()
-        }
-    }
+    give_plan(
+        alloc,
+        false,
+        channel,
+        luns,
+        wants,
+        limit,
+        plan,
+        certificate,
+        bytes,
+    )
+}
+
+/// Plans the wants of a channel as [`onfi_plan`] does, by a search that remembers states, with the text of a certificate
+/// that does so too; the search that finds the plan and the one that writes the certificate open at most `limit` nodes
+/// each, and the plan tells how many the first opened.
+///
+/// Answers what `onfi_plan` does.
+#[unsafe(no_mangle)]
+pub extern "C" fn onfi_plan_known(
+    alloc: Global,
+    channel: &PlainChannel,
+    luns: &[PlainLun],
+    wants: &[PlainWant],
+    limit: u32,
+    plan: &mut PlainPlan,
+    certificate: &mut [u8],
+    bytes: &mut usize,
+) -> u32
+    ensures { GivesPlan true channel.now luns.now wants.now limit plan.old plan.new certificate.old certificate.new bytes.new result }
+{
+    give_plan(
+        alloc,
+        true,
+        channel,
+        luns,
+        wants,
+        limit,
+        plan,
+        certificate,
+        bytes,
+    )
 }

@@ -2,6 +2,7 @@
 use crate::status::Status;
 use onfi_cert::CertTextFault;
 use onfi_check::{CertFault, TextFault};
+use onfi_known::{KnownFault, KnownTextFault};
 
 /// What a call tells, and the place that it speaks of; 0 where it speaks of none.
 #[derive(Clone, Copy)]
@@ -12,7 +13,7 @@ pub struct Refusal {
 
 impl Refusal {
     ghost use Rattle.std.specs.Prelude.{◌≡◌};
-    ghost use Rattle.onfi_c.specs.Refusal.{whole, cert_refusal, cert_text_refusal, text_refusal};
+    ghost use Rattle.onfi_c.specs.Refusal.{whole, cert_refusal, cert_text_refusal, text_refusal, known_refusal, known_text_refusal};
 
     /// What speaks of no place.
     pub fn whole(status: Status) -> Refusal
@@ -65,6 +66,46 @@ impl Refusal {
             TextFault::Text(fault) => Refusal::of_cert_text(fault),
             TextFault::Option => Refusal::whole(Status::OtherOption),
             TextFault::Cert(fault) => Refusal::of_cert(fault),
+        }
+    }
+
+    /// What tells a fault of the tokens of a certificate that remembers states, with its place.
+    fn of_known(fault: KnownFault) -> Refusal
+        ensures { result ≡ known_refusal fault }
+    {
+        let (status, place) = match fault {
+            KnownFault::Illegal => return Refusal::whole(Status::Illegal),
+            KnownFault::Short => return Refusal::whole(Status::Short),
+            KnownFault::Memory => return Refusal::whole(Status::Memory),
+            KnownFault::Trailing(place) => (Status::Trailing, place),
+            KnownFault::Width(place) => (Status::Width, place),
+            KnownFault::BoundLow(place) => (Status::BoundLow, place),
+            KnownFault::YieldNoFit(place) => (Status::YieldNoFit, place),
+            KnownFault::YieldLoop(place) => (Status::YieldLoop, place),
+            KnownFault::NotEnd(place) => (Status::NotEnd, place),
+            KnownFault::Unknown(place) => (Status::UnknownNode, place),
+            KnownFault::OtherLeft(place) => (Status::OtherLeft, place),
+            KnownFault::Sooner(place) => (Status::Sooner, place),
+            KnownFault::TooMany(place) => (Status::TooManyNodes, place),
+        };
+        Refusal {
+            status,
+            place: place as u64,
+        }
+    }
+
+    /// What tells why the text of a certificate that remembers states doesn't show that a schedule ends first.
+    pub fn of_known_text(fault: KnownTextFault) -> Refusal
+        ensures { result ≡ known_text_refusal fault }
+    {
+        match fault {
+            KnownTextFault::Header => Refusal::whole(Status::BadHeader),
+            KnownTextFault::BadToken(place) => Refusal {
+                status: Status::BadToken,
+                place: place as u64,
+            },
+            KnownTextFault::Option => Refusal::whole(Status::OtherOption),
+            KnownTextFault::Cert(fault) => Refusal::of_known(fault),
         }
     }
 }

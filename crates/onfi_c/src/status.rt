@@ -95,10 +95,18 @@ pub enum Status {
     SheetZeroCycle,
     /// A value is 2^32 ns or more.
     SheetTooLong,
+    /// No open node has ended as that number.
+    UnknownNode,
+    /// Something else is left at the node that is named.
+    OtherLeft,
+    /// A LUN may go on sooner than is asked at the node that is named.
+    Sooner,
+    /// More than 1,048,576 open nodes.
+    TooManyNodes,
 }
 
 /// Each of them.
-pub const ALL: [Status; 44] = [
+pub const ALL: [Status; 48] = [
     Status::Done,
     Status::NoRoom,
     Status::Memory,
@@ -143,6 +151,10 @@ pub const ALL: [Status; 44] = [
     Status::SheetNotANumber,
     Status::SheetZeroCycle,
     Status::SheetTooLong,
+    Status::UnknownNode,
+    Status::OtherLeft,
+    Status::Sooner,
+    Status::TooManyNodes,
 ];
 
 impl Status {
@@ -195,6 +207,10 @@ impl Status {
             Status::SheetNotANumber => 83,
             Status::SheetZeroCycle => 84,
             Status::SheetTooLong => 85,
+            Status::UnknownNode => 90,
+            Status::OtherLeft => 91,
+            Status::Sooner => 92,
+            Status::TooManyNodes => 93,
         }
     }
 
@@ -249,6 +265,10 @@ impl Status {
             Status::SheetNotANumber => "the value of a row of the sheet is no number",
             Status::SheetZeroCycle => "a cycle without length",
             Status::SheetTooLong => "a value of 2^32 ns or more",
+            Status::UnknownNode => "a node that hasn't ended",
+            Status::OtherLeft => "a node at which something else is left",
+            Status::Sooner => "a node that goes on later",
+            Status::TooManyNodes => "more than 1,048,576 open nodes",
         }
     }
 

@@ -5,7 +5,6 @@ ghost use Rattle.onfi_problem.specs.Left.{InLimits};
 ghost use Rattle.onfi_c.specs.Written as spec;
 
 use crate::schedule::{PlainGroup, PlainPlan, PlainRest, PlainSchedule};
-use onfi_planner::Planned;
 use onfi_problem::Problem;
 use onfi_request::Want;
 use onfi_schedule::{Placed, Schedule, Starts};
@@ -130,15 +129,22 @@ fn is_small(problem: &Problem, of: &Schedule)
     let _ = of.rest();
 }
 
-/// A plan of the problem.
-pub fn plan(alloc: Global, problem: &Problem, planned: &Planned) -> Result<PlainPlan, AllocError>
-    requires { Optimal problem.now.problem planned.now.schedule }
-    ensures { IfOk result (λ p. p ≡ spec.written_plan planned.now.schedule planned.now.finish planned.now.opened) }
+/// A plan of the problem: its schedule, when it ends, in ns, and how many nodes the search opened.
+pub fn plan(
+    alloc: Global,
+    problem: &Problem,
+    planned: &Schedule,
+    finish: u64,
+    opened: u32,
+) -> Result<PlainPlan, AllocError>
+    requires { Optimal problem.now.problem planned.now }
+    ensures { IfOk result (λ p. p ≡ spec.written_plan planned.now finish opened) }
 {
-    is_small(problem, &planned.schedule);
+    is_small(problem, planned);
+    let schedule = schedule(alloc, planned)?;
     Ok(PlainPlan {
-        schedule: schedule(alloc, &planned.schedule)?,
-        finish: planned.finish,
-        opened: planned.opened,
+        schedule,
+        finish,
+        opened,
     })
 }

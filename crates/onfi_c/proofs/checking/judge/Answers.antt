@@ -14,18 +14,18 @@ pub returns-in_default-clause-refused : goal.returns-in_default-clause-refused
 returns-in_default-clause-refused c =
     is_memory c.in-Ok.problem.problem c.in-Ok.ensures.said (sym c.is_bad_schedule.ensures ∙ c.if-is_bad_schedule.false) c.whole-in_default.ensures
 
-pub returns-in-Ok-check_text-clause-accepted : goal.returns-in-Ok-check_text-clause-accepted
-returns-in-Ok-check_text-clause-accepted c =
+pub returns-clause-accepted : goal.returns-clause-accepted
+returns-clause-accepted c =
     let p = c.in-Ok.problem in
     let s = c.in-Ok-schedule_of.schedule in
     let same = schedule_is p.problem p.all c.wants.result.now c.args.schedule.now s c.wants.ensures.value c.in-Ok.ensures.begun c.in-Ok-schedule_of.ensures in
-    accepted_said c.args.channel.now c.args.luns.now c.args.wants.now c.args.schedule.now c.args.certificate.now p.problem s c.in-Ok-check_text.finish
-    c.in-Ok.ensures.said (sym c.is_bad_schedule.ensures ∙ c.if-is_bad_schedule.false) same c.in-Ok-check_text.ensures.optimal c.in-Ok-check_text.ensures.accepted
+    accepted_said c.args.remember c.args.channel.now c.args.luns.now c.args.wants.now c.args.schedule.now c.args.certificate.now p.problem s c.judge_by.result
+    c.in-Ok.ensures.said (sym c.is_bad_schedule.ensures ∙ c.if-is_bad_schedule.false) same c.judge_by.ensures.taken
 
 pub returns-clause-refused : goal.returns-clause-refused
 returns-clause-refused c =
     let p = c.in-Ok.problem in
     let s = c.in-Ok-schedule_of.schedule in
     let same = schedule_is p.problem p.all c.wants.result.now c.args.schedule.now s c.wants.ensures.value c.in-Ok.ensures.begun c.in-Ok-schedule_of.ensures in
-    refused_said c.args.channel.now c.args.luns.now c.args.wants.now c.args.schedule.now c.args.certificate.now p.problem s c.in-Err-check_text.fault c.of_text.result
-    c.in-Ok.ensures.said (sym c.is_bad_schedule.ensures ∙ c.if-is_bad_schedule.false) same c.in-Err-check_text.ensures.fault c.of_text.ensures
+    refused_said c.args.remember c.args.channel.now c.args.luns.now c.args.wants.now c.args.schedule.now c.args.certificate.now p.problem s c.judge_by.result
+    c.in-Ok.ensures.said (sym c.is_bad_schedule.ensures ∙ c.if-is_bad_schedule.false) same c.judge_by.ensures.refused

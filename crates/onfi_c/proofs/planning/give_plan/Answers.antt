@@ -1,6 +1,6 @@
 use Rattle.std.proofs.Common.{refl, subst}
 use Rattle.onfi_c.specs.Planned.{GivesAsked, gives, refuses}
-use Rattle.onfi_c.proofs.planning.onfi_plan.Goals as goal
+use Rattle.onfi_c.proofs.planning.give_plan.Goals as goal
 
 pub returns-in-Ok : goal.returns-in-Ok
 returns-in-Ok c =
