@@ -1,5 +1,5 @@
 -- From what the checker says to what a caller is told.
-use Rattle.std.proofs.Common.{◌≡◌, ℕ, List, Bool, false, sym, subst, ap, ◌∙◌}
+use Rattle.std.proofs.Common.{◌≡◌, ℕ, List, Bool, false, subst, ap, ◌∙◌}
 use Rattle.std.specs.Prelude.{IfOk, IfErr, Result}
 use Rattle.std.proofs.lemmas.Result.{IfOk-weaker, IfErr-weaker}
 use Rattle.onfi_problem.specs.Problem.{Problem}

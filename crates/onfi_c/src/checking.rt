@@ -82,15 +82,7 @@ fn tell_verdict(
 ) -> u32
     ensures { GivesVerdict remember channel.now luns.now wants.now schedule.now certificate.now verdict.new result }
 {
-    match judge(
-        alloc,
-        remember,
-        channel,
-        luns,
-        wants,
-        schedule,
-        certificate,
-    ) {
+    match judge(alloc, remember, channel, luns, wants, schedule, certificate) {
         Ok(finish) => {
             *verdict = PlainVerdict { finish, place: 0 };
             0
