@@ -61,6 +61,20 @@ sys.exit(3 if stopped else 0)
 """
 
 
+OVER = """
+if IS_OVER:
+    for channel in sorted(set(row[2] for row in rows if row[0] == "op")):
+        print("over," + channel + "," + str(COUNT))
+    print("closed")
+    sys.exit(6)
+"""
+
+
+def over(where: str, count: str) -> str:
+    """Each channel with an operation is over there, with so many nodes, before it answers anything."""
+    return OVER.replace("IS_OVER", where).replace("COUNT", count)
+
+
 def soaked(spoilt: str, *words: str, scripts: int = 30) -> Tuple[int, str]:
     """Status and output of the tool on a program that does this with its lines before it prints them."""
     with tempfile.TemporaryDirectory() as folder:
@@ -123,6 +137,16 @@ class Soak(unittest.TestCase):
 
     def test_a_stop_told_as_a_closing_is_told(self) -> None:
         self.assert_told("stopped = {}", "the lines behind the replies")
+
+    def test_a_channel_within_a_few_nodes_may_be_over(self) -> None:
+        status, said = soaked(over('"--limit" in sys.argv', "sys.argv[-1]"))
+        self.assertEqual((status, said.splitlines()[-1]), (0, "30 passed, 0 failed"))
+
+    def test_another_limit_is_told(self) -> None:
+        self.assert_told(over('"--limit" in sys.argv', "int(sys.argv[-1]) - 1"), "the lines behind the replies")
+
+    def test_a_channel_that_is_over_without_a_limit_is_told(self) -> None:
+        self.assert_told(over('"--limit" not in sys.argv', "1048576"), "the lines behind the replies")
 
     def test_another_cause_is_told(self) -> None:
         self.assert_told('stopped = dict.fromkeys(stopped, "Clock")', "the lines behind the replies")

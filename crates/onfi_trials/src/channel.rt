@@ -19,14 +19,17 @@ enum Act {
     Read,
     Program,
     Accept,
+    /// On channel 1, which isn't there.
+    AcceptElsewhere,
     Plan,
     Bus,
     Post,
     Collect,
 }
 
-/// A read from its submission to its collection, each refusal on the way, then a program, which leaves something.
-const ACTS: [Act; 21] = [
+/// A read from its submission to its collection, each refusal on the way, then another read, and a program, which leaves
+/// something.
+const ACTS: [Act; 29] = [
     Act::Read,
     Act::Read,
     Act::Accept,
@@ -40,6 +43,14 @@ const ACTS: [Act; 21] = [
     Act::Bus,
     Act::Post,
     Act::Collect,
+    Act::Collect,
+    Act::AcceptElsewhere,
+    Act::Read,
+    Act::Accept,
+    Act::Plan,
+    Act::Bus,
+    Act::Bus,
+    Act::Post,
     Act::Collect,
     Act::Program,
     Act::Accept,
@@ -74,6 +85,7 @@ fn event_of(alloc: Global, act: Act) -> Result<Event, AllocError> {
         Act::Read => submission(alloc, Kind::Read)?,
         Act::Program => submission(alloc, Kind::Program)?,
         Act::Accept => Event::Accept { channel: 0 },
+        Act::AcceptElsewhere => Event::Accept { channel: 1 },
         Act::Plan => Event::Plan { channel: 0 },
         Act::Bus => Event::Bus { channel: 0 },
         Act::Post => Event::Post {
