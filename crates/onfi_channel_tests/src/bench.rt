@@ -1,6 +1,7 @@
 ghost use Rattle.std.specs.Prelude.{◌≡◌, ◌<◌, ◌≤◌};
 
 use crate::batch::{Op, Told, Trouble, request_for, told_by};
+use crate::held::HostEnds;
 use crate::play::fresh_chip;
 use onfi_chip::SimChip;
 use onfi_core::Setup;
@@ -216,6 +217,17 @@ impl Bench {
         );
         assert_eq!(rt; drained, end);
         assert_eq!(rt; self.gate.missed, 0);
+    }
+
+    /// The sequencer and its hosts' ends, for threads of their own.
+    pub(crate) fn into_parts(self) -> (Sequencer<SimChip>, HostEnds) {
+        let Bench {
+            sequencer,
+            hosts,
+            inboxes,
+            ..
+        } = self;
+        (sequencer, HostEnds { hosts, inboxes })
     }
 
     /// No inbox has a reply left, and that much went through the channel.

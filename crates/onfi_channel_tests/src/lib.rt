@@ -8,6 +8,8 @@ mod bench;
 #[cfg(test)]
 mod half;
 #[cfg(test)]
+mod held;
+#[cfg(test)]
 mod machine;
 #[cfg(test)]
 mod phases;

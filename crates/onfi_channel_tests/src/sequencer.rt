@@ -110,23 +110,6 @@ fn a_refused_planning_waits_for_a_phase(rt: HostRuntime) -> Result<(), AllocErro
 }
 
 #[test]
-fn a_held_channel_leaves_the_other_alone(rt: HostRuntime) -> Result<(), AllocError> {
-    let setup = two_channels(&rt, true, 1, 1, 1_000);
-    let mut held = Bench::open(rt.alloc(), setup, 0, NONE)?;
-    let mut other = Bench::open(rt.alloc(), setup, 1, NONE)?;
-    held.sends(&rt, 0, &[READ]);
-    other.sends(&rt, 0, &[READ]);
-    other.until(&rt, Turn::Idle, 1, 1);
-    other.gives(&rt, 0, (0, 0), &[ERASED]);
-    held.drains(&rt, 0, Drained::TurnsSpent);
-    other.closes(&rt, [1, 0, 0, 0], 1, 1);
-    held.until(&rt, Turn::Idle, 1, 1);
-    held.gives(&rt, 0, (0, 0), &[ERASED]);
-    held.closes(&rt, [1, 0, 0, 0], 1, 1);
-    Ok(())
-}
-
-#[test]
 fn an_item_joins_the_plan_that_runs(rt: HostRuntime) -> Result<(), AllocError> {
     let setup = two_channels(&rt, true, 2, 2, 1_000);
     let mut bench = Bench::open(rt.alloc(), setup, 0, NONE)?;
