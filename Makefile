@@ -16,7 +16,7 @@ PROGRAM := $(sort $(LIBRARIES) $(foreach crate,$(call below,onfi_run),$(call bel
 # The crates are a chain but for one. So some are proved ahead, beside the crates named here, from their sources.
 ahead_onfi_addr := onfi_param
 ahead_onfi_request := onfi_timing
-ahead_onfi_script := onfi_group onfi_problem onfi_schedule onfi_bound onfi_cert onfi_check onfi_demand onfi_known onfi_planner
+ahead_onfi_script := onfi_group onfi_problem onfi_schedule onfi_bound onfi_cert onfi_check onfi_demand onfi_known onfi_planner onfi_recall
 # Of onfi_script the modules that only read and write text.
 only_onfi_script := command_line script row rows row_name field forms text fault seen parts transfer plan_line plan_text
 
