@@ -16,12 +16,11 @@ fn asks_plan(alloc: Global, line: &str, within: u32, traced: bool, by: usize) ->
         Some(
             Ok(
                 Named::Problem {
-                    command:
-                        Command::Plan {
-                            limit,
-                            trace,
-                            remember: false,
-                        },
+                    command: Command::Plan {
+                        limit,
+                        trace,
+                        remember: false,
+                    },
                     workers,
                 },
             ),
@@ -36,12 +35,11 @@ fn asks_recall(alloc: Global, line: &str, within: u32, traced: bool) -> bool {
         Some(
             Ok(
                 Named::Problem {
-                    command:
-                        Command::Plan {
-                            limit,
-                            trace,
-                            remember: true,
-                        },
+                    command: Command::Plan {
+                        limit,
+                        trace,
+                        remember: true,
+                    },
                     workers: 1,
                 },
             ),
