@@ -34,7 +34,8 @@ use Rattle.onfi_known.specs.Closing.{Closes, closing_demand}
 use Rattle.onfi_known.specs.Laws.{ProvedLaw}
 use Rattle.onfi_known.specs.Proves.{Describes, times_of, MayYield, with_yields, Proves, Children, closed, again, opened, none, tree, yielded}
 
-closing_asks : (p : Problem) (e : ℕ) (t : Token) → IsProblem p → Closes p e t → Asks e p (closing_demand p e t)
+-- what closes a node shows that its demand holds each run
+pub closing_asks : (p : Problem) (e : ℕ) (t : Token) → IsProblem p → Closes p e t → Asks e p (closing_demand p e t)
 closing_asks p e Bus ip c = bus_asks p e c
 closing_asks p e Lead ip c = lead_asks p e c
 closing_asks p e Trail ip (t, is, le) = rw is (trail_asks p e t is le)

@@ -27,6 +27,7 @@ pub use fault::{KnownFault, KnownTextFault};
 pub use given::Given;
 pub use known::Known;
 pub use source::TokenSource;
+pub use standing::step_behind;
 pub use token::{MOST_KNOWN, Token};
 pub use token_list::TokenList;
 pub use tokens::Tokens;

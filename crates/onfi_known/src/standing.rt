@@ -77,8 +77,9 @@ impl Standing {
     }
 }
 
-/// The numbers of a move's phase, where the move of that LUN was made that started then.
-pub(crate) fn step_behind(problem: &Problem, lun: u8, start: u64) -> Step
+/// How the phase stands of the move of that LUN that was just made and that started then, in ns: what a tree asks of the
+/// LUNs is raised by it.
+pub fn step_behind(problem: &Problem, lun: u8, start: u64) -> Step
     requires { lun < length problem.now.problem.luns }
     ensures lun { result.lun ≡ lun }
     ensures start { result.start ≡ start }

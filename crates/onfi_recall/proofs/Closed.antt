@@ -1,33 +1,18 @@
 -- What a token that closes a node shows.
 use Rattle.std.proofs.Common.{ℕ, ◌≤◌, List, length, arith}
-use Rattle.onfi_problem.specs.Problem.{Problem, IsProblem}
 use Rattle.onfi_problem.specs.Left.{InLimits}
 use Rattle.onfi_problem.specs.Position.{Position}
 use Rattle.onfi_problem.proofs.Places.{within_get}
-use Rattle.onfi_demand.specs.Laws.{Asks}
 use Rattle.onfi_demand.specs.declared.demand.Demand.{Demand as Kept}
-use Rattle.onfi_demand.proofs.Bounding.{bus_asks, lead_asks, trail_asks, die_asks, end_asks}
 use Rattle.onfi_demand.proofs.Keeping.{kept_asks, left_few}
-use Rattle.onfi_demand.proofs.WindowAsks.{window_asks}
 use Rattle.onfi_known.specs.declared.known.Known.{Known}
-use Rattle.onfi_known.specs.declared.token.Token.{Token}
-use Rattle.onfi_known.specs.declared.token.Token.TheVariants.{Branch, Bus, Lead, Trail, Die, Yield, End, Window, Again}
+use Rattle.onfi_known.specs.declared.token.Token.TheVariants.{Again}
 use Rattle.onfi_known.specs.declared.token.TheConstants.{MOST_KNOWN}
-use Rattle.onfi_known.specs.Closing.{Closes, closing_demand}
+use Rattle.onfi_known.specs.Closing.{closing_demand}
 use Rattle.onfi_known.specs.Proves.{IsAgain, closed, again}
+use Rattle.onfi_known.proofs.Sound.{closing_asks}
 use Rattle.onfi_recall.specs.declared.closing.Closing.{Closing}
 use Rattle.onfi_recall.specs.Walks.{ClosesBy, IsClosing}
-
-closing_asks : (p : Problem) (e : ℕ) (t : Token) → IsProblem p → Closes p e t → Asks e p (closing_demand p e t)
-closing_asks p e Bus ip c = bus_asks p e c
-closing_asks p e Lead ip c = lead_asks p e c
-closing_asks p e Trail ip (t, is, le) = rw is (trail_asks p e t is le)
-closing_asks p e (Die lun) ip c = die_asks p e lun c.0 c.1
-closing_asks p e End ip c = end_asks p e c.0 c.1
-closing_asks p e (Window start tail) ip c = window_asks p e start tail ip c
-closing_asks p e (Branch width) ip c = absurd c
-closing_asks p e (Yield lun) ip c = absurd c
-closing_asks p e (Again number) ip c = absurd c
 
 -- by a bound
 pub closed_by : (e : ℕ) (x : Position) (known : List Known) (closing : Closing) → InLimits x.problem → ClosesBy x.problem e closing → IsClosing e x known closing

@@ -4,6 +4,7 @@ ghost use Rattle.std.specs.Prelude.{◌≡◌, ◌≤◌, ◌<◌, ◌^◌, IfOk
 ghost use Rattle.onfi_group.specs.Words.{Pairs};
 ghost use Rattle.onfi_bound.specs.Loads.{AreLoads};
 ghost use Rattle.onfi_bound.specs.Reaching.{Reaches};
+ghost use Rattle.onfi_demand.specs.Window.{IsWindow};
 ghost use Rattle.onfi_planner.specs.Opening.{IsOpen};
 ghost use Rattle.onfi_recall.specs.Walks.{ClosesBy, IsClosing};
 ghost use Rattle.onfi_known.specs.declared.token.TheConstants.{MOST_KNOWN as most};
@@ -93,23 +94,22 @@ fn bound_closing(problem: &Problem, bound: Bound, e: u64) -> Closing
 fn by_window(problem: &Problem, e: u64, phases: &mut Phases) -> Result<Option<Closing>, AllocError>
     ensures { IfOk result (λ found. IfSome found (ClosesBy problem.now.problem e)) }
 {
-    let Some(window) = phases.window(problem, e)? else {
-        return Ok(None);
-    };
-    Ok(window_closing(problem, window, e))
+    match phases.window(problem, e)? {
+        None => Ok(None),
+        Some(window) => Ok(Some(window_closing(problem, window, e))),
+    }
 }
 
 // The token of a window that reaches `e`.
-fn window_closing(problem: &Problem, window: Window, e: u64) -> Option<Closing>
-    ensures { IfSome result (ClosesBy problem.now.problem e) }
+fn window_closing(problem: &Problem, window: Window, e: u64) -> Closing
+    requires reaches { IsWindow problem.now.problem e window.start window.tail }
+    requires small { window.start < 2 ^ 63 × window.tail < 2 ^ 63 }
+    ensures { ClosesBy problem.now.problem e result }
 {
     let Window { start, tail } = window;
-    if start >= 1 << 63 || tail >= 1 << 63 || !window.reaches(problem, e) {
-        return None;
-    }
     let token = Token::Window { start, tail };
     let demand = Demand::of_window(problem, window, e);
-    Some(Closing { token, demand })
+    Closing { token, demand }
 }
 
 // A node that is known, to which the same is left.

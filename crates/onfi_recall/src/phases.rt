@@ -1,6 +1,7 @@
 //! A window whose phases reach a finish.
 
-ghost use Rattle.std.specs.Prelude.{◌≡◌, ◌≤◌, ◌<◌, length};
+ghost use Rattle.std.specs.Prelude.{◌≡◌, ◌≤◌, ◌<◌, ◌^◌, IfOk, IfSome, [], length};
+ghost use Rattle.onfi_demand.specs.Window.{IsWindow};
 
 use onfi_bound::die;
 use onfi_demand::{LunLeft, LunWork, Window};
@@ -25,22 +26,27 @@ pub struct Phases {
 
 impl Phases {
     /// A list for a walk.
-    pub fn new(alloc: Global) -> Phases {
+    pub fn new(alloc: Global) -> Phases
+        ensures { result.of.items ≡ [] }
+    {
         Phases {
             of: Vec::new(alloc),
         }
     }
 
-    /// A window that reaches `e` ns, where there is one.
+    /// A window that reaches `e` ns. Where it finds none there may be one: a walk opens a node more then.
     ///
     /// # Errors
     /// Only where memory was refused.
-    pub fn window(&mut self, problem: &Problem, e: u64) -> Result<Option<Window>, AllocError> {
+    pub fn window(&mut self, problem: &Problem, e: u64) -> Result<Option<Window>, AllocError>
+        ensures reaches { IfOk result (λ found. IfSome found (λ w. IsWindow problem.now.problem e w.start w.tail)) }
+        ensures small { IfOk result (λ found. IfSome found (λ w. w.start < 2 ^ 63 × w.tail < 2 ^ 63)) }
+    {
         self.of.clear();
         for lun in 0..problem.lun_count() as u8 {
             self.list(problem, lun)?;
         }
-        Ok(self.reaching(e))
+        Ok(self.reaching(problem, e))
     }
 
     // Lists what is left to a LUN.
@@ -127,8 +133,20 @@ impl Phases {
         self.of.len()
     }
 
-    // A window that reaches `e`.
-    fn reaching(&self, e: u64) -> Option<Window> {
+    // The first window that seems to reach `e`, where it does and a token can name it.
+    fn reaching(&self, problem: &Problem, e: u64) -> Option<Window>
+        ensures reaches { IfSome result (λ w. IsWindow problem.now.problem e w.start w.tail) }
+        ensures small { IfSome result (λ w. w.start < 2 ^ 63 × w.tail < 2 ^ 63) }
+    {
+        let window = self.seeming(e)?;
+        if window.start >= 1 << 63 || window.tail >= 1 << 63 || !window.reaches(problem, e) {
+            return None;
+        }
+        Some(window)
+    }
+
+    // The first window that reaches `e` by the phases that are listed.
+    fn seeming(&self, e: u64) -> Option<Window> {
         for phase in self.of.as_slice() {
             if let Some(window) = self.reaching_with(phase.tail, e) {
                 return Some(window);

@@ -6,7 +6,6 @@ ghost use Rattle.onfi_group.specs.Words.{Has};
 ghost use Rattle.onfi_problem.specs.Moves.{AreMoves, Move as OneMove};
 ghost use Rattle.onfi_problem.specs.Position.{move_of, moves_of, moved};
 ghost use Rattle.onfi_problem.specs.Starts.{IsNamed};
-ghost use Rattle.onfi_demand.specs.Asked.{GoesOn};
 ghost use Rattle.onfi_planner.specs.Opening.{IsOpen};
 ghost use Rattle.onfi_recall.specs.Steps.{IsStep};
 ghost use Rattle.onfi_recall.specs.Walks.{AreMore, Halfway, IsAt, IsFound, IsShown, Visited};
@@ -20,8 +19,8 @@ use crate::yields::Soonest;
 use onfi_bound::Loads;
 use onfi_cert::Width;
 use onfi_check::last_ends;
-use onfi_demand::{Demand, LunWork, Step};
-use onfi_known::Token;
+use onfi_demand::Demand;
+use onfi_known::{Token, step_behind};
 use onfi_planner::{Begun, Best, Stop};
 use onfi_problem::{Move, Moves, Problem};
 use std::alloc::AllocError;
@@ -195,7 +194,7 @@ fn visit(
     let count = problem.lun_count();
     let undo = problem.advance(step);
     let shown = search(problem, loads, best, notes)?;
-    let behind = numbers_of(problem, step.lun(), start);
+    let behind = step_behind(problem, step.lun(), start);
     problem.undo(undo);
     shown.demand.raise(&behind, count, asked);
     let Ok(()) = add(best, Begun { step, start }, shown.improved) else {
@@ -214,23 +213,4 @@ fn add(best: &mut Best, begun: Begun, improved: bool) -> Result<(), AllocError>
         best.steps.push(begun)?;
     }
     Ok(())
-}
-
-// How the phase stands of the move of that LUN that was made, and that started then.
-fn numbers_of(problem: &Problem, lun: u8, start: u64) -> Step
-    requires { lun < length problem.now.problem.luns }
-    ensures lun { result.lun ≡ lun }
-    ensures start { result.start ≡ start }
-    ensures end { result.end ≡ problem.now.problem.bus_free }
-    ensures go { GoesOn problem.now.problem lun result.go }
-{
-    let work = LunWork::of(problem, lun);
-    let go = if work.is_some() { Some(work.go) } else { None };
-    let end = problem.bus_free();
-    Step {
-        lun,
-        start,
-        end,
-        go,
-    }
 }

@@ -152,19 +152,19 @@ visit-returns-in_err-shown-clause-over t c =
     let p = err_from_is_err_and c.from_residual.result c.from_residual.ensures.1 in
     rw (p.1, p.2) (λ q. subst (λ (z : Position). AreMore z.problem c.args.best.now.finish (c.args.notes.now.limit - c.args.notes.now.opened + 1)) c.advance-undo.ensures.moved (c.in_err-shown.ensures.over q))
 
-pub visit-numbers_of-behind-requires : goal.visit-numbers_of-behind-requires
-visit-numbers_of-behind-requires t c = subst (λ (z : Position). c.lun.result < length z.problem.luns) (sym (c.in_ok-shown.ensures.problem ∙ c.advance-undo.ensures.moved)) (there_behind c.args.problem.now c.args.step c.lun.result c.requires.step c.lun.ensures)
+pub visit-step_behind-behind-requires : goal.visit-step_behind-behind-requires
+visit-step_behind-behind-requires t c = subst (λ (z : Position). c.lun.result < length z.problem.luns) (sym (c.in_ok-shown.ensures.problem ∙ c.advance-undo.ensures.moved)) (there_behind c.args.problem.now c.args.step c.lun.result c.requires.step c.lun.ensures)
 
 pub visit-returns-clause-visited : goal.visit-returns-clause-visited
 visit-returns-clause-visited t c =
     let x = c.args.problem.now in
     let m = move_of x.groups c.args.step in
     let shown = c.in_ok-shown.shown in
-    let step = c.numbers_of-behind.result in
+    let step = c.step_behind-behind.result in
     let behind = c.in_ok-shown.ensures.problem ∙ c.advance-undo.ensures.moved in
     let own = c.lun.ensures ∙ sym c.requires.step.named.lun in
-    let is = step_is x.problem m step c.lun.result c.earliest-start.result c.numbers_of-behind.ensures.lun own c.numbers_of-behind.ensures.start c.earliest-start.ensures
-    (c.numbers_of-behind.ensures.end ∙ ap (λ (z : Position). z.problem.bus_free) behind) (subst (λ (z : Position). GoesOn z.problem c.lun.result step.go) behind c.numbers_of-behind.ensures.go) in
+    let is = step_is x.problem m step c.lun.result c.earliest-start.result c.step_behind-behind.ensures.lun own c.step_behind-behind.ensures.start c.earliest-start.ensures
+    (c.step_behind-behind.ensures.end ∙ ap (λ (z : Position). z.problem.bus_free) behind) (subst (λ (z : Position). GoesOn z.problem c.lun.result step.go) behind c.step_behind-behind.ensures.go) in
     let raises = raised_by x.problem m shown.demand step c.lun_count-count.result c.args.asked.now c.raise.new.asked is c.lun_count-count.ensures.value c.raise.ensures in
     let s = subst (λ (z : Position). IsShown z c.args.best.now c.search.new.best c.args.notes.now.opened c.args.notes.now c.search.new.notes shown) c.advance-undo.ensures.moved c.in_ok-shown.ensures.shown in
     step_visited x c.args.step c.earliest-start.result c.args.best.now c.search.new.best c.add.new.best c.args.notes.now c.search.new.notes shown c.args.asked.now c.raise.new.asked c.requires.step.move c.earliest-start.ensures s raises c.add.ensures.finish c.in-Ok.ensures.steps c.in-Ok.ensures.kept
