@@ -186,6 +186,11 @@ class Verdicts(unittest.TestCase):
         verdict = told([error, "fn demo::half::Half::of: not proved", "only=1 proved=0"]).verdict_on(OF)
         self.assertRegex(TOOL.judge_edit([verdict])[1], "^WEAK: ")
 
+    def test_a_proof_file_that_names_a_step_that_is_gone_is_weak_where_others_are_near(self) -> None:
+        error = "./proofs/half/Half/of/Answers.antt:4:2: error: `returns`: record `demo.half.Half.of.Lts.Past-then` (nearest: .len, .then-b)"
+        verdict = told([error, "  has no field `then-a`", "fn demo::half::Half::of: not proved", "only=1 proved=0"]).verdict_on(OF)
+        self.assertRegex(TOOL.judge_edit([verdict])[1], "^WEAK: ")
+
     def test_a_function_that_the_prover_does_not_name_is_no_refusal(self) -> None:
         self.assertFalse(TOOL.judge_edit([told(["only=0 proved=0"]).verdict_on(OF)])[0])
 
