@@ -12,7 +12,7 @@ mod serving;
 use crate::channel::{run_events, step_by_step};
 use crate::ended::Ended;
 use crate::judging::{judge_text, judge_tokens};
-use crate::planning::{plan_apart, plan_in_parts, plan_running};
+use crate::planning::{plan_apart, plan_in_parts, plan_remembering, plan_running};
 use crate::serving::{drain_at_once, serve_reads};
 use std::alloc::Global;
 use std::process::ExitCode;
@@ -41,6 +41,7 @@ fn try_calls<R: Print + Threads + Wait + Sync>(
         "apart" => plan_apart(rt, alloc),
         "running" => plan_running(rt, alloc),
         "parts" => plan_in_parts(rt, alloc),
+        "remembering" => plan_remembering(rt, alloc),
         "tokens" => judge_tokens(rt, alloc),
         "text" => judge_text(rt, alloc),
         "channel" => step_by_step(rt, alloc),
@@ -67,7 +68,7 @@ fn main(rt: HostRuntime) -> ExitCode {
         }
         Err(Ended::NoTrial) => {
             let _ = rt.eprintln(
-                "usage: onfi_trials apart|running|parts|tokens|text|channel|events|turns|drain",
+                "usage: onfi_trials apart|running|parts|remembering|tokens|text|channel|events|turns|drain",
             );
             ExitCode::from(5)
         }

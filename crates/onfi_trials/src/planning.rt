@@ -2,22 +2,29 @@ ghost use Rattle.std.specs.Prelude.{◌≤◌};
 
 use crate::ended::Ended;
 use crate::sample::{problem, running, want};
+use onfi_known::{KnownFault, KnownTextFault, check_known_text};
 use onfi_planner::{NoGate, PlanFault, Planned, plan, plan_split};
 use onfi_problem::{LunState, Problem};
+use onfi_recall::{PlannedKnown, plan_known};
 use onfi_samples::sample_timing;
+use onfi_schedule::Schedule;
 use onfi_timing::{Kind, Spans, Timing};
 use std::alloc::Global;
 use std::thread::Threads;
+
+fn say_groups(rt: &impl Print, schedule: &Schedule) -> Result<(), Ended> {
+    for group in schedule.groups() {
+        println!(rt; "group {:?}", group.starts().as_slice())?;
+    }
+    Ok(())
+}
 
 fn say_plan(rt: &impl Print, planned: &Planned) -> Result<(), Ended> {
     println!(rt; "finish {}", planned.finish)?;
     for token in planned.cert.as_slice() {
         println!(rt; "{token:?}")?;
     }
-    for group in planned.schedule.groups() {
-        println!(rt; "group {:?}", group.starts().as_slice())?;
-    }
-    Ok(())
+    say_groups(rt, &planned.schedule)
 }
 
 /// Plans with a search of at most so many nodes; once more where memory was refused.
@@ -51,6 +58,49 @@ fn split_within<R: Print + Threads + Sync>(
     for _try in 0..2u8 {
         match plan_split(rt, alloc, problem, limit, 2, &NoGate) {
             Ok(planned) => return say_plan(rt, &planned),
+            Err(PlanFault::Over { opened }) => {
+                println!(rt; "over {opened}")?;
+                return Ok(());
+            }
+            Err(PlanFault::Memory) => println!(rt; "memory")?,
+        }
+    }
+    Err(Ended::Memory)
+}
+
+/// Judges a plan whose certificate remembers states; once more where memory was refused.
+fn judge_known(
+    rt: &impl Print,
+    alloc: Global,
+    problem: &Problem,
+    planned: &PlannedKnown,
+) -> Result<(), Ended> {
+    let text = planned.cert.as_slice();
+    for _try in 0..2u8 {
+        match check_known_text(alloc, problem, &planned.schedule, text) {
+            Ok(finish) => {
+                println!(rt; "accepted {finish}")?;
+                return Ok(());
+            }
+            Err(KnownTextFault::Cert(KnownFault::Memory)) => println!(rt; "memory")?,
+            Err(fault) => {
+                println!(rt; "{fault}")?;
+                return Ok(());
+            }
+        }
+    }
+    Err(Ended::Memory)
+}
+
+/// Plans with searches that remember states, and judges the plan; once more where memory was refused.
+fn recall(rt: &impl Print, alloc: Global, problem: &Problem) -> Result<(), Ended> {
+    for _try in 0..2u8 {
+        match plan_known(alloc, problem, 1_048_576) {
+            Ok(planned) => {
+                println!(rt; "finish {}", planned.finish)?;
+                say_groups(rt, &planned.schedule)?;
+                return judge_known(rt, alloc, problem, &planned);
+            }
             Err(PlanFault::Over { opened }) => {
                 println!(rt; "over {opened}")?;
                 return Ok(());
@@ -107,4 +157,11 @@ pub(crate) fn plan_in_parts<R: Print + Threads + Sync>(rt: &R, alloc: Global) ->
     split_within(rt, alloc, &apart, 3)?;
     split_within(rt, alloc, &apart, 4)?;
     split_within(rt, alloc, &behind, 1_048_576)
+}
+
+/// Plans of both with searches that remember states.
+pub(crate) fn plan_remembering(rt: &impl Print, alloc: Global) -> Result<(), Ended> {
+    let (apart, behind) = (reads_apart(alloc)?, erase_behind(alloc)?);
+    recall(rt, alloc, &apart)?;
+    recall(rt, alloc, &behind)
 }
