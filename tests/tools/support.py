@@ -2,11 +2,14 @@
 
 from __future__ import annotations
 
+import importlib.machinery
+import importlib.util
 import os
 import shlex
 import subprocess
 import sys
 from pathlib import Path
+from types import ModuleType
 from typing import Dict, List, Optional
 
 ROOT = Path(__file__).resolve().parent.parent.parent
@@ -22,6 +25,15 @@ SCRIPTS = {
     "diagram": "examples/diagram.onfi",
     "programs-on-one-plane": "examples/hard/programs-on-one-plane.onfi",
 }
+
+
+def load(name: str) -> ModuleType:
+    """A tool that is a Python file without an ending."""
+    loader = importlib.machinery.SourceFileLoader(name.replace("-", "_"), str(ROOT / "tools" / name))
+    made = importlib.util.module_from_spec(importlib.util.spec_from_loader(loader.name, loader))
+    sys.modules[loader.name] = made
+    loader.exec_module(made)
+    return made
 
 
 def trace_text(name: str) -> str:

@@ -26,15 +26,12 @@ def page_rows(script: Path) -> List[str]:
 
 
 def commands_of(page: Path) -> List[Tuple[str, str]]:
-    """The commands of a page (indented, behind `$ `), each with the lines that it prints."""
+    """The commands of a page's shell blocks that are followed by what they print, each of its lines behind `# `."""
     found: List[Tuple[str, str]] = []
-    printing = False
-    for line in page.read_text().splitlines():
-        printing = line.startswith("    ") and (printing or line.startswith("    $ "))
-        if line.startswith("    $ "):
-            found.append((line[6:], ""))
-        elif printing:
-            found[-1] = (found[-1][0], found[-1][1] + line[4:] + "\n")
+    for block in re.findall(r"^```sh\n(.*?)^```$", page.read_text(), re.MULTILINE | re.DOTALL):
+        for command, written in re.findall(r"^((?!#).+)\n((?:#.*\n)*)", block, re.MULTILINE):
+            if written:
+                found.append((command, re.sub("^# ?", "", written, flags=re.MULTILINE)))
     return found
 
 
@@ -110,7 +107,7 @@ class Examples(unittest.TestCase):
 
     def test_their_pages_are_short(self) -> None:
         for page in PAGES:
-            self.assertLessEqual(len(page.read_text().splitlines()), 10)
+            self.assertLessEqual(len(page.read_text().splitlines()), 24)
 
     @unittest.skipUnless(support.program(), "no built program")
     def test_their_commands_print_what_is_written(self) -> None:
@@ -120,6 +117,11 @@ class Examples(unittest.TestCase):
                 self.assertEqual(support.run_shell(command), written, command)
                 ran += 1
         self.assertGreaterEqual(ran, 10)
+
+    def test_commands_can_be_pasted(self) -> None:
+        """No prompt stands before a command, so that a block does in a shell what it shows."""
+        for page in (support.ROOT / "README.md", *sorted((support.ROOT / "docs").glob("**/*.md")), *sorted(EXAMPLES.glob("*/README.md"))):
+            self.assertNotRegex(page.read_text(), re.compile(r"^ *\$ ", re.MULTILINE), str(page))
 
 
 if __name__ == "__main__":

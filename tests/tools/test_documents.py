@@ -53,7 +53,7 @@ class Manual(unittest.TestCase):
 
 class Refusals(unittest.TestCase):
     def test_each_has_something_to_do(self) -> None:
-        text = FORMATS.read_text()
+        text = re.sub(r"^```.*?^```$", "", FORMATS.read_text(), flags=re.MULTILINE | re.DOTALL)
         list_of_them = text.split("### Refusals")[1].split("### What to do")[0] + text.split("## Checks")[1]
         to_do = text.split("### What to do")[1].split("## Plans")[0]
         names = set(re.findall(r"\b[A-Z][a-z]+(?:[A-Z][a-z]+)*\b", " ".join(re.findall(r"`([^`]+)`", list_of_them))))

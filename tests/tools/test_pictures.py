@@ -4,12 +4,17 @@ from __future__ import annotations
 
 import json
 import re
+import subprocess
+import sys
+import tempfile
 import unittest
 import xml.etree.ElementTree as ET
+from pathlib import Path
 from typing import Dict, Iterator, List, NamedTuple, Tuple
 
 import support
 from onfi_tools import perfetto, svg, text, vcd
+from onfi_tools.device import KINDS
 from onfi_tools.trace import Part, Phase, by_lun, read_trace, stretches
 
 SVG = "{http://www.w3.org/2000/svg}"
@@ -74,8 +79,8 @@ class Traces(unittest.TestCase):
 class Texts(unittest.TestCase):
     def test_the_picture_of_its_page(self) -> None:
         self.assertEqual(text.picture(support.trace("batch"), 60), TEXT_OF_BATCH)
-        indented = "".join("    " + line + "\n" for line in TEXT_OF_BATCH.splitlines())
-        self.assertIn(indented, (support.ROOT / "docs/pictures/README.md").read_text())
+        shown = "".join("# " + line + "\n" for line in TEXT_OF_BATCH.splitlines())
+        self.assertIn(shown, (support.ROOT / "docs/pictures/README.md").read_text())
 
 
 class Drawings(unittest.TestCase):
@@ -106,6 +111,20 @@ class Drawings(unittest.TestCase):
             start, end = (int(time.replace(",", "")) for time in told[5:7])
             self.assertAlmostEqual(x, svg.LEFT + start * room / 5650, delta=0.01)
             self.assertAlmostEqual(width, (end - start) * room / 5650, delta=0.02)
+
+    def test_statuses_are_seen(self) -> None:
+        """No bar of another part lies over a status, however short that is drawn."""
+        statuses = 0
+        for name in support.SCRIPTS:
+            for width in (svg.LEAST_WIDTH, 960):
+                root = ET.fromstring(svg.picture(support.trace(name), support.lengths(name), width, False))
+                for bars in (self.bars(row) for row in root.iter(SVG + "g")):
+                    for at, (x, wide, told) in enumerate(bars):
+                        if told[2] == "status":
+                            statuses += 1
+                            over = [it for it in bars[at + 1 :] if it[2][2] != "status" and it[0] < x + wide - 0.02 and it[0] + it[1] > x + 0.02]
+                            self.assertEqual(over, [], (name, told))
+        self.assertGreater(statuses, 10)
 
     def test_solid_colours_differ_in_grey(self) -> None:
         greys = []
@@ -204,6 +223,23 @@ class Dumps(unittest.TestCase):
                     self.assertEqual(value_at(changes, f"channel.lun{phase.lun}.phase", time), f"{code:03b}")
                     self.assertEqual(value_at(changes, f"channel.lun{phase.lun}.ready", time), "1")
 
+    def test_kind_block_and_page_of_each_phase(self) -> None:
+        for name in support.SCRIPTS:
+            phases = support.trace(name)
+            variables, changes = read_vcd(vcd.picture(phases, support.lengths(name)))
+            self.assertEqual(len({*variables}), 1 + 5 * len(by_lun(phases)))
+            for phase in phases:
+                for time in (phase.start, phase.end - 1):
+                    told = [value_at(changes, f"channel.lun{phase.lun}.{signal}", time) for signal in ("kind", "block", "page")]
+                    self.assertEqual([int(it, 2) for it in told], [KINDS.index(phase.kind), phase.block, phase.page])
+
+    def test_an_idle_lun_has_no_kind_and_no_page(self) -> None:
+        _, changes = read_vcd(vcd.picture(support.trace("batch"), support.lengths("batch")))
+        for time, kind in ((0, "zz"), (140, "00"), (2000, "00"), (58240, "zz")):
+            self.assertEqual(value_at(changes, "channel.lun0.kind", time), kind)
+        for time, block in ((0, "z" * 16), (140, "0" * 16), (280, "z" * 16), (880, "0" * 15 + "1"), (1020, "z" * 16)):
+            self.assertEqual(value_at(changes, "channel.lun0.block", time), block)
+
     def test_the_bus_is_nobodys_between_phases(self) -> None:
         for name in support.SCRIPTS:
             phases = support.trace(name)
@@ -278,6 +314,27 @@ class Commands(unittest.TestCase):
         ran = support.run_tool("draw-trace", given="over 7\n")
         self.assertEqual((ran.returncode, ran.stdout), (1, ""))
         self.assertEqual(ran.stderr, "draw-trace: line 1: not a line of a trace: over 7\n")
+
+    def test_a_script_of_another_device_is_told(self) -> None:
+        given = support.trace_text("batch")
+        for script, word in (("examples/simulator/batch.onfi", "line 4: the phase takes 11000 ns, by the script 369380"), ("slow", "line 2: starts before the array time")):
+            with tempfile.TemporaryDirectory() as room:
+                path = support.ROOT / script
+                if script == "slow":
+                    path = Path(room) / "slow.onfi"
+                    path.write_text((support.ROOT / "examples/batch.onfi").read_text().replace("25100", "25101"))
+                    given = "0 140 1 read cmd 0 0 00 30\n25240 36240 1 read post 0 0 06 E0\n"
+                for form in ("svg", "vcd", "perfetto"):
+                    ran = support.run_tool("draw-trace", "--as", form, "--script", str(path), given=given)
+                    self.assertEqual((ran.returncode, ran.stdout, ran.stderr.count("\n")), (1, "", 1))
+                    self.assertIn(word, ran.stderr)
+                    self.assertIn(str(path), ran.stderr)
+
+    def test_a_full_disk_is_told(self) -> None:
+        tool = [sys.executable, "-B", str(support.ROOT / "tools/draw-trace"), "--as", "svg"]
+        with open("/dev/full", "w") as full:
+            ran = subprocess.run(tool, input=support.trace_text("batch"), stdout=full, stderr=subprocess.PIPE, text=True)
+        self.assertEqual((ran.returncode, ran.stderr), (1, "draw-trace: [Errno 28] No space left on device\n"))
 
     def test_a_script_without_lengths_is_told(self) -> None:
         ran = support.run_tool("draw-trace", "--script", "README.md", given=support.trace_text("batch"))

@@ -9,6 +9,7 @@ from pathlib import Path
 
 import support
 
+REFUSE = support.load("refuse-memory")
 CASE = "nothing to do on a bus that is free from 7 on"
 PROGRAM = r"""
 #include <stdio.h>
@@ -87,12 +88,25 @@ class RefusedMemory(unittest.TestCase):
         self.assert_missed(REFUSES + " } if (size == 4096) { _exit(0);", "nothing refused: status 0")
 
     def test_a_report_that_ends_in_memory_passes(self) -> None:
-        said = said_of(r'say("reply,0,0,1,done\nreply,0,1,0,failed\nmemory\n", 43); _exit(4);', RUNS, ONE_ERASE)
+        said = said_of(r'say("reply,0,0,0,failed\nmemory\n", 26); _exit(4);', RUNS, ONE_ERASE)
         self.assertEqual((said.returncode, said.stdout.splitlines()[-1]), (0, "1 passed, 0 failed"))
 
     def test_a_reply_that_is_told_twice_is_a_miss(self) -> None:
-        told = r"reply,0,0,1,done\nreply,0,0,1,done\nmemory\n"
+        told = r"reply,0,0,0,done\nreply,0,0,0,done\nmemory\n"
         self.assert_missed(rf'say("{told}", 41); _exit(4);', "growth 1 refused, alone: status 4", RUNS, ONE_ERASE)
+
+    def test_a_reply_to_what_was_not_sent_is_a_miss(self) -> None:
+        self.assert_missed(r'say("reply,0,0,1,done\nmemory\n", 24); _exit(4);', "growth 1 refused, alone: status 4", RUNS, ONE_ERASE)
+
+    def test_a_closed_run_without_a_reply_is_a_miss(self) -> None:
+        self.assert_missed(r'say("closed\n", 7); _exit(0);', "growth 1 refused, alone: status 0", RUNS, ONE_ERASE)
+
+    def test_status_0_needs_each_reply_even_where_it_is_the_usual_answer(self) -> None:
+        script = b"op,0,1,read,0,0,0\nop,0,1,read,0,1,0\nend\nop,0,1,read,0,2,0\n"
+        for told, status, right in ((b"reply,0,1,0,done\nclosed\n", 0, False), (b"reply,0,1,0,done\nover,1,2\nclosed\n", 6, True),
+                                    (b"reply,0,1,0,done\nreply,0,1,1,done\nclosed\n", 0, True)):
+            case = REFUSE.Case("a page", "a case", [b"run"], script, status, told, None)
+            self.assertEqual(REFUSE.without_memory(case, REFUSE.Ran(told, b"", status, 2, 1)), right)
 
     def test_a_refused_command_line_passes_with_memory_or_the_usage(self) -> None:
         said = said_of(REFUSES, USAGE, TOO_GREAT)

@@ -3,6 +3,7 @@
 from __future__ import annotations
 
 import os
+import random
 import stat
 import sys
 import tempfile
@@ -12,6 +13,8 @@ from typing import List, Tuple
 
 import support
 from onfi_tools.die import Block, Device, Operation
+
+SOAK = support.load("soak")
 
 USUAL = Device(64, 528, False)
 PROGRAM = """#!{python} -B
@@ -112,8 +115,8 @@ class DieModel(unittest.TestCase):
 
 
 class Soak(unittest.TestCase):
-    def assert_told(self, spoilt: str, told: str) -> None:
-        status, said = soaked(spoilt)
+    def assert_told(self, spoilt: str, told: str, *words: str) -> None:
+        status, said = soaked(spoilt, *words)
         self.assertEqual(status, 1, said)
         self.assertIn(told, said)
 
@@ -128,6 +131,16 @@ class Soak(unittest.TestCase):
 
     def test_a_lost_reply_is_told(self) -> None:
         self.assert_told("lines = lines[:-1]", "or none to [(")
+
+    def test_a_lost_reply_within_a_limit_is_told(self) -> None:
+        self.assert_told('lines = lines[:1] if "--limit" in sys.argv else lines', "or none to [(")
+
+    def test_an_answer_under_the_serial_of_another_request_is_told(self) -> None:
+        left_out = """
+if "--limit" in sys.argv:
+    lines = [line[:3] + ("done" if line[3].startswith("read") else "read,*FF",) for line in lines]
+"""
+        self.assert_told(left_out, "no order of acceptance")
 
     def test_a_reply_twice_is_told(self) -> None:
         self.assert_told("lines += lines[-1:]", "replies that don't rise")
@@ -148,8 +161,43 @@ class Soak(unittest.TestCase):
     def test_a_channel_that_is_over_without_a_limit_is_told(self) -> None:
         self.assert_told(over('"--limit" not in sys.argv', "1048576"), "the lines behind the replies")
 
+    def test_a_channel_that_must_stop_and_says_nothing_within_a_limit_is_told(self) -> None:
+        self.assert_told('stopped = {} if "--limit" in sys.argv else stopped', "the lines behind the replies", "--only", "mixed", "--seed", "2")
+
+    def test_a_status_of_0_where_a_channel_was_over_is_told(self) -> None:
+        self.assert_told(over('"--limit" in sys.argv', "sys.argv[-1]").replace("sys.exit(6)", "sys.exit(0)"), "status 0")
+
     def test_another_cause_is_told(self) -> None:
         self.assert_told('stopped = dict.fromkeys(stopped, "Clock")', "the lines behind the replies")
+
+
+class Drawn(unittest.TestCase):
+    """What scripts are drawn in each way."""
+
+    def drawn(self, way: str) -> "List[SOAK.Script]":
+        made = []
+        for number in range(40):
+            rng = random.Random(f"1 {number}")
+            made.append(SOAK.drawn_script(rng, SOAK.WAYS[way](rng)))
+        return made
+
+    def test_squeezed_hosts_send_reads_in_turn_with_others_behind_small_queues(self) -> None:
+        for script in self.drawn("squeezed"):
+            self.assertLessEqual((script.sizes.submitcap, script.sizes.limit), (2, 5))
+            self.assertTrue(all((one.operation.kind == "read") == (one.serial % 2 == 1) for one in script.asked))
+
+    def test_aside_there_are_more_operations_on_one_channel_than_it_leaves_unanswered(self) -> None:
+        scripts = self.drawn("aside")
+        for script in scripts:
+            self.assertEqual(len({one.spot[0] for one in script.asked}), 1)
+            self.assertGreaterEqual(len(script.asked), 200)
+            self.assertLessEqual(script.sizes.postcap, 2)
+        self.assertEqual({script.asked[0].spot[0] for script in scripts}, {0, 1, 2, 3})
+
+    def test_wide_are_eight_luns_of_four_planes(self) -> None:
+        scripts = self.drawn("wide")
+        self.assertEqual({(script.sizes.luns, script.sizes.plane_bits) for script in scripts}, {(8, 2)})
+        self.assertEqual({one.spot[1] for script in scripts for one in script.asked}, set(range(8)))
 
 
 if __name__ == "__main__":

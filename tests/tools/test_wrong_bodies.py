@@ -3,31 +3,18 @@
 from __future__ import annotations
 
 import contextlib
-import importlib.machinery
-import importlib.util
 import io
 import subprocess
-import sys
 import tempfile
 import unittest
 from pathlib import Path
-from types import ModuleType
 from typing import Dict, List, Tuple
 
 import support
+from onfi_tools.edits import change_of
 
-
-def load(name: str) -> ModuleType:
-    """A tool that is a Python file without an ending."""
-    loader = importlib.machinery.SourceFileLoader(name.replace("-", "_"), str(support.ROOT / "tools" / name))
-    made = importlib.util.module_from_spec(importlib.util.spec_from_loader(loader.name, loader))
-    sys.modules[loader.name] = made
-    loader.exec_module(made)
-    return made
-
-
-TOOL = load("wrong-bodies")
-GATE = load("gate")
+TOOL = support.load("wrong-bodies")
+GATE = support.load("gate")
 
 HALF = """\
 pub struct Half {
@@ -236,9 +223,11 @@ def git(folder: Path, *words: str) -> str:
 
 
 class Due(unittest.TestCase):
-    """Which crates have their turn, in a repository of two commits: the second one changes crate c."""
+    """What is due in a repository of two commits and six crates of two functions; the second one changes crates."""
 
     NAMES = ["a", "b", "c", "d", "e", "f"]
+    SOURCE = "pub fn one() -> u8 {\n    1\n}\n\npub fn two() -> u8 {\n    2\n}\n"
+    EDITS = {"one": "1", "two": "2"}
 
     def setUp(self) -> None:
         room = tempfile.TemporaryDirectory()
@@ -246,41 +235,145 @@ class Due(unittest.TestCase):
         self.folder = Path(room.name)
         git(self.folder, "init", "-q")
         for name in self.NAMES:
-            (self.folder / "crates" / name).mkdir(parents=True)
-            (self.folder / "crates" / name / "lib.rt").write_text("1")
+            self.write(name, "src/lib.rt", self.SOURCE)
+            for function, text in self.EDITS.items():
+                for ending, new in ((".edit", "0"), (".twin", text + " - 0")):
+                    self.write(name, f"wrong-bodies/{function}{ending}", f"file: src/lib.rt\nold:     {text}\nnew:     {new}\n")
         self.commit()
         self.first = git(self.folder, "rev-parse", "HEAD")
-        (self.folder / "crates" / "c" / "lib.rt").write_text("2")
-        self.commit()
-        was = TOOL.ROOT, TOOL.LANDINGS
-        self.addCleanup(lambda: (setattr(TOOL, "ROOT", was[0]), setattr(TOOL, "LANDINGS", was[1])))
-        TOOL.ROOT, TOOL.LANDINGS = self.folder, self.folder / "landings"
+        was = TOOL.ROOT, TOOL.LANDINGS, TOOL.PROVE.CRATES
+        self.addCleanup(lambda: (setattr(TOOL, "ROOT", was[0]), setattr(TOOL, "LANDINGS", was[1]), setattr(TOOL.PROVE, "CRATES", was[2])))
+        TOOL.ROOT, TOOL.LANDINGS, TOOL.PROVE.CRATES = self.folder, self.folder / "landings", dict.fromkeys(self.NAMES)
+
+    def write(self, crate: str, path: str, text: str) -> None:
+        file = self.folder / "crates" / crate / path
+        file.parent.mkdir(parents=True, exist_ok=True)
+        file.write_text(text, encoding="utf-8")
 
     def commit(self) -> None:
         git(self.folder, "add", "-A")
         git(self.folder, "commit", "-q", "-m", "more")
 
-    def test_what_changed_and_every_third_of_the_others(self) -> None:
-        TOOL.LANDINGS.write_text(f"{self.first}\n")
-        self.assertEqual(TOOL.due(self.NAMES), ["c", "f"])
-        TOOL.LANDINGS.write_text(f"earlier\n{self.first}\n")
-        self.assertEqual(TOOL.due(self.NAMES), ["b", "c", "e"])
-        TOOL.LANDINGS.write_text("earlier\nearlier\n" + git(self.folder, "rev-parse", "HEAD"))
-        self.assertEqual(TOOL.due(self.NAMES), ["a", "d"])
+    def land(self, *commits: str) -> None:
+        TOOL.LANDINGS.write_text("".join(f"{it}\n" for it in commits))
+
+    def due(self) -> Tuple[Dict[str, List[str]], str]:
+        """By crate the edits and twins that are due, and what is said of it."""
+        crates = [TOOL.Crate(name) for name in self.NAMES]
+        said = io.StringIO()
+        with contextlib.redirect_stdout(said):
+            TOOL.leave_what_is_due(crates)
+        left = {crate.name: sorted(it.name for it in [*crate.edits, *crate.twins]) for crate in crates}
+        return {name: edits for name, edits in left.items() if edits}, said.getvalue()
+
+    ALL = ["one.edit", "one.twin", "two.edit", "two.twin"]
+
+    def test_of_a_crate_that_changed_what_changed_and_every_third_of_the_others_whole(self) -> None:
+        self.write("b", "src/lib.rt", self.SOURCE.replace("    2", "    4 - 2"))
+        self.write("b", "wrong-bodies/two.edit", "file: src/lib.rt\nold:     4 - 2\nnew:     0\n")
+        self.write("b", "wrong-bodies/two.twin", "file: src/lib.rt\nold:     4 - 2\nnew:     2\n")
+        self.commit()
+        self.land(self.first)
+        due, said = self.due()
+        self.assertEqual(due, {"b": ["two.edit", "two.twin"], "c": self.ALL, "f": self.ALL})
+        self.assertIn("due: a: 0 of 4, since nothing that they rest on changed\n", said)
+        self.assertIn("due: b: 2 of 4\ndue: b/two.edit: its text changed\n", said)
+        self.assertIn("due: c: all 4, in its turn\n", said)
+
+    def test_a_comment_makes_nothing_due(self) -> None:
+        self.write("a", "src/lib.rt", self.SOURCE.replace("    2", "    // two\n    2"))
+        self.commit()
+        self.land(self.first)
+        self.assertEqual(self.due()[0], {"c": self.ALL, "f": self.ALL})
+
+    def test_a_function_that_changed_makes_its_edits_due(self) -> None:
+        self.write("a", "src/lib.rt", self.SOURCE.replace("pub fn two() -> u8 {", "pub fn two() -> u8\n    ensures { result ≡ 2 }\n{"))
+        self.land(self.first)
+        due, said = self.due()
+        self.assertEqual(due["a"], ["two.edit", "two.twin"])
+        self.assertIn("due: a/two.twin: two changed\n", said)
+
+    def test_a_twin_that_changed_makes_its_edit_due(self) -> None:
+        self.write("d", "wrong-bodies/one.twin", "file: src/lib.rt\nold:     1\nnew:     1 + 0\n")
+        self.land(self.first)
+        self.assertEqual(self.due()[0]["d"], ["one.edit", "one.twin"])
+
+    def test_what_is_not_in_git_yet_is_due(self) -> None:
+        self.write("e", "wrong-bodies/three.edit", "file: src/lib.rt\nold:     1\nnew:     3\n")
+        self.land(self.first)
+        self.assertEqual(self.due()[0]["e"], ["three.edit"])
+
+    def test_turns_go_round(self) -> None:
+        self.land(self.first, self.first)
+        self.assertEqual(sorted(self.due()[0]), ["b", "e"])
+        self.land(self.first, self.first, self.first)
+        self.assertEqual(sorted(self.due()[0]), ["a", "d"])
 
     def test_three_landings_try_each(self) -> None:
         tried = [at for landings in range(7, 10) for at in range(32) if TOOL.is_turn(at, landings)]
         self.assertEqual(sorted(tried), list(range(32)))
 
     def test_all_where_git_cannot_tell(self) -> None:
-        self.assertEqual(TOOL.due(self.NAMES), self.NAMES)
-        TOOL.LANDINGS.write_text("0123456789012345678901234567890123456789")
-        self.assertEqual(TOOL.due(self.NAMES), self.NAMES)
+        whole = dict.fromkeys(self.NAMES, self.ALL)
+        due, said = self.due()
+        self.assertEqual(due, whole)
+        self.assertIn("due: a: all 4, since git can not tell what changed\n", said)
+        self.land("0123456789012345678901234567890123456789")
+        self.assertEqual(self.due()[0], whole)
+        self.write("a", "src/lib.rt", self.SOURCE)
+        git(self.folder, "commit", "-q", "--allow-empty", "-m", "more")
         clone = self.folder / "clone"
         git(self.folder, "clone", "-q", "--depth", "1", f"file://{self.folder}", str(clone))
         TOOL.ROOT, TOOL.LANDINGS = clone, clone / "landings"
-        TOOL.LANDINGS.write_text(self.first)
-        self.assertEqual(TOOL.due(self.NAMES), self.NAMES)
+        self.land(self.first)
+        self.assertEqual(self.due()[0], whole)
+
+
+class Twins(unittest.TestCase):
+    """Whether an edit needs a twin, by what it changes."""
+
+    def assert_change(self, change: str, *pairs: Tuple[str, str]) -> None:
+        self.assertEqual(change_of([("src/half.rt", old, new) for old, new in pairs]).name, change)
+
+    def test_a_value(self) -> None:
+        self.assert_change("VALUE", ("lun: said.lun,", "lun: 0,"))
+        self.assert_change("VALUE", ("Err(Fault::Bus)", "Err(Fault::Memory)"), ("true", "false"))
+        self.assert_change("VALUE", ("self.place", "Place { lun: 0, place }"))
+
+    def test_an_operator(self) -> None:
+        self.assert_change("OPERATOR", ("if a < b {", "if a <= b {"))
+        self.assert_change("OPERATOR", ("at", "at + 1"))
+        self.assert_change("OPERATOR", ("true", "false"), ("&& b", "|| b"))
+
+    def test_a_call(self) -> None:
+        self.assert_change("CALL", ("posts.pop_front()", "posts.pop_back()"))
+        self.assert_change("CALL", ("Some(cause)", "None"))
+
+    def test_a_statement(self) -> None:
+        for old, new in (("next();", "next(); next();"), ("at", "{ let at = 0; at }"), ("step(at)?;", "step(at);"), ("step(at)", "if at > 0 { step(at) }"),
+                         ("None => 0,", "None => 0, Some(1) => 1,"), ("Ok(at)", "return Ok(at)")):
+            self.assert_change("STATEMENT", (old, new))
+        self.assert_change("STATEMENT", ("true", "false"), ("next();", "last(); next();"))
+
+    def test_the_length_of_an_array_and_a_comment_are_no_statements(self) -> None:
+        self.assert_change("CALL", ("*waiting()", "[true; 8]"))
+        self.assert_change("VALUE", ("at // if so;", "other"))
+
+    def lacking(self, text: str, twin: bool = False) -> List[str]:
+        with tempfile.TemporaryDirectory() as made:
+            sources = {"src/half.rt": HALF}
+            for name in ["a.edit", *(["a.twin"] if twin else [])]:
+                (Path(made) / name).write_text(text, encoding="utf-8")
+            edits = [TOOL.read_edit(Path(made) / "a.edit", sources)]
+            twins = [TOOL.read_edit(Path(made) / "a.twin", sources)] if twin else []
+            return [TOOL.about_twin(it, twins) for it in edits if TOOL.needs_twin(it, twins)]
+
+    def test_an_edit_of_a_statement_needs_a_twin_or_a_reason(self) -> None:
+        text = "file: src/half.rt\nold: third(1)\nnew: let _n = 1; third(1)\n"
+        self.assertEqual(self.lacking(text), ["it needs a twin, since it adds or removes a statement"])
+        self.assertEqual(self.lacking(text, twin=True), [])
+        self.assertEqual(self.lacking("alone: no step changes nothing here\n" + text), [])
+        self.assertEqual(self.lacking(text.replace("let _n = 1; third(1)", "third(2)")), [])
 
 
 class Gate(unittest.TestCase):

@@ -96,10 +96,10 @@ def add_rows(
 
 
 def add_row(root: ET.Element, scale: Scale, name: str, top: int, bars: List[Stretch], texts: List[str]) -> None:
-    """A row's name, its bars, and the text in each bar."""
+    """A row's name, its bars, and the text in each bar; short bars last, since each is drawn wide enough to be seen."""
     group = ET.SubElement(root, "g")
     add_text(group, LEFT - 8, top + 16, name, "end", weight="bold")
-    for bar, text in zip(bars, texts):
+    for bar, text in sorted(zip(bars, texts), key=lambda it: it[0].start - it[0].end):
         add_bar(group, scale, top, bar)
         if text:
             colour = "white" if bar.part in ON_DARK else INK

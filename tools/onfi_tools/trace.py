@@ -129,5 +129,19 @@ def between(phase: Phase, behind: Phase, lengths: Optional[Mapping[str, Spans]])
     return [cell for cell in cells if cell.start < cell.end]
 
 
+def misfit(phases: List[Phase], lengths: Mapping[str, Spans]) -> Optional[str]:
+    """What these lengths contradict first in a trace, in words; None where it may be one of a device that has them."""
+    for number, phase in enumerate(phases, 1):
+        wanted = lengths[phase.kind].post if phase.is_post else lengths[phase.kind].cmd
+        if phase.end - phase.start != wanted:
+            return f"line {number}: the phase takes {phase.end - phase.start} ns, by the script {wanted}"
+    for own in by_lun(phases).values():
+        for phase, behind in zip(own, own[1:]):
+            part = Part.ARRAY if behind.is_post else Part.GAP
+            if not phase.is_post and behind.start < phase.end + wait_of(part, lengths[phase.kind]):
+                return f"line {phases.index(behind) + 1}: starts before the {part.value} of the script is over"
+    return None
+
+
 def wait_of(part: Part, spans: Spans) -> int:
     return spans.array if part is Part.ARRAY else spans.gap

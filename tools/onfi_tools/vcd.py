@@ -4,18 +4,20 @@ from __future__ import annotations
 
 from typing import Dict, List, Mapping, NamedTuple, Optional, Tuple
 
-from onfi_tools.device import Spans
+from onfi_tools.device import KINDS, Spans
 from onfi_tools.trace import Part, Phase, Stretch, by_lun, stretches
 
 IDLE = "000"
 CODES = {Part.COMMAND: 1, Part.GAP: 2, Part.ARRAY: 3, Part.WAIT: 4, Part.OUTPUT: 5, Part.STATUS: 6}
-NOBODY = "zzz"
 UNKNOWN = "xxx"
 BUSY = (Part.GAP, Part.ARRAY)
+BLOCK_BITS, PAGE_BITS = 16, 12
 MEANING = (
     "bus_owner: number of the LUN, z where nobody has the bus",
     "ready: 0 in gap and array time, else 1; x where the trace doesn't tell",
     "phase: 0 idle, " + ", ".join(f"{code} {part.value}" for part, code in CODES.items()) + "; x runs since before",
+    "kind: of the group, " + ", ".join(f"{code} {kind}" for code, kind in enumerate(KINDS)) + "; z where the LUN is idle",
+    "block, page: of the phase on the bus; z where there is none",
 )
 
 
@@ -37,26 +39,50 @@ class Signal(NamedTuple):
 Change = Tuple[int, Signal, str]
 
 
+class OfLun(NamedTuple):
+    """The variables of a LUN."""
+
+    ready: Signal
+    phase: Signal
+    kind: Signal
+    block: Signal
+    page: Signal
+
+    @classmethod
+    def of(cls, lun: int) -> OfLun:
+        told = (("ready", 1), ("phase", 3), ("kind", 2), ("block", BLOCK_BITS), ("page", PAGE_BITS))
+        return cls(*(Signal(chr(34 + len(told) * lun + at), name, bits) for at, (name, bits) in enumerate(told)))
+
+    def idle(self, time: int) -> List[Change]:
+        """What stands where the LUN has nothing to do."""
+        known = [(time, self.ready, "1"), (time, self.phase, IDLE)]
+        return known + [(time, signal, nothing(signal)) for signal in (self.kind, self.block, self.page)]
+
+
+def nothing(signal: Signal) -> str:
+    return "z" * signal.bits
+
+
 def picture(phases: List[Phase], lengths: Optional[Mapping[str, Spans]]) -> str:
     """The dump, from 0 to the finish, in ns; waits for the bus are told only where the lengths are known."""
     luns = by_lun(phases)
     bus = Signal("!", "bus_owner", 3)
-    pairs = {lun: (Signal(chr(34 + 2 * lun), "ready", 1), Signal(chr(35 + 2 * lun), "phase", 3)) for lun in luns}
-    changes = [(0, bus, NOBODY)]
-    for ready, state in pairs.values():
-        changes += [(0, ready, "1"), (0, state, IDLE)]
+    signals = {lun: OfLun.of(lun) for lun in luns}
+    changes = [(0, bus, nothing(bus))]
+    for own in signals.values():
+        changes += own.idle(0)
     for phase in phases:
         changes += bus_changes(bus, phase)
-    for lun, own in luns.items():
-        for stretch in stretches(own, 0, lengths):
-            changes += lun_changes(*pairs[lun], stretch)
-    return "\n".join(header(bus, pairs) + dumped(changes)) + "\n"
+    for lun, phases_of_lun in luns.items():
+        for stretch in stretches(phases_of_lun, 0, lengths):
+            changes += lun_changes(signals[lun], stretch)
+    return "\n".join(header(bus, signals) + dumped(changes)) + "\n"
 
 
-def header(bus: Signal, pairs: Mapping[int, Tuple[Signal, Signal]]) -> List[str]:
+def header(bus: Signal, luns: Mapping[int, OfLun]) -> List[str]:
     lines = [f"$comment {line} $end" for line in MEANING]
     lines += ["$timescale 1 ns $end", "$scope module channel $end", bus.declared()]
-    for lun, signals in pairs.items():
+    for lun, signals in luns.items():
         lines.append(f"$scope module lun{lun} $end")
         lines += [signal.declared() for signal in signals]
         lines.append("$upscope $end")
@@ -64,16 +90,18 @@ def header(bus: Signal, pairs: Mapping[int, Tuple[Signal, Signal]]) -> List[str]
 
 
 def bus_changes(bus: Signal, phase: Phase) -> List[Change]:
-    return [(phase.start, bus, f"{phase.lun:03b}"), (phase.end, bus, NOBODY)]
+    return [(phase.start, bus, f"{phase.lun:03b}"), (phase.end, bus, nothing(bus))]
 
 
-def lun_changes(ready: Signal, phase: Signal, stretch: Stretch) -> List[Change]:
+def lun_changes(lun: OfLun, stretch: Stretch) -> List[Change]:
     """What begins with a stretch, and idle behind it; what follows at once takes the place of that."""
     known = stretch.part is not Part.BEFORE
     state = "x" if not known else "0" if stretch.part in BUSY else "1"
     code = f"{CODES[stretch.part]:03b}" if known else UNKNOWN
-    behind = [(stretch.end, ready, "1"), (stretch.end, phase, IDLE)]
-    return [(stretch.start, ready, state), (stretch.start, phase, code)] + behind
+    begin = [(stretch.start, lun.ready, state), (stretch.start, lun.phase, code), (stretch.start, lun.kind, f"{KINDS.index(stretch.kind):02b}")]
+    for signal, number in ((lun.block, stretch.block), (lun.page, stretch.page)):
+        begin.append((stretch.start, signal, nothing(signal) if number is None else f"{number:0{signal.bits}b}"))
+    return begin + lun.idle(stretch.end)
 
 
 def dumped(changes: List[Change]) -> List[str]:

@@ -1,0 +1,192 @@
+"""Wrong bodies and their twins: how they are read, what they change, and whether one needs a twin.
+
+An edit is a file of lines 'file: src/x.rt', 'old: TEXT' and 'new: TEXT', each TEXT in one line, the old text once in the file.
+One that adds or removes a statement may be refused for its shape alone, so it needs a twin, or a line 'alone: REASON' that
+says why it has none.
+"""
+
+from __future__ import annotations
+
+import enum
+import re
+from dataclasses import dataclass
+from pathlib import Path
+from typing import Dict, FrozenSet, List, Set, Tuple
+
+from onfi_tools.functions import Function, Key, functions_of, users_of
+
+Pair = Tuple[str, str, str]
+TOKEN = re.compile(r"""b?"(?:\\.|[^"\\])*"|b?'(?:\\.|[^'\\])'|[A-Za-z_]\w*!?|\d\w*|<<=?|>>=?|&&|\|\||[-+*/%&|^<>=!]=|->|=>|::|\.\.=?|\S""")
+STATEMENT = frozenset("if else match return let for while loop break continue fn => ?".split())
+OPERATOR = frozenset("+ - * / % & | ^ < > ! == != <= >= && || << >> += -= *= /= %= &= |= ^= .. ..= as".split())
+
+
+class BadEdit(Exception):
+    """Why an edit can't be tried."""
+
+
+class Change(enum.Enum):
+    """What an edit changes, the coarsest of its pairs."""
+
+    STATEMENT = "adds or removes a statement"
+    CALL = "changes a call"
+    OPERATOR = "changes an operator"
+    VALUE = "changes a value"
+
+
+def tokens_of(text: str) -> List[str]:
+    """The tokens of a text of one line, without its comment."""
+    tokens = TOKEN.findall(text)
+    slashes = next((at for at in range(len(tokens)) if tokens[at : at + 2] == ["/", "/"]), len(tokens))
+    return tokens[:slashes]
+
+
+def statements_in(tokens: List[str]) -> List[str]:
+    """The tokens that make statements: the words of them, and each `;` but that of an array's length."""
+    found, depth = [], 0
+    for token in tokens:
+        depth += (token == "[") - (token == "]")
+        if token in STATEMENT or token == ";" and depth == 0:
+            found.append(token)
+    return found
+
+
+def calls_in(tokens: List[str]) -> List[str]:
+    return [word for word, behind in zip(tokens, tokens[1:]) if behind == "(" and word[0].isalpha() and word not in STATEMENT]
+
+
+def operators_in(tokens: List[str]) -> List[str]:
+    return [token for token in tokens if token in OPERATOR]
+
+
+def change_of_pair(old: str, new: str) -> Change:
+    was, made = tokens_of(old), tokens_of(new)
+    if statements_in(was) != statements_in(made):
+        return Change.STATEMENT
+    if calls_in(was) != calls_in(made):
+        return Change.CALL
+    return Change.OPERATOR if operators_in(was) != operators_in(made) else Change.VALUE
+
+
+def change_of(pairs: List[Pair]) -> Change:
+    changes = [change_of_pair(old, new) for _, old, new in pairs]
+    return next(it for it in Change if it in changes)
+
+
+@dataclass
+class Edit:
+    """A wrong body or a twin: its pairs of texts, and the functions that it changes."""
+
+    file: Path
+    pairs: List[Pair]
+    keys: FrozenSet[Key]
+    is_alone: bool = False
+    # Why it has no twin, where it says so.
+    reason: str = ""
+
+    @property
+    def name(self) -> str:
+        return self.file.name
+
+    @property
+    def is_twin(self) -> bool:
+        return self.file.suffix == ".twin"
+
+    def apply(self, folder: Path) -> None:
+        for path, old, new in self.pairs:
+            file = folder / path
+            text = file.read_text(encoding="utf-8")
+            at = self.place_in(path, text, old)
+            file.write_text(text[:at] + new + text[at + len(old) :], encoding="utf-8")
+
+    def place_in(self, path: str, text: str, old: str) -> int:
+        """Where an old text stands: in a function of this edit, since another edit of the round may have made the same text elsewhere."""
+        spans = [span_of(text, it) for it in functions_of(path, text) if it.key in self.keys]
+        inside = [at for at in places_of(old, text) if any(begin <= at < end for begin, end in spans)]
+        found = inside if len(inside) == 1 else places_of(old, text)
+        if len(found) != 1:
+            raise BadEdit(f"an old text stands in {path} {len(found)} times")
+        return found[0]
+
+
+def span_of(text: str, function: Function) -> Tuple[int, int]:
+    """Where a function's lines begin and end in its file."""
+    lines = text.splitlines(keepends=True)
+    return sum(map(len, lines[: function.first])), sum(map(len, lines[: function.last + 1]))
+
+
+def places_of(part: str, text: str) -> List[int]:
+    return [it.start() for it in re.finditer(re.escape(part), text)]
+
+
+def line_of(text: str, place: int) -> int:
+    return text.count("\n", 0, place)
+
+
+def head_of(lines: List[str], line: int) -> str:
+    """The line that begins the item that a line stands in."""
+    return next((it for it in reversed(lines[: line + 1]) if re.match(r"[a-z#]", it) and not it.startswith("#")), "")
+
+
+def pairs_in(text: str) -> List[Pair]:
+    path = old = None
+    pairs: List[Pair] = []
+    for line in text.split("\n"):
+        if line.startswith("file: "):
+            path = line[len("file: ") :].strip()
+        elif line.startswith("old: "):
+            old = line[len("old: ") :]
+        elif line.startswith("new:"):
+            if path is None or old is None:
+                raise BadEdit("a line 'new:' stands before any 'file:' or 'old:'")
+            pairs.append((path, old, line[len("new:") :].removeprefix(" ")))
+            old = None
+    if not pairs or any(not path.startswith("src/") for path, _, _ in pairs):
+        raise BadEdit("it has no pair, or changes more than src/")
+    return pairs
+
+
+def reason_in(text: str) -> str:
+    """What an edit's line 'alone:' says."""
+    return next((line[len("alone: ") :].strip() for line in text.split("\n") if line.startswith("alone: ")), "")
+
+
+def read_edit(file: Path, sources: Dict[str, str]) -> Edit:
+    """Reads an edit and finds the functions that it changes; of a constant, those that use it. One that changes a type is tried alone."""
+    texts, is_alone, said = dict(sources), False, file.read_text(encoding="utf-8")
+    keys: Set[Key] = set()
+    pairs = pairs_in(said)
+    for path, old, new in pairs:
+        if texts.get(path, "").count(old) != 1:
+            raise BadEdit(f"an old text stands in {path} {texts.get(path, '').count(old)} times")
+        # (a text may begin with the blanks of its line)
+        line = line_of(texts[path], texts[path].index(old) + len(old) - len(old.lstrip()))
+        inside = [it for it in functions_of(path, texts[path]) if it.first <= line <= it.last]
+        head = head_of(texts[path].split("\n"), line)
+        word = re.match(r"(?:pub(?:\([a-z]+\))? )?(?:const|static) (\w+)", head)
+        if inside:
+            keys.add(inside[-1].key)
+        elif word:
+            keys |= {it.key for it in users_of(texts, word[1])}
+        elif not re.match(r"(?:pub )?(?:use|mod)\b", head):
+            is_alone = True
+        texts[path] = texts[path].replace(old, new)
+    if not keys:
+        raise BadEdit("it changes no function, and nothing that a function uses")
+    return Edit(file, pairs, frozenset(keys), is_alone, reason_in(said))
+
+
+def needs_twin(edit: Edit, twins: List[Edit]) -> bool:
+    """Whether an edit adds or removes a statement, has no twin of its name, and doesn't say why."""
+    has_twin = any(twin.file.with_suffix("") == edit.file.with_suffix("") for twin in twins)
+    return not has_twin and not edit.reason and change_of(edit.pairs) is Change.STATEMENT
+
+
+def about_twin(edit: Edit, twins: List[Edit]) -> str:
+    """What is to be said of an edit's twin: that it has one, or why it has none."""
+    if any(twin.file.with_suffix("") == edit.file.with_suffix("") for twin in twins):
+        return "it has a twin"
+    if edit.reason:
+        return f"no twin: {edit.reason}"
+    change = change_of(edit.pairs)
+    return f"it needs a twin, since it {change.value}" if change is Change.STATEMENT else f"no twin: it {change.value}"
