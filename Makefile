@@ -1,9 +1,17 @@
-# make plan: prove and build bin/onfi_sim, and plan one read with it.
-# make try:  the same script with the program unproved, in a few minutes.
-# make test: the whole gate: what must not compile, every proof and test, the cases of the program, and the wrong bodies that are due.
-# make library: prove and build lib/libonfi.a and lib/libonfi.so for C and for Python.
-# make install PREFIX=DIR: these with their header and a pkg-config file into DIR.
-# make wrong-bodies: those of all crates; tools/wrong-bodies CRATE tries those of one crate.
+# make plan             proves and builds bin/onfi_sim, and plans one read with it
+# make try              builds bin/onfi_sim-unproved in two to three minutes, and runs it: SCRIPT=FILE is its input, WORDS=".." its command
+#                       line; else it plans the same
+# make library          proves and builds lib/libonfi.a and lib/libonfi.so, for C and for Python
+# make wheel            the same library in a wheel for pip, dist/onfi-VERSION-py3-none-PLATFORM.whl
+# make install          puts the program with its manual page, and the libraries with their header and a pkg-config file, below
+#                       PREFIX, /usr/local where none is named; DESTDIR=DIR puts a package together in DIR
+# make install-program  the program with its manual page alone
+# make install-library  the libraries with their header alone
+# make uninstall        removes from PREFIX what these put there
+# make test             the whole gate: every proof, test and case, and the wrong bodies that are due
+# make wrong-bodies     those of all crates; tools/wrong-bodies CRATE tries those of one crate
+# make clean            removes what was built, and keeps what was proved; make clean-proofs removes that too
+# make help             prints this
 
 # The crates that a line of crates.txt says a crate stands on.
 below = $(filter onfi_%,$(shell sed -n 's/^$(1)\( [^:]*\)\{0,1\}://p' crates.txt))
@@ -23,7 +31,7 @@ only_onfi_script := command_line script row rows row_name field forms text fault
 # One job for each processor, up to four; a job takes about a gigabyte of memory.
 JOBS ?= $(shell n=$$(nproc); echo $$((n < 4 ? n : 4)))
 
-.PHONY: plan try test library install wrong-bodies
+.PHONY: plan try test library wheel install install-program install-library uninstall wrong-bodies clean clean-proofs help
 
 plan:
 	@$(MAKE) --no-print-directory -j3 bin/onfi_sim
@@ -67,17 +75,47 @@ lib/libonfi.a: $(call proved,$(LIBRARIES)) $(call sources_of,onfi_c) crates.txt
 
 lib/libonfi.so: lib/libonfi.a
 
+wheel: library
+	@rm -rf dist
+	@tools/make-wheel lib/libonfi.so dist
+
 PREFIX ?= /usr/local
+export PREFIX DESTDIR
 
-install: library
-	@tools/install-library lib "$(DESTDIR)$(PREFIX)" "$(PREFIX)"
+install: install-program install-library
 
-try:
+install-program: bin/onfi_sim
+	@tools/install program bin/onfi_sim
+
+install-library: library
+	@tools/install library lib
+
+uninstall:
+	@tools/install remove
+
+# The program before any proof; its words and its input.
+WORDS ?= plan
+SCRIPT ?= examples/one-read.onfi
+
+bin/onfi_sim-unproved: crates.txt $(shell find $(patsubst %,crates/%/src,$(PROGRAM) onfi_sim) -type f)
+	@echo "building onfi_sim unproved"
+	@tools/try-program $@
+
+try: bin/onfi_sim-unproved
 	@echo "unproved: this run says nothing of the proofs"
-	cd crates/onfi_sim && rt try -- plan < ../../examples/one-read.onfi
+	bin/onfi_sim-unproved $(WORDS) < "$(SCRIPT)"
 
 test:
 	tools/gate
 
 wrong-bodies:
 	tools/wrong-bodies
+
+clean:
+	rm -rf bin lib dist
+
+clean-proofs: clean
+	rm -rf crates/*/out
+
+help:
+	@sed -n '/^$$/q; s/^# //p' Makefile

@@ -17,6 +17,10 @@
  * All memory is the caller's, or is asked of malloc and given back before the call returns. Calls keep nothing, start no
  * thread and take no lock; several threads may call at the same time, each with memory of its own. A call takes some tens
  * of kilobytes of stack.
+ *
+ * The shared library is libonfi.so.MAJOR. Within a MAJOR no call, struct or number changes its meaning or goes, and no call
+ * asks its caller for more. What may come or change: further calls and numbers of refusals, the texts of numbers, how many
+ * nodes a search opens, which of several optimal schedules is given, and which certificate.
  */
 #ifndef ONFI_H
 #define ONFI_H
@@ -28,6 +32,12 @@
 #ifdef __cplusplus
 extern "C" {
 #endif
+
+/* The version of this header. */
+#define ONFI_VERSION_MAJOR 1
+#define ONFI_VERSION_MINOR 0
+#define ONFI_VERSION_PATCH 0
+#define ONFI_VERSION "1.0.0"
 
 /* The greatest counts. */
 enum { ONFI_LUNS = 8, ONFI_WANTS = 8, ONFI_MEMBERS = 4, ONFI_STARTS = 8 };

@@ -105,7 +105,8 @@ def judged(call: Callable[..., int], said: Problem, schedule: Schedule, certific
     status = call(*said.words, ctypes.byref(CSchedule.of(schedule)), certificate, len(certificate), ctypes.byref(verdict))
     if status != DONE:
         raise refusal(status, verdict.place)
-    return verdict.finish
+    finish: int = verdict.finish
+    return finish
 
 
 def timing_of_page(page: bytes, sheet: str) -> Device:

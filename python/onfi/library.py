@@ -6,9 +6,11 @@ import ctypes
 import functools
 import os
 import pathlib
+from typing import List, Tuple
 
 from onfi.structs import CChannel, CDevice, CLun, CPlan, CSchedule, CVerdict, CWant
 
+SONAME = "libonfi.so.1"
 BYTES, SIZE = ctypes.c_char_p, ctypes.c_size_t
 ROOM = (ctypes.c_void_p, SIZE, ctypes.POINTER(SIZE))
 PROBLEM = (ctypes.POINTER(CChannel), ctypes.POINTER(CLun), SIZE, ctypes.POINTER(CWant), SIZE)
@@ -24,17 +26,32 @@ CALLS = {
 }
 
 
-def path() -> str:
-    """Where the library is: as ONFI_LIBRARY says, else beside this file, else where the system looks."""
+def places() -> List[Tuple[str, str]]:
+    """Where the library may be, each with what tells so: where ONFI_LIBRARY says, and nowhere else then; else beside this file, then where the system looks."""
     told = os.environ.get("ONFI_LIBRARY")
+    if told:
+        return [(told, "as ONFI_LIBRARY says")]
     beside = pathlib.Path(__file__).with_name("libonfi.so")
-    return told or (str(beside) if beside.is_file() else "libonfi.so")
+    return [(str(beside), "beside the package"), (SONAME, "where the system looks")]
+
+
+def opened(tried: List[Tuple[str, str]]) -> ctypes.CDLL:
+    """The first of these libraries that can be loaded; OSError tells each that was tried, and what to do."""
+    missing = []
+    for path, why in tried:
+        try:
+            return ctypes.CDLL(path)
+        except OSError as wrong:
+            missing.append(f"  {path}, {why}: {wrong}")
+    told = "" if os.environ.get("ONFI_LIBRARY") else "; ONFI_LIBRARY is not set"
+    what = "`make library` builds lib/libonfi.so: set ONFI_LIBRARY to its path, or install the wheel of `make wheel`"
+    raise OSError("\n".join([f"no library libonfi.so can be loaded{told}. Tried:", *missing, what]))
 
 
 @functools.lru_cache(maxsize=None)
 def library() -> ctypes.CDLL:
     """The library, loaded once."""
-    found = ctypes.CDLL(path())
+    found = opened(places())
     for name, takes in CALLS.items():
         call = getattr(found, name)
         call.argtypes, call.restype = takes, ctypes.c_uint32

@@ -72,6 +72,14 @@ class Headers(unittest.TestCase):
         told = run("nm", "-D", "--defined-only", str(LIBRARY / "libonfi.so")).stdout.decode().split()[2::3]
         self.assertEqual(sorted(told), ["onfi_check", "onfi_check_known", "onfi_plan", "onfi_plan_known", "onfi_status_text", "onfi_text_check", "onfi_text_plan", "onfi_timing_of_page"])
 
+    def test_shared_library_is_named_by_its_major_version(self) -> None:
+        version = (ROOT / "VERSION").read_text().strip()
+        soname = f"libonfi.so.{version.split('.')[0]}"
+        told = run("readelf", "-d", str(LIBRARY / "libonfi.so")).stdout.decode()
+        self.assertIn(f"Library soname: [{soname}]", told)
+        self.assertEqual((LIBRARY / "libonfi.so").resolve().name, f"libonfi.so.{version}")
+        self.assertEqual((LIBRARY / soname).resolve().name, f"libonfi.so.{version}")
+
     def test_numbers_are_those_of_python(self) -> None:
         source, made = Path(BUILT.name) / "numbers.c", Path(BUILT.name) / "numbers"
         names = {it.__name__: "ONFI_" + "".join("_" + c if c.isupper() and at else c for at, c in enumerate(it.__name__)).upper() for it in onfi.REFUSALS.values()}
@@ -96,6 +104,21 @@ class Examples(unittest.TestCase):
             "L",
             "accepted 58240",
         ])
+
+    def test_pool(self) -> None:
+        """A static pool serves a batch; one that is too small is told as refused memory. Both run without sanitizers, whose allocator it replaces."""
+        for size, status in (("1048576", 0), ("512", 1)):
+            made = str(Path(BUILT.name) / f"pool-{size}")
+            sources = [str(ROOT / "examples/c" / name) for name in ("batch.c", "pool.c")]
+            line = ["cc", "-std=c11", "-O2", *STRICT, f"-DPOOL_BYTES={size}", f"-I{ROOT / 'include'}", *sources, str(LIBRARY / "libonfi.a"), "-o", made]
+            built = run(*line)
+            self.assertEqual(built.returncode, 0, built.stderr)
+            told = run(made)
+            self.assertEqual(told.returncode, status, told.stderr)
+            if status:
+                self.assertEqual((told.stdout, told.stderr), (b"", b"plan: memory was refused (4)\n"))
+            else:
+                self.assertEqual((told.stdout, told.stderr), (run(example("batch")).stdout, b""))
 
     def test_simulator(self) -> None:
         told = run(example("simulator"))

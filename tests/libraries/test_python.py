@@ -2,11 +2,19 @@
 
 from __future__ import annotations
 
+import ast
+import base64
 import dataclasses
+import hashlib
+import os
 import re
+import shutil
+import subprocess
 import sys
+import tempfile
 import textwrap
 import unittest
+import zipfile
 from pathlib import Path
 from typing import Any, Dict
 
@@ -15,6 +23,7 @@ import test_libraries  # noqa: E402, F401
 
 import onfi  # noqa: E402
 
+ROOT = Path(__file__).resolve().parent.parent.parent
 TIMING = onfi.Timing(onfi.Spans(140, 600, 25_100, 11_000), onfi.Spans(10_800, 600, 200_100, 280), onfi.Spans(100, 600, 1_500_100, 280))
 CHANNEL = onfi.Channel(TIMING, onfi.Rules(read=True, write=True, plane_bits=1))
 LUNS = [onfi.Lun(), onfi.Lun(since=500)]
@@ -139,6 +148,72 @@ class Checks(unittest.TestCase):
         plan = onfi.plan(CHANNEL, LUNS, WANTS)
         short = dataclasses.replace(plan.schedule, groups=[onfi.Group([3], [1])])
         self.assertRaises(ValueError, onfi.check, CHANNEL, LUNS, WANTS, short, plan.certificate)
+
+
+class Packages(unittest.TestCase):
+    """What a user's own tools see: names, types, a wheel, a library that isn't there."""
+
+    def test_names_are_listed_one_by_one(self) -> None:
+        wanted = sorted(["REFUSALS", "Refused", *(it.__name__ for it in onfi.REFUSALS.values())])
+        for module in ("__init__", "refused"):
+            tree = ast.parse((ROOT / f"python/onfi/{module}.py").read_text())
+            lists = [it.value for it in tree.body if isinstance(it, ast.Assign) and isinstance(it.targets[0], ast.Name) and it.targets[0].id == "__all__"]
+            names = ast.literal_eval(lists[0])
+            self.assertEqual(sorted({*names} & {*wanted}), wanted)
+            self.assertEqual(len({*names}), len(names))
+            self.assertNotIn("*", [name.name for it in ast.walk(tree) if isinstance(it, ast.ImportFrom) for name in it.names])
+        self.assertTrue(all(hasattr(onfi, name) for name in onfi.__all__))
+
+    def test_types_are_strict(self) -> None:
+        """Where mypy is there it agrees, also with a caller that names a refusal."""
+        source = "from onfi import Kind, Over, Want\n\n\ndef place(told: Over) -> int:\n    return told.place\n\n\nWANT = Want(0, Kind.READ, lun=0, block=0)\n"
+        compile(source, "caller", "exec")
+        self.assertTrue((ROOT / "python/onfi/py.typed").is_file())
+        if shutil.which("mypy"):
+            with tempfile.TemporaryDirectory() as room:
+                (Path(room) / "caller.py").write_text(source)
+                words = ["mypy", "--strict", "--cache-dir", room, str(ROOT / "python/onfi"), f"{room}/caller.py"]
+                told = subprocess.run(words, capture_output=True, text=True, env={**os.environ, "MYPYPATH": str(ROOT / "python")})
+            self.assertEqual(told.returncode, 0, told.stdout)
+
+    def imported(self, folder: Path, code: str, **how: str) -> "subprocess.CompletedProcess[str]":
+        room = {name: value for name, value in os.environ.items() if name != "ONFI_LIBRARY"}
+        return subprocess.run([sys.executable, "-B", "-c", code], env={**room, "PYTHONPATH": str(folder), **how}, capture_output=True, text=True, cwd=folder)
+
+    def test_a_missing_library_is_told_with_what_to_do(self) -> None:
+        call = "import onfi\ntry:\n    onfi.text_plan(b'end')\nexcept OSError as told:\n    print(told)"
+        with tempfile.TemporaryDirectory() as room:
+            shutil.copytree(ROOT / "python/onfi", Path(room) / "onfi")
+            told = self.imported(Path(room), call).stdout
+            for word in (f"{room}/onfi/libonfi.so, beside the package", "libonfi.so.1, where the system looks", "ONFI_LIBRARY is not set", "`make library`"):
+                self.assertIn(word, told)
+            named = self.imported(Path(room), call, ONFI_LIBRARY="/no/such.so").stdout
+            self.assertIn("/no/such.so, as ONFI_LIBRARY says", named)
+            self.assertNotIn("beside the package", named)
+
+    def test_the_wheel_has_its_library_and_tells_its_platform(self) -> None:
+        with tempfile.TemporaryDirectory() as room:
+            made = subprocess.run([str(ROOT / "tools/make-wheel"), os.environ["ONFI_LIBRARY"], room], capture_output=True, text=True, check=True)
+            path = Path(made.stdout.strip())
+            version = (ROOT / "VERSION").read_text().strip()
+            self.assertRegex(path.name, rf"^onfi-{re.escape(version)}-py3-none-manylinux_2_(1[7-9]|[2-9]\d)_(x86_64|aarch64)\.whl$")
+            with zipfile.ZipFile(path) as wheel:
+                wheel.extractall(f"{room}/site")
+                for line in wheel.read(f"onfi-{version}.dist-info/RECORD").decode().splitlines():
+                    name, digest, size = line.split(",")
+                    held = wheel.read(name)
+                    wanted = base64.urlsafe_b64encode(hashlib.sha256(held).digest()).rstrip(b"=").decode()
+                    self.assertTrue(name.endswith("RECORD") or (digest, size) == (f"sha256={wanted}", str(len(held))), name)
+                self.assertIn(f"Tag: {path.stem.split('-', 2)[2]}\n", wheel.read(f"onfi-{version}.dist-info/WHEEL").decode())
+            told = self.imported(Path(room) / "site", "import onfi; print(onfi.__file__, onfi.__version__, onfi.text_plan(b'end').text)")
+            self.assertEqual((told.stdout, told.stderr), (f"{room}/site/onfi/__init__.py {version} b'script refused 0 Missing\\n'\n", ""))
+
+    def test_no_wheel_is_made_of_something_else(self) -> None:
+        with tempfile.TemporaryDirectory() as room:
+            for path in (str(ROOT / "README.md"), sys.executable, "/no/such.so"):
+                told = subprocess.run([str(ROOT / "tools/make-wheel"), path, room], capture_output=True, text=True)
+                self.assertEqual((told.returncode, told.stdout, told.stderr.count("\n")), (1, "", 1), path)
+            self.assertEqual(list(Path(room).iterdir()), [])
 
 
 class Texts(unittest.TestCase):
