@@ -27,7 +27,7 @@ use Rattle.onfi_chip.specs.declared.closer.Closer.TheVariants.{More, Last}
 use Rattle.onfi_chip.specs.declared.lane.Lane.{Lane}
 use Rattle.onfi_chip.specs.declared.lane.Lane.TheVariants as lane
 use Rattle.onfi_chip.specs.declared.post.Post.{Post}
-use Rattle.onfi_chip.specs.Chip.{Chip, Lun, opened, taken, posts_of, queued, happened}
+use Rattle.onfi_chip.specs.Chip.{Chip, Lun, no_failures, opened, taken, posts_of, queued, happened}
 use Rattle.onfi_chip.specs.Chip.Lun.{Idle, Commanding, Posting}
 use Rattle.onfi_chip.specs.Calls.{command_of}
 use Rattle.onfi_chip.specs.Hold.{hold}
@@ -118,7 +118,7 @@ lane_sound g s lanes i x h l e = Each-get (IsLane s) lanes i x h.lanes l e
 
 -- a chip by the parts that change
 abbrev pub with_parts : Geometry → Timing → List Fault → Blocks → List Lun → Chip
-with_parts g t faults blocks luns = record { geometry = g; timing = t; faults = faults; blocks = blocks; luns = luns; failures = 0 }
+with_parts g t faults blocks luns = record { geometry = g; timing = t; faults = faults; blocks = blocks; luns = luns; failures = no_failures }
 
 abbrev pub view : Geometry → Timing → Stored → List Lane → Sim
 view g t s lanes = record { geometry = g; timing = t; store = s; luns = map lun_of lanes }
@@ -235,6 +235,6 @@ idle_luns lanes n e = ap (map lun_of) e ∙ map_replicate n
 
 pub opened_is :
     (g : Geometry) (t : Timing) (s : Stored) (lanes : List Lane) (faults : List Fault) → s.device ≡ device_of g faults → blocks_of s ≡ fresh_blocks (device_of g faults) →
-    lanes ≡ replicate g.lun_count lane.Idle → chip_of (view g t s lanes) ≡ opened g t faults 0
+    lanes ≡ replicate g.lun_count lane.Idle → chip_of (view g t s lanes) ≡ opened g t faults no_failures
 opened_is g t s lanes faults d b l =
     same_parts g t s.device.faults faults (blocks_of s) _ (map lun_of lanes) (replicate g.lun_count Idle) (ap (λ (e : Device). e.faults) d) b (idle_luns lanes g.lun_count l)

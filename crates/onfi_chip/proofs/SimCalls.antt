@@ -17,9 +17,9 @@ use Rattle.onfi_chip.specs.declared.closer.Closer.{Closer}
 use Rattle.onfi_chip.specs.declared.closer.Closer.TheVariants.{More, Last}
 use Rattle.onfi_chip.specs.declared.post.Post.{Post}
 use Rattle.onfi_chip.specs.declared.sim.SimChip.{SimChip}
-use Rattle.onfi_chip.specs.Chip.{Chip, after_post, posted}
+use Rattle.onfi_chip.specs.Chip.{Chip, Failures, after_post, posted}
 use Rattle.onfi_chip.specs.Chip.Lun.{Posting}
-use Rattle.onfi_chip.specs.Calls.{command_of, HasDone, IsNextPost, IsStatus}
+use Rattle.onfi_chip.specs.Calls.{AreNoFewer, command_of, HasDone, IsNextPost, IsStatus}
 use Rattle.onfi_chip.specs.Sim.{chip_of}
 use Rattle.onfi_chip.specs.SimChip.{chip_in, failures_of}
 
@@ -45,16 +45,23 @@ request_is r k p bytes ek ep eb =
     ∙ ap (λ (q : Place). record { kind = r.kind; place = q; bytes = bytes }) ep
     ∙ ap (λ (q : List ℕ). record { kind = r.kind; place = r.place; bytes = q }) (sym eb)
 
+-- no call more that failed, of either sort
+pub as_many : (old new : SimChip) → (failures_of new).bus ≡ (failures_of old).bus → (failures_of new).unready ≡ (failures_of old).unready → failures_of new ≡ failures_of old
+as_many old new b u = rw (b, u) refl
+
+no_fewer : (f : Failures) → AreNoFewer f f
+no_fewer f = record { bus = omega arith; unready = omega arith }
+
 -- what the dies did, the chip did
 pub has_done : (old new : SimChip) (base after : Chip) → chip_of new.dies ≡ base → after ≡ record base { failures = failures_of old } → failures_of new ≡ failures_of old → HasDone after (chip_in new)
 has_done old new base after e a n =
     subst (λ (y : Chip). HasDone y (chip_in new)) (sym a)
     record {
       state = ap (λ (c : Chip). record c { failures = failures_of new }) e;
-      count = omega (arith, n);
+      count = subst (AreNoFewer (failures_of old)) (sym n) (no_fewer (failures_of old));
     }
 
-pub by_closer : (closer : Closer) (c : Chip) (n : ℕ) (r : Request) (now : ℕ) → command_of closer (record c { failures = n }) r now ≡ record (command_of closer c r now) { failures = n }
+pub by_closer : (closer : Closer) (c : Chip) (n : Failures) (r : Request) (now : ℕ) → command_of closer (record c { failures = n }) r now ≡ record (command_of closer c r now) { failures = n }
 by_closer More c n r now = refl
 by_closer Last c n r now = refl
 

@@ -11,8 +11,10 @@ use Rattle.onfi_chip.specs.declared.closer.Closer.{Closer}
 use Rattle.onfi_chip.specs.declared.closer.Closer.TheVariants.{More, Last}
 use Rattle.onfi_chip.specs.declared.fault.ChipFault.{ChipFault}
 use Rattle.onfi_chip.specs.declared.fault.ChipFault.TheVariants.{Bus, Memory}
+use Rattle.onfi_chip.specs.declared.fault.PostFault.{PostFault}
+use Rattle.onfi_chip.specs.declared.fault.PostFault.TheVariants as post
 use Rattle.onfi_chip.specs.declared.post.Post.{Post}
-use Rattle.onfi_chip.specs.Chip.{Chip, Lun, commanded, launched}
+use Rattle.onfi_chip.specs.Chip.{Chip, Failures, Lun, commanded, launched}
 use Rattle.onfi_chip.specs.Chip.Lun.{Idle, Commanding, Posting}
 
 -- the request that a command carries, and the device takes
@@ -51,19 +53,29 @@ abbrev pub command_of : Closer → Chip → Request → ℕ → Chip
 command_of More chip r now = commanded chip r now
 command_of Last chip r now = launched chip r now
 
--- the call did what it is to do; its count of failures may have risen all the same
+-- neither count of failures is less than before
+pub record AreNoFewer (old new : Failures) : Type 0 where
+  pub bus : old.bus ≤ new.bus
+  pub unready : old.unready ≤ new.unready
+
+-- the count of that fault rose
+abbrev pub HasRisen : PostFault → Failures → Failures → Type 0
+HasRisen post.Bus old new = old.bus < new.bus
+HasRisen post.NotReady old new = old.unready < new.unready
+
+-- the call did what it is to do; its counts of failures may have risen all the same
 pub record HasDone (after new : Chip) : Type 0 where
   pub state : new ≡ record after { failures = new.failures }
-  pub count : after.failures ≤ new.failures
+  pub count : AreNoFewer after.failures new.failures
 
--- nothing is known of the chip but its faults and its count of failures, which rose
-pub record IsLost (old new : Chip) : Type 0 where
+-- nothing is known of the chip but its faults and its count of that fault, which rose
+pub record IsLost (fault : PostFault) (old new : Chip) : Type 0 where
   pub faults : new.faults ≡ old.faults
-  pub rose : old.failures < new.failures
+  pub rose : HasRisen fault old.failures new.failures
 
 -- after want of memory the chip is unchanged
 abbrev pub AfterFault : ChipFault → Chip → Chip → Type 0
-AfterFault Bus old new = IsLost old new
+AfterFault Bus old new = IsLost post.Bus old new
 AfterFault Memory old new = new ≡ old
 
 -- what a status byte says of the answer: bit 0 is FAIL

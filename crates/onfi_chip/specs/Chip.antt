@@ -17,20 +17,27 @@ pub data Lun : Type 0 where
   Commanding : List Request → ℕ → Lun
   Posting : List Post → ℕ → Lun
 
+-- how often a call's bus failed, and how often a status told that its LUN isn't ready
+pub record Failures : Type 0 where
+  pub bus : ℕ
+  pub unready : ℕ
+
+abbrev pub no_failures : Failures
+no_failures = record { bus = 0; unready = 0 }
+
 pub record Chip : Type 0 where
   pub geometry : Geometry
   pub timing : Timing
   pub faults : List Fault
   pub blocks : Blocks
   pub luns : List Lun
-  -- how often a call failed, or a status told that its LUN isn't ready
-  pub failures : ℕ
+  pub failures : Failures
 
 abbrev pub device_in : Chip → Device
 device_in chip = device_of chip.geometry chip.faults
 
 -- a chip as it opens: all blocks erased, no program or erase yet, all LUNs idle
-abbrev pub opened : Geometry → Timing → List Fault → ℕ → Chip
+abbrev pub opened : Geometry → Timing → List Fault → Failures → Chip
 opened geometry timing faults failures = record {
   geometry = geometry;
   timing = timing;

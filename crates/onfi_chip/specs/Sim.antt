@@ -16,7 +16,7 @@ use Rattle.onfi_chip.specs.declared.lane.Lane.TheVariants as lane
 use Rattle.onfi_chip.specs.declared.member.Member.{Member}
 use Rattle.onfi_chip.specs.declared.post.Post.{Post}
 use Rattle.onfi_chip.specs.declared.wait.Wait.{Wait}
-use Rattle.onfi_chip.specs.Chip.{Chip, Lun, queued, happened}
+use Rattle.onfi_chip.specs.Chip.{Chip, Lun, no_failures, queued, happened}
 use Rattle.onfi_chip.specs.Chip.Lun.{Idle, Commanding, Posting}
 
 -- what callers see of the dies
@@ -34,7 +34,7 @@ chip_of sim = record {
   faults = sim.store.device.faults;
   blocks = blocks_of sim.store;
   luns = sim.luns;
-  failures = 0;
+  failures = no_failures;
 }
 
 abbrev pub over_at : Wait → ℕ

@@ -1,15 +1,15 @@
 -- A simulated chip as a chip, and which of its calls fail.
-use Rattle.std.specs.Prelude.{◌≡◌, ℕ, ◌+◌, Bool, true, false, ◌↔◌, List, Result, Ok, Err, IsBitSet}
+use Rattle.std.specs.Prelude.{◌≡◌, ℕ, Bool, true, false, ◌↔◌, List, Result, Ok, Err, IsBitSet}
 use Rattle.onfi_chip.specs.declared.fault.ChipFault.{ChipFault}
 use Rattle.onfi_chip.specs.declared.fault.ChipFault.TheVariants.{Bus, Memory}
 use Rattle.onfi_chip.specs.declared.sim.SimChip.{SimChip}
-use Rattle.onfi_chip.specs.Chip.{Chip}
+use Rattle.onfi_chip.specs.Chip.{Chip, Failures}
 use Rattle.onfi_chip.specs.Numbers.{failed, fails_at, one_more}
 use Rattle.onfi_chip.specs.Sim.{chip_of}
 
--- how often a call failed or told that its LUN isn't ready
-abbrev pub failures_of : SimChip → ℕ
-failures_of sim = failed sim.calls.failing.items sim.calls.made + failed sim.statuses.failing.items sim.statuses.made
+-- how often a call's bus failed, and how often a status told that its LUN isn't ready
+abbrev pub failures_of : SimChip → Failures
+failures_of sim = record { bus = failed sim.calls.failing.items sim.calls.made; unready = failed sim.statuses.failing.items sim.statuses.made }
 
 abbrev pub chip_in : SimChip → Chip
 chip_in sim = record (chip_of sim.dies) { failures = failures_of sim }

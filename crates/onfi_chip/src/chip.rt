@@ -3,6 +3,7 @@ ghost use Rattle.onfi_addr.specs.Rows.{page_bytes_of};
 ghost use Rattle.onfi_timing.specs.declared.kind.Kind.TheVariants as kind;
 ghost use Rattle.onfi_request.specs.declared.answer.Answer.TheVariants as answer;
 ghost use Rattle.onfi_request.specs.declared.request.Request.{Request as ARequest};
+ghost use Rattle.onfi_chip.specs.declared.fault.PostFault.TheVariants.{Bus, NotReady};
 ghost use Rattle.onfi_chip.specs.declared.post.Post.{Post as APost};
 ghost use Rattle.onfi_chip.specs.Chip.{Chip as ChipState, posted};
 ghost use Rattle.onfi_chip.specs.Calls.{IsNextCommand, IsNextPost, command_of, HasDone, IsLost, AfterFault, TellsAnswer};
@@ -22,14 +23,15 @@ use std::alloc::Global;
 /// device that forbids groups of a kind gives each member of that kind the closer `Last`, so that its groups have one
 /// member; it gets so where the rules of its problems allow no such group, as they do when they come from the page.
 pub trait Chip {
-    /// Its geometry, timing and injected faults, its blocks and LUNs, and how often a call failed.
+    /// Its geometry, timing and injected faults, its blocks and LUNs, how often a call's bus failed, and how often a status
+    /// told that its LUN isn't ready.
     ghost state: { Self → ChipState };
 
     /// A command of a group: the opener of `opener` (00h, 80h or 60h), the address, for a program the data, and the
     /// closer (ONFI 4.2, command definition and multi-plane operations).
     ///
     /// # Errors
-    /// `Bus`, only where the chip's count of failures rose; `Memory` where a growth was refused: the chip is unchanged.
+    /// `Bus`, only where the chip's count of failed buses rose; `Memory` where a growth was refused: the chip is unchanged.
     fn command(
         &mut self,
         alloc: Global,
@@ -48,23 +50,24 @@ pub trait Chip {
     /// Change Read Column Enhanced).
     ///
     /// # Errors
-    /// `Bus`, only where the chip's count of failures rose.
+    /// `Bus`, only where the chip's count of failed buses rose.
     fn data_out(&mut self, now: u64, row: u64, out: &mut [u8]) -> Result<(), ChipFault>
         requires next { (post : APost) × (left : List APost) × IsNextPost (state self.old) now row post left × (post.kind ≡ kind.Read) }
         requires room { length out.old ≡ page_bytes_of (state self.old).geometry }
         ensures ok { OnOk result ((post : APost) (left : List APost) → IsNextPost (state self.old) now row post left
             → (post.answer ≡ answer.Read out.new) × HasDone (posted (state self.old) post left now) (state self.new)) }
-        ensures err { IfErr result (λ fault. (fault ≡ ChipFault.Bus) × IsLost (state self.old) (state self.new)) };
+        ensures err { IfErr result (λ fault. (fault ≡ ChipFault.Bus) × IsLost Bus (state self.old) (state self.new)) };
 
     /// The status of a program or an erase, its post: 78h, the row address, then one byte (ONFI 4.2, Read Status
     /// Enhanced). Bit 6 is RDY; where it is 1, bit 0 is FAIL of that member.
     ///
     /// # Errors
-    /// `Bus`. It and a byte whose RDY is 0 come only where the chip's count of failures rose.
+    /// `Bus`, only where the chip's count of failed buses rose. A byte whose RDY is 0 comes only where its count of statuses
+    /// not ready rose.
     fn status(&mut self, now: u64, row: u64) -> Result<u8, ChipFault>
         requires { (post : APost) × (left : List APost) × IsNextPost (state self.old) now row post left × (post.kind ≢ kind.Read) }
         ensures ready { IfOk result (λ byte. IsBitSet byte 6 → (post : APost) (left : List APost) → IsNextPost (state self.old) now row post left
             → TellsAnswer byte post.answer × HasDone (posted (state self.old) post left now) (state self.new)) }
-        ensures not_ready { IfOk result (λ byte. ¬ IsBitSet byte 6 → IsLost (state self.old) (state self.new)) }
-        ensures err { IfErr result (λ fault. (fault ≡ ChipFault.Bus) × IsLost (state self.old) (state self.new)) };
+        ensures not_ready { IfOk result (λ byte. ¬ IsBitSet byte 6 → IsLost NotReady (state self.old) (state self.new)) }
+        ensures err { IfErr result (λ fault. (fault ≡ ChipFault.Bus) × IsLost Bus (state self.old) (state self.new)) };
 }

@@ -42,7 +42,7 @@ impl Dies {
     ghost use Rattle.onfi_request.specs.Range.{Fits};
     ghost use Rattle.onfi_die.specs.Prepared.{IsAnswerTo};
     ghost use Rattle.onfi_chip.specs.declared.post.Post.{Post as APost};
-    ghost use Rattle.onfi_chip.specs.Chip.{opened, after_post};
+    ghost use Rattle.onfi_chip.specs.Chip.{opened, no_failures, after_post};
     ghost use Rattle.onfi_chip.specs.Chip.Lun.{Posting as InPosts};
     ghost use Rattle.onfi_chip.specs.Calls.{command_of};
     ghost use Rattle.onfi_chip.specs.Sim.{chip_of, request_in, over_at, added, IsOpenAt, IsReady};
@@ -57,7 +57,7 @@ impl Dies {
         timing: Timing,
         faults: Vec<Fault>,
     ) -> Result<Dies, AllocError>
-        ensures { IfOk result (λ dies. chip_of dies ≡ opened geometry timing faults.items 0) }
+        ensures { IfOk result (λ dies. chip_of dies ≡ opened geometry timing faults.items no_failures) }
     {
         let lanes = idle_lanes(alloc, geometry.lun_count)?;
         let store = Store::new(alloc, &geometry, faults);

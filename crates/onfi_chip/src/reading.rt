@@ -17,8 +17,8 @@ use onfi_timing::Kind;
 /// erase. It takes no memory: a fetch is made with its room before the chip is called.
 ///
 /// # Errors
-/// `Bus`, or `NotReady` where the status of a program or an erase told so; both only where the chip's count of failures
-/// rose, and nothing more is then known of the chip.
+/// `Bus`, only where the chip's count of failed buses rose, or `NotReady` where the status of a program or an erase told so,
+/// only where its count of statuses not ready rose. Nothing more is then known of the chip.
 pub fn read_post<C: Chip>(
     chip: &mut C,
     geometry: &Geometry,
@@ -33,7 +33,7 @@ pub fn read_post<C: Chip>(
     ensures done { IfOk result (λ _. (post : APost) (left : List APost)
         → IsNextPost (C.state chip.old) now (row_of geometry.now fetch.place) post left
         → HasDone (posted (C.state chip.old) post left now) (C.state chip.new)) }
-    ensures lost { IfErr result (λ _. IsLost (C.state chip.old) (C.state chip.new)) }
+    ensures lost { IfErr result (λ fault. IsLost fault (C.state chip.old) (C.state chip.new)) }
     ensures not_ready { IfErr result (λ fault. fault ≡ PostFault.NotReady → fetch.kind ≢ Kind.Read) }
 {
     let row = geometry.row(&fetch.place());
@@ -51,7 +51,7 @@ fn read_data<C: Chip>(chip: &mut C, now: u64, row: u64, room: Vec<u8>) -> Result
         → answer ≡ post.answer) }
     ensures done { IfOk result (λ _. (post : APost) (left : List APost) → IsNextPost (C.state chip.old) now row post left
         → HasDone (posted (C.state chip.old) post left now) (C.state chip.new)) }
-    ensures lost { IfErr result (λ _. IsLost (C.state chip.old) (C.state chip.new)) }
+    ensures lost { IfErr result (λ fault. IsLost fault (C.state chip.old) (C.state chip.new)) }
     ensures bus { IfErr result (λ fault. fault ≡ PostFault.Bus) }
 {
     let mut room = room;
@@ -68,7 +68,7 @@ fn read_status<C: Chip>(chip: &mut C, now: u64, row: u64) -> Result<Answer, Post
         → answer ≡ post.answer) }
     ensures done { IfOk result (λ _. (post : APost) (left : List APost) → IsNextPost (C.state chip.old) now row post left
         → HasDone (posted (C.state chip.old) post left now) (C.state chip.new)) }
-    ensures lost { IfErr result (λ _. IsLost (C.state chip.old) (C.state chip.new)) }
+    ensures lost { IfErr result (λ fault. IsLost fault (C.state chip.old) (C.state chip.new)) }
 {
     let Ok(byte) = chip.status(now, row) else {
         return Err(PostFault::Bus);

@@ -3,6 +3,7 @@ ghost use Rattle.onfi_addr.specs.Rows.{page_bytes_of};
 ghost use Rattle.onfi_timing.specs.declared.kind.Kind.TheVariants as kind;
 ghost use Rattle.onfi_request.specs.declared.answer.Answer.TheVariants as answer;
 ghost use Rattle.onfi_request.specs.declared.request.Request.{Request as ARequest};
+ghost use Rattle.onfi_chip.specs.declared.fault.PostFault.TheVariants.{Bus, NotReady};
 ghost use Rattle.onfi_chip.specs.declared.post.Post.{Post as APost};
 ghost use Rattle.onfi_chip.specs.Chip.{posted};
 ghost use Rattle.onfi_chip.specs.Calls.{IsNextCommand, IsNextPost, command_of, HasDone, IsLost, AfterFault, TellsAnswer};
@@ -31,7 +32,7 @@ pub struct SimChip {
 }
 
 impl SimChip {
-    ghost use Rattle.onfi_chip.specs.Chip.{opened};
+    ghost use Rattle.onfi_chip.specs.Chip.{opened, no_failures};
     ghost use Rattle.onfi_chip.specs.SimChip.{chip_in, failing_calls, failing_statuses, calls_made, statuses_made};
 
     /// A chip of this geometry and timing as it opens: all blocks erased, all LUNs idle. `faults` are the programs and
@@ -48,7 +49,7 @@ impl SimChip {
         calls: Vec<u32>,
         statuses: Vec<u32>,
     ) -> Result<SimChip, AllocError>
-        ensures opened { IfOk result (λ chip. chip_in chip ≡ opened geometry timing faults.items 0) }
+        ensures opened { IfOk result (λ chip. chip_in chip ≡ opened geometry timing faults.items no_failures) }
         ensures calls { IfOk result (λ chip. failing_calls chip ≡ calls.items) }
         ensures statuses { IfOk result (λ chip. failing_statuses chip ≡ statuses.items) }
         ensures no_call { IfOk result (λ chip. calls_made chip ≡ 0) }
@@ -106,7 +107,7 @@ impl Chip for SimChip {
         requires room { length out.old ≡ page_bytes_of (chip_in self.old).geometry }
         ensures ok { OnOk result ((post : APost) (left : List APost) → IsNextPost (chip_in self.old) now row post left
             → (post.answer ≡ answer.Read out.new) × HasDone (posted (chip_in self.old) post left now) (chip_in self.new)) }
-        ensures err { IfErr result (λ fault. (fault ≡ ChipFault.Bus) × IsLost (chip_in self.old) (chip_in self.new)) }
+        ensures err { IfErr result (λ fault. (fault ≡ ChipFault.Bus) × IsLost Bus (chip_in self.old) (chip_in self.new)) }
         ensures bus { FailsAsListed self.old result }
         ensures lists { KeepsLists self.old self.new }
         ensures counted { IsCounted self.old result self.new }
@@ -128,8 +129,8 @@ impl Chip for SimChip {
         requires { (post : APost) × (left : List APost) × IsNextPost (chip_in self.old) now row post left × (post.kind ≢ kind.Read) }
         ensures ready { IfOk result (λ byte. IsBitSet byte 6 → (post : APost) (left : List APost) → IsNextPost (chip_in self.old) now row post left
             → TellsAnswer byte post.answer × HasDone (posted (chip_in self.old) post left now) (chip_in self.new)) }
-        ensures not_ready { IfOk result (λ byte. ¬ IsBitSet byte 6 → IsLost (chip_in self.old) (chip_in self.new)) }
-        ensures err { IfErr result (λ fault. (fault ≡ ChipFault.Bus) × IsLost (chip_in self.old) (chip_in self.new)) }
+        ensures not_ready { IfOk result (λ byte. ¬ IsBitSet byte 6 → IsLost NotReady (chip_in self.old) (chip_in self.new)) }
+        ensures err { IfErr result (λ fault. (fault ≡ ChipFault.Bus) × IsLost Bus (chip_in self.old) (chip_in self.new)) }
         ensures bus { FailsAsListed self.old result }
         ensures listed { IfOk result (λ byte. IsReadyAsListed self.old byte) }
         ensures lists { KeepsLists self.old self.new }

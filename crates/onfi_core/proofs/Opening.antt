@@ -10,6 +10,7 @@ use Rattle.onfi_problem.specs.Problem.{has_id, IsProblem}
 use Rattle.onfi_problem.specs.declared.lun_state.LunState.TheVariants.{Free, Running}
 use Rattle.onfi_schedule.specs.Schedule.{Legal, rest_phases}
 use Rattle.onfi_die.specs.Shapes.{Device, device_of}
+use Rattle.onfi_chip.specs.Chip.{Failures}
 use Rattle.onfi_chip.specs.Chip.Lun.{Idle}
 use Rattle.onfi_core.specs.Kept.{IsSound, first_half, unposted, first_problem, first, IsReached, LunAgrees, commanding}
 use Rattle.onfi_core.specs.declared.setup.Setup.{Setup}
@@ -88,7 +89,7 @@ opened_sound s = record {
   last = tt;
 }
 
-pub opened : (s : Setup) (faults : List Fault) (failures : ℕ) → IsReached s (first s faults failures)
+pub opened : (s : Setup) (faults : List Fault) (failures : Failures) → IsReached s (first s faults failures)
 opened s faults failures = record {
   half = record { sound = opened_sound s; held = tt; posted = tt; made = λ host. record { faults = tt; each = tt; within = tt; rise = tt } };
   chip = λ going. record {

@@ -11,7 +11,7 @@ use Rattle.onfi_request.specs.Range.{Fits}
 use Rattle.onfi_request.specs.declared.reply.Reply.{Reply}
 use Rattle.onfi_request.specs.declared.request.Item.{Item}
 use Rattle.onfi_request.specs.declared.request.Request.{Request}
-use Rattle.onfi_chip.specs.Chip.{Chip}
+use Rattle.onfi_chip.specs.Chip.{Chip, Failures}
 use Rattle.onfi_core.specs.declared.event.Event.{Event}
 use Rattle.onfi_core.specs.declared.outcome.Outcome.{Outcome}
 use Rattle.onfi_core.specs.Steps.{Step, bus_refusal, submitted}
@@ -209,7 +209,7 @@ empty_at room (q ∷ hosts) zero queue h e = let z : q ≡ queue = cc in subst (
 empty_at room (q ∷ hosts) (suc i) queue h e = empty_at room hosts i queue h.1 e
 
 -- the queues as they open
-pub queues_opened : (s : Setup) (faults : List Fault) (failures room : ℕ) (hosts : List HostQueue) → length hosts ≡ s.hosts → All (IsEmptyQueue s.post_cap) hosts → s.submit_cap ≤ room → AreQueues s None room hosts (first s faults failures)
+pub queues_opened : (s : Setup) (faults : List Fault) (failures : Failures) (room : ℕ) (hosts : List HostQueue) → length hosts ≡ s.hosts → All (IsEmptyQueue s.post_cap) hosts → s.submit_cap ≤ room → AreQueues s None room hosts (first s faults failures)
 queues_opened s faults failures room hosts count empty room_is = record {
   settled = refl;
   reached = opened_reaches s (first s faults failures) (faults, failures, refl);

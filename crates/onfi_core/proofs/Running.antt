@@ -4,6 +4,8 @@ use Rattle.onfi_request.specs.declared.reply.Reply.{Reply}
 use Rattle.onfi_request.specs.declared.request.Item.{Item}
 use Rattle.onfi_request.specs.declared.want.Want.{Want}
 use Rattle.onfi_chip.specs.Calls.{IsLost}
+use Rattle.onfi_chip.specs.declared.fault.PostFault.{PostFault}
+use Rattle.onfi_chip.specs.declared.fault.PostFault.TheVariants as post_fault
 use Rattle.onfi_chip.specs.Chip.{Chip}
 use Rattle.onfi_core.specs.declared.drive.DriveFault.{DriveFault}
 use Rattle.onfi_core.specs.declared.drive.DriveFault.TheVariants as drive
@@ -21,7 +23,7 @@ use Rattle.onfi_core.specs.Dues.{IsDue, after_due, member_of, replies_of}
 use Rattle.onfi_core.specs.Kept.{IsReached}
 use Rattle.onfi_core.specs.Reaching.{PlannedStep}
 use Rattle.onfi_core.specs.State.{HalfState, ChannelState, Planning, item_at}
-use Rattle.onfi_core.specs.Steps.{Step, Plans, Runs, RunsOnChip, IsCauseOf, bus_refusal, plan_refusal, planned_by, taken_next, half_after_phase, stopped_by}
+use Rattle.onfi_core.specs.Steps.{Step, Plans, Runs, RunsOnChip, IsCauseOf, IsToldAs, bus_refusal, plan_refusal, planned_by, taken_next, half_after_phase, stopped_by}
 use Rattle.onfi_core.specs.Refusals.{planned_outcome, refusal_outcome}
 use Rattle.onfi_core.specs.View.{HalfView, PlanRefused}
 use Rattle.onfi_core.proofs.Done.{after_due_is}
@@ -112,16 +114,20 @@ module _ (s : Setup) (c : ChannelState) (reached : IsReached s c) (due : Due) (i
       } in
       step_does s c (event.Bus channel) (outcome.Phase due.start) c' open' (inl (due.start, refl, runs))
 
+-- the chip failed so that the channel stops for that cause
+abbrev pub IsLostBy : Cause → Chip → Chip → Type 0
+IsLostBy stop chip chip' = (fault : PostFault) × IsToldAs fault stop × IsLost fault chip chip'
+
 -- the channel stops
-pub stop_step : (s : Setup) (c : ChannelState) (channel : ℕ) (stop : Cause) (chip' : Chip) (h : HalfState) → bus_refusal c.half ≡ None → IsCauseOf c.half stop → IsLost c.chip chip' → h ≡ record c.half { stopped = Some stop } → Step s c (event.Bus channel) (outcome.Stopped stop) (record c { half = h; chip = chip' })
-stop_step s c channel stop chip' h open' why lost is =
+pub stop_step : (s : Setup) (c : ChannelState) (channel : ℕ) (stop : Cause) (chip' : Chip) (h : HalfState) → bus_refusal c.half ≡ None → IsCauseOf c.half stop → IsLostBy stop c.chip chip' → h ≡ record c.half { stopped = Some stop } → Step s c (event.Bus channel) (outcome.Stopped stop) (record c { half = h; chip = chip' })
+stop_step s c channel stop chip' h open' why (fault, told, lost) is =
     let after : (let z : ChannelState = record c { half = h; chip = chip' } in z) ≡ record (stopped_by stop c) { chip = chip' } = ap (λ (x : HalfState). let z : ChannelState = record c { half = x; chip = chip' } in z) is in
-    step_does s c (event.Bus channel) (outcome.Stopped stop) (record c { half = h; chip = chip' }) open' (inr (inl (stop, why, refl, record { chip = chip'; lost = lost; after = after })))
+    step_does s c (event.Bus channel) (outcome.Stopped stop) (record c { half = h; chip = chip' }) open' (inr (inl (stop, why, refl, record { chip = chip'; fault = fault; told = told; lost = lost; after = after })))
 
 -- what a phase that wasn't run leaves of the chip
-pub lost_by : (fault : DriveFault) (lun : ℕ) (stop : Cause) (chip chip' : Chip) → cause_of fault lun ≡ Some stop → AfterDrive fault chip chip' → IsLost chip chip'
-lost_by drive.Bus lun stop chip chip' e lost = lost
-lost_by drive.NotReady lun stop chip chip' e lost = lost
+pub lost_by : (fault : DriveFault) (lun : ℕ) (stop : Cause) (chip chip' : Chip) → cause_of fault lun ≡ Some stop → AfterDrive fault chip chip' → IsLostBy stop chip chip'
+lost_by drive.Bus lun stop chip chip' e lost = let told : stop ≡ cause.Bus = cc in (post_fault.Bus, told, lost)
+lost_by drive.NotReady lun stop chip chip' e lost = let told : stop ≡ cause.NotReady lun = cc in (post_fault.NotReady, (lun, told), lost)
 lost_by drive.Memory lun stop chip chip' e same = cc
 
 pub same_by : (fault : DriveFault) (lun : ℕ) (chip chip' : Chip) → cause_of fault lun ≡ None → AfterDrive fault chip chip' → chip' ≡ chip

@@ -11,6 +11,7 @@ use Rattle.onfi_core.specs.declared.outcome.Outcome.TheVariants.{NoSuch}
 use Rattle.onfi_die.specs.Order.{AreInOrder}
 use Rattle.onfi_core.specs.State.{ChannelState, posted_to}
 use Rattle.onfi_core.specs.Steps.{Step}
+use Rattle.onfi_chip.specs.Chip.{Failures}
 use Rattle.onfi_core.specs.Kept.{first, IsReached, KeepsPromise}
 
 abbrev pub channel_of : Event → ℕ
@@ -61,7 +62,7 @@ DidAll s cs (d ∷ ds) cs' = (mid : List ChannelState) × Did s cs d mid × DidA
 
 -- a channel as it was opened, with some chip of the setup
 abbrev pub IsOpened : Setup → ChannelState → Type 0
-IsOpened s c = (faults : List Fault) × (failures : ℕ) × (c ≡ first s faults failures)
+IsOpened s c = (faults : List Fault) × (failures : Failures) × (c ≡ first s faults failures)
 
 -- whatever is done to an opened core, each channel keeps the promise
 abbrev pub Headline : Type 0
@@ -69,7 +70,7 @@ Headline = (s : Setup) (cs cs' : List ChannelState) (ds : List Doing) → Each (
 
 -- a channel as it was opened is one that is reached
 abbrev pub OpenedIsReached : Type 0
-OpenedIsReached = (s : Setup) (faults : List Fault) (failures : ℕ) → IsReached s (first s faults failures)
+OpenedIsReached = (s : Setup) (faults : List Fault) (failures : Failures) → IsReached s (first s faults failures)
 
 -- each step leads from a channel that is reached to one that is
 abbrev pub StepKeeps : Type 0

@@ -19,7 +19,7 @@ use Rattle.onfi_die.specs.Answers.{answer_at}
 use Rattle.onfi_die.specs.Rightful.{IsRightful, AreRightful}
 use Rattle.onfi_die.specs.Order.{IsBeginning}
 use Rattle.onfi_chip.specs.declared.post.Post.{Post}
-use Rattle.onfi_chip.specs.Chip.{Chip, Lun, opened}
+use Rattle.onfi_chip.specs.Chip.{Chip, Failures, Lun, opened}
 use Rattle.onfi_chip.specs.Chip.Lun.{Idle, Commanding, Posting}
 use Rattle.onfi_core.specs.declared.setup.Setup.{Setup}
 use Rattle.onfi_core.specs.State.{HalfState, ChannelState, want_of, wants_from, item_at, request_of, device_for, is_to, sent_by, posted_to, collected_by}
@@ -160,7 +160,7 @@ first_half s = record {
   stopped = None;
 }
 
-abbrev pub first : Setup → List Fault → ℕ → ChannelState
+abbrev pub first : Setup → List Fault → Failures → ChannelState
 first s faults failures = record { half = first_half s; chip = opened s.geometry s.timing faults failures; sent = []; waiting = []; collected = [] }
 
 -- The promise of one channel: what is posted is rightful in what was accepted; what a host sent is accepted or waits, in order and numbered; what it collected is a beginning of what it was posted; each accepted place is exactly one of unplanned, planned with its post undone, held and posted; and the last plan is optimal, as its certificate shows

@@ -22,6 +22,8 @@ use Rattle.onfi_schedule.specs.Schedule.{Schedule, phases, finish, Optimal}
 use Rattle.onfi_schedule.specs.Laws.{ComesNext}
 use Rattle.onfi_check.specs.Tree.{AcceptsTokens}
 use Rattle.onfi_planner.specs.Nodes.{HasMoreNodes}
+use Rattle.onfi_chip.specs.declared.fault.PostFault.{PostFault}
+use Rattle.onfi_chip.specs.declared.fault.PostFault.TheVariants as post_fault
 use Rattle.onfi_chip.specs.declared.post.Post.{Post}
 use Rattle.onfi_chip.specs.Chip.{Chip, commanded, launched, posted}
 use Rattle.onfi_chip.specs.Chip.Lun.{Posting}
@@ -239,10 +241,17 @@ IsCauseOf h BusFailed = Unit {0}
 IsCauseOf h (NotReady lun) = (move : Move) × (start : ℕ) × (left : Schedule) × ComesNext h.now h.left move start left × (move_lun move ≡ lun) × AsksStatus h.now move
 IsCauseOf h Clock = ⊥
 
--- a chip call failed: then only the chip's faults are known, and its count that rose
+-- why the channel stops where a call of the chip failed so
+abbrev pub IsToldAs : PostFault → Cause → Type 0
+IsToldAs post_fault.Bus cause = cause ≡ BusFailed
+IsToldAs post_fault.NotReady cause = (lun : ℕ) × (cause ≡ NotReady lun)
+
+-- a chip call failed: then only the chip's faults are known, and its count of the fault that the cause tells, which rose
 pub record Fails (c c' : ChannelState) (cause : Cause) : Type 0 where
   pub chip : Chip
-  pub lost : IsLost c.chip chip
+  pub fault : PostFault
+  pub told : IsToldAs fault cause
+  pub lost : IsLost fault c.chip chip
   pub after : c' ≡ record (stopped_by cause c) { chip = chip }
 
 -- the oldest reply that is held for a host goes to the end of those posted

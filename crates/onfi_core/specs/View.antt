@@ -8,6 +8,8 @@ use Rattle.onfi_group.specs.Words.{number}
 use Rattle.onfi_problem.specs.Problem.{Problem}
 use Rattle.onfi_problem.specs.Left.{horizon}
 use Rattle.onfi_planner.specs.Nodes.{HasMoreNodes}
+use Rattle.onfi_planner.specs.declared.fault.PlanFault.{PlanFault}
+use Rattle.onfi_planner.specs.declared.fault.PlanFault.TheVariants as planner
 use Rattle.slab.specs.Slab.{Slab, get, slab_len}
 use Rattle.onfi_core.specs.declared.setup.Setup.{Setup}
 use Rattle.onfi_core.specs.declared.slot.Slot.{Slot}
@@ -17,6 +19,7 @@ use Rattle.onfi_core.specs.declared.planning.PlanStop.{PlanStop}
 use Rattle.onfi_core.specs.declared.planning.PlanStop.TheVariants.{Clock, Over, Memory}
 use Rattle.onfi_core.specs.declared.half.PlanRefusal.{PlanRefusal}
 use Rattle.onfi_core.specs.declared.half.PlanRefusal.TheVariants.{Stopped, NothingToPlan, Over as IsOver, Memory as NoMemory}
+use Rattle.onfi_core.specs.declared.outcome.Cause.TheVariants as cause
 use Rattle.onfi_core.specs.declared.outcome.Outcome.TheVariants as outcome
 use Rattle.onfi_core.specs.Steps.{plan_refusal, next_problem}
 use Rattle.onfi_core.specs.State.{Planning, HalfState, is_from, is_to}
@@ -95,6 +98,17 @@ abbrev pub StopsBecause : Problem → ℕ → PlanStop → Type 0
 StopsBecause p limit Clock = 2 ^ 62 ≤ horizon p
 StopsBecause p limit (Over opened) = (horizon p < 2 ^ 62) × (opened ≡ limit) × HasMoreNodes p limit
 StopsBecause p limit Memory = horizon p < 2 ^ 62
+
+-- why the planner gave no plan, as why there is none
+abbrev pub stop_of : PlanFault → PlanStop
+stop_of (planner.Over opened) = Over opened
+stop_of planner.Memory = Memory
+
+-- why there is no plan, as why a half doesn't plan
+abbrev pub refusal_of : PlanStop → PlanRefusal
+refusal_of Clock = Stopped cause.Clock
+refusal_of (Over opened) = IsOver opened
+refusal_of Memory = NoMemory
 
 -- why a half doesn't plan, and what it leaves
 abbrev pub PlanRefused : Setup → HalfState → PlanRefusal → HalfState → Type 0

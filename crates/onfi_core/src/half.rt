@@ -6,7 +6,7 @@ ghost use Rattle.onfi_core.specs.Steps.{GoesOut, accept_refusal, bus_refusal, he
 ghost use Rattle.onfi_core.specs.Dues.{IsDue, IsTurn, due_outcome};
 ghost use Rattle.onfi_core.specs.declared.starting.Turn.TheVariants as turn;
 ghost use Rattle.onfi_core.specs.Refusals.{fault_outcome};
-ghost use Rattle.onfi_core.specs.View.{IsNext, IsOldest, accepting, planning_of, PlanRefused};
+ghost use Rattle.onfi_core.specs.View.{IsNext, IsOldest, accepting, planning_of, PlanRefused, refusal_of};
 ghost use Rattle.onfi_problem.specs.declared.lun_state.LunState.TheVariants.{Free};
 
 use crate::batch::Batch;
@@ -248,12 +248,13 @@ impl Half {
         );
         match next {
             Ok(next) => Ok(self.take_over(wants, next)),
-            Err(PlanStop::Clock) => {
-                self.stopped = Some(Cause::Clock);
-                Err(PlanRefusal::Stopped(Cause::Clock))
-            }
-            Err(PlanStop::Over { opened }) => Err(PlanRefusal::Over { opened }),
-            Err(PlanStop::Memory) => Err(PlanRefusal::Memory),
+            Err(stop) => match stop {
+                PlanStop::Clock => {
+                    self.stopped = Some(Cause::Clock);
+                    Err(PlanRefusal::Stopped(Cause::Clock))
+                }
+                _ => Err(refusal_of(stop)),
+            },
         }
     }
 
@@ -407,6 +408,17 @@ impl Half {
         self.last
             .as_ref()
             .map(|batch| (&batch.problem, &batch.plan))
+    }
+}
+
+// Why there is no plan, as why a half doesn't plan.
+fn refusal_of(stop: PlanStop) -> PlanRefusal
+    ensures { result ≡ refusal_of stop }
+{
+    match stop {
+        PlanStop::Clock => PlanRefusal::Stopped(Cause::Clock),
+        PlanStop::Over { opened } => PlanRefusal::Over { opened },
+        PlanStop::Memory => PlanRefusal::Memory,
     }
 }
 

@@ -3,7 +3,7 @@ ghost use Rattle.onfi_problem.specs.Problem.{IsSmall, IsProblem};
 ghost use Rattle.onfi_problem.specs.Kept.{problem_of};
 ghost use Rattle.onfi_problem.specs.Left.{horizon};
 ghost use Rattle.onfi_core.specs.Steps.{IsPlanned};
-ghost use Rattle.onfi_core.specs.View.{planning_of, StopsBecause};
+ghost use Rattle.onfi_core.specs.View.{planning_of, StopsBecause, stop_of};
 
 use crate::batch::Batch;
 use crate::setup::Setup;
@@ -58,10 +58,19 @@ pub fn plan_wants(
     };
     let plan = match plan(alloc, &problem, setup.limit) {
         Ok(plan) => plan,
-        Err(PlanFault::Over { opened }) => return Err(PlanStop::Over { opened }),
-        Err(PlanFault::Memory) => return Err(PlanStop::Memory),
+        Err(fault) => return Err(stop_of(fault)),
     };
     with_starts(alloc, problem, plan).map_err(|_| PlanStop::Memory)
+}
+
+// Why the planner gave no plan, as why there is none.
+fn stop_of(fault: PlanFault) -> PlanStop
+    ensures { result ≡ stop_of fault }
+{
+    match fault {
+        PlanFault::Over { opened } => PlanStop::Over { opened },
+        PlanFault::Memory => PlanStop::Memory,
+    }
 }
 
 fn with_starts(alloc: Global, problem: Problem, plan: Planned) -> Result<NextPlan, AllocError>

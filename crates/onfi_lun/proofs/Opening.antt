@@ -18,7 +18,8 @@ use Rattle.onfi_die.specs.Contents.{fresh, runs}
 use Rattle.onfi_die.specs.Answers.{requests_on}
 use Rattle.onfi_die.specs.Blocks.{is_on}
 use Rattle.onfi_die.specs.Rightful.{IsRightful, AreRightful}
-use Rattle.onfi_chip.specs.Chip.{Chip, Lun, opened}
+use Rattle.onfi_chip.specs.Chip.{Chip, Failures, Lun, opened}
+use Rattle.onfi_chip.specs.Calls.{AreNoFewer}
 use Rattle.onfi_chip.specs.Chip.Lun.{Idle}
 use Rattle.onfi_group.specs.Words.{Has, Pairs, number}
 use Rattle.onfi_group.specs.Group.{IsGroup, lun_of}
@@ -177,7 +178,7 @@ taken_from s all n pre (x ∷ xs) e f =
       taken_from s all (n + 1) (pre ++ x ∷ []) xs (e ∙ sym (append_assoc pre (x ∷ []) xs)) (omega (arith, length-append pre (x ∷ []))),
     )
 
-module _ (target : Target) (items : List Item) (p : Problem) (s : Schedule) (faults : List Fault) (failures : ℕ) (chip : Chip) (drive : Drive) (timing : target.timing ≡ p.timing) (is : chip ≡ opened target.geometry p.timing faults failures) (batch : IsBatchOf target.geometry items p) (problem : IsProblem p) (few : length p.wants ≤ 8) (legal : Legal p s) (waiting : drive.waiting.items ≡ s.groups) (free : AreFree 0 drive.lanes.items) (count : length drive.lanes.items ≡ target.geometry.lun_count) where
+module _ (target : Target) (items : List Item) (p : Problem) (s : Schedule) (faults : List Fault) (failures : Failures) (chip : Chip) (drive : Drive) (timing : target.timing ≡ p.timing) (is : chip ≡ opened target.geometry p.timing faults failures) (batch : IsBatchOf target.geometry items p) (problem : IsProblem p) (few : length p.wants ≤ 8) (legal : Legal p s) (waiting : drive.waiting.items ≡ s.groups) (free : AreFree 0 drive.lanes.items) (count : length drive.lanes.items ≡ target.geometry.lun_count) where
   abbrev setup : Setup
   setup = record {
     geometry = target.geometry;
@@ -374,5 +375,13 @@ pub pushed_is : {A E X : Type 0} (r : Result A E) (xs ys zs : List X) → is_err
 pushed_is (Ok x) xs ys zs e h = h
 pushed_is (Err x) xs ys zs e h = cc
 
+no_fewer_by : (first old new : Failures) → AreNoFewer first old → AreNoFewer old new → AreNoFewer first new
+no_fewer_by first old new a b =
+    let bus = a.bus in
+    let bus' = b.bus in
+    let unready = a.unready in
+    let unready' = b.unready in
+    record { bus = omega (arith, bus, bus'); unready = omega (arith, unready, unready') }
+
 pub kept_on : (first old new : Chip) → KeptSince first old → KeptSince old new → KeptSince first new
-kept_on first old new a b = record { faults = b.faults ∙ a.faults; failures = let x = a.failures in let y = b.failures in omega (arith, x, y) }
+kept_on first old new a b = record { faults = b.faults ∙ a.faults; failures = no_fewer_by first.failures old.failures new.failures a.failures b.failures }

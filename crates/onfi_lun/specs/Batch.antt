@@ -11,7 +11,7 @@ use Rattle.onfi_request.specs.Range.{Fits}
 use Rattle.onfi_die.specs.Shapes.{Device}
 use Rattle.onfi_die.specs.Contents.{fresh, runs}
 use Rattle.onfi_die.specs.Answers.{requests_on}
-use Rattle.onfi_chip.specs.Chip.{Chip, opened}
+use Rattle.onfi_chip.specs.Chip.{Chip, Failures, opened}
 use Rattle.onfi_chip.specs.declared.fault.ChipFault.{ChipFault}
 use Rattle.onfi_chip.specs.declared.fault.ChipFault.TheVariants as chip_fault
 use Rattle.onfi_chip.specs.Calls.{IsLost}
@@ -27,7 +27,7 @@ use Rattle.onfi_lun.specs.Drive.{KeptSince}
 
 -- a chip as it opened
 abbrev pub IsOpened : Geometry → Timing → Chip → Type 0
-IsOpened geometry timing chip = (faults : List Fault) × (failures : ℕ) × (chip ≡ opened geometry timing faults failures)
+IsOpened geometry timing chip = (faults : List Fault) × (failures : Failures) × (chip ≡ opened geometry timing faults failures)
 
 -- the device takes the items, want i of the problem is item i, and nothing runs
 pub record IsBatchOf (geometry : Geometry) (items : List Item) (problem : Problem) : Type 0 where
@@ -45,8 +45,8 @@ HoldsItems device items chip = (lun block : ℕ) → chip.blocks lun block ≡ r
 
 -- what a fault leaves of the chip
 abbrev pub AfterBatchFault : BatchFault → Chip → Chip → Type 0
-AfterBatchFault Bus old new = IsLost old new
-AfterBatchFault (NotReady lun) old new = IsLost old new
+AfterBatchFault Bus old new = IsLost post_fault.Bus old new
+AfterBatchFault (NotReady lun) old new = IsLost post_fault.NotReady old new
 AfterBatchFault Memory old new = KeptSince old new
 
 -- the batch's fault for the chip's, and for a post's

@@ -13,7 +13,7 @@ use Rattle.onfi_chip.specs.declared.closer.Closer.TheVariants as closer
 use Rattle.onfi_chip.specs.declared.post.Post.{Post}
 use Rattle.onfi_chip.specs.Chip.{Chip, commanded as queued_by, launched, posted}
 use Rattle.onfi_chip.specs.Chip.Lun.{Posting as HasPosts}
-use Rattle.onfi_chip.specs.Calls.{HasDone, MayTake}
+use Rattle.onfi_chip.specs.Calls.{AreNoFewer, HasDone, MayTake}
 use Rattle.onfi_chip.specs.Hold.{hold}
 use Rattle.onfi_group.specs.Words.{total}
 use Rattle.onfi_problem.specs.declared.lun_state.LunState.{LunState}
@@ -262,7 +262,7 @@ AreFree number (Moving ∷ lanes) = ⊥
 abbrev pub steps_left : Drive → ℕ
 steps_left drive = total (λ lane. length (starts_left lane)) drive.lanes.items + total (λ placed. length placed.starts) drive.waiting.items
 
--- the chip's faults are the same, and its count of failures is no less
+-- the chip's faults are the same, and its counts of failures are no less
 pub record KeptSince (old new : Chip) : Type 0 where
   pub faults : new.faults ≡ old.faults
-  pub failures : old.failures ≤ new.failures
+  pub failures : AreNoFewer old.failures new.failures

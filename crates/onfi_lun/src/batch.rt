@@ -33,8 +33,8 @@ use turn::next_turn;
 /// The problem has no running group, and its want i is item i, which the device takes.
 ///
 /// # Errors
-/// `Bus`, or `NotReady` with the LUN whose status told so, one on which the schedule has a program or an erase; both only
-/// where the chip's count of failures rose, and nothing more is then known of the chip. `Memory` where a growth was
+/// `Bus`, or `NotReady` with the LUN whose status told so, one on which the schedule has a program or an erase; each only
+/// where the chip's count of that fault rose, and nothing more is then known of the chip. `Memory` where a growth was
 /// refused; calls may have been made, and the chip is as they left it.
 pub fn run_batch<C: Chip>(
     alloc: Global,

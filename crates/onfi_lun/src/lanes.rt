@@ -58,7 +58,7 @@ impl Lanes {
     ///
     /// # Errors
     /// `Bus`, or `NotReady` at the status of a program or an erase: nothing more is known of the chip than its faults and
-    /// its count of failures, which rose. `Memory` where a growth was refused: chip and LUNs are unchanged.
+    /// its count of that fault, which rose. `Memory` where a growth was refused: chip and LUNs are unchanged.
     pub fn run_due<C: Chip>(
         &mut self,
         alloc: Global,
@@ -146,7 +146,7 @@ impl Lanes {
             → IsNextPost (C.state chip.old) due.now.start (row_of target.now.geometry fetch.place) post left
             → HasDone (posted (C.state chip.old) post left due.now.start) (C.state chip.new)) }
         ensures agree { IfOk result (λ _. LanesAgree (C.state chip.new) self.new) }
-        ensures lost { IfErr result (λ _. IsLost (C.state chip.old) (C.state chip.new)) }
+        ensures lost { IfErr result (λ fault. IsLost fault (C.state chip.old) (C.state chip.new)) }
         ensures not_ready { IfErr result (λ fault. fault ≡ PostFault.NotReady → fetch.kind ≢ Kind.Read) }
         ensures others { OthersKept due.now.lun self.old self.new }
     {

@@ -21,8 +21,8 @@ impl Lun<Posting> {
     /// The next post of the group, at `now`, in ns: the data output of a read, the status of a program or an erase.
     ///
     /// # Errors
-    /// `Bus`, or `NotReady` where the status of a program or an erase told so, with the LUN as it was; only where the
-    /// chip's count of failures rose.
+    /// `Bus`, or `NotReady` where the status of a program or an erase told so, with the LUN as it was; each only where the
+    /// chip's count of that fault rose.
     pub fn post<C: Chip>(
         self,
         chip: &mut C,
@@ -42,7 +42,7 @@ impl Lun<Posting> {
             → IsPosted left (C.state chip.new) self.number told.0) }
         ensures made { IfOk result (λ told. IsBehind self.number self.state.left (now + (spans_of target.now.timing fetch.kind).post) told.0) }
         ensures others { IfOk result (λ _. OthersStay self.number (C.state chip.old) (C.state chip.new)) }
-        ensures fault { IfErr result (λ _. IsLost (C.state chip.old) (C.state chip.new)) }
+        ensures fault { IfErr result (λ refused. IsLost refused.fault (C.state chip.old) (C.state chip.new)) }
         ensures told { IfErr result (λ refused. refused.fault ≡ PostFault.NotReady → fetch.kind ≢ Kind.Read) }
         ensures lun { IfErr result (λ refused. refused.lun ≡ self) }
     {
@@ -91,7 +91,7 @@ impl<S: Phase> Lun<S> {
         ensures done { IfOk result (λ _. (post : APost) (left : List APost)
             → IsNextPost (C.state chip.old) now (row_of target.now.geometry fetch.place) post left
             → HasDone (posted (C.state chip.old) post left now) (C.state chip.new)) }
-        ensures lost { IfErr result (λ _. IsLost (C.state chip.old) (C.state chip.new)) }
+        ensures lost { IfErr result (λ fault. IsLost fault (C.state chip.old) (C.state chip.new)) }
         ensures not_ready { IfErr result (λ fault. fault ≡ PostFault.NotReady → fetch.kind ≢ Kind.Read) }
     {
         read_post(chip, &target.geometry, now, fetch)

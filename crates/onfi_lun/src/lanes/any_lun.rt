@@ -87,7 +87,7 @@ impl AnyLun {
         ensures there { IfOk result.1 (λ _. IsThere (C.state chip.new) result.0) }
         ensures others { IfOk result.1 (λ _. OthersStay (number_in self) (C.state chip.old) (C.state chip.new)) }
         ensures number { number_in result.0 ≡ number_in self }
-        ensures lost { IfErr result.1 (λ _. IsLost (C.state chip.old) (C.state chip.new)) }
+        ensures lost { IfErr result.1 (λ fault. IsLost fault (C.state chip.old) (C.state chip.new)) }
         ensures not_ready { IfErr result.1 (λ fault. fault ≡ PostFault.NotReady → fetch.kind ≢ Kind.Read) }
     {
         let posting = self.into_posting(now);

@@ -20,7 +20,7 @@ loop-turn-init g c =
       driven = subst (IsDriven target c.args.items.items chip c.in-Ok-new.drive) (sym c.in-Ok.ensures.items) driven;
       order = subst (IsInOrder c.args.schedule.now c.in-Ok-new.drive) (sym c.in-Ok.ensures.items) (order_opens c.args.schedule.now c.in-Ok-new.drive c.in-Ok-new.ensures.waiting c.in-Ok-new.ensures.free);
       basis = subst (Each (RestsOn c.args.items.items chip.faults)) (sym c.in-Ok.ensures.items) tt;
-      kept = record { faults = refl; failures = omega arith };
+      kept = record { faults = refl; failures = record { bus = omega arith; unready = omega arith } };
     }
 
 pub loop-turn-preserved-in_default-2 : goal.loop-turn-preserved-in_default-2

@@ -1,10 +1,11 @@
-use Rattle.std.proofs.Common.{◌≡◌, ℕ, ◌+◌, refl, ap, ◌∙◌}
-use Rattle.onfi_chip.specs.Chip.{Chip}
+use Rattle.std.proofs.Common.{◌≡◌, ℕ, refl, ap, ◌∙◌}
+use Rattle.onfi_chip.specs.Chip.{Chip, Failures, no_failures}
 use Rattle.onfi_chip.specs.Numbers.{failed}
 use Rattle.onfi_chip.specs.Sim.{chip_of}
 use Rattle.onfi_chip.proofs.sim.SimChip.new.Goals as goal
 
 pub returns-clause-opened : goal.returns-clause-opened
 returns-clause-opened c =
-    let none : failed c.new-2.result.failing.items c.new-2.result.made + failed c.new-3.result.failing.items c.new-3.result.made ≡ 0 = rw (c.new-2.ensures.none, c.new-3.ensures.none) refl in
-    ap (λ (n : ℕ). record (chip_of c.in_ok-new.field-0) { failures = n }) none ∙ ap (λ (chip : Chip). record chip { failures = 0 }) c.in_ok-new.ensures
+    let told : Failures = record { bus = failed c.new-2.result.failing.items c.new-2.result.made; unready = failed c.new-3.result.failing.items c.new-3.result.made } in
+    let none : told ≡ no_failures = rw (c.new-2.ensures.none, c.new-3.ensures.none) refl in
+    ap (λ (f : Failures). record (chip_of c.in_ok-new.field-0) { failures = f }) none ∙ ap (λ (chip : Chip). record chip { failures = no_failures }) c.in_ok-new.ensures

@@ -1,12 +1,11 @@
-use Rattle.std.proofs.Common.{ℕ, ◌+◌, sym, ap, ◌∙◌}
+use Rattle.std.proofs.Common.{refl, sym, ap, ◌∙◌}
 use Rattle.onfi_request.specs.declared.request.Request.{Request}
 use Rattle.onfi_chip.specs.declared.sim.SimChip.{SimChip}
 use Rattle.onfi_chip.specs.Chip.{Chip}
 use Rattle.onfi_chip.specs.Calls.{command_of}
-use Rattle.onfi_chip.specs.Numbers.{failed}
 use Rattle.onfi_chip.specs.Sim.{chip_of}
 use Rattle.onfi_chip.specs.SimChip.{failures_of}
-use Rattle.onfi_chip.proofs.SimCalls.{if_ok, if_err, in_range, request_is, has_done, by_closer}
+use Rattle.onfi_chip.proofs.SimCalls.{as_many, if_ok, if_err, in_range, request_is, has_done, by_closer}
 use Rattle.onfi_chip.proofs.sim.SimChipChip.command.Goals as goal
 
 pub returns-then-is_err-clause-err : goal.returns-then-is_err-clause-err
@@ -22,4 +21,4 @@ returns-clause-ok c r h =
     let fine = c.step-2.ensures.fine (sym c.fails.ensures.value ∙ c.if-fails.false) in
     let new : SimChip = record { dies = c.take.new.self; calls = c.step-2.new.self; statuses = old.statuses } in
     has_done old new (command_of c.args.closer (chip_of old.dies) r c.args.now) _ took (by_closer c.args.closer (chip_of old.dies) (failures_of old) r c.args.now)
-    (ap (λ (n : ℕ). n + failed old.statuses.failing.items old.statuses.made) fine)
+    (as_many old new fine refl)

@@ -1,9 +1,8 @@
-use Rattle.std.proofs.Common.{ℕ, ◌+◌, sym, ap, ◌∙◌}
+use Rattle.std.proofs.Common.{refl, sym, ap, ◌∙◌}
 use Rattle.onfi_request.specs.declared.answer.Answer.TheVariants.{Read}
 use Rattle.onfi_chip.specs.declared.post.Post.{Post}
 use Rattle.onfi_chip.specs.declared.sim.SimChip.{SimChip}
-use Rattle.onfi_chip.specs.Numbers.{failed}
-use Rattle.onfi_chip.proofs.SimCalls.{posts_there, post_done, is_read}
+use Rattle.onfi_chip.proofs.SimCalls.{as_many, posts_there, post_done, is_read}
 use Rattle.onfi_chip.proofs.sim.SimChipChip.data_out.Goals as goal
 
 pub unreachable-requires : goal.unreachable-requires
@@ -24,5 +23,5 @@ returns-clause-ok c post left h =
     let fine = c.count.ensures.fine c.if-count.false in
     let new : SimChip = record { dies = c.post-post.new.self; calls = c.count.new.self; statuses = old.statuses } in (
       ap (λ (q : Post). q.answer) (sym told.0) ∙ c.in-Read.is ∙ ap Read (sym c.in-Read.bytes-is ∙ sym (c.copy_from_slice.ensures.after ∙ c.as_slice.ensures)),
-      post_done old new c.args.now post left c.place-place.result place told.1 (ap (λ (n : ℕ). n + failed old.statuses.failing.items old.statuses.made) fine),
+      post_done old new c.args.now post left c.place-place.result place told.1 (as_many old new fine refl),
     )

@@ -1,9 +1,8 @@
-use Rattle.std.proofs.Common.{ℕ, ◌+◌, sym, ap, subst, ◌∙◌}
+use Rattle.std.proofs.Common.{sym, ap, subst, ◌∙◌}
 use Rattle.onfi_chip.specs.declared.post.Post.{Post}
 use Rattle.onfi_chip.specs.declared.sim.SimChip.{SimChip}
 use Rattle.onfi_chip.specs.Calls.{TellsAnswer}
-use Rattle.onfi_chip.specs.Numbers.{failed}
-use Rattle.onfi_chip.proofs.SimCalls.{posts_there, post_done, is_status}
+use Rattle.onfi_chip.proofs.SimCalls.{as_many, posts_there, post_done, is_status}
 use Rattle.onfi_chip.proofs.sim.SimChipChip.status.Goals as goal
 
 pub returns-else-count-clause-ready : goal.returns-else-count-clause-ready
@@ -19,6 +18,5 @@ returns-else-count-clause-ready c ready post left h =
     let status = is_status _ c.post-post.result.kind c.post-post.result.answer (λ e. c.requires.3 (ap (λ (q : Post). q.kind) (sym told_first.0) ∙ e)) c.post-post.ensures.form in
     let new : SimChip = record { dies = c.post-post.new.self; calls = c.count-bus_fails.new.self; statuses = c.count.new.self } in (
       subst (λ (q : Post). TellsAnswer c.encode_status.result q.answer) told.0 (c.encode_status.ensures.told status),
-      post_done old new c.args.now post left c.place-place.result place told.1
-          (ap (λ (n : ℕ). n + failed new.statuses.failing.items new.statuses.made) calls ∙ ap (λ (n : ℕ). failed old.calls.failing.items old.calls.made + n) statuses),
+      post_done old new c.args.now post left c.place-place.result place told.1 (as_many old new calls statuses),
     )
