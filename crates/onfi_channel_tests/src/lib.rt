@@ -10,6 +10,8 @@ mod half;
 #[cfg(test)]
 mod held;
 #[cfg(test)]
+mod last;
+#[cfg(test)]
 mod machine;
 #[cfg(test)]
 mod phases;

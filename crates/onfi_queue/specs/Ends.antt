@@ -58,7 +58,7 @@ item_of host request = record { host = host.number; serial = length host.sent; r
 abbrev pub after_sending : HostView → Request → HostView
 after_sending host request = record host { sent = host.sent ++ item_of host request ∷ [] }
 
--- the queue was full at one moment: behind what was accepted of the host, what it held then is what the host sent
+-- a full queue goes with what the host sent: behind what was accepted of it, what that queue holds of it is what it sent
 abbrev pub SawFull : HostView → Type 0
 SawFull host = Held host.capacity (HostSees (AtHost host.opened host.number host.sent))
 
@@ -72,7 +72,7 @@ IsWhyNot host request Full = Fits host.opened.geometry request × (length host.s
 abbrev pub after_accepting : IntakeView → Item → IntakeView
 after_accepting t x = record t { accepted = t.accepted ++ x ∷ [] }
 
--- the queue was empty at one moment
+-- an empty queue goes with what was accepted
 abbrev pub SawEmpty : IntakeView → Type 0
 SawEmpty t = Held 0 (IntakeSees (AtIntake t.opened t.accepted 4 []))
 

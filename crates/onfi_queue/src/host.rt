@@ -63,8 +63,10 @@ impl Host {
     ///
     /// # Errors
     /// The first of `Refused`, where the device doesn't take the request, `SerialsSpent`, where 2^32 items were sent,
-    /// and `Full`, only where the queue was full at one moment of the call. Nothing is sent then, and the request comes
-    /// back.
+    /// and `Full`, where the queue was full. Nothing is sent then, and the request comes back.
+    ///
+    /// Of `Full` the contract says only that a full queue goes with what this host sent, and other hosts may fill one: that
+    /// it isn't told of a queue with room is tested.
     pub fn submit<R: Wait>(
         &mut self,
         rt: &R,

@@ -33,9 +33,17 @@ impl Model for Intake {
 }
 
 impl Intake {
+    /// The channel whose queue this is, 0 to 3.
+    pub fn channel(&self) -> u8
+        ensures { result ≡ self.now.opened.channel }
+    {
+        self.seat.channel()
+    }
+
     /// Accepts the item that has waited longest. It takes no memory.
     ///
-    /// `None` comes only where the queue was empty at one moment of the call.
+    /// `None` comes where the queue was empty. Of that the contract says only that an empty queue goes with what was
+    /// accepted, as it always may: that an item which waits is accepted is tested.
     pub fn accept<R: Wait>(&mut self, rt: &R) -> Option<Item>
         ensures accepted { IfSome result (λ item. self.new ≡ after_accepting self.old item) }
         ensures next { IfSome result (λ item. IsNext self.old.opened.geometry 4 self.old.accepted item) }

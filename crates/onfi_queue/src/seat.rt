@@ -78,6 +78,13 @@ impl Seat {
         })
     }
 
+    /// The channel whose queue this is.
+    pub(crate) fn channel(&self) -> u8
+        ensures { result ≡ self.now.opened.channel }
+    {
+        self.opened.channel
+    }
+
     /// Takes the oldest item.
     pub(crate) fn accept<R: Wait>(&mut self, rt: &R) -> Option<Item>
         ensures accepted { IfSome result (λ item. self.new ≡ with_accepted self.old item) }

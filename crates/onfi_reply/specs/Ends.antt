@@ -36,7 +36,7 @@ inbox_of p = record { queue = p.queue; capacity = p.capacity; opened = p.opened;
 abbrev pub after_posting : PosterView → Reply → PosterView
 after_posting p x = record p { posted = p.posted ++ x ∷ [] }
 
--- the queue was full at one moment: what it held then is the end of what was posted
+-- a full queue goes with what was posted: what that queue holds is the end of it
 abbrev pub SawFull : PosterView → Type 0
 SawFull p = Held p.capacity (PosterSees (AtPoster p.opened p.posted true None))
 
@@ -50,7 +50,7 @@ IsFirstOf (y ∷ ys) x = x ≡ y
 abbrev pub after_collecting : InboxView → Reply → InboxView
 after_collecting i x = record i { given = i.given ++ x ∷ []; waiting = drop 1 i.waiting }
 
--- the queue was empty at one moment
+-- an empty queue goes with what was popped
 abbrev pub SawEmpty : InboxView → Type 0
 SawEmpty i = Held 0 (InboxSees (AtInbox i.opened (i.given ++ i.waiting)))
 

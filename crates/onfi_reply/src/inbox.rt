@@ -40,8 +40,9 @@ impl Inbox {
     /// Gives the next reply: the first of those that were taken in or, where there is none, the one that has waited
     /// longest in the queue. It takes no memory.
     ///
-    /// `None` comes only where nothing was taken in and the queue was empty at one moment of the call. All replies that
-    /// were given, up to this one, are rightful in what this one rests on.
+    /// `None` comes only where nothing was taken in, and the queue was empty. Of the queue the contract says only that an
+    /// empty one goes with what was given, as it always may: that a reply which waits there is collected is tested. All
+    /// replies that were given, up to this one, are rightful in what this one rests on.
     pub fn collect<R: Wait>(&mut self, rt: &R) -> Option<Reply>
         ensures given { IfSome result (λ reply. self.new ≡ after_collecting self.old reply) }
         ensures first { IfSome result (λ reply. IsFirstOf self.old.waiting reply) }
@@ -59,8 +60,8 @@ impl Inbox {
 
     /// Moves the reply that has waited longest in the queue into the inbox's own list, and answers whether it did.
     ///
-    /// `false` comes only where the queue was empty at one moment of the call. All replies that were popped, up to this
-    /// one, are rightful in what this one rests on.
+    /// `false` comes where the queue was empty, of which the contract says what [`Inbox::collect`] has. All replies that were
+    /// popped, up to this one, are rightful in what this one rests on.
     ///
     /// # Errors
     /// Want of memory; the reply is then still in the queue.

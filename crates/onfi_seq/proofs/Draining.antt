@@ -7,9 +7,11 @@ use Rattle.onfi_queue.specs.Ends.{HostView}
 use Rattle.onfi_reply.specs.declared.opened_for.OpenedFor.{OpenedFor}
 use Rattle.onfi_reply.specs.Ends.{InboxView, TookIn}
 use Rattle.onfi_seq.specs.declared.drained.Drained.{Drained}
+use Rattle.onfi_seq.specs.declared.drained.Drained.TheVariants as drained
 use Rattle.onfi_seq.specs.declared.turn.Turn.{Turn}
-use Rattle.onfi_seq.specs.Drained.{AreAccepted, AreNextBehind, Drains, EndsAs, HasGrown, HaveGrown, Makes}
-use Rattle.onfi_seq.specs.Sequencer.{AreCounts, IsSameChannel, Seen, SequencerFields}
+use Rattle.onfi_seq.specs.Drained.{AreAccepted, AreNextBehind, Drains, EndsBefore, EndsBehind, GoesOn, HasGrown, HaveGrown, Makes, ends_it, left_by}
+use Rattle.onfi_seq.proofs.Same.{short_by_memory}
+use Rattle.onfi_seq.specs.Sequencer.{AreCounts, IsRight, IsSameChannel, Seen, SequencerFields}
 use Rattle.onfi_seq.specs.Turned.{Turned}
 
 -- What one inbox takes in
@@ -89,44 +91,81 @@ pub record Draining (q : Seen) (inboxes : List InboxView) (made : ℕ) (q' : See
   pub answers : List Turn
   pub ran : Makes q answers q'
   pub count : length answers ≡ made
+  pub on : GoesOn answers q'.0.half
   pub same : IsSameChannel q q'
+  pub short : q.0.short ≡ true → q'.0.short ≡ true
   pub grown : HaveGrown inboxes inboxes'
 
 pub draining_first : (q : Seen) (inboxes : List InboxView) → Draining q inboxes 0 q inboxes
-draining_first q inboxes = record { answers = []; ran = refl; count = refl; same = same_channel_none q; grown = all_grown_none inboxes }
+draining_first q inboxes = record { answers = []; ran = refl; count = refl; on = tt; same = same_channel_none q; short = λ short. short; grown = all_grown_none inboxes }
 
 pub draining_taken : (q : Seen) (inboxes : List InboxView) (made : ℕ) (q' : Seen) (inboxes' inboxes'' : List InboxView) → Draining q inboxes made q' inboxes' → HaveGrown inboxes' inboxes'' → Draining q inboxes made q' inboxes''
 draining_taken q inboxes made q' inboxes' inboxes'' so_far more = record {
   answers = so_far.answers;
   ran = so_far.ran;
   count = so_far.count;
+  on = so_far.on;
   same = so_far.same;
+  short = so_far.short;
   grown = all_grown_all inboxes inboxes' inboxes'' so_far.grown more;
 }
 
-pub draining_turned : (q : Seen) (inboxes : List InboxView) (made : ℕ) (q' : Seen) (inboxes' : List InboxView) (answer : Turn) (q'' : Seen) → Draining q inboxes made q' inboxes' → Turned q' answer q'' → IsSameChannel q' q''
+pub draining_turned : (q : Seen) (inboxes : List InboxView) (made : ℕ) (q' : Seen) (inboxes' : List InboxView) (answer : Turn) (q'' : Seen) → Draining q inboxes made q' inboxes' → Turned q' answer q'' → IsSameChannel q' q'' → (q'.0.short ≡ true → q''.0.short ≡ true) → ends_it answer q''.0.half ≡ false
     → Draining q inboxes (made + 1) q'' inboxes'
-draining_turned q inboxes made q' inboxes' answer q'' so_far turned same =
+draining_turned q inboxes made q' inboxes' answer q'' so_far turned same still on =
     let count = so_far.count in
     record {
       answers = answer ∷ so_far.answers;
-      ran = (q', so_far.ran, turned);
+      ran = (q', so_far.ran, so_far.on, turned);
       count = omega arith;
+      on = on;
       same = same_channel_all q q' q'' so_far.same same;
+      short = λ short. still (so_far.short short);
       grown = so_far.grown;
     }
 
--- ended where no turn was made
-pub drains_here : (q : Seen) (inboxes : List InboxView) (made : ℕ) (q' : Seen) (inboxes' : List InboxView) (hosts : List HostView) (turns : ℕ) (end : Drained) → (so_far : Draining q inboxes made q' inboxes') → made ≤ turns → EndsAs end q'.0.half hosts turns so_far.answers
+-- ended before a turn
+pub drains_here : (q : Seen) (inboxes : List InboxView) (made : ℕ) (q' : Seen) (inboxes' : List InboxView) (hosts : List HostView) (turns : ℕ) (end : Drained) → Draining q inboxes made q' inboxes' → made ≤ turns → EndsBefore end q'.0.half hosts turns made
     → Drains q hosts turns end q'
-drains_here q inboxes made q' inboxes' hosts turns end so_far few ends = let count = so_far.count in record { answers = so_far.answers; ran = so_far.ran; few = omega arith; ends = ends }
+drains_here q inboxes made q' inboxes' hosts turns drained.Empty so_far few ends =
+    let count = so_far.count in record { answers = so_far.answers; last = q'; ran = so_far.ran; few = omega arith; ends = (so_far.on, ends); after = refl }
+drains_here q inboxes made q' inboxes' hosts turns drained.TurnsSpent so_far few ends =
+    let count = so_far.count in record { answers = so_far.answers; last = q'; ran = so_far.ran; few = omega arith; ends = (so_far.on, count ∙ ends.0, ends.1); after = refl }
+drains_here q inboxes made q' inboxes' hosts turns (drained.Stopped cause) so_far few ends = absurd ends
+drains_here q inboxes made q' inboxes' hosts turns (drained.Over opened) so_far few ends = absurd ends
+drains_here q inboxes made q' inboxes' hosts turns drained.Memory so_far few ends = absurd ends
+
+-- ended since a taking in was refused
+pub drains_refused : (q : Seen) (inboxes : List InboxView) (made : ℕ) (q' : Seen) (inboxes' : List InboxView) (hosts : List HostView) (turns : ℕ) (q'' : Seen) → Draining q inboxes made q' inboxes' → made ≤ turns → q'' ≡ left_by drained.Memory q'
+    → Drains q hosts turns drained.Memory q''
+drains_refused q inboxes made q' inboxes' hosts turns q'' so_far few after =
+    let count = so_far.count in record { answers = so_far.answers; last = q'; ran = so_far.ran; few = omega arith; ends = inr so_far.on; after = after }
+
+marked : (q : Seen) → q.0.short ≡ true → q ≡ left_by drained.Memory q
+marked q short = ap (λ (b : Bool). let z : Seen = (record q.0 { short = b }, q.1) in z) short
 
 -- ended behind a turn
 pub drains_behind : (q : Seen) (inboxes : List InboxView) (made : ℕ) (q' : Seen) (inboxes' : List InboxView) (answer : Turn) (q'' : Seen) (hosts : List HostView) (turns : ℕ) (end : Drained) → Draining q inboxes made q' inboxes' → made < turns → Turned q' answer q''
-    → ((answers : List Turn) → EndsAs end q''.0.half hosts turns (answer ∷ answers)) → Drains q hosts turns end q''
-drains_behind q inboxes made q' inboxes' answer q'' hosts turns end so_far few turned ends =
+    → EndsBehind end answer q''.0.half → Drains q hosts turns end q''
+drains_behind q inboxes made q' inboxes' answer q'' hosts turns (drained.Stopped cause) so_far few turned ends =
+    let count = so_far.count in record { answers = answer ∷ so_far.answers; last = q''; ran = (q', so_far.ran, so_far.on, turned); few = omega arith; ends = ends; after = refl }
+drains_behind q inboxes made q' inboxes' answer q'' hosts turns (drained.Over opened) so_far few turned ends =
+    let count = so_far.count in record { answers = answer ∷ so_far.answers; last = q''; ran = (q', so_far.ran, so_far.on, turned); few = omega arith; ends = ends; after = refl }
+drains_behind q inboxes made q' inboxes' answer q'' hosts turns drained.Memory so_far few turned ends =
     let count = so_far.count in
-    record { answers = answer ∷ so_far.answers; ran = (q', so_far.ran, turned); few = omega arith; ends = ends so_far.answers }
+    let short = short_by_memory q' q'' (subst (λ (x : Turn). Turned q' x q'') ends.0 turned) in
+    record { answers = answer ∷ so_far.answers; last = q''; ran = (q', so_far.ran, so_far.on, turned); few = omega arith; ends = inl ends; after = marked q'' short }
+drains_behind q inboxes made q' inboxes' answer q'' hosts turns drained.Empty so_far few turned ends = absurd ends
+drains_behind q inboxes made q' inboxes' answer q'' hosts turns drained.TurnsSpent so_far few turned ends = absurd ends
+
+-- the mark of refused memory changes neither what always holds nor the channel
+pub right_marked : (q q' : Seen) → q' ≡ left_by drained.Memory q → IsRight q → IsRight q'
+right_marked q q' is right =
+    let here : IsRight (left_by drained.Memory q) = record { accepted = right.accepted; posters = right.posters; posted = right.posted; rightful = right.rightful; made = right.made; reached = right.reached } in
+    subst IsRight (sym is) here
+
+pub same_marked : (q q' : Seen) → q' ≡ left_by drained.Memory q → IsSameChannel q q'
+same_marked q q' is = subst (IsSameChannel q) (sym is) (record { setup = refl; faults = refl; intake = refl; posters = refl })
 
 -- What the hosts sent, and what is accepted
 

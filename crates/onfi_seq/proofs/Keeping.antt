@@ -61,9 +61,9 @@ poster_opened q channel host p number none fresh = record {
 }
 
 pub kept_opened : (s : Setup) (channel : ℕ) (intake : IntakeView) (posters : List PosterView) (counts : List ℕ) → s.hosts ≡ 4 → IsFreshIntake s channel intake → AreFreshPosters s channel posters → counts ≡ replicate 4 0
-    → IsKept (record { setup = s; half = first_half s; intake = intake; posters = posters; refused = false }) counts
+    → IsKept (record { setup = s; half = first_half s; intake = intake; posters = posters; refused = false; short = false }) counts
 kept_opened s channel intake posters counts hosts fresh_intake fresh_posters zeros =
-    let q : SequencerFields = record { setup = s; half = first_half s; intake = intake; posters = posters; refused = false } in
+    let q : SequencerFields = record { setup = s; half = first_half s; intake = intake; posters = posters; refused = false; short = false } in
     let number : intake.opened.channel ≡ channel = ap (λ (x : IntakeView). x.opened.channel) fresh_intake.is in
     record {
       hosts = hosts;
@@ -77,9 +77,9 @@ kept_opened s channel intake posters counts hosts fresh_intake fresh_posters zer
 
 -- Where neither what is accepted nor what is posted changes
 
-pub kept_same : (q : SequencerFields) (counts : List ℕ) (s : Setup) (h : HalfState) (refused : Bool) → IsKept q counts → s ≡ q.setup → h.accepted ≡ q.half.accepted → h.posted ≡ q.half.posted
-    → IsKept (record q { setup = s; half = h; refused = refused }) counts
-kept_same q counts s h refused kept setup accepted posted = record {
+pub kept_same : (q : SequencerFields) (counts : List ℕ) (s : Setup) (h : HalfState) (refused short : Bool) → IsKept q counts → s ≡ q.setup → h.accepted ≡ q.half.accepted → h.posted ≡ q.half.posted
+    → IsKept (record q { setup = s; half = h; refused = refused; short = short }) counts
+kept_same q counts s h refused short kept setup accepted posted = record {
   hosts = ap (λ (x : Setup). x.hosts) setup ∙ kept.hosts;
   opened = kept.opened ∙ ap (λ (x : Setup). opened_as x q.intake.opened.channel) (sym setup);
   room = kept.room ∙ sym (ap (λ (x : Setup). x.submit_cap) setup);

@@ -78,16 +78,16 @@ same_posting q q' p = record {
   posters = ap (λ (x : Seen). map poster_ends x.0.posters) p.after ∙ map_set poster_ends q.0.posters p.host p.poster (after_posting p.poster p.reply) p.there refl;
 }
 
-same_planning : (q : Seen) (o : Outcome) (refused : Bool) (q' : Seen) → PlansTo q o refused q' → IsSameChannel q q'
-same_planning q o refused q' p = record {
+same_planning : (q : Seen) (o : Outcome) (refused short : Bool) (q' : Seen) → PlansTo q o refused short q' → IsSameChannel q q'
+same_planning q o refused short q' p = record {
   setup = ap (λ (x : Seen). x.0.setup) p.after;
   faults = ap (λ (x : Seen). x.1.faults) p.after;
   intake = ap (λ (x : Seen). intake_ends x.0.intake) p.after;
   posters = ap (λ (x : Seen). map poster_ends x.0.posters) p.after;
 }
 
-same_running : (q : Seen) (o : Outcome) (refused : Bool) (q' : Seen) → RunsTo q o refused q' → IsSameChannel q q'
-same_running q o refused q' r = record {
+same_running : (q : Seen) (o : Outcome) (refused short : Bool) (q' : Seen) → RunsTo q o refused short q' → IsSameChannel q q'
+same_running q o refused short q' r = record {
   setup = ap (λ (x : Seen). x.0.setup) r.after;
   faults = bus_faults (refusal q.0.setup (channel_of q) (event.Bus 0)) q.0.setup (channel_of q) 0 o (channel_of q') refl (r.step 0) (refused_faults (channel_of q));
   intake = ap (λ (x : Seen). intake_ends x.0.intake) r.after;
@@ -97,18 +97,37 @@ same_running q o refused q' r = record {
 pub same_by_turn : (q : Seen) (answer : Turn) (q' : Seen) → Turned q answer q' → IsSameChannel q q'
 same_by_turn q turn.Posted q' t = same_posting q q' t
 same_by_turn q (turn.Stopped cause) q' (inl (posts, stopped, is)) = same_self q q' is
-same_by_turn q (turn.Stopped cause) q' (inr (inl p)) = same_planning q (outcome.Stopped cause) q.0.refused q' p
-same_by_turn q (turn.Stopped cause) q' (inr (inr r)) = same_running q (outcome.Stopped cause) q.0.refused q' r
+same_by_turn q (turn.Stopped cause) q' (inr (inl p)) = same_planning q (outcome.Stopped cause) q.0.refused q.0.short q' p
+same_by_turn q (turn.Stopped cause) q' (inr (inr r)) = same_running q (outcome.Stopped cause) q.0.refused q.0.short q' r
 same_by_turn q turn.Accepted q' t = record {
   setup = ap (λ (x : Seen). x.0.setup) t.after;
   faults = ap (λ (x : Seen). x.1.faults) t.after;
   intake = ap (λ (x : Seen). intake_ends x.0.intake) t.after;
   posters = ap (λ (x : Seen). map poster_ends x.0.posters) t.after;
 }
-same_by_turn q turn.Planned q' (finish, p) = same_planning q (outcome.Planned finish) q.0.refused q' p
-same_by_turn q (turn.Over opened) q' p = same_planning q (outcome.Over opened) true q' p
-same_by_turn q turn.Phase q' (start, r) = same_running q (outcome.Phase start) false q' r
-same_by_turn q turn.Memory q' (inl p) = same_planning q (outcome.Memory None) true q' p
-same_by_turn q turn.Memory q' (inr r) = same_running q (outcome.Memory None) q.0.refused q' r
+same_by_turn q turn.Planned q' (finish, p) = same_planning q (outcome.Planned finish) q.0.refused q.0.short q' p
+same_by_turn q (turn.Over opened) q' p = same_planning q (outcome.Over opened) true q.0.short q' p
+same_by_turn q turn.Phase q' (start, r) = same_running q (outcome.Phase start) false q.0.short q' r
+same_by_turn q turn.Memory q' (inl p) = same_planning q (outcome.Memory None) true true q' p
+same_by_turn q turn.Memory q' (inr r) = same_running q (outcome.Memory None) q.0.refused true q' r
 same_by_turn q turn.PostFull q' (rests, some, is) = same_self q q' is
 same_by_turn q turn.Idle q' (rests, none, is) = same_self q q' is
+
+-- What a turn keeps of refused memory
+
+pub short_by_memory : (q q' : Seen) → Turned q turn.Memory q' → q'.0.short ≡ true
+short_by_memory q q' (inl p) = ap (λ (x : Seen). x.0.short) p.after
+short_by_memory q q' (inr r) = ap (λ (x : Seen). x.0.short) r.after
+
+pub short_by_turn : (q : Seen) (answer : Turn) (q' : Seen) → Turned q answer q' → q.0.short ≡ true → q'.0.short ≡ true
+short_by_turn q turn.Posted q' t short = ap (λ (x : Seen). x.0.short) t.after ∙ short
+short_by_turn q (turn.Stopped cause) q' (inl (posts, stopped, is)) short = ap (λ (x : Seen). x.0.short) is ∙ short
+short_by_turn q (turn.Stopped cause) q' (inr (inl p)) short = ap (λ (x : Seen). x.0.short) p.after ∙ short
+short_by_turn q (turn.Stopped cause) q' (inr (inr r)) short = ap (λ (x : Seen). x.0.short) r.after ∙ short
+short_by_turn q turn.Accepted q' t short = ap (λ (x : Seen). x.0.short) t.after ∙ short
+short_by_turn q turn.Planned q' (finish, p) short = ap (λ (x : Seen). x.0.short) p.after ∙ short
+short_by_turn q (turn.Over opened) q' p short = ap (λ (x : Seen). x.0.short) p.after ∙ short
+short_by_turn q turn.Phase q' (start, r) short = ap (λ (x : Seen). x.0.short) r.after ∙ short
+short_by_turn q turn.Memory q' t short = short_by_memory q q' t
+short_by_turn q turn.PostFull q' (rests, some, is) short = ap (λ (x : Seen). x.0.short) is ∙ short
+short_by_turn q turn.Idle q' (rests, none, is) short = ap (λ (x : Seen). x.0.short) is ∙ short

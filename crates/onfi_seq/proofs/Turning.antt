@@ -65,17 +65,17 @@ rests_is q reached may refused =
     record { before = may.before; phases = none; wants = idle.0; items = idle.1 }
 
 -- neither half nor chip changed
-pub seen_same : (intake : IntakeView) (posters : List PosterView) (refused : Bool) (s s' : Setup) (c c' : ChannelState) → s' ≡ s → c' ≡ c
-    → (let q : Seen = (record { setup = s'; half = c'.half; intake = intake; posters = posters; refused = refused }, c'.chip) in q) ≡ (record { setup = s; half = c.half; intake = intake; posters = posters; refused = refused }, c.chip)
-seen_same intake posters refused s s' c c' setup same =
-    ap (λ (x : Setup). let q : Seen = (record { setup = x; half = c'.half; intake = intake; posters = posters; refused = refused }, c'.chip) in q) setup
-    ∙ ap (λ (x : ChannelState). let q : Seen = (record { setup = s; half = x.half; intake = intake; posters = posters; refused = refused }, x.chip) in q) same
+pub seen_same : (intake : IntakeView) (posters : List PosterView) (refused short : Bool) (s s' : Setup) (c c' : ChannelState) → s' ≡ s → c' ≡ c
+    → (let q : Seen = (record { setup = s'; half = c'.half; intake = intake; posters = posters; refused = refused; short = short }, c'.chip) in q) ≡ (record { setup = s; half = c.half; intake = intake; posters = posters; refused = refused; short = short }, c.chip)
+seen_same intake posters refused short s s' c c' setup same =
+    ap (λ (x : Setup). let q : Seen = (record { setup = x; half = c'.half; intake = intake; posters = posters; refused = refused; short = short }, c'.chip) in q) setup
+    ∙ ap (λ (x : ChannelState). let q : Seen = (record { setup = s; half = x.half; intake = intake; posters = posters; refused = refused; short = short }, x.chip) in q) same
 
--- the half alone changed, and what is said of refusals
-pub planned_seen : {C : Type 0} (state : C → Chip) (intake : IntakeView) (posters : List PosterView) (refused : Bool) (d d' : DriverView C) → d' ≡ (record d.0 { half = d'.0.half }, d.1)
-    → (let q : Seen = (record { setup = d'.0.setup; half = d'.0.half; intake = intake; posters = posters; refused = refused }, state d'.1) in q) ≡ (record { setup = d.0.setup; half = d'.0.half; intake = intake; posters = posters; refused = refused }, state d.1)
-planned_seen {C} state intake posters refused d d' same =
-    ap (λ (x : DriverView C). let q : Seen = (record { setup = x.0.setup; half = d'.0.half; intake = intake; posters = posters; refused = refused }, state x.1) in q) same
+-- the half alone changed
+pub planned_seen : {C : Type 0} (state : C → Chip) (intake : IntakeView) (posters : List PosterView) (refused short : Bool) (d d' : DriverView C) → d' ≡ (record d.0 { half = d'.0.half }, d.1)
+    → (let q : Seen = (record { setup = d'.0.setup; half = d'.0.half; intake = intake; posters = posters; refused = refused; short = short }, state d'.1) in q) ≡ (record { setup = d.0.setup; half = d'.0.half; intake = intake; posters = posters; refused = refused; short = short }, state d.1)
+planned_seen {C} state intake posters refused short d d' same =
+    ap (λ (x : DriverView C). let q : Seen = (record { setup = x.0.setup; half = d'.0.half; intake = intake; posters = posters; refused = refused; short = short }, state x.1) in q) same
 
 -- how a turn ends where nothing is left to do
 pub rest_turned : (q q' : Seen) (rest : Turn) → IsRest q rest → Rests q → q' ≡ q → Turned q rest q'

@@ -1,5 +1,5 @@
 -- What draining and closing a channel come to.
-use Rattle.std.specs.Prelude.{◌≡◌, ◌≢◌, ℕ, ◌+◌, ◌<◌, ◌≤◌, true, List, [], ◌∷◌, ◌++◌, length, map, Some, slice_get}
+use Rattle.std.specs.Prelude.{◌≡◌, ◌≢◌, ◌⊎◌, ℕ, ◌+◌, ◌<◌, ◌≤◌, Bool, true, false, List, [], ◌∷◌, ◌++◌, length, map, Some, slice_get}
 use Rattle.std.specs.List.{filter}
 use Rattle.atomic_table.specs.Seated.{TableId}
 use Rattle.onfi_request.specs.declared.reply.Reply.{Reply}
@@ -49,10 +49,27 @@ pub record HaveGrown (old new : List InboxView) : Type 0 where
   pub each : (at : ℕ) (i i' : InboxView) → slice_get old at ≡ Some i → slice_get new at ≡ Some i' → HasGrown i i'
 
 -- ---- draining
--- the turns gave these answers, the last first, each from where the one before it ended
+-- what ends a draining: Stopped, and Over and Memory where no phase is left
+abbrev pub ends_it : Turn → HalfState → Bool
+ends_it (turn.Stopped cause) h = true
+ends_it (turn.Over opened) h = none_left h
+ends_it turn.Memory h = none_left h
+ends_it turn.Posted h = false
+ends_it turn.Accepted h = false
+ends_it turn.Planned h = false
+ends_it turn.Phase h = false
+ends_it turn.PostFull h = false
+ends_it turn.Idle h = false
+
+-- the last of these answers, if there is one, doesn't end a draining
+abbrev pub GoesOn : List Turn → HalfState → Type 0
+GoesOn [] h = Unit {0}
+GoesOn (answer ∷ answers) h = ends_it answer h ≡ false
+
+-- the turns gave these answers, the last first, each from where the one before it ended, and none but the last ends a draining
 abbrev pub Makes : Seen → List Turn → Seen → Type 0
 Makes q [] q' = q' ≡ q
-Makes q (answer ∷ answers) q' = (mid : Seen) × Makes q answers mid × Turned mid answer q'
+Makes q (answer ∷ answers) q' = (mid : Seen) × Makes q answers mid × GoesOn answers mid.0.half × Turned mid answer q'
 
 -- the last answer
 abbrev pub IsLast : Turn → List Turn → Type 0
@@ -72,20 +89,48 @@ pub record IsAnswered (h : HalfState) (hosts : List HostView) : Type 0 where
 abbrev pub IsShort : HalfState → List HostView → Type 0
 IsShort h hosts = AreAccepted h hosts → length h.posted ≢ length h.accepted
 
--- How the draining ended. TurnsSpent: not all is answered then. Memory: the last turn answered so with no phase left, or a take-in was refused.
+-- How the draining ended. Empty and TurnsSpent: no turn ended it. Memory: the last turn answered so with no phase left, or no turn
+-- ended it and a taking in was refused.
 abbrev pub EndsAs : Drained → HalfState → List HostView → ℕ → List Turn → Type 0
-EndsAs drained.Empty h hosts turns answers = IsAnswered h hosts
-EndsAs drained.TurnsSpent h hosts turns answers = (length answers ≡ turns) × IsShort h hosts
+EndsAs drained.Empty h hosts turns answers = GoesOn answers h × IsAnswered h hosts
+EndsAs drained.TurnsSpent h hosts turns answers = GoesOn answers h × (length answers ≡ turns) × IsShort h hosts
 EndsAs (drained.Stopped cause) h hosts turns answers = IsLast (turn.Stopped cause) answers
 EndsAs (drained.Over opened) h hosts turns answers = IsLast (turn.Over opened) answers × (none_left h ≡ true)
-EndsAs drained.Memory h hosts turns answers = Unit {0}
+EndsAs drained.Memory h hosts turns answers = (IsLast turn.Memory answers × (none_left h ≡ true)) ⊎ GoesOn answers h
+
+-- a draining that ends by want of memory leaves the mark of it; another end changes nothing
+abbrev pub left_by : Drained → Seen → Seen
+left_by drained.Memory q = (record q.0 { short = true }, q.1)
+left_by drained.Empty q = q
+left_by drained.TurnsSpent q = q
+left_by (drained.Stopped cause) q = q
+left_by (drained.Over opened) q = q
 
 -- no more turns than those were made, and the end is told as it was
 pub record Drains (q : Seen) (hosts : List HostView) (turns : ℕ) (end : Drained) (q' : Seen) : Type 0 where
   pub answers : List Turn
-  pub ran : Makes q answers q'
+  pub last : Seen
+  pub ran : Makes q answers last
   pub few : length answers ≤ turns
-  pub ends : EndsAs end q'.0.half hosts turns answers
+  pub ends : EndsAs end last.0.half hosts turns answers
+  pub after : q' ≡ left_by end last
+
+-- ---- inside a draining
+-- how it ends before a turn, where so many are made
+abbrev pub EndsBefore : Drained → HalfState → List HostView → ℕ → ℕ → Type 0
+EndsBefore drained.Empty h hosts turns made = IsAnswered h hosts
+EndsBefore drained.TurnsSpent h hosts turns made = (made ≡ turns) × IsShort h hosts
+EndsBefore (drained.Stopped cause) h hosts turns made = ⊥
+EndsBefore (drained.Over opened) h hosts turns made = ⊥
+EndsBefore drained.Memory h hosts turns made = ⊥
+
+-- how it ends behind that answer
+abbrev pub EndsBehind : Drained → Turn → HalfState → Type 0
+EndsBehind (drained.Stopped cause) answer h = answer ≡ turn.Stopped cause
+EndsBehind (drained.Over opened) answer h = (answer ≡ turn.Over opened) × (none_left h ≡ true)
+EndsBehind drained.Memory answer h = (answer ≡ turn.Memory) × (none_left h ≡ true)
+EndsBehind drained.Empty answer h = ⊥
+EndsBehind drained.TurnsSpent answer h = ⊥
 
 -- ---- closing
 -- of each queue: what the inbox popped, and then what waits, is what was posted

@@ -13,13 +13,15 @@ use Rattle.onfi_queue.specs.Ends.{IntakeView, fresh_intake}
 use Rattle.onfi_reply.specs.declared.opened_for.OpenedFor.{OpenedFor}
 use Rattle.onfi_reply.specs.Ends.{PosterView, fresh_poster}
 
--- a sequencer but for its chip; `refused` tells that a planning was over, or lacked memory, since the last phase
+-- a sequencer but for its chip; `refused` tells that a planning was over, or lacked memory, since the last phase; `short` tells that
+-- a turn or a draining answered Memory, at any time
 pub record SequencerFields : Type 0 where
   pub setup : Setup
   pub half : HalfState
   pub intake : IntakeView
   pub posters : List PosterView
   pub refused : Bool
+  pub short : Bool
 
 -- what callers see of a sequencer; and that with the state of its chip
 abbrev pub SequencerView : Type 0 → Type 0

@@ -81,29 +81,29 @@ pub record Takes (q q' : Seen) : Type 0 where
   pub next : IsNext q.0.setup q.0.half item
   pub after : q' ≡ (record q.0 { half = accepting q.0.half item; intake = after_accepting q.0.intake item }, q.1)
 
--- a planning came to that, whichever number the channel has; the half alone changed, and what is said of refusals
-pub record PlansTo (q : Seen) (o : Outcome) (refused : Bool) (q' : Seen) : Type 0 where
+-- a planning came to that, whichever number the channel has; the half alone changed, and what is said of refusals and of memory
+pub record PlansTo (q : Seen) (o : Outcome) (refused short : Bool) (q' : Seen) : Type 0 where
   pub may : MayPlan q
   pub step : (channel : ℕ) → Step q.0.setup (channel_of q) (event.Plan channel) o (channel_of q')
-  pub after : q' ≡ (record q.0 { half = q'.0.half; refused = refused }, q.1)
+  pub after : q' ≡ (record q.0 { half = q'.0.half; refused = refused; short = short }, q.1)
 
--- the next phase came to that; half and chip alone changed, and what is said of refusals
-pub record RunsTo (q : Seen) (o : Outcome) (refused : Bool) (q' : Seen) : Type 0 where
+-- the next phase came to that; half and chip alone changed, and what is said of refusals and of memory
+pub record RunsTo (q : Seen) (o : Outcome) (refused short : Bool) (q' : Seen) : Type 0 where
   pub may : MayRunPhase q
   pub step : (channel : ℕ) → Step q.0.setup (channel_of q) (event.Bus channel) o (channel_of q')
-  pub after : q' ≡ (record q.0 { half = q'.0.half; refused = refused }, q'.1)
+  pub after : q' ≡ (record q.0 { half = q'.0.half; refused = refused; short = short }, q'.1)
 
 -- what each answer of a turn says
 abbrev pub Turned : Seen → Turn → Seen → Type 0
 Turned q turn.Posted q' = Posts q q'
 Turned q (turn.Stopped cause) q' =
     (NothingPosts q 4 × (q.0.half.stopped ≡ Some cause) × (q' ≡ q))
-    ⊎ PlansTo q (outcome.Stopped cause) q.0.refused q' ⊎ RunsTo q (outcome.Stopped cause) q.0.refused q'
+    ⊎ PlansTo q (outcome.Stopped cause) q.0.refused q.0.short q' ⊎ RunsTo q (outcome.Stopped cause) q.0.refused q.0.short q'
 Turned q turn.Accepted q' = Takes q q'
-Turned q turn.Planned q' = (finish : ℕ) × PlansTo q (outcome.Planned finish) q.0.refused q'
-Turned q (turn.Over opened) q' = PlansTo q (outcome.Over opened) true q'
-Turned q turn.Phase q' = (start : ℕ) × RunsTo q (outcome.Phase start) false q'
-Turned q turn.Memory q' = PlansTo q (outcome.Memory None) true q' ⊎ RunsTo q (outcome.Memory None) q.0.refused q'
+Turned q turn.Planned q' = (finish : ℕ) × PlansTo q (outcome.Planned finish) q.0.refused q.0.short q'
+Turned q (turn.Over opened) q' = PlansTo q (outcome.Over opened) true q.0.short q'
+Turned q turn.Phase q' = (start : ℕ) × RunsTo q (outcome.Phase start) false q.0.short q'
+Turned q turn.Memory q' = PlansTo q (outcome.Memory None) true true q' ⊎ RunsTo q (outcome.Memory None) q.0.refused true q'
 Turned q turn.PostFull q' = Rests q × (q.0.half.held ≢ []) × (q' ≡ q)
 Turned q turn.Idle q' = Rests q × (q.0.half.held ≡ []) × (q' ≡ q)
 

@@ -25,7 +25,7 @@ mod turning;
 /// completion queues. One thread drives it; hosts use their ends from threads of their own meanwhile.
 ///
 /// Contracts see the setup, the half's state, the two kinds of ends, whether a planning was refused since the last phase,
-/// and the chip.
+/// whether a turn or a draining ever answered Memory, and the chip.
 #[derive(Drop)]
 pub struct Sequencer<C: Chip> {
     driver: Driver<C>,
@@ -36,7 +36,8 @@ pub struct Sequencer<C: Chip> {
     accepted_by: [u64; 4],
     /// Whether a planning was over, or lacked memory, since the last phase.
     refused: bool,
-    channel: u8,
+    /// Whether a turn or a draining answered Memory, at any time.
+    short: bool,
     /// How many turns were begun, at most 2^64 - 1.
     turns: u64,
 }
@@ -47,12 +48,12 @@ impl<C: Chip> Model for Sequencer<C> {
     ghost Value = { SequencerView C };
 
     ghost view = { λ q. (
-      record { setup = q.driver.0.setup; half = q.driver.0.half; intake = q.intake; posters = q.posters; refused = q.refused },
+      record { setup = q.driver.0.setup; half = q.driver.0.half; intake = q.intake; posters = q.posters; refused = q.refused; short = q.short },
       q.driver.1,
     ) };
 
     ghost invariant = { λ q. IsKept
-        (record { setup = q.driver.0.setup; half = q.driver.0.half; intake = q.intake; posters = q.posters; refused = q.refused })
+        (record { setup = q.driver.0.setup; half = q.driver.0.half; intake = q.intake; posters = q.posters; refused = q.refused; short = q.short })
         q.accepted_by };
 }
 
@@ -77,8 +78,9 @@ impl<C: Chip> Sequencer<C> {
         requires chip { IsFresh setup (C.state chip) }
         requires intake { IsFreshIntake setup channel intake }
         requires posters { AreFreshPosters setup channel posters }
-        ensures { IfOk result (λ q. q ≡ (record { setup = setup; half = first_half setup; intake = intake; posters = posters; refused = false }, chip)) }
+        ensures { IfOk result (λ q. q ≡ (record { setup = setup; half = first_half setup; intake = intake; posters = posters; refused = false; short = false }, chip)) }
     {
+        let _ = channel;
         let driver = Driver::open(alloc, setup, chip)?;
         Ok(Sequencer {
             driver,
@@ -86,7 +88,7 @@ impl<C: Chip> Sequencer<C> {
             posters,
             accepted_by: [0; 4],
             refused: false,
-            channel,
+            short: false,
             turns: 0,
         })
     }
@@ -104,6 +106,13 @@ impl<C: Chip> Sequencer<C> {
             (λ r. self.now.0.half.last ≡ Some (record { problem = r.0.now.problem; schedule = r.1.now.schedule; finish = r.1.now.finish; cert = r.1.now.cert.items })) }
     {
         self.driver.half().last()
+    }
+
+    /// Whether a turn or a draining answered Memory since the sequencer opened. Once so, it stays so.
+    pub fn was_short_of_memory(&self) -> bool
+        ensures { result ≡ self.now.0.short }
+    {
+        self.short
     }
 
     /// Sets the batch of later plannings, 1 to 8, and nothing else: a planning that was refused stays so until a phase ran.

@@ -1,11 +1,9 @@
 //! Draining: turns, with replies taken in before each, until everything is answered.
 
-ghost use Rattle.std.specs.Prelude.{◌≡◌, ◌↔◌, ℕ, ◌<◌, ◌≤◌, length, false, IfSome, IfNone, IsTrue, List, ◌∷◌, Some, slice_get};
+ghost use Rattle.std.specs.Prelude.{◌≡◌, ◌↔◌, ℕ, ◌<◌, ◌≤◌, length, true, false, IfSome, IfNone, IsTrue, Some, slice_get};
 ghost use Rattle.std.specs.List.{filter};
 ghost use Rattle.onfi_core.specs.State.{is_from};
-ghost use Rattle.onfi_queue.specs.Ends.{HostView};
-ghost use Rattle.onfi_seq.specs.declared.turn.Turn.{Turn as ATurn};
-ghost use Rattle.onfi_seq.specs.Drained.{AreAccepted, AreOtherEnds, Drains, EndsAs, HasGrown, HaveGrown, IsAnswered, IsShort};
+ghost use Rattle.onfi_seq.specs.Drained.{AreAccepted, AreOtherEnds, Drains, EndsBefore, EndsBehind, HasGrown, HaveGrown, IsAnswered, IsShort, ends_it, left_by};
 ghost use Rattle.onfi_seq.specs.Sequencer.{IsRight, IsSameChannel, seen_in};
 
 use crate::drained::Drained;
@@ -21,7 +19,8 @@ use std::sync::Wait;
 impl<C: Chip> Sequencer<C> {
     /// Makes turns, at most so many, until all that the hosts sent is accepted and answered, and takes replies in before each,
     /// so that no queue stays full. Hosts and inboxes are the other ends of the channel's queues, in the order of the hosts'
-    /// numbers. Over and Memory of a turn end it only where no phase is left then.
+    /// numbers. Stopped ends it, and so do Over and Memory of a turn where no phase is left then, and a taking in that is refused
+    /// memory.
     ///
     /// Behind the last turn it takes in and looks once more, so turns that just suffice give Empty.
     pub fn drain<R: Wait, G: Gate>(
@@ -38,11 +37,13 @@ impl<C: Chip> Sequencer<C> {
         ensures inboxes { HaveGrown inboxes.old inboxes.new }
         ensures right { IsRight (seen_in C.state self.new) }
         ensures same { IsSameChannel (seen_in C.state self.old) (seen_in C.state self.new) }
+        ensures short { self.old.0.short ≡ true → self.new.0.short ≡ true }
     {
         self.look();
         let mut made = 0u64;
         loop {
             if take_in_all(rt, alloc, inboxes).is_err() {
+                self.note_want_of_memory();
                 return Drained::Memory;
             }
             if let Some(end) = self.end_before_turn(hosts, made, turns) {
@@ -56,10 +57,17 @@ impl<C: Chip> Sequencer<C> {
         }
     }
 
+    // A taking in was refused.
+    fn note_want_of_memory(&mut self)
+        ensures { seen_in C.state self.new ≡ left_by Drained.Memory (seen_in C.state self.old) }
+    {
+        self.short = true;
+    }
+
     // How a draining ends where so many of its turns are made, if it does.
     fn end_before_turn(&self, hosts: &[Host; 4], made: u64, turns: u64) -> Option<Drained>
         requires { made ≤ turns }
-        ensures some { (answers : List ATurn) → length answers ≡ made → IfSome result (λ end. EndsAs end self.now.0.half hosts.now turns answers) }
+        ensures some { IfSome result (λ end. EndsBefore end self.now.0.half hosts.now turns made) }
         ensures none { IfNone result (made < turns) }
     {
         if self.has_answered(hosts) {
@@ -93,7 +101,8 @@ impl<C: Chip> Sequencer<C> {
 
     // How a draining ends behind that answer, if it does.
     fn end_of(&self, turn: Turn) -> Option<Drained>
-        ensures { (hosts : List HostView) (turns : ℕ) (answers : List ATurn) → IfSome result (λ end. EndsAs end self.now.0.half hosts turns (turn ∷ answers)) }
+        ensures some { IfSome result (λ end. EndsBehind end turn self.now.0.half) }
+        ensures none { IfNone result (ends_it turn self.now.0.half ≡ false) }
     {
         match turn {
             Turn::Stopped(cause) => Some(Drained::Stopped(cause)),

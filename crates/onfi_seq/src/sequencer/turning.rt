@@ -1,6 +1,6 @@
 //! A turn: the first thing that can be done.
 
-ghost use Rattle.std.specs.Prelude.{◌≡◌, ℕ, ◌<◌, ◌≤◌, false, length, IfSome, IfNone, IsTrue, None, Some, slice_set};
+ghost use Rattle.std.specs.Prelude.{◌≡◌, ℕ, ◌<◌, ◌≤◌, true, false, length, IfSome, IfNone, IsTrue, None, Some, slice_set};
 ghost use Rattle.onfi_core.specs.Steps.{none_left};
 ghost use Rattle.onfi_seq.specs.Sequencer.{IsRight, IsSameChannel, seen_in};
 ghost use Rattle.onfi_seq.specs.Turned.{IsGoing, IsRest, MayRunPhase, NothingPosts, OfferedAll, OfferedTo, TakesNothing, Turned, WhyNoItem, WhyNoPlan};
@@ -21,14 +21,20 @@ impl<C: Chip> Sequencer<C> {
     /// planning was refused as Over or Memory since the last phase and a phase is left; run the next phase. Else it answers
     /// PostFull where a reply is held, and Idle where none is.
     ///
-    /// The gate is called once, before all that. Acceptance and post take no memory, a phase asks for its own before the chip
-    /// is called, so a turn that answers Memory has lost no item and made no event.
+    /// The gate is called once, before all that, for this channel. Acceptance and post take no memory, a phase asks for its own
+    /// before the chip is called, so a turn that answers Memory has lost no item and made no event.
+    ///
+    /// Why a host was passed over, or no item accepted, the contract says as [`Poster::post`](onfi_reply::Poster::post) and
+    /// [`Intake::accept`](onfi_queue::Intake::accept) do: that a turn posts where there is room, and accepts what waits, is
+    /// tested.
     pub fn turn<R: Wait, G: Gate>(&mut self, rt: &R, alloc: Global, gate: &mut G) -> Turn
         ensures turned { Turned (seen_in C.state self.old) result (seen_in C.state self.new) }
         ensures right { IsRight (seen_in C.state self.new) }
         ensures same { IsSameChannel (seen_in C.state self.old) (seen_in C.state self.new) }
+        ensures short { self.old.0.short ≡ true → self.new.0.short ≡ true }
+        ensures gated { (number : ℕ) × G.told gate.old self.old.0.intake.opened.channel number gate.new }
     {
-        gate.before(self.channel, self.turns);
+        gate.before(self.intake.channel(), self.turns);
         self.turns = self.turns.saturating_add(1);
         let turn = self.take_turn(rt, alloc);
         self.look();
@@ -134,6 +140,7 @@ impl<C: Chip> Sequencer<C> {
             }
             Err(PlanRefusal::Memory) => {
                 self.refused = true;
+                self.short = true;
                 Some(Turn::Memory)
             }
         }
@@ -152,7 +159,10 @@ impl<C: Chip> Sequencer<C> {
                 Turn::Phase
             }
             Ran::Stopped(cause) => Turn::Stopped(cause),
-            Ran::Memory => Turn::Memory,
+            Ran::Memory => {
+                self.short = true;
+                Turn::Memory
+            }
             Ran::NoPhase => rest,
         }
     }

@@ -1,7 +1,6 @@
-use Rattle.std.proofs.Common.{arith}
-use Rattle.onfi_seq.specs.declared.drained.Drained.TheVariants as ends
-use Rattle.onfi_seq.specs.Sequencer.{seen_in}
-use Rattle.onfi_seq.proofs.Draining.{all_grown_all, draining_first, draining_taken, draining_turned, drains_behind, drains_here, same_channel_all}
+use Rattle.std.proofs.Common.{ap, arith}
+use Rattle.onfi_seq.specs.Sequencer.{Seen, seen_in}
+use Rattle.onfi_seq.proofs.Draining.{all_grown_all, draining_first, draining_taken, draining_turned, drains_behind, drains_here, drains_refused, right_marked, same_channel_all, same_marked}
 use Rattle.onfi_seq.proofs.sequencer.Sequencer.drain.Goals as goal
 
 pub loop-alloc-init : goal.loop-alloc-init
@@ -15,19 +14,28 @@ pub returns-then-is_err-clause-drains : goal.returns-then-is_err-clause-drains
 returns-then-is_err-clause-drains g c =
     let st = g.C.Chip.state in
     let l = c.loop-alloc in
-    drains_here (seen_in st c.args.self.now) c.args.inboxes.now l.made (seen_in st l.self) l.inboxes c.args.hosts.now c.args.turns ends.Memory l.invariant.so_far l.invariant.few tt
+    let new = seen_in st c.note_want_of_memory.new.self in
+    drains_refused (seen_in st c.args.self.now) c.args.inboxes.now l.made (seen_in st l.self) l.inboxes c.args.hosts.now c.args.turns new l.invariant.so_far l.invariant.few c.note_want_of_memory.ensures
 
 pub returns-then-is_err-clause-inboxes : goal.returns-then-is_err-clause-inboxes
 returns-then-is_err-clause-inboxes g c = all_grown_all c.args.inboxes.now c.loop-alloc.inboxes c.take_in_all.new.inboxes c.loop-alloc.invariant.so_far.grown c.take_in_all.ensures
 
+pub returns-then-is_err-clause-right : goal.returns-then-is_err-clause-right
+returns-then-is_err-clause-right g c =
+    let st = g.C.Chip.state in
+    right_marked (seen_in st c.loop-alloc.self) (seen_in st c.note_want_of_memory.new.self) c.note_want_of_memory.ensures c.loop-alloc.invariant.right
+
 pub returns-then-is_err-clause-same : goal.returns-then-is_err-clause-same
-returns-then-is_err-clause-same g c = c.loop-alloc.invariant.so_far.same
+returns-then-is_err-clause-same g c =
+    let st = g.C.Chip.state in
+    let new = seen_in st c.note_want_of_memory.new.self in
+    same_channel_all (seen_in st c.args.self.now) (seen_in st c.loop-alloc.self) new c.loop-alloc.invariant.so_far.same (same_marked (seen_in st c.loop-alloc.self) new c.note_want_of_memory.ensures)
 
 pub returns-in-Some-clause-drains : goal.returns-in-Some-clause-drains
 returns-in-Some-clause-drains g c =
     let st = g.C.Chip.state in
     let l = c.loop-alloc in
-    drains_here (seen_in st c.args.self.now) c.args.inboxes.now l.made (seen_in st l.self) l.inboxes c.args.hosts.now c.args.turns c.in-Some.end l.invariant.so_far l.invariant.few (c.in-Some.ensures.some l.invariant.so_far.answers l.invariant.so_far.count)
+    drains_here (seen_in st c.args.self.now) c.args.inboxes.now l.made (seen_in st l.self) l.inboxes c.args.hosts.now c.args.turns c.in-Some.end l.invariant.so_far l.invariant.few c.in-Some.ensures.some
 
 pub returns-in-Some-clause-inboxes : goal.returns-in-Some-clause-inboxes
 returns-in-Some-clause-inboxes g c = all_grown_all c.args.inboxes.now c.loop-alloc.inboxes c.take_in_all.new.inboxes c.loop-alloc.invariant.so_far.grown c.take_in_all.ensures
@@ -40,7 +48,7 @@ returns-in-Some-end_of-clause-drains g c =
     let st = g.C.Chip.state in
     let l = c.loop-alloc in
     drains_behind (seen_in st c.args.self.now) c.args.inboxes.now l.made (seen_in st l.self) l.inboxes c.turn-turn.result (seen_in st c.turn-turn.new.self) c.args.hosts.now c.args.turns c.in-Some-end_of.end l.invariant.so_far c.in_default.ensures.none
-    c.turn-turn.ensures.turned (λ answers. c.in-Some-end_of.ensures c.args.hosts.now c.args.turns answers)
+    c.turn-turn.ensures.turned c.in-Some-end_of.ensures.some
 
 pub returns-in-Some-end_of-clause-inboxes : goal.returns-in-Some-end_of-clause-inboxes
 returns-in-Some-end_of-clause-inboxes g c = all_grown_all c.args.inboxes.now c.loop-alloc.inboxes c.take_in_all.new.inboxes c.loop-alloc.invariant.so_far.grown c.take_in_all.ensures
@@ -49,6 +57,15 @@ pub returns-in-Some-end_of-clause-same : goal.returns-in-Some-end_of-clause-same
 returns-in-Some-end_of-clause-same g c =
     let st = g.C.Chip.state in
     same_channel_all (seen_in st c.args.self.now) (seen_in st c.loop-alloc.self) (seen_in st c.turn-turn.new.self) c.loop-alloc.invariant.so_far.same c.turn-turn.ensures.same
+
+pub returns-then-is_err-clause-short : goal.returns-then-is_err-clause-short
+returns-then-is_err-clause-short g c short = ap (λ (x : Seen). x.0.short) c.note_want_of_memory.ensures
+
+pub returns-in-Some-clause-short : goal.returns-in-Some-clause-short
+returns-in-Some-clause-short g c = c.loop-alloc.invariant.so_far.short
+
+pub returns-in-Some-end_of-clause-short : goal.returns-in-Some-end_of-clause-short
+returns-in-Some-end_of-clause-short g c short = c.turn-turn.ensures.short (c.loop-alloc.invariant.so_far.short short)
 
 pub loop-alloc-preserved : goal.loop-alloc-preserved
 loop-alloc-preserved g c =
@@ -59,5 +76,5 @@ loop-alloc-preserved g c =
     record {
       few = omega (arith, c.in_default.ensures.none);
       right = c.turn-turn.ensures.right;
-      so_far = draining_turned q c.args.inboxes.now l.made (seen_in st l.self) c.take_in_all.new.inboxes c.turn-turn.result (seen_in st c.turn-turn.new.self) taken c.turn-turn.ensures.turned c.turn-turn.ensures.same;
+      so_far = draining_turned q c.args.inboxes.now l.made (seen_in st l.self) c.take_in_all.new.inboxes c.turn-turn.result (seen_in st c.turn-turn.new.self) taken c.turn-turn.ensures.turned c.turn-turn.ensures.same c.turn-turn.ensures.short c.in_default-end_of.ensures.none;
     }

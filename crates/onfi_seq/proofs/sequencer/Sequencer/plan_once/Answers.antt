@@ -12,11 +12,11 @@ returns-in-Ok-clause-some g c =
     let f = c.self.inside in
     let state = g.C.Chip.state in
     let d = c.plan.new.self in
-    let new : Seen = (record { setup = d.0.setup; half = d.0.half; intake = f.intake; posters = f.posters; refused = f.refused }, state d.1) in (
+    let new : Seen = (record { setup = d.0.setup; half = d.0.half; intake = f.intake; posters = f.posters; refused = f.refused; short = f.short }, state d.1) in (
       c.in-Ok.field-0,
       record {
         may = record { before = c.requires; again = search rules };
         step = λ channel. seen_outside state (λ (q : Seen). Step q.0.setup (channel_of q) (event.Plan channel) (outcome.Planned c.in-Ok.field-0) (channel_of new)) _ _ c.self.view_is (c.in-Ok.ensures.step channel);
-        after = seen_outside state (λ (q : Seen). new ≡ (record q.0 { half = new.0.half; refused = q.0.refused }, q.1)) _ _ c.self.view_is (planned_seen state f.intake f.posters f.refused f.driver d c.plan.ensures.same);
+        after = seen_outside state (λ (q : Seen). new ≡ (record q.0 { half = new.0.half; refused = q.0.refused; short = q.0.short }, q.1)) _ _ c.self.view_is (planned_seen state f.intake f.posters f.refused f.short f.driver d c.plan.ensures.same);
       },
     )

@@ -9,11 +9,11 @@ pub returns-in-NoPhase : goal.returns-in-NoPhase
 returns-in-NoPhase g c =
     let f = c.self.inside in
     let state = g.C.Chip.state in
-    let old : Seen = (record { setup = f.driver.0.setup; half = f.driver.0.half; intake = f.intake; posters = f.posters; refused = f.refused }, state f.driver.1) in
+    let old : Seen = (record { setup = f.driver.0.setup; half = f.driver.0.half; intake = f.intake; posters = f.posters; refused = f.refused; short = f.short }, state f.driver.1) in
     let d = c.run.new.self in
-    let new : Seen = (record { setup = d.0.setup; half = d.0.half; intake = f.intake; posters = f.posters; refused = f.refused }, state d.1) in
+    let new : Seen = (record { setup = d.0.setup; half = d.0.half; intake = f.intake; posters = f.posters; refused = f.refused; short = f.short }, state d.1) in
     let may = seen_within state MayRunPhase _ _ c.self.view_is c.requires.before in
     let rest = seen_within state (λ (q : Seen). IsRest q c.args.rest) _ _ c.self.view_is c.requires.rest in
-    let same = seen_same f.intake f.posters f.refused f.driver.0.setup d.0.setup (channel_in state f.driver) (channel_in state d) c.run.ensures.setup c.in-NoPhase.ensures.ran.1 in
+    let same = seen_same f.intake f.posters f.refused f.short f.driver.0.setup d.0.setup (channel_in state f.driver) (channel_in state d) c.run.ensures.setup c.in-NoPhase.ensures.ran.1 in
     let rests = rests_is old c.half-half.ensures.reached may c.in-NoPhase.ensures.ran.0 in
     seen_outside state (λ (q : Seen). Turned q c.args.rest new) _ _ c.self.view_is (rest_turned old new c.args.rest rest rests same)
