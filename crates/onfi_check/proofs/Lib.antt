@@ -9,3 +9,4 @@ pub mod ByDie
 pub mod Walking
 pub mod Tokens
 pub mod Refused
+pub mod Placing

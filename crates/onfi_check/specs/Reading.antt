@@ -1,5 +1,5 @@
 -- Trees that lists of tokens begin with.
-use Rattle.std.specs.Prelude.{◌≡◌, ◌≢◌, ℕ, ◌≤◌, ◌↔◌, Bool, true, false, slice_index_or, slice_set, List, [], ◌∷◌, ◌++◌}
+use Rattle.std.specs.Prelude.{◌≡◌, ◌≢◌, ℕ, ◌+◌, ◌≤◌, ◌↔◌, Bool, true, false, slice_index_or, slice_set, List, [], ◌∷◌, ◌++◌, length}
 use Rattle.std.specs.List.{AllByRecursion as Each}
 use Rattle.onfi_problem.specs.Moves.{Move, move_lun, after, may_go}
 use Rattle.onfi_cert.specs.declared.token.Token.{Token}
@@ -15,6 +15,12 @@ Begins p e tokens rest = (tree : Tree) × (tokens ≡ preorder tree ++ rest) × 
 -- .. those of accepted children of a node
 abbrev pub BeginsEach : Problem → ℕ → List Move → List Token → List Token → Type 0
 BeginsEach p e moves tokens rest = (forest : Forest) × (tokens ≡ preorders forest ++ rest) × AcceptsEach forest p e moves forest moves
+
+-- these tokens but those left were read: the first had one place, the first left has the next
+pub record ReadOn (first next : ℕ) (tokens left : List Token) : Type 0 where
+  pub taken : List Token
+  pub tokens_are : tokens ≡ taken ++ left
+  pub next_is : next ≡ first + length taken
 
 -- LUN l has a move, and each of its moves ends by the earliest start of those of LUN j
 abbrev pub Fits : Problem → List Move → ℕ → ℕ → Type 0

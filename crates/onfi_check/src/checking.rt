@@ -1,4 +1,4 @@
-ghost use Rattle.std.specs.Prelude.{◌≡◌, ◌↔◌, IfOk, IfErr, List};
+ghost use Rattle.std.specs.Prelude.{◌≡◌, ◌<◌, ◌^◌, ◌↔◌, IfOk, IfErr, List, length};
 ghost use Rattle.onfi_cert.specs.declared.token.Token.{Token as OneToken};
 ghost use Rattle.onfi_cert.specs.Text.{IsCertificate};
 ghost use Rattle.onfi_schedule.specs.Schedule.{Legal, Optimal, finish};
@@ -20,6 +20,8 @@ fn check_source<S: TokenSource>(
     schedule: &Schedule,
     tokens: &mut Numbered<S>,
 ) -> Result<u64, CertFault>
+    requires first { tokens.old.place ≡ 0 }
+    requires few { length (S.left tokens.old.source) < 2 ^ 64 }
     ensures optimal { IfOk result (λ e. Optimal problem.now.problem schedule.now × (finish problem.now.problem schedule.now ≡ e)) }
     ensures accepted { IfOk result (λ e. AcceptsTokens (S.left tokens.old.source) problem.now.problem e) }
     ensures behind { S.behind tokens.new.source ≡ S.behind tokens.old.source }
@@ -41,8 +43,9 @@ fn check_source<S: TokenSource>(
 ///
 /// # Errors
 /// `Illegal` exactly where the schedule isn't legal. Else `Memory` where the memory for a copy of the problem was
-/// refused. Else the first fault in reading order, only where the tokens aren't those of an accepted tree: `Short`,
-/// `Trailing`, `Width`, `BoundLow`, `YieldLoop`, `YieldNoFit` or `NotEnd`.
+/// refused. Else `Trailing` with the place behind an accepted tree where one stands in front. Else `Short`, or a fault
+/// of the kind of the token at its place: `Width` of a branch, `BoundLow` of a bound, `YieldLoop` or `YieldNoFit` of a
+/// yield, `NotEnd` of an end. Of several such faults the walk tells the first; no clause says which that is.
 pub fn check(
     alloc: Global,
     problem: &Problem,
@@ -54,6 +57,7 @@ pub fn check(
     ensures illegal { (result ≡ Err CertFault.Illegal) ↔ (Legal problem.now.problem schedule.now → ⊥) }
     ensures fault { IfErr result (IsCertFault problem.now.problem schedule.now tokens.now) }
 {
+    let _few = tokens.len();
     let mut tokens = Numbered::of(TokenList::new(tokens));
     check_source(alloc, problem, schedule, &mut tokens)
 }

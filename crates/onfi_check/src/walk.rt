@@ -1,6 +1,6 @@
 //! The walk over the tokens of a tree.
 
-ghost use Rattle.std.specs.Prelude.{◌≡◌, ◌≤◌, ◌∷◌, List, IfErr, OnOk, length};
+ghost use Rattle.std.specs.Prelude.{◌≡◌, ◌≢◌, ℕ, ◌+◌, ◌≤◌, ◌<◌, ◌^◌, ◌∷◌, List, IfErr, OnOk, length};
 ghost use Rattle.onfi_problem.specs.Moves.{AreMoves, IsMove, after};
 ghost use Rattle.onfi_problem.specs.Position.{move_of, moves_of};
 ghost use Rattle.onfi_problem.specs.Starts.{IsNamed};
@@ -8,8 +8,8 @@ ghost use Rattle.std.specs.List.{AllByRecursion as Each};
 ghost use Rattle.onfi_bound.specs.Commands.{AreCommands};
 ghost use Rattle.onfi_cert.specs.declared.token.Token.{Token as OneToken};
 ghost use Rattle.onfi_check.specs.Ends.{IsAsked};
-ghost use Rattle.onfi_check.specs.Faults.{IsOfTokens};
-ghost use Rattle.onfi_check.specs.Reading.{Begins, BeginsEach, ReadsChild, RefusesChild};
+ghost use Rattle.onfi_check.specs.Faults.{FaultFits, IsTokenFault};
+ghost use Rattle.onfi_check.specs.Reading.{Begins, BeginsEach, ReadOn, ReadsChild, RefusesChild};
 ghost use Rattle.onfi_check.specs.Tree.{AcceptsTokens, Closes, Closing, token_of};
 
 use crate::closes::{closes, trail_closes_after};
@@ -22,7 +22,8 @@ use onfi_problem::{Move, Moves, Problem};
 
 // What speaks against a token that closes no node, told at that place.
 fn closing_fault(token: Token, place: usize) -> CertFault
-    ensures { IsOfTokens result }
+    requires { (width : ℕ) → token ≢ Token.Branch width }
+    ensures { (behind left : List OneToken) → FaultFits place (token ∷ behind) left result }
 {
     match token {
         Token::Yield(_) => CertFault::YieldNoFit(place),
@@ -40,9 +41,10 @@ fn read_closing(
     place: usize,
 ) -> Result<(), CertFault>
     requires counts { AreCommands problem.now.problem left }
+    requires closing { (width : ℕ) → token ≢ Token.Branch width }
     ensures ok { OnOk result ((c : Closing) × (token_of c ≡ token) × Closes problem.now.problem e c) }
     ensures err { IfErr result (λ _. ((c : Closing) × (token_of c ≡ token) × Closes problem.now.problem e c) → ⊥) }
-    ensures kind { IfErr result IsOfTokens }
+    ensures kind { IfErr result (λ fault. (behind left : List OneToken) → FaultFits place (token ∷ behind) left fault) }
 {
     if closes(problem, left, &token, e) {
         Ok(())
@@ -64,7 +66,7 @@ fn read_trail(
     requires named { IsNamed problem.now.groups m }
     ensures ok { OnOk result ((c : Closing) × (token_of c ≡ Token.Trail) × Closes (after problem.now.problem (move_of problem.now.groups m)) e c) }
     ensures err { IfErr result (λ _. ((c : Closing) × (token_of c ≡ Token.Trail) × Closes (after problem.now.problem (move_of problem.now.groups m)) e c) → ⊥) }
-    ensures kind { IfErr result IsOfTokens }
+    ensures kind { IfErr result (λ fault. (behind left : List OneToken) → FaultFits place (Token.Trail ∷ behind) left fault) }
 {
     if trail_closes_after(problem, left, m, e) {
         Ok(())
@@ -89,12 +91,15 @@ fn read_tree<S: TokenSource>(
     tokens: &mut Numbered<S>,
 ) -> Result<(), CertFault>
     requires counts { AreCommands problem.old.problem left }
+    requires few { tokens.old.place + length (S.left tokens.old.source) < 2 ^ 64 }
+    requires next { tokens.old.place ≡ place + 1 }
     ensures problem { OnOk result (problem.new ≡ problem.old) }
     ensures fewer { OnOk result (length (S.left tokens.new.source) ≤ length (S.left tokens.old.source)) }
+    ensures read { OnOk result (ReadOn tokens.old.place tokens.new.place (S.left tokens.old.source) (S.left tokens.new.source)) }
     ensures behind { S.behind tokens.new.source ≡ S.behind tokens.old.source }
     ensures ok { OnOk result (Begins problem.old.problem e (token ∷ S.left tokens.old.source) (S.left tokens.new.source)) }
     ensures err { IfErr result (λ _. (rest : List OneToken) → Begins problem.old.problem e (token ∷ S.left tokens.old.source) rest → ⊥) }
-    ensures kind { IfErr result IsOfTokens }
+    ensures kind { IfErr result (FaultFits place (token ∷ S.left tokens.old.source) (S.left tokens.new.source)) }
 {
     match token {
         Token::Branch(width) => read_branch(problem, e, left, width, place, tokens),
@@ -114,12 +119,15 @@ fn read_branch<S: TokenSource>(
     tokens: &mut Numbered<S>,
 ) -> Result<(), CertFault>
     requires counts { AreCommands problem.old.problem left }
+    requires few { tokens.old.place + length (S.left tokens.old.source) < 2 ^ 64 }
+    requires next { tokens.old.place ≡ place + 1 }
     ensures problem { OnOk result (problem.new ≡ problem.old) }
     ensures fewer { OnOk result (length (S.left tokens.new.source) ≤ length (S.left tokens.old.source)) }
+    ensures read { OnOk result (ReadOn tokens.old.place tokens.new.place (S.left tokens.old.source) (S.left tokens.new.source)) }
     ensures behind { S.behind tokens.new.source ≡ S.behind tokens.old.source }
     ensures ok { OnOk result (Begins problem.old.problem e (Token.Branch width ∷ S.left tokens.old.source) (S.left tokens.new.source)) }
     ensures err { IfErr result (λ _. (rest : List OneToken) → Begins problem.old.problem e (Token.Branch width ∷ S.left tokens.old.source) rest → ⊥) }
-    ensures kind { IfErr result IsOfTokens }
+    ensures kind { IfErr result (FaultFits place (Token.Branch width ∷ S.left tokens.old.source) (S.left tokens.new.source)) }
 {
     let mut moves = Moves::new();
     problem.list_steps(&mut moves);
@@ -141,12 +149,14 @@ fn read_children<S: TokenSource>(
     requires counts { AreCommands problem.old.problem left }
     requires moves { AreMoves problem.old.problem (moves_of problem.old.groups moves.now) }
     requires named { Each (IsNamed problem.old.groups) moves.now }
+    requires few { tokens.old.place + length (S.left tokens.old.source) < 2 ^ 64 }
     ensures problem { OnOk result (problem.new ≡ problem.old) }
     ensures fewer { OnOk result (length (S.left tokens.new.source) ≤ length (S.left tokens.old.source)) }
+    ensures read { OnOk result (ReadOn tokens.old.place tokens.new.place (S.left tokens.old.source) (S.left tokens.new.source)) }
     ensures behind { S.behind tokens.new.source ≡ S.behind tokens.old.source }
     ensures ok { OnOk result (BeginsEach problem.old.problem e (moves_of problem.old.groups moves.now) (S.left tokens.old.source) (S.left tokens.new.source)) }
     ensures err { IfErr result (λ _. (rest : List OneToken) → BeginsEach problem.old.problem e (moves_of problem.old.groups moves.now) (S.left tokens.old.source) rest → ⊥) }
-    ensures kind { IfErr result IsOfTokens }
+    ensures kind { IfErr result (FaultFits tokens.old.place (S.left tokens.old.source) (S.left tokens.new.source)) }
 {
     let listed = moves.as_slice();
     let mut standing = Standing {
@@ -177,13 +187,15 @@ fn read_child<S: TokenSource>(
     requires moves { Each (IsMove problem.old.problem) (moves_of problem.old.groups moves.now) }
     requires all_named { Each (IsNamed problem.old.groups) moves.now }
     requires asked { IsAsked problem.old.problem (moves_of problem.old.groups moves.now) standing.old.asked }
+    requires few { tokens.old.place + length (S.left tokens.old.source) < 2 ^ 64 }
     ensures problem { OnOk result (problem.new ≡ problem.old) }
     ensures fewer { OnOk result (length (S.left tokens.new.source) ≤ length (S.left tokens.old.source)) }
+    ensures read { OnOk result (ReadOn tokens.old.place tokens.new.place (S.left tokens.old.source) (S.left tokens.new.source)) }
     ensures behind { S.behind tokens.new.source ≡ S.behind tokens.old.source }
     ensures asked { IsAsked problem.old.problem (moves_of problem.old.groups moves.now) standing.new.asked }
     ensures ok { OnOk result (ReadsChild problem.old.problem e (moves_of problem.old.groups moves.now) (move_of problem.old.groups m) standing.old standing.new (S.left tokens.old.source) (S.left tokens.new.source)) }
     ensures err { IfErr result (λ _. RefusesChild problem.old.problem e (moves_of problem.old.groups moves.now) (move_of problem.old.groups m) standing.old (S.left tokens.old.source)) }
-    ensures kind { IfErr result IsOfTokens }
+    ensures kind { IfErr result (FaultFits tokens.old.place (S.left tokens.old.source) (S.left tokens.new.source)) }
 {
     let Some((token, place)) = tokens.take() else {
         return Err(CertFault::Short);
@@ -209,12 +221,15 @@ fn read_below<S: TokenSource>(
     requires counts { AreCommands problem.old.problem left }
     requires step { IsMove problem.old.problem (move_of problem.old.groups m) }
     requires named { IsNamed problem.old.groups m }
+    requires few { tokens.old.place + length (S.left tokens.old.source) < 2 ^ 64 }
+    requires next { tokens.old.place ≡ place + 1 }
     ensures problem { OnOk result (problem.new ≡ problem.old) }
     ensures fewer { OnOk result (length (S.left tokens.new.source) ≤ length (S.left tokens.old.source)) }
+    ensures read { OnOk result (ReadOn tokens.old.place tokens.new.place (S.left tokens.old.source) (S.left tokens.new.source)) }
     ensures behind { S.behind tokens.new.source ≡ S.behind tokens.old.source }
     ensures ok { OnOk result (Begins (after problem.old.problem (move_of problem.old.groups m)) e (token ∷ S.left tokens.old.source) (S.left tokens.new.source)) }
     ensures err { IfErr result (λ _. (rest : List OneToken) → Begins (after problem.old.problem (move_of problem.old.groups m)) e (token ∷ S.left tokens.old.source) rest → ⊥) }
-    ensures kind { IfErr result IsOfTokens }
+    ensures kind { IfErr result (FaultFits place (token ∷ S.left tokens.old.source) (S.left tokens.new.source)) }
 {
     let left = left.after(problem, m);
     let undo = problem.advance(m);
@@ -233,11 +248,13 @@ pub(crate) fn read_whole<S: TokenSource>(
     e: u64,
     tokens: &mut Numbered<S>,
 ) -> Result<(), CertFault>
+    requires first { tokens.old.place ≡ 0 }
+    requires few { length (S.left tokens.old.source) < 2 ^ 64 }
     ensures problem { OnOk result (problem.new ≡ problem.old) }
     ensures behind { S.behind tokens.new.source ≡ S.behind tokens.old.source }
     ensures ok { OnOk result (AcceptsTokens (S.left tokens.old.source) problem.old.problem e) }
     ensures err { IfErr result (λ _. AcceptsTokens (S.left tokens.old.source) problem.old.problem e → ⊥) }
-    ensures kind { IfErr result IsOfTokens }
+    ensures kind { IfErr result (IsTokenFault problem.old.problem e (S.left tokens.old.source) (S.left tokens.new.source)) }
 {
     let left = Commands::of(problem);
     let Some((token, place)) = tokens.take() else {

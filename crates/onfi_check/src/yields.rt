@@ -4,7 +4,7 @@ ghost use Rattle.onfi_problem.specs.Moves.{Move as OneMove, IsMove};
 ghost use Rattle.onfi_problem.specs.Position.{moves_of};
 ghost use Rattle.onfi_problem.specs.Starts.{IsNamed};
 ghost use Rattle.onfi_check.specs.Ends.{IsAsked, IsLastEnd};
-ghost use Rattle.onfi_check.specs.Faults.{IsOfTokens};
+ghost use Rattle.onfi_check.specs.Faults.{IsYieldFault};
 ghost use Rattle.onfi_check.specs.Reading.{Fits, IsYield};
 
 use crate::ends::last_end;
@@ -71,7 +71,7 @@ fn yield_fault(
     requires few { own < 8 }
     requires lun { lun < 8 }
     ensures loops_or_fits { (moves : List OneMove) → IsLastEnd problem.now.problem moves lun end → MatchOption result (IsYield problem.now.problem moves standing.now.awaited standing.now.leaving own lun) (λ _. IsYield problem.now.problem moves standing.now.awaited standing.now.leaving own lun → ⊥) }
-    ensures kind { IfSome result IsOfTokens }
+    ensures kind { IfSome result (IsYieldFault standing.now own lun place) }
 {
     if lun == own || standing.awaited[own as usize] || standing.leaving[lun as usize] {
         return Some(CertFault::YieldLoop(place));
@@ -107,7 +107,7 @@ pub(crate) fn take_yield(
     ensures awaited { OnOk result (standing.new.awaited ≡ slice_set standing.old.awaited lun true) }
     ensures leaving { OnOk result (standing.new.leaving ≡ slice_set standing.old.leaving own true) }
     ensures err { IfErr result (λ _. IsYield problem.now.problem (moves_of problem.now.groups moves.now) standing.old.awaited standing.old.leaving own lun → ⊥) }
-    ensures kind { IfErr result IsOfTokens }
+    ensures kind { IfErr result (IsYieldFault standing.old own lun place) }
 {
     let end = asked_end(problem, moves, &mut standing.asked, lun);
     if let Some(fault) = yield_fault(problem, standing, end, own, lun, place) {

@@ -222,3 +222,23 @@ other_flag true true e = cc
 other_flag true false e = λ q. cc
 other_flag false true e = λ q. cc
 other_flag false false e = cc
+
+fronted_long : (ts : List Token) → length ts ≤ length (fronted ts)
+fronted_long [] = omega arith
+fronted_long (t ∷ ts) = let h = fronted_long ts in let long = length-append (spelling t) (fronted ts) in omega arith
+
+header_long : (strict : Bool) → 1 ≤ length (header strict)
+header_long true = omega arith
+header_long false = omega arith
+
+-- a text has fewer tokens than bytes
+pub few_ahead : (text : List ℕ) (strict : Bool) (bytes : List ℕ) (a : Ahead) (limit : ℕ) → text ≡ header strict ++ bytes → a ≡ ahead_of false bytes → length text < limit → length a.tokens < limit
+few_ahead text strict bytes a limit e is few =
+    let ts = (ahead_of false bytes).tokens in
+    let sound = subst (Sound (32 ∷ bytes)) (sym (led_is bytes)) (walk_sound (length bytes + 1) (32 ∷ bytes)) in
+    let whole = ap length sound.spelled ∙ length-append (fronted ts) (ahead_of false bytes).behind in
+    let long = fronted_long ts in
+    let text_long = ap length e ∙ length-append (header strict) bytes in
+    let head = header_long strict in
+    let same = ap (λ (x : Ahead). length x.tokens) is in
+    omega arith

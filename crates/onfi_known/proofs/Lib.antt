@@ -9,3 +9,4 @@ pub mod Ahead
 pub mod Sound
 pub mod Keeping
 pub mod Walking
+pub mod Placing

@@ -37,7 +37,7 @@ one_certificate text r s ts us c d =
 
 pub memory_alone_of_text : (all : List Want) (p : Problem) (s : Schedule) (text : List ℕ) (tokens : List Token) (fault : KnownTextFault) → IsCertificate text p.rules.strict tokens → Legal p s → ProvesTokens all tokens p (finish p s) → IsTextFault all p s text fault → fault ≡ Cert Memory
 memory_alone_of_text all p s text tokens Header certificate legal accepted is = absurd (no_certificate text p.rules.strict tokens is certificate)
-memory_alone_of_text all p s text tokens (BadToken place) certificate legal accepted is = absurd (is p.rules.strict tokens certificate)
+memory_alone_of_text all p s text tokens (BadToken place) certificate legal accepted is = absurd (is.1 p.rules.strict tokens certificate)
 memory_alone_of_text all p s text tokens OtherOption certificate legal accepted (others, strict, other, differs) = absurd (differs (one_certificate text strict p.rules.strict others tokens other certificate).0)
 memory_alone_of_text all p s text tokens (Cert f) certificate legal accepted (others, other, is) =
     let same = one_certificate text p.rules.strict p.rules.strict others tokens other certificate in

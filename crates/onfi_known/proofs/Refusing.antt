@@ -1,5 +1,5 @@
 -- When a tree isn't accepted.
-use Rattle.std.proofs.Common.{◌≡◌, ◌≢◌, ℕ, zero, suc, ◌+◌, ◌≤◌, ◌<◌, List, [], ◌∷◌, ◌++◌, length, take, drop, get_or, refl, sym, ap, ◌∙◌, subst, arith, append_assoc, append-nil, length-append}
+use Rattle.std.proofs.Common.{◌≡◌, ◌≢◌, ℕ, zero, suc, ◌+◌, ◌≤◌, ◌<◌, List, [], ◌∷◌, ◌++◌, length, take, drop, get_or, inl, inr, refl, sym, ap, ◌∙◌, subst, arith, append_assoc, append-nil, length-append}
 use Rattle.std.specs.Prelude.{Result, Ok, Err, IfErr, slice_get}
 use Rattle.onfi_request.specs.declared.want.Want.{Want}
 use Rattle.onfi_group.specs.Words.{Has}
@@ -19,7 +19,7 @@ use Rattle.onfi_known.specs.declared.token.Token.{Token}
 use Rattle.onfi_known.specs.declared.token.Token.TheVariants.{Branch, Yield, Again}
 use Rattle.onfi_known.specs.declared.token.TheConstants.{MOST_KNOWN}
 use Rattle.onfi_known.specs.Closing.{Closes}
-use Rattle.onfi_known.specs.Faults.{IsOfTokens, OfTokens}
+use Rattle.onfi_known.specs.Faults.{IsNameFault, OfTokens}
 use Rattle.onfi_known.specs.Proves.{Children, FitTimes, IsAgain, MayYield, Proves, ProvesTokens, with_yields}
 use Rattle.onfi_known.specs.Refused.{AreAlike, Refuses, RefusesChild, RefusesChildren}
 use Rattle.onfi_known.proofs.Unique.{Stands, alike_length, alike_self, alike_there, given_few, grows, no_yield, same_left, same_token, same_yields, snoc_front, snoc_some, unique, unique_children}
@@ -40,8 +40,9 @@ of_so (OtherLeft n) P Q g h = g h
 of_so (Sooner n) P Q g h = g h
 of_so (TooMany n) P Q g h = g h
 
-of_all : (f : KnownFault) (P : Type 0) → IsOfTokens f → P → OfTokens f P
-of_all Illegal P k h = k
+-- no fault of a yield or of a leaf is another
+of_all : (f : KnownFault) (P : Type 0) → (f ≢ Illegal) → P → OfTokens f P
+of_all Illegal P k h = absurd (k refl)
 of_all Short P k h = h
 of_all (Trailing n) P k h = h
 of_all (Width n) P k h = h
@@ -60,9 +61,15 @@ pub err_so : {A : Type 0} (r : Result A KnownFault) (P Q : Type 0) → (P → Q)
 err_so (Ok x) P Q g h = h
 err_so (Err f) P Q g h = of_so f P Q g h
 
-pub err_of : {A : Type 0} (r : Result A KnownFault) (P Q : Type 0) → (P → Q) → IfErr r (λ _. P) → IfErr r IsOfTokens → IfErr r (λ f. OfTokens f Q)
-err_of (Ok x) P Q g h k = tt
-err_of (Err f) P Q g h k = of_all f Q k (g h)
+pub err_of : {A : Type 0} (r : Result A KnownFault) (P Q : Type 0) (Fits : KnownFault → Type 0) → (P → Q) → (Fits Illegal → ⊥) → IfErr r (λ _. P) → IfErr r Fits → IfErr r (λ f. OfTokens f Q)
+err_of (Ok x) P Q Fits g never h k = tt
+err_of (Err f) P Q Fits g never h k = of_all f Q (λ e. never (subst Fits e k)) (g h)
+
+-- a name's fault isn't one of the schedule
+pub name_of_tokens : (place : ℕ) → IsNameFault place Illegal → ⊥
+name_of_tokens place (inl e) = cc
+name_of_tokens place (inr (inl e)) = cc
+name_of_tokens place (inr (inr e)) = cc
 
 module _ (e : ℕ) (all : List Want) where
   -- tokens that begin with none that closes or opens the node

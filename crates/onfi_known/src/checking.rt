@@ -1,4 +1,4 @@
-ghost use Rattle.std.specs.Prelude.{◌≡◌, ◌↔◌, IfOk, IfErr, List};
+ghost use Rattle.std.specs.Prelude.{◌≡◌, ◌+◌, ◌<◌, ◌^◌, ◌↔◌, IfOk, IfErr, List, length};
 ghost use Rattle.onfi_schedule.specs.Schedule.{Legal, Optimal, finish};
 ghost use Rattle.onfi_known.specs.Faults.{IsKnownFault, IsTextFault};
 ghost use Rattle.onfi_known.specs.Proves.{ProvesTokens};
@@ -24,10 +24,13 @@ fn check_source<S: TokenSource>(
     schedule: &Schedule,
     tokens: &mut Numbered<S>,
 ) -> Result<u64, KnownFault>
+    requires first { tokens.old.place ≡ 0 }
+    requires few { length (S.left tokens.old.source) < 2 ^ 64 }
     ensures optimal { IfOk result (λ e. Optimal problem.now.problem schedule.now × (finish problem.now.problem schedule.now ≡ e)) }
     ensures accepted { IfOk result (λ e. ProvesTokens problem.now.all (S.left tokens.old.source) problem.now.problem e) }
     ensures fault { IfErr result (IsKnownFault problem.now.all problem.now.problem schedule.now (S.left tokens.old.source)) }
     ensures behind { S.behind tokens.new.source ≡ S.behind tokens.old.source }
+    ensures counted { tokens.new.place + length (S.left tokens.new.source) ≡ length (S.left tokens.old.source) }
 {
     if !legal(problem, schedule) {
         return Err(KnownFault::Illegal);
@@ -47,7 +50,9 @@ fn check_source<S: TokenSource>(
 ///
 /// # Errors
 /// `Illegal` exactly where the schedule isn't legal. Else `Memory` where the memory for a copy of the problem or for the
-/// records was refused. Else the first fault of the tokens in reading order, only where they aren't accepted.
+/// records was refused. Else, only where the tokens aren't accepted, `Trailing` with the place behind an accepted tree
+/// where one stands in front, or a fault of the kind of the token at its place. Of several such faults the walk tells the
+/// first; no clause says which that is.
 pub fn check_known(
     alloc: Global,
     problem: &Problem,
@@ -59,6 +64,7 @@ pub fn check_known(
     ensures illegal { (result ≡ Err KnownFault.Illegal) ↔ (Legal problem.now.problem schedule.now → ⊥) }
     ensures fault { IfErr result (IsKnownFault problem.now.all problem.now.problem schedule.now tokens.now) }
 {
+    let _few = tokens.len();
     let mut tokens = Numbered::of(TokenList::new(tokens));
     check_source(alloc, problem, schedule, &mut tokens)
 }
@@ -81,6 +87,7 @@ pub fn check_known_text(
     ensures accepted { IfOk result (λ e. (tokens : List OneToken) × IsCertificate text.now problem.now.problem.rules.strict tokens × ProvesTokens problem.now.all tokens problem.now.problem e) }
     ensures fault { IfErr result (IsTextFault problem.now.all problem.now.problem schedule.now text.now) }
 {
+    let _few = text.len();
     let Some((strict, bytes)) = header_of(text) else {
         return Err(KnownTextFault::Header);
     };

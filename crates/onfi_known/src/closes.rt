@@ -1,15 +1,16 @@
 //! Tokens that close a node.
 
-ghost use Rattle.std.specs.Prelude.{◌≡◌, ◌<◌, ◌↔◌, IsTrue, IfOk, IfErr, Some, slice_get};
+ghost use Rattle.std.specs.Prelude.{◌≡◌, ◌≢◌, ℕ, ◌<◌, ◌↔◌, ◌∷◌, IsTrue, IfOk, IfErr, List, Some, slice_get};
 ghost use Rattle.onfi_group.specs.Words.{Pairs};
 ghost use Rattle.onfi_problem.specs.Moves.{IsDone};
 ghost use Rattle.onfi_demand.specs.Demand.{Meets};
 ghost use Rattle.onfi_demand.specs.Kept.{IsKept};
 ghost use Rattle.onfi_demand.specs.declared.demand.Demand.{Demand as OneDemand};
 ghost use Rattle.onfi_known.specs.Closing.{Closes, closing_demand};
-ghost use Rattle.onfi_known.specs.Faults.{IsOfTokens};
+ghost use Rattle.onfi_known.specs.Faults.{FaultFits, IsNameFault};
 ghost use Rattle.onfi_known.specs.Proves.{Describes, IsAgain, times_of};
 ghost use Rattle.onfi_known.specs.declared.known.Known.{Known as OneKnown};
+ghost use Rattle.onfi_known.specs.declared.token.Token.{Token as OneToken};
 
 use crate::fault::KnownFault;
 use crate::known::Known;
@@ -58,7 +59,9 @@ fn asks(problem: &Problem, token: &Token, e: u64) -> Demand
 
 // What speaks against a token that closes no node, told at that place.
 fn closing_fault(token: Token, place: usize) -> KnownFault
-    ensures { IsOfTokens result }
+    requires no_branch { (width : ℕ) → token ≢ Token.Branch width }
+    requires no_name { (number : ℕ) → token ≢ Token.Again number }
+    ensures { (behind left : List OneToken) → FaultFits place (token ∷ behind) left result }
 {
     match token {
         Token::Yield(_) => KnownFault::YieldNoFit(place),
@@ -74,9 +77,11 @@ pub(crate) fn read_closing(
     token: Token,
     place: usize,
 ) -> Result<Demand, KnownFault>
+    requires no_branch { (width : ℕ) → token ≢ Token.Branch width }
+    requires no_name { (number : ℕ) → token ≢ Token.Again number }
     ensures ok { IfOk result (λ d. Closes problem.now.problem e token × IsKept d (closing_demand problem.now.problem e token)) }
     ensures err { IfErr result (λ _. Closes problem.now.problem e token → ⊥) }
-    ensures kind { IfErr result IsOfTokens }
+    ensures kind { IfErr result (λ fault. (behind left : List OneToken) → FaultFits place (token ∷ behind) left fault) }
 {
     if closes(problem, &token, e) {
         Ok(asks(problem, &token, e))
@@ -95,7 +100,7 @@ pub(crate) fn read_again(
     requires { Pairs (λ a b. a.id < b.id) problem.now.all }
     ensures ok { IfOk result (λ d. IsAgain problem.now.all problem.now.problem known.now number d) }
     ensures err { IfErr result (λ _. (d : OneDemand) → IsAgain problem.now.all problem.now.problem known.now number d → ⊥) }
-    ensures kind { IfErr result IsOfTokens }
+    ensures kind { IfErr result (IsNameFault place) }
 {
     let Some(node) = known.get(number as usize) else {
         return Err(KnownFault::Unknown(place));

@@ -6,7 +6,7 @@ ghost use Rattle.onfi_problem.specs.Moves.{Move as OneMove, IsMove, move_lun, ma
 ghost use Rattle.onfi_problem.specs.Problem.{Problem as AnyProblem};
 ghost use Rattle.onfi_check.specs.Ends.{AreLastEnds, IsLastEnd};
 ghost use Rattle.onfi_demand.specs.Asked.{GoesOn};
-ghost use Rattle.onfi_known.specs.Faults.{IsOfTokens};
+ghost use Rattle.onfi_known.specs.Faults.{IsYieldFault};
 ghost use Rattle.onfi_known.specs.Proves.{FitTimes, MayYield, Yielded, with_yields};
 ghost use Rattle.onfi_known.specs.declared.given.Given.{Given as OneGiven};
 
@@ -127,7 +127,7 @@ pub(crate) fn take_yield(
     requires room { length standing.old.given.items < 87 }
     ensures asked { standing.new.asked ≡ standing.old.asked }
     ensures err { IfErr result (λ _. (moves : List OneMove) (m : OneMove) (y : OneGiven) → Each (IsMove problem.now.problem) moves → AreLastEnds problem.now.problem moves ends.now → move_lun m ≡ own → y.lun ≡ lun → MayYield problem.now.problem moves standing.old.given.items m y → ⊥) }
-    ensures kind { IfErr result IsOfTokens }
+    ensures kind { IfErr result (IsYieldFault standing.old.given.items own lun place) }
     ensures ok { OnOk result (Yielded problem.now.problem ends.now standing.old.given.items own lun standing.new.given.items) }
 {
     let _limits = problem.bus_free();

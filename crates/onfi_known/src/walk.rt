@@ -1,6 +1,6 @@
 //! The walk over the tokens of a tree.
 
-ghost use Rattle.std.specs.Prelude.{◌≡◌, ◌≤◌, ◌<◌, ◌∷◌, ◌+◌, [], List, IfOk, IfErr, OnOk, length};
+ghost use Rattle.std.specs.Prelude.{◌≡◌, ◌⊎◌, ◌≤◌, ◌<◌, ◌^◌, ◌∷◌, ◌+◌, [], List, IfOk, IfErr, OnOk, length};
 ghost use Rattle.onfi_group.specs.Words.{Pairs};
 ghost use Rattle.std.specs.List.{AllByRecursion as Each};
 ghost use Rattle.onfi_problem.specs.Moves.{AreMoves, IsMove, after};
@@ -8,7 +8,7 @@ ghost use Rattle.onfi_problem.specs.Position.{move_of, moves_of};
 ghost use Rattle.onfi_problem.specs.Starts.{IsNamed};
 ghost use Rattle.onfi_known.specs.declared.token.Token.{Token as OneToken};
 ghost use Rattle.onfi_known.specs.Proves.{Proves, Children, ProvesTokens, Remembers, Grows, Below};
-ghost use Rattle.onfi_known.specs.Faults.{OfTokens};
+ghost use Rattle.onfi_known.specs.Faults.{FaultFits, IsTokenFault, OfTokens, ReadOn};
 ghost use Rattle.onfi_known.specs.Refused.{Refuses, RefusesChild, RefusesChildren};
 ghost use Rattle.onfi_check.specs.Ends.{AreLastEnds};
 
@@ -34,6 +34,7 @@ fn remember(
     ensures ok { IfOk result (λ d. Remembers problem.now.all problem.now.problem times known.old.items known.new.items d) }
     ensures few { OnOk result (length known.new.items ≤ MOST_KNOWN) }
     ensures err { IfErr result (λ f. OfTokens f (MOST_KNOWN ≤ length known.old.items)) }
+    ensures kind { IfErr result (λ f. (f ≡ KnownFault.TooMany place) ⊎ (f ≡ KnownFault.Memory)) }
 {
     if known.len() >= MOST_KNOWN as usize {
         return Err(KnownFault::TooMany(place));
@@ -64,12 +65,16 @@ fn read_tree<S: TokenSource>(
     known: &mut Vec<Known>,
 ) -> Result<Demand, KnownFault>
     requires rising { Pairs (λ a b. a.id < b.id) problem.old.all }
+    requires few { tokens.old.place + length (S.left tokens.old.source) < 2 ^ 64 }
+    requires next { tokens.old.place ≡ place + 1 }
     ensures problem { OnOk result (problem.new ≡ problem.old) }
     ensures fewer { OnOk result (length (S.left tokens.new.source) ≤ length (S.left tokens.old.source)) }
+    ensures read { ReadOn tokens.old.place tokens.new.place (S.left tokens.old.source) (S.left tokens.new.source) }
     ensures behind { S.behind tokens.new.source ≡ S.behind tokens.old.source }
     ensures few { OnOk result (length known.old.items ≤ MOST_KNOWN → length known.new.items ≤ MOST_KNOWN) }
     ensures ok { IfOk result (λ d. Proves e problem.old.all problem.old.problem known.old.items (token ∷ S.left tokens.old.source) d known.new.items (S.left tokens.new.source)) }
     ensures err { IfErr result (λ f. OfTokens f (Refuses e problem.old.all problem.old.problem known.old.items (token ∷ S.left tokens.old.source))) }
+    ensures kind { IfErr result (FaultFits place (token ∷ S.left tokens.old.source) (S.left tokens.new.source)) }
 {
     let _limits = problem.bus_free();
     match token {
@@ -90,12 +95,16 @@ fn read_branch<S: TokenSource>(
     known: &mut Vec<Known>,
 ) -> Result<Demand, KnownFault>
     requires rising { Pairs (λ a b. a.id < b.id) problem.old.all }
+    requires few { tokens.old.place + length (S.left tokens.old.source) < 2 ^ 64 }
+    requires next { tokens.old.place ≡ place + 1 }
     ensures problem { OnOk result (problem.new ≡ problem.old) }
     ensures fewer { OnOk result (length (S.left tokens.new.source) ≤ length (S.left tokens.old.source)) }
+    ensures read { ReadOn tokens.old.place tokens.new.place (S.left tokens.old.source) (S.left tokens.new.source) }
     ensures behind { S.behind tokens.new.source ≡ S.behind tokens.old.source }
     ensures few { OnOk result (length known.old.items ≤ MOST_KNOWN → length known.new.items ≤ MOST_KNOWN) }
     ensures ok { IfOk result (λ d. Proves e problem.old.all problem.old.problem known.old.items (Token.Branch width ∷ S.left tokens.old.source) d known.new.items (S.left tokens.new.source)) }
     ensures err { IfErr result (λ f. OfTokens f (Refuses e problem.old.all problem.old.problem known.old.items (Token.Branch width ∷ S.left tokens.old.source))) }
+    ensures kind { IfErr result (FaultFits place (Token.Branch width ∷ S.left tokens.old.source) (S.left tokens.new.source)) }
 {
     let _limits = problem.bus_free();
     let mut moves = Moves::new();
@@ -123,12 +132,15 @@ fn read_children<S: TokenSource>(
     requires moves { AreMoves problem.old.problem (moves_of problem.old.groups moves.now) }
     requires named { Each (IsNamed problem.old.groups) moves.now }
     requires few { length moves.now ≤ 87 }
+    requires places { tokens.old.place + length (S.left tokens.old.source) < 2 ^ 64 }
     ensures problem { OnOk result (problem.new ≡ problem.old) }
     ensures fewer { OnOk result (length (S.left tokens.new.source) ≤ length (S.left tokens.old.source)) }
+    ensures read { ReadOn tokens.old.place tokens.new.place (S.left tokens.old.source) (S.left tokens.new.source) }
     ensures behind { S.behind tokens.new.source ≡ S.behind tokens.old.source }
     ensures few { OnOk result (length known.old.items ≤ MOST_KNOWN → length known.new.items ≤ MOST_KNOWN) }
     ensures ok { IfOk result (λ s. Children e problem.old.all problem.old.problem (moves_of problem.old.groups moves.now) (moves_of problem.old.groups moves.now) known.old.items (S.left tokens.old.source) s.asked s.given.items known.new.items (S.left tokens.new.source)) }
     ensures err { IfErr result (λ f. OfTokens f (RefusesChildren e problem.old.all problem.old.problem (moves_of problem.old.groups moves.now) known.old.items (S.left tokens.old.source))) }
+    ensures kind { IfErr result (FaultFits tokens.old.place (S.left tokens.old.source) (S.left tokens.new.source)) }
 {
     let _limits = problem.bus_free();
     let listed = moves.as_slice();
@@ -158,13 +170,16 @@ fn read_child<S: TokenSource>(
     requires moves { Each (IsMove problem.old.problem) (moves_of problem.old.groups moves.now) }
     requires ends { AreLastEnds problem.old.problem (moves_of problem.old.groups moves.now) ends.now }
     requires room { length standing.old.given.items < 87 }
+    requires few { tokens.old.place + length (S.left tokens.old.source) < 2 ^ 64 }
     ensures problem { OnOk result (problem.new ≡ problem.old) }
     ensures fewer { OnOk result (length (S.left tokens.new.source) ≤ length (S.left tokens.old.source)) }
+    ensures read { ReadOn tokens.old.place tokens.new.place (S.left tokens.old.source) (S.left tokens.new.source) }
     ensures behind { S.behind tokens.new.source ≡ S.behind tokens.old.source }
     ensures few { OnOk result (length known.old.items ≤ MOST_KNOWN → length known.new.items ≤ MOST_KNOWN) }
     ensures more { OnOk result (length standing.new.given.items ≤ length standing.old.given.items + 1) }
     ensures ok { OnOk result (Grows e problem.old.all problem.old.problem (moves_of problem.old.groups moves.now) (move_of problem.old.groups m) standing.old known.old.items (S.left tokens.old.source) standing.new known.new.items (S.left tokens.new.source)) }
     ensures err { IfErr result (λ f. OfTokens f (RefusesChild e problem.old.all problem.old.problem (moves_of problem.old.groups moves.now) (move_of problem.old.groups m) standing.old.given.items known.old.items (S.left tokens.old.source))) }
+    ensures kind { IfErr result (FaultFits tokens.old.place (S.left tokens.old.source) (S.left tokens.new.source)) }
 {
     let Some((token, place)) = tokens.take() else {
         return Err(KnownFault::Short);
@@ -190,13 +205,17 @@ fn read_below<S: TokenSource>(
     requires rising { Pairs (λ a b. a.id < b.id) problem.old.all }
     requires step { IsMove problem.old.problem (move_of problem.old.groups m) }
     requires named { IsNamed problem.old.groups m }
+    requires few { tokens.old.place + length (S.left tokens.old.source) < 2 ^ 64 }
+    requires next { tokens.old.place ≡ place + 1 }
     ensures problem { OnOk result (problem.new ≡ problem.old) }
     ensures fewer { OnOk result (length (S.left tokens.new.source) ≤ length (S.left tokens.old.source)) }
+    ensures read { ReadOn tokens.old.place tokens.new.place (S.left tokens.old.source) (S.left tokens.new.source) }
     ensures behind { S.behind tokens.new.source ≡ S.behind tokens.old.source }
     ensures few { OnOk result (length known.old.items ≤ MOST_KNOWN → length known.new.items ≤ MOST_KNOWN) }
     ensures given { standing.new.given ≡ standing.old.given }
     ensures ok { OnOk result (Below e problem.old.all problem.old.problem (move_of problem.old.groups m) known.old.items (token ∷ S.left tokens.old.source) standing.old.asked standing.new.asked known.new.items (S.left tokens.new.source)) }
     ensures err { IfErr result (λ f. OfTokens f (Refuses e problem.old.all (after problem.old.problem (move_of problem.old.groups m)) known.old.items (token ∷ S.left tokens.old.source))) }
+    ensures kind { IfErr result (FaultFits place (token ∷ S.left tokens.old.source) (S.left tokens.new.source)) }
 {
     let start = problem.earliest(m);
     let count = problem.lun_count();
@@ -221,10 +240,14 @@ pub(crate) fn read_whole<S: TokenSource>(
 ) -> Result<(), KnownFault>
     requires none { known.old.items ≡ [] }
     requires rising { Pairs (λ a b. a.id < b.id) problem.old.all }
+    requires first { tokens.old.place ≡ 0 }
+    requires few { length (S.left tokens.old.source) < 2 ^ 64 }
     ensures problem { OnOk result (problem.new ≡ problem.old) }
+    ensures read { ReadOn tokens.old.place tokens.new.place (S.left tokens.old.source) (S.left tokens.new.source) }
     ensures behind { S.behind tokens.new.source ≡ S.behind tokens.old.source }
     ensures ok { OnOk result (ProvesTokens problem.old.all (S.left tokens.old.source) problem.old.problem e) }
     ensures err { IfErr result (λ f. OfTokens f (ProvesTokens problem.old.all (S.left tokens.old.source) problem.old.problem e → ⊥)) }
+    ensures kind { IfErr result (IsTokenFault problem.old.all problem.old.problem e (S.left tokens.old.source) (S.left tokens.new.source)) }
 {
     let _limits = problem.bus_free();
     let Some((token, place)) = tokens.take() else {

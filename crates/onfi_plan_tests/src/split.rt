@@ -6,7 +6,7 @@ use onfi_problem::{Problem, ProblemFault};
 use onfi_samples::sample_timing;
 use onfi_timing::{Kind, Spans, Timing};
 use std::alloc::Global;
-use std::sync::atomic::{AtomicBool, Ordering};
+use std::sync::atomic::{AtomicBool, AtomicU64, Ordering};
 use std::test::Fail;
 
 // Holds part 0 until part 1 has begun, and gives up at last.
@@ -37,6 +37,47 @@ impl PartGate for Meeting {
     }
 }
 
+// Counts how often it is told of parts 0, 1 and 2, and of others.
+#[derive(Drop)]
+struct Counting {
+    first: AtomicU64,
+    second: AtomicU64,
+    third: AtomicU64,
+    others: AtomicU64,
+}
+
+impl Counting {
+    fn new() -> Counting {
+        Counting {
+            first: AtomicU64::new(0),
+            second: AtomicU64::new(0),
+            third: AtomicU64::new(0),
+            others: AtomicU64::new(0),
+        }
+    }
+
+    fn counts(&self) -> [u64; 4] {
+        [
+            self.first.load(Ordering::SeqCst),
+            self.second.load(Ordering::SeqCst),
+            self.third.load(Ordering::SeqCst),
+            self.others.load(Ordering::SeqCst),
+        ]
+    }
+}
+
+impl PartGate for Counting {
+    fn before(&self, part: usize) {
+        let count = match part {
+            0 => &self.first,
+            1 => &self.second,
+            2 => &self.third,
+            _ => &self.others,
+        };
+        count.fetch_add(1, Ordering::SeqCst);
+    }
+}
+
 // Two reads of two planes, which stay apart since the gap is longer than the array time. Of the root's moves three don't
 // yield, and none of the parts below them has more than four nodes.
 fn reads_apart(alloc: Global) -> Result<Problem, ProblemFault> {
@@ -60,6 +101,18 @@ fn the_second_part_begins_while_the_first_waits(rt: HostRuntime) -> Result<(), F
     assert_eq!(rt; planned.finish, 72480);
     assert!(rt; gate.begun.load(Ordering::SeqCst));
     assert!(rt; !gate.missed.load(Ordering::SeqCst));
+    Ok(())
+}
+
+#[test]
+fn the_gate_is_told_of_each_part_once(rt: HostRuntime) -> Result<(), Fail> {
+    let problem = reads_apart(rt.alloc())?;
+    for workers in 1..9usize {
+        let gate = Counting::new();
+        let planned = plan_split(&rt, rt.alloc(), &problem, 4, workers, &gate)?;
+        assert_eq!(rt; planned.finish, 72480);
+        assert_eq!(rt; gate.counts(), [1, 1, 1, 0], "by {workers}");
+    }
     Ok(())
 }
 

@@ -23,7 +23,7 @@ use Rattle.onfi_planner.specs.declared.root.Root.{Root}
 use Rattle.onfi_planner.specs.declared.search.Stop.{Stop}
 use Rattle.onfi_planner.specs.Dealing.{Gives, GivesFrom}
 use Rattle.onfi_planner.specs.First.{IsFirstRun}
-use Rattle.onfi_planner.specs.Nodes.{HasNodes, HasMoreNodes, PartHasMore, OpensNodes, nodes_below}
+use Rattle.onfi_planner.specs.Nodes.{EachWithin, HasNodes, HasMoreNodes, HasPartsWithin, PartHasMore, OpensNodes, nodes_below}
 use Rattle.onfi_planner.specs.Opening.{IsOpen, AreYields, yield_at}
 use Rattle.onfi_planner.specs.Parts.{IsPart, AreFound, IsBranch, AreBranches, opened_by, parts_of}
 use Rattle.onfi_planner.specs.Planning.{Found, IsOver, IsRoot, run_of}
@@ -83,20 +83,21 @@ module _ (x : Position) (yields : List (Option ℕ)) (first limit : ℕ) where
       go rest (Some lun) q found least a = ((λ n. absurd (none_some _ lun (ap (yield_at yields) luns.0 ∙ q) n)), rest found least a)
 
   -- the trees of the parts, and the yields between them
-  grown_parts : (e : ℕ) (items : List KeptMove) (found : List Part) → All (λ s. move_lun (move_of x.groups s) ≡ lun_named s) items → All (λ part. e ≤ part.best.finish) found → AreFound x first limit (parts_of yields items) found → (f : Forest) × Grown x.problem yields e (moves_of x.groups items) f × (nodes_below f ≡ opened_by found)
-  grown_parts e [] [] luns least a = (NoMore, tt, refl)
+  grown_parts : (e : ℕ) (items : List KeptMove) (found : List Part) → All (λ s. move_lun (move_of x.groups s) ≡ lun_named s) items → All (λ part. e ≤ part.best.finish) found → AreFound x first limit (parts_of yields items) found → (f : Forest) × Grown x.problem yields e (moves_of x.groups items) f × (nodes_below f ≡ opened_by found) × EachWithin limit f
+  grown_parts e [] [] luns least a = (NoMore, tt, refl, tt)
   grown_parts e [] (part ∷ found) luns least a = absurd a
   grown_parts e (s ∷ items) found luns least a = go (λ found least a. grown_parts e items found luns.1 least a) (yield_at yields (lun_named s)) refl found least a
     where
-      go : ((found : List Part) → All (λ part. e ≤ part.best.finish) found → AreFound x first limit (parts_of yields items) found → (f : Forest) × Grown x.problem yields e (moves_of x.groups items) f × (nodes_below f ≡ opened_by found)) → (o : Option ℕ) → yield_at yields (lun_named s) ≡ o → (found : List Part) → All (λ part. e ≤ part.best.finish) found → AreFound x first limit (if is_some o then parts_of yields items else s ∷ parts_of yields items) found → (f : Forest) × Grown x.problem yields e (moves_of x.groups (s ∷ items)) f × (nodes_below f ≡ opened_by found)
+      go : ((found : List Part) → All (λ part. e ≤ part.best.finish) found → AreFound x first limit (parts_of yields items) found → (f : Forest) × Grown x.problem yields e (moves_of x.groups items) f × (nodes_below f ≡ opened_by found) × EachWithin limit f) → (o : Option ℕ) → yield_at yields (lun_named s) ≡ o → (found : List Part) → All (λ part. e ≤ part.best.finish) found → AreFound x first limit (if is_some o then parts_of yields items else s ∷ parts_of yields items) found → (f : Forest) × Grown x.problem yields e (moves_of x.groups (s ∷ items)) f × (nodes_below f ≡ opened_by found) × EachWithin limit f
       go rest None q [] least a = absurd a
       go rest None q (part ∷ found) least a =
           let (tree, accepted, k) = a.0.opened.accepted in
-          let (f, g, n) = rest found least.1 a.1 in
-          (Child tree f, (accepts_sooner tree (moved x s).problem part.best.finish e least.0 accepted, g), omega arith)
+          let (f, g, n, small) = rest found least.1 a.1 in
+          let few = a.0.within in
+          (Child tree f, (accepts_sooner tree (moved x s).problem part.best.finish e least.0 accepted, g), omega arith, (omega arith, small))
       go rest (Some lun) q found least a =
-          let (f, g, n) = rest found least a in
-          (Yields lun f, (ap (yield_at yields) luns.0 ∙ q, g), n)
+          let (f, g, n, small) = rest found least a in
+          (Yields lun f, (ap (yield_at yields) luns.0 ∙ q, g), n, small)
 
   -- the nodes of the parts are nodes of the whole
   among_parts : (front : List Move) (n : ℕ) (items : List KeptMove) (found : List Part) → IsOpen first x.problem → All (IsMove x.problem) (moves_of x.groups items) → Pairs (ComesBefore x.problem) (front ++ moves_of x.groups items) → Among first x.problem front n → AreFound x first limit (parts_of yields items) found → Among first x.problem (front ++ moves_of x.groups items) (n + opened_by found)
@@ -145,7 +146,7 @@ split_nodes x items yields first limit steps found w =
 
 pub split_opens : (x : Position) (items : List KeptMove) (yields : List (Option ℕ)) (first limit e opened : ℕ) (steps : List Step) (found : List Part) → Split x items yields first limit steps found → All (λ part. e ≤ part.best.finish) found → opened ≡ 1 + opened_by found → OpensNodes x.problem e opened
 split_opens x items yields first limit e opened steps found w least n =
-    let (f, g, k) = grown_parts x yields first limit e items found w.luns least w.parts in
+    let (f, g, k, small) = grown_parts x yields first limit e items found w.luns least w.parts in
     let some = some_move x items steps first w.problem w.moves w.first_run w.open_root in
     let l = map_length x items in
     record {
@@ -154,6 +155,14 @@ split_opens x items yields first limit e opened steps found w least n =
       first_run = (steps, w.first_run);
       there = subst (HasNodes first x.problem) (sym n) (split_nodes x items yields first limit steps found w);
     }
+
+-- .. in which no part has more nodes than the limit
+pub split_parts : (x : Position) (items : List KeptMove) (yields : List (Option ℕ)) (first limit e opened : ℕ) (steps : List Step) (found : List Part) → Split x items yields first limit steps found → All (λ part. e ≤ part.best.finish) found → opened ≡ 1 + opened_by found → HasPartsWithin x.problem e opened limit
+split_parts x items yields first limit e opened steps found w least n =
+    let (f, g, k, small) = grown_parts x yields first limit e items found w.luns least w.parts in
+    let some = some_move x items steps first w.problem w.moves w.first_run w.open_root in
+    let l = map_length x items in
+    (Opened f, grown_accepts x.problem yields e (moves_of x.groups items) f w.moves (omega arith) w.yields_are g, omega arith, small)
 
 -- the parts together have more nodes than that
 pub split_over : (x : Position) (items : List KeptMove) (yields : List (Option ℕ)) (first limit n opened : ℕ) (steps : List Step) (found : List Part) → Split x items yields first limit steps found → opened ≡ 1 + opened_by found → opened ≡ n + 1 → HasMoreNodes x.problem n
@@ -328,6 +337,9 @@ closed_opens x root r (c, h) = record {
   first_run = (run_of x.groups root.best.steps.items, r.first_run);
   there = node_one root.best.finish x.problem;
 }
+
+pub closed_parts : (x : Position) (root : Root) (limit : ℕ) → (c : Closing) × Closes x.problem root.best.finish c → HasPartsWithin x.problem root.best.finish 1 limit
+closed_parts x root limit (c, h) = (Closed c, h, refl, tt)
 
 -- the parts of a root, searched
 pub split_made : (x : Position) (root : Root) (items moves slice parts : List KeptMove) (yields : List (Option ℕ)) (limit : ℕ) (found : List Part) → IsRoot x root → items ≡ moves → AreMoves x.problem (moves_of x.groups moves) → All (IsNamed x.groups) moves → AreYields x.problem (moves_of x.groups items) yields → IsOpen root.best.finish x.problem → slice ≡ parts → parts ≡ parts_of yields items → AreFound x root.best.finish limit slice found → Split x items yields root.best.finish limit (run_of x.groups root.best.steps.items) found

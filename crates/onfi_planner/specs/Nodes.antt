@@ -1,5 +1,5 @@
 -- The tree of a problem: its nodes are paths of moves, and below a node that a bound closes stands nothing.
-use Rattle.std.specs.Prelude.{◌≡◌, ◌≢◌, ◌⊎◌, ℕ, ◌<◌, List, [], ◌∷◌, ◌+◌, length}
+use Rattle.std.specs.Prelude.{◌≡◌, ◌≢◌, ◌⊎◌, ℕ, ◌≤◌, ◌<◌, List, [], ◌∷◌, ◌+◌, length}
 use Rattle.std.specs.List.{AllByRecursion as Each}
 use Rattle.onfi_problem.specs.Moves.{Move, IsMove, after}
 use Rattle.onfi_group.specs.Words.{Pairs}
@@ -44,6 +44,21 @@ abbrev mutual
 -- a tree of n nodes is accepted for e
 abbrev pub HasTreeOf : Problem → ℕ → ℕ → Type 0
 HasTreeOf p e n = (tree : Tree) × Accepts tree p e × (nodes tree ≡ n)
+
+-- no tree among the children has more than n nodes
+abbrev pub EachWithin : ℕ → Forest → Type 0
+EachWithin n NoMore = Unit {0}
+EachWithin n (Child tree forest) = (nodes tree ≤ n) × EachWithin n forest
+EachWithin n (Yields lun forest) = EachWithin n forest
+
+-- no part of a tree, which is what stands below a move of its root, has more than n nodes
+abbrev pub PartsWithin : ℕ → Tree → Type 0
+PartsWithin n (Closed closing) = Unit {0}
+PartsWithin n (Opened forest) = EachWithin n forest
+
+-- a tree of n nodes is accepted for e, and no part of it has more nodes than the limit
+abbrev pub HasPartsWithin : Problem → ℕ → ℕ → ℕ → Type 0
+HasPartsWithin p e n limit = (tree : Tree) × Accepts tree p e × (nodes tree ≡ n) × PartsWithin limit tree
 
 -- a search down to the finish e opens n nodes: they are a tree that is accepted for e, and so many the tree of p has
 pub record OpensNodes (p : Problem) (e n : ℕ) : Type 0 where

@@ -8,7 +8,7 @@ ghost use Rattle.onfi_problem.specs.Left.{InLimits};
 ghost use Rattle.onfi_problem.specs.Position.{move_of, moves_of, moved};
 ghost use Rattle.onfi_problem.specs.Starts.{IsNamed};
 ghost use Rattle.onfi_bound.specs.Loads.{AreLoads};
-ghost use Rattle.onfi_planner.specs.Nodes.{IsSplitOver, OpensNodes};
+ghost use Rattle.onfi_planner.specs.Nodes.{HasPartsWithin, IsSplitOver, OpensNodes};
 ghost use Rattle.onfi_planner.specs.Opening.{AreYields};
 ghost use Rattle.onfi_planner.specs.Parts.{IsPart, AreFound, opened_by, parts_of};
 ghost use Rattle.onfi_planner.specs.Planning.{Found, IsOver, IsRoot};
@@ -57,6 +57,7 @@ pub fn search_parts<R: Threads + Sync, G: PartGate + Sync>(
     ensures loads { root.new.loads ≡ root.old.loads }
     ensures found { IfOk result (λ _. Found root.old.problem root.new.best) }
     ensures opened { IfOk result (λ opened. OpensNodes root.old.problem.problem root.new.best.finish opened) }
+    ensures parts { IfOk result (λ opened. HasPartsWithin root.old.problem.problem root.new.best.finish opened limit) }
     ensures some_opened { IfOk result (λ opened. 1 ≤ opened) }
     ensures within { IfOk result (λ opened. opened ≤ 1048576) }
     ensures over { IfErr result (λ fault. (n : ℕ) → fault ≡ PlanFault.Over n → IsSplitOver root.old.problem.problem limit n) }

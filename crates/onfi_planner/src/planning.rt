@@ -20,7 +20,8 @@ use std::alloc::{AllocError, Global};
 ///
 /// # Errors
 /// `Over` where `limit` nodes were opened and the tree of the problem has more: its nodes are the paths of moves on
-/// which no bound reaches the finish of the first schedule. `Memory` where memory was refused.
+/// which no bound reaches the finish of the first schedule. `Memory` where memory was refused; no clause says how many
+/// nodes were opened before.
 pub fn plan(alloc: Global, problem: &Problem, limit: u32) -> Result<Planned, PlanFault>
     requires some { 1 ≤ limit }
     requires few { limit ≤ 1048576 }

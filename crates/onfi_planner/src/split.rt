@@ -3,7 +3,7 @@
 ghost use Rattle.std.specs.Prelude.{◌≡◌, ℕ, ◌≤◌, IfOk, IfErr};
 ghost use Rattle.onfi_schedule.specs.Schedule.{Optimal, finish};
 ghost use Rattle.onfi_check.specs.Tree.{AcceptsTokens};
-ghost use Rattle.onfi_planner.specs.Nodes.{IsSplitOver, OpensNodes};
+ghost use Rattle.onfi_planner.specs.Nodes.{HasPartsWithin, IsSplitOver, OpensNodes};
 ghost use Rattle.onfi_planner.specs.Planning.{AreRising};
 
 use crate::branches::write_parts;
@@ -18,9 +18,11 @@ use std::alloc::Global;
 use std::thread::Threads;
 
 /// What [`plan`](crate::plan) promises, by `workers` threads, 1 to 8: a part is what stands below a move of the root,
-/// and part i is searched by worker i mod `workers`, with the first schedule as its best and `limit` nodes, 1 to
-/// 1,048,576, of its own. `gate` is told of each part before it is searched. The plan is the same for any number of
-/// workers.
+/// and is searched from the first schedule on, with `limit` nodes, 1 to 1,048,576, of its own.
+///
+/// Parts are dealt to the workers in turn, and `gate` is told of each before it is searched. The plan is the same for
+/// any number of workers. No clause says these three: tests do. Nor does one say how many nodes were opened before
+/// `Memory`.
 ///
 /// # Errors
 /// `Over` with `limit` where a part opened so many nodes and has more; else with how many nodes the parts opened
@@ -43,6 +45,7 @@ pub fn plan_split<R: Threads + Sync, G: PartGate + Sync>(
     ensures rising { IfOk result (λ plan. AreRising plan.schedule.groups) }
     ensures cert { IfOk result (λ plan. AcceptsTokens plan.cert.items problem.now.problem plan.finish) }
     ensures opened { IfOk result (λ plan. OpensNodes problem.now.problem plan.finish plan.opened) }
+    ensures parts { IfOk result (λ plan. HasPartsWithin problem.now.problem plan.finish plan.opened limit) }
     ensures some_opened { IfOk result (λ plan. 1 ≤ plan.opened) }
     ensures within { IfOk result (λ plan. plan.opened ≤ 1048576) }
     ensures over { IfErr result (λ fault. (opened : ℕ) → fault ≡ PlanFault.Over opened → IsSplitOver problem.now.problem limit opened) }

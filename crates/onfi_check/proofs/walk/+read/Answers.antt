@@ -1,4 +1,4 @@
-use Rattle.std.proofs.Common.{◌≡◌, ◌∷◌, List, get_or, refl, sym, ap, ◌∙◌, subst, arith}
+use Rattle.std.proofs.Common.{◌≡◌, ◌∷◌, List, get_or, ◌^◌, refl, sym, ap, ◌∙◌, subst, arith}
 use Rattle.std.proofs.lemmas.Result.{err_from_is_err_and}
 use Rattle.std.specs.List.{AllByRecursion as All}
 use Rattle.onfi_problem.specs.declared.moves.Move.TheVariants.{Next}
@@ -13,6 +13,8 @@ use Rattle.onfi_check.specs.Reading.{Begins, BeginsEach, ReadsChild, RefusesChil
 use Rattle.onfi_check.specs.Ends.{IsAsked}
 use Rattle.onfi_check.proofs.LastEnds.{move_at}
 use Rattle.onfi_check.proofs.Walking.{lun_there, on_ok, yield_taken, yield_refused, child_taken, child_refused, none_left, fewer_left, begun, one_more_child, refused_child, all_children, closing_taken, closing_refused, branch_width, branch_taken, branch_refused}
+use Rattle.onfi_check.specs.Faults.{FaultFits, IsBranch}
+use Rattle.onfi_check.proofs.Placing.{err_behind, err_each, err_here, err_yield, few_on, fits_behind, here, ok_more, read_more, read_none, read_one}
 use Rattle.onfi_check.proofs.walk.+read.Goals as goal
 use Rattle.onfi_bound.proofs.Steps.{all_at}
 
@@ -24,10 +26,10 @@ read_below-returns-in_err-read_tree-clause-err g t c =
 pub read_below-read_tree-requires : goal.read_below-read_tree-requires
 read_below-read_tree-requires g t c κs within =
     let counts = subst (λ (z : Position). AreCommands z.problem c.after-left.result) (sym c.advance-undo.ensures.moved) c.after-left.ensures in
-    (omega (arith, c.decreases), (within, counts))
+    (omega (arith, c.decreases), (within, (counts, (c.requires.few, c.requires.next))))
 
 pub read_child-returns-in_default-clause-err : goal.read_child-returns-in_default-clause-err
-read_child-returns-in_default-clause-err g t c = none_left c.args.problem.now.problem c.args.e (moves_of c.args.problem.now.groups c.args.moves.now) (move_of c.args.problem.now.groups c.args.m) c.args.standing.now (g.S.TokenSource.left c.args.tokens.now.source) c.in_default.ensures.end
+read_child-returns-in_default-clause-err g t c = none_left c.args.problem.now.problem c.args.e (moves_of c.args.problem.now.groups c.args.moves.now) (move_of c.args.problem.now.groups c.args.m) c.args.standing.now (g.S.TokenSource.left c.args.tokens.now.source) c.in_default.ensures.end.0
 
 pub read_child-take_yield-requires-clause-own : goal.read_child-take_yield-requires-clause-own
 read_child-take_yield-requires-clause-own g t c =
@@ -46,6 +48,15 @@ read_child-returns-in-Yield-clause-err g t c =
     yield_refused c.args.problem.now.problem c.args.e (moves_of c.args.problem.now.groups c.args.moves.now) (move_of c.args.problem.now.groups c.args.m) c.args.standing.now (g.S.TokenSource.left c.args.tokens.now.source) (g.S.TokenSource.left c.take.new.self.source) c.lun.result c.in-Yield.lun c.get.result c.in-Some.token c.take_yield.result
     c.in-Yield.is c.get.ensures.value (c.lun.ensures ∙ sym c.requires.named.lun) c.in-Some.ensures.token c.take_yield.ensures.err
 
+pub read_child-returns-in-Yield-clause-read : goal.read_child-returns-in-Yield-clause-read
+read_child-returns-in-Yield-clause-read g t c =
+    on_ok c.take_yield.result (read_one c.args.tokens.now.place c.take.new.self.place (g.S.TokenSource.left c.args.tokens.now.source) (g.S.TokenSource.left c.take.new.self.source) c.in-Some.token c.in-Some.ensures.token c.in-Some.ensures.next)
+
+pub read_child-returns-in-Yield-clause-kind : goal.read_child-returns-in-Yield-clause-kind
+read_child-returns-in-Yield-clause-kind g t c =
+    err_yield c.take_yield.result c.args.standing.now c.lun.result c.get.result c.args.tokens.now.place c.in-Some.place c.in-Yield.lun c.in-Some.token (g.S.TokenSource.left c.args.tokens.now.source) (g.S.TokenSource.left c.take.new.self.source) (g.S.TokenSource.left c.take.new.self.source)
+    c.in-Some.ensures.token c.in-Some.ensures.place c.in-Yield.is c.take_yield.ensures.kind
+
 pub read_child-returns-in_default-token : goal.read_child-returns-in_default-token
 read_child-returns-in_default-token g t c =
     let p = c.args.problem.now.problem in
@@ -57,11 +68,12 @@ read_child-returns-in_default-token g t c =
     record {
       problem = c.read_below.ensures.problem;
       fewer = fewer_left tokens left next c.in-Some.token c.read_below.result c.in-Some.ensures.token c.read_below.ensures.fewer;
+      read = ok_more c.read_below.result c.args.tokens.now.place c.take.new.self.place c.read_below.new.tokens.place tokens left next (read_one c.args.tokens.now.place c.take.new.self.place tokens left c.in-Some.token c.in-Some.ensures.token c.in-Some.ensures.next) c.read_below.ensures.read;
       behind = c.read_below.ensures.behind ∙ c.take.ensures.behind;
       asked = c.requires.asked;
       ok = child_taken p c.args.e all m c.args.standing.now tokens left next c.in-Some.token c.read_below.result c.in-Some.ensures.token c.read_below.ensures.ok;
       err = child_refused p c.args.e all m c.args.standing.now tokens left c.in-Some.token c.read_below.result c.in-Some.ensures.token c.in_default-token.not-Yield c.read_below.ensures.err;
-      kind = c.read_below.ensures.kind;
+      kind = err_here c.read_below.result c.args.tokens.now.place c.in-Some.place c.in-Some.token tokens left next c.in-Some.ensures.token c.in-Some.ensures.place c.read_below.ensures.kind;
     }
 
 pub read_child-returns-in-Trail : goal.read_child-returns-in-Trail
@@ -75,11 +87,12 @@ read_child-returns-in-Trail g t c =
     record {
       problem = on_ok c.read_trail.result refl;
       fewer = fewer_left tokens left left Trail c.read_trail.result first (on_ok c.read_trail.result (omega arith));
+      read = on_ok c.read_trail.result (read_one c.args.tokens.now.place c.take.new.self.place tokens left Trail first c.in-Some.ensures.next);
       behind = c.take.ensures.behind;
       asked = c.requires.asked;
       ok = child_taken p c.args.e all m c.args.standing.now tokens left left Trail c.read_trail.result first (closing_taken (after p m) c.args.e Trail left c.read_trail.result c.read_trail.ensures.ok);
       err = child_refused p c.args.e all m c.args.standing.now tokens left Trail c.read_trail.result first (λ l q. let k : Trail ≡ Yield l = q in cc) (closing_refused (after p m) c.args.e Trail left c.read_trail.result (λ w q. let k : Trail ≡ Branch w = q in cc) c.read_trail.ensures.err);
-      kind = c.read_trail.ensures.kind;
+      kind = err_here c.read_trail.result c.args.tokens.now.place c.in-Some.place Trail tokens left left first c.in-Some.ensures.place (err_each c.read_trail.result c.in-Some.place Trail left left c.read_trail.ensures.kind);
     }
 
 pub read_children-loop-m-init : goal.read_children-loop-m-init
@@ -89,6 +102,7 @@ read_children-loop-m-init g t c =
     record {
       problem = refl;
       fewer = omega arith;
+      read = read_none c.args.tokens.now.place (g.S.TokenSource.left c.args.tokens.now.source);
       behind = refl;
       asked = tt;
       same = λ rest. begun x c.args.e items (g.S.TokenSource.left c.args.tokens.now.source) rest (subst (All (IsNamed x.groups)) (sym c.as_slice-listed.ensures.value) c.requires.named);
@@ -116,7 +130,10 @@ read_children-read_child-requires g t c κs within =
                 subst (λ (z : Position). All (IsMove z.problem) (moves_of z.groups items)) same are.moves_only,
                 (
                   subst (λ (z : Position). All (IsNamed z.groups) items) same named,
-                  subst (λ (z : Position). IsAsked z.problem (moves_of z.groups items) c.loop-m.standing.asked) same c.loop-m.invariant.asked,
+                  (
+                    subst (λ (z : Position). IsAsked z.problem (moves_of z.groups items) c.loop-m.standing.asked) same c.loop-m.invariant.asked,
+                    few_on c.args.tokens.now.place c.loop-m.tokens.place (2 ^ 64) (g.S.TokenSource.left c.args.tokens.now.source) (g.S.TokenSource.left c.loop-m.tokens.source) c.loop-m.invariant.read c.requires.few,
+                  ),
                 ),
               ),
             ),
@@ -136,6 +153,11 @@ read_children-returns-in_err-read_child-clause-err g t c =
     let refuses = subst (λ (z : Position). RefusesChild z.problem c.args.e (moves_of z.groups items) (move_of z.groups (get_or items i (Next 0))) c.loop-m.standing tokens) c.loop-m.invariant.problem c.in_err-read_child.ensures.err in
     rw p.1 (λ rest b. refused_child x c.args.e items i (Next 0) c.loop-m.standing tokens begun rest c.loop-m-test.true refuses (c.loop-m.invariant.same rest) (subst (λ z. BeginsEach x.problem c.args.e (moves_of x.groups z) begun rest) (sym c.as_slice-listed.ensures.value) b))
 
+pub read_children-returns-in_err-read_child-clause-kind : goal.read_children-returns-in_err-read_child-clause-kind
+read_children-returns-in_err-read_child-clause-kind g t c =
+    let p = err_from_is_err_and c.from_residual.result c.from_residual.ensures.1 in
+    rw (p.1, p.2) (fits_behind c.args.tokens.now.place c.loop-m.tokens.place (g.S.TokenSource.left c.args.tokens.now.source) (g.S.TokenSource.left c.loop-m.tokens.source) (g.S.TokenSource.left c.read_child.new.tokens.source) _ c.loop-m.invariant.read c.in_err-read_child.ensures.kind)
+
 pub read_children-loop-m-preserved : goal.read_children-loop-m-preserved
 read_children-loop-m-preserved g t c =
     let x = c.args.problem.now in
@@ -150,6 +172,7 @@ read_children-loop-m-preserved g t c =
     record {
       problem = c.in_ok-read_child.ensures.problem ∙ c.loop-m.invariant.problem;
       fewer = omega arith;
+      read = read_more c.args.tokens.now.place c.loop-m.tokens.place c.read_child.new.tokens.place begun tokens left c.loop-m.invariant.read c.in_ok-read_child.ensures.read;
       behind = c.read_child.ensures.behind ∙ c.loop-m.invariant.behind;
       asked = subst (λ (z : Position). IsAsked z.problem (moves_of z.groups items) c.read_child.new.standing.asked) c.loop-m.invariant.problem c.read_child.ensures.asked;
       same = λ rest. one_more_child x c.args.e items i (Next 0) c.loop-m.standing c.read_child.new.standing tokens left begun rest c.loop-m-test.true reads (c.loop-m.invariant.same rest);
@@ -163,6 +186,9 @@ read_children-returns-clause-ok g t c =
     let begun = g.S.TokenSource.left c.args.tokens.now.source in
     subst (λ z. BeginsEach x.problem c.args.e (moves_of x.groups z) begun left) c.as_slice-listed.ensures.value (all_children x c.args.e items c.loop-m.m-index c.loop-m.standing.awaited c.loop-m.standing.leaving left begun c.loop-m-test.false (c.loop-m.invariant.same left))
 
+pub read_children-returns-clause-read : goal.read_children-returns-clause-read
+read_children-returns-clause-read g t c = c.loop-m.invariant.read
+
 pub read_tree-returns-in-Branch : goal.read_tree-returns-in-Branch
 read_tree-returns-in-Branch g t c =
     let p = c.args.problem.now.problem in
@@ -171,10 +197,11 @@ read_tree-returns-in-Branch g t c =
     record {
       problem = c.read_branch.ensures.problem;
       fewer = c.read_branch.ensures.fewer;
+      read = c.read_branch.ensures.read;
       behind = c.read_branch.ensures.behind;
       ok = subst (λ z. OnOk c.read_branch.result (Begins p c.args.e (z ∷ left) next)) (sym c.in-Branch.is) c.read_branch.ensures.ok;
       err = subst (λ z. IfErr c.read_branch.result (λ _. (rest : List Token) → Begins p c.args.e (z ∷ left) rest → ⊥)) (sym c.in-Branch.is) c.read_branch.ensures.err;
-      kind = c.read_branch.ensures.kind;
+      kind = subst (λ z. IfErr c.read_branch.result (FaultFits c.args.place (z ∷ left) next)) (sym c.in-Branch.is) c.read_branch.ensures.kind;
     }
 
 pub read_tree-returns-in_default : goal.read_tree-returns-in_default
@@ -184,10 +211,11 @@ read_tree-returns-in_default g t c =
     record {
       problem = on_ok c.read_closing.result refl;
       fewer = on_ok c.read_closing.result (omega arith);
+      read = on_ok c.read_closing.result (read_none c.args.tokens.now.place left);
       behind = refl;
       ok = closing_taken p c.args.e c.args.token left c.read_closing.result c.read_closing.ensures.ok;
       err = closing_refused p c.args.e c.args.token left c.read_closing.result c.in_default.not-Branch c.read_closing.ensures.err;
-      kind = c.read_closing.ensures.kind;
+      kind = err_each c.read_closing.result c.args.place c.args.token left left c.read_closing.ensures.kind;
     }
 
 pub read_branch-returns-then-len-get-clause-err : goal.read_branch-returns-then-len-get-clause-err
@@ -211,3 +239,11 @@ read_branch-returns-clause-err g t c =
     let x = c.args.problem.now in
     let left = g.S.TokenSource.left c.args.tokens.now.source in
     branch_refused x c.args.e c.args.width c.list_steps.new.moves (Branch c.args.width) left c.read_children.result c.list_steps.ensures.moves refl c.read_children.ensures.err
+
+pub read_branch-returns-then-len-get-clause-kind : goal.read_branch-returns-then-len-get-clause-kind
+read_branch-returns-then-len-get-clause-kind g t c = here c.args.place (Branch c.args.width) (g.S.TokenSource.left c.args.tokens.now.source) IsBranch (c.args.width, refl)
+
+pub read_branch-returns-clause-kind : goal.read_branch-returns-clause-kind
+read_branch-returns-clause-kind g t c =
+    let left = g.S.TokenSource.left c.args.tokens.now.source in
+    err_behind c.read_children.result c.args.place c.args.tokens.now.place (Branch c.args.width ∷ left) left (g.S.TokenSource.left c.read_children.new.tokens.source) (read_one c.args.place c.args.tokens.now.place (Branch c.args.width ∷ left) left (Branch c.args.width) refl c.requires.next) c.read_children.ensures.kind

@@ -2,7 +2,7 @@ use Rattle.std.proofs.Common.{◌≡◌, ◌+◌, ◌*◌, ◌≤◌, ◌↔◌,
 use Rattle.onfi_problem.specs.Position.{moves_of}
 use Rattle.onfi_cert.specs.declared.token.Token.{Token}
 use Rattle.onfi_check.specs.Ends.{IsAsked}
-use Rattle.onfi_check.specs.Reading.{BeginsEach, BeginsRest}
+use Rattle.onfi_check.specs.Reading.{BeginsEach, BeginsRest, ReadOn}
 use Rattle.onfi_check.proofs.walk.+read.Given as goal
 
 abbrev pub decreases-read_tree : goal.decreases-read_tree
@@ -29,6 +29,7 @@ invariant-read_children-loop-m g l =
     record {
       problem : l.problem ≡ l.fn.problem;
       fewer : length left ≤ length begun;
+      read : ReadOn l.fn.tokens.place l.tokens.place begun left;
       behind : g.S.TokenSource.behind l.tokens.source ≡ g.S.TokenSource.behind l.fn.tokens.source;
       asked : IsAsked p all l.standing.asked;
       same : (rest : List Token) → BeginsRest p l.e (moves_of l.fn.problem.groups (drop l.m-index l.listed)) all l.standing.awaited l.standing.leaving left rest ↔ BeginsEach p l.e all begun rest;

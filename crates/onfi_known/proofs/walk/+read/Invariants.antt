@@ -1,5 +1,6 @@
 use Rattle.std.proofs.Common.{◌≡◌, ◌+◌, ◌*◌, ◌≤◌, length, take}
 use Rattle.onfi_problem.specs.Position.{moves_of}
+use Rattle.onfi_known.specs.Faults.{ReadOn}
 use Rattle.onfi_known.specs.Proves.{Children}
 use Rattle.onfi_known.specs.declared.token.TheConstants.{MOST_KNOWN}
 use Rattle.onfi_known.proofs.walk.+read.Given as goal
@@ -28,6 +29,7 @@ invariant-read_children-loop-m g l =
     record {
       problem : l.problem ≡ l.fn.problem;
       fewer : length left ≤ length begun;
+      read : ReadOn l.fn.tokens.place l.tokens.place begun left;
       behind : g.S.TokenSource.behind l.tokens.source ≡ g.S.TokenSource.behind l.fn.tokens.source;
       few : length l.fn.known.items ≤ MOST_KNOWN → length l.known.items ≤ MOST_KNOWN;
       room : length l.standing.given.items ≤ l.m-index;

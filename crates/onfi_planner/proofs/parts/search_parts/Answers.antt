@@ -6,7 +6,7 @@ use Rattle.onfi_problem.specs.Starts.{IsNamed}
 use Rattle.onfi_problem.proofs.Perm.{All-has}
 use Rattle.onfi_planner.specs.Planning.{run_of}
 use Rattle.onfi_planner.proofs.Halfway.{closed_by, open_node, steps_same}
-use Rattle.onfi_planner.proofs.Splitting.{closed_found, closed_opens, moves_each, parts_all, parts_few, found_length, found_within, part_over, split_made, split_found, split_opens, split_over}
+use Rattle.onfi_planner.proofs.Splitting.{closed_found, closed_opens, closed_parts, moves_each, parts_all, parts_few, found_length, found_within, part_over, split_made, split_found, split_opens, split_over, split_parts}
 use Rattle.onfi_planner.proofs.parts.search_parts.Goals as goal
 
 pub returns-then-is_some-clause-found : goal.returns-then-is_some-clause-found
@@ -18,6 +18,11 @@ pub returns-then-is_some-clause-opened : goal.returns-then-is_some-clause-opened
 returns-then-is_some-clause-opened g c =
     let x = c.args.root.now.problem in
     closed_opens x c.args.root.now c.requires.root (closed_by x.problem c.args.root.now.best.finish c.closing_token.result c.if-is_some.ensures c.closing_token.ensures)
+
+pub returns-then-is_some-clause-parts : goal.returns-then-is_some-clause-parts
+returns-then-is_some-clause-parts g c =
+    let x = c.args.root.now.problem in
+    closed_parts x c.args.root.now c.args.limit (closed_by x.problem c.args.root.now.best.finish c.closing_token.result c.if-is_some.ensures c.closing_token.ensures)
 
 pub search_each-requires-clause-moves : goal.search_each-requires-clause-moves
 search_each-requires-clause-moves g c = λ _ _.
@@ -101,3 +106,15 @@ returns-clause-opened g c =
     let split = split_made x c.args.root.now items c.steps-moves.result c.as_slice-2.result.now c.in-Ok.parts.items yields c.args.limit found c.requires.root c.as_slice.ensures.value c.steps-moves.ensures.moves c.steps-moves.ensures.named ay opens c.as_slice-2.ensures.value parts c.in-Ok-search_each.ensures.found in
     let best = c.first_best-opened.ensures in
     split_opens x items yields first.finish c.args.limit c.first_best-opened.new.best.finish c.first_best-opened.result (run_of x.groups first.steps.items) found split best.least best.opened
+
+pub returns-clause-parts : goal.returns-clause-parts
+returns-clause-parts g c =
+    let x = c.args.root.now.problem in
+    let items = c.as_slice.result.now in
+    let (yields, ay, parts) = c.in-Ok.ensures in
+    let first = c.args.root.now.best in
+    let found = c.in-Ok-search_each.found.items in
+    let opens = open_node x first.finish c.closing_token.result _ (sym c.if-is_some.ensures) c.closing_token.ensures in
+    let split = split_made x c.args.root.now items c.steps-moves.result c.as_slice-2.result.now c.in-Ok.parts.items yields c.args.limit found c.requires.root c.as_slice.ensures.value c.steps-moves.ensures.moves c.steps-moves.ensures.named ay opens c.as_slice-2.ensures.value parts c.in-Ok-search_each.ensures.found in
+    let best = c.first_best-opened.ensures in
+    split_parts x items yields first.finish c.args.limit c.first_best-opened.new.best.finish c.first_best-opened.result (run_of x.groups first.steps.items) found split best.least best.opened

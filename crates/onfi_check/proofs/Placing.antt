@@ -1,0 +1,138 @@
+-- Where the tokens stand of which a fault tells.
+use Rattle.std.proofs.Common.{◌≡◌, ◌≢◌, ℕ, ◌+◌, ◌<◌, ◌^◌, inl, inr, List, [], ◌∷◌, ◌++◌, length, refl, sym, ap, ◌∙◌, subst, arith, append_assoc, length-append}
+use Rattle.std.specs.Prelude.{Result, Ok, Err, OnOk, IfErr}
+use Rattle.onfi_problem.specs.Problem.{Problem}
+use Rattle.onfi_cert.specs.declared.token.Token.{Token}
+use Rattle.onfi_cert.specs.declared.token.Token.TheVariants.{Branch, Bus, Lead, Trail, Die, Yield, End}
+use Rattle.onfi_check.specs.declared.fault.CertFault.{CertFault}
+use Rattle.onfi_check.specs.declared.fault.CertFault.TheVariants.{Illegal, Short, Trailing, Width, BoundLow, YieldNoFit, YieldLoop, NotEnd, Memory}
+use Rattle.onfi_check.specs.declared.yields.Standing.{Standing}
+use Rattle.onfi_check.specs.Tree.{preorder}
+use Rattle.onfi_check.specs.Reading.{Begins, ReadOn}
+use Rattle.onfi_check.proofs.OneList.{nothing_begins}
+use Rattle.onfi_check.specs.Faults.{FaultFits, IsAt, IsBound, IsTokenFault, IsToYield, IsTrailing, IsYieldFault, NoTree}
+
+-- no token was read
+pub read_none : (first : ℕ) (tokens : List Token) → ReadOn first first tokens tokens
+read_none first tokens = record { taken = []; tokens_are = refl; next_is = omega arith }
+
+-- .. and one
+pub read_one : (first next : ℕ) (tokens left : List Token) (token : Token) → tokens ≡ token ∷ left → next ≡ first + 1 → ReadOn first next tokens left
+read_one first next tokens left token t n = record { taken = token ∷ []; tokens_are = t; next_is = n }
+
+-- .. and some behind these
+pub read_more : (first next last : ℕ) (tokens left rest : List Token) → ReadOn first next tokens left → ReadOn next last left rest → ReadOn first last tokens rest
+read_more first next last tokens left rest a b =
+    let long = length-append a.taken b.taken in
+    let m = a.next_is in
+    let n = b.next_is in
+    record { taken = a.taken ++ b.taken; tokens_are = a.tokens_are ∙ (ap (λ z. a.taken ++ z) b.tokens_are ∙ sym (append_assoc a.taken b.taken rest)); next_is = omega arith }
+
+-- places stay small
+pub few_on : (first next limit : ℕ) (tokens left : List Token) → ReadOn first next tokens left → first + length tokens < limit → next + length left < limit
+few_on first next limit tokens left r few =
+    let long = ap length r.tokens_are ∙ length-append r.taken left in
+    let n = r.next_is in
+    omega arith
+
+pub here : (place : ℕ) (token : Token) (behind : List Token) (Such : Token → Type 0) → Such token → IsAt place place (token ∷ behind) Such
+here place token behind Such such = record { before = []; token = token; behind = behind; tokens_are = refl; place_is = omega arith; such = such }
+
+-- no other tokens are left but those of bounds
+pub bound_of : (token : Token) → ((width : ℕ) → token ≢ Branch width) → ((lun : ℕ) → token ≢ Yield lun) → token ≢ End → IsBound token
+bound_of (Branch width) nb ny ne = absurd (nb width refl)
+bound_of Bus nb ny ne = inl refl
+bound_of Lead nb ny ne = inr (inl refl)
+bound_of Trail nb ny ne = inr (inr (inl refl))
+bound_of (Die lun) nb ny ne = inr (inr (inr (lun, refl)))
+bound_of (Yield lun) nb ny ne = absurd (ny lun refl)
+bound_of End nb ny ne = absurd (ne refl)
+
+pub ok_more : {A : Type 0} (result : Result A CertFault) (first next last : ℕ) (tokens left rest : List Token) → ReadOn first next tokens left → OnOk result (ReadOn next last left rest) → OnOk result (ReadOn first last tokens rest)
+ok_more (Ok x) first next last tokens left rest a b = read_more first next last tokens left rest a b
+ok_more (Err f) first next last tokens left rest a b = tt
+
+at_behind : (first next place : ℕ) (tokens left : List Token) (Such : Token → Type 0) → ReadOn first next tokens left → IsAt next place left Such → IsAt first place tokens Such
+at_behind first next place tokens left Such r a =
+    let long = length-append r.taken a.before in
+    let n = r.next_is in
+    let m = a.place_is in
+    record {
+      before = r.taken ++ a.before;
+      token = a.token;
+      behind = a.behind;
+      tokens_are = r.tokens_are ∙ (ap (λ z. r.taken ++ z) a.tokens_are ∙ sym (append_assoc r.taken a.before (a.token ∷ a.behind)));
+      place_is = omega arith;
+      such = a.such;
+    }
+
+-- what fits the tokens behind some fits the whole
+pub fits_behind : (first next : ℕ) (tokens left rest : List Token) (f : CertFault) → ReadOn first next tokens left → FaultFits next left rest f → FaultFits first tokens rest f
+fits_behind first next tokens left rest Illegal r h = h
+fits_behind first next tokens left rest Short r h = h
+fits_behind first next tokens left rest (Trailing place) r h = h
+fits_behind first next tokens left rest (Width place) r h = at_behind first next place tokens left _ r h
+fits_behind first next tokens left rest (BoundLow place) r h = at_behind first next place tokens left _ r h
+fits_behind first next tokens left rest (YieldNoFit place) r h = at_behind first next place tokens left _ r h
+fits_behind first next tokens left rest (YieldLoop place) r h = at_behind first next place tokens left _ r h
+fits_behind first next tokens left rest (NotEnd place) r h = at_behind first next place tokens left _ r h
+fits_behind first next tokens left rest Memory r h = h
+
+pub err_behind : {A : Type 0} (result : Result A CertFault) (first next : ℕ) (tokens left rest : List Token) → ReadOn first next tokens left → IfErr result (FaultFits next left rest) → IfErr result (FaultFits first tokens rest)
+err_behind (Ok x) first next tokens left rest r h = tt
+err_behind (Err f) first next tokens left rest r h = fits_behind first next tokens left rest f r h
+
+-- why a yield isn't taken, told at its place
+pub yield_fits : (standing : Standing) (j l place told lun : ℕ) (token : Token) (behind left : List Token) (f : CertFault) → told ≡ place → token ≡ Yield lun → IsYieldFault standing j l told f → FaultFits place (token ∷ behind) left f
+yield_fits standing j l place told lun token behind left Illegal n t h = h
+yield_fits standing j l place told lun token behind left Short n t h = absurd h
+yield_fits standing j l place told lun token behind left (Trailing at) n t h = h
+yield_fits standing j l place told lun token behind left (Width at) n t h = absurd h
+yield_fits standing j l place told lun token behind left (BoundLow at) n t h = absurd h
+yield_fits standing j l place told lun token behind left (YieldNoFit at) n t h = subst (λ z. IsAt place z (token ∷ behind) IsToYield) (sym (h.0 ∙ n)) (here place token behind IsToYield (lun, t))
+yield_fits standing j l place told lun token behind left (YieldLoop at) n t h = subst (λ z. IsAt place z (token ∷ behind) IsToYield) (sym (h.0 ∙ n)) (here place token behind IsToYield (lun, t))
+yield_fits standing j l place told lun token behind left (NotEnd at) n t h = absurd h
+yield_fits standing j l place told lun token behind left Memory n t h = h
+
+pub err_yield : {A : Type 0} (result : Result A CertFault) (standing : Standing) (j l place told lun : ℕ) (token : Token) (tokens behind left : List Token) → tokens ≡ token ∷ behind → told ≡ place → token ≡ Yield lun → IfErr result (IsYieldFault standing j l told) → IfErr result (FaultFits place tokens left)
+err_yield (Ok x) standing j l place told lun token tokens behind left ts n t h = tt
+err_yield (Err f) standing j l place told lun token tokens behind left ts n t h = subst (λ z. FaultFits place z left f) (sym ts) (yield_fits standing j l place told lun token behind left f n t h)
+
+pub err_here : {A : Type 0} (result : Result A CertFault) (place told : ℕ) (token : Token) (tokens behind left : List Token) → tokens ≡ token ∷ behind → told ≡ place → IfErr result (FaultFits told (token ∷ behind) left) → IfErr result (FaultFits place tokens left)
+err_here (Ok x) place told token tokens behind left ts n h = tt
+err_here (Err f) place told token tokens behind left ts n h = subst (λ z. FaultFits place z left f) (sym ts) (subst (λ z. FaultFits z (token ∷ behind) left f) n h)
+
+pub err_each : {A : Type 0} (result : Result A CertFault) (place : ℕ) (token : Token) (behind left : List Token) → IfErr result (λ fault. (behind left : List Token) → FaultFits place (token ∷ behind) left fault) → IfErr result (FaultFits place (token ∷ behind) left)
+err_each (Ok x) place token behind left h = tt
+err_each (Err f) place token behind left h = h behind left
+
+-- the whole
+pub no_tree : (p : Problem) (e : ℕ) (tokens : List Token) → ((rest : List Token) → Begins p e tokens rest → ⊥) → NoTree p e tokens
+no_tree p e tokens none tree rest accepted t = none rest (tree, t, accepted)
+
+pub nothing_front : (p : Problem) (e : ℕ) (tokens : List Token) → tokens ≡ [] → NoTree p e tokens
+nothing_front p e tokens n = no_tree p e tokens (λ rest b. nothing_begins p e rest (subst (λ z. Begins p e z rest) n b))
+
+pub no_tree_behind : (p : Problem) (e : ℕ) (tokens left : List Token) (token : Token) → tokens ≡ token ∷ left → ((rest : List Token) → Begins p e (token ∷ left) rest → ⊥) → NoTree p e tokens
+no_tree_behind p e tokens left token t none = no_tree p e tokens (λ rest b. none rest (subst (λ z. Begins p e z rest) t b))
+
+pub fits_whole : (place : ℕ) (tokens left rest : List Token) (token : Token) (f : CertFault) → tokens ≡ token ∷ left → place ≡ 0 → FaultFits place (token ∷ left) rest f → FaultFits 0 tokens rest f
+fits_whole place tokens left rest token f t n h = subst (λ z. FaultFits 0 z rest f) (sym t) (subst (λ z. FaultFits z (token ∷ left) rest f) n h)
+
+pub fault_of : (p : Problem) (e : ℕ) (tokens left : List Token) (f : CertFault) → NoTree p e tokens → FaultFits 0 tokens left f → IsTokenFault p e tokens left f
+fault_of p e tokens left Illegal none h = (none, h)
+fault_of p e tokens left Short none h = (none, h)
+fault_of p e tokens left (Trailing place) none h = absurd h
+fault_of p e tokens left (Width place) none h = (none, h)
+fault_of p e tokens left (BoundLow place) none h = (none, h)
+fault_of p e tokens left (YieldNoFit place) none h = (none, h)
+fault_of p e tokens left (YieldLoop place) none h = (none, h)
+fault_of p e tokens left (NotEnd place) none h = (none, h)
+fault_of p e tokens left Memory none h = (none, h)
+
+pub trailing_at : (p : Problem) (e first next place : ℕ) (tokens begun left more : List Token) (token last : Token) → first ≡ 1 → tokens ≡ token ∷ begun → ReadOn first next begun left → left ≡ last ∷ more → place ≡ next → Begins p e tokens left → IsTrailing p e tokens place
+trailing_at p e first next place tokens begun left more token last f t r l q (tree, s, accepted) =
+    let a = ap length (sym t ∙ s) ∙ length-append (preorder tree) left in
+    let b = ap length r.tokens_are ∙ length-append r.taken left in
+    let n = r.next_is in
+    record { tree = tree; accepted = accepted; token = last; behind = more; tokens_are = s ∙ ap (λ z. preorder tree ++ z) l; place_is = omega arith }
