@@ -2,3 +2,5 @@ mod Answering
 mod Few
 mod Judging
 mod Mapped
+mod Recalled
+mod Unplanned

@@ -7,6 +7,8 @@ use Rattle.onfi_cert.specs.Text.{text_of}
 use Rattle.onfi_check.specs.Tree.{AcceptsTokens}
 use Rattle.onfi_planner.specs.Nodes.{HasMoreNodes, OpensNodes}
 use Rattle.onfi_planner.specs.Planning.{AreRising}
+use Rattle.onfi_recall.specs.Text.{HasNodesIn, last_opened}
+use Rattle.onfi_recall.specs.Walks.{EndsSooner, HasSoMany}
 use Rattle.onfi_script.specs.Answer.{IsKnown}
 use Rattle.onfi_c.specs.declared.channel.PlainChannel.{PlainChannel}
 use Rattle.onfi_c.specs.declared.lun.PlainWant.{PlainWant}
@@ -34,12 +36,18 @@ pub record IsPlan (p : Problem) (limit : ℕ) (plan : PlainPlan) (text : List �
   pub written : plan ≡ written_plan schedule (finish p schedule) plan.opened
   pub certificate : text ≡ text_of p.rules.strict tokens
 
--- the same with the text of a certificate that remembers states
+-- the same with the text of a certificate that remembers states; where no walk but the first one opened a node, the text
+-- has as many nodes as are told
 pub record IsRecalled (p : Problem) (limit : ℕ) (plan : PlainPlan) (text : List ℕ) : Type 0 where
   pub schedule : Schedule
   pub known : IsKnown p schedule text
   pub rising : AreRising schedule.groups
+  pub some : 1 ≤ plan.opened
   pub within : plan.opened ≤ limit
+  pub nodes : HasSoMany p plan.opened
+  pub reopened : ℕ
+  pub counted : HasNodesIn p text (last_opened plan.opened reopened)
+  pub again : 1 ≤ reopened → EndsSooner p (finish p schedule)
   pub written : plan ≡ written_plan schedule (finish p schedule) plan.opened
 
 -- by a search that remembers states, or by one that doesn't

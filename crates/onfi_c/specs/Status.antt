@@ -1,5 +1,7 @@
 -- What calls tell by numbers.
 use Rattle.std.specs.Prelude.{ℕ, List, codes}
+use Rattle.onfi_planner.specs.declared.fault.PlanFault.{PlanFault}
+use Rattle.onfi_planner.specs.declared.fault.PlanFault.TheVariants.{Over as SearchOver, Memory as SearchMemory}
 use Rattle.onfi_timing.specs.declared.spans.SpanFault.{SpanFault}
 use Rattle.onfi_timing.specs.declared.spans.SpanFault.TheVariants.{Zero as ZeroLength, TooLong}
 use Rattle.onfi_c.specs.declared.status.Status.{Status}
@@ -109,3 +111,7 @@ text_of TooManyNodes = codes "more than 1,048,576 open nodes"
 abbrev pub spans_status : SpanFault → Status
 spans_status ZeroLength = ZeroSpan
 spans_status TooLong = LongSpan
+
+abbrev pub plan_status : PlanFault → Status
+plan_status (SearchOver opened) = Over
+plan_status SearchMemory = Memory

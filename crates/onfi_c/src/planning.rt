@@ -13,7 +13,7 @@ use crate::status::Status;
 use crate::told::Told;
 use crate::written;
 use onfi_cert::write;
-use onfi_planner::{PlanFault, Planned, plan};
+use onfi_planner::{Planned, plan};
 use onfi_problem::Problem;
 use std::alloc::{AllocError, Global};
 
@@ -39,8 +39,7 @@ fn tell(alloc: Global, problem: &Problem, limit: u32) -> Result<Told, Status>
 {
     let planned = match plan(alloc, problem, limit) {
         Ok(planned) => planned,
-        Err(PlanFault::Over { .. }) => return Err(Status::Over),
-        Err(PlanFault::Memory) => return Err(Status::Memory),
+        Err(fault) => return Err(Status::of_plan(fault)),
     };
     let Ok(text) = certificate(alloc, problem.rules().strict, &planned) else {
         return Err(Status::Memory);

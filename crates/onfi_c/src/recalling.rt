@@ -5,7 +5,6 @@ ghost use Rattle.onfi_c.specs.Planned.{IsRecalled, IsUnplanned};
 use crate::status::Status;
 use crate::told::Told;
 use crate::written;
-use onfi_planner::PlanFault;
 use onfi_problem::Problem;
 use onfi_recall::plan_known;
 use std::alloc::Global;
@@ -20,8 +19,7 @@ pub fn tell_known(alloc: Global, problem: &Problem, limit: u32) -> Result<Told, 
 {
     let planned = match plan_known(alloc, problem, limit) {
         Ok(planned) => planned,
-        Err(PlanFault::Over { .. }) => return Err(Status::Over),
-        Err(PlanFault::Memory) => return Err(Status::Memory),
+        Err(fault) => return Err(Status::of_plan(fault)),
     };
     let (finish, opened) = (planned.finish, planned.opened);
     let Ok(plan) = written::plan(alloc, problem, &planned.schedule, finish, opened) else {

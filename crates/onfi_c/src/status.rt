@@ -1,7 +1,8 @@
 //! What a call tells.
 ghost use Rattle.std.specs.Prelude.{◌≡◌};
-ghost use Rattle.onfi_c.specs.Status.{number_of, spans_status, text_of};
+ghost use Rattle.onfi_c.specs.Status.{number_of, plan_status, spans_status, text_of};
 
+use onfi_planner::PlanFault;
 use onfi_timing::SpanFault;
 
 /// What a call tells by a number, what scripts are answered with apart.
@@ -279,6 +280,16 @@ impl Status {
         match fault {
             SpanFault::Zero => Status::ZeroSpan,
             SpanFault::TooLong => Status::LongSpan,
+        }
+    }
+
+    /// What tells why there is no plan.
+    pub fn of_plan(fault: PlanFault) -> Status
+        ensures { result ≡ plan_status fault }
+    {
+        match fault {
+            PlanFault::Over { .. } => Status::Over,
+            PlanFault::Memory => Status::Memory,
         }
     }
 }

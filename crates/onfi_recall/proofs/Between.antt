@@ -28,6 +28,7 @@ use Rattle.onfi_planner.proofs.Paths.{Among, among_none, among_more, among_skip,
 use Rattle.onfi_recall.specs.declared.notes.Notes.{Notes}
 use Rattle.onfi_recall.specs.declared.standing.Standing.{Standing}
 use Rattle.onfi_recall.specs.declared.yields.Soonest.{Soonest}
+use Rattle.onfi_recall.specs.Text.{nodes_in}
 use Rattle.onfi_recall.specs.Walks.{AreMore, Awaits, Growing, Halfway, HasWritten, IsAt, IsRunOf, IsSoonest, Visited}
 use Rattle.onfi_recall.proofs.Waiting.{yields_here, yields_same}
 
@@ -82,6 +83,7 @@ at_start x moves soonest first before notes standing width is_open is begun coun
       growing = λ e. record {
         tree = [];
         given = [];
+        nodes = omega arith;
         tokens = tokens e ∙ ap (λ n. before.cert.tokens.items ++ Branch n ∷ []) wide;
         in_range = tt;
         children = λ rest. subst (λ k. Children before.cert.finish x.all x.problem moves [] before.records.nodes.items rest standing.asked [] k rest) (sym known) (none x.problem moves before.records.nodes.items rest standing.asked asked);
@@ -103,6 +105,11 @@ still_at x moves firsts soonest first best before notes standing loads at h =
     let i = h.more in
     record { tree = at.tree; finish = omega arith; within = h.within; most = omega arith; few = omega arith }
 
+-- the nodes of tokens behind one another
+nodes_more : (ts more : List Token) → nodes_in (ts ++ more) ≡ nodes_in ts + nodes_in more
+nodes_more [] more = omega arith
+nodes_more (t ∷ ts) more = let n = nodes_more ts more in omega arith
+
 -- tokens and children behind one more
 grown_tokens : (began now next : List Token) (b : Token) (ts more : List Token) → now ≡ began ++ b ∷ ts → next ≡ now ++ more → next ≡ began ++ b ∷ (ts ++ more)
 grown_tokens began now next b ts more e q = q ∙ (ap (λ z. z ++ more) e ∙ append_assoc began (b ∷ ts) more)
@@ -110,9 +117,9 @@ grown_tokens began now next b ts more e q = q ∙ (ap (λ z. z ++ more) e ∙ ap
 module _ (x : Position) (moves firsts : List Move) (soonest : Soonest) (first best : Best) (before notes : Notes) (standing : Standing) (h : Halfway x moves firsts soonest first best before notes standing) where
   -- the next move yields
   grown_yield : (m : Move) (own : ℕ) (notes' : Notes) (standing' : Standing) → own ≡ move_lun m → own < 8 → soonest.lun < 8 → Awaits x.problem soonest own
-      → notes'.records.nodes.items ≡ notes.records.nodes.items → notes'.cert.tokens.items ≡ notes.cert.tokens.items ++ Yield soonest.lun ∷ []
+      → notes'.opened ≡ notes.opened → notes'.records.nodes.items ≡ notes.records.nodes.items → notes'.cert.tokens.items ≡ notes.cert.tokens.items ++ Yield soonest.lun ∷ []
       → standing'.asked ≡ standing.asked → slice_index_or standing'.yielded own false ≡ true → ((other : ℕ) → other ≢ own → slice_index_or standing'.yielded other false ≡ slice_index_or standing.yielded other false) → Growing before.cert.finish x moves firsts soonest before notes standing → Growing before.cert.finish x moves (firsts ++ m ∷ []) soonest before notes' standing'
-  grown_yield m own notes' standing' of few few' awaits known written asked here others g =
+  grown_yield m own notes' standing' of few few' awaits opened known written asked here others g =
       let y : Given = record { own = own; lun = soonest.lun; longest = soonest.end - may_go x.problem soonest.lun } in
       let more = Yield soonest.lun ∷ [] in
       let may : MayYield x.problem moves g.given m y = record {
@@ -128,6 +135,7 @@ module _ (x : Position) (moves firsts : List Move) (soonest : Soonest) (first be
       record {
         tree = g.tree ++ more;
         given = g.given ++ y ∷ [];
+        nodes = let n = g.nodes in let sum = nodes_more g.tree more in omega arith;
         tokens = grown_tokens before.cert.tokens.items notes.cert.tokens.items notes'.cert.tokens.items (Branch (length moves)) g.tree more g.tokens written;
         in_range = All-append InRange g.tree more g.in_range (few', tt);
         children = λ rest.
@@ -171,12 +179,12 @@ module _ (x : Position) (moves firsts : List Move) (soonest : Soonest) (first be
         few = omega arith;
         same_finish = finish ∙ h.same_finish;
         same_limit = limit ∙ h.same_limit;
-        growing = λ e. grown_yield m own notes' standing' of few few' awaits known (written (e ∙ sym h.same_finish)) asked here others (h.growing e);
+        growing = λ e. grown_yield m own notes' standing' of few few' awaits opened known (written (e ∙ sym h.same_finish)) asked here others (h.growing e);
       }
 
   -- the node behind the next move was walked over
   grown_child : (step : KeptMove) (best' : Best) (notes' : Notes) (standing' : Standing) (improved : Bool) (v : Visited x step best best' notes notes' standing.asked standing'.asked improved)
-      → HasWritten before.cert.finish (moved x step) notes notes' v.demand
+      → HasWritten before.cert.finish (moved x step) notes.opened notes notes' v.demand
       → standing'.yielded ≡ standing.yielded → Growing before.cert.finish x moves firsts soonest before notes standing → Growing before.cert.finish x moves (firsts ++ move_of x.groups step ∷ []) soonest before notes' standing'
   grown_child step best' notes' standing' improved v w same g =
       let m = move_of x.groups step in
@@ -184,6 +192,7 @@ module _ (x : Position) (moves firsts : List Move) (soonest : Soonest) (first be
       record {
         tree = g.tree ++ more;
         given = g.given;
+        nodes = let n = g.nodes in let k = w.nodes in let sum = nodes_more g.tree more in omega arith;
         tokens = grown_tokens before.cert.tokens.items notes.cert.tokens.items notes'.cert.tokens.items (Branch (length moves)) g.tree more g.tokens w.tokens;
         in_range = All-append InRange g.tree more g.in_range w.in_range;
         children = λ rest.
@@ -238,7 +247,7 @@ module _ (x : Position) (moves firsts : List Move) (soonest : Soonest) (first be
         growing = λ e.
             let was : best.finish ≡ before.cert.finish = omega arith in
             let w = v.written (e ∙ sym h.same_finish) in
-            grown_child step best' notes' standing' improved v (subst (λ z. HasWritten z (moved x step) notes notes' v.demand) h.same_finish w) same (h.growing was);
+            grown_child step best' notes' standing' improved v (subst (λ z. HasWritten z (moved x step) notes.opened notes notes' v.demand) h.same_finish w) same (h.growing was);
       }
 
   -- the search is given up behind the next move

@@ -61,6 +61,7 @@ closed_shown x best before behind closing c room count limit known finish tokens
       opened = record { more = omega arith; within = omega arith; nodes = one_more x.problem best.finish behind.opened before.opened count; few = omega arith; same_finish = finish; same_limit = limit };
       written = λ e. record {
         tree = closing.token ∷ [];
+        nodes = let one = c.node in omega arith;
         tokens = tokens e;
         in_range = (c.in_range, tt);
         proves = λ rest. subst (λ k. Proves before.cert.finish x.all x.problem before.records.nodes.items (closing.token ∷ rest) closing.demand k rest) (sym known) (subst (λ z. Proves z x.all x.problem before.records.nodes.items (closing.token ∷ rest) closing.demand before.records.nodes.items rest) e (c.proves rest));
@@ -126,6 +127,7 @@ node_shown x moves soonest first best before notes behind standing raised limits
           let same : IsKept d (times_of r.node) = record { bus = refl; luns = λ l k. ap (λ z. slice_index z l) (sym r.times_are) } in
           record {
             tree = Branch (length moves) ∷ g.tree;
+            nodes = let n = g.nodes in omega arith;
             tokens = ap (λ z. z.tokens.items) cert ∙ g.tokens;
             in_range = ((some, omega arith), g.in_range);
             proves = λ rest. subst (λ k. Proves before.cert.finish x.all x.problem before.records.nodes.items (Branch (length moves) ∷ (g.tree ++ rest)) d k rest) (sym r.grown)
@@ -144,7 +146,7 @@ counted_shown x old new before behind phases shown s =
       found = s.found;
       met = s.met;
       opened = record { more = omega arith; within = o.within; nodes = subst (λ k. AreMore x.problem old.finish (behind.opened - k)) n o.nodes; few = omega arith; same_finish = o.same_finish; same_limit = o.same_limit };
-      written = λ e. let w = s.written e in record { tree = w.tree; tokens = w.tokens; in_range = w.in_range; proves = w.proves };
+      written = λ e. let w = s.written e in record { tree = w.tree; nodes = let c = w.nodes in omega arith; tokens = w.tokens; in_range = w.in_range; proves = w.proves };
     }
 
 pub counted_over : (p : Problem) (finish limit began : ℕ) → AreMore p finish (limit - (began + 1 - 1) + 1) → AreMore p finish (limit - began + 1)

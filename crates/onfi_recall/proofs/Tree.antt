@@ -13,7 +13,7 @@ use Rattle.onfi_schedule.specs.Runs.{schedule_of}
 use Rattle.onfi_schedule.proofs.RunLegal.{run_legal}
 use Rattle.onfi_known.specs.declared.token.Token.{Token}
 use Rattle.onfi_known.specs.Proves.{Proves, ProvesTokens}
-use Rattle.onfi_known.specs.Text.{InRange, header, line}
+use Rattle.onfi_known.specs.Text.{InRange, IsCertificate, header, line}
 use Rattle.onfi_known.proofs.Sound.{proved_is_optimal}
 use Rattle.onfi_known.proofs.Views.{Begin, by_closing, by_again, by_opening, begin_of}
 use Rattle.onfi_planner.specs.Planning.{run_of, AreRising, IsRoot}
@@ -29,7 +29,7 @@ use Rattle.onfi_bound.specs.Loads.{AreLoads}
 use Rattle.onfi_bound.specs.declared.loads.Loads.{Loads}
 use Rattle.onfi_recall.specs.declared.notes.Notes.{Notes}
 use Rattle.onfi_recall.specs.declared.search.Shown.{Shown}
-use Rattle.onfi_recall.specs.Text.{ProvesText}
+use Rattle.onfi_recall.specs.Text.{ProvesText, nodes_in}
 use Rattle.onfi_recall.specs.Walks.{AreMore, HasSoMany, IsAt, IsBegun, IsBetter, IsFound, IsProved, IsRunOf, IsShown, IsTree}
 
 pub still_better : (x : Position) (old new : Best) (improved : Bool) → IsFound x old new improved → IsBetter x old new
@@ -65,14 +65,27 @@ walk_fallen a b c e q = elim (cases_lt a b) [
   | inr k ↦ absurd (false≢true (sym (le-ltb a b k) ∙ q))
 ]
 
-pub walk_stands : (x : Position) (old new : Best) (before behind : Notes) (shown : Shown) → IsShown x old new before.opened before behind shown → before.opened ≡ 0 → before.limit ≤ 1048576 → before.records.nodes.items ≡ [] → before.cert.tokens.items ≡ [] → before.cert.finish ≡ old.finish → nat_lt new.finish behind.cert.finish ≡ false → IsProved x behind.cert.tokens.items new.finish
-walk_stands x old new before behind shown s zero limit known none begun q =
+-- it ends when it did
+still_ends : (x : Position) (old new : Best) (before behind : Notes) (shown : Shown) → IsShown x old new before.opened before behind shown → before.cert.finish ≡ old.finish → nat_lt new.finish behind.cert.finish ≡ false → new.finish ≡ before.cert.finish
+still_ends x old new before behind shown s begun q =
     let a = s.found.sooner in
     let b = s.opened.same_finish in
     elim (cases_lt new.finish behind.cert.finish) [
       | inl k ↦ absurd (false≢true (sym q ∙ lt-ltb new.finish behind.cert.finish k))
-      | inr k ↦ walk_proved x old new before behind shown s zero limit known none (omega arith)
+      | inr k ↦ omega arith
     ]
+
+pub walk_stands : (x : Position) (old new : Best) (before behind : Notes) (shown : Shown) → IsShown x old new before.opened before behind shown → before.opened ≡ 0 → before.limit ≤ 1048576 → before.records.nodes.items ≡ [] → before.cert.tokens.items ≡ [] → before.cert.finish ≡ old.finish → nat_lt new.finish behind.cert.finish ≡ false → IsProved x behind.cert.tokens.items new.finish
+walk_stands x old new before behind shown s zero limit known none begun q = walk_proved x old new before behind shown s zero limit known none (still_ends x old new before behind shown s begun q)
+
+-- its tokens have the nodes that it opened
+pub walk_counts : (x : Position) (old new : Best) (before behind : Notes) (shown : Shown) → IsShown x old new before.opened before behind shown → before.opened ≡ 0 → before.cert.tokens.items ≡ [] → before.cert.finish ≡ old.finish → nat_lt new.finish behind.cert.finish ≡ false → nodes_in behind.cert.tokens.items ≡ behind.opened
+walk_counts x old new before behind shown s zero none begun q =
+    let w = s.written (still_ends x old new before behind shown s begun q) in
+    let tokens : behind.cert.tokens.items ≡ w.tree = w.tokens ∙ ap (λ z. z ++ w.tree) none in
+    let same = ap nodes_in tokens in
+    let n = w.nodes in
+    omega arith
 
 -- accepted tokens are some
 some_begin : (e : ℕ) (x : Position) (tokens : List Token) (d : _) (behind : _) → Begin e x.all x.problem [] tokens d behind [] → 1 ≤ length tokens
@@ -80,10 +93,13 @@ some_begin e x tokens d behind (by_closing token is c k g) = let l = ap length i
 some_begin e x tokens d behind (by_again number is a g) = let l = ap length is in omega arith
 some_begin e x tokens d behind (by_opening o) = let l = ap length o.tokens_are in omega arith
 
-pub text_proves : (x : Position) (tokens : List Token) (text : List ℕ) (e : ℕ) → IsProved x tokens e → text ≡ header x.problem.rules.strict ++ line tokens → ProvesText x text e
-text_proves x tokens text e p is =
+pub text_is : (x : Position) (tokens : List Token) (text : List ℕ) (e : ℕ) → IsProved x tokens e → text ≡ header x.problem.rules.strict ++ line tokens → IsCertificate text x.problem.rules.strict tokens
+text_is x tokens text e p is =
     let (d, behind, proves, few) = p.proves in
-    (tokens, record { some = some_begin e x tokens d behind (begin_of e x.all x.problem [] tokens d behind [] proves); in_range = All-from_recursion InRange tokens p.in_range; spelled = is }, p.proves)
+    record { some = some_begin e x tokens d behind (begin_of e x.all x.problem [] tokens d behind [] proves); in_range = All-from_recursion InRange tokens p.in_range; spelled = is }
+
+pub text_proves : (x : Position) (tokens : List Token) (text : List ℕ) (e : ℕ) → IsProved x tokens e → text ≡ header x.problem.rules.strict ++ line tokens → ProvesText x text e
+text_proves x tokens text e p is = (tokens, text_is x tokens text e p is, p.proves)
 
 pub best_plan : (x : Position) (best : Best) (s : Schedule) (tokens : List Token) → InLimits x.problem → IsRunOf x best → IsProved x tokens best.finish → s ≡ schedule_of x.problem (run_of x.groups best.steps.items) → Optimal x.problem s × (finish x.problem s ≡ best.finish) × AreRising s.groups
 best_plan x best s tokens limits run p e =

@@ -31,6 +31,7 @@ use Rattle.onfi_planner.specs.Planning.{run_of}
 use Rattle.onfi_planner.specs.declared.root.Root.{Root}
 use Rattle.onfi_planner.specs.declared.search.Best.{Best}
 use Rattle.onfi_planner.proofs.Paths.{Among}
+use Rattle.onfi_recall.specs.Text.{nodes_at, nodes_in}
 use Rattle.onfi_recall.specs.declared.closing.Closing.{Closing}
 use Rattle.onfi_recall.specs.declared.notes.Notes.{Notes}
 use Rattle.onfi_recall.specs.declared.search.Shown.{Shown}
@@ -48,6 +49,10 @@ HasSoMany p n = (f : ℕ) × EndsFirstRun p f × HasNodes f p n
 -- the steps are a run that ends then
 abbrev pub IsRunOf : Position → Best → Type 0
 IsRunOf x best = Run x.problem (run_of x.groups best.steps.items) best.finish
+
+-- it ends before the first schedule
+abbrev pub EndsSooner : Problem → ℕ → Type 0
+EndsSooner p finish = (first : ℕ) × EndsFirstRun p first × (finish < first)
 
 -- the best is no later, and still a run
 pub record IsBetter (x : Position) (old new : Best) : Type 0 where
@@ -92,21 +97,23 @@ pub record ClosesBy (p : Problem) (e : ℕ) (c : Closing) : Type 0 where
 -- the token is the accepted tree of the node, which meets what that asks for
 pub record IsClosing (e : ℕ) (x : Position) (known : List Known) (c : Closing) : Type 0 where
   pub in_range : InRange c.token
+  pub node : nodes_at c.token ≡ 1
   pub met : Meets x.problem (demand_of c.demand)
   pub proves : (rest : List Token) → Proves e x.all x.problem known (c.token ∷ rest) c.demand known rest
 
 -- so many nodes were opened and remembered since
 pub record HasOpened (p : Problem) (finish began : ℕ) (before behind : Notes) : Type 0 where
-  pub more : began ≤ behind.opened
+  pub more : began < behind.opened
   pub within : behind.opened ≤ behind.limit
   pub nodes : AreMore p finish (behind.opened - began)
   pub few : length behind.records.nodes.items + began ≤ length before.records.nodes.items + behind.opened
   pub same_finish : behind.cert.finish ≡ before.cert.finish
   pub same_limit : behind.limit ≡ before.limit
 
--- the tokens of the node's accepted tree for e were written, and its open nodes remembered
-pub record HasWritten (e : ℕ) (x : Position) (before behind : Notes) (d : Kept) : Type 0 where
+-- the tokens of the node's accepted tree for e were written, one for each node opened, and its open nodes remembered
+pub record HasWritten (e : ℕ) (x : Position) (began : ℕ) (before behind : Notes) (d : Kept) : Type 0 where
   pub tree : List Token
+  pub nodes : nodes_in tree + began ≡ behind.opened
   pub tokens : behind.cert.tokens.items ≡ before.cert.tokens.items ++ tree
   pub in_range : Each InRange tree
   pub proves : (rest : List Token) → Proves e x.all x.problem before.records.nodes.items (tree ++ rest) d behind.records.nodes.items rest
@@ -122,7 +129,7 @@ pub record IsShown (x : Position) (old new : Best) (began : ℕ) (before behind 
   pub found : IsFound x old new shown.improved
   pub met : Meets x.problem (demand_of shown.demand)
   pub opened : HasOpened x.problem old.finish began before behind
-  pub written : new.finish ≡ before.cert.finish → HasWritten before.cert.finish x before behind shown.demand
+  pub written : new.finish ≡ before.cert.finish → HasWritten before.cert.finish x began before behind shown.demand
 
 -- what was shown of the node behind a step, and what is asked before it
 pub record Visited (x : Position) (step : KeptMove) (old new : Best) (before behind : Notes) (asked raised : List ℕ) (improved : Bool) : Type 0 where
@@ -131,7 +138,7 @@ pub record Visited (x : Position) (step : KeptMove) (old new : Best) (before beh
   pub met : Meets (moved x step).problem (demand_of demand)
   pub raises : AreRaised x.problem (move_of x.groups step) demand asked raised
   pub opened : HasOpened (moved x step).problem old.finish before.opened before behind
-  pub written : new.finish ≡ before.cert.finish → HasWritten before.cert.finish (moved x step) before behind demand
+  pub written : new.finish ≡ before.cert.finish → HasWritten before.cert.finish (moved x step) before.opened before behind demand
 
 -- the moves of a LUN may yield to the soonest
 pub record Awaits (p : Problem) (soonest : Soonest) (own : ℕ) : Type 0 where
@@ -166,6 +173,7 @@ pub record IsGiven (p : Problem) (soonest : Soonest) (y : Given) : Type 0 where
 pub record Growing (e : ℕ) (x : Position) (moves firsts : List Move) (soonest : Soonest) (before notes : Notes) (standing : Standing) : Type 0 where
   pub tree : List Token
   pub given : List Given
+  pub nodes : nodes_in tree + before.opened ≡ notes.opened
   pub tokens : notes.cert.tokens.items ≡ before.cert.tokens.items ++ Branch (length moves) ∷ tree
   pub in_range : Each InRange tree
   pub children : (rest : List Token) → Children e x.all x.problem moves firsts before.records.nodes.items (tree ++ rest) standing.asked given notes.records.nodes.items rest

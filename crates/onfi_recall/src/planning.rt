@@ -5,8 +5,8 @@ ghost use Rattle.onfi_problem.specs.Left.{InLimits};
 ghost use Rattle.onfi_schedule.specs.Schedule.{Optimal, finish};
 ghost use Rattle.onfi_planner.specs.Nodes.{HasMoreNodes};
 ghost use Rattle.onfi_planner.specs.Planning.{AreRising};
-ghost use Rattle.onfi_recall.specs.Text.{ProvesText};
-ghost use Rattle.onfi_recall.specs.Walks.{AreMore, HasSoMany, IsBegun, IsBetter, IsProved, IsRunOf, IsTree};
+ghost use Rattle.onfi_recall.specs.Text.{HasNodesIn, ProvesText, last_opened, nodes_in};
+ghost use Rattle.onfi_recall.specs.Walks.{AreMore, EndsSooner, HasSoMany, IsBegun, IsBetter, IsProved, IsRunOf, IsTree};
 
 use crate::choosing::best_of_rules;
 use crate::notes::Notes;
@@ -21,7 +21,7 @@ use std::alloc::{AllocError, Global};
 
 /// The legal schedule of a problem that ends first, its groups by rising first start, with the certificate that shows
 /// it; the search that finds it and the one that writes the certificate open at most `limit` nodes each, 1 to
-/// 1,048,576, all of the plain search's tree.
+/// 1,048,576, all of the plain search's tree. The one that writes has a token for each node that it opens.
 ///
 /// # Errors
 /// `Over` where a search opened `limit` nodes and the tree of the problem has more: its nodes are the paths of moves on
@@ -33,8 +33,11 @@ pub fn plan_known(alloc: Global, problem: &Problem, limit: u32) -> Result<Planne
     ensures finish { IfOk result (λ plan. finish problem.now.problem plan.schedule ≡ plan.finish) }
     ensures rising { IfOk result (λ plan. AreRising plan.schedule.groups) }
     ensures cert { IfOk result (λ plan. ProvesText problem.now plan.cert.items plan.finish) }
+    ensures some_opened { IfOk result (λ plan. 1 ≤ plan.opened) }
     ensures opened { IfOk result (λ plan. plan.opened ≤ limit) }
     ensures reopened { IfOk result (λ plan. plan.reopened ≤ limit) }
+    ensures counted { IfOk result (λ plan. HasNodesIn problem.now.problem plan.cert.items (last_opened plan.opened plan.reopened)) }
+    ensures again { IfOk result (λ plan. 1 ≤ plan.reopened → EndsSooner problem.now.problem plan.finish) }
     ensures nodes { IfOk result (λ plan. HasSoMany problem.now.problem plan.opened × HasSoMany problem.now.problem plan.reopened) }
     ensures over { IfErr result (λ fault. (opened : ℕ) → fault ≡ PlanFault.Over opened → (opened ≡ limit) × HasMoreNodes problem.now.problem limit) }
 {
@@ -93,6 +96,8 @@ fn walk(
     ensures found { OnOk result (IsBetter at.old best.old best.new) }
     ensures fallen { IfOk result (λ walked. walked.improved ≡ true → best.new.finish < best.old.finish) }
     ensures proved { IfOk result (λ walked. walked.improved ≡ false → IsProved at.old walked.tokens.items best.new.finish) }
+    ensures some { IfOk result (λ walked. 1 ≤ walked.opened) }
+    ensures counted { IfOk result (λ walked. walked.improved ≡ false → nodes_in walked.tokens.items ≡ walked.opened) }
     ensures opened { IfOk result (λ walked. walked.opened ≤ limit) }
     ensures nodes { IfOk result (λ walked. AreMore at.old.problem best.old.finish walked.opened) }
     ensures over { IfErr result (λ fault. (opened : ℕ) → fault ≡ PlanFault.Over opened → (opened ≡ limit) × AreMore at.old.problem best.old.finish (limit + 1)) }
@@ -123,6 +128,8 @@ fn walk_on(
     requires few { limit ≤ 1048576 }
     ensures found { OnOk result (IsBetter at.old best.old best.new) }
     ensures proved { IfOk result (λ walked. IsProved at.old walked.tokens.items best.new.finish) }
+    ensures some { IfOk result (λ walked. 1 ≤ walked.opened) }
+    ensures counted { IfOk result (λ walked. nodes_in walked.tokens.items ≡ walked.opened) }
     ensures opened { IfOk result (λ walked. walked.opened ≤ limit) }
     ensures nodes { IfOk result (λ walked. AreMore at.old.problem best.old.finish walked.opened) }
     ensures over { IfErr result (λ fault. (opened : ℕ) → fault ≡ PlanFault.Over opened → (opened ≡ limit) × AreMore at.old.problem best.old.finish (limit + 1)) }
@@ -147,8 +154,11 @@ fn walk_again(
     requires root { IsTree at.old loads.now }
     requires few { limit ≤ 1048576 }
     requires proved { found.improved ≡ false → IsProved at.old found.tokens.items best.old.finish }
+    requires counted { found.improved ≡ false → nodes_in found.tokens.items ≡ found.opened }
     ensures found { OnOk result (IsBetter at.old best.old best.new) }
     ensures proved { IfOk result (λ walked. IsProved at.old walked.tokens.items best.new.finish) }
+    ensures counted { IfOk result (λ walked. nodes_in walked.tokens.items ≡ last_opened found.opened walked.opened) }
+    ensures again { IfOk result (λ walked. 1 ≤ walked.opened → found.improved ≡ true) }
     ensures opened { IfOk result (λ walked. walked.opened ≤ limit) }
     ensures nodes { IfOk result (λ walked. AreMore at.old.problem best.old.finish walked.opened) }
     ensures over { IfErr result (λ fault. (opened : ℕ) → fault ≡ PlanFault.Over opened → (opened ≡ limit) × AreMore at.old.problem best.old.finish (limit + 1)) }
@@ -176,10 +186,13 @@ fn found_plan(
     requires run { IsRunOf problem.now best.now }
     requires small { best.now.finish < 2 ^ 63 }
     requires proved { IsProved problem.now tokens.now best.now.finish }
+    requires counted { nodes_in tokens.now ≡ last_opened opened reopened }
     ensures optimal { IfOk result (λ plan. Optimal problem.now.problem plan.schedule) }
     ensures finish { IfOk result (λ plan. finish problem.now.problem plan.schedule ≡ plan.finish) }
     ensures rising { IfOk result (λ plan. AreRising plan.schedule.groups) }
     ensures cert { IfOk result (λ plan. ProvesText problem.now plan.cert.items plan.finish) }
+    ensures ends { IfOk result (λ plan. plan.finish ≡ best.now.finish) }
+    ensures counted { IfOk result (λ plan. HasNodesIn problem.now.problem plan.cert.items (last_opened opened reopened)) }
     ensures opened { IfOk result (λ plan. plan.opened ≡ opened) }
     ensures reopened { IfOk result (λ plan. plan.reopened ≡ reopened) }
 {

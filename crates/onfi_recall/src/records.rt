@@ -2,7 +2,9 @@
 
 ghost use Rattle.std.specs.Prelude.{◌≡◌, ◌≤◌, ◌<◌, [], IfSome, OnOk};
 ghost use Rattle.onfi_group.specs.Words.{Pairs};
+ghost use Rattle.onfi_demand.specs.Work.{IsShape};
 ghost use Rattle.onfi_known.specs.Proves.{IsAgain, Remembers};
+ghost use Rattle.onfi_recall.specs.Codes.{told_kind, told_left};
 
 use onfi_demand::{Demand, LunLeft, left_on};
 use onfi_known::Known;
@@ -93,7 +95,7 @@ impl Records {
     }
 }
 
-// A number that is the same where the same is left: seven bits for each LUN, and a bit for each want.
+// A number that is the same exactly where the same is left: seven bits for each LUN, and a bit for each want.
 fn key_of(problem: &Problem) -> u64 {
     let mut key = 0u64;
     for lun in 0..problem.lun_count() as u8 {
@@ -112,20 +114,26 @@ fn with_marks(key: u64, marks: &[bool; 8]) -> u64 {
     key
 }
 
-// Another number for each that a LUN can have left.
-fn code_of(left: LunLeft) -> u64 {
+// A number of seven bits that tells what a LUN has left.
+fn code_of(left: LunLeft) -> u64
+    requires { IsShape left }
+    ensures small { result < 128 }
+    ensures told { told_left result ≡ left }
+{
     match left {
         LunLeft::Idle => 0,
         LunLeft::Rest {
             kind,
             members,
             next,
-        } => place_of(kind) + 4 * (members as u64 + 8 * next as u64),
+        } => place_of(kind) + 4 * (members as u64 - 1 + 4 * next as u64),
     }
 }
 
 fn place_of(kind: Kind) -> u64
-    ensures { result ≤ 3 }
+    ensures some { 1 ≤ result }
+    ensures few { result ≤ 3 }
+    ensures told { told_kind result ≡ kind }
 {
     match kind {
         Kind::Read => 1,

@@ -55,6 +55,7 @@ fn a_plan_ends_when_that_of_the_plain_search_does(rt: HostRuntime) -> Result<(),
     let planned = plan_known(alloc, &problem, 1_048_576)?;
     assert_eq!(rt; planned.finish, plain.finish);
     assert!(rt; planned.opened <= plain.opened);
+    assert_eq!(rt; (planned.opened, planned.reopened), (1, 0));
     let text = planned.cert.as_slice();
     let checked = check_known_text(alloc, &problem, &planned.schedule, text);
     assert_eq!(rt; checked, Ok(plain.finish));
@@ -80,17 +81,31 @@ fn six_reads(alloc: Global) -> Result<Problem, ProblemFault> {
     Problem::new(alloc, sample_timing(), rules, 0, &luns, &wants)
 }
 
+// How many nodes each walk opens was counted by an independent search in C++.
 #[test]
 fn a_tree_is_walked_once_more_where_a_sooner_finish_was_found(rt: HostRuntime) -> Result<(), Fail> {
     let alloc = rt.alloc();
     let problem = six_reads(alloc)?;
     let planned = plan_known(alloc, &problem, 1000)?;
     assert_eq!(rt; planned.finish, 92_120);
-    assert!(rt; planned.reopened > 0);
+    assert_eq!(rt; (planned.opened, planned.reopened), (256, 126));
     let text = planned.cert.as_slice();
     assert!(rt; text.starts_with(b"ONFICERT 3 remember\nB"));
     let checked = check_known_text(alloc, &problem, &planned.schedule, text);
     assert_eq!(rt; checked, Ok(92_120));
+    Ok(())
+}
+
+#[test]
+fn the_root_of_one_read_is_the_only_node(rt: HostRuntime) -> Result<(), Fail> {
+    let alloc = rt.alloc();
+    let luns = [LunState::Free { since: 0 }];
+    let rules = Rules::new(true, true, false, 1);
+    let wants = [want(0, Kind::Read, 0, 0)];
+    let problem = Problem::new(alloc, sample_timing(), rules, 0, &luns, &wants)?;
+    let planned = plan_known(alloc, &problem, 1)?;
+    assert_eq!(rt; planned.finish, 36_240);
+    assert_eq!(rt; (planned.opened, planned.reopened), (1, 0));
     Ok(())
 }
 

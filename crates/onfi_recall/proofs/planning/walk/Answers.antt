@@ -1,5 +1,5 @@
 use Rattle.std.proofs.Common.{◌∙◌, arith, rules}
-use Rattle.onfi_recall.proofs.Tree.{nodes_from_none, over_told, still_better, walk_at, walk_fallen, walk_stands}
+use Rattle.onfi_recall.proofs.Tree.{nodes_from_none, over_told, still_better, walk_at, walk_counts, walk_fallen, walk_stands}
 use Rattle.onfi_recall.proofs.planning.walk.Goals as goal
 
 pub search-requires : goal.search-requires
@@ -13,6 +13,14 @@ returns-clause-fallen c = λ q. walk_fallen c.search.new.best.finish c.search.ne
 
 pub returns-clause-proved : goal.returns-clause-proved
 returns-clause-proved c = λ q. walk_stands c.args.at.now c.args.best.now c.search.new.best c.new-notes.result c.search.new.notes _ c.in-Ok.ensures.shown c.new-notes.ensures.opened (omega (arith, c.requires.few, c.new-notes.ensures.limit)) c.new-notes.ensures.none c.new-notes.ensures.tokens c.new-notes.ensures.finish q
+
+pub returns-clause-some : goal.returns-clause-some
+returns-clause-some c =
+    let a = c.in-Ok.ensures.shown.opened.more in
+    omega arith
+
+pub returns-clause-counted : goal.returns-clause-counted
+returns-clause-counted c = λ q. walk_counts c.args.at.now c.args.best.now c.search.new.best c.new-notes.result c.search.new.notes _ c.in-Ok.ensures.shown c.new-notes.ensures.opened c.new-notes.ensures.tokens c.new-notes.ensures.finish q
 
 pub returns-clause-opened : goal.returns-clause-opened
 returns-clause-opened c =
