@@ -11,7 +11,7 @@ use Rattle.onfi_run.specs.declared.gated.Gated.{Gated}
 use Rattle.onfi_run.specs.declared.lane.Lane.{Lane}
 use Rattle.onfi_run.specs.declared.port.Port.{Port}
 use Rattle.onfi_run.specs.declared.station.Stations.{Stations}
-use Rattle.onfi_run.specs.Keys.{ChannelQueues, PortKey, port_key, end_of, AreLinked, AreAllLinked, HasSamePorts}
+use Rattle.onfi_run.specs.Keys.{ChannelQueues, PortEnds, port_ends, port_key, port_places, end_of, AreLinked, AreAllLinked, HasSamePorts}
 use Rattle.onfi_run.specs.Opening.{IsOpened, AreOpened, lane_queues}
 
 -- ---- the ends of one channel
@@ -20,11 +20,11 @@ abbrev pub queues_with : IntakeView → List PosterView → ChannelQueues
 queues_with t posters = record { requests = t.queue; replies = poster_queues posters }
 
 -- what a host's ends tell
-abbrev pub key_of : HostView → InboxView → PortKey
+abbrev pub key_of : HostView → InboxView → PortEnds
 key_of h i = record { queue = h.queue; number = h.number; inbox = Some i.queue; hosts = 4 }
 
 key_is : (t : IntakeView) (number : ℕ) (p : PosterView) (h : HostView) (i : InboxView) → h ≡ fresh_host t number → i ≡ inbox_of p
-    → key_of h i ≡ (let k : PortKey = record { queue = t.queue; number = number; inbox = Some p.queue; hosts = 4 } in k)
+    → key_of h i ≡ (let k : PortEnds = record { queue = t.queue; number = number; inbox = Some p.queue; hosts = 4 } in k)
 key_is t number p h i host inbox = ap (λ (x : HostView). key_of x i) host ∙ ap (λ (x : InboxView). key_of (fresh_host t number) x) inbox
 
 -- each of two lists of four
@@ -81,15 +81,15 @@ ports_are lane made t posters p0 p1 p2 p3 hosts inboxes made_is intake_is poster
 snoc_same : {A : Type 0} (xs ys : List A) (x y : A) → xs ≡ ys → x ≡ y → xs ++ x ∷ [] ≡ ys ++ y ∷ []
 snoc_same xs ys x y front last = ap (λ l. l ++ x ∷ []) front ∙ ap (λ z. ys ++ z ∷ []) last
 
-pub linked_more : (host : ℕ) (qs : List ChannelQueues) (q : ChannelQueues) (ports : List Port) (p : Port) → AreLinked host qs ports → port_key p ≡ end_of host q → AreLinked host (qs ++ q ∷ []) (ports ++ p ∷ [])
+pub linked_more : (host : ℕ) (qs : List ChannelQueues) (q : ChannelQueues) (ports : List Port) (p : Port) → AreLinked host qs ports → port_ends p ≡ end_of host q → AreLinked host (qs ++ q ∷ []) (ports ++ p ∷ [])
 linked_more host qs q ports p linked key =
-    map-append port_key ports (p ∷ []) ∙ snoc_same (map port_key ports) (map (end_of host) qs) (port_key p) (end_of host q) linked key ∙ sym (map-append (end_of host) qs (q ∷ []))
+    map-append port_ends ports (p ∷ []) ∙ snoc_same (map port_ends ports) (map (end_of host) qs) (port_ends p) (end_of host q) linked key ∙ sym (map-append (end_of host) qs (q ∷ []))
 
 -- .. where the channels are seen by `f`
-pub linked_with : {X : Type 0} (f : X → ChannelQueues) (host : ℕ) (xs : List X) (x : X) (all : List X) (ports all_ports : List Port) (p : Port) → AreLinked host (map f xs) ports → port_key p ≡ end_of host (f x)
+pub linked_with : {X : Type 0} (f : X → ChannelQueues) (host : ℕ) (xs : List X) (x : X) (all : List X) (ports all_ports : List Port) (p : Port) → AreLinked host (map f xs) ports → port_ends p ≡ end_of host (f x)
     → all ≡ xs ++ x ∷ [] → all_ports ≡ ports ++ p ∷ [] → AreLinked host (map f all) all_ports
 linked_with f host xs x all ports all_ports p linked key is ports_are =
-    ap (map port_key) ports_are ∙ linked_more host (map f xs) (f x) ports p linked key ∙ ap (map (end_of host)) (sym (map-append f xs (x ∷ []))) ∙ ap (λ l. map (end_of host) (map f l)) (sym is)
+    ap (map port_ends) ports_are ∙ linked_more host (map f xs) (f x) ports p linked key ∙ ap (map (end_of host)) (sym (map-append f xs (x ∷ []))) ∙ ap (λ l. map (end_of host) (map f l)) (sym is)
 
 pub opened_more : {G : Type 0} (setup : Setup) (rows : List Row) (number : ℕ) (gates : List G) (gate : G) (lanes : List (Lane (Gated G))) (lane : Lane (Gated G)) → AreOpened setup rows number gates lanes
     → IsOpened setup rows (number + length gates) gate lane → AreOpened setup rows number (gates ++ gate ∷ []) (lanes ++ lane ∷ [])
@@ -109,6 +109,19 @@ opened_with setup rows gates left gate lanes all lane number gates_are number_is
     subst (λ gs. AreOpened setup rows 0 gs all) (sym gates_are) (subst (λ ls. AreOpened setup rows 0 (left ++ gate ∷ []) ls) (sym all_are) more)
 
 -- ---- behind the threads
+ends_by_key : (ports : List Port) → map port_ends ports ≡ map (λ k. k.0) (map port_key ports)
+ends_by_key [] = refl
+ends_by_key (p ∷ ports) = ap (λ ks. port_ends p ∷ ks) (ends_by_key ports)
+
+places_by_key : (ports : List Port) → map port_places ports ≡ map (λ k. k.1) (map port_key ports)
+places_by_key [] = refl
+places_by_key (p ∷ ports) = ap (λ ks. port_places p ∷ ks) (places_by_key ports)
+
 -- what comes back from threads is linked as what went in
 pub linked_behind : (host : ℕ) (qs qs' : List ChannelQueues) (old new : List Port) → AreLinked host qs old → HasSamePorts old new → qs' ≡ qs → AreLinked host qs' new
-linked_behind host qs qs' old new linked same is = same ∙ linked ∙ ap (map (end_of host)) (sym is)
+linked_behind host qs qs' old new linked same is =
+    ends_by_key new ∙ ap (map (λ k. k.0)) same ∙ sym (ends_by_key old) ∙ linked ∙ ap (map (end_of host)) (sym is)
+
+-- .. and has the same places for answers
+pub places_behind : (old new : List Port) → HasSamePorts old new → map port_places new ≡ map port_places old
+places_behind old new same = places_by_key new ∙ ap (map (λ k. k.1)) same ∙ sym (places_by_key old)

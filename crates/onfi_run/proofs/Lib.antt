@@ -6,3 +6,9 @@ pub mod Links
 pub mod Lanes
 pub mod Told
 pub mod Same
+pub mod Sends
+pub mod Suited
+pub mod Proceeding
+pub mod Collecting
+pub mod Fresh
+pub mod Reporting

@@ -6,7 +6,7 @@ use Rattle.atomic_table.specs.Seated.{TableId}
 use Rattle.onfi_queue.specs.Ends.{HostView}
 use Rattle.onfi_reply.specs.Ends.{InboxView}
 use Rattle.onfi_run.specs.declared.port.Port.{Port}
-use Rattle.onfi_run.specs.Keys.{ChannelQueues, port_key, end_of, AreLinked, AreEnds, queues_of}
+use Rattle.onfi_run.specs.Keys.{ChannelQueues, port_ends, end_of, AreLinked, AreEnds, queues_of}
 
 head_of : {X : Type 0} (x y : X) (xs ys : List X) → x ∷ xs ≡ y ∷ ys → x ≡ y
 head_of x y xs ys e = cc
@@ -33,14 +33,14 @@ snoc_last (a ∷ xs) (b ∷ ys) x y e = snoc_last xs ys x y (tail_of a b (xs ++ 
 
 -- the ports of the channels but the last, and the last one's
 linked_snoc : (host : ℕ) (qs : List ChannelQueues) (q : ChannelQueues) (ports : List Port) (p : Port) → AreLinked host (qs ++ q ∷ []) (ports ++ p ∷ [])
-    → map port_key ports ++ port_key p ∷ [] ≡ map (end_of host) qs ++ end_of host q ∷ []
-linked_snoc host qs q ports p linked = sym (map-append port_key ports (p ∷ [])) ∙ linked ∙ map-append (end_of host) qs (q ∷ [])
+    → map port_ends ports ++ port_ends p ∷ [] ≡ map (end_of host) qs ++ end_of host q ∷ []
+linked_snoc host qs q ports p linked = sym (map-append port_ends ports (p ∷ [])) ∙ linked ∙ map-append (end_of host) qs (q ∷ [])
 
 pub linked_front : (host : ℕ) (qs : List ChannelQueues) (q : ChannelQueues) (ports : List Port) (p : Port) → AreLinked host (qs ++ q ∷ []) (ports ++ p ∷ []) → AreLinked host qs ports
-linked_front host qs q ports p linked = snoc_front (map port_key ports) (map (end_of host) qs) (port_key p) (end_of host q) (linked_snoc host qs q ports p linked)
+linked_front host qs q ports p linked = snoc_front (map port_ends ports) (map (end_of host) qs) (port_ends p) (end_of host q) (linked_snoc host qs q ports p linked)
 
-pub linked_last : (host : ℕ) (qs : List ChannelQueues) (q : ChannelQueues) (ports : List Port) (p : Port) → AreLinked host (qs ++ q ∷ []) (ports ++ p ∷ []) → port_key p ≡ end_of host q
-linked_last host qs q ports p linked = snoc_last (map port_key ports) (map (end_of host) qs) (port_key p) (end_of host q) (linked_snoc host qs q ports p linked)
+pub linked_last : (host : ℕ) (qs : List ChannelQueues) (q : ChannelQueues) (ports : List Port) (p : Port) → AreLinked host (qs ++ q ∷ []) (ports ++ p ∷ []) → port_ends p ≡ end_of host q
+linked_last host qs q ports p linked = snoc_last (map port_ends ports) (map (end_of host) qs) (port_ends p) (end_of host q) (linked_snoc host qs q ports p linked)
 
 -- a list of four is told by its elements
 pub four : (is : List TableId) (a b c d : TableId) → 4 ≡ length is → Some a ≡ slice_get is 0 → Some b ≡ slice_get is 1 → Some c ≡ slice_get is 2 → Some d ≡ slice_get is 3
@@ -53,7 +53,7 @@ four (w ∷ x ∷ y ∷ z ∷ []) a b c d n e0 e1 e2 e3 = cc
 four (w ∷ x ∷ y ∷ z ∷ v ∷ is) a b c d n e0 e1 e2 e3 = absurd (omega (arith, n))
 
 -- the ports of a channel's hosts hold the other ends of its queues
-pub ends_are : (q : ChannelQueues) (a b c d : Port) → port_key a ≡ end_of 0 q → port_key b ≡ end_of 1 q → port_key c ≡ end_of 2 q → port_key d ≡ end_of 3 q
+pub ends_are : (q : ChannelQueues) (a b c d : Port) → port_ends a ≡ end_of 0 q → port_ends b ≡ end_of 1 q → port_ends c ≡ end_of 2 q → port_ends d ≡ end_of 3 q
     → AreEnds q (a.host ∷ b.host ∷ c.host ∷ d.host ∷ []) (a.inbox ∷ b.inbox ∷ c.inbox ∷ d.inbox ∷ [])
 ends_are q a b c d e0 e1 e2 e3 = (
   (
@@ -78,11 +78,11 @@ set_inbox (i ∷ inboxes) (suc at) d new h e = ap (λ ks. i.queue ∷ ks) (set_i
 behind : {X : Type 0} (f : X → ChannelQueues) (host : ℕ) (all left : List X) (x : X) (ports rest : List Port) (p : Port) → all ≡ left ++ x ∷ [] → ports ≡ rest ++ p ∷ [] → AreLinked host (map f all) ports
     → AreLinked host (map f left ++ f x ∷ []) (rest ++ p ∷ [])
 behind f host all left x ports rest p lanes taken linked =
-    ap (map port_key) (sym taken) ∙ linked ∙ ap (map (end_of host)) (ap (map f) lanes ∙ map-append f left (x ∷ []))
+    ap (map port_ends) (sym taken) ∙ linked ∙ ap (map (end_of host)) (ap (map f) lanes ∙ map-append f left (x ∷ []))
 
 -- .. the port that was taken is of that channel
 pub last_of : {X : Type 0} (f : X → ChannelQueues) (host : ℕ) (all left : List X) (x : X) (ports rest : List Port) (p : Port) → all ≡ left ++ x ∷ [] → ports ≡ rest ++ p ∷ [] → AreLinked host (map f all) ports
-    → port_key p ≡ end_of host (f x)
+    → port_ends p ≡ end_of host (f x)
 last_of f host all left x ports rest p lanes taken linked = linked_last host (map f left) (f x) rest p (behind f host all left x ports rest p lanes taken linked)
 
 -- .. and the others are of the others

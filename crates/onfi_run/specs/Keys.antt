@@ -1,7 +1,9 @@
 -- Which ends of queues belong together.
 use Rattle.std.specs.Prelude.{◌≡◌, ℕ, Bool, true, false, List, length, map, Option, Some, slice_get}
 use Rattle.atomic_table.specs.Seated.{TableId}
+use Rattle.onfi_timing.specs.declared.kind.Kind.{Kind}
 use Rattle.onfi_request.specs.declared.reply.Reply.{Reply}
+use Rattle.onfi_request.specs.declared.request.Item.{Item}
 use Rattle.onfi_queue.specs.Ends.{HostView, AreHostsOf}
 use Rattle.onfi_reply.specs.Ends.{InboxView, after_collecting}
 use Rattle.onfi_run.specs.declared.port.Port.{Port}
@@ -14,17 +16,29 @@ pub record ChannelQueues : Type 0 where
   pub replies : List TableId
 
 -- a host's ends on a channel: the submission queue, the host's number there, its completion queue, and how many hosts the channel has
-pub record PortKey : Type 0 where
+pub record PortEnds : Type 0 where
   pub queue : TableId
   pub number : ℕ
   pub inbox : Option TableId
   pub hosts : ℕ
 
-abbrev pub port_key : Port → PortKey
-port_key p = record { queue = p.host.queue; number = p.host.number; inbox = Some p.inbox.queue; hosts = 4 }
+abbrev pub port_ends : Port → PortEnds
+port_ends p = record { queue = p.host.queue; number = p.host.number; inbox = Some p.inbox.queue; hosts = 4 }
+
+-- the kinds of the operations to which answers are kept there
+abbrev pub port_places : Port → List Kind
+port_places p = p.answers.kinds
+
+-- .. both, which a port never changes
+abbrev pub port_key : Port → PortEnds × List Kind
+port_key p = (port_ends p, port_places p)
+
+-- .. with what was sent there, and whether an operation was left out
+abbrev pub port_state : Port → (PortEnds × List Kind) × List Item × Bool
+port_state p = (port_key p, p.host.sent, p.left_out)
 
 -- the ends of that host on a channel
-abbrev pub end_of : ℕ → ChannelQueues → PortKey
+abbrev pub end_of : ℕ → ChannelQueues → PortEnds
 end_of host q = record { queue = q.requests; number = host; inbox = slice_get q.replies host; hosts = length q.replies }
 
 -- the next reply is with the answers
@@ -38,9 +52,13 @@ abbrev pub Collects : Bool → Port → Port → Type 0
 Collects true old new = TookReply old new
 Collects false old new = new ≡ old
 
--- the same ends, in the same order
+-- the same ends, with places for the same answers, in the same order
 abbrev pub HasSamePorts : List Port → List Port → Type 0
 HasSamePorts old new = map port_key new ≡ map port_key old
+
+-- .. and no more was sent or left out
+abbrev pub SendsNothing : List Port → List Port → Type 0
+SendsNothing old new = map port_state new ≡ map port_state old
 
 -- the same of each host
 pub record HaveSamePorts (old new : Stations) : Type 0 where
@@ -51,7 +69,7 @@ pub record HaveSamePorts (old new : Stations) : Type 0 where
 
 -- the ports are that host's ends on these channels
 abbrev pub AreLinked : ℕ → List ChannelQueues → List Port → Type 0
-AreLinked host qs ports = map port_key ports ≡ map (end_of host) qs
+AreLinked host qs ports = map port_ends ports ≡ map (end_of host) qs
 
 -- .. of each host
 pub record AreAllLinked (qs : List ChannelQueues) (stations : Stations) : Type 0 where

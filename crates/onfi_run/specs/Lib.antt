@@ -5,7 +5,13 @@ pub mod Prepared
 pub mod Prepares
 pub mod Report
 pub mod Answers
+pub mod Operations
+pub mod ByHost
+pub mod Ending
+pub mod Told
 pub mod Keys
+pub mod Sending
+pub mod Finishing
 pub mod Threads
 pub mod Opening
 pub mod Running

@@ -7,13 +7,15 @@ use Rattle.onfi_core.specs.declared.outcome.Cause.{Cause}
 use Rattle.onfi_core.specs.declared.outcome.Cause.TheVariants.{Bus, NotReady, Clock}
 use Rattle.onfi_request.specs.declared.answer.Answer.{Answer}
 use Rattle.onfi_request.specs.declared.answer.Answer.TheVariants as answer
+use Rattle.onfi_timing.specs.declared.kind.Kind.{Kind}
 use Rattle.onfi_run.specs.declared.channel_end.ChannelEnd.{ChannelEnd}
 use Rattle.onfi_run.specs.declared.channel_end.ChannelEnd.TheVariants as end
 use Rattle.onfi_script.specs.Text.{Answer as Written}
 
--- what a host got from a channel: of each request that it sent there, by serial from 0, the answer, where it came
-abbrev pub AnswersView : Type 0
-AnswersView = List (Option Answer)
+-- what a host got from a channel: the kinds of its operations there, by serial from 0, and of each the answer, where it came
+pub record AnswersView : Type 0 where
+  pub kinds : List Kind
+  pub answers : List (Option Answer)
 
 -- .. from each channel
 abbrev pub GotView : Type 0
@@ -51,7 +53,7 @@ reply_line host channel serial (Some a) =
 
 -- the replies of a channel to a host by serial
 abbrev pub answers_lines : ℕ → ℕ → AnswersView → List ℕ
-answers_lines host channel answers = numbered (reply_line host channel) 0 answers
+answers_lines host channel got = numbered (reply_line host channel) 0 got.answers
 
 -- the replies to a host by channel and serial
 abbrev pub got_lines : ℕ → GotView → List ℕ

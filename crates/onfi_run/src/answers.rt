@@ -1,61 +1,106 @@
 //! What a host got.
-ghost use Rattle.std.specs.Prelude.{◌≡◌, ◌++◌, [], ◌∷◌, None, OnOk, OnErr};
-ghost use Rattle.onfi_run.specs.Answers.{with_reply};
+ghost use Rattle.std.specs.Prelude.{◌≡◌, ◌++◌, [], ◌∷◌, IfOk, Some, slice_get, slice_set};
+ghost use Rattle.onfi_run.specs.Answers as spec;
+ghost use Rattle.onfi_run.specs.ByHost as four;
+ghost use Rattle.onfi_run.specs.Operations.{kinds_on as spec_kinds_on};
 
+use crate::operations::{kinds_on, places_on};
 use onfi_request::{Answer, Reply};
+use onfi_script::Row;
+use onfi_timing::Kind;
 use std::alloc::{AllocError, Global};
 use std::marker::Model;
 
-/// What a host got from one channel: of each request that it sent there, by serial from 0, the answer, where it came.
+/// What a host got from one channel: of each of its operations there, by serial from 0, the answer, where it came. An
+/// answer stands only where it suits the kind of its operation.
 #[derive(Drop)]
 pub struct Answers {
-    pub(crate) by_serial: Vec<Option<Answer>>,
+    kinds: Vec<Kind>,
+    by_serial: Vec<Option<Answer>>,
 }
 
 impl Model for Answers {
     ghost use Rattle.onfi_run.specs.Report.{AnswersView};
+    ghost use Rattle.onfi_run.specs.Answers.{AreSuited};
 
     ghost Value = { AnswersView };
 
-    ghost view = { λ a. a.by_serial.items };
+    ghost view = { λ a. record { kinds = a.kinds.items; answers = a.by_serial.items } };
+
+    ghost invariant = { λ a. AreSuited a.kinds.items a.by_serial.items };
+}
+
+/// Whether an answer suits an operation: a read gives a page, the others say whether they succeeded.
+fn suits(kind: Kind, answer: &Answer) -> bool
+    ensures { result ≡ spec.suits kind answer.now }
+{
+    match answer {
+        Answer::Read(_) => matches!(kind, Kind::Read),
+        Answer::Done | Answer::Failed => !matches!(kind, Kind::Read),
+    }
+}
+
+/// Whether there is an operation with that serial, which the answer suits.
+fn suits_at(kinds: &[Kind], at: usize, answer: &Answer) -> bool
+    ensures { result ≡ spec.suits_any (slice_get kinds.now at) answer.now }
+{
+    if at < kinds.len() {
+        suits(kinds[at], answer)
+    } else {
+        false
+    }
+}
+
+/// Puts an answer into the place of its serial, where there is one.
+fn put(by_serial: &mut Vec<Option<Answer>>, at: usize, answer: Answer)
+    ensures { by_serial.new.items ≡ slice_set by_serial.old.items at (Some answer) }
+{
+    if at < by_serial.len() {
+        by_serial[at] = Some(answer);
+    }
 }
 
 impl Answers {
-    /// No answer, and no room for one.
-    pub fn new(alloc: Global) -> Answers
-        ensures { result ≡ [] }
-    {
-        Answers {
-            by_serial: Vec::new(alloc),
-        }
-    }
-
-    /// Makes room for the answer to one more request.
+    /// Places for the answers to a host's operations on a channel, in the order of their rows.
     ///
     /// # Errors
     /// Want of memory.
-    pub fn make_room(&mut self) -> Result<(), AllocError>
-        ensures room { OnOk result (self.new ≡ self.old ++ None ∷ []) }
-        ensures same { OnErr result (self.new ≡ self.old) }
+    pub(crate) fn awaiting(
+        alloc: Global,
+        rows: &[Row],
+        host: u8,
+        channel: u8,
+    ) -> Result<Answers, AllocError>
+        ensures { IfOk result (λ answers. answers ≡ spec.awaiting (spec_kinds_on rows.now host channel)) }
     {
-        self.by_serial.push(None)?;
-        Ok(())
+        let kinds = kinds_on(alloc, rows, host, channel)?;
+        let by_serial = places_on(alloc, rows, host, channel)?;
+        Ok(Answers { kinds, by_serial })
     }
 
     /// The answers by serial.
     pub fn as_slice(&self) -> &[Option<Answer>]
-        ensures { result.now ≡ self.now }
+        ensures { result.now ≡ self.now.answers }
     {
         self.by_serial.as_slice()
     }
 
-    /// Keeps the answer of a reply in the place of its serial; no reply comes to a request for which no room was made.
-    pub fn keep(&mut self, reply: Reply)
-        ensures { self.new ≡ with_reply self.old reply }
+    /// Whether each operation has its answer.
+    pub(crate) fn is_complete(&self) -> bool
+        ensures complete { result ≡ spec.is_complete self.now }
+        ensures suited { spec.IsSuited self.now }
+    {
+        self.by_serial.iter().all(|answer| answer.is_some())
+    }
+
+    /// Keeps the answer of a reply in the place of its serial, where it suits the operation there.
+    pub(crate) fn keep(&mut self, reply: Reply)
+        ensures { self.new ≡ spec.with_reply self.old reply }
     {
         let at = reply.serial as usize;
-        if at < self.by_serial.len() {
-            self.by_serial[at] = Some(reply.answer);
+        let suits = suits_at(self.kinds.as_slice(), at, &reply.answer);
+        if suits {
+            put(&mut self.by_serial, at, reply.answer);
         }
     }
 }
@@ -63,7 +108,7 @@ impl Answers {
 /// What a host got, by channel.
 #[derive(Drop)]
 pub struct Got {
-    pub(crate) by_channel: Vec<Answers>,
+    by_channel: Vec<Answers>,
 }
 
 impl Model for Got {
@@ -76,7 +121,7 @@ impl Model for Got {
 
 impl Got {
     /// Nothing, from no channel.
-    pub fn new(alloc: Global) -> Got
+    pub(crate) fn new(alloc: Global) -> Got
         ensures { result ≡ [] }
     {
         Got {
@@ -84,16 +129,16 @@ impl Got {
         }
     }
 
-    /// Puts what it got from one channel more behind the others.
+    /// With what it got from one channel more, behind the others.
     ///
     /// # Errors
-    /// Want of memory; the answers are dropped then.
-    pub fn push(&mut self, answers: Answers) -> Result<(), AllocError>
-        ensures pushed { OnOk result (self.new ≡ self.old ++ answers ∷ []) }
-        ensures same { OnErr result (self.new ≡ self.old) }
+    /// Want of memory; all is dropped then.
+    pub(crate) fn with(self, answers: Answers) -> Result<Got, AllocError>
+        ensures { IfOk result (λ got. got ≡ self ++ answers ∷ []) }
     {
-        self.by_channel.push(answers)?;
-        Ok(())
+        let mut got = self;
+        got.by_channel.push(answers)?;
+        Ok(got)
     }
 
     /// What the host got, by channel.
@@ -101,5 +146,54 @@ impl Got {
         ensures { result.now ≡ self.now }
     {
         self.by_channel.as_slice()
+    }
+}
+
+/// What four hosts got from a channel, in the order of their numbers.
+#[derive(Drop)]
+pub(crate) struct ByHost {
+    pub(crate) first: Answers,
+    pub(crate) second: Answers,
+    pub(crate) third: Answers,
+    pub(crate) fourth: Answers,
+}
+
+impl ByHost {
+    /// Places for the answers to the operations of four hosts on a channel, in the order of their rows.
+    ///
+    /// # Errors
+    /// Want of memory.
+    pub(crate) fn awaiting(
+        alloc: Global,
+        rows: &[Row],
+        channel: u8,
+    ) -> Result<ByHost, AllocError>
+        ensures first { IfOk result (λ got. got.first ≡ spec.awaiting (spec_kinds_on rows.now 0 channel)) }
+        ensures second { IfOk result (λ got. got.second ≡ spec.awaiting (spec_kinds_on rows.now 1 channel)) }
+        ensures third { IfOk result (λ got. got.third ≡ spec.awaiting (spec_kinds_on rows.now 2 channel)) }
+        ensures fourth { IfOk result (λ got. got.fourth ≡ spec.awaiting (spec_kinds_on rows.now 3 channel)) }
+    {
+        let first = Answers::awaiting(alloc, rows, 0, channel)?;
+        let second = Answers::awaiting(alloc, rows, 1, channel)?;
+        let third = Answers::awaiting(alloc, rows, 2, channel)?;
+        let fourth = Answers::awaiting(alloc, rows, 3, channel)?;
+        Ok(ByHost {
+            first,
+            second,
+            third,
+            fourth,
+        })
+    }
+
+    /// Whether each operation of each host has its answer.
+    pub(crate) fn is_complete(&self) -> bool
+        ensures complete { result ≡ four.are_complete self.now }
+        ensures suited { four.AreAllSuited self.now }
+    {
+        let first = self.first.is_complete();
+        let second = self.second.is_complete();
+        let third = self.third.is_complete();
+        let fourth = self.fourth.is_complete();
+        first && second && third && fourth
     }
 }

@@ -1,45 +1,49 @@
 //! What a run needs of a channel's sequencer.
-ghost use Rattle.std.specs.Prelude.{◌≡◌};
-ghost use Rattle.onfi_run.specs.Keys.{ChannelQueues, AreEnds, queues_of};
+ghost use Rattle.std.specs.Prelude.{◌≡◌, IsTrue};
+ghost use Rattle.onfi_run.specs.Ending.{is_refusal};
+ghost use Rattle.onfi_run.specs.Keys.{AreEnds, queues_of};
 
 use crate::channel_end::ChannelEnd;
+use crate::progress::Progress;
 use onfi_queue::Host;
 use onfi_reply::Inbox;
 use std::alloc::Global;
 use std::sync::Wait;
 
-/// What a turn of a channel came to, as far as its thread goes on by it.
-#[derive(Clone, Copy)]
-pub enum Progress {
-    /// A phase ran, or there is a new plan.
-    Advanced,
-    /// A reply was posted or an item accepted; or a planning was over, and a phase is left.
-    Moved,
-    /// Nothing is left to do but to post to full queues.
-    Quiet,
-    /// Memory was refused, and a phase is left.
-    Refused,
-    /// Memory was refused, and no phase is left.
-    Starved,
-    /// The channel stopped, or a planning was over with no phase left.
-    Ended,
-}
-
 /// How the draining of a channel ended.
 #[derive(Clone, Copy)]
 pub struct Drained {
     pub end: ChannelEnd,
+    /// Whether memory was refused to a turn of the channel, ever, or to this draining.
     pub short_of_memory: bool,
 }
 
 /// A channel as a run drives it: the sequencer, with the gate that is called before each of its turns.
 pub trait Channel {
+    ghost use Rattle.std.specs.Prelude.{Bool, List};
+    ghost use Rattle.onfi_queue.specs.Ends.{HostView};
+    ghost use Rattle.onfi_run.specs.declared.channel.Drained.{Drained};
+    ghost use Rattle.onfi_run.specs.declared.progress.Progress.{Progress};
+    ghost use Rattle.onfi_run.specs.Keys.{ChannelQueues};
+
     /// The queues whose ends it holds.
     ghost queues: { Self → ChannelQueues };
 
+    /// Whether memory was refused to one of its turns.
+    ghost short: { Self → Bool };
+
+    /// What a turn from the one to the other came to.
+    ghost proceeds: { Self → Progress → Self → Type 0 };
+
+    /// What a draining with these hosts from the one to the other came to.
+    ghost drains: { Self → List HostView → Drained → Self → Type 0 };
+
     /// Makes a turn.
     fn turn<R: Wait>(&mut self, rt: &R, alloc: Global) -> Progress
-        ensures { queues self.new ≡ queues self.old };
+        ensures turned { proceeds self.old result self.new }
+        ensures same { queues self.new ≡ queues self.old }
+        ensures refused { IsTrue (is_refusal result) → IsTrue (short self.new) }
+        ensures short { IsTrue (short self.old) → IsTrue (short self.new) };
 
     /// Makes turns, and takes replies in, until everything is answered, or tells why it isn't.
     fn drain<R: Wait>(
@@ -50,8 +54,10 @@ pub trait Channel {
         inboxes: &mut [Inbox; 4],
     ) -> Drained
         requires { AreEnds (queues self.old) hosts.now inboxes.old }
+        ensures drained { drains self.old hosts.now result self.new }
         ensures same { queues self.new ≡ queues self.old }
-        ensures inboxes { queues_of inboxes.new ≡ queues_of inboxes.old };
+        ensures inboxes { queues_of inboxes.new ≡ queues_of inboxes.old }
+        ensures short { IsTrue (short self.old) → IsTrue result.short_of_memory };
 
     /// Takes all ends back.
     fn close<R: Wait>(self, rt: &R, hosts: [Host; 4], inboxes: [Inbox; 4])

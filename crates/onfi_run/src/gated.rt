@@ -1,8 +1,11 @@
 //! A sequencer with its gate, as a run drives it.
-ghost use Rattle.std.specs.Prelude.{◌≡◌, map};
+ghost use Rattle.std.specs.Prelude.{◌≡◌, ◌||◌};
+ghost use Rattle.onfi_core.specs.Steps.{none_left};
+ghost use Rattle.onfi_run.specs.Ending as spec;
 
-use crate::channel::{Channel, Drained, Progress};
+use crate::channel::{Channel, Drained};
 use crate::channel_end::ChannelEnd;
+use crate::progress::Progress;
 use onfi_chip::SimChip;
 use onfi_queue::Host;
 use onfi_reply::Inbox;
@@ -22,11 +25,13 @@ pub(crate) struct Gated<G: Gate> {
 
 impl<G: Gate> Gated<G> {
     /// How its thread goes on behind a turn that came to this.
-    fn progress(&self, turn: Turn) -> Progress {
+    fn progress(&self, turn: Turn) -> Progress
+        ensures { result ≡ spec.progress_of (none_left self.now.sequencer.0.half) turn }
+    {
         match turn {
-            Turn::Stopped(_) => Progress::Ended,
+            Turn::Stopped(cause) => Progress::Stopped(cause),
             Turn::Over { .. } if self.sequencer.has_phase() => Progress::Moved,
-            Turn::Over { .. } => Progress::Ended,
+            Turn::Over { opened } => Progress::Over { opened },
             Turn::Memory if self.sequencer.has_phase() => Progress::Refused,
             Turn::Memory => Progress::Starved,
             Turn::Phase | Turn::Planned => Progress::Advanced,
@@ -37,7 +42,9 @@ impl<G: Gate> Gated<G> {
 }
 
 /// How a channel ended whose draining ended so.
-fn end_of(end: End) -> ChannelEnd {
+fn end_of(end: End) -> ChannelEnd
+    ensures { result ≡ spec.end_of end }
+{
     match end {
         End::Empty | End::Memory => ChannelEnd::Done,
         End::TurnsSpent => ChannelEnd::Unfinished,
@@ -46,10 +53,26 @@ fn end_of(end: End) -> ChannelEnd {
     }
 }
 
+/// Whether memory was refused: to a turn, or to a draining that ended so.
+fn is_short(end: End, short: bool) -> bool
+    ensures { result ≡ (spec.is_memory end || short) }
+{
+    matches!(end, End::Memory) || short
+}
+
 impl<G: Gate + Drop> Channel for Gated<G> {
+    ghost use Rattle.onfi_chip.specs.SimChip.{chip_in};
     ghost use Rattle.onfi_seq.specs.Drained.{poster_queues};
+    ghost use Rattle.onfi_seq.specs.Sequencer.{seen_in};
+    ghost use Rattle.onfi_run.specs.Ending.{DrainsTo, Proceeds};
 
     ghost queues = { λ c. record { requests = c.sequencer.0.intake.queue; replies = poster_queues c.sequencer.0.posters } };
+
+    ghost short = { λ c. c.sequencer.0.short };
+
+    ghost proceeds = { λ c p c'. Proceeds (seen_in chip_in c.sequencer) p (seen_in chip_in c'.sequencer) };
+
+    ghost drains = { λ c hosts d c'. DrainsTo (seen_in chip_in c.sequencer) hosts d (seen_in chip_in c'.sequencer) };
 
     fn turn<R: Wait>(&mut self, rt: &R, alloc: Global) -> Progress {
         let turn = self.sequencer.turn(rt, alloc, &mut self.gate);
@@ -66,9 +89,10 @@ impl<G: Gate + Drop> Channel for Gated<G> {
         let end = self
             .sequencer
             .drain(rt, alloc, &mut self.gate, hosts, inboxes, MOST_TURNS);
+        let short = self.sequencer.was_short_of_memory();
         Drained {
             end: end_of(end),
-            short_of_memory: end == End::Memory,
+            short_of_memory: is_short(end, short),
         }
     }
 

@@ -1,63 +1,67 @@
 //! A channel in its thread.
-ghost use Rattle.std.specs.Prelude.{◌≡◌};
+ghost use Rattle.std.specs.Prelude.{◌≡◌, Bool, IsTrue, Some};
+ghost use Rattle.onfi_run.specs.declared.progress.Progress.{Progress as AProgress};
+ghost use Rattle.onfi_run.specs.Ending.{is_spent, refusals_behind, thread_end};
 
 use crate::board::Board;
-use crate::channel::{Channel, Progress};
+use crate::channel::Channel;
+use crate::channel_end::ChannelEnd;
+use crate::progress::Progress;
 use std::alloc::Global;
 use std::sync::Wait;
 use std::thread;
 
-/// How many turns, with no phase and no plan between them, may be refused memory.
-const MOST_REFUSALS: u64 = 1_000;
+/// How many turns, with no phase and no plan between them, may be refused memory before the one that ends a thread.
+const MOST_REFUSALS: u64 = 999;
 
 /// A channel in its thread.
 #[derive(Drop)]
 pub(crate) struct Lane<C: Channel> {
     pub(crate) channel: C,
-    pub(crate) short_of_memory: bool,
+    /// How the channel's thread ended: done where nothing was left to do and all hosts had ended, unfinished where memory
+    /// was refused.
+    pub(crate) ended: ChannelEnd,
     /// How many turns were refused memory since the last phase or plan.
     pub(crate) refusals: u64,
 }
 
 impl<C: Channel> Lane<C> {
-    /// Memory was refused; whether it was too often.
-    fn is_starved(&mut self) -> bool
-        ensures { C.queues self.new.channel ≡ C.queues self.old.channel }
-    {
-        self.short_of_memory = true;
-        self.refusals = self.refusals.saturating_add(1);
-        self.refusals >= MOST_REFUSALS
-    }
-
-    /// Whether the channel's thread ends behind this turn.
-    fn is_done(&mut self, board: &Board, progress: Progress) -> bool
-        ensures { C.queues self.new.channel ≡ C.queues self.old.channel }
+    /// How the channel's thread ends behind a turn that came to this, if it does.
+    fn end_behind(&mut self, progress: Progress, all_ended: bool) -> Option<ChannelEnd>
+        ensures channel { self.new.channel ≡ self.old.channel }
+        ensures end { result ≡ thread_end (is_spent self.old.refusals) all_ended progress }
+        ensures refusals { self.new.refusals ≡ refusals_behind self.old.refusals progress }
     {
         match progress {
             Progress::Advanced => {
                 self.refusals = 0;
-                false
+                None
             }
-            Progress::Moved => false,
-            Progress::Quiet => {
-                thread::yield_now();
-                board.have_hosts_ended()
+            Progress::Moved => None,
+            Progress::Quiet if all_ended => Some(ChannelEnd::Done),
+            Progress::Quiet => None,
+            Progress::Refused if self.refusals >= MOST_REFUSALS => Some(ChannelEnd::Unfinished),
+            Progress::Refused => {
+                self.refusals += 1;
+                None
             }
-            Progress::Refused => self.is_starved(),
-            Progress::Starved => {
-                self.short_of_memory = true;
-                true
-            }
-            Progress::Ended => true,
+            Progress::Starved => Some(ChannelEnd::Unfinished),
+            Progress::Stopped(cause) => Some(ChannelEnd::Stopped(cause)),
+            Progress::Over { opened } => Some(ChannelEnd::Over { opened }),
         }
     }
 
-    /// Makes a turn, and answers whether the channel's thread ends behind it.
-    fn step<R: Wait>(&mut self, rt: &R, alloc: Global, board: &Board) -> bool
-        ensures { C.queues self.new.channel ≡ C.queues self.old.channel }
+    /// Makes a turn, and answers how the channel's thread ends behind it, if it does.
+    fn step<R: Wait>(&mut self, rt: &R, alloc: Global, board: &Board) -> Option<ChannelEnd>
+        ensures ended { (p : AProgress) × (all_ended : Bool) × C.proceeds self.old.channel p self.new.channel × (result ≡ thread_end (is_spent self.old.refusals) all_ended p) }
+        ensures same { C.queues self.new.channel ≡ C.queues self.old.channel }
+        ensures short { IsTrue (C.short self.old.channel) → IsTrue (C.short self.new.channel) }
     {
         let progress = self.channel.turn(rt, alloc);
-        self.is_done(board, progress)
+        if matches!(progress, Progress::Quiet) {
+            thread::yield_now();
+        }
+        self.end_behind(progress, board.have_hosts_ended())
     }
 
     /// What the channel's thread does: turns, until the channel stopped or can't plan with no phase left, or nothing is
@@ -69,14 +73,17 @@ impl<C: Channel> Lane<C> {
         board: &Board,
         number: usize,
     ) -> Lane<C>
-        ensures { C.queues result.channel ≡ C.queues self.channel }
+        ensures ended { (before : C) × (p : AProgress) × (spent : Bool) × (all_ended : Bool) × C.proceeds before p result.channel × (Some result.ended ≡ thread_end spent all_ended p) }
+        ensures same { C.queues result.channel ≡ C.queues self.channel }
+        ensures short { IsTrue (C.short self.channel) → IsTrue (C.short result.channel) }
     {
         for _ in rt.forever() {
-            if self.step(rt, alloc, board) {
-                break;
+            if let Some(end) = self.step(rt, alloc, board) {
+                self.ended = end;
+                board.end_channel(number);
+                return self;
             }
         }
-        board.end_channel(number);
-        self
+        unreachable!()
     }
 }

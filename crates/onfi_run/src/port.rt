@@ -1,12 +1,13 @@
 //! A host's ends on a channel.
-ghost use Rattle.std.specs.Prelude.{◌≡◌};
-ghost use Rattle.onfi_run.specs.Keys.{port_key, Collects};
+ghost use Rattle.std.specs.Prelude.{◌≡◌, ◌++◌, [], ◌∷◌, List, IfSome, IfNone};
+ghost use Rattle.onfi_request.specs.declared.request.Request.{Request as ARequest};
+ghost use Rattle.onfi_run.specs.Keys.{port_key, port_state, Collects};
+ghost use Rattle.onfi_run.specs.Sending.{IsSending};
 
 use crate::answers::Answers;
 use onfi_queue::{Host, SubmitFault};
 use onfi_reply::Inbox;
 use onfi_request::Request;
-use std::alloc::{AllocError, Global};
 use std::sync::Wait;
 
 /// A host's ends on a channel, and what it got there.
@@ -15,19 +16,14 @@ pub(crate) struct Port {
     pub(crate) host: Host,
     pub(crate) inbox: Inbox,
     pub(crate) answers: Answers,
+    /// Whether an operation was left out; all later ones are too then, so that none takes the serial of another.
+    pub(crate) left_out: bool,
 }
 
 impl Port {
-    /// Makes room for one more answer.
-    pub(crate) fn make_room(&mut self) -> Result<(), AllocError>
-        ensures { port_key self.new ≡ port_key self.old }
-    {
-        self.answers.make_room()
-    }
-
     /// Collects the next reply, and answers whether there was one.
     pub(crate) fn collect<R: Wait>(&mut self, rt: &R) -> bool
-        ensures same { port_key self.new ≡ port_key self.old }
+        ensures same { port_state self.new ≡ port_state self.old }
         ensures collected { Collects result self.old self.new }
     {
         match self.inbox.collect(rt) {
@@ -39,13 +35,31 @@ impl Port {
         }
     }
 
-    /// Submits a request; it comes back where the queue was full.
-    pub(crate) fn submit<R: Wait>(&mut self, rt: &R, request: Request) -> Option<Request>
-        ensures { port_key self.new ≡ port_key self.old }
+    /// Leaves an operation out.
+    pub(crate) fn leave_out(&mut self)
+        ensures same { port_key self.new ≡ port_key self.old }
+        ensures left { (requests : List ARequest) (request : ARequest) → IsSending requests self.old → IsSending (requests ++ request ∷ []) self.new }
     {
+        self.left_out = true;
+    }
+
+    /// Submits a request behind all that were submitted, or leaves it out where one was left out before. It comes back
+    /// where the queue was full.
+    pub(crate) fn submit<R: Wait>(&mut self, rt: &R, request: Request) -> Option<Request>
+        ensures same { port_key self.new ≡ port_key self.old }
+        ensures sent { IfNone result ((requests : List ARequest) → IsSending requests self.old → IsSending (requests ++ request ∷ []) self.new) }
+        ensures full { IfSome result (λ back. (back ≡ request) × (port_state self.new ≡ port_state self.old)) }
+    {
+        if self.left_out {
+            return None;
+        }
         match self.host.submit(rt, request) {
+            Ok(_) => None,
             Err((SubmitFault::Full, request)) => Some(request),
-            _ => None,
+            Err(_) => {
+                self.leave_out();
+                None
+            }
         }
     }
 }

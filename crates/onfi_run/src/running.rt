@@ -4,13 +4,13 @@ ghost use Rattle.std.specs.Io.KnownBytes.{Keeps};
 ghost use Rattle.onfi_script.specs.AnswerOf.{answer_of};
 ghost use Rattle.onfi_run.specs.Prepares.{IsPrepared};
 ghost use Rattle.onfi_run.specs.Running.{IsAnswer, Answers, BeginsAnswer};
+ghost use Rattle.onfi_run.specs.Told.{IsReportOf};
 
 use crate::finishing::finish_all;
 use crate::no_gate::no_gates;
 use crate::opening::Stage;
 use crate::preparing::{Prepared, prepare};
 use crate::report::Report;
-use crate::setup::setup_of;
 use crate::text::report_answer;
 use crate::threads::run_threads;
 use onfi_script::{Answer, EngineFault, InputFault, Stop, read_all, refused, tell};
@@ -30,11 +30,13 @@ fn run<R: Threads + Wait + Sync, G: Gate + Send + Drop>(
 ) -> Result<Report, AllocError>
     requires some { 1 ≤ limit }
     requires few { limit ≤ 1048576 }
+    requires gates { length gates.items ≡ 4 }
+    ensures { IfOk result (λ report. IsReportOf prepared.now.rows.items report) }
 {
     let rows = prepared.rows.as_slice();
-    let setup = setup_of(rows, &prepared.device, limit);
-    let Stage { lanes, stations } = Stage::open(alloc, setup, rows, gates)?;
-    match run_threads(rt, alloc, &setup.geometry, rows, lanes, stations) {
+    let stage = Stage::open(alloc, rows, &prepared.device, limit, gates)?;
+    let Stage { lanes, stations } = stage;
+    match run_threads(rt, alloc, &prepared.device.geometry, rows, lanes, stations) {
         Some((lanes, stations)) => finish_all(rt, alloc, lanes, stations),
         None => Err(AllocError),
     }
@@ -50,6 +52,7 @@ fn answer<R: Threads + Wait + Sync, G: Gate + Send + Drop>(
 ) -> Result<Answer, AllocError>
     requires some { 1 ≤ limit }
     requires few { limit ≤ 1048576 }
+    requires gates { length gates.items ≡ 4 }
     ensures { IfOk result (λ a. IsAnswer input.now (answer_of a)) }
 {
     match prepare(alloc, input) {
@@ -65,8 +68,9 @@ fn answer<R: Threads + Wait + Sync, G: Gate + Send + Drop>(
 /// Reads a script of hosts' operations, runs each channel and each host in a thread of its own, and writes what each host
 /// got. Gate i, of four, is called before each turn of channel i; one planning opens at most `limit` nodes, 1 to 1,048,576.
 ///
-/// Answers the exit status of the program: 0 where everything is answered, 1 where the script is refused, 3 where a
-/// channel stopped or was left unfinished, 4 for want of memory, 6 where a planning opened `limit` nodes and wasn't over.
+/// Answers the exit status of the program: 0 only where each operation of the script is answered, 1 where the script is
+/// refused, 3 where a channel stopped or was left unfinished, 4 for want of memory, 6 where a planning opened `limit` nodes
+/// and wasn't over.
 ///
 /// # Errors
 /// `Read` where a read failed or 2^40 reads did not come to the end: nothing was written. `Write` where a write failed: a

@@ -1,8 +1,13 @@
 //! A host with its ends on all channels.
-ghost use Rattle.std.specs.Prelude.{◌≡◌, ℕ, map};
-ghost use Rattle.onfi_run.specs.Keys.{port_key, HasSamePorts};
+ghost use Rattle.std.specs.Prelude.{◌≡◌, ℕ, ◌++◌, [], ◌∷◌, List, map};
+ghost use Rattle.onfi_request.specs.declared.request.Request.{Request as ARequest};
+ghost use Rattle.onfi_script.specs.declared.row.Row.{Row as ARow};
+ghost use Rattle.onfi_run.specs.Keys.{HasSamePorts, SendsNothing};
+ghost use Rattle.onfi_run.specs.Requests.{request_of as spec_request_of};
+ghost use Rattle.onfi_run.specs.Sending.{AreSending, HasSent, Tried, with_request};
 
 use crate::board::Board;
+use crate::operations::operation_of;
 use crate::port::Port;
 use crate::request::request_of;
 use onfi_addr::Geometry;
@@ -31,9 +36,10 @@ pub(crate) struct Stations {
 }
 
 impl Station {
-    /// Collects all that waits in one inbox.
-    fn empty<R: Wait>(&mut self, rt: &R, channel: usize)
-        ensures { HasSamePorts self.old.ports.items self.new.ports.items }
+    /// Collects the next reply of one inbox.
+    fn collect<R: Wait>(&mut self, rt: &R, channel: usize)
+        ensures number { self.new.number ≡ self.old.number }
+        ensures same { SendsNothing self.old.ports.items self.new.ports.items }
     {
         if channel < self.ports.len() {
             self.ports[channel].collect(rt);
@@ -41,17 +47,31 @@ impl Station {
     }
 
     /// Collects what waits in each inbox, one reply of each.
-    pub(crate) fn collect_all<R: Wait>(&mut self, rt: &R)
-        ensures { HasSamePorts self.old.ports.items self.new.ports.items }
+    fn collect_all<R: Wait>(&mut self, rt: &R)
+        ensures number { self.new.number ≡ self.old.number }
+        ensures same { SendsNothing self.old.ports.items self.new.ports.items }
     {
         for channel in 0..4usize {
-            self.empty(rt, channel);
+            self.collect(rt, channel);
+        }
+    }
+
+    /// Leaves an operation on a channel out.
+    fn leave_out(&mut self, channel: usize)
+        ensures number { self.new.number ≡ self.old.number }
+        ensures same { HasSamePorts self.old.ports.items self.new.ports.items }
+        ensures left { (requests : ℕ → List ARequest) (request : ARequest) → AreSending requests self.old.ports.items → AreSending (with_request requests channel request) self.new.ports.items }
+    {
+        if channel < self.ports.len() {
+            self.ports[channel].leave_out();
         }
     }
 
     /// Submits a request to a channel; it comes back where the queue was full.
     fn submit_once<R: Wait>(&mut self, rt: &R, channel: usize, request: Request) -> Option<Request>
-        ensures { HasSamePorts self.old.ports.items self.new.ports.items }
+        ensures number { self.new.number ≡ self.old.number }
+        ensures same { HasSamePorts self.old.ports.items self.new.ports.items }
+        ensures tried { Tried result channel request self.old.ports.items self.new.ports.items }
     {
         if channel < self.ports.len() {
             self.ports[channel].submit(rt, request)
@@ -60,32 +80,43 @@ impl Station {
         }
     }
 
+    /// Submits a request to a channel. Where the queue is full it collects from all inboxes; the request comes back then,
+    /// or is left out where the channel has ended.
+    fn try_submit<R: Wait>(
+        &mut self,
+        rt: &R,
+        board: &Board,
+        channel: usize,
+        request: Request,
+    ) -> Option<Request>
+        ensures number { self.new.number ≡ self.old.number }
+        ensures same { HasSamePorts self.old.ports.items self.new.ports.items }
+        ensures tried { Tried result channel request self.old.ports.items self.new.ports.items }
+    {
+        let request = self.submit_once(rt, channel, request)?;
+        self.collect_all(rt);
+        if board.has_channel_ended(channel) {
+            self.leave_out(channel);
+            return None;
+        }
+        thread::yield_now();
+        Some(request)
+    }
+
     /// Submits a request to a channel. While the queue is full it collects from all inboxes and tries again, until the
-    /// channel has ended: the request is left out then.
+    /// channel has ended: the request is left out then, and all later ones.
     fn submit<R: Wait>(&mut self, rt: &R, board: &Board, channel: usize, request: Request)
-        ensures { HasSamePorts self.old.ports.items self.new.ports.items }
+        ensures number { self.new.number ≡ self.old.number }
+        ensures same { HasSamePorts self.old.ports.items self.new.ports.items }
+        ensures sent { (requests : ℕ → List ARequest) → AreSending requests self.old.ports.items → AreSending (with_request requests channel request) self.new.ports.items }
     {
         let mut left = Some(request);
         for _ in rt.forever() {
             let Some(request) = left else {
                 break;
             };
-            left = self.submit_once(rt, channel, request);
-            if left.is_some() {
-                self.collect_all(rt);
-                if board.has_channel_ended(channel) {
-                    break;
-                }
-                thread::yield_now();
-            }
+            left = self.try_submit(rt, board, channel, request);
         }
-    }
-
-    /// Makes room for one more answer of a channel, and answers whether there is.
-    fn make_room(&mut self, channel: usize) -> bool
-        ensures { HasSamePorts self.old.ports.items self.new.ports.items }
-    {
-        channel < self.ports.len() && self.ports[channel].make_room().is_ok()
     }
 
     /// Makes an operation, or leaves it out where memory is refused.
@@ -97,12 +128,18 @@ impl Station {
         board: &Board,
         operation: &Operation,
     )
-        ensures { HasSamePorts self.old.ports.items self.new.ports.items }
+        ensures number { self.new.number ≡ self.old.number }
+        ensures same { HasSamePorts self.old.ports.items self.new.ports.items }
+        ensures sent { (requests : ℕ → List ARequest) → AreSending requests self.old.ports.items
+            → AreSending (with_request requests operation.now.aim.channel (spec_request_of geometry.now operation.now)) self.new.ports.items }
     {
         let channel = usize::from(operation.aim.channel);
         match request_of(alloc, geometry, operation) {
-            Ok(request) if self.make_room(channel) => self.submit(rt, board, channel, request),
-            _ => self.short_of_memory = true,
+            Ok(request) => self.submit(rt, board, channel, request),
+            Err(_) => {
+                self.short_of_memory = true;
+                self.leave_out(channel);
+            }
         }
     }
 
@@ -115,13 +152,12 @@ impl Station {
         board: &Board,
         row: &Row,
     )
-        ensures { HasSamePorts self.old.ports.items self.new.ports.items }
+        ensures number { self.new.number ≡ self.old.number }
+        ensures same { HasSamePorts self.old.ports.items self.new.ports.items }
+        ensures sent { (before : List ARow) → HasSent geometry.now before self.old.number self.old.ports.items → HasSent geometry.now (before ++ row.now ∷ []) self.old.number self.new.ports.items }
     {
-        match row {
-            Row::Op(operation) if operation.aim.host == self.number => {
-                self.operate(rt, alloc, geometry, board, operation);
-            }
-            _ => {}
+        if let Some(operation) = operation_of(row, self.number) {
+            self.operate(rt, alloc, geometry, board, operation);
         }
     }
 
@@ -134,7 +170,9 @@ impl Station {
         board: &Board,
         rows: &[Row],
     )
-        ensures { HasSamePorts self.old.ports.items self.new.ports.items }
+        ensures number { self.new.number ≡ self.old.number }
+        ensures same { HasSamePorts self.old.ports.items self.new.ports.items }
+        ensures sent { HasSent geometry.now [] self.old.number self.old.ports.items → HasSent geometry.now rows.now self.old.number self.new.ports.items }
     {
         for row in rows {
             self.follow(rt, alloc, geometry, board, row);
@@ -143,7 +181,8 @@ impl Station {
 
     /// Collects until all hosts have ended.
     fn wait_for_others<R: Wait>(&mut self, rt: &R, board: &Board)
-        ensures { HasSamePorts self.old.ports.items self.new.ports.items }
+        ensures number { self.new.number ≡ self.old.number }
+        ensures same { SendsNothing self.old.ports.items self.new.ports.items }
     {
         for _ in rt.forever() {
             if board.have_hosts_ended() {
@@ -164,7 +203,8 @@ impl Station {
         board: &Board,
         rows: &[Row],
     ) -> Station
-        ensures { HasSamePorts self.ports.items result.ports.items }
+        ensures same { HasSamePorts self.ports.items result.ports.items }
+        ensures sent { HasSent geometry.now [] self.number self.ports.items → HasSent geometry.now rows.now self.number result.ports.items }
     {
         self.follow_all(rt, alloc, geometry, board, rows);
         board.end_host();

@@ -83,7 +83,7 @@ fn put_answers(
     channel: usize,
     answers: &[Option<Answer>],
 ) -> Result<(), AllocError>
-    ensures { OnOk result (string_bytes text.new ≡ string_bytes text.old ++ spec.answers_lines host channel answers.now) }
+    ensures { OnOk result (string_bytes text.new ≡ string_bytes text.old ++ spec.numbered (spec.reply_line host channel) 0 answers.now) }
 {
     for (serial, answer) in answers.iter().enumerate() {
         put_reply(alloc, text, host, channel, serial, answer)?;

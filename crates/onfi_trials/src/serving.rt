@@ -89,9 +89,21 @@ impl Served {
                 println!(rt; "{turn:?}")?;
                 return Ok(turn);
             }
-            println!(rt; "memory")?;
+            self.say_memory(rt)?;
         }
         Err(Ended::Memory)
+    }
+
+    /// That memory was refused, whether a phase is left, and whether the sequencer forgot it.
+    fn say_memory(&self, rt: &impl Print) -> Result<(), Ended> {
+        if !self.sequencer.was_short_of_memory() {
+            println!(rt; "forgotten")?;
+        } else if self.sequencer.has_phase() {
+            println!(rt; "memory with a phase left")?;
+        } else {
+            println!(rt; "memory")?;
+        }
+        Ok(())
     }
 
     fn make_turn<R: Wait>(&mut self, rt: &R) -> Turn {

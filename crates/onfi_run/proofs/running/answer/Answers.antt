@@ -13,7 +13,7 @@ returns-in-Ok g c =
     let input = c.args.input.now in
     let p = c.in-Ok.prepared in
     let report = c.in_ok-report-in-Ok.report in
-    IfOk-weaker c.report_answer.result (λ a. answer_of a ≡ report_answer report) (λ a. IsAnswer input (answer_of a)) (λ a e. is_report p.rows.items p.device report c.in-Ok.ensures e) c.report_answer.ensures
+    IfOk-weaker c.report_answer.result (λ a. answer_of a ≡ report_answer report) (λ a. IsAnswer input (answer_of a)) (λ a e. is_report p.rows.items p.device report c.in-Ok.ensures c.in_ok-report-in-Ok.ensures e) c.report_answer.ensures
 
 pub returns-in-Err-Refused : goal.returns-in-Err-Refused
 returns-in-Err-Refused g c =

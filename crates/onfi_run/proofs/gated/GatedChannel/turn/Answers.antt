@@ -1,7 +1,19 @@
 use Rattle.onfi_chip.specs.SimChip.{chip_in}
+use Rattle.onfi_core.specs.Steps.{none_left}
 use Rattle.onfi_seq.specs.Sequencer.{seen_in}
+use Rattle.onfi_run.proofs.Proceeding.{refused_kept}
 use Rattle.onfi_run.proofs.Same.{same_queues}
 use Rattle.onfi_run.proofs.gated.GatedChannel.turn.Goals as goal
 
-pub returns : goal.returns
-returns g c = same_queues (seen_in chip_in c.args.self.now.sequencer) (seen_in chip_in c.turn-turn.new.self) c.turn-turn.ensures.same
+pub returns-clause-turned : goal.returns-clause-turned
+returns-clause-turned g c = record { answer = c.turn-turn.result; turned = c.turn-turn.ensures.turned; told = c.progress.ensures }
+
+pub returns-clause-same : goal.returns-clause-same
+returns-clause-same g c = same_queues (seen_in chip_in c.args.self.now.sequencer) (seen_in chip_in c.turn-turn.new.self) c.turn-turn.ensures.same
+
+pub returns-clause-refused : goal.returns-clause-refused
+returns-clause-refused g c =
+    refused_kept (seen_in chip_in c.args.self.now.sequencer) (seen_in chip_in c.turn-turn.new.self) (none_left c.turn-turn.new.self.0.half) c.turn-turn.result c.progress.result c.turn-turn.ensures.turned c.progress.ensures
+
+pub returns-clause-short : goal.returns-clause-short
+returns-clause-short g c = c.turn-turn.ensures.short

@@ -1,0 +1,100 @@
+-- How the threads of channels go on and end, and what is told of a channel.
+use Rattle.std.specs.Prelude.{◌≡◌, ℕ, ◌+◌, ◌||◌, nat_le, Bool, true, false, if◌then◌else◌, List, Option, Some, None}
+use Rattle.onfi_core.specs.Steps.{none_left}
+use Rattle.onfi_queue.specs.Ends.{HostView}
+use Rattle.onfi_seq.specs.declared.drained.Drained.{Drained}
+use Rattle.onfi_seq.specs.declared.drained.Drained.TheVariants as drained
+use Rattle.onfi_seq.specs.Drained.{Drains}
+use Rattle.onfi_seq.specs.declared.turn.Turn.{Turn}
+use Rattle.onfi_seq.specs.declared.turn.Turn.TheVariants as turn
+use Rattle.onfi_seq.specs.Sequencer.{Seen}
+use Rattle.onfi_seq.specs.Turned.{Turned}
+use Rattle.onfi_run.specs.declared.channel.Drained.{Drained as DrainedAs}
+use Rattle.onfi_run.specs.declared.progress.Progress.{Progress}
+use Rattle.onfi_run.specs.declared.progress.Progress.TheVariants as progress
+use Rattle.onfi_run.specs.declared.channel_end.ChannelEnd.{ChannelEnd}
+use Rattle.onfi_run.specs.declared.channel_end.ChannelEnd.TheVariants as end
+
+-- ---- turns
+-- what a turn came to for its thread, where no phase is left behind it, or some is
+abbrev pub progress_of : Bool → Turn → Progress
+progress_of none (turn.Stopped cause) = progress.Stopped cause
+progress_of true (turn.Over opened) = progress.Over opened
+progress_of false (turn.Over opened) = progress.Moved
+progress_of true turn.Memory = progress.Starved
+progress_of false turn.Memory = progress.Refused
+progress_of none turn.Phase = progress.Advanced
+progress_of none turn.Planned = progress.Advanced
+progress_of none turn.Posted = progress.Moved
+progress_of none turn.Accepted = progress.Moved
+progress_of none turn.PostFull = progress.Quiet
+progress_of none turn.Idle = progress.Quiet
+
+-- a turn of a sequencer came to that
+pub record Proceeds (q : Seen) (p : Progress) (q' : Seen) : Type 0 where
+  pub answer : Turn
+  pub turned : Turned q answer q'
+  pub told : p ≡ progress_of (none_left q'.0.half) answer
+
+-- memory was refused
+abbrev pub is_refusal : Progress → Bool
+is_refusal progress.Refused = true
+is_refusal progress.Starved = true
+is_refusal _ = false
+
+-- ---- threads
+-- how a channel's thread ends behind a turn that came to this, if it does: `spent` tells that memory was refused too often, `all_ended` that the hosts have ended
+abbrev pub thread_end : Bool → Bool → Progress → Option ChannelEnd
+thread_end spent all_ended progress.Advanced = None
+thread_end spent all_ended progress.Moved = None
+thread_end spent all_ended progress.Quiet = if all_ended then Some end.Done else None
+thread_end spent all_ended progress.Refused = if spent then Some end.Unfinished else None
+thread_end spent all_ended progress.Starved = Some end.Unfinished
+thread_end spent all_ended (progress.Stopped cause) = Some (end.Stopped cause)
+thread_end spent all_ended (progress.Over opened) = Some (end.Over opened)
+
+-- one refusal more is the thousandth since the last phase or plan
+abbrev pub is_spent : ℕ → Bool
+is_spent refusals = nat_le 999 refusals
+
+-- how many there are behind a turn that came to this
+abbrev pub refusals_behind : ℕ → Progress → ℕ
+refusals_behind refusals progress.Advanced = 0
+refusals_behind refusals progress.Refused = if is_spent refusals then refusals else refusals + 1
+refusals_behind refusals _ = refusals
+
+-- ---- channels
+-- how a draining ended; memory is told apart
+abbrev pub end_of : Drained → ChannelEnd
+end_of drained.Empty = end.Done
+end_of drained.Memory = end.Done
+end_of drained.TurnsSpent = end.Unfinished
+end_of (drained.Stopped cause) = end.Stopped cause
+end_of (drained.Over opened) = end.Over opened
+
+abbrev pub is_memory : Drained → Bool
+is_memory drained.Memory = true
+is_memory _ = false
+
+-- a draining of a sequencer came to that: at most 1,000,000 turns; memory was refused to a turn of the sequencer, ever, or to the draining
+pub record DrainsTo (q : Seen) (hosts : List HostView) (d : DrainedAs) (q' : Seen) : Type 0 where
+  pub end : Drained
+  pub drained : Drains q hosts 1000000 end q'
+  pub told : d.end ≡ end_of end
+  pub short : d.short_of_memory ≡ (is_memory end || q'.0.short)
+
+-- how the thread ended where it stopped or was over, else this
+abbrev pub thread_or : ChannelEnd → ChannelEnd → ChannelEnd
+thread_or (end.Stopped cause) other = end.Stopped cause
+thread_or (end.Over opened) other = end.Over opened
+thread_or end.Done other = other
+thread_or end.Unfinished other = other
+
+-- What is told of a channel: how its draining ended. Where that left nothing to do and yet an operation has no answer, it is how the thread ended, or that memory was refused, which the last line tells, or that it is unfinished.
+abbrev pub channel_end : ChannelEnd → ChannelEnd → Bool → Bool → ChannelEnd
+channel_end end.Done thread true short = end.Done
+channel_end end.Done thread false true = thread_or thread end.Done
+channel_end end.Done thread false false = thread_or thread end.Unfinished
+channel_end (end.Stopped cause) thread complete short = end.Stopped cause
+channel_end (end.Over opened) thread complete short = end.Over opened
+channel_end end.Unfinished thread complete short = end.Unfinished

@@ -1,0 +1,76 @@
+//! The operations of a host on a channel.
+ghost use Rattle.std.specs.Prelude.{◌≡◌, IfOk, IfSome, IfNone, Some, None};
+ghost use Rattle.std.specs.List.{filter_map};
+ghost use Rattle.onfi_run.specs.Operations as spec;
+
+use onfi_request::Answer;
+use onfi_script::{Operation, Row};
+use onfi_timing::Kind;
+use std::alloc::{AllocError, Global};
+
+/// The operation that a row tells, where it is one of that host.
+pub(crate) fn operation_of(row: &Row, host: u8) -> Option<&Operation>
+    ensures some { IfSome result (λ operation. spec.operation_of host row.now ≡ Some operation.now) }
+    ensures none { IfNone result (spec.operation_of host row.now ≡ None) }
+{
+    match row {
+        Row::Op(operation) if operation.aim.host == host => Some(operation),
+        _ => None,
+    }
+}
+
+/// The kind of that operation, where it is one on that channel too.
+fn kind_in(row: &Row, host: u8, channel: u8) -> Option<Kind>
+    ensures { result ≡ spec.kind_in host channel row.now }
+{
+    let operation = operation_of(row, host)?;
+    if operation.aim.channel == channel {
+        Some(operation.aim.kind)
+    } else {
+        None
+    }
+}
+
+/// A place for its answer.
+fn place_in(row: &Row, host: u8, channel: u8) -> Option<Option<Answer>>
+    ensures { result ≡ spec.place_in host channel row.now }
+{
+    match kind_in(row, host, channel) {
+        Some(_) => Some(None),
+        None => None,
+    }
+}
+
+/// The kinds of a host's operations on a channel, in the order of their rows.
+///
+/// # Errors
+/// Want of memory.
+pub(crate) fn kinds_on(
+    alloc: Global,
+    rows: &[Row],
+    host: u8,
+    channel: u8,
+) -> Result<Vec<Kind>, AllocError>
+    ensures { IfOk result (λ kinds. kinds.items ≡ spec.kinds_on rows.now host channel) }
+{
+    rows.iter()
+        .filter_map(|row| kind_in(row, host, channel))
+        .collect(alloc)
+}
+
+/// Places for their answers.
+///
+/// # Errors
+/// Want of memory.
+pub(crate) fn places_on(
+    alloc: Global,
+    rows: &[Row],
+    host: u8,
+    channel: u8,
+) -> Result<Vec<Option<Answer>>, AllocError>
+    ensures { IfOk result (λ places. places.items ≡ filter_map (spec.place_in host channel) rows.now) }
+{
+    rows.iter()
+        .filter_map(|row| place_in(row, host, channel))
+        .collect(alloc)
+}
