@@ -5,7 +5,7 @@ use Rattle.onfi_timing.specs.declared.timing.Timing.{Timing}
 use Rattle.onfi_request.specs.declared.request.Item.{Item}
 use Rattle.onfi_request.specs.Range.{Fits}
 use Rattle.onfi_request.specs.declared.want.Want.{Want}
-use Rattle.onfi_chip.specs.Chip.{opened}
+use Rattle.onfi_chip.specs.Chip.{no_failures, opened}
 use Rattle.onfi_problem.specs.declared.lun_state.LunState.{LunState}
 use Rattle.onfi_problem.specs.declared.lun_state.LunState.TheVariants.{Free, Running}
 use Rattle.onfi_problem.specs.Problem.{Problem}
@@ -21,7 +21,7 @@ pub run_batch-requires-clause-opened : goal.run_batch-requires-clause-opened
 run_batch-requires-clause-opened g c =
     let made = rw c.expect-problem.ensures at c.new.ensures.ok in
     let timing = ap (λ (p : Problem). p.timing) made in
-    (c.in_ok-from_slice.field-0.items, 0, c.in_ok-chip.ensures.opened ∙ ap (λ (t : Timing). opened c.args.geometry.now t c.in_ok-from_slice.field-0.items 0) (sym timing))
+    (c.in_ok-from_slice.field-0.items, no_failures, c.in_ok-chip.ensures.opened ∙ ap (λ (t : Timing). opened c.args.geometry.now t c.in_ok-from_slice.field-0.items no_failures) (sym timing))
 
 pub run_batch-requires-clause-batch : goal.run_batch-requires-clause-batch
 run_batch-requires-clause-batch g c =
