@@ -1,10 +1,9 @@
 -- Answers that are collected, and lists of what hosts got.
-use Rattle.std.proofs.Common.{◌≡◌, ◌<◌, ℕ, zero, suc, ◌+◌, Bool, true, false, List, [], ◌∷◌, ◌++◌, length, map, get_or, refl, sym, ap, ◌∙◌, subst, arith, append_assoc, append-nil, Some, None}
+use Rattle.std.proofs.Common.{◌≡◌, ℕ, zero, suc, ◌+◌, Bool, true, false, List, [], ◌∷◌, ◌++◌, length, map, refl, sym, ap, ◌∙◌, subst, arith, append_assoc, append-nil, Some}
 use Rattle.std.specs.Prelude.{IsTrue, ◌&&◌, ◌||◌, slice_get, slice_set}
-use Rattle.std.specs.List.{AllByRecursion as Each, list_any}
+use Rattle.std.specs.List.{AllByRecursion as Each}
 use Rattle.std.proofs.Math.Bool.{cond}
 use Rattle.std.proofs.lemmas.List.{map-append}
-use Rattle.onfi_timing.specs.declared.kind.Kind.{Kind}
 use Rattle.onfi_request.specs.declared.reply.Reply.{Reply}
 use Rattle.onfi_run.specs.declared.channel_end.ChannelEnd.{ChannelEnd}
 use Rattle.onfi_run.specs.declared.channel_end.ChannelEnd.TheVariants as end
@@ -13,9 +12,10 @@ use Rattle.onfi_run.specs.declared.finishing.Gathered.{Gathered}
 use Rattle.onfi_run.specs.declared.port.Port.{Port}
 use Rattle.onfi_run.specs.declared.station.Stations.{Stations}
 use Rattle.onfi_run.specs.Answers.{AddsReplies, IsComplete, IsSuited, is_complete, suits_any, with_replies, with_reply}
-use Rattle.onfi_run.specs.ByHost.{are_complete}
+use Rattle.onfi_run.specs.ByHost.{Empties, given_by, with_given}
+use Rattle.onfi_reply.specs.Ends.{InboxView}
 use Rattle.onfi_run.specs.Finishing.{AreDone, HasGot, IsFinished, IsGathered, IsNothing, IsWith, TakesPorts}
-use Rattle.onfi_run.specs.Keys.{AreLinked, ChannelQueues, port_places}
+use Rattle.onfi_run.specs.Keys.{AreLinked, port_places}
 use Rattle.onfi_run.specs.Report.{AnswersView, GotView, is_any_cut_short, is_any_over, status_of}
 use Rattle.onfi_run.specs.Told.{places, places_by_channel}
 
@@ -23,12 +23,6 @@ use Rattle.onfi_run.specs.Told.{places, places_by_channel}
 with_one_more : (got : AnswersView) (more : List Reply) (r : Reply) → with_replies got (more ++ r ∷ []) ≡ with_reply (with_replies got more) r
 with_one_more got [] r = refl
 with_one_more got (x ∷ more) r = with_one_more (with_reply got x) more r
-
-pub adds_none : (got : AnswersView) → AddsReplies got got
-adds_none got = ([], refl)
-
-pub adds_more : (old mid new : AnswersView) (r : Reply) → AddsReplies old mid → new ≡ with_reply mid r → AddsReplies old new
-adds_more old mid new r (more, is) next = (more ++ r ∷ [], next ∙ ap (λ a. with_reply a r) is ∙ sym (with_one_more old more r))
 
 one_kept : (b : Bool) (a g : AnswersView) → a.kinds ≡ g.kinds → (cond b a g).kinds ≡ g.kinds
 one_kept true a g e = e
@@ -41,6 +35,27 @@ kinds_kept got (r ∷ more) =
 
 adds_kinds : (old new : AnswersView) → AddsReplies old new → new.kinds ≡ old.kinds
 adds_kinds old new (more, is) = ap (λ (a : AnswersView). a.kinds) is ∙ kinds_kept old more
+
+-- ---- what inboxes gave
+pub gives_none : (host : ℕ) (given : List (List Reply)) → given ≡ with_given host [] given
+gives_none host [] = refl
+gives_none zero (g ∷ given) = ap (λ l. l ∷ given) (sym (append-nil g))
+gives_none (suc host) (g ∷ given) = ap (λ l. g ∷ l) (gives_none host given)
+
+gives_both : (host : ℕ) (more : List Reply) (r : Reply) (given : List (List Reply)) → with_given host (r ∷ []) (with_given host more given) ≡ with_given host (more ++ r ∷ []) given
+gives_both host more r [] = refl
+gives_both zero more r (g ∷ given) = ap (λ l. l ∷ given) (append_assoc g more (r ∷ []))
+gives_both (suc host) more r (g ∷ given) = ap (λ l. g ∷ l) (gives_both host more r given)
+
+pub empties_none : (host : ℕ) (inboxes : List InboxView) (got : AnswersView) → Empties host inboxes inboxes got got
+empties_none host inboxes got = record { replies = []; given = gives_none host (given_by inboxes); kept = refl }
+
+pub empties_more : (host : ℕ) (old mid new : List InboxView) (a b d : AnswersView) (r : Reply) → Empties host old mid a b → given_by new ≡ with_given host (r ∷ []) (given_by mid) → d ≡ with_reply b r → Empties host old new a d
+empties_more host old mid new a b d r e gave kept = record {
+  replies = e.replies ++ r ∷ [];
+  given = gave ∙ ap (with_given host (r ∷ [])) e.given ∙ gives_both host e.replies r (given_by old);
+  kept = kept ∙ ap (λ x. with_reply x r) e.kept ∙ sym (with_one_more a e.replies r);
+}
 
 -- ---- lists
 each_longer : {X : Type 0} (P : X → Type 0) (xs : List X) (x : X) → Each P xs → P x → Each P (xs ++ x ∷ [])

@@ -1,6 +1,6 @@
 -- Hosts as they open.
-use Rattle.std.proofs.Common.{◌≡◌, ℕ, zero, suc, ◌+◌, List, [], ◌∷◌, ◌++◌, length, map, refl, sym, ap, ◌∙◌, subst, arith}
-use Rattle.std.specs.List.{AllByRecursion as Each, range_with_len}
+use Rattle.std.proofs.Common.{◌≡◌, ℕ, ◌+◌, List, [], ◌∷◌, ◌++◌, map, refl, sym, ap, ◌∙◌, subst, arith}
+use Rattle.std.specs.List.{AllByRecursion as Each}
 use Rattle.std.proofs.lemmas.List.{map-append}
 use Rattle.std.proofs.lemmas.List.FromFn.{map-range_with_len_more}
 use Rattle.onfi_queue.specs.Ends.{HostView, IntakeView, four_hosts, fresh_host}
@@ -39,13 +39,15 @@ each_more (x ∷ ports) p (here, all) one = (here, each_more ports p all one)
 
 pub new_more : (rows : List Row) (channels host : ℕ) (s s' : Station) (p : Port) → s'.number ≡ s.number → s'.ports.items ≡ s.ports.items ++ p ∷ [] → IsNewStation rows channels host s → IsNewPort rows host channels p
     → IsNewStation rows (channels + 1) host s'
-new_more rows channels host s s' p number ports all one = record {
-  number_is = number ∙ all.number_is;
-  unsent = subst (Each (λ (x : Port). x.host.sent ≡ [])) (sym ports) (each_more s.ports.items p all.unsent one.unsent);
-  places =
-      ap (map port_places) ports ∙ map-append port_places s.ports.items (p ∷ []) ∙ ap (λ l. l ++ port_places p ∷ []) all.places ∙ ap (λ k. kinds_of rows channels host ++ k ∷ []) one.places
-      ∙ sym (map-range_with_len_more (kinds_on rows host) 0 channels channels refl);
-}
+new_more rows channels host s s' p number ports all one =
+    let from_zero : 0 + channels ≡ channels = omega arith in
+    record {
+      number_is = number ∙ all.number_is;
+      unsent = subst (Each (λ (x : Port). x.host.sent ≡ [])) (sym ports) (each_more s.ports.items p all.unsent one.unsent);
+      places =
+          ap (map port_places) ports ∙ map-append port_places s.ports.items (p ∷ []) ∙ ap (λ l. l ++ port_places p ∷ []) all.places ∙ ap (λ k. kinds_of rows channels host ++ k ∷ []) one.places
+          ∙ sym (map-range_with_len_more (kinds_on rows host) 0 channels channels from_zero);
+    }
 
 pub new_none : (rows : List Row) (host : ℕ) (s : Station) → s.number ≡ host → s.ports.items ≡ [] → IsNewStation rows 0 host s
 new_none rows host s number none = record {

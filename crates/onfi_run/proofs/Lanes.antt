@@ -1,6 +1,5 @@
 -- Channels that open with all ends of their queues.
 use Rattle.std.proofs.Common.{◌≡◌, ℕ, ◌+◌, List, [], ◌∷◌, ◌++◌, length, map, get_or, refl, sym, ap, ◌∙◌, subst, add-zero, arith, Some}
-use Rattle.std.specs.Prelude.{Option}
 use Rattle.std.proofs.lemmas.List.{map-append}
 use Rattle.onfi_core.specs.declared.setup.Setup.{Setup}
 use Rattle.onfi_queue.specs.Ends.{HostView, IntakeView, four_hosts, fresh_host}
@@ -10,8 +9,7 @@ use Rattle.onfi_seq.specs.Drained.{poster_queues}
 use Rattle.onfi_run.specs.declared.gated.Gated.{Gated}
 use Rattle.onfi_run.specs.declared.lane.Lane.{Lane}
 use Rattle.onfi_run.specs.declared.port.Port.{Port}
-use Rattle.onfi_run.specs.declared.station.Stations.{Stations}
-use Rattle.onfi_run.specs.Keys.{ChannelQueues, PortEnds, port_ends, port_key, port_places, end_of, AreLinked, AreAllLinked, HasSamePorts}
+use Rattle.onfi_run.specs.Keys.{ChannelQueues, PortEnds, port_ends, port_key, port_places, end_of, AreLinked, HasSamePorts}
 use Rattle.onfi_run.specs.Opening.{IsOpened, AreOpened, lane_queues}
 
 -- ---- the ends of one channel
@@ -107,6 +105,12 @@ opened_with setup rows gates left gate lanes all lane number gates_are number_is
     let n : number ≡ 0 + length left = omega (arith, number_is) in
     let more = opened_more setup rows 0 left gate lanes lane opened (subst (λ k. IsOpened setup rows k gate lane) n one) in
     subst (λ gs. AreOpened setup rows 0 gs all) (sym gates_are) (subst (λ ls. AreOpened setup rows 0 (left ++ gate ∷ []) ls) (sym all_are) more)
+
+pub opened_count : {G : Type 0} (setup : Setup) (rows : List Row) (number : ℕ) (gates : List G) (lanes : List (Lane (Gated G))) → AreOpened setup rows number gates lanes → length lanes ≡ length gates
+opened_count setup rows number [] [] all = refl
+opened_count setup rows number (g ∷ gates) [] all = absurd all
+opened_count setup rows number [] (l ∷ lanes) all = absurd all
+opened_count setup rows number (g ∷ gates) (l ∷ lanes) (here, all) = let n = opened_count setup rows (number + 1) gates lanes all in omega (arith, n)
 
 -- ---- behind the threads
 ends_by_key : (ports : List Port) → map port_ends ports ≡ map (λ k. k.0) (map port_key ports)

@@ -1,7 +1,6 @@
 -- What turns and drainings come to.
 use Rattle.std.proofs.Common.{◌≡◌, Bool, true, false, refl, sym, ap, ◌∙◌, inl, inr}
 use Rattle.std.specs.Prelude.{◌||◌, IsTrue}
-use Rattle.onfi_core.specs.Steps.{none_left}
 use Rattle.onfi_seq.specs.declared.turn.Turn.{Turn}
 use Rattle.onfi_seq.specs.declared.turn.Turn.TheVariants as turn
 use Rattle.onfi_seq.specs.Sequencer.{Seen}

@@ -1,16 +1,14 @@
 -- From what came of all channels to what a report tells of its rows.
-use Rattle.std.proofs.Common.{◌≡◌, ◌≤◌, ℕ, ◌+◌, List, [], ◌∷◌, length, map, take, refl, sym, ap, ◌∙◌, subst, arith}
-use Rattle.std.specs.List.{AllByRecursion as Each, range_with_len}
+use Rattle.std.proofs.Common.{◌≡◌, ℕ, List, [], ◌∷◌, length, map, refl, sym, ◌∙◌, subst, arith}
 use Rattle.onfi_script.specs.declared.row.Row.{Row}
 use Rattle.onfi_timing.specs.declared.kind.Kind.{Kind}
 use Rattle.onfi_run.specs.declared.finishing.Gathered.{Gathered}
 use Rattle.onfi_run.specs.declared.station.Stations.{Stations}
-use Rattle.onfi_run.specs.Answers.{IsComplete, IsSuited}
 use Rattle.onfi_run.specs.Finishing.{IsGathered, report_of}
-use Rattle.onfi_run.specs.Keys.{HaveSamePorts, port_places}
+use Rattle.onfi_run.specs.Keys.{HaveSamePorts}
 use Rattle.onfi_run.specs.Opening.{AreNew}
 use Rattle.onfi_run.specs.Operations.{kinds_of}
-use Rattle.onfi_run.specs.Report.{GotView, ReportView}
+use Rattle.onfi_run.specs.Report.{ReportView}
 use Rattle.onfi_run.specs.Setup.{channels_in}
 use Rattle.onfi_run.specs.Told.{IsReportOf, places_by_channel}
 use Rattle.onfi_run.proofs.Collecting.{status_done}
@@ -31,8 +29,8 @@ told rows before behind g new same all = record {
   ends_are = all.count;
   suited = (all.first.suited, (all.second.suited, (all.third.suited, (all.fourth.suited, tt))));
   complete = λ fine.
-    let done = status_done g fine in
-    (all.first.complete done, (all.second.complete done, (all.third.complete done, (all.fourth.complete done, tt))));
+      let done = status_done g fine in
+      (all.first.complete done, (all.second.complete done, (all.third.complete done, (all.fourth.complete done, tt))));
 }
 
 pub same_length : {A B K : Type 0} (f : A → K) (h : B → K) (xs : List A) (ys : List B) → map f xs ≡ map h ys → length xs ≡ length ys

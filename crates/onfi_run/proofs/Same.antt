@@ -1,9 +1,9 @@
 -- A sequencer keeps the queues that its ends are of.
-use Rattle.std.proofs.Common.{◌≡◌, ℕ, zero, suc, List, [], ◌∷◌, length, map, refl, sym, ap, ◌∙◌, Some, arith}
+use Rattle.std.proofs.Common.{◌≡◌, ℕ, suc, List, [], ◌∷◌, length, map, refl, sym, ap, ◌∙◌, Some, arith}
 use Rattle.std.specs.Prelude.{slice_get}
 use Rattle.onfi_reply.specs.Ends.{InboxView, PosterView}
-use Rattle.onfi_seq.specs.Drained.{HasGrown, HaveGrown, poster_queues}
-use Rattle.onfi_seq.specs.Sequencer.{IsSameChannel, Seen, intake_ends, poster_ends}
+use Rattle.onfi_seq.specs.Drained.{HasGrown, poster_queues}
+use Rattle.onfi_seq.specs.Sequencer.{IsSameChannel, Seen, poster_ends}
 use Rattle.onfi_run.specs.Keys.{ChannelQueues, queues_of}
 
 queues_by_ends : (posters : List PosterView) → poster_queues posters ≡ map (λ e. e.0) (map poster_ends posters)

@@ -1,8 +1,8 @@
 -- What hosts send, call by call.
-use Rattle.std.proofs.Common.{arith, ◌≡◌, ◌≢◌, ◌<◌, ◌≤◌, take, ◌+◌, ◌⊎◌, inl, inr, ℕ, zero, suc, Bool, true, false, List, [], ◌∷◌, ◌++◌, length, map, get_or, refl, sym, ap, ◌∙◌, subst, append_assoc, append-nil, Some, None}
-use Rattle.std.specs.Prelude.{Option, IfSome, IfNone, slice_get, set, ◌==◌, ◌&&◌, if◌then◌else◌}
+use Rattle.std.proofs.Common.{arith, ◌≡◌, ◌≢◌, ◌<◌, ◌≤◌, take, ◌⊎◌, inl, inr, ℕ, zero, suc, Bool, true, false, List, [], ◌∷◌, ◌++◌, length, map, get_or, refl, sym, ap, ◌∙◌, subst, append-nil, Some, None}
+use Rattle.std.specs.Prelude.{Option, IfSome, IfNone, slice_get, set, ◌==◌}
 use Rattle.std.specs.Option.{option_map}
-use Rattle.std.specs.List.{cons_option, filter_map}
+use Rattle.std.specs.List.{cons_option}
 use Rattle.std.proofs.Math.Bool.{cond}
 use Rattle.std.proofs.lemmas.Bool.{eq-eqb, ne_eqb}
 use Rattle.std.proofs.lemmas.List.Elements.{filter_map-append}
@@ -16,7 +16,7 @@ use Rattle.onfi_run.specs.declared.port.Port.{Port}
 use Rattle.onfi_run.specs.Keys.{port_key, port_state, HasSamePorts, SendsNothing}
 use Rattle.onfi_run.specs.Operations.{on_channel, operation_of, request_in, requests_on}
 use Rattle.onfi_run.specs.Requests.{request_of}
-use Rattle.onfi_run.specs.Sending.{AreSending, HasSent, IsSending, Tried, sent_by, with_request}
+use Rattle.onfi_run.specs.Sending.{AreSending, HasSent, IsSending, Tried, with_request}
 
 -- ---- ports that send nothing
 keys_by_state : (ports : List Port) → map port_key ports ≡ map (λ s. s.0) (map port_state ports)
@@ -42,6 +42,7 @@ was_there (o ∷ old) (n ∷ new) zero q same there = (o, refl, ap port_state (s
   where
     some_is : (x y : Port) → Some x ≡ Some y → x ≡ y
     some_is x y e = cc
+
     head_is : {A : Type 0} (x y : A) (xs ys : List A) → x ∷ xs ≡ y ∷ ys → x ≡ y
     head_is x y xs ys e = cc
 was_there (o ∷ old) (n ∷ new) (suc at) q same there = was_there old new at q (tail_is (port_state n) (port_state o) (map port_state new) (map port_state old) same) there

@@ -1,8 +1,7 @@
 -- Answers that suit their operations.
-use Rattle.std.proofs.Common.{◌≡◌, ◌<◌, ◌≤◌, ℕ, zero, suc, Bool, true, false, List, [], ◌∷◌, length, map, get_or, refl, sym, ap, ◌∙◌, arith, Some, None}
-use Rattle.std.specs.Prelude.{Option, IfSome, slice_get, slice_set, set}
+use Rattle.std.proofs.Common.{◌≡◌, ℕ, zero, suc, Bool, true, false, List, [], ◌∷◌, length, map, refl, ap, arith, Some, None}
+use Rattle.std.specs.Prelude.{Option, slice_get, slice_set, set}
 use Rattle.std.proofs.Math.Bool.{cond}
-use Rattle.std.proofs.lemmas.Option.{slice_get_within}
 use Rattle.onfi_request.specs.declared.reply.Reply.{Reply}
 use Rattle.std.specs.Option.{option_map}
 use Rattle.std.specs.List.{cons_option, filter_map}
@@ -11,7 +10,7 @@ use Rattle.onfi_run.specs.Operations.{kind_in, kinds_on, place_in}
 use Rattle.onfi_run.specs.Report.{AnswersView}
 use Rattle.onfi_timing.specs.declared.kind.Kind.{Kind}
 use Rattle.onfi_request.specs.declared.answer.Answer.{Answer}
-use Rattle.onfi_run.specs.Answers.{AreSuited, none_yet, suits, suits_any, with_reply}
+use Rattle.onfi_run.specs.Answers.{AreSuited, none_yet, suits_any, with_reply}
 
 pub none_suited : (kinds : List Kind) → AreSuited kinds (map none_yet kinds)
 none_suited [] = tt

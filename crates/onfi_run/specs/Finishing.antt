@@ -1,7 +1,6 @@
 -- What comes of channels at the end of a run.
-use Rattle.std.specs.Prelude.{◌≡◌, ℕ, ◌||◌, Bool, true, false, List, [], ◌∷◌, ◌++◌, length, map, IsTrue}
+use Rattle.std.specs.Prelude.{◌≡◌, ℕ, ◌||◌, Bool, false, List, [], ◌∷◌, ◌++◌, length, map, IsTrue}
 use Rattle.std.specs.List.{AllByRecursion as Each}
-use Rattle.onfi_run.specs.declared.channel_end.ChannelEnd.{ChannelEnd}
 use Rattle.onfi_run.specs.declared.channel_end.ChannelEnd.TheVariants.{Done}
 use Rattle.onfi_run.specs.declared.finishing.Finished.{Finished}
 use Rattle.onfi_run.specs.declared.finishing.Gathered.{Gathered}
@@ -10,7 +9,7 @@ use Rattle.onfi_run.specs.declared.station.Stations.{Stations}
 use Rattle.onfi_run.specs.Answers.{IsComplete, IsSuited}
 use Rattle.onfi_run.specs.ByHost.{AreAllSuited, are_complete}
 use Rattle.onfi_run.specs.Keys.{port_places}
-use Rattle.onfi_run.specs.Report.{AnswersView, GotView, ReportView}
+use Rattle.onfi_run.specs.Report.{GotView, ReportView}
 use Rattle.onfi_run.specs.Told.{places_by_channel}
 
 abbrev pub is_any_short : Stations → Bool

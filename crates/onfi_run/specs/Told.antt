@@ -1,10 +1,8 @@
 -- What a report tells of the rows that were run.
-use Rattle.std.specs.Prelude.{◌≡◌, ℕ, false, List, [], ◌∷◌, length, map}
+use Rattle.std.specs.Prelude.{◌≡◌, List, [], ◌∷◌, length, map}
 use Rattle.std.specs.List.{AllByRecursion as Each}
 use Rattle.onfi_timing.specs.declared.kind.Kind.{Kind}
 use Rattle.onfi_script.specs.declared.row.Row.{Row}
-use Rattle.onfi_run.specs.declared.channel_end.ChannelEnd.{ChannelEnd}
-use Rattle.onfi_run.specs.declared.channel_end.ChannelEnd.TheVariants.{Done}
 use Rattle.onfi_run.specs.Answers.{IsSuited, IsComplete}
 use Rattle.onfi_run.specs.Operations.{kinds_of}
 use Rattle.onfi_run.specs.Report.{AnswersView, GotView, ReportView, status_of}

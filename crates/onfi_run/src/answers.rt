@@ -163,11 +163,7 @@ impl ByHost {
     ///
     /// # Errors
     /// Want of memory.
-    pub(crate) fn awaiting(
-        alloc: Global,
-        rows: &[Row],
-        channel: u8,
-    ) -> Result<ByHost, AllocError>
+    pub(crate) fn awaiting(alloc: Global, rows: &[Row], channel: u8) -> Result<ByHost, AllocError>
         ensures first { IfOk result (λ got. got.first ≡ spec.awaiting (spec_kinds_on rows.now 0 channel)) }
         ensures second { IfOk result (λ got. got.second ≡ spec.awaiting (spec_kinds_on rows.now 1 channel)) }
         ensures third { IfOk result (λ got. got.third ≡ spec.awaiting (spec_kinds_on rows.now 2 channel)) }

@@ -1,7 +1,7 @@
 //! The end of a run: channels are drained, inboxes emptied, and all ends closed.
-ghost use Rattle.std.specs.Prelude.{◌≡◌, ◌<◌, ◌++◌, ◌||◌, Bool, [], ◌∷◌, length, IfOk, IfSome, IsTrue, map};
+ghost use Rattle.std.specs.Prelude.{◌≡◌, ◌<◌, ◌++◌, ◌||◌, Bool, [], ◌∷◌, length, IfOk, IfSome, IfNone, IsTrue, map};
 ghost use Rattle.onfi_run.specs.Answers.{AddsReplies};
-ghost use Rattle.onfi_run.specs.ByHost.{AddsToEach, AreAllSuited, are_complete};
+ghost use Rattle.onfi_run.specs.ByHost.{AddsToEach, AreAllSuited, Empties, EmptiesEach, are_complete, given_by, with_given};
 ghost use Rattle.onfi_run.specs.Ending as spec;
 ghost use Rattle.onfi_run.specs.declared.finishing.Gathered.{Gathered as AGathered};
 ghost use Rattle.onfi_run.specs.Finishing.{IsFinished, IsGathered, IsNothing, IsWith, TakesPorts, is_any_short as spec_is_any_short, report_of};
@@ -41,7 +41,9 @@ struct Gathered {
 
 /// Collects the next reply of a host.
 fn collect<R: Wait>(rt: &R, inboxes: &mut [Inbox; 4], host: usize) -> Option<Reply>
-    ensures { queues_of inboxes.new ≡ queues_of inboxes.old }
+    ensures same { queues_of inboxes.new ≡ queues_of inboxes.old }
+    ensures given { IfSome result (λ reply. given_by inboxes.new ≡ with_given host (reply ∷ []) (given_by inboxes.old)) }
+    ensures none { IfNone result (given_by inboxes.new ≡ given_by inboxes.old) }
 {
     if host >= 4 {
         return None;
@@ -49,15 +51,10 @@ fn collect<R: Wait>(rt: &R, inboxes: &mut [Inbox; 4], host: usize) -> Option<Rep
     inboxes[host].collect(rt)
 }
 
-/// Collects all that waits for a host, and keeps the answers.
-fn empty<R: Wait>(
-    rt: &R,
-    inboxes: &mut [Inbox; 4],
-    host: usize,
-    mut answers: Answers,
-) -> Answers
+/// Collects all that waits for a host in its own inbox, and keeps the answers.
+fn empty<R: Wait>(rt: &R, inboxes: &mut [Inbox; 4], host: usize, mut answers: Answers) -> Answers
     ensures same { queues_of inboxes.new ≡ queues_of inboxes.old }
-    ensures got { AddsReplies answers result }
+    ensures got { Empties host inboxes.old inboxes.new answers result }
 {
     for _ in rt.forever() {
         let Some(reply) = collect(rt, inboxes, host) else {
@@ -71,7 +68,7 @@ fn empty<R: Wait>(
 /// Collects all that waits in the inboxes of a channel.
 fn empty_all<R: Wait>(rt: &R, inboxes: &mut [Inbox; 4], got: ByHost) -> ByHost
     ensures same { queues_of inboxes.new ≡ queues_of inboxes.old }
-    ensures got { AddsToEach got result }
+    ensures got { EmptiesEach inboxes.old inboxes.new got result }
 {
     let first = empty(rt, inboxes, 0, got.first);
     let second = empty(rt, inboxes, 1, got.second);
@@ -121,12 +118,7 @@ fn either(first: bool, second: bool) -> bool
 }
 
 /// What came of a channel, whose hosts got this.
-fn conclude(
-    drained: Drained,
-    thread: ChannelEnd,
-    short_of_memory: bool,
-    got: ByHost,
-) -> Finished
+fn conclude(drained: Drained, thread: ChannelEnd, short_of_memory: bool, got: ByHost) -> Finished
     ensures got { result.got ≡ got }
     ensures finished { IsFinished result }
     ensures end { result.end ≡ spec.channel_end drained.end thread (are_complete got) result.short_of_memory }

@@ -1,4 +1,4 @@
-use Rattle.std.proofs.Common.{◌≡◌, ◌+◌, length, sym, subst, arith}
+use Rattle.std.proofs.Common.{length, sym, subst}
 use Rattle.std.proofs.lemmas.Result.{IfOk-weaker}
 use Rattle.onfi_run.specs.Finishing.{IsGathered, IsWith}
 use Rattle.onfi_run.proofs.Collecting.{gathered_more, length_more}
@@ -14,5 +14,5 @@ returns g t c =
     let count = length_more last.lane c.args.lanes.items last.lanes.items e.lanes in
     IfOk-weaker c.with_channel.result (λ m. IsWith c.in_ok-gathered.gathered f m) (λ m. IsGathered s (length c.args.lanes.items) m)
     (λ m more. subst (λ n. IsGathered s n m) (sym count)
-        (gathered_more s last.stations (length last.lanes.items) c.in_ok-gathered.gathered f m last.p0 last.p1 last.p2 last.p3 c.in_ok-gathered.ensures more made.finished e.ports made.first made.second made.third made.fourth))
+    (gathered_more s last.stations (length last.lanes.items) c.in_ok-gathered.gathered f m last.p0 last.p1 last.p2 last.p3 c.in_ok-gathered.ensures more made.finished e.ports made.first made.second made.third made.fourth))
     c.with_channel.ensures

@@ -1,7 +1,4 @@
-use Rattle.std.proofs.Common.{◌≡◌, false, sym, ap, ◌∙◌}
-use Rattle.onfi_run.specs.declared.channel_end.ChannelEnd.TheVariants.{Done}
-use Rattle.onfi_run.specs.Ending.{channel_end}
-use Rattle.onfi_run.specs.ByHost.{are_complete}
+use Rattle.std.proofs.Common.{sym, ◌∙◌}
 use Rattle.onfi_run.proofs.Proceeding.{done_complete}
 use Rattle.onfi_run.proofs.finishing.conclude.Goals as goal
 

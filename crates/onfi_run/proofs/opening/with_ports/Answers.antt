@@ -1,4 +1,4 @@
-use Rattle.std.proofs.Common.{◌≡◌, ◌∙◌, ap, sym, get_or, length, arith}
+use Rattle.std.proofs.Common.{◌≡◌, get_or, length, arith}
 use Rattle.onfi_run.proofs.Lanes.{four_at}
 use Rattle.onfi_run.proofs.opening.with_ports.Goals as goal
 

@@ -1,5 +1,5 @@
 use Rattle.std.proofs.Common.{◌≡◌, true, false, sym, ap, ◌∙◌, subst}
-use Rattle.std.specs.Prelude.{Option, List, Some, slice_get, slice_set}
+use Rattle.std.specs.Prelude.{Option, List, slice_get}
 use Rattle.onfi_request.specs.declared.answer.Answer.{Answer}
 use Rattle.onfi_run.specs.Answers.{AreSuited, suits_any, with_reply}
 use Rattle.onfi_run.specs.Report.{AnswersView}
@@ -11,7 +11,7 @@ invariant_of-self c =
     let f = c.self.inside in
     let r = c.args.reply in
     let suit : suits_any (slice_get f.kinds.items r.serial) r.answer ≡ true =
-        ap (λ ks. suits_any (slice_get ks r.serial) r.answer) (sym c.as_slice.ensures.value) ∙ sym c.suits_at-suits.ensures ∙ c.if-suits.true in
+    ap (λ ks. suits_any (slice_get ks r.serial) r.answer) (sym c.as_slice.ensures.value) ∙ sym c.suits_at-suits.ensures ∙ c.if-suits.true in
     subst (λ (l : List (Option Answer)). AreSuited f.kinds.items l) (sym c.put.ensures) (one_suited f.kinds.items f.by_serial.items r.serial r.answer suit c.self.invariant)
 
 pub returns-then-suits : goal.returns-then-suits
@@ -19,7 +19,7 @@ returns-then-suits c =
     let f = c.self.inside in
     let r = c.args.reply in
     let suit : suits_any (slice_get f.kinds.items r.serial) r.answer ≡ true =
-        ap (λ ks. suits_any (slice_get ks r.serial) r.answer) (sym c.as_slice.ensures.value) ∙ sym c.suits_at-suits.ensures ∙ c.if-suits.true in
+    ap (λ ks. suits_any (slice_get ks r.serial) r.answer) (sym c.as_slice.ensures.value) ∙ sym c.suits_at-suits.ensures ∙ c.if-suits.true in
     ap (λ (l : List (Option Answer)). let v : AnswersView = record { kinds = f.kinds.items; answers = l } in v) c.put.ensures
     ∙ sym (kept_there (record { kinds = f.kinds.items; answers = f.by_serial.items }) r suit) ∙ ap (λ v. with_reply v r) c.self.view_is
 
@@ -28,5 +28,5 @@ returns-else-suits c =
     let f = c.self.inside in
     let r = c.args.reply in
     let suit : suits_any (slice_get f.kinds.items r.serial) r.answer ≡ false =
-        ap (λ ks. suits_any (slice_get ks r.serial) r.answer) (sym c.as_slice.ensures.value) ∙ sym c.suits_at-suits.ensures ∙ c.if-suits.false in
+    ap (λ ks. suits_any (slice_get ks r.serial) r.answer) (sym c.as_slice.ensures.value) ∙ sym c.suits_at-suits.ensures ∙ c.if-suits.false in
     sym c.self.view_is ∙ sym (not_kept (record { kinds = f.kinds.items; answers = f.by_serial.items }) r suit) ∙ ap (λ v. with_reply v r) c.self.view_is

@@ -1,8 +1,5 @@
-use Rattle.std.proofs.Common.{sym, ◌∙◌}
 use Rattle.onfi_chip.specs.SimChip.{chip_in}
 use Rattle.onfi_seq.specs.Sequencer.{seen_in}
-use Rattle.onfi_run.specs.Ending.{is_memory}
-use Rattle.onfi_run.proofs.Proceeding.{or_true}
 use Rattle.onfi_run.proofs.Same.{grown_queues, same_queues}
 use Rattle.onfi_run.proofs.gated.GatedChannel.drain.Goals as goal
 

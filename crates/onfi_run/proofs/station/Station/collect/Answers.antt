@@ -1,4 +1,4 @@
-use Rattle.std.proofs.Common.{ap, ◌∙◌, refl, arith}
+use Rattle.std.proofs.Common.{ap, ◌∙◌, arith}
 use Rattle.onfi_run.specs.Keys.{port_state}
 use Rattle.onfi_run.proofs.Sends.{set_state}
 use Rattle.onfi_run.proofs.station.Station.collect.Goals as goal

@@ -1,6 +1,5 @@
-use Rattle.std.proofs.Common.{ap, ◌∙◌, subst, arith}
+use Rattle.std.proofs.Common.{ap, ◌∙◌, arith}
 use Rattle.onfi_run.specs.Keys.{port_key}
-use Rattle.onfi_run.specs.Sending.{IsSending}
 use Rattle.onfi_run.proofs.Ports.{set_port}
 use Rattle.onfi_run.proofs.Sends.{none_there, one_more}
 use Rattle.onfi_run.proofs.station.Station.leave_out.Goals as goal
