@@ -19,14 +19,14 @@ proved = $(patsubst %,crates/%/out/proved,$(1))
 sources_of = $(shell find $(wildcard crates/$(1)/src crates/$(1)/specs crates/$(1)/proofs) -type f)
 # What the library for C stands on, and what the program does.
 LIBRARIES := $(sort $(foreach crate,$(call below,onfi_script),$(call below,$(crate)) $(crate))) onfi_script
-PROGRAM := $(sort $(LIBRARIES) $(foreach crate,$(call below,onfi_run),$(call below,$(crate)) $(crate))) onfi_run
+PROGRAM := $(sort $(LIBRARIES) $(foreach crate,$(call below,onfi_sim),$(foreach lower,$(call below,$(crate)) $(crate),$(call below,$(lower)) $(lower))))
 
 # The crates are a chain but for one. So some are proved ahead, beside the crates named here, from their sources.
 ahead_onfi_addr := onfi_param
 ahead_onfi_request := onfi_timing
 ahead_onfi_script := onfi_group onfi_problem onfi_schedule onfi_bound onfi_cert onfi_check onfi_demand onfi_known onfi_planner onfi_recall
 # Of onfi_script the modules that only read and write text.
-only_onfi_script := command_line script row rows row_name field forms text fault seen parts transfer plan_line plan_text
+only_onfi_script := script row rows row_name field forms text fault seen parts transfer plan_line plan_text
 
 # One job for each processor, up to four; a job takes about a gigabyte of memory.
 JOBS ?= $(shell n=$$(nproc); echo $$((n < 4 ? n : 4)))

@@ -8,7 +8,8 @@
  * Times are ns of the channel's clock, below 2^62; lengths and waits are below 2^50.
  *
  * What each call asks of its caller, and can't test:
- *   - No pointer is null, also where the count behind it is 0; each points to as many items as the count says.
+ *   - A pointer with a count behind it points to as many items as the count says, and may be null where that is 0. No other
+ *     pointer is null.
  *   - Memory that a call writes overlaps no other memory of that call.
  *   - A bool is 0 or 1. All else may have any value: what is out of its range is refused by a number.
  *   - malloc, realloc and free are those of one allocator, and align as C says.
@@ -38,6 +39,7 @@ extern "C" {
 #define ONFI_VERSION_MINOR 0
 #define ONFI_VERSION_PATCH 0
 #define ONFI_VERSION "1.0.0"
+#define ONFI_VERSION_NUMBER UINT32_C(10000) /* 10,000 times the first number, 100 times the second, and the third */
 
 /* The greatest counts. */
 enum { ONFI_LUNS = 8, ONFI_WANTS = 8, ONFI_MEMBERS = 4, ONFI_STARTS = 8 };
@@ -106,7 +108,7 @@ enum onfi_status {
     ONFI_TOO_MANY_NODES = 93 /* More than 1,048,576 open nodes. */
 };
 
-/* What onfi_text_plan and onfi_text_check answer besides ONFI_DONE, ONFI_NO_ROOM, ONFI_MEMORY, ONFI_BAD_LIMIT and ONFI_OVER. */
+/* What the calls onfi_text_.. answer besides ONFI_DONE, ONFI_NO_ROOM, ONFI_MEMORY, ONFI_BAD_LIMIT and ONFI_OVER. */
 enum { ONFI_SCRIPT_REFUSED = 1, ONFI_PLAN_REFUSED = 2 };
 
 /* Kinds of requests. */
@@ -212,6 +214,12 @@ typedef struct onfi_device {
 } onfi_device;
 
 /*
+ * The ONFI_VERSION_NUMBER of the library. A program whose header has a greater one may use calls that the library doesn't
+ * have.
+ */
+uint32_t onfi_version(void);
+
+/*
  * Plans the wants of a channel.
  *
  * Gives the plan, and where there is room for any byte the text of its certificate; *certificate_bytes tells how many
@@ -278,12 +286,33 @@ uint32_t onfi_timing_of_page(const uint8_t *page, size_t page_bytes, const char 
 uint32_t onfi_text_plan(const char *script, size_t script_bytes, uint32_t limit, bool trace, char *answer, size_t answer_room, size_t *answer_bytes);
 
 /*
+ * The same by a search that remembers states: what `onfi_sim plan --remember` writes, or with `trace` what
+ * `onfi_sim plan --remember --trace` writes. Its certificate is one for onfi_text_check_known.
+ */
+uint32_t onfi_text_plan_known(const char *script, size_t script_bytes, uint32_t limit, bool trace, char *answer, size_t answer_room, size_t *answer_bytes);
+
+/*
+ * What `onfi_sim plan --requests` writes: the trace of the plan, whose lines name their requests in a last column; with
+ * `remember` what `onfi_sim plan --remember --requests` writes. The same is told.
+ */
+uint32_t onfi_text_trace(const char *script, size_t script_bytes, uint32_t limit, bool remember, char *answer, size_t answer_room, size_t *answer_bytes);
+
+/*
  * What `onfi_sim check` writes for a script with a plan text behind it. *answer_bytes tells how many bytes there are.
  *
  * ONFI_DONE where the plan is accepted, ONFI_SCRIPT_REFUSED, ONFI_PLAN_REFUSED and ONFI_MEMORY with the answer;
  * ONFI_NO_ROOM as above.
  */
 uint32_t onfi_text_check(const char *script, size_t script_bytes, char *answer, size_t answer_room, size_t *answer_bytes);
+
+/* What `onfi_sim check --remember` writes: the same by a certificate that remembers states. The same is told. */
+uint32_t onfi_text_check_known(const char *script, size_t script_bytes, char *answer, size_t answer_room, size_t *answer_bytes);
+
+/*
+ * What `onfi_sim check --legal` writes: whether the schedule of the plan text is legal and when it ends. Its certificate
+ * may be missing, and isn't looked at. ONFI_DONE where the schedule is legal; the same is told.
+ */
+uint32_t onfi_text_legal(const char *script, size_t script_bytes, char *answer, size_t answer_room, size_t *answer_bytes);
 
 /*
  * The text of an onfi_status, without a final NUL; of any other number there is none. *text_bytes tells how many bytes

@@ -14,7 +14,7 @@ named like the refusal, a class of `Refused`. The library is that of the environ
 a wheel has it, else the system's; where there is none, the first call raises `OSError` and says what was tried.
 """
 
-from onfi.calls import check, check_known, plan, plan_known, text_check, text_plan, timing_of_page
+from onfi.calls import check, check_known, library_version, plan, plan_known, text_check, text_legal, text_plan, timing_of_page
 from onfi.model import (
     Answer,
     Channel,
@@ -147,9 +147,11 @@ __all__ = [
     "__version__",
     "check",
     "check_known",
+    "library_version",
     "plan",
     "plan_known",
     "text_check",
+    "text_legal",
     "text_plan",
     "timing_of_page",
 ]

@@ -124,19 +124,43 @@ def timing_of_page(page: bytes, sheet: str) -> Device:
     return device.told()
 
 
-def text_plan(script: bytes, limit: int = MOST_NODES, trace: bool = False) -> Answer:
-    """What `onfi_sim plan` writes for a script, with `trace` what `onfi_sim plan --trace` writes.
+def text_plan(script: bytes, limit: int = MOST_NODES, trace: bool = False, remember: bool = False, requests: bool = False) -> Answer:
+    """What `onfi_sim plan` writes for a script: the plan text.
 
-    Raises `BadLimit` where `limit` is not from 1 to 1,048,576.
+    With `trace` it is the plan's trace (`--trace`), with `requests` that with the request of each line (`--requests`). With
+    `remember` the search remembers states (`--remember`).
+
+    Raises `BadLimit` where `limit` is not from 1 to 1,048,576; `Memory`.
     """
     if not 1 <= limit <= MOST_NODES:
         raise refusal(5)
-    return answered(with_room(lambda *room: library().onfi_text_plan(script, len(script), limit, trace, *room)))
+    if requests:
+        return answered(with_room(lambda *room: library().onfi_text_trace(script, len(script), limit, remember, *room)))
+    call = library().onfi_text_plan_known if remember else library().onfi_text_plan
+    return answered(with_room(lambda *room: call(script, len(script), limit, trace, *room)))
 
 
-def text_check(script: bytes) -> Answer:
-    """What `onfi_sim check` writes for a script with a plan text behind it."""
-    return answered(with_room(lambda *room: library().onfi_text_check(script, len(script), *room)))
+def text_check(script: bytes, remember: bool = False) -> Answer:
+    """What `onfi_sim check` writes for a script with a plan text behind it, with `remember` what `check --remember` writes.
+
+    Raises `Memory`.
+    """
+    call = library().onfi_text_check_known if remember else library().onfi_text_check
+    return answered(with_room(lambda *room: call(script, len(script), *room)))
+
+
+def text_legal(script: bytes) -> Answer:
+    """What `onfi_sim check --legal` writes for a script with a plan text behind it: whether the schedule is legal, and when it ends.
+
+    A certificate need not stand there, and isn't looked at. Raises `Memory`.
+    """
+    return answered(with_room(lambda *room: library().onfi_text_legal(script, len(script), *room)))
+
+
+def library_version() -> str:
+    """The version of the library that is loaded, as `__version__` is that of this package."""
+    number: int = library().onfi_version()
+    return f"{number // 10_000}.{number // 100 % 100}.{number % 100}"
 
 
 def answered(told: Tuple[int, bytes]) -> Answer:

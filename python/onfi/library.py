@@ -15,13 +15,18 @@ BYTES, SIZE = ctypes.c_char_p, ctypes.c_size_t
 ROOM = (ctypes.c_void_p, SIZE, ctypes.POINTER(SIZE))
 PROBLEM = (ctypes.POINTER(CChannel), ctypes.POINTER(CLun), SIZE, ctypes.POINTER(CWant), SIZE)
 CALLS = {
+    "onfi_version": (),
     "onfi_plan": (*PROBLEM, ctypes.c_uint32, ctypes.POINTER(CPlan), *ROOM),
     "onfi_plan_known": (*PROBLEM, ctypes.c_uint32, ctypes.POINTER(CPlan), *ROOM),
     "onfi_check": (*PROBLEM, ctypes.POINTER(CSchedule), BYTES, SIZE, ctypes.POINTER(CVerdict)),
     "onfi_check_known": (*PROBLEM, ctypes.POINTER(CSchedule), BYTES, SIZE, ctypes.POINTER(CVerdict)),
     "onfi_timing_of_page": (BYTES, SIZE, BYTES, SIZE, ctypes.POINTER(CDevice), ctypes.POINTER(ctypes.c_uint64)),
     "onfi_text_plan": (BYTES, SIZE, ctypes.c_uint32, ctypes.c_bool, *ROOM),
+    "onfi_text_plan_known": (BYTES, SIZE, ctypes.c_uint32, ctypes.c_bool, *ROOM),
+    "onfi_text_trace": (BYTES, SIZE, ctypes.c_uint32, ctypes.c_bool, *ROOM),
     "onfi_text_check": (BYTES, SIZE, *ROOM),
+    "onfi_text_check_known": (BYTES, SIZE, *ROOM),
+    "onfi_text_legal": (BYTES, SIZE, *ROOM),
     "onfi_status_text": (ctypes.c_uint32, *ROOM),
 }
 
@@ -50,9 +55,11 @@ def opened(tried: List[Tuple[str, str]]) -> ctypes.CDLL:
 
 @functools.lru_cache(maxsize=None)
 def library() -> ctypes.CDLL:
-    """The library, loaded once."""
+    """The library, loaded once; OSError where it is older than this package."""
     found = opened(places())
     for name, takes in CALLS.items():
+        if not hasattr(found, name):
+            raise OSError(f"the library {found._name} has no call {name}: it is older than this package")
         call = getattr(found, name)
         call.argtypes, call.restype = takes, ctypes.c_uint32
     return found

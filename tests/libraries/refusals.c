@@ -211,6 +211,7 @@ static void devices(void)
 static void texts(void)
 {
     const char script[] = "end\n";
+    expect("the version of the library", onfi_version(), ONFI_VERSION_NUMBER);
     char room[80];
     size_t bytes;
     memset(room, 7, sizeof room);

@@ -7,7 +7,7 @@ import sys
 import tempfile
 import unittest
 from pathlib import Path
-from typing import Dict, Tuple
+from typing import Dict, Tuple, Type
 
 sys.path.insert(0, str(Path(__file__).resolve().parent))
 import test_libraries  # noqa: E402
@@ -57,7 +57,7 @@ class Devices(unittest.TestCase):
     def test_a_later_copy(self) -> None:
         self.assertEqual(onfi.timing_of_page(bytes(256) + PAGE, SHEET), onfi.timing_of_page(PAGE, SHEET))
 
-    def refused(self, name: type, bytes_: bytes = PAGE, sheet: str = SHEET, place: int = 0) -> None:
+    def refused(self, name: Type[onfi.Refused], bytes_: bytes = PAGE, sheet: str = SHEET, place: int = 0) -> None:
         with self.assertRaises(name) as told:
             onfi.timing_of_page(bytes_, sheet)
         self.assertEqual(told.exception.place, place)
@@ -65,7 +65,7 @@ class Devices(unittest.TestCase):
     def test_pages(self) -> None:
         self.refused(onfi.PageShort, PAGE[:255])
         self.refused(onfi.NoCopy, PAGE[:-1] + b"\0")
-        faults: Dict[type, Tuple[str, int]] = {
+        faults: Dict[Type[onfi.Refused], Tuple[str, int]] = {
             onfi.WideBus: ("wide_bus", 1), onfi.NoStatusEnhanced: ("status_enhanced", 0), onfi.NoColumnEnhanced: ("column_enhanced", 0),
             onfi.NoMultiLun: ("multi_lun", 0), onfi.LunCount: ("luns", 9), onfi.PlaneBits: ("plane_bits", 3), onfi.Zero: ("data_bytes", 0),
             onfi.RowTooWide: ("row_cycles", 1), onfi.ColumnTooWide: ("column_cycles", 1), onfi.TooLarge: ("blocks_per_lun", 65537),

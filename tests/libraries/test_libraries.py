@@ -21,6 +21,7 @@ os.environ["ONFI_LIBRARY"] = str(LIBRARY / "libonfi.so")
 
 import onfi  # noqa: E402
 from onfi_tools.cases import single_cases  # noqa: E402
+from onfi_tools.drawn import any_script  # noqa: E402
 
 STRICT = ["-Wall", "-Wextra", "-Werror", "-pedantic"]
 SANE = ["-fsanitize=address,undefined", "-fno-sanitize-recover=all", "-g"]
@@ -31,20 +32,21 @@ def run(*words: str, given: bytes = b"", **how: str) -> "subprocess.CompletedPro
     return subprocess.run(list(words), input=given, capture_output=True, env={**os.environ, **how}, timeout=600)
 
 
-def setUpModule() -> None:
-    global BUILT
-    BUILT = tempfile.TemporaryDirectory(prefix="onfi-c-")
+BUILT = tempfile.TemporaryDirectory(prefix="onfi-c-")
 
 
 def tearDownModule() -> None:
     BUILT.cleanup()
 
 
-def build(source: Path) -> str:
-    """A program of C11 with the archive, under the sanitizers."""
-    made = Path(BUILT.name) / source.stem
+C11, CXX = ("cc", "-std=c11", "-xc"), ("c++", "-std=c++17", "-xc++")
+
+
+def build(source: Path, compiler: Sequence[str] = C11) -> str:
+    """A program with the archive, under the sanitizers."""
+    made = Path(BUILT.name) / f"{source.stem}{compiler[-1]}"
     if not made.is_file():
-        line = ["cc", "-std=c11", *STRICT, *SANE, f"-I{ROOT / 'include'}", str(source), str(LIBRARY / "libonfi.a"), "-o", str(made)]
+        line = [*compiler, *STRICT, *SANE, f"-I{ROOT / 'include'}", str(source), "-xnone", str(LIBRARY / "libonfi.a"), "-o", str(made)]
         told = run(*line)
         if told.returncode:
             raise AssertionError(told.stderr.decode())
@@ -63,14 +65,17 @@ class Headers(unittest.TestCase):
 
     def test_is_linked_from_cxx(self) -> None:
         source, made = Path(BUILT.name) / "sizes.cpp", Path(BUILT.name) / "sizes"
-        source.write_text('#include <onfi.h>\n#include <cstdio>\nint main() { char t[80]; size_t n; onfi_status_text(ONFI_CLOCK, t, sizeof t, &n); std::printf("%.*s", (int)n, t); }\n')
+        source.write_text('#include <onfi.h>\n#include <cstdio>\n'
+                          'int main() { char t[80]; size_t n; onfi_status_text(ONFI_CLOCK, t, sizeof t, &n); std::printf("%.*s", (int)n, t); }\n')
         told = run("c++", "-std=c++17", *STRICT, *SANE, f"-I{ROOT / 'include'}", str(source), str(LIBRARY / "libonfi.a"), "-o", str(made))
         self.assertEqual((told.returncode, told.stderr), (0, b""))
         self.assertEqual(run(str(made)).stdout, b"times that reach 2^62 ns")
 
     def test_shared_library_shows_its_calls_alone(self) -> None:
         told = run("nm", "-D", "--defined-only", str(LIBRARY / "libonfi.so")).stdout.decode().split()[2::3]
-        self.assertEqual(sorted(told), ["onfi_check", "onfi_check_known", "onfi_plan", "onfi_plan_known", "onfi_status_text", "onfi_text_check", "onfi_text_plan", "onfi_timing_of_page"])
+        self.assertEqual(sorted(told), [
+            "onfi_check", "onfi_check_known", "onfi_plan", "onfi_plan_known", "onfi_status_text", "onfi_text_check", "onfi_text_check_known",
+            "onfi_text_legal", "onfi_text_plan", "onfi_text_plan_known", "onfi_text_trace", "onfi_timing_of_page", "onfi_version"])
 
     def test_shared_library_is_named_by_its_major_version(self) -> None:
         version = (ROOT / "VERSION").read_text().strip()
@@ -146,37 +151,30 @@ class Refusals(unittest.TestCase):
         self.assertEqual((told.returncode, told.stderr), (0, b""), told.stdout.decode())
 
 
-def drawn_script(draw: random.Random) -> str:
-    """A script of the first form without faults: eight wants mostly, some LUNs running a group."""
-    luns, bits = draw.choice((1, 2, 4, 8)), draw.randrange(3)
-    rows = [f"shape,{luns},{bits},{draw.randrange(2)},{draw.randrange(2)}"]
-    rows += ["spans,read,140,600,25100,11000", "spans,program,10800,600,200100,280", "spans,erase,100,600,1500100,280"]
-    if draw.randrange(3) == 0:
-        rows.append(f"bus,{draw.randrange(100000)}")
-    for lun in range(luns):
-        if draw.randrange(4) == 0:
-            rows.append(f"free,{lun},{draw.randrange(100000)}")
-        elif draw.randrange(4) == 0:
-            kind = draw.choice(("read", "program", "erase"))
-            rows.append(f"running,{lun},1,{draw.randrange(100000)},{kind},{0 if kind == 'erase' else 5},{draw.randrange(64)}")
-    if draw.randrange(4) == 0:
-        rows.append("strict,1")
-    for _ in range(draw.choice((0, 1, 4, 6, 8, 8))):
-        kind = draw.choice(("read", "read", "program", "erase"))
-        rows.append(f"want,{kind},{draw.randrange(luns)},{draw.randrange(16)},{0 if kind == 'erase' else draw.randrange(2)}")
-    return "\n".join([*rows, "end"]) + "\n"
+class Nothing(unittest.TestCase):
+    """Where a count is 0 its pointer may be null."""
+
+    def test_null_pointers_and_empty_vectors(self) -> None:
+        import test_devices_of_page
+
+        page = Path(BUILT.name) / "page"
+        page.write_bytes(test_devices_of_page.PAGE)
+        for compiler in (C11, CXX):
+            told = run(build(ROOT / "tests/libraries/nothing.c", compiler), str(page))
+            self.assertEqual((told.returncode, told.stderr), (0, b""), told.stdout.decode())
+            self.assertEqual(told.stdout, b"67 tried, 0 failed\n")
 
 
 def said(script: str) -> Tuple[onfi.Channel, List[onfi.Lun], List[onfi.Want]]:
     """What a script without faults says, as dataclasses."""
     spans: Dict[str, onfi.Spans] = {}
-    shape, bus, strict = (0, 0, 0, 0), 0, False
+    shape, bus, strict = [0, 0, 0, 0], 0, False
     luns: Dict[int, onfi.Lun] = {}
     wants: List[onfi.Want] = []
     for row in script.splitlines()[:-1]:
         name, *fields = row.split(",")
         if name == "shape":
-            shape = tuple(map(int, fields))
+            shape = [*map(int, fields)]
         elif name == "spans":
             spans[fields[0]] = onfi.Spans(*map(int, fields[1:]))
         elif name == "bus":
@@ -202,13 +200,34 @@ def plan_text(plan: onfi.Plan) -> bytes:
     return ("\n".join(lines) + "\n").encode() + plan.certificate
 
 
+def asked_of(words: Sequence[bytes]) -> str:
+    """What examples/c/script.c is asked where onfi_sim is asked this; nothing where it can't be."""
+    options = {*words[1:]}
+    if len(options) < len(words) - 1:
+        return ""
+    if words[:1] == [b"plan"] and options <= {b"--trace", b"--requests", b"--remember"}:
+        return "requests" if b"--requests" in options else "trace" if b"--trace" in options else "plan"
+    if words[:1] == [b"check"] and (options <= {b"--remember"} or options == {b"--legal"}):
+        return "legal" if b"--legal" in options else "check"
+    return ""
+
+
+def text_of(what: str, remember: bool, script: bytes) -> onfi.Answer:
+    """The same by Python."""
+    if what == "legal":
+        return onfi.text_legal(script)
+    if what == "check":
+        return onfi.text_check(script, remember)
+    return onfi.text_plan(script, trace=what == "trace", remember=remember, requests=what == "requests")
+
+
 class Same(unittest.TestCase):
     """By C, by Python and by onfi_sim there is one answer."""
 
     def test_plans(self) -> None:
         draw, by_structs = random.Random(1), build(ROOT / "tests/libraries/plan_script.c")
         for number in range(SCRIPTS):
-            script = drawn_script(draw)
+            script = any_script(draw)
             wanted = run(PROGRAM, "plan", given=script.encode())
             c = run(by_structs, given=script.encode())
             self.assertEqual((c.stdout, c.returncode, c.stderr), (wanted.stdout, wanted.returncode, b""), script)
@@ -225,7 +244,7 @@ class Same(unittest.TestCase):
     def test_plans_that_remember(self) -> None:
         draw, by_structs = random.Random(2), build(ROOT / "tests/libraries/plan_script.c")
         for number in range(SCRIPTS):
-            script = drawn_script(draw)
+            script = any_script(draw)
             wanted = run(PROGRAM, "plan", "--remember", given=script.encode())
             c = run(by_structs, "known", given=script.encode())
             self.assertEqual((c.stdout, c.returncode, c.stderr), (wanted.stdout, wanted.returncode, b""), script)
@@ -237,17 +256,31 @@ class Same(unittest.TestCase):
     def test_cases_of_the_program(self) -> None:
         by_text, tried = example("script"), 0
         for case in single_cases([]):
-            what = {(b"plan",): "plan", (b"plan", b"--trace"): "trace", (b"check",): "check"}.get(tuple(case.arguments))
+            what, remember = asked_of(case.arguments), b"--remember" in case.arguments
             if not what:
                 continue
             tried += 1
             given = Path(BUILT.name) / "script.onfi"
             given.write_bytes(case.input)
-            c = run(by_text, what, str(given))
+            c = run(by_text, what, *(["remember"] if remember else []), str(given))
             self.assertEqual((c.stdout, c.returncode, c.stderr), (case.output, case.status, b""), case.place)
-            python = onfi.text_check(case.input) if what == "check" else onfi.text_plan(case.input, trace=what == "trace")
+            python = text_of(what, remember, case.input)
             self.assertEqual((python.text, python.status), (case.output, case.status), case.place)
         self.assertGreaterEqual(tried, 300)
+
+    def test_texts_of_drawn_scripts(self) -> None:
+        """Traces with requests, plans that remember states, their checks, and whether they are legal."""
+        draw = random.Random(3)
+        for number in range(SCRIPTS // 10):
+            script = any_script(draw).encode()
+            known = run(PROGRAM, "plan", "--remember", given=script)
+            self.assertEqual(vars(onfi.text_plan(script, remember=True)), {"text": known.stdout, "status": known.returncode}, script)
+            for remember, words in ((False, ["--requests"]), (True, ["--requests", "--remember"])):
+                wanted = run(PROGRAM, "plan", *words, given=script)
+                self.assertEqual(vars(onfi.text_plan(script, remember=remember, requests=True)), {"text": wanted.stdout, "status": wanted.returncode}, script)
+            for words, found in ((["--remember"], onfi.text_check(script + known.stdout, remember=True)), (["--legal"], onfi.text_legal(script + known.stdout))):
+                wanted = run(PROGRAM, "check", *words, given=script + known.stdout)
+                self.assertEqual((vars(found), found.status), ({"text": wanted.stdout, "status": wanted.returncode}, 0), script)
 
 
 if __name__ == "__main__":

@@ -16,7 +16,7 @@ import textwrap
 import unittest
 import zipfile
 from pathlib import Path
-from typing import Any, Dict
+from typing import Any, Dict, Type
 
 sys.path.insert(0, str(Path(__file__).resolve().parent))
 import test_libraries  # noqa: E402, F401
@@ -62,7 +62,7 @@ class Plans(unittest.TestCase):
         self.assertEqual((plan.finish, plan.schedule.groups), (77, ()))
 
     def test_refusals(self) -> None:
-        def refused(name: type, channel: onfi.Channel = CHANNEL, luns: Any = LUNS, wants: Any = WANTS, **how: int) -> None:
+        def refused(name: Type[onfi.Refused], channel: onfi.Channel = CHANNEL, luns: Any = LUNS, wants: Any = WANTS, **how: int) -> None:
             with self.assertRaises(name) as told:
                 onfi.plan(channel, luns, wants, **how)
             self.assertTrue(str(told.exception))
@@ -106,7 +106,7 @@ class Plans(unittest.TestCase):
 
 
 class Checks(unittest.TestCase):
-    def refused(self, name: type, schedule: onfi.Schedule, certificate: bytes, place: int = 0, channel: onfi.Channel = CHANNEL) -> None:
+    def refused(self, name: Type[onfi.Refused], schedule: onfi.Schedule, certificate: bytes, place: int = 0, channel: onfi.Channel = CHANNEL) -> None:
         with self.assertRaises(name) as told:
             onfi.check(channel, LUNS, WANTS, schedule, certificate)
         self.assertEqual(told.exception.place, place)
@@ -132,7 +132,7 @@ class Checks(unittest.TestCase):
     def test_refusals_that_remember(self) -> None:
         plan = onfi.plan_known(CHANNEL, LUNS, WANTS)
 
-        def refused(name: type, certificate: bytes, place: int = 0) -> None:
+        def refused(name: Type[onfi.Refused], certificate: bytes, place: int = 0) -> None:
             with self.assertRaises(name) as told:
                 onfi.check_known(CHANNEL, LUNS, WANTS, plan.schedule, certificate)
             self.assertEqual(told.exception.place, place)
@@ -191,6 +191,15 @@ class Packages(unittest.TestCase):
             self.assertIn("/no/such.so, as ONFI_LIBRARY says", named)
             self.assertNotIn("beside the package", named)
 
+    def test_a_library_that_is_older_than_the_package_is_told(self) -> None:
+        with tempfile.TemporaryDirectory() as room:
+            source, made = Path(room) / "older.c", f"{room}/older.so"
+            source.write_text("int onfi_plan;\n")
+            subprocess.run(["cc", "-shared", str(source), "-o", made], check=True)
+            shutil.copytree(ROOT / "python/onfi", Path(room) / "onfi")
+            told = self.imported(Path(room), "import onfi\ntry:\n    onfi.text_plan(b'end')\nexcept OSError as told:\n    print(told)", ONFI_LIBRARY=made)
+            self.assertEqual((told.stdout, told.stderr), (f"the library {made} has no call onfi_version: it is older than this package\n", ""))
+
     def test_the_wheel_has_its_library_and_tells_its_platform(self) -> None:
         with tempfile.TemporaryDirectory() as room:
             made = subprocess.run([str(ROOT / "tools/make-wheel"), os.environ["ONFI_LIBRARY"], room], capture_output=True, text=True, check=True)
@@ -223,6 +232,21 @@ class Texts(unittest.TestCase):
         self.assertRaises(onfi.BadLimit, onfi.text_plan, b"end\n", 0)
         self.assertRaises(onfi.BadLimit, onfi.text_plan, b"end\n", 1 << 40)
         self.assertEqual(onfi.text_check(b"").text, b"script refused 0 NoEnd\n")
+
+    def test_options(self) -> None:
+        script = (ROOT / "examples/batch.onfi").read_bytes()
+        known = onfi.text_plan(script, remember=True)
+        self.assertIn(b"\nONFICERT 3 remember\n", known.text)
+        self.assertEqual(onfi.text_check(script + known.text, remember=True).text, b"accepted 58240\n")
+        self.assertEqual(onfi.text_check(script + known.text).text, b"refused cert Header\n")
+        self.assertEqual(onfi.text_legal(script + known.text.split(b"ONFICERT")[0]).text, b"legal 58240\n")
+        traces = [onfi.text_plan(script, trace=True, requests=requests).text.splitlines() for requests in (False, True)]
+        self.assertEqual([line.rsplit(b" ", 1)[0] for line in traces[1]], traces[0])
+        self.assertEqual({line.rsplit(b" ", 1)[1] for line in traces[1]}, {b"0", b"1", b"2"})
+        self.assertRaises(onfi.BadLimit, onfi.text_plan, b"end\n", 0, requests=True)
+
+    def test_the_version_of_the_library(self) -> None:
+        self.assertEqual(onfi.library_version(), onfi.__version__)
 
 
 if __name__ == "__main__":

@@ -2,38 +2,29 @@
 
 from __future__ import annotations
 
-import importlib.machinery
-import importlib.util
 import os
 import shlex
 import subprocess
 import sys
 from pathlib import Path
-from types import ModuleType
 from typing import Dict, List, Optional
 
 ROOT = Path(__file__).resolve().parent.parent.parent
 sys.path.insert(0, str(ROOT / "tools"))
 sys.dont_write_bytecode = True
 
+from onfi_tools.loading import load_tool  # noqa: E402
 from onfi_tools.script import lengths_of  # noqa: E402
 from onfi_tools.trace import Phase, read_trace  # noqa: E402
 from onfi_tools.device import Spans  # noqa: E402
+
+load = load_tool
 
 SCRIPTS = {
     "batch": "examples/batch.onfi",
     "diagram": "examples/diagram.onfi",
     "programs-on-one-plane": "examples/hard/programs-on-one-plane.onfi",
 }
-
-
-def load(name: str) -> ModuleType:
-    """A tool that is a Python file without an ending."""
-    loader = importlib.machinery.SourceFileLoader(name.replace("-", "_"), str(ROOT / "tools" / name))
-    made = importlib.util.module_from_spec(importlib.util.spec_from_loader(loader.name, loader))
-    sys.modules[loader.name] = made
-    loader.exec_module(made)
-    return made
 
 
 def trace_text(name: str) -> str:

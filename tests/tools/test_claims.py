@@ -85,7 +85,8 @@ def cited(body: str, taken: Dict[str, Key], whole: Dict[str, Tuple[str, str]], d
 
 
 def rows_of_claims() -> List[Row]:
-    rows, crate = [], ""
+    rows: List[Row] = []
+    crate = ""
     for line in CLAIMS.read_text().splitlines():
         heading = re.match(r"## `(\w+)`", line)
         crate = heading.group(1) if heading else "" if line.startswith("## ") else crate
@@ -104,10 +105,8 @@ def rows_of_readme() -> List[Row]:
 
 
 class Claims(unittest.TestCase):
-    @classmethod
-    def setUpClass(cls) -> None:
-        cls.definitions = Definitions()
-        cls.sources: Dict[str, Sources] = {}
+    definitions = Definitions()
+    sources: Dict[str, Sources] = {}
 
     def source(self, crate: str) -> Sources:
         if crate not in self.sources:

@@ -35,11 +35,14 @@ class Manual(unittest.TestCase):
         self.assertEqual((ran.stdout.splitlines(), ran.stderr), (lines, ""))
 
     @unittest.skipUnless(support.program(), "no built program")
-    def test_it_names_what_the_usage_names(self) -> None:
+    def test_it_names_what_help_names(self) -> None:
         page = MANUAL.read_text().replace("\\-", "-")
-        usage = support.run_program(given="").stderr
-        for word in ["plan", "check"] + re.findall(r"--\w+", usage):
-            self.assertIn(word, usage)
+        commands = ["plan", "check", "run"]
+        asked: List[List[str]] = [[], *([word] for word in commands)]
+        texts = [support.run_program(*words, "--help", given="").stderr for words in asked]
+        options = set(re.findall(r"--\w+", "".join(texts)))
+        self.assertGreater(len(options), 8)
+        for word in [*commands, *options]:
             self.assertIn(word, page)
 
     @unittest.skipUnless(support.program(), "no built program")

@@ -18,7 +18,8 @@ import sys
 text = sys.stdin.buffer.read()
 words = sys.argv[1:]
 command = (words + [""])[0]
-traced, remembers, split = "--trace" in words, "--remember" in words, "--workers" in words
+traced = "--trace" in words or "--requests" in words
+remembers, split, legal = "--remember" in words, "--workers" in words, "--legal" in words
 def say(text, status):
     sys.stdout.write(text)
     sys.exit(status)
@@ -28,11 +29,14 @@ REFUSES = """
 form = " ".join("N" if word.isdigit() else word for word in words)
 taken = ["plan", "plan --limit N", "plan --limit N --trace", "plan --workers N", "check", "check --remember", "run --limit N"]
 taken += ["plan --remember", "plan --remember --limit N", "plan --remember --limit N --trace"]
+taken += ["check --legal", "plan --limit N --requests", "plan --remember --limit N --requests"]
 if form not in taken:
-    sys.stderr.write("usage: onfi_sim plan ..\\n")
+    sys.stderr.write("error: a word\\n")
     sys.exit(5)
 """
 ANSWERS = f"""
+if legal:
+    say("legal 7\\n", 0)
 if command == "check":
     whole = b"{REMEMBERED}" if remembers else b"{PLAN}"
     say("accepted 7\\n", 0) if text.endswith(whole) else say("refused plan 1\\n", 2)
@@ -62,7 +66,8 @@ class Fuzz(unittest.TestCase):
     def test_a_program_that_answers_rightly_passes(self) -> None:
         status, said = fuzzed(RIGHT, 100)
         self.assertEqual((status, said.splitlines()[-1]), (0, "100 passed, 0 failed"))
-        for told in ("check accepted", "check --remember accepted", "plan plan", "plan --remember recalled", "trace trace", "run ran", "words refused"):
+        plans = ("plan plan", "plan --remember recalled", "trace trace", "run ran", "words refused")
+        for told in ("check accepted", "check --remember accepted", "check --legal legal", *plans):
             self.assertRegex(said, rf"[1-9]\d* {told}\b")
 
     def test_a_status_of_another_command_is_a_miss(self) -> None:
@@ -76,6 +81,12 @@ class Fuzz(unittest.TestCase):
 
     def test_a_word_on_standard_error_is_a_miss(self) -> None:
         self.assert_missed('sys.stderr.write("oh")\nsay("script refused 0 NoEnd\\n", 1)', "standard error b'oh'")
+
+    def test_a_message_passes_beside_a_refusal_and_not_beside_an_answer(self) -> None:
+        message = 'sys.stderr.write("onfi_sim: row 1\\n  expected: another\\n")\n'
+        status, said = fuzzed(REFUSES + message + 'say("script refused 1 UnknownRow\\n", 1)', 20)
+        self.assertEqual((status, said.splitlines()[-1]), (0, "20 passed, 0 failed"))
+        self.assert_missed(REFUSES + message + ANSWERS, "standard error b'onfi_sim: row 1")
 
     def test_a_plan_that_is_refused_is_a_miss(self) -> None:
         body = RIGHT.replace("accepted 7", "refused 1 Illegal").replace(", 0) if", ", 2) if")
@@ -93,6 +104,9 @@ class Fuzz(unittest.TestCase):
         body = RIGHT.replace('say("refused plan 1\\n", 2)', 'say("accepted 6\\n", 0)')
         self.assert_missed(body, "another finish than that of the plan")
 
+    def test_a_legal_schedule_that_ends_sooner_is_a_miss(self) -> None:
+        self.assert_missed(RIGHT.replace("legal 7", "legal 6"), "a schedule is legal that ends at 6, sooner than the plan at 7")
+
     def test_another_plan_by_several_workers_is_a_miss(self) -> None:
         body = REFUSES + 'if split: say("ONFIPLAN 1\\nfinish 7\\nONFICERT 1\\nL\\n", 0)' + ANSWERS
         self.assert_missed(body, "another plan b'ONFIPLAN 1\\nfinish 7\\nONFICERT 1\\nL\\n'", 100)
@@ -103,8 +117,8 @@ class Fuzz(unittest.TestCase):
     def test_a_stopped_channel_with_another_status_is_a_miss(self) -> None:
         self.assert_missed(RIGHT.replace("closed", "stopped,0,Bus\\nclosed"), "status 0 of the report")
 
-    def test_a_command_line_that_is_refused_without_the_usage_is_a_miss(self) -> None:
-        self.assert_missed(RIGHT.replace("usage: onfi_sim plan ..", ""), "status 5", 100)
+    def test_a_command_line_that_is_refused_and_of_which_nothing_is_said_is_a_miss(self) -> None:
+        self.assert_missed(RIGHT.replace("error: a word", ""), "status 5", 100)
 
     def test_a_command_line_that_is_refused_with_an_answer_is_a_miss(self) -> None:
         self.assert_missed(RIGHT.replace("sys.exit(5)", 'say("refused\\n", 5)'), "status 5", 100)

@@ -24,7 +24,7 @@ def case_named(name: str) -> Case:
 
 def answer(case: Case, given: bytes) -> Answer:
     ran = subprocess.run([str(support.program()), *case.arguments], input=given, capture_output=True, timeout=20)
-    return ran.stdout + ran.stderr, ran.returncode
+    return ran.stdout, ran.returncode
 
 
 def good_tokens(text: bytes) -> int:
@@ -100,6 +100,7 @@ class Remembered(unittest.TestCase):
             given = script + plan + "ONFICERT 3 remember\n" + " ".join(kept) + "\n"
             ran = support.run_program("check", "--remember", given=given)
             self.assertEqual((ran.stdout, ran.returncode), (told, 2))
+            self.assertIn("doesn't prove it optimal: ", ran.stderr)
 
 
 @unittest.skipUnless(support.program(), "no built program")

@@ -49,6 +49,14 @@ class Traces(unittest.TestCase):
         with self.assertRaisesRegex(ValueError, "^line 2: starts before"):
             read_trace([good, good])
 
+    def test_the_request_of_a_line_is_left_out(self) -> None:
+        lines = support.trace_text("diagram").splitlines()
+        for request in ("0", "7", "-"):
+            self.assertEqual(read_trace([f"{line} {request}" for line in lines]), support.trace("diagram"))
+        for wrong in (" x", " -1", " 0 0"):
+            with self.assertRaisesRegex(ValueError, "line 1: not a line of a trace"):
+                read_trace([lines[0] + wrong])
+
     def test_stretches_leave_no_hole_within_a_group(self) -> None:
         for name in support.SCRIPTS:
             for own in by_lun(support.trace(name)).values():
@@ -317,7 +325,8 @@ class Commands(unittest.TestCase):
 
     def test_a_script_of_another_device_is_told(self) -> None:
         given = support.trace_text("batch")
-        for script, word in (("examples/simulator/batch.onfi", "line 4: the phase takes 11000 ns, by the script 369380"), ("slow", "line 2: starts before the array time")):
+        takes = "line 4: the phase takes 11000 ns, by the script 369380"
+        for script, word in (("examples/simulator/batch.onfi", takes), ("slow", "line 2: starts before the array time")):
             with tempfile.TemporaryDirectory() as room:
                 path = support.ROOT / script
                 if script == "slow":

@@ -8,12 +8,11 @@ from typing import Dict, List, Tuple
 
 import support
 from onfi_tools.device import Spans
+from onfi_tools.drawn import USUAL, any_lengths, drawn_wants
 from onfi_tools.policies import (Device, Group, Planned, Policy, Want, first_in_first_out, is_group, round_robin,
                                  round_robin_commands_first, script_of)
 
 WAYS: Tuple[Policy, ...] = (first_in_first_out, round_robin, round_robin_commands_first)
-USUAL = {"read": Spans(140, 600, 25100, 11000), "program": Spans(10800, 600, 200100, 280),
-         "erase": Spans(100, 600, 1500100, 280)}
 
 
 def phases_of(group: Group) -> List[Tuple[int, int, int]]:
@@ -58,14 +57,8 @@ def faults_of_order(planned: Planned, runs: List[List[Tuple[int, int, int]]]) ->
 
 
 def drawn(rng: random.Random) -> Tuple[Device, List[Want]]:
-    lengths = {kind: Spans(*(rng.randint(low, 60) for low in (1, 0, 0, 1))) for kind in USUAL}
-    device = Device(rng.randint(1, 8), rng.randint(0, 2), rng.random() < 0.7, rng.random() < 0.7, lengths)
-    wants = []
-    for number in range(rng.randint(0, 8)):
-        kind = rng.choice(("read", "program", "erase"))
-        page = 0 if kind == "erase" else rng.randrange(2)
-        wants.append(Want(number, kind, rng.randrange(device.luns), rng.randrange(6), page))
-    return device, wants
+    device = Device(rng.randint(1, 8), rng.randint(0, 2), rng.random() < 0.7, rng.random() < 0.7, any_lengths(rng))
+    return device, drawn_wants(rng, device.luns, (1, 1, 1), rng.randint(0, 8), 6)
 
 
 class Worked(unittest.TestCase):

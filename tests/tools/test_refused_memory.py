@@ -37,7 +37,7 @@ REFUSES = r'say("memory\n", 7); _exit(4);'
 ONE_ERASE = "what stands behind the line end isn't looked at"
 RUNS = r'say("reply,0,0,0,done\nclosed\n", 24); return 0;'
 TOO_GREAT = "a limit one too great"
-USAGE = r'write(2, "usage: onfi_sim plan\n", 21); return 5;'
+WRONG_WORDS = r'write(2, "error: a word\n", 14); return 5;'
 
 
 def said_of_program(text: str, *ways: str, case: str = CASE) -> "subprocess.CompletedProcess[str]":
@@ -84,6 +84,16 @@ class RefusedMemory(unittest.TestCase):
     def test_a_word_on_standard_error_is_a_miss(self) -> None:
         self.assert_missed(r'write(2, "oh\n", 3); ' + REFUSES, "memory\\noh\\n")
 
+    def test_a_message_beside_a_refusal_passes(self) -> None:
+        said = said_of(r'write(2, "onfi_sim: memory was refused\n", 29); ' + REFUSES)
+        self.assertEqual((said.returncode, said.stdout.splitlines()[-1]), (0, "1 passed, 0 failed"))
+
+    def test_half_a_message_is_a_miss(self) -> None:
+        self.assert_missed(r'write(2, "onfi_sim: memory was", 20); ' + REFUSES, "growth 1 refused, alone: status 4")
+
+    def test_a_message_beside_an_answer_is_a_miss(self) -> None:
+        self.assert_missed(REFUSES, "nothing refused: status 0", r'write(2, "onfi_sim: done\n", 15); ' + PLANS)
+
     def test_a_wrong_answer_with_memory_is_a_miss(self) -> None:
         self.assert_missed(REFUSES + " } if (size == 4096) { _exit(0);", "nothing refused: status 0")
 
@@ -108,12 +118,18 @@ class RefusedMemory(unittest.TestCase):
             case = REFUSE.Case("a page", "a case", [b"run"], script, status, told, None)
             self.assertEqual(REFUSE.without_memory(case, REFUSE.Ran(told, b"", status, 2, 1)), right)
 
-    def test_a_refused_command_line_passes_with_memory_or_the_usage(self) -> None:
-        said = said_of(REFUSES, USAGE, TOO_GREAT)
+    def test_a_refused_command_line_passes_with_memory_or_what_is_said_of_it(self) -> None:
+        said = said_of(REFUSES, WRONG_WORDS, TOO_GREAT)
         self.assertEqual((said.returncode, said.stdout.splitlines()[-1]), (0, "1 passed, 0 failed"))
 
-    def test_a_refused_command_line_without_the_usage_is_a_miss(self) -> None:
-        self.assert_missed("_exit(5);", "growth 2 refused, alone: status 5", USAGE, TOO_GREAT)
+    def test_a_refused_command_line_of_which_nothing_is_said_is_a_miss(self) -> None:
+        self.assert_missed("_exit(5);", "growth 2 refused, alone: status 5", WRONG_WORDS, TOO_GREAT)
+
+    def test_calls_of_another_program_may_be_refused_with_their_usage(self) -> None:
+        usage = r'write(2, "usage: apart|running\n", 21); return 5;'
+        text = PROGRAM.replace("WHERE_REFUSED", REFUSES).replace("ANSWER", usage)
+        said = said_of_program(text, "--calls", case="a trial that isn't there")
+        self.assertEqual((said.returncode, said.stdout.splitlines()[-1]), (0, "1 passed, 0 failed"), said.stdout)
 
     def test_a_program_that_asks_for_no_memory_shows_nothing(self) -> None:
         said = said_of_program('#include <unistd.h>\nint main(void) { return write(1, "ONFIPLAN 1\\nfinish 7\\nONFICERT 1\\nU\\n", 33) != 33; }')

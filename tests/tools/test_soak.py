@@ -9,12 +9,12 @@ import sys
 import tempfile
 import unittest
 from pathlib import Path
-from typing import List, Tuple
+from typing import Any, List, Tuple
 
 import support
 from onfi_tools.die import Block, Device, Operation
 
-SOAK = support.load("soak")
+SOAK: Any = support.load("soak")
 
 USUAL = Device(64, 528, False)
 PROGRAM = """#!{python} -B
@@ -174,7 +174,7 @@ if "--limit" in sys.argv:
 class Drawn(unittest.TestCase):
     """What scripts are drawn in each way."""
 
-    def drawn(self, way: str) -> "List[SOAK.Script]":
+    def drawn(self, way: str) -> List[Any]:
         made = []
         for number in range(40):
             rng = random.Random(f"1 {number}")

@@ -8,13 +8,13 @@ import subprocess
 import tempfile
 import unittest
 from pathlib import Path
-from typing import Dict, List, Tuple
+from typing import Any, Dict, List, Tuple
 
 import support
 from onfi_tools.edits import change_of
 
-TOOL = support.load("wrong-bodies")
-GATE = support.load("gate")
+TOOL: Any = support.load("wrong-bodies")
+GATE: Any = support.load("gate")
 
 HALF = """\
 pub struct Half {
@@ -59,7 +59,7 @@ impl Half {
 """
 
 
-def crate_of(folder: Path, sources: Dict[str, str], edits: Dict[str, str]) -> "TOOL.Crate":
+def crate_of(folder: Path, sources: Dict[str, str], edits: Dict[str, str]) -> Any:
     """A crate 'demo' of these sources with these edits; each is 'PATH|OLD|NEW'."""
     for name, text in sources.items():
         (folder / "src").mkdir(exist_ok=True)
@@ -77,7 +77,7 @@ def crate_of(folder: Path, sources: Dict[str, str], edits: Dict[str, str]) -> "T
     return crate
 
 
-def told(lines: List[str], status: int = 1) -> "TOOL.Told":
+def told(lines: List[str], status: int = 1) -> Any:
     return TOOL.Told("demo", status, "\n".join(lines), {"src/half.rt": HALF})
 
 
@@ -188,7 +188,7 @@ class Verdicts(unittest.TestCase):
 
 
 class Cycles(unittest.TestCase):
-    def verdict_on(self, key: Tuple[str, str, str], lines: List[str]) -> "TOOL.Verdict":
+    def verdict_on(self, key: Tuple[str, str, str], lines: List[str]) -> Any:
         return TOOL.Told("demo", 1, "\n".join([*lines, "only=1 proved=0"]), {"src/half.rt": CYCLES}).verdict_on(key)
 
     def test_a_goal_of_a_function_that_calls_itself_is_its_own(self) -> None:
@@ -214,7 +214,8 @@ class Cycles(unittest.TestCase):
 
 def ran(*command: str) -> Tuple[int, int, List[str]]:
     with contextlib.redirect_stdout(io.StringIO()):
-        return GATE.run([*command])
+        told: Tuple[int, int, List[str]] = GATE.run([*command])
+        return told
 
 
 def git(folder: Path, *words: str) -> str:
@@ -242,8 +243,11 @@ class Due(unittest.TestCase):
         self.commit()
         self.first = git(self.folder, "rev-parse", "HEAD")
         was = TOOL.ROOT, TOOL.LANDINGS, TOOL.PROVE.CRATES
-        self.addCleanup(lambda: (setattr(TOOL, "ROOT", was[0]), setattr(TOOL, "LANDINGS", was[1]), setattr(TOOL.PROVE, "CRATES", was[2])))
+        self.addCleanup(self.put_back, was)
         TOOL.ROOT, TOOL.LANDINGS, TOOL.PROVE.CRATES = self.folder, self.folder / "landings", dict.fromkeys(self.NAMES)
+
+    def put_back(self, was: Tuple[Path, Path, Dict[str, List[str]]]) -> None:
+        TOOL.ROOT, TOOL.LANDINGS, TOOL.PROVE.CRATES = was
 
     def write(self, crate: str, path: str, text: str) -> None:
         file = self.folder / "crates" / crate / path

@@ -1,14 +1,19 @@
-"""The pages of tests/cases: arguments, input, status and output of the built program. Their README has the format."""
+"""The pages of tests/cases: arguments, input, status and output of the built program, and what it says beside that.
+
+Their README has the format.
+"""
 
 from __future__ import annotations
 
 import pathlib
 import re
 import shlex
-from typing import Dict, Iterator, List, NamedTuple
+from typing import Dict, Iterable, Iterator, List, NamedTuple, Optional
 
 CASES = pathlib.Path(__file__).resolve().parent.parent.parent / "tests" / "cases"
-MARK = re.compile(r"^(===|\+\+\+|---) (.+)$", re.MULTILINE)
+MARK = re.compile(r"^(===|\+\+\+|---|!!!) (.+)$", re.MULTILINE)
+# The marks of a named text, and of a case without and with what is said.
+FORMS = (["+++"], ["===", "---"], ["===", "---", "!!!"])
 ESCAPE = re.compile(rb"\\(x.{0,2}|[^x])")
 ESCAPED = {b"\n": b"", b"n": b"\n", b"r": b"\r", b"t": b"\t", b"0": b"\0", b"\\": b"\\"}
 ESCAPED.update((b"x%02X" % byte, bytes([byte])) for byte in range(256))
@@ -24,7 +29,10 @@ class Part(NamedTuple):
 
 
 class Case(NamedTuple):
-    """What a program answers; where there is a second run, what that answers to the input and the first output."""
+    """What a program answers; where there is a second run, what that answers to the input and the first output.
+
+    `said` is the text of standard error; None where the page doesn't say it.
+    """
 
     place: str
     name: str
@@ -33,6 +41,7 @@ class Case(NamedTuple):
     status: int
     output: bytes
     second: List[bytes]
+    said: Optional[bytes] = None
 
 
 def parts_of(path: pathlib.Path) -> Iterator[Part]:
@@ -63,38 +72,54 @@ def without_end(body: str) -> str:
     return re.sub(r"(^|\n)\n*\Z", r"\1", body)
 
 
-def case_of(asked: Part, answer: Part, texts: Dict[str, bytes]) -> Case:
+def groups_of(parts: Iterable[Part]) -> Iterator[List[Part]]:
+    """The parts that belong together: a named text, or a case with its answer."""
+    group: List[Part] = []
+    for part in parts:
+        if part.mark in ("===", "+++") and group:
+            yield group
+            group = []
+        group.append(part)
+    if group:
+        yield group
+
+
+def check_form(group: List[Part]) -> None:
+    """ValueError: the parts are neither a named text nor a case."""
+    if [part.mark for part in group] not in FORMS:
+        raise ValueError("a case without an answer, or an answer without a case")
+    if any(part.mark == "!!!" and part.title != "said" for part in group):
+        raise ValueError("only `said` stands behind !!!")
+
+
+def case_of(group: List[Part], texts: Dict[str, bytes]) -> Case:
+    asked, answer, *others = group
     line, _, input = asked.body.partition("\n")
     if not line.startswith("$"):
         raise ValueError("no line of arguments behind the name")
     first, _, second = line[1:].partition(" | ")
     arguments, behind = ([unescaped(word) for word in shlex.split(part)] for part in (first, second))
     output = text_of(without_end(answer.body), texts)
-    return Case(asked.place, asked.title, arguments, text_of(input, texts), int(answer.title), output, behind)
+    said = text_of(without_end(others[0].body), texts) if others else None
+    return Case(asked.place, asked.title, arguments, text_of(input, texts), int(answer.title), output, behind, said)
 
 
 def read_page(path: pathlib.Path, texts: Dict[str, bytes]) -> Iterator[Case]:
     """The cases of a page, in order; its named texts are added to the given ones."""
     names = set(texts)
-    asked = None
-    for part in parts_of(path):
+    for group in groups_of(parts_of(path)):
+        first = group[0]
         try:
-            if (part.mark == "---") != (asked is not None):
-                raise ValueError("a case without an answer, or an answer without a case")
-            if part.mark != "---" and part.title in names:
+            check_form(group)
+            if first.title in names:
                 raise ValueError("this name stands twice")
-            names.add(part.title)
-            if part.mark == "+++":
-                texts[part.title] = text_of(without_end(part.body), texts)
-            elif part.mark == "===":
-                asked = part
-            elif asked:
-                yield case_of(asked, part, texts)
-                asked = None
+            names.add(first.title)
+            if first.mark == "+++":
+                texts[first.title] = text_of(without_end(first.body), texts)
+            else:
+                yield case_of(group, texts)
         except (ValueError, KeyError) as fault:
-            raise ValueError(f"{part.place}: {fault!r}") from fault
-    if asked:
-        raise ValueError(f"{asked.place}: a case without an answer")
+            raise ValueError(f"{first.place}: {fault!r}") from fault
 
 
 def single_cases(words: List[str], folder: pathlib.Path = CASES) -> List[Case]:

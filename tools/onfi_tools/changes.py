@@ -76,7 +76,8 @@ def with_attributes(lines: List[str], function: Function) -> int:
 def body_of(path: str, lines: List[str], function: Function) -> Body:
     """A function of a file; others see the head of its impl, and it up to the line on which its body begins."""
     owner = next((it for it in reversed(lines[: function.first]) if function.owner and OWNER.match(it)), "")
-    first, indent = with_attributes(lines, function), FUNCTION.match(lines[function.first])[1]
+    head_line = FUNCTION.match(lines[function.first])
+    first, indent = with_attributes(lines, function), head_line[1] if head_line else ""
     own = range(function.first, function.last + 1)
     alone = (at for at in own if lines[at] == indent + "{")
     ends = (at for at in own if lines[at].endswith("{"))

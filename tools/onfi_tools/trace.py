@@ -1,4 +1,4 @@
-"""Traces of `onfi_sim plan --trace`: their phases, and what each LUN does from one to the next."""
+"""Traces of `onfi_sim plan --trace` or `--requests`: their phases, and what each LUN does from one to the next."""
 
 from __future__ import annotations
 
@@ -63,10 +63,19 @@ def read_trace(lines: Iterable[str]) -> List[Phase]:
     return phases
 
 
+def is_number(field: str) -> bool:
+    return field.isascii() and field.isdigit()
+
+
+def without_request(fields: List[str]) -> List[str]:
+    """The fields without the request of `--requests`, which no picture shows."""
+    return fields[:9] if len(fields) == 10 and (is_number(fields[9]) or fields[9] == "-") else fields
+
+
 def phase_of(number: int, line: str) -> Phase:
-    fields = line.split()
+    fields = without_request(line.split())
     numbers = fields[:3] + fields[5:7]
-    if len(fields) != 9 or not all(field.isascii() and field.isdigit() for field in numbers):
+    if len(fields) != 9 or not all(map(is_number, numbers)):
         raise ValueError(f"line {number}: not a line of a trace: {line.strip()}")
     start, end, lun, block, page = map(int, numbers)
     kind, part = fields[3:5]

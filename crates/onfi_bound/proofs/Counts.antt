@@ -1,8 +1,8 @@
 -- The counts of a class and the waits of a LUN's wants, with one more want.
-use Rattle.std.proofs.Common.{◌≡◌, ◌≢◌, ℕ, zero, suc, ◌+◌, ◌*◌, ◌-◌, ◌^◌, ◌≤◌, ◌<◌, ◌⊎◌, inl, inr, Bool, true, false, if◌then◌else◌, List, [], ◌∷◌, ◌++◌, length, get_or, take, refl, sym, ap, add-zero, ◌∙◌, arith}
+use Rattle.std.proofs.Common.{◌≡◌, ◌≢◌, ℕ, zero, suc, ◌+◌, ◌*◌, ◌-◌, ◌^◌, ◌≤◌, ◌<◌, ◌⊎◌, inl, inr, Bool, true, false, if◌then◌else◌, List, [], ◌∷◌, ◌++◌, length, get_or, take, refl, sym, add-zero, ◌∙◌, arith}
 use Rattle.std.specs.Prelude.{min, max, ◌==◌, slice_set}
 use Rattle.std.proofs.lemmas.Bool.{cases_Bool, cases_eq, eq-eqb, ne_eqb}
-use Rattle.std.proofs.lemmas.List.{take_more, length-take}
+use Rattle.std.proofs.lemmas.List.{append-nil, take_more, length-take}
 use Rattle.std.proofs.lemmas.List.Elements.{filter-append}
 use Rattle.onfi_timing.specs.declared.kind.Kind.{Kind}
 use Rattle.onfi_timing.specs.declared.kind.Kind.TheVariants.{Read, Program, Erase}
@@ -20,15 +20,17 @@ use Rattle.onfi_bound.proofs.Classes.{same_kind_is, same_kind_self, deepest_in}
 use Rattle.onfi_bound.proofs.Steps.{one_kind}
 
 -- one more want on the LUN, or on another
+pub on_lun_with : (lun : ℕ) (ws : List Want) (w : Want) → w.lun ≡ lun → on_lun lun (ws ++ w ∷ []) ≡ on_lun lun ws ++ w ∷ []
+on_lun_with lun ws w e = rw (filter-append (λ v. v.lun == lun) ws (w ∷ [])) (rw (eq-eqb w.lun lun e) refl)
+
+pub on_lun_without : (lun : ℕ) (ws : List Want) (w : Want) → w.lun ≢ lun → on_lun lun (ws ++ w ∷ []) ≡ on_lun lun ws
+on_lun_without lun ws w e = rw (filter-append (λ v. v.lun == lun) ws (w ∷ [])) (rw (ne_eqb w.lun lun e) (append-nil (on_lun lun ws)))
+
 on_lun_yes : (lun : ℕ) (ws : List Want) (i : ℕ) (d : Want) → i < length ws → (get_or ws i d).lun ≡ lun → on_lun lun (take (i + 1) ws) ≡ on_lun lun (take i ws) ++ get_or ws i d ∷ []
-on_lun_yes lun ws i d h e = rw (take_more ws i d h, filter-append (λ w. w.lun == lun) (take i ws) (get_or ws i d ∷ [])) (rw (eq-eqb (get_or ws i d).lun lun e) refl)
+on_lun_yes lun ws i d h e = rw (take_more ws i d h) (on_lun_with lun (take i ws) (get_or ws i d) e)
 
 on_lun_no : (lun : ℕ) (ws : List Want) (i : ℕ) (d : Want) → i < length ws → (get_or ws i d).lun ≢ lun → on_lun lun (take (i + 1) ws) ≡ on_lun lun (take i ws)
-on_lun_no lun ws i d h e = rw (take_more ws i d h, filter-append (λ w. w.lun == lun) (take i ws) (get_or ws i d ∷ [])) (rw (ne_eqb (get_or ws i d).lun lun e) (nothing_more (on_lun lun (take i ws))))
-  where
-    nothing_more : (xs : List Want) → xs ++ [] ≡ xs
-    nothing_more [] = refl
-    nothing_more (x ∷ xs) = ap (λ ys. x ∷ ys) (nothing_more xs)
+on_lun_no lun ws i d h e = rw (take_more ws i d h) (on_lun_without lun (take i ws) (get_or ws i d) e)
 
 number_more : (test : Want → Bool) (ws : List Want) (x : Want) → number test (ws ++ x ∷ []) ≡ number test ws + (if test x then 1 else 0)
 number_more test ws x = let e = total-append (λ w. if test w then 1 else 0) ws (x ∷ []) in omega arith
@@ -205,7 +207,7 @@ module _ (timing : Timing) (rules : Rules) (ws : List Want) (w : Want) (plane : 
             rw k (omega arith))
       ]
 
-  work_with : page < 2 ^ 16 → above < 2 ^ 16 → wants_work timing rules (ws ++ w ∷ []) ≡ wants_work timing rules ws + ((spans_of timing w.kind).cmd + (spans_of timing w.kind).post + added_wait (spans_of timing w.kind) rules ws w)
+  pub work_with : page < 2 ^ 16 → above < 2 ^ 16 → wants_work timing rules (ws ++ w ∷ []) ≡ wants_work timing rules ws + ((spans_of timing w.kind).cmd + (spans_of timing w.kind).post + added_wait (spans_of timing w.kind) rules ws w)
   work_with a b =
       let r = kind_more Read a b in let p = kind_more Program a b in let e = kind_more Erase a b in
       let o = one_kind w.kind (added_wait (spans_of timing w.kind) rules ws w) in

@@ -1,5 +1,5 @@
 -- What sets of wants take, and what a walk over the LUNs has met.
-use Rattle.std.specs.Prelude.{◌≡◌, ℕ, ◌+◌, ◌^◌, ◌<◌, ◌≤◌, max, true, if◌then◌else◌, List, [], ◌∷◌, map, drop, Some, slice_get, slice_index}
+use Rattle.std.specs.Prelude.{◌≡◌, ℕ, ◌+◌, ◌*◌, ◌^◌, ◌<◌, ◌≤◌, max, true, false, if◌then◌else◌, List, [], ◌∷◌, length, map, drop, Some, slice_get, slice_index, slice_index_or}
 use Rattle.std.specs.List.{AllByRecursion as Each, list_any}
 use Rattle.onfi_timing.specs.declared.kind.Kind.{Kind}
 use Rattle.onfi_timing.specs.declared.timing.Timing.{Timing}
@@ -8,7 +8,7 @@ use Rattle.onfi_request.specs.declared.want.Want.{Want}
 use Rattle.onfi_group.specs.declared.rules.Rules.{Rules}
 use Rattle.onfi_group.specs.Words.{total}
 use Rattle.onfi_problem.specs.declared.lun_state.LunState.{LunState}
-use Rattle.onfi_problem.specs.Problem.{Problem}
+use Rattle.onfi_problem.specs.Problem.{Problem, IsWant}
 use Rattle.onfi_problem.specs.Position.{Position, waiting_of}
 use Rattle.onfi_problem.specs.Left.{want_command, want_post, command_time, post_time, all_commands, all_posts}
 use Rattle.onfi_bound.specs.declared.chain.Chain.{Chain}
@@ -34,6 +34,21 @@ pub record IsLoad (timing : Timing) (rules : Rules) (wants : List Want) (load : 
   pub firsts : (lun : ℕ) → lun < 8 → IsLeast (commands_to_post timing (on_lun lun wants)) (slice_index load.firsts lun)
   pub short : (lun : ℕ) → slice_index load.firsts lun < 2 ^ 51
   pub work : (lun : ℕ) → lun < 8 → slice_index load.work lun ≡ wants_work timing rules (on_lun lun wants)
+
+-- .. where the wants are legal, and no work leaves 64 bits with a few of them
+pub record IsShortLoad (timing : Timing) (rules : Rules) (wants : List Want) (load : Load) : Type 0 where
+  pub takes : IsLoad timing rules wants load
+  pub legal : Each IsWant wants
+  pub short : (lun : ℕ) → slice_index load.work lun ≤ length wants * 2 ^ 52
+
+-- a load of the wants that its marks name, none of which has that number or a greater one
+pub record IsLoadBefore (x : Position) (number : ℕ) (load : Load) : Type 0 where
+  pub takes : IsShortLoad x.problem.timing x.problem.rules (waiting_of load.marks x.all) load
+  pub before : (i : ℕ) → number ≤ i → i < length x.all → slice_index_or load.marks i false ≡ false
+
+-- each is such a load
+abbrev pub AreLoadsBefore : Position → ℕ → List Load → Type 0
+AreLoadsBefore x number loads = Each (IsLoadBefore x number) loads
 
 -- each is what the wants take that its marks name
 abbrev pub AreLoads : Position → List Load → Type 0

@@ -1,6 +1,6 @@
 ghost use Rattle.std.specs.Prelude.{◌≡◌, ℕ, ◌+◌, ◌*◌, ◌^◌, ◌<◌, ◌≤◌, length, map, take, if◌then◌else◌, true, false, []};
 ghost use Rattle.std.specs.List.{AllByRecursion as Each, list_any};
-ghost use Rattle.onfi_timing.specs.declared.kind.Kind.{Kind};
+ghost use Rattle.onfi_timing.specs.declared.kind.Kind.{Kind as AnyKind};
 ghost use Rattle.onfi_group.specs.Words.{total};
 ghost use Rattle.onfi_problem.specs.Position.{state_of, waiting_of};
 ghost use Rattle.onfi_problem.specs.Left.{want_command, want_post, InLimits};
@@ -13,7 +13,7 @@ use arrayvec::ArrayVec;
 use onfi_group::Group;
 use onfi_problem::{Lun, Problem};
 use onfi_request::Want;
-use onfi_timing::Timing;
+use onfi_timing::{Kind, Spans, Timing};
 
 /// Sums over all LUNs of what is left, in ns.
 #[derive(Clone, Copy)]
@@ -31,7 +31,7 @@ impl Sums {
     pub fn none() -> Sums
         ensures commands { result.commands ≡ 0 }
         ensures posts { result.posts ≡ 0 }
-        ensures kinds { (kind : Kind) → has_kind result.kinds kind ≡ false }
+        ensures kinds { (kind : AnyKind) → has_kind result.kinds kind ≡ false }
     {
         Sums {
             commands: 0,
@@ -46,7 +46,7 @@ impl Sums {
         requires few { length chains.now ≤ 8 }
         ensures commands { result.commands ≡ total (λ c. c.commands) chains.now }
         ensures posts { result.posts ≡ total (λ c. c.posts) chains.now }
-        ensures kinds { (kind : Kind) → has_kind result.kinds kind ≡ list_any (λ c. is_kind kind c.command) chains.now }
+        ensures kinds { (kind : AnyKind) → has_kind result.kinds kind ≡ list_any (λ c. is_kind kind c.command) chains.now }
         ensures commands_short { result.commands ≤ 2 ^ 55 }
         ensures posts_short { result.posts ≤ 2 ^ 55 }
     {
@@ -63,7 +63,7 @@ impl Sums {
         requires posts { self.posts + chain.posts < 2 ^ 64 }
         ensures commands { result.commands ≡ self.commands + chain.commands }
         ensures posts { result.posts ≡ self.posts + chain.posts }
-        ensures kinds { (kind : Kind) → has_kind result.kinds kind ≡ (if has_kind self.kinds kind then true else is_kind kind chain.command) }
+        ensures kinds { (kind : AnyKind) → has_kind result.kinds kind ≡ (if has_kind self.kinds kind then true else is_kind kind chain.command) }
     {
         let kinds = match chain.command {
             Some(kind) => self.kinds.with(kind),
@@ -83,18 +83,28 @@ impl Sums {
         requires posts { self.posts ≤ 2 ^ 55 }
         ensures commands { result.commands ≡ self.commands + total (want_command timing.now) wants.now }
         ensures posts { result.posts ≡ self.posts + total (want_post timing.now) wants.now }
-        ensures kinds { (kind : Kind) → has_kind result.kinds kind ≡ (if has_kind self.kinds kind then true else list_any (λ w. same_kind kind w.kind) wants.now) }
+        ensures kinds { (kind : AnyKind) → has_kind result.kinds kind ≡ (if has_kind self.kinds kind then true else list_any (λ w. same_kind kind w.kind) wants.now) }
     {
         let mut sums = self;
         for want in wants {
-            let spans = timing.spans(want.kind);
-            sums = Sums {
-                commands: sums.commands + spans.cmd,
-                posts: sums.posts + spans.post,
-                kinds: sums.kinds.with(want.kind),
-            };
+            sums = sums.with_want(&timing.spans(want.kind), want.kind);
         }
         sums
+    }
+
+    /// One want more, of that kind and with these phase lengths.
+    pub fn with_want(self, spans: &Spans, kind: Kind) -> Sums
+        requires commands { self.commands + spans.now.cmd < 2 ^ 64 }
+        requires posts { self.posts + spans.now.post < 2 ^ 64 }
+        ensures commands { result.commands ≡ self.commands + spans.now.cmd }
+        ensures posts { result.posts ≡ self.posts + spans.now.post }
+        ensures kinds { (of : AnyKind) → has_kind result.kinds of ≡ (if has_kind self.kinds of then true else same_kind of kind) }
+    {
+        Sums {
+            commands: self.commands + spans.cmd,
+            posts: self.posts + spans.post,
+            kinds: self.kinds.with(kind),
+        }
     }
 }
 

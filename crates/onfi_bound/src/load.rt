@@ -1,13 +1,13 @@
-ghost use Rattle.std.specs.Prelude.{◌≡◌, ℕ, ◌^◌, ◌<◌, ◌≤◌, length, slice_index, Option, None, Some, IfSome, IsTrue};
+ghost use Rattle.std.specs.Prelude.{◌≡◌, ◌+◌, ◌≤◌, ◌<◌, ◌++◌, ◌∷◌, [], length, IsTrue};
 ghost use Rattle.std.specs.List.{AllByRecursion as Each};
+ghost use Rattle.onfi_timing.specs.declared.timing.Timing.{Timing as AnyTiming};
+ghost use Rattle.onfi_group.specs.declared.rules.Rules.{Rules as AnyRules};
 ghost use Rattle.onfi_problem.specs.Problem.{IsWant};
 ghost use Rattle.onfi_problem.specs.Position.{waiting_of};
-ghost use Rattle.onfi_bound.specs.Bounds.{on_lun, wants_work};
-ghost use Rattle.onfi_bound.specs.Loads.{IsLoad, IsLeast, commands_to_post};
+ghost use Rattle.onfi_bound.specs.Loads.{IsLoad, IsShortLoad, IsLoadBefore};
 
 use crate::left::{Sums, list_marked};
-use crate::posts::first_command;
-use crate::waits::work_of_wants;
+use crate::waits::wait_of;
 use arrayvec::ArrayVec;
 use onfi_group::Rules;
 use onfi_problem::Problem;
@@ -27,22 +27,85 @@ pub struct Load {
 }
 
 impl Load {
+    /// What no want takes.
+    pub fn none(marks: &[bool; 8]) -> Load
+        ensures load { (timing : AnyTiming) (rules : AnyRules) → IsShortLoad timing rules [] result }
+        ensures marks { result.marks ≡ marks.now }
+    {
+        Load {
+            marks: *marks,
+            sums: Sums::none(),
+            firsts: [0; 8],
+            work: [0; 8],
+        }
+    }
+
     /// What the marked wants take.
     pub fn of(problem: &Problem, marks: &[bool; 8]) -> Load
-        requires { Each IsWant (waiting_of marks.now problem.now.all) }
+        requires wants { Each IsWant (waiting_of marks.now problem.now.all) }
+        requires luns { Each (λ w. w.lun < 8) (waiting_of marks.now problem.now.all) }
         ensures load { IsLoad problem.now.problem.timing problem.now.problem.rules (waiting_of marks.now problem.now.all) result }
         ensures marks { result.marks ≡ marks.now }
     {
         let mut wants = ArrayVec::new();
         list_marked(problem.wants(), marks, &mut wants);
         let (timing, rules) = (problem.timing(), problem.rules());
-        let none = Sums::none();
-        Load {
-            marks: *marks,
-            sums: none.with_wants(&timing, &wants),
-            firsts: first_commands(&timing, &wants),
-            work: works(&timing, &rules, &wants),
+        Load::none(marks).with_all(&timing, &rules, &wants)
+    }
+
+    // What these wants take, where nothing was taken before.
+    fn with_all(self, timing: &Timing, rules: &Rules, wants: &[Want]) -> Load
+        requires load { IsShortLoad timing.now rules.now [] self }
+        requires wants { Each IsWant wants.now }
+        requires luns { Each (λ w. w.lun < 8) wants.now }
+        requires few { length wants.now ≤ 8 }
+        ensures load { IsShortLoad timing.now rules.now wants.now result }
+        ensures marks { result.marks ≡ self.marks }
+    {
+        let mut load = self;
+        for (i, want) in wants.iter().enumerate() {
+            load.add(timing, rules, &wants[..i], want);
         }
+        load
+    }
+
+    /// The want of that number too, where it waits; none of that number or a greater one was among them.
+    pub fn add_number(&mut self, problem: &Problem, number: usize)
+        requires number { number < length problem.now.all }
+        requires load { IsLoadBefore problem.now number self.old }
+        ensures { IsLoadBefore problem.now (number + 1) self.new }
+    {
+        let _limits = problem.bus_free();
+        let (wants, waits) = (problem.wants(), problem.waiting()[number]);
+        if !waits {
+            return;
+        }
+        let mut before = ArrayVec::new();
+        list_marked(wants, &self.marks, &mut before);
+        let (timing, rules) = (problem.timing(), problem.rules());
+        self.add(&timing, &rules, &before, &wants[number]);
+        self.marks[number] = true;
+    }
+
+    // One want more, behind those whose load it was.
+    fn add(&mut self, timing: &Timing, rules: &Rules, before: &[Want], want: &Want)
+        requires load { IsShortLoad timing.now rules.now before.now self.old }
+        requires few { length before.now ≤ 8 }
+        requires want { IsWant want.now }
+        requires lun { want.now.lun < 8 }
+        ensures load { IsShortLoad timing.now rules.now (before.now ++ want.now ∷ []) self.new }
+        ensures marks { self.new.marks ≡ self.old.marks }
+    {
+        let (lun, spans) = (want.lun as usize, timing.spans(want.kind));
+        let wait = wait_of(&spans, rules, before, want);
+        let to_post = spans.cmd + spans.array;
+        self.firsts[lun] = if self.work[lun] == 0 {
+            to_post
+        } else {
+            to_post.min(self.firsts[lun])
+        };
+        self.sums = self.sums.with_want(&spans, want.kind);
+        self.work[lun] += spans.cmd + spans.post + wait;
     }
 
     /// Whether it is of the wants with these marks.
@@ -56,40 +119,4 @@ impl Load {
         }
         true
     }
-}
-
-// For each LUN that has wants the least command and array of one.
-fn first_commands(timing: &Timing, wants: &[Want]) -> [u64; 8]
-    ensures value { (lun : ℕ) → lun < 8 → IsLeast (commands_to_post timing.now (on_lun lun wants.now)) (slice_index result lun) }
-    ensures short { (lun : ℕ) → slice_index result lun < 2 ^ 51 }
-{
-    let mut firsts = [0; 8];
-    for lun in 0..8u8 {
-        firsts[lun as usize] = or_zero(first_command(timing, wants, lun));
-    }
-    firsts
-}
-
-// The number, where there is one.
-fn or_zero(number: Option<u64>) -> u64
-    ensures some { IfSome number (λ n. result ≡ n) }
-    ensures none { number ≡ None → result ≡ 0 }
-{
-    match number {
-        Some(n) => n,
-        None => 0,
-    }
-}
-
-// For each LUN how long its wants take at least.
-fn works(timing: &Timing, rules: &Rules, wants: &[Want]) -> [u64; 8]
-    requires wants { Each IsWant wants.now }
-    requires few { length wants.now ≤ 8 }
-    ensures { (lun : ℕ) → lun < 8 → slice_index result lun ≡ wants_work timing.now rules.now (on_lun lun wants.now) }
-{
-    let mut work = [0; 8];
-    for lun in 0..8u8 {
-        work[lun as usize] = work_of_wants(timing, rules, wants, lun);
-    }
-    work
 }

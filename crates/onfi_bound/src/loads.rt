@@ -1,5 +1,5 @@
-ghost use Rattle.std.specs.Prelude.{◌≡◌, ◌≤◌, ℕ, IfOk, MatchOption, true, false, slice_index_or, length};
-ghost use Rattle.onfi_bound.specs.Loads.{AreLoads};
+ghost use Rattle.std.specs.Prelude.{◌≡◌, ◌+◌, ◌≤◌, ◌<◌, ℕ, IfOk, MatchOption, false, slice_index_or, length};
+ghost use Rattle.onfi_bound.specs.Loads.{AreLoads, AreLoadsBefore};
 ghost use Rattle.onfi_bound.specs.Reaching.{NoneReaches, IsFirst};
 
 use crate::bound::Bound;
@@ -23,12 +23,11 @@ impl Loads {
     pub fn new(alloc: Global, problem: &Problem) -> Result<Loads, AllocError>
         ensures { IfOk result (λ loads. AreLoads problem.now loads.of.items) }
     {
-        let (waiting, width) = (problem.waiting(), problem.wants().len());
-        let _limits = problem.bus_free();
-        let count = 1usize << width;
-        let mut of = Vec::with_capacity(alloc, count)?;
-        for at in 0..count {
-            of.push(Load::of(problem, &some_of(waiting, width, at)))?;
+        let width = problem.wants().len();
+        let mut of = Vec::with_capacity(alloc, 1usize << width)?;
+        of.push(Load::none(&marks_from(problem.waiting(), width)))?;
+        for number in 0..width {
+            add_want(&mut of, problem, number)?;
         }
         Ok(Loads { of })
     }
@@ -50,15 +49,30 @@ impl Loads {
     }
 }
 
-// The marks of which those at the bits of a number are left, the first mark at the lowest bit; from `width` on all.
-fn some_of(marks: &[bool; 8], width: usize, number: usize) -> [bool; 8]
-    ensures { (i : ℕ) → slice_index_or result i false ≡ true → slice_index_or marks.now i false ≡ true }
+// Behind the loads of all sets of the wants before that number stand, in their order, those that have this want too.
+fn add_want(of: &mut Vec<Load>, problem: &Problem, number: usize) -> Result<(), AllocError>
+    requires number { number < length problem.now.all }
+    requires loads { AreLoadsBefore problem.now number of.old.items }
+    ensures { IfOk result (λ done. AreLoadsBefore problem.now (number + 1) of.new.items) }
 {
-    let mut some = [false; 8];
-    for i in 0..8usize {
-        some[i] = marks[i] && (i >= width || number >> i & 1 == 1);
+    for at in 0..of.len() {
+        let mut load = of[at];
+        load.add_number(problem, number);
+        of.push(load)?;
     }
-    some
+    Ok(())
+}
+
+// The marks from that number on, and none before.
+fn marks_from(marks: &[bool; 8], number: usize) -> [bool; 8]
+    requires { number ≤ 8 }
+    ensures { (i : ℕ) → i < number → slice_index_or result i false ≡ false }
+{
+    let mut left = *marks;
+    for i in 0..number {
+        left[i] = false;
+    }
+    left
 }
 
 // The number with the marks as its bits, the first one lowest.

@@ -67,8 +67,8 @@ pub fn work_of_wants(timing: &Timing, rules: &Rules, wants: &[Want], lun: u8) ->
     work
 }
 
-/// The wait that a want adds to those of its LUN before it.
-fn wait_of(spans: &Spans, rules: &Rules, before: &[Want], want: &Want) -> u64
+/// The wait that a want adds to those of its LUN before it, in ns.
+pub fn wait_of(spans: &Spans, rules: &Rules, before: &[Want], want: &Want) -> u64
     requires wants { Each IsWant before.now }
     requires want { IsWant want.now }
     requires few { length before.now ≤ 8 }

@@ -1,8 +1,11 @@
 -- What a caller is given for the bytes of a script.
-use Rattle.std.specs.Prelude.{◌≡◌, ◌<◌, ◌⊎◌, ℕ, List}
+use Rattle.std.specs.Prelude.{◌≡◌, ◌≤◌, ◌<◌, ◌⊎◌, ℕ, Bool, true, false, List}
 use Rattle.onfi_script.specs.Answer.{IsAnswer}
 use Rattle.onfi_script.specs.Text.{Answer}
 use Rattle.onfi_script.specs.declared.command.Command.{Command}
+use Rattle.onfi_script.specs.declared.command.Command.TheVariants as asked
+use Rattle.onfi_script.specs.declared.command.Output.{Output}
+use Rattle.onfi_script.specs.declared.command.Output.TheVariants.{Plan, Trace}
 use Rattle.onfi_c.specs.Room.{Gives}
 
 -- the caller is given the answer to a script, in a room of these bytes before and after
@@ -18,3 +21,14 @@ IsBadLimit limit = (limit ≡ 0) ⊎ (1048576 < limit)
 -- the status of such a limit
 abbrev pub bad_limit : ℕ
 bad_limit = 5
+
+-- what is printed of a plan: its trace, or with its certificate the plan
+abbrev pub output_of : Bool → Output
+output_of true = Trace false
+output_of false = Plan
+
+-- the caller is given what a search of at most `limit` nodes answers to a script; a number alone where the limit is out of
+-- its range
+pub record GivesPlanText (limit : ℕ) (output : Output) (remember : Bool) (script old new : List ℕ) (bytes result : ℕ) : Type 0 where
+  pub limited : IsBadLimit limit → (result ≡ bad_limit) × (new ≡ old) × (bytes ≡ 0)
+  pub answer : 1 ≤ limit → limit ≤ 1048576 → GivesAnswer (asked.Plan limit output remember) script old new bytes result

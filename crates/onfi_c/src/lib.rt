@@ -21,4 +21,5 @@ mod status;
 mod status_text;
 mod timing;
 mod told;
+mod version;
 mod written;

@@ -1,14 +1,15 @@
 //! Scripts and their answers, as bytes.
-ghost use Rattle.std.specs.Prelude.{◌≡◌, ◌≤◌, false, IfSome};
+ghost use Rattle.std.specs.Prelude.{◌≡◌, false, true, IfSome};
 ghost use Rattle.onfi_script.specs.Answer.{IsAnswer};
 ghost use Rattle.onfi_script.specs.Limit.{IsLimited};
-ghost use Rattle.onfi_script.specs.declared.command.Command.TheVariants.{Check, Plan};
+ghost use Rattle.onfi_script.specs.declared.command.Command.TheVariants.{Check, Legal, Plan};
+ghost use Rattle.onfi_script.specs.declared.command.Output.TheVariants.{Trace};
 ghost use Rattle.onfi_c.specs.Answered.{answer_of};
-ghost use Rattle.onfi_c.specs.Script.{GivesAnswer, IsBadLimit, bad_limit};
+ghost use Rattle.onfi_c.specs.Script.{GivesAnswer, GivesPlanText, output_of};
 
 use crate::answered::Answered;
 use crate::room::give;
-use onfi_script::{Command, engine};
+use onfi_script::{Command, Output, engine};
 use std::alloc::Global;
 
 /// The most nodes that a search may open.
@@ -55,6 +56,42 @@ fn give_answer(
     }
 }
 
+/// Gives the caller what a search of at most `limit` nodes answers to a script; a number alone where the limit is out of
+/// its range.
+fn give_plan(
+    alloc: Global,
+    script: &[u8],
+    limit: u32,
+    output: Output,
+    remember: bool,
+    answer: &mut [u8],
+    bytes: &mut usize,
+) -> u32
+    ensures { GivesPlanText limit output remember script.now answer.old answer.new bytes.new result }
+{
+    if limit == 0 || limit > MOST_NODES {
+        *bytes = 0;
+        return BAD_LIMIT;
+    }
+    let command = Command::Plan {
+        limit,
+        output,
+        remember,
+    };
+    give_answer(alloc, command, script, answer, bytes)
+}
+
+/// What is printed of a plan: its trace, or with its certificate the plan.
+fn output(trace: bool) -> Output
+    ensures { result ≡ output_of trace }
+{
+    if trace {
+        Output::Trace { requests: false }
+    } else {
+        Output::Plan
+    }
+}
+
 /// The bytes of a script in, out the plan that `onfi_sim plan` prints for it, or with `trace` its trace; the search
 /// opens at most `limit` nodes, 1 to 1,048,576. `bytes` tells how many bytes the answer has.
 ///
@@ -70,19 +107,45 @@ pub extern "C" fn onfi_text_plan(
     answer: &mut [u8],
     bytes: &mut usize,
 ) -> u32
-    ensures limited { IsBadLimit limit → (result ≡ bad_limit) × (answer.new ≡ answer.old) × (bytes.new ≡ 0) }
-    ensures answer { 1 ≤ limit → limit ≤ 1048576 → GivesAnswer (Plan limit trace false) script.now answer.old answer.new bytes.new result }
+    ensures { GivesPlanText limit (output_of trace) false script.now answer.old answer.new bytes.new result }
 {
-    if limit == 0 || limit > MOST_NODES {
-        *bytes = 0;
-        return BAD_LIMIT;
-    }
-    let command = Command::Plan {
-        limit,
-        trace,
-        remember: false,
-    };
-    give_answer(alloc, command, script, answer, bytes)
+    give_plan(alloc, script, limit, output(trace), false, answer, bytes)
+}
+
+/// The same by a search that remembers states, as `onfi_sim plan --remember` prints it: its certificate does so too.
+///
+/// Answers the same numbers.
+#[unsafe(no_mangle)]
+pub extern "C" fn onfi_text_plan_known(
+    alloc: Global,
+    script: &[u8],
+    limit: u32,
+    trace: bool,
+    answer: &mut [u8],
+    bytes: &mut usize,
+) -> u32
+    ensures { GivesPlanText limit (output_of trace) true script.now answer.old answer.new bytes.new result }
+{
+    give_plan(alloc, script, limit, output(trace), true, answer, bytes)
+}
+
+/// The trace that `onfi_sim plan --requests` prints for a script, whose lines name their requests; with `remember` that
+/// of `onfi_sim plan --remember --requests`.
+///
+/// Answers the same numbers.
+#[unsafe(no_mangle)]
+pub extern "C" fn onfi_text_trace(
+    alloc: Global,
+    script: &[u8],
+    limit: u32,
+    remember: bool,
+    answer: &mut [u8],
+    bytes: &mut usize,
+) -> u32
+    ensures { GivesPlanText limit (Trace true) remember script.now answer.old answer.new bytes.new result }
+{
+    let output = Output::Trace { requests: true };
+    give_plan(alloc, script, limit, output, remember, answer, bytes)
 }
 
 /// The bytes of a script and of a plan text behind it in, out the line that `onfi_sim check` prints. `bytes` tells how
@@ -102,4 +165,36 @@ pub extern "C" fn onfi_text_check(
 {
     let command = Command::Check { remember: false };
     give_answer(alloc, command, script, answer, bytes)
+}
+
+/// The same by a certificate that remembers states, as `onfi_sim check --remember` prints it; a plain one is refused.
+///
+/// Answers the same numbers.
+#[unsafe(no_mangle)]
+pub extern "C" fn onfi_text_check_known(
+    alloc: Global,
+    script: &[u8],
+    answer: &mut [u8],
+    bytes: &mut usize,
+) -> u32
+    ensures { GivesAnswer (Check true) script.now answer.old answer.new bytes.new result }
+{
+    let command = Command::Check { remember: true };
+    give_answer(alloc, command, script, answer, bytes)
+}
+
+/// The bytes of a script and of a plan text behind it in, whose certificate may be missing, out the line that `onfi_sim
+/// check --legal` prints.
+///
+/// Answers the same numbers, 0 where the schedule is legal.
+#[unsafe(no_mangle)]
+pub extern "C" fn onfi_text_legal(
+    alloc: Global,
+    script: &[u8],
+    answer: &mut [u8],
+    bytes: &mut usize,
+) -> u32
+    ensures { GivesAnswer Legal script.now answer.old answer.new bytes.new result }
+{
+    give_answer(alloc, Command::Legal, script, answer, bytes)
 }

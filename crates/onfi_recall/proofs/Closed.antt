@@ -1,5 +1,6 @@
 -- What a token that closes a node shows.
 use Rattle.std.proofs.Common.{◌≡◌, ℕ, ◌≤◌, List, length, refl, arith}
+use Rattle.std.specs.Prelude.{IfNone, IfOk, IfSome, Option, Some, None, Result, Ok, Err}
 use Rattle.onfi_problem.specs.Left.{InLimits}
 use Rattle.onfi_problem.specs.Position.{Position}
 use Rattle.onfi_problem.proofs.Places.{within_get}
@@ -37,6 +38,18 @@ closed_by e x known closing limits c = record {
   met = (kept_asks x.problem e closing.demand (closing_demand x.problem e closing.token) limits.problem limits.small c.asks (closing_asks x.problem e closing.token limits.problem c.closes)).meets;
   proves = λ rest. closed x.problem known closing.token closing.demand rest c.closes c.asks;
 }
+
+-- by a window, where one is found
+pub windows_close : {E : Type 0} (e : ℕ) (x : Position) (known : List Known) (found : Result (Option Closing) E) → InLimits x.problem → IfOk found (λ o. IfSome o (ClosesBy x.problem e)) → IfOk found (λ o. IfSome o (IsClosing e x known))
+windows_close e x known (Ok (Some closing)) limits c = closed_by e x known closing limits c
+windows_close e x known (Ok None) limits c = tt
+windows_close e x known (Err fault) limits c = tt
+
+-- a node that no bound closes is open, whatever is found
+pub open_still : {E : Type 0} (P : Type 0) (found : Result (Option Closing) E) → P → IfOk found (λ o. IfNone o P)
+open_still P (Ok (Some closing)) p = tt
+open_still P (Ok None) p = p
+open_still P (Err fault) p = tt
 
 -- by a node that is known
 pub closed_again : (e : ℕ) (x : Position) (known : List Known) (number : ℕ) (d : Kept) → InLimits x.problem → length known ≤ MOST_KNOWN → IsAgain x.all x.problem known number d → IsClosing e x known (record { token = Again number; demand = d })

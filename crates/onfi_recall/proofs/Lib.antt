@@ -1,6 +1,7 @@
 mod Steps
 mod Put
 mod Closed
+mod Again
 mod Waiting
 mod Between
 mod Node

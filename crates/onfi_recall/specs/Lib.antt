@@ -1,4 +1,5 @@
 pub mod Codes
 pub mod Steps
 pub mod Text
+pub mod Times
 pub mod Walks

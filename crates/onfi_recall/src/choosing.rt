@@ -6,14 +6,16 @@ ghost use Rattle.onfi_problem.specs.Moves.{AreMoves, IsMove};
 ghost use Rattle.onfi_problem.specs.Position.{Position, move_of, moves_of};
 ghost use Rattle.onfi_problem.specs.Starts.{IsNamed};
 ghost use Rattle.onfi_schedule.specs.Runs.{Run};
+ghost use Rattle.onfi_bound.specs.Loads.{AreLoads};
 ghost use Rattle.onfi_planner.specs.Planning.{run_of};
 ghost use Rattle.onfi_recall.specs.Steps.{IsStep};
 ghost use Rattle.onfi_recall.specs.Walks.{IsRunOf};
 
-use onfi_bound::die;
+use crate::guessed::{group_left, waiting_work};
+use onfi_bound::Loads;
 use onfi_demand::{LunLeft, left_on};
 use onfi_planner::{Begun, Best};
-use onfi_problem::{Move, Problem};
+use onfi_problem::{Move, Moves, Problem};
 use onfi_timing::Kind;
 use std::alloc::{AllocError, Global};
 
@@ -32,20 +34,29 @@ pub enum Rule {
 
 const RULES: [Rule; 4] = [Rule::Work, Rule::Commands, Rule::Posts, Rule::FewestWants];
 
-/// The best among a schedule and those of all rules.
+/// The best among a schedule and those of the rules, of which none is tried once a bound shows that nothing ends sooner.
 ///
 /// # Errors
 /// Only where memory was refused.
-pub fn best_of_rules(alloc: Global, problem: &mut Problem, first: Best) -> Result<Best, AllocError>
-    requires { IsRunOf problem.old first }
+pub fn best_of_rules(
+    alloc: Global,
+    problem: &mut Problem,
+    loads: &Loads,
+    first: Best,
+) -> Result<Best, AllocError>
+    requires run { IsRunOf problem.old first }
+    requires loads { AreLoads problem.old loads.now.of.items }
     ensures problem { OnOk result (problem.new ≡ problem.old) }
     ensures run { IfOk result (IsRunOf problem.old) }
     ensures sooner { IfOk result (λ best. best.finish ≤ first.finish) }
 {
     let mut best = first;
     for rule in RULES {
+        if loads.closing(problem, best.finish).is_some() {
+            return Ok(best);
+        }
         let mut steps = Vec::new(alloc);
-        let finish = run_by(problem, rule, &mut steps)?;
+        let finish = run_by(problem, loads, rule, &mut steps)?;
         best = sooner(best, Best { finish, steps });
     }
     Ok(best)
@@ -64,80 +75,123 @@ fn sooner(best: Best, other: Best) -> Best
 }
 
 // Puts the steps of the schedule of a rule into the empty list, last first; answers when it ends, in ns.
-fn run_by(problem: &mut Problem, rule: Rule, steps: &mut Vec<Begun>) -> Result<u64, AllocError>
+fn run_by(
+    problem: &mut Problem,
+    loads: &Loads,
+    rule: Rule,
+    steps: &mut Vec<Begun>,
+) -> Result<u64, AllocError>
     requires none { steps.old.items ≡ [] }
     ensures problem { OnOk result (problem.new ≡ problem.old) }
     ensures run { IfOk result (Run problem.old.problem (run_of problem.old.groups steps.new.items)) }
 {
     let bus_free = problem.bus_free();
-    let moves = problem.steps();
+    let mut moves = Moves::new();
+    problem.list_steps(&mut moves);
     if moves.is_empty() {
         return Ok(bus_free);
     }
-    let step = choice(problem, rule, moves.as_slice());
+    let step = choice(problem, loads, rule, moves.as_slice());
     let start = problem.earliest(step);
     let undo = problem.advance(step);
-    let finish = run_by(problem, rule, steps)?;
+    let finish = run_by(problem, loads, rule, steps)?;
     problem.undo(undo);
     steps.push(Begun { step, start })?;
     Ok(finish)
 }
 
+// A move, its earliest start, in ns, and how high it ranks.
+#[derive(Clone, Copy)]
+struct Ranked {
+    step: Move,
+    start: u64,
+    rank: u64,
+}
+
 // The move that may start first; among equals the one that ranks highest; among those the first.
-fn choice(problem: &Problem, rule: Rule, moves: &[Move]) -> Move
+fn choice(problem: &Problem, loads: &Loads, rule: Rule, moves: &[Move]) -> Move
     requires some { 1 ≤ length moves.now }
     requires moves { AreMoves problem.now.problem (moves_of problem.now.groups moves.now) }
     requires named { Each (IsNamed problem.now.groups) moves.now }
     ensures { IsStep problem.now result }
 {
-    let mut choice = moves[0];
+    let work = waiting_work(problem, loads);
+    let mut choice = with_rank(problem, &work, rule, moves[0]);
     for m in moves {
-        if goes_first(problem, rule, *m, choice) {
-            choice = *m;
-        }
+        choice = first_of(problem, &work, rule, choice, *m);
     }
-    choice
+    choice.step
 }
 
-// Whether a move may start before another, or as soon and ranks higher.
-fn goes_first(problem: &Problem, rule: Rule, m: Move, other: Move) -> bool
+// The first of two by start and rank, where the rank of the second one isn't worked out yet.
+fn first_of(problem: &Problem, work: &[u64; 8], rule: Rule, choice: Ranked, m: Move) -> Ranked
+    requires choice { IsStep problem.now choice.step }
     requires step { IsStep problem.now m }
-    requires other { IsStep problem.now other }
+    ensures { IsStep problem.now result.step }
 {
     let start = problem.earliest(m);
-    let other_start = problem.earliest(other);
-    if start == other_start {
-        return rank(problem, rule, m) > rank(problem, rule, other);
+    if start > choice.start {
+        return choice;
     }
-    start < other_start
+    let other = with_rank(problem, work, rule, m);
+    if start == choice.start && other.rank <= choice.rank {
+        return choice;
+    }
+    other
+}
+
+// A move with its earliest start and its rank.
+fn with_rank(problem: &Problem, work: &[u64; 8], rule: Rule, step: Move) -> Ranked
+    requires { IsStep problem.now step }
+    ensures { result.step ≡ step }
+{
+    let start = problem.earliest(step);
+    let rank = rank(problem, work, rule, step);
+    Ranked { step, start, rank }
 }
 
 // How high a move ranks by a rule.
-fn rank(problem: &Problem, rule: Rule, m: Move) -> u64
+fn rank(problem: &Problem, work: &[u64; 8], rule: Rule, m: Move) -> u64
     requires { IsStep problem.now m }
 {
+    let lun = m.lun();
     let wants = started_wants(problem, m);
-    let work = work_left(problem, m.lun());
-    let post = is_post(problem, m.lun());
-    let kind = kind_rank(problem, m);
     match rule {
-        Rule::Work => work.saturating_mul(16).saturating_add(wants),
-        Rule::FewestWants => work.saturating_mul(16).saturating_sub(wants),
-        Rule::Posts if post => wants.saturating_add(16),
-        Rule::Posts => wants,
-        Rule::Commands if post => kind,
-        Rule::Commands => wants
-            .saturating_mul(4)
-            .saturating_add(kind)
-            .saturating_add(128),
+        Rule::Work => work_left(problem, work, lun).saturating_add(wants),
+        Rule::FewestWants => work_left(problem, work, lun).saturating_sub(wants),
+        Rule::Commands => rank_of_command(is_post(problem, lun), wants, kind_rank(problem, m)),
+        Rule::Posts => rank_of_post(is_post(problem, lun), wants),
     }
 }
 
-// How long all takes at least that is left to a LUN, in ns.
-fn work_left(problem: &Problem, lun: u8) -> u64
+// Commands rank above posts, by wants and then by kind.
+fn rank_of_command(post: bool, wants: u64, kind: u64) -> u64 {
+    if post {
+        return kind;
+    }
+    wants
+        .saturating_mul(4)
+        .saturating_add(kind)
+        .saturating_add(128)
+}
+
+// Posts rank above commands, by wants.
+fn rank_of_post(post: bool, wants: u64) -> u64 {
+    if post {
+        wants.saturating_add(16)
+    } else {
+        wants
+    }
+}
+
+// Sixteen times as long as all takes at least that is left to a LUN, in ns, where its wants take so long.
+fn work_left(problem: &Problem, work: &[u64; 8], lun: u8) -> u64
     requires { lun < length problem.now.problem.luns }
 {
-    die(problem, lun).saturating_sub(problem.may_go(lun))
+    let _limits = problem.bus_free();
+    group_left(problem, lun)
+        .saturating_add(work[lun as usize])
+        .saturating_mul(16)
 }
 
 // Whether a LUN goes on with a post.

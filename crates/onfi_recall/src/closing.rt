@@ -25,7 +25,7 @@ pub struct Closing {
     pub demand: Demand,
 }
 
-/// The first that closes a node for the finish `e`, in ns: the bounds, the window bound, a node that is known.
+/// The first that closes a node for the finish `e`, in ns: the bounds, a node that is known, the window bound.
 ///
 /// # Errors
 /// Only where memory was refused.
@@ -46,10 +46,10 @@ pub fn find_closing(
     if let Some(closing) = by_bound(problem, loads, e) {
         return Ok(Some(closing));
     }
-    if let Some(closing) = by_window(problem, e, phases)? {
+    if let Some(closing) = by_known(problem, records) {
         return Ok(Some(closing));
     }
-    Ok(by_known(problem, records))
+    by_window(problem, loads, e, phases)
 }
 
 // The first bound that reaches `e`.
@@ -91,10 +91,15 @@ fn bound_closing(problem: &Problem, bound: Bound, e: u64) -> Closing
 }
 
 // A window that reaches `e`, where there is one.
-fn by_window(problem: &Problem, e: u64, phases: &mut Phases) -> Result<Option<Closing>, AllocError>
+fn by_window(
+    problem: &Problem,
+    loads: &Loads,
+    e: u64,
+    phases: &mut Phases,
+) -> Result<Option<Closing>, AllocError>
     ensures { IfOk result (λ found. IfSome found (ClosesBy problem.now.problem e)) }
 {
-    match phases.window(problem, e)? {
+    match phases.window(problem, loads, e)? {
         None => Ok(None),
         Some(window) => Ok(Some(window_closing(problem, window, e))),
     }

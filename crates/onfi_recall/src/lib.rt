@@ -8,6 +8,7 @@
 mod cert;
 mod choosing;
 mod closing;
+mod guessed;
 mod notes;
 mod phases;
 mod planned;

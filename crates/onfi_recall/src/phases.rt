@@ -3,34 +3,39 @@
 ghost use Rattle.std.specs.Prelude.{◌≡◌, ◌≤◌, ◌<◌, ◌^◌, IfOk, IfSome, [], length};
 ghost use Rattle.onfi_demand.specs.Window.{IsWindow};
 
-use onfi_bound::die;
-use onfi_demand::{LunLeft, LunWork, Window};
+use crate::guessed::{KindCounts, rest_of, waiting_counts, waiting_work};
+use onfi_bound::Loads;
+use onfi_demand::{LunLeft, Window, left_on};
 use onfi_problem::Problem;
-use onfi_timing::Timing;
+use onfi_timing::{Spans, Timing};
 use std::alloc::{AllocError, Global};
 
-/// A phase that is left: from when on it may start, its length, and what is at least between its end and the finish,
-/// in ns.
+/// Phases of a LUN that may start from the same time on and have the same behind them: that time, how long they are
+/// together, and what is at least between the end of each and the finish, in ns.
 #[derive(Clone, Copy)]
-struct PhaseLeft {
+struct PhasesAlike {
     start: u64,
     length: u64,
     tail: u64,
 }
 
-/// The phases that are left to a node, the latest start first. A walk uses one list for all its nodes.
+/// The phases that are left to a node, the latest start first, and what they have behind them, each time once. A walk uses
+/// one for all its nodes.
 #[derive(Drop)]
 pub struct Phases {
-    of: Vec<PhaseLeft>,
+    of: Vec<PhasesAlike>,
+    tails: Vec<u64>,
 }
 
 impl Phases {
     /// A list for a walk.
     pub fn new(alloc: Global) -> Phases
-        ensures { result.of.items ≡ [] }
+        ensures phases { result.of.items ≡ [] }
+        ensures tails { result.tails.items ≡ [] }
     {
         Phases {
             of: Vec::new(alloc),
+            tails: Vec::new(alloc),
         }
     }
 
@@ -38,87 +43,120 @@ impl Phases {
     ///
     /// # Errors
     /// Only where memory was refused.
-    pub fn window(&mut self, problem: &Problem, e: u64) -> Result<Option<Window>, AllocError>
+    pub fn window(
+        &mut self,
+        problem: &Problem,
+        loads: &Loads,
+        e: u64,
+    ) -> Result<Option<Window>, AllocError>
         ensures reaches { IfOk result (λ found. IfSome found (λ w. IsWindow problem.now.problem e w.start w.tail)) }
         ensures small { IfOk result (λ found. IfSome found (λ w. w.start < 2 ^ 63 × w.tail < 2 ^ 63)) }
     {
         self.of.clear();
-        for lun in 0..problem.lun_count() as u8 {
-            self.list(problem, lun)?;
-        }
+        self.tails.clear();
+        self.list(problem, loads)?;
         Ok(self.reaching(problem, e))
     }
 
-    // Lists what is left to a LUN.
-    fn list(&mut self, problem: &Problem, lun: u8) -> Result<(), AllocError>
-        requires { lun < length problem.now.problem.luns }
-    {
-        let work = LunWork::of(problem, lun);
+    // Lists what is left to all LUNs.
+    fn list(&mut self, problem: &Problem, loads: &Loads) -> Result<(), AllocError> {
         let timing = problem.timing();
-        match work.left {
-            LunLeft::Idle => self.list_wants(&timing, &work, work.go),
-            LunLeft::Rest { .. } => {
-                let end = die(problem, lun);
-                let free = self.list_group(&timing, &work, end)?;
-                self.list_wants(&timing, &work, free)
-            }
-        }
-    }
-
-    // Lists what is left of a LUN's group, where the LUN is done with all by `end` at the earliest; answers when it is
-    // free.
-    fn list_group(&mut self, timing: &Timing, work: &LunWork, end: u64) -> Result<u64, AllocError> {
-        let LunLeft::Rest {
-            kind,
-            members,
-            next,
-        } = work.left
-        else {
-            return Ok(work.go);
-        };
-        let spans = timing.spans(kind);
-        let members = members as usize;
-        let mut start = work.go;
-        for phase in next as usize..2 * members {
-            let length = spans.phase_length(members, phase);
-            let ended = start.saturating_add(length);
-            let tail = end.saturating_sub(ended);
-            self.insert(PhaseLeft {
-                start,
-                length,
-                tail,
-            })?;
-            start = ended.saturating_add(spans.wait_before(members, phase + 1));
-        }
-        Ok(start)
-    }
-
-    // Lists a command and a post of each want of a LUN that is free from then on.
-    fn list_wants(&mut self, timing: &Timing, work: &LunWork, free: u64) -> Result<(), AllocError> {
-        for want in work.wants.as_slice() {
-            let spans = timing.spans(want.kind);
-            let behind = spans.array.saturating_add(spans.post);
-            self.insert(PhaseLeft {
-                start: free,
-                length: spans.cmd,
-                tail: behind,
-            })?;
-            self.insert(PhaseLeft {
-                start: free.saturating_add(spans.cmd).saturating_add(spans.array),
-                length: spans.post,
-                tail: 0,
-            })?;
+        let counts = waiting_counts(problem);
+        let work = waiting_work(problem, loads);
+        for lun in 0..problem.lun_count() {
+            let free = self.list_group(problem, &timing, lun as u8, work[lun])?;
+            self.list_wants(&timing, &counts[lun], free)?;
         }
         Ok(())
     }
 
-    // Puts a phase behind those that start no sooner.
-    fn insert(&mut self, phase: PhaseLeft) -> Result<(), AllocError> {
-        let place = self.place_of(phase.start);
-        match self.of.insert(place, phase) {
-            Ok(()) => Ok(()),
-            Err(_) => Err(AllocError),
+    // Lists what is left of a LUN's group, where its wants take so long; answers when it is free.
+    fn list_group(
+        &mut self,
+        problem: &Problem,
+        timing: &Timing,
+        lun: u8,
+        work: u64,
+    ) -> Result<u64, AllocError>
+        requires { lun < length problem.now.problem.luns }
+    {
+        let go = problem.may_go(lun);
+        match left_on(problem, lun) {
+            LunLeft::Idle => Ok(go),
+            LunLeft::Rest {
+                kind,
+                members,
+                next,
+            } => {
+                let spans = timing.spans(kind);
+                self.list_phases(&spans, members, next, go, work)
+            }
         }
+    }
+
+    // Lists the phases of a group from `next` on, the first of which may start at `go`, where so much is behind the last
+    // one; answers when that one ends.
+    fn list_phases(
+        &mut self,
+        spans: &Spans,
+        members: u8,
+        next: u8,
+        go: u64,
+        work: u64,
+    ) -> Result<u64, AllocError> {
+        let end = go.saturating_add(rest_of(spans, members, next));
+        let members = members as usize;
+        let mut start = go;
+        for phase in next as usize..2 * members {
+            let length = spans.phase_length(members, phase);
+            let ended = start.saturating_add(length);
+            let tail = end.saturating_sub(ended).saturating_add(work);
+            self.insert(start, length, tail)?;
+            start = ended.saturating_add(spans.wait_before(members, phase + 1));
+        }
+        Ok(end)
+    }
+
+    // Lists the commands and the posts of the wants of a LUN that is free from then on.
+    fn list_wants(
+        &mut self,
+        timing: &Timing,
+        counts: &KindCounts,
+        free: u64,
+    ) -> Result<(), AllocError> {
+        self.list_kind(&timing.read, counts.reads, free)?;
+        self.list_kind(&timing.program, counts.programs, free)?;
+        self.list_kind(&timing.erase, counts.erases, free)
+    }
+
+    // .. of so many wants of a kind.
+    fn list_kind(&mut self, spans: &Spans, count: u64, free: u64) -> Result<(), AllocError> {
+        if count == 0 {
+            return Ok(());
+        }
+        let commands = spans.cmd.saturating_mul(count);
+        let posts = spans.post.saturating_mul(count);
+        let behind = spans.array.saturating_add(spans.post);
+        let ready = free.saturating_add(spans.cmd).saturating_add(spans.array);
+        self.insert(free, commands, behind)?;
+        self.insert(ready, posts, 0)
+    }
+
+    // Puts phases behind those that start no sooner, and what is behind them beside the others.
+    fn insert(&mut self, start: u64, length: u64, tail: u64) -> Result<(), AllocError> {
+        let phases = PhasesAlike {
+            start,
+            length,
+            tail,
+        };
+        let place = self.place_of(start);
+        if self.of.insert(place, phases).is_err() {
+            return Err(AllocError);
+        }
+        if !self.tails.iter().any(|other| *other == tail) {
+            self.tails.push(tail)?;
+        }
+        Ok(())
     }
 
     // How many of the first phases start then or later.
@@ -147,8 +185,8 @@ impl Phases {
 
     // The first window that reaches `e` by the phases that are listed.
     fn seeming(&self, e: u64) -> Option<Window> {
-        for phase in self.of.as_slice() {
-            if let Some(window) = self.reaching_with(phase.tail, e) {
+        for tail in self.tails.as_slice() {
+            if let Some(window) = self.reaching_with(*tail, e) {
                 return Some(window);
             }
         }
@@ -158,11 +196,11 @@ impl Phases {
     // .. of phases with at least that tail.
     fn reaching_with(&self, tail: u64, e: u64) -> Option<Window> {
         let mut behind = tail;
-        for phase in self.of.as_slice() {
-            if phase.tail >= tail {
-                behind = behind.saturating_add(phase.length);
-                if phase.start.saturating_add(behind) >= e {
-                    let start = phase.start;
+        for phases in self.of.as_slice() {
+            if phases.tail >= tail {
+                behind = behind.saturating_add(phases.length);
+                if phases.start.saturating_add(behind) >= e {
+                    let start = phases.start;
                     return Some(Window { start, tail });
                 }
             }

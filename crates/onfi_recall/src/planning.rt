@@ -65,10 +65,11 @@ fn begin(alloc: Global, problem: &Problem) -> Result<Root, AllocError>
 {
     let root = root_of(alloc, problem)?;
     let mut at = root.problem;
-    let best = best_of_rules(alloc, &mut at, root.best)?;
+    let loads = root.loads;
+    let best = best_of_rules(alloc, &mut at, &loads, root.best)?;
     Ok(Root {
         problem: at,
-        loads: root.loads,
+        loads,
         best,
     })
 }

@@ -1,10 +1,11 @@
 //! What was searched, found again by what was left there.
 
-ghost use Rattle.std.specs.Prelude.{◌≡◌, ◌≤◌, ◌<◌, [], IfSome, OnOk};
+ghost use Rattle.std.specs.Prelude.{◌≡◌, ◌≤◌, ◌<◌, ℕ, true, [], IfSome, OnOk, slice_index};
 ghost use Rattle.onfi_group.specs.Words.{Pairs};
 ghost use Rattle.onfi_demand.specs.Work.{IsShape};
 ghost use Rattle.onfi_known.specs.Proves.{IsAgain, Remembers};
 ghost use Rattle.onfi_recall.specs.Codes.{told_kind, told_left};
+ghost use Rattle.onfi_recall.specs.Times.{AreTimes};
 
 use onfi_demand::{Demand, LunLeft, left_on};
 use onfi_known::Known;
@@ -51,9 +52,10 @@ impl Records {
         ensures { IfSome result (λ hit. IsAgain problem.now.all problem.now.problem self.now.nodes.items hit.number hit.demand) }
     {
         let mut next = self.newest.get(&key_of(problem)).copied();
+        let times = times_on(problem);
         for _ in 0..MOST_LOOKS {
             let number = next?;
-            if let Some(demand) = self.demand_of(problem, number) {
+            if let Some(demand) = self.demand_of(problem, &times, number) {
                 return Some(Hit { number, demand });
             }
             next = *self.older.get(number as usize)?;
@@ -61,13 +63,16 @@ impl Records {
         None
     }
 
-    // What the node of that number asks for, where the same is left there and the problem meets it.
-    fn demand_of(&self, problem: &Problem, number: u32) -> Option<Demand>
-        requires { Pairs (λ a b. a.id < b.id) problem.now.all }
+    // What the node of that number asks for, where the same is left there and the problem, whose LUNs may go on from
+    // these times on, meets it.
+    fn demand_of(&self, problem: &Problem, times: &[u64; 8], number: u32) -> Option<Demand>
+        requires rising { Pairs (λ a b. a.id < b.id) problem.now.all }
+        requires times { AreTimes problem.now.problem times.now }
         ensures { IfSome result (IsAgain problem.now.all problem.now.problem self.now.nodes.items number) }
     {
+        let _limits = problem.bus_free();
         let node = self.nodes.get(number as usize)?;
-        if !node.describes(problem) || !node.is_met(problem) {
+        if !are_met(times, &node.times) || !node.describes(problem) {
             return None;
         }
         Some(Demand {
@@ -93,6 +98,28 @@ impl Records {
         self.nodes.push(Known::of(problem, times))?;
         Ok(())
     }
+}
+
+// From when on each LUN may go on, in ns.
+fn times_on(problem: &Problem) -> [u64; 8]
+    ensures { AreTimes problem.now.problem result }
+{
+    let mut times = [0; 8];
+    for lun in 0..problem.lun_count() {
+        times[lun] = problem.may_go(lun as u8);
+    }
+    times
+}
+
+// Whether no LUN may go on sooner than is asked, in ns; also where nothing is left to it.
+fn are_met(times: &[u64; 8], asked: &[u64; 8]) -> bool
+    ensures { result ≡ true → (lun : ℕ) → lun < 8 → slice_index asked.now lun ≤ slice_index times.now lun }
+{
+    let mut met = true;
+    for lun in 0..8usize {
+        met = met && asked[lun] <= times[lun];
+    }
+    met
 }
 
 // A number that is the same exactly where the same is left: seven bits for each LUN, and a bit for each want.

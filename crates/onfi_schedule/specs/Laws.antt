@@ -1,5 +1,5 @@
 -- Laws of legal schedules and of runs.
-use Rattle.std.specs.Prelude.{◌≡◌, ◌≢◌, ◌↔◌, ℕ, ◌≤◌, List, [], ◌∷◌, ◌++◌, Some, slice_set}
+use Rattle.std.specs.Prelude.{◌≡◌, ◌≢◌, ◌↔◌, ℕ, ◌≤◌, Bool, List, [], ◌∷◌, ◌++◌, Some, slice_set}
 use Rattle.std.specs.List.{AllByRecursion as Each}
 use Rattle.onfi_group.specs.Group.{lun_of}
 use Rattle.onfi_problem.specs.Problem.{Problem, IsProblem}
@@ -75,6 +75,6 @@ pub record RunsFirst (p : Problem) (lun end : ℕ) : Type 0 where
 abbrev pub YieldLaw : Type 0
 YieldLaw = (p : Problem) (move other : Move) (start lun end : ℕ) (steps : List Step) → IsProblem p → IsMove p move → earliest p move ≤ start → Run (placed p move start) steps end → lun ≢ move_lun move → IsMove p other → move_lun other ≡ lun → ((m : Move) → IsMove p m → move_lun m ≡ lun → (after p m).bus_free ≤ earliest p move) → RunsFirst p lun end
 
--- a legal schedule has one trace
+-- a legal schedule has one trace, with its requests or without them
 abbrev pub OneTraceLaw : Type 0
-OneTraceLaw = (p : Problem) (s : Schedule) (text other : List ℕ) → Legal p s → IsTrace p s text → IsTrace p s other → text ≡ other
+OneTraceLaw = (requests : Bool) (p : Problem) (s : Schedule) (text other : List ℕ) → Legal p s → IsTrace requests p s text → IsTrace requests p s other → text ≡ other

@@ -44,7 +44,7 @@ pub fn yielding()
     ensures { YieldLaw }
 {}
 
-/// A legal schedule has one trace.
+/// A legal schedule has one trace, with its requests or without them.
 pub fn one_trace()
     ensures { OneTraceLaw }
 {}

@@ -1,7 +1,7 @@
 //! The lines of a trace.
 
 ghost use Rattle.std.specs.Prelude.{◌≡◌, ◌++◌, IfOk, OnOk, string_bytes};
-ghost use Rattle.onfi_schedule.specs.Trace.{kind_word, part_word, opener_word, closer_word, times_text, work_text, place_text, bytes_text, line_text};
+ghost use Rattle.onfi_schedule.specs.Trace.{kind_word, part_word, opener_word, closer_word, times_text, work_text, place_text, bytes_text, request_word, request_text, line_text};
 
 use onfi_request::Want;
 use onfi_timing::Kind;
@@ -22,6 +22,8 @@ pub(crate) struct TraceLine {
     pub(crate) start: u64,
     pub(crate) end: u64,
     pub(crate) lun: u8,
+    /// Whether its group is a new one; else it ran on the LUN before.
+    pub(crate) is_new: bool,
     pub(crate) part: Part,
     pub(crate) want: Want,
     /// Whether it is the command of the last plane of its group.
@@ -30,13 +32,20 @@ pub(crate) struct TraceLine {
 
 impl TraceLine {
     /// Puts the line behind a text; where memory is refused, the text is longer by a part of it.
-    pub(crate) fn push_to(&self, alloc: Global, text: &mut Vec<u8>) -> Result<(), AllocError>
-        ensures { OnOk result (text.new.items ≡ text.old.items ++ line_text self.now) }
+    pub(crate) fn push_to(
+        &self,
+        alloc: Global,
+        requests: bool,
+        text: &mut Vec<u8>,
+    ) -> Result<(), AllocError>
+        ensures { OnOk result (text.new.items ≡ text.old.items ++ line_text requests self.now) }
     {
         text.extend_from_slice(self.times(alloc)?.as_bytes())?;
         text.extend_from_slice(self.work(alloc)?.as_bytes())?;
         text.extend_from_slice(self.place(alloc)?.as_bytes())?;
         text.extend_from_slice(self.bytes(alloc)?.as_bytes())?;
+        self.push_request(alloc, requests, text)?;
+        text.push(b'\n')?;
         Ok(())
     }
 
@@ -70,7 +79,33 @@ impl TraceLine {
     {
         let opener = opener_word(self.want.kind, self.part);
         let closer = closer_word(self.want.kind, self.part, self.last);
-        format!(in alloc; "{opener} {closer}\n")
+        format!(in alloc; "{opener} {closer}")
+    }
+
+    fn push_request(
+        &self,
+        alloc: Global,
+        requests: bool,
+        text: &mut Vec<u8>,
+    ) -> Result<(), AllocError>
+        ensures { OnOk result (text.new.items ≡ text.old.items ++ request_text requests self.now) }
+    {
+        if requests {
+            text.push(b' ')?;
+            text.extend_from_slice(self.request(alloc)?.as_bytes())?;
+        }
+        Ok(())
+    }
+
+    fn request(&self, alloc: Global) -> Result<String, AllocError>
+        ensures { IfOk result (λ s. string_bytes s ≡ request_word self.now) }
+    {
+        if self.is_new {
+            let request = self.want.id;
+            format!(in alloc; "{request}")
+        } else {
+            format!(in alloc; "-")
+        }
     }
 }
 

@@ -5,8 +5,6 @@ pub mod RowsLemmas
 pub mod SetupLemmas
 pub mod TextLemmas
 pub mod Told
-pub mod WordsLemmas
-pub mod CommandLemmas
 pub mod PartsLemmas
 pub mod NumbersLemmas
 pub mod LineLemmas

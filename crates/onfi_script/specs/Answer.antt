@@ -1,11 +1,11 @@
 -- What is written for an input, and with which status.
-use Rattle.std.specs.Prelude.{◌≡◌, ◌≢◌, codes, ℕ, ◌+◌, ◌^◌, ◌≤◌, ◌⊎◌, Bool, true, false, List, take, Option, Some, None, position, Ok, Err, IfSome, MatchOption, MatchResult}
+use Rattle.std.specs.Prelude.{◌≡◌, ◌≢◌, codes, ℕ, ◌+◌, ◌++◌, ◌^◌, ◌≤◌, ◌⊎◌, Bool, true, false, List, take, Option, Some, None, position, Ok, Err, IfSome, MatchOption, MatchResult}
 use Rattle.std.specs.Io.KnownBytes.{Appends}
 use Rattle.csv.specs.Reading.{AreRecords, default_config, strip_bom}
 use Rattle.csv.specs.declared.parser.State.TheVariants as st
 use Rattle.onfi_problem.specs.Problem.{Problem, IsSmall, IsProblem}
 use Rattle.onfi_problem.specs.Left.{horizon, InLimits}
-use Rattle.onfi_schedule.specs.Schedule.{Schedule, Optimal, finish}
+use Rattle.onfi_schedule.specs.Schedule.{Schedule, Legal, Optimal, finish}
 use Rattle.onfi_schedule.specs.Trace.{IsTrace}
 use Rattle.onfi_cert.specs.declared.token.Token.{Token}
 use Rattle.onfi_cert.specs.Text.{IsCertificate}
@@ -20,7 +20,9 @@ use Rattle.onfi_known.specs.declared.token.Token.{Token as KnownToken}
 use Rattle.onfi_planner.specs.Nodes.{HasMoreNodes, IsSplitOver}
 use Rattle.onfi_planner.specs.Planning.{AreRising}
 use Rattle.onfi_script.specs.declared.command.Command.{Command}
-use Rattle.onfi_script.specs.declared.command.Command.TheVariants.{Plan, Check}
+use Rattle.onfi_script.specs.declared.command.Command.TheVariants as asked
+use Rattle.onfi_script.specs.declared.command.Output.{Output}
+use Rattle.onfi_script.specs.declared.command.Output.TheVariants.{Plan, Trace}
 use Rattle.onfi_script.specs.declared.fault.ScriptFault.{ScriptFault}
 use Rattle.onfi_script.specs.declared.fault.ScriptFault.TheVariants.{NoEnd, OutOfRange, Problem as Fault}
 use Rattle.onfi_problem.specs.declared.fault.ProblemFault.TheVariants.{TooMany, BadLun, Clock}
@@ -34,7 +36,7 @@ use Rattle.onfi_script.specs.declared.device.Device.{Device}
 use Rattle.onfi_script.specs.Device.{TellsDevice}
 use Rattle.onfi_script.specs.Setup.{names_absent, SetsUp}
 use Rattle.onfi_script.specs.PlanText.{plan_of, schedule_of}
-use Rattle.onfi_script.specs.Text.{Answer, memory, refused, planned, recalled, over, accepted, refused_for, refused_at, text_refused, known_text_refused}
+use Rattle.onfi_script.specs.Text.{Answer, memory, refused, planned, recalled, over, accepted, legal_until, refused_for, refused_at, text_refused, known_text_refused}
 
 -- a fault of the script as a whole
 abbrev pub whole : ScriptFault → Refusal
@@ -79,18 +81,18 @@ pub record Recalls (p : Problem) (answer : Answer) : Type 0 where
   pub known : IsKnown p schedule certificate
   pub text : answer ≡ recalled schedule ends certificate
 
--- the trace of an optimal schedule
-pub record Traces (p : Problem) (answer : Answer) : Type 0 where
+-- the trace of an optimal schedule, whose lines name their requests where that is asked for
+pub record Traces (requests : Bool) (p : Problem) (answer : Answer) : Type 0 where
   pub schedule : Schedule
   pub optimal : Optimal p schedule
-  pub is_trace : IsTrace p schedule answer.text
+  pub is_trace : IsTrace requests p schedule answer.text
   pub fine : answer.status ≡ 0
 
 -- a trace or a plan, as asked for; the plan of a search that remembers states has a certificate that does so too
-abbrev pub Prints : Bool → Bool → Problem → Answer → Type 0
-Prints true remember p answer = Traces p answer
-Prints false true p answer = Recalls p answer
-Prints false false p answer = Plans p answer
+abbrev pub Prints : Output → Bool → Problem → Answer → Type 0
+Prints (Trace requests) remember p answer = Traces requests p answer
+Prints Plan true p answer = Recalls p answer
+Prints Plan false p answer = Plans p answer
 
 -- one search with a limit tells that limit, where the tree of the problem has more nodes
 abbrev pub OneTells : ℕ → Problem → ℕ → Type 0
@@ -101,8 +103,8 @@ abbrev pub PartsTell : ℕ → Problem → ℕ → Type 0
 PartsTell limit p opened = IsSplitOver p limit opened
 
 -- a plan, or how many nodes were opened, where a search tells so
-abbrev pub AnswersPlan : (ℕ → Problem → ℕ → Type 0) → ℕ → Bool → Bool → Problem → Answer → Type 0
-AnswersPlan Tells limit trace remember p answer = Prints trace remember p answer ⊎ ((opened : ℕ) × Tells limit p opened × (answer ≡ over opened))
+abbrev pub AnswersPlan : (ℕ → Problem → ℕ → Type 0) → ℕ → Output → Bool → Problem → Answer → Type 0
+AnswersPlan Tells limit output remember p answer = Prints output remember p answer ⊎ ((opened : ℕ) × Tells limit p opened × (answer ≡ over opened))
 
 -- a certificate is taken, one that remembers states or a plain one
 abbrev pub IsTaken : Bool → Problem → Schedule → List ℕ → Type 0
@@ -125,12 +127,26 @@ pub data AnswersSchedule (remember : Bool) (p : Problem) (s : Schedule) (ends : 
 abbrev pub AnswersCheck : Bool → Problem → List ℕ → Answer → Type 0
 AnswersCheck remember p text answer = MatchResult (plan_of p.wants text) (λ r. AnswersSchedule remember p (schedule_of p r.0) r.0.finish r.1 answer) (λ number. answer ≡ refused_at (codes "plan") number)
 
--- what the command asks for; a search that remembers states tells what one search tells, and `check` reads the plan text
--- behind the script
+-- the answer to a schedule alone: that a condition is broken, or when it ends
+pub data TellsLegal (p : Problem) (s : Schedule) (answer : Answer) : Type 0 where
+  is_illegal : (Legal p s → ⊥) → answer ≡ refused_for (codes "1 Illegal") → TellsLegal p s answer
+  is_legal : Legal p s → answer ≡ legal_until (finish p s) → TellsLegal p s answer
+
+-- .. to the schedule that a plan text says, or its first wrong line
+abbrev pub AnswersAlone : Problem → List ℕ → Answer → Type 0
+AnswersAlone p text answer = MatchResult (plan_of p.wants text) (λ r. TellsLegal p (schedule_of p r.0) answer) (λ number. answer ≡ refused_at (codes "plan") number)
+
+-- .. where the text is read up to its certificate, or to its end where none stands there
+abbrev pub AnswersLegal : Problem → List ℕ → Answer → Type 0
+AnswersLegal p text answer = AnswersAlone p (text ++ codes "ONFICERT\n") answer
+
+-- what the command asks for; a search that remembers states tells what one search tells, and the other commands read the
+-- plan text behind the script
 abbrev pub AnswersCommand : (ℕ → Problem → ℕ → Type 0) → Command → List ℕ → Problem → Answer → Type 0
-AnswersCommand Tells (Plan limit trace false) text p answer = AnswersPlan Tells limit trace false p answer
-AnswersCommand Tells (Plan limit trace true) text p answer = AnswersPlan OneTells limit trace true p answer
-AnswersCommand Tells (Check remember) text p answer = AnswersCheck remember p text answer
+AnswersCommand Tells (asked.Plan limit output false) text p answer = AnswersPlan Tells limit output false p answer
+AnswersCommand Tells (asked.Plan limit output true) text p answer = AnswersPlan OneTells limit output true p answer
+AnswersCommand Tells (asked.Check remember) text p answer = AnswersCheck remember p text answer
+AnswersCommand Tells asked.Legal text p answer = AnswersLegal p text answer
 
 -- the answer to a problem: its first fault, or what the command asks for
 pub data AnswersProblem (Tells : ℕ → Problem → ℕ → Type 0) (command : Command) (text : List ℕ) (p : Problem) (answer : Answer) : Type 0 where

@@ -20,5 +20,4 @@ pub mod Wrong
 pub mod Limit
 pub mod Answer
 pub mod AnswerOf
-pub mod Words
 pub mod Laws

@@ -144,6 +144,10 @@ refused_at reason place = record { text = codes "refused " ++ (reason ++ (codes 
 abbrev pub accepted : ℕ → Answer
 accepted ends = record { text = codes "accepted " ++ (decimal ends ++ codes "\n"); status = 0 }
 
+-- the answer to a schedule that is legal and ends at `ends`
+abbrev pub legal_until : ℕ → Answer
+legal_until ends = record { text = codes "legal " ++ (decimal ends ++ codes "\n"); status = 0 }
+
 -- why the tokens of a certificate are refused; want of memory refuses nothing
 abbrev pub cert_refused : CertFault → Answer
 cert_refused cert.Illegal = refused_for (codes "1 Illegal")

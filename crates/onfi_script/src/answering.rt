@@ -10,7 +10,8 @@ ghost use Rattle.onfi_script.specs.Device.{TellsDevice};
 ghost use Rattle.onfi_script.specs.Limit.{IsLimited};
 ghost use Rattle.onfi_script.specs.SetupOf.{problem_of};
 
-use crate::command::Command;
+use crate::alone::judged_alone;
+use crate::command::{Command, Output};
 use crate::device::Device;
 use crate::fault::{Refusal, RowStop, ScriptFault, Stop};
 use crate::forms::device_of;
@@ -60,16 +61,20 @@ fn planned<S: Search>(
     search: &S,
     problem: &Problem,
     limit: u32,
-    traced: bool,
+    output: Output,
 ) -> Result<Answer, AllocError>
     requires ready { S.ready search.now }
     requires some { 1 ≤ limit }
     requires few { limit ≤ 1048576 }
-    ensures { IfOk result (λ a. AnswersPlan S.tells limit traced false problem.now.problem (answer_of a)) }
+    ensures { IfOk result (λ a. AnswersPlan S.tells limit output false problem.now.problem (answer_of a)) }
 {
     match search.plan(alloc, problem, limit) {
-        Ok(planned) if traced => trace_answer(alloc, problem, &planned.schedule),
-        Ok(planned) => plan_answer(alloc, problem, &planned),
+        Ok(planned) => match output {
+            Output::Trace { requests } => {
+                trace_answer(alloc, problem, &planned.schedule, requests)
+            }
+            Output::Plan => plan_answer(alloc, problem, &planned),
+        },
         Err(PlanFault::Over { opened }) => over(alloc, opened),
         Err(PlanFault::Memory) => Err(AllocError),
     }
@@ -133,15 +138,16 @@ fn commanded<S: Search>(
     match command {
         Command::Plan {
             limit,
-            trace,
+            output,
             remember: false,
-        } => planned(alloc, search, problem, limit, trace),
+        } => planned(alloc, search, problem, limit, output),
         Command::Plan {
             limit,
-            trace,
+            output,
             remember: true,
-        } => planned_known(alloc, problem, limit, trace),
+        } => planned_known(alloc, problem, limit, output),
         Command::Check { remember } => checked(alloc, remember, problem, text),
+        Command::Legal => judged_alone(alloc, problem, text),
     }
 }
 
@@ -286,7 +292,7 @@ fn answer<S: Search>(
 
 /// Reads all that there is, and writes the answer to it and nothing else.
 ///
-/// Answers the exit status of the program: 0 for a plan and for a schedule that is accepted, 1 where the script is
+/// Answers the exit status of the program: 0 for a plan and for a schedule that is accepted or legal, 1 where the script is
 /// refused, 2 where the plan text or its certificate is, 4 for want of memory, 6 where as many nodes were opened as may
 /// be and the search is not over.
 ///
@@ -319,7 +325,7 @@ pub fn engine_split<T: Threads + Sync, R: Read, W: Write>(
     rt: &T,
     alloc: Global,
     limit: u32,
-    trace: bool,
+    output: Output,
     workers: usize,
     reader: &mut R,
     writer: &mut W,
@@ -328,14 +334,14 @@ pub fn engine_split<T: Threads + Sync, R: Read, W: Write>(
     requires few { limit ≤ 1048576 }
     requires some_workers { 1 ≤ workers }
     requires few_workers { workers ≤ 8 }
-    ensures answer { IfOk result (λ status. AnswersBy PartsTell (Command.Plan limit trace false) (R.remaining reader.old) (W.contents writer.old) (W.contents writer.new) status) }
+    ensures answer { IfOk result (λ status. AnswersBy PartsTell (Command.Plan limit output false) (R.remaining reader.old) (W.contents writer.old) (W.contents writer.new) status) }
     ensures unread { result ≡ Err EngineFault.Read → Keeps (W.contents writer.old) (W.contents writer.new) }
-    ensures unwritten { result ≡ Err EngineFault.Write → BeginsAnswerBy PartsTell (Command.Plan limit trace false) (R.remaining reader.old) (W.contents writer.old) (W.contents writer.new) }
+    ensures unwritten { result ≡ Err EngineFault.Write → BeginsAnswerBy PartsTell (Command.Plan limit output false) (R.remaining reader.old) (W.contents writer.old) (W.contents writer.new) }
 {
     let team = Team { rt, workers };
     let command = Command::Plan {
         limit,
-        trace,
+        output,
         remember: false,
     };
     engine_by(alloc, &team, command, reader, writer)

@@ -1,3 +1,12 @@
+/// What is printed of a plan.
+#[derive(Clone, Copy)]
+pub enum Output {
+    /// The plan, with its certificate.
+    Plan,
+    /// Its trace; each line names its request where `requests` says so.
+    Trace { requests: bool },
+}
+
 /// What the program is asked to do with a script.
 #[derive(Clone, Copy)]
 pub enum Command {
@@ -5,7 +14,7 @@ pub enum Command {
     /// nodes, 1 to 1,048,576, and remembers states where `remember` says so, as its certificate then does.
     Plan {
         limit: u32,
-        trace: bool,
+        output: Output,
         remember: bool,
     },
     /// Say whether the plan text behind the script shows by its certificate that its schedule is optimal; by one that
@@ -13,4 +22,7 @@ pub enum Command {
     Check {
         remember: bool,
     },
+    /// Say whether the schedule of the plan text behind the script is legal, and when it ends. A certificate need not
+    /// stand there, and isn't looked at; nor is the number behind `finish`.
+    Legal,
 }

@@ -1,11 +1,11 @@
 //! From the bytes of an input to the bytes of its answer: what a script sets up is planned, or a plan of it is checked.
 //!
-//! [`words`] reads a command line into a [`Command`], and [`engine`] carries it out, [`engine_split`] by several workers.
+//! [`engine`] carries out a [`Command`] on an input, [`engine_split`] by several workers.
 #![tactic(auto)]
 
+mod alone;
 mod answering;
 mod command;
-mod command_line;
 mod count;
 mod device;
 mod fault;
@@ -32,17 +32,19 @@ mod traced;
 mod transfer;
 
 pub use answering::{engine, engine_split};
-pub use command::Command;
-pub use command_line::{Named, WordsFault, words};
+pub use command::{Command, Output};
 pub use count::{Batch, Capacity, Few};
-pub use device::PageDevice;
+pub use device::{Device, PageDevice};
 pub use fault::{Refusal, RowStop, ScriptFault, Stop};
-pub use forms::{page_device, row_on};
+pub use field::number;
+pub use forms::{device_of, page_device, row_on};
 pub use laws::{strangers_are_illegal, text_is_read_back};
 pub use operation::{Aim, Content, Operation};
+pub use plan_text::{Plan, PlanStop, read_plan};
 pub use purpose::Purpose;
 pub use reading::read_rows;
 pub use row::{Row, Subject};
-pub use setup::is_strict;
+pub use script::{behind_end, script_len};
+pub use setup::{Setup, is_strict, set_up};
 pub use text::{Answer, put_number, refused};
 pub use transfer::{EngineFault, InputFault, read_all, tell, write_text};

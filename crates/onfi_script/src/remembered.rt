@@ -4,6 +4,7 @@ ghost use Rattle.onfi_script.specs.Answer.{AnswersPlan, AnswersSchedule, OneTell
 ghost use Rattle.onfi_script.specs.AnswerOf.{answer_of};
 ghost use Rattle.onfi_script.specs.Text as spec;
 
+use crate::command::Output;
 use crate::text::{Answer, accepted, known_text_refused, over, plan_text, refused_for};
 use crate::traced::trace_answer;
 use onfi_known::check_known_text;
@@ -31,16 +32,20 @@ pub fn planned_known(
     alloc: Global,
     problem: &Problem,
     limit: u32,
-    traced: bool,
+    output: Output,
 ) -> Result<Answer, AllocError>
     requires some { 1 ≤ limit }
     requires few { limit ≤ 1048576 }
     requires begun { problem.now.all ≡ problem.now.problem.wants }
-    ensures { IfOk result (λ a. AnswersPlan OneTells limit traced true problem.now.problem (answer_of a)) }
+    ensures { IfOk result (λ a. AnswersPlan OneTells limit output true problem.now.problem (answer_of a)) }
 {
     match plan_known(alloc, problem, limit) {
-        Ok(planned) if traced => trace_answer(alloc, problem, &planned.schedule),
-        Ok(planned) => recalled(alloc, &planned),
+        Ok(planned) => match output {
+            Output::Trace { requests } => {
+                trace_answer(alloc, problem, &planned.schedule, requests)
+            }
+            Output::Plan => recalled(alloc, &planned),
+        },
         Err(PlanFault::Over { opened }) => over(alloc, opened),
         Err(PlanFault::Memory) => Err(AllocError),
     }

@@ -80,6 +80,17 @@ pub fn accepted(alloc: Global, ends: u64) -> Result<Answer, AllocError>
     })
 }
 
+/// The line of a schedule that is legal and ends at `ends`, in ns.
+pub fn legal_until(alloc: Global, ends: u64) -> Result<Answer, AllocError>
+    ensures { IfOk result (λ a. answer_of a ≡ spec.legal_until ends) }
+{
+    let text = format!(in alloc; "legal {ends}\n")?;
+    Ok(Answer {
+        text: text.into_bytes(),
+        status: 0,
+    })
+}
+
 /// The line that refuses the tokens of a certificate; none where memory was refused.
 fn cert_refused(alloc: Global, fault: CertFault) -> Result<Answer, AllocError>
     ensures { IfOk result (λ a. answer_of a ≡ spec.cert_refused fault) }

@@ -9,15 +9,16 @@ use onfi_problem::Problem;
 use onfi_schedule::{Schedule, trace};
 use std::alloc::{AllocError, Global};
 
-/// The trace of an optimal schedule.
+/// The trace of an optimal schedule; each line names its request where that is asked for.
 pub fn trace_answer(
     alloc: Global,
     problem: &Problem,
     schedule: &Schedule,
+    requests: bool,
 ) -> Result<Answer, AllocError>
     requires { Optimal problem.now.problem schedule.now }
-    ensures { IfOk result (λ a. Traces problem.now.problem (answer_of a)) }
+    ensures { IfOk result (λ a. Traces requests problem.now.problem (answer_of a)) }
 {
-    let text = trace(alloc, problem, schedule)?;
+    let text = trace(alloc, problem, schedule, requests)?;
     Ok(Answer { text, status: 0 })
 }

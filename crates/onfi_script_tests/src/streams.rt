@@ -1,6 +1,6 @@
 ghost use Rattle.onfi_script.specs.Limit.{IsLimited};
 
-use onfi_script::{Command, EngineFault, engine};
+use onfi_script::{Command, EngineFault, Output, engine};
 use std::io;
 use std::io::{Read, Write};
 use std::test::Fail;
@@ -14,7 +14,7 @@ fn plan() -> Command
 {
     Command::Plan {
         limit: 1_048_576,
-        trace: false,
+        output: Output::Plan,
         remember: false,
     }
 }

@@ -1,56 +1,159 @@
-// Plans ONFI channels, checks plans and runs hosts' operations: reads a script from standard input and writes its answer
-// to standard output.
+// Plans ONFI channels, checks plans and runs hosts' operations: reads a script from a file or standard input, writes its
+// answer to standard output, and what is to be said about it in words to standard error.
 #![tactic(auto)]
 
 ghost use Rattle.std.specs.Prelude.{IfOk};
-ghost use Rattle.onfi_script.specs.Words.{IsInRange};
+ghost use Rattle.onfi_console.specs.Words.{IsInRange};
 
+mod input;
+
+use input::{Unread, read};
+use onfi_console::{Asked, Input, Named, WordsFault, escaped, is_quiet, message, shown, words};
 use onfi_run::run_freely;
-use onfi_script::{Command, EngineFault, Named, WordsFault, engine, engine_split, words};
-use std::io::ErrorKind;
+use onfi_script::{Command, EngineFault, engine, engine_split, write_text};
+use std::io::{Eprint, ErrorKind, Print};
 use std::process::ExitCode;
+use std::sync::Wait;
+use std::thread::Threads;
 
-fn asked(rt: &(impl std::rt::Env + AllocGlobal)) -> Result<Named, WordsFault>
-    ensures { IfOk result (λ named. IsInRange named) }
-{
+/// The words of the command line, or the status of one that can't be read.
+fn given(rt: &(impl std::rt::Env + AllocGlobal + Print + Eprint)) -> Result<Vec<String>, u8> {
     let args = match std::env::args(rt) {
         Ok(args) => args,
-        Err(fault) if fault.kind() == ErrorKind::OutOfMemory => return Err(WordsFault::Memory),
-        Err(_) => return Err(WordsFault::Refused),
+        Err(fault) if fault.kind() == ErrorKind::OutOfMemory => return Err(out_of_memory(rt)),
+        Err(_) => return Err(tell_word(rt)),
     };
-    let Ok(given) = args.collect::<Vec<String>>(rt.alloc()) else {
-        return Err(WordsFault::Memory);
-    };
-    words(rt.alloc(), given.as_slice())
+    match args.collect::<Vec<String>>(rt.alloc()) {
+        Ok(given) => Ok(given),
+        Err(_) => Err(out_of_memory(rt)),
+    }
+}
+
+/// The most words, and the most bytes of a word, that are looked at for one that can't be read.
+const MOST_WORDS: usize = 4096;
+
+/// The word that isn't UTF-8 text, with such bytes escaped.
+fn wrong_word(rt: &(impl std::rt::Env + AllocGlobal)) -> Option<String> {
+    let mut word = [0u8; 4096];
+    for number in 0..MOST_WORDS {
+        let size = rt.arg(number, &mut word).ok()?;
+        let bytes = &word[..size];
+        if std::str::from_utf8(bytes).is_err() {
+            return shown(rt.alloc(), bytes).ok();
+        }
+    }
+    None
+}
+
+/// Says which word isn't text; the status of a refused command line.
+fn tell_word(rt: &(impl std::rt::Env + AllocGlobal + Eprint)) -> u8 {
+    if let Some(word) = wrong_word(rt) {
+        let _ = rt.eprint("error: this word of the command line isn't UTF-8 text: '");
+        let _ = rt.eprint(word.as_str());
+        let _ = rt.eprintln("'");
+    }
+    5
+}
+
+/// Tells that memory was refused; its status.
+fn out_of_memory(rt: &impl Print) -> u8 {
+    let _ = rt.println("memory");
+    4
+}
+
+/// What the command line asks for, or the status of one that isn't taken.
+fn asked<'a>(rt: &(impl AllocGlobal + Print + Eprint), given: &'a [String]) -> Result<Asked<'a>, u8>
+    ensures { IfOk result (λ asked. IsInRange asked.named) }
+{
+    match words(rt.alloc(), given) {
+        Ok(asked) => Ok(asked),
+        Err(WordsFault::Version(text)) => {
+            let _ = rt.print(text.as_str());
+            Err(0)
+        }
+        Err(WordsFault::Refused(text)) => {
+            if !is_quiet(given) {
+                let _ = rt.eprint(text.as_str());
+            }
+            Err(5)
+        }
+        Err(WordsFault::Memory) => Err(out_of_memory(rt)),
+    }
+}
+
+/// Tells why an input can't be read; its status.
+fn unread(rt: &(impl AllocGlobal + Print + Eprint), asked: &Asked<'_>, fault: &Unread<'_>) -> u8 {
+    match fault {
+        Unread::File(name, error) => {
+            if !asked.quiet {
+                tell_unread(rt, name, error);
+            }
+            5
+        }
+        Unread::Read => 7,
+        Unread::Memory => out_of_memory(rt),
+    }
+}
+
+/// Says which file can't be read, and why.
+fn tell_unread(rt: &(impl AllocGlobal + Eprint), name: &str, error: &std::io::Error) {
+    let alloc = rt.alloc();
+    if let Ok(name) = escaped(alloc, name) {
+        if let Ok(text) = format!(in alloc; "error: the file '{name}' can't be read: {error}\n") {
+            let _ = rt.eprint(text.as_str());
+        }
+    }
+}
+
+/// Answers what is asked of an input; the status.
+fn answer_to<R: Threads + Wait + Sync + AllocGlobal>(
+    rt: &R,
+    asked: &Asked<'_>,
+    mut text: &[u8],
+    answer: &mut Vec<u8>,
+) -> Result<u8, EngineFault>
+    requires { IsInRange asked.now.named }
+{
+    let alloc = rt.alloc();
+    match asked.named {
+        Named::Run { limit } => run_freely(rt, alloc, limit, &mut text, answer),
+        Named::Problem {
+            command: Command::Plan { limit, output, .. },
+            workers,
+        } if workers > 1 => engine_split(rt, alloc, limit, output, workers, &mut text, answer),
+        Named::Problem { command, .. } => engine(alloc, command, &mut text, answer),
+    }
 }
 
 fn main(rt: HostRuntime) -> ExitCode {
-    let named = match asked(&rt) {
-        Ok(named) => named,
-        Err(WordsFault::Memory) => {
-            let _ = rt.println("memory");
-            return ExitCode::from(4);
-        }
-        Err(WordsFault::Refused) => {
-            let _ = rt.eprintln(
-                "usage: onfi_sim plan [--limit N] [--trace] [--workers N | --remember] | onfi_sim check [--remember] | onfi_sim run [--limit N]",
-            );
-            return ExitCode::from(5);
-        }
+    let given = match given(&rt) {
+        Ok(given) => given,
+        Err(status) => return ExitCode::from(status),
     };
-    let (alloc, mut reader, mut writer) = (rt.alloc(), rt.reader(), std::io::writer(&rt));
-    let answered = match named {
-        Named::Run { limit } => run_freely(&rt, alloc, limit, &mut reader, &mut writer),
-        Named::Problem {
-            command: Command::Plan { limit, trace, .. },
-            workers,
-        } if workers > 1 => {
-            engine_split(&rt, alloc, limit, trace, workers, &mut reader, &mut writer)
-        }
-        Named::Problem { command, .. } => engine(alloc, command, &mut reader, &mut writer),
+    let asked = match asked(&rt, given.as_slice()) {
+        Ok(asked) => asked,
+        Err(status) => return ExitCode::from(status),
     };
-    match answered {
-        Ok(status) => ExitCode::from(status),
-        Err(EngineFault::Read) | Err(EngineFault::Write) => ExitCode::from(7),
+    let (text, at) = match read(&rt, rt.alloc(), &asked) {
+        Ok(read) => read,
+        Err(fault) => return ExitCode::from(unread(&rt, &asked, &fault)),
+    };
+    let input = Input {
+        text: text.as_slice(),
+        script: asked.script,
+        plan: asked.plan.map(|name| (name, at)),
+    };
+    let mut answer = Vec::new(rt.alloc());
+    let answered = answer_to(&rt, &asked, input.text, &mut answer);
+    // An answer in memory fails for memory alone.
+    let Ok(status) = answered else {
+        return ExitCode::from(out_of_memory(&rt));
+    };
+    if write_text(&mut std::io::writer(&rt), answer.as_slice()).is_err() {
+        return ExitCode::from(7);
     }
+    if let Ok(Some(text)) = message(rt.alloc(), &asked, &input, answer.as_slice()) {
+        let _ = rt.eprint(text.as_str());
+    }
+    ExitCode::from(status)
 }

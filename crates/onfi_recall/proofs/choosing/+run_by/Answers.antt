@@ -16,7 +16,7 @@ use Rattle.onfi_recall.proofs.Node.{done_run, step_run}
 use Rattle.onfi_recall.proofs.choosing.+run_by.Goals as goal
 
 pub returns-then-is_empty-clause-run : goal.returns-then-is_empty-clause-run
-returns-then-is_empty-clause-run t c = done_run c.args.problem.now c.steps-moves.result c.args.steps.now.items c.bus_free-bus_free.result c.bus_free-bus_free.ensures.limits.problem c.steps-moves.ensures.moves (eqb-true _ _ (sym c.if-is_empty.ensures)) c.requires.none c.bus_free-bus_free.ensures.value
+returns-then-is_empty-clause-run t c = done_run c.args.problem.now c.list_steps.new.moves c.args.steps.now.items c.bus_free-bus_free.result c.bus_free-bus_free.ensures.limits.problem c.list_steps.ensures.moves (eqb-true _ _ (sym c.if-is_empty.ensures)) c.requires.none c.bus_free-bus_free.ensures.value
 
 pub run_by-requires : goal.run_by-requires
 run_by-requires t c =
@@ -30,10 +30,10 @@ pub choice-step-requires-clause-some : goal.choice-step-requires-clause-some
 choice-step-requires-clause-some t c = some_items c.as_slice.result.now (c.if-is_empty.ensures ∙ ap (λ z. length z == 0) (sym c.as_slice.ensures.value))
 
 pub choice-step-requires-clause-moves : goal.choice-step-requires-clause-moves
-choice-step-requires-clause-moves t c = steps_same c.args.problem.now c.as_slice.result.now _ c.as_slice.ensures.value c.steps-moves.ensures.moves
+choice-step-requires-clause-moves t c = steps_same c.args.problem.now c.as_slice.result.now _ c.as_slice.ensures.value c.list_steps.ensures.moves
 
 pub choice-step-requires-clause-named : goal.choice-step-requires-clause-named
-choice-step-requires-clause-named t c = subst (λ z. All (IsNamed c.args.problem.now.groups) z) (sym c.as_slice.ensures.value) c.steps-moves.ensures.named
+choice-step-requires-clause-named t c = subst (λ z. All (IsNamed c.args.problem.now.groups) z) (sym c.as_slice.ensures.value) c.list_steps.ensures.named
 
 pub earliest-start-requires-clause-step : goal.earliest-start-requires-clause-step
 earliest-start-requires-clause-step t c = c.choice-step.ensures.move

@@ -1,8 +1,14 @@
 use Rattle.onfi_recall.proofs.Steps.{step_there}
 use Rattle.onfi_recall.proofs.choosing.rank.Goals as goal
 
-pub work_left-work-requires : goal.work_left-work-requires
-work_left-work-requires c = step_there c.args.problem.now c.args.m c.lun.result c.requires c.lun.ensures
+pub work_left-requires : goal.work_left-requires
+work_left-requires c = step_there c.args.problem.now c.args.m c.lun-lun.result c.requires c.lun-lun.ensures
 
-pub is_post-post-requires : goal.is_post-post-requires
-is_post-post-requires c = step_there c.args.problem.now c.args.m c.lun-2.result c.requires c.lun-2.ensures
+pub work_left-requires-in-FewestWants : goal.work_left-requires-in-FewestWants
+work_left-requires-in-FewestWants c = step_there c.args.problem.now c.args.m c.lun-lun.result c.requires c.lun-lun.ensures
+
+pub is_post-requires : goal.is_post-requires
+is_post-requires c = step_there c.args.problem.now c.args.m c.lun-lun.result c.requires c.lun-lun.ensures
+
+pub is_post-requires-in-Posts : goal.is_post-requires-in-Posts
+is_post-requires-in-Posts c = step_there c.args.problem.now c.args.m c.lun-lun.result c.requires c.lun-lun.ensures

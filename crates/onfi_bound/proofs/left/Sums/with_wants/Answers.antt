@@ -1,4 +1,4 @@
-use Rattle.std.proofs.Common.{◌+◌, ap, arith}
+use Rattle.std.proofs.Common.{◌+◌, ap, ◌∙◌, arith}
 use Rattle.onfi_problem.specs.Left.{want_command, want_post}
 use Rattle.onfi_bound.specs.Bounds.{same_kind}
 use Rattle.onfi_bound.proofs.Steps.{summed, tested_too}
@@ -7,13 +7,14 @@ use Rattle.onfi_bound.proofs.left.Sums.with_wants.Goals as goal
 pub loop-want-preserved : goal.loop-want-preserved
 loop-want-preserved c =
     let at = c.loop-want.invariant in
-    let r = c.spans-spans.result.in_range in
-    let commands = ap (λ s. c.loop-want.sums.commands + s.cmd) c.spans-spans.ensures in
-    let posts = ap (λ s. c.loop-want.sums.posts + s.post) c.spans-spans.ensures in
+    let r = c.spans.result.in_range in
+    let more = c.with_want-sums.ensures in
+    let commands = more.commands ∙ ap (λ s. c.loop-want.sums.commands + s.cmd) c.spans.ensures in
+    let posts = more.posts ∙ ap (λ s. c.loop-want.sums.posts + s.post) c.spans.ensures in
     record {
       commands = summed (want_command c.args.timing.now) c.args.wants.now c.loop-want.want-index _ c.args.self.commands _ _ c.loop-want-test.true at.commands commands;
       posts = summed (want_post c.args.timing.now) c.args.wants.now c.loop-want.want-index _ c.args.self.posts _ _ c.loop-want-test.true at.posts posts;
-      kinds = λ kind. tested_too _ (λ w. same_kind kind w.kind) c.args.wants.now c.loop-want.want-index _ _ _ c.loop-want-test.true (at.kinds kind) (c.with.ensures kind);
+      kinds = λ kind. tested_too _ (λ w. same_kind kind w.kind) c.args.wants.now c.loop-want.want-index _ _ _ c.loop-want-test.true (at.kinds kind) (more.kinds kind);
       commands_short = omega arith;
       posts_short = omega arith;
     }

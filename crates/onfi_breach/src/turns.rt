@@ -1,0 +1,211 @@
+//! The order of groups on one LUN.
+
+ghost use Rattle.std.specs.Prelude.{◌≡◌, ◌↔◌, IsNone, IfSome, IsTrue, length};
+ghost use Rattle.std.specs.List.{AllByRecursion as Each};
+ghost use Rattle.onfi_group.specs.Words.{Pairs};
+ghost use Rattle.onfi_group.specs.Group.{lun_of};
+ghost use Rattle.onfi_problem.specs.Position.{state_of};
+ghost use Rattle.onfi_schedule.specs.Schedule.{Before, phases_left, group_phases, TakeTurns};
+ghost use Rattle.onfi_schedule.specs.Conditions.{Names, states_of, LeftFirst};
+ghost use Rattle.onfi_breach.specs.Breaks.{condition_of, running_first, takes_turns};
+ghost use Rattle.onfi_breach.specs.Slots.{phases_in, EndsBefore};
+
+use crate::breach::Breach;
+use crate::slot::Slot;
+use crate::slots::{self, Slots};
+use arrayvec::ArrayVec;
+use onfi_group::Group;
+use onfi_problem::Lun;
+use onfi_schedule::{Placed, Starts};
+use onfi_timing::Timing;
+
+/// The phases of a new group.
+pub(crate) fn slots_of(timing: &Timing, group: &Placed) -> Slots
+    ensures { phases_in result.items ≡ group_phases timing.now group.now }
+{
+    let mut slots = ArrayVec::new();
+    let starts = group.starts().as_slice();
+    slots::push_group(&mut slots, timing, group.members(), starts);
+    slots
+}
+
+// Whether the phase has ended when any of the others starts.
+fn ends_before(slot: &Slot, others: &[Slot]) -> bool
+    ensures { IsTrue result ↔ EndsBefore slot.now.phase (phases_in others.now) }
+{
+    for other in others {
+        if !slot.phase.ends_by(other.phase.start) {
+            return false;
+        }
+    }
+    true
+}
+
+/// Whether the ones have ended when any of the others starts.
+pub(crate) fn are_before(slots: &[Slot], others: &[Slot]) -> bool
+    ensures { IsTrue result ↔ Before (phases_in slots.now) (phases_in others.now) }
+{
+    for slot in slots {
+        if !ends_before(slot, others) {
+            return false;
+        }
+    }
+    true
+}
+
+/// The greatest end of the phases, in ns.
+pub(crate) fn last_end(slots: &[Slot]) -> u64 {
+    let mut last = 0u64;
+    for slot in slots {
+        last = last.max(slot.phase.start + slot.phase.length);
+    }
+    last
+}
+
+/// The phase of least start.
+pub(crate) fn first_slot(slots: &[Slot]) -> Slot {
+    let mut first = slots.first().copied().unwrap_or_default();
+    for slot in slots {
+        if slot.phase.start < first.phase.start {
+            first = *slot;
+        }
+    }
+    first
+}
+
+// That the group starts before that of the left phases, which runs on its LUN, has ended.
+fn running_left(own: &[Slot], left: &[Slot]) -> Breach
+    ensures { condition_of result ≡ running_first }
+{
+    let first = first_slot(own);
+    Breach::RunningGroupLeft {
+        phase: first.name,
+        lun: first.phase.lun,
+        start: first.phase.start,
+        end: last_end(left),
+    }
+}
+
+fn before_end_of(
+    timing: &Timing,
+    table: &[Group],
+    lun: &Lun,
+    starts: &Starts,
+    group: &Placed,
+) -> Option<Breach>
+    requires named { Names table.now lun.now }
+    ensures none { IsNone result ↔ Before (phases_left timing.now (lun_of group.now.members) (state_of table.now lun.now) starts.now) (group_phases timing.now group.now) }
+    ensures about { IfSome result (λ b. condition_of b ≡ running_first) }
+{
+    let mut left = ArrayVec::new();
+    slots::push_left(&mut left, timing, table, group.members().lun(), lun, starts);
+    let own = slots_of(timing, group);
+    if are_before(left.as_slice(), own.as_slice()) {
+        return None;
+    }
+    Some(running_left(own.as_slice(), left.as_slice()))
+}
+
+fn before_left(
+    timing: &Timing,
+    table: &[Group],
+    luns: &[Lun],
+    rest: &[Starts],
+    group: &Placed,
+) -> Option<Breach>
+    requires length { length rest.now ≡ length luns.now }
+    requires named { Each (Names table.now) luns.now }
+    ensures none { IsNone result ↔ LeftFirst timing.now (states_of table.now luns.now) rest.now group.now }
+    ensures about { IfSome result (λ b. condition_of b ≡ running_first) }
+{
+    let place = group.members().lun() as usize;
+    if place >= luns.len() {
+        return None;
+    }
+    before_end_of(timing, table, &luns[place], &rest[place], group)
+}
+
+/// A group that starts before the running group of its LUN has ended.
+pub(crate) fn running_not_over(
+    timing: &Timing,
+    table: &[Group],
+    luns: &[Lun],
+    rest: &[Starts],
+    groups: &[Placed],
+) -> Option<Breach>
+    requires length { length rest.now ≡ length luns.now }
+    requires named { Each (Names table.now) luns.now }
+    ensures none { IsNone result ↔ Each (LeftFirst timing.now (states_of table.now luns.now) rest.now) groups.now }
+    ensures about { IfSome result (λ b. condition_of b ≡ running_first) }
+{
+    for group in groups {
+        let breach = before_left(timing, table, luns, rest, group);
+        if breach.is_some() {
+            return breach;
+        }
+    }
+    None
+}
+
+// That the one group starts while the other one has their LUN.
+fn taken(own: &[Slot], holder: u64, held: &[Slot]) -> Breach
+    ensures { condition_of result ≡ takes_turns }
+{
+    let first = first_slot(own);
+    Breach::LunTaken {
+        phase: first.name,
+        lun: first.phase.lun,
+        start: first.phase.start,
+        holder,
+        from: first_slot(held).phase.start,
+        to: last_end(held),
+    }
+}
+
+fn without_turn(timing: &Timing, group: &Placed, other: &Placed) -> Option<Breach>
+    ensures none { IsNone result ↔ TakeTurns timing.now group.now other.now }
+    ensures about { IfSome result (λ b. condition_of b ≡ takes_turns) }
+{
+    if group.members().lun() != other.members().lun() {
+        return None;
+    }
+    let one = slots_of(timing, group);
+    let two = slots_of(timing, other);
+    let (one, two) = (one.as_slice(), two.as_slice());
+    if are_before(one, two) || are_before(two, one) {
+        return None;
+    }
+    let breach = if first_slot(one).phase.start < first_slot(two).phase.start {
+        taken(two, group.members().members()[0].id, one)
+    } else {
+        taken(one, other.members().members()[0].id, two)
+    };
+    Some(breach)
+}
+
+fn without_turn_among(timing: &Timing, group: &Placed, others: &[Placed]) -> Option<Breach>
+    ensures none { IsNone result ↔ Each (TakeTurns timing.now group.now) others.now }
+    ensures about { IfSome result (λ b. condition_of b ≡ takes_turns) }
+{
+    for other in others {
+        let breach = without_turn(timing, group, other);
+        if breach.is_some() {
+            return breach;
+        }
+    }
+    None
+}
+
+/// A group that starts while another one has its LUN.
+pub(crate) fn lun_taken(timing: &Timing, groups: &[Placed]) -> Option<Breach>
+    ensures none { IsNone result ↔ Pairs (TakeTurns timing.now) groups.now }
+    ensures about { IfSome result (λ b. condition_of b ≡ takes_turns) }
+{
+    for (at, group) in groups.iter().enumerate() {
+        let breach = without_turn_among(timing, group, &groups[at + 1..]);
+        if breach.is_some() {
+            return breach;
+        }
+    }
+    None
+}

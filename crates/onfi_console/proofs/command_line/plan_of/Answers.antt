@@ -1,0 +1,12 @@
+use Rattle.std.proofs.Common.{refl}
+use Rattle.clap.proofs.WalkLemmas.{first_value-rows}
+use Rattle.onfi_console.proofs.command_line.plan_of.Goals as goal
+
+pub returns-clause-named : goal.returns-clause-named
+returns-clause-named c =
+    let limit = rw first_value-rows at c.in_ok-limit.ensures.value in
+    let workers = rw first_value-rows at c.in_ok-workers.ensures.value in
+    let trace = rw first_value-rows at c.output_of-output.ensures in
+    let output = rw first_value-rows at trace in
+    let remember = rw first_value-rows at c.is_given-remember.ensures in
+    (refl, limit, output, remember, workers)

@@ -1,0 +1,150 @@
+//! The commands and options that the program understands.
+ghost use Rattle.std.specs.Prelude.{◌≡◌, IfOk, Some, false, true};
+ghost use Rattle.clap.specs.Words.{app_of, rule_of, with_rule};
+ghost use Rattle.clap.specs.declared.builder.command.Command.TheViews.{out-Command as fields_of};
+ghost use Rattle.onfi_console.specs.Words as spec;
+
+use crate::help;
+use clap::{Arg, ArgAction, Command};
+use std::alloc::{AllocError, Global};
+
+/// `--NAME N`
+fn number<'a>(alloc: Global, name: &'a str, about: &'a str) -> Arg<'a>
+    ensures rule { rule_of result ≡ spec.number name.now }
+    ensures local { result.global ≡ false }
+{
+    Arg::new(alloc, name)
+        .long(name)
+        .action(ArgAction::Set)
+        .value_name("N")
+        .help(about)
+}
+
+/// `--NAME`
+fn flag<'a>(alloc: Global, name: &'a str, about: &'a str) -> Arg<'a>
+    ensures rule { rule_of result ≡ spec.flag name.now }
+    ensures local { result.global ≡ false }
+{
+    Arg::new(alloc, name)
+        .long(name)
+        .action(ArgAction::SetTrue)
+        .help(about)
+}
+
+/// `--quiet`, `-q`
+fn quiet<'a>(alloc: Global) -> Arg<'a>
+    ensures rule { rule_of result ≡ spec.quiet }
+    ensures local { result.global ≡ false }
+{
+    flag(alloc, "quiet", help::QUIET).short('q')
+}
+
+/// The name of a file.
+fn file<'a>(alloc: Global, name: &'a str, about: &'a str) -> Arg<'a>
+    ensures rule { rule_of result ≡ spec.file name.now }
+    ensures local { result.global ≡ false }
+{
+    Arg::new(alloc, name).action(ArgAction::Set).help(about)
+}
+
+/// A command without arguments.
+fn command<'a>(alloc: Global, name: &'a str, about: &'a str, more: &'a str) -> Command<'a>
+    ensures app { app_of result ≡ spec.command name.now }
+    ensures local { (fields_of result).has_globals ≡ false }
+{
+    Command::new(alloc, name).about(about).after_help(more)
+}
+
+/// A command with an argument more.
+fn with<'a>(command: Command<'a>, arg: Arg<'a>) -> Result<Command<'a>, AllocError>
+    requires local { (fields_of command).has_globals ≡ false }
+    requires plain { arg.global ≡ false }
+    ensures app { IfOk result (λ a. app_of a ≡ with_rule (app_of command.entry) (rule_of arg.entry)) }
+    ensures local { IfOk result (λ a. (fields_of a).has_globals ≡ false) }
+{
+    command.arg(arg)
+}
+
+/// `plan [--limit N] [--trace] [--requests]`
+fn plan_output<'a>(alloc: Global) -> Result<Command<'a>, AllocError>
+    ensures app { IfOk result (λ a. app_of a ≡ spec.plan_output) }
+    ensures local { IfOk result (λ a. (fields_of a).has_globals ≡ false) }
+{
+    let plan = command(alloc, "plan", help::PLAN, help::PLAN_MORE);
+    let plan = with(plan, number(alloc, "limit", help::LIMIT))?;
+    let plan = with(plan, flag(alloc, "trace", help::TRACE))?;
+    with(plan, flag(alloc, "requests", help::REQUESTS))
+}
+
+/// .. with `[--workers N] [--remember]`
+fn plan_search<'a>(alloc: Global) -> Result<Command<'a>, AllocError>
+    ensures app { IfOk result (λ a. app_of a ≡ spec.plan_search) }
+    ensures local { IfOk result (λ a. (fields_of a).has_globals ≡ false) }
+{
+    let plan = plan_output(alloc)?;
+    let plan = with(plan, number(alloc, "workers", help::WORKERS))?;
+    with(plan, flag(alloc, "remember", help::REMEMBER_PLAN))
+}
+
+/// .. with `[--quiet] [FILE]`
+fn plan<'a>(alloc: Global) -> Result<Command<'a>, AllocError>
+    ensures app { IfOk result (λ a. app_of a ≡ spec.plan) }
+    ensures local { IfOk result (λ a. (fields_of a).has_globals ≡ false) }
+{
+    let plan = with(plan_search(alloc)?, quiet(alloc))?;
+    with(plan, file(alloc, "FILE", help::FILE))
+}
+
+/// `check [--remember] [--legal]`
+fn check_judging<'a>(alloc: Global) -> Result<Command<'a>, AllocError>
+    ensures app { IfOk result (λ a. app_of a ≡ spec.check_judging) }
+    ensures local { IfOk result (λ a. (fields_of a).has_globals ≡ false) }
+{
+    let check = command(alloc, "check", help::CHECK, help::CHECK_MORE);
+    let check = with(check, flag(alloc, "remember", help::REMEMBER_CHECK))?;
+    with(check, flag(alloc, "legal", help::LEGAL))
+}
+
+/// .. with `[--quiet] [FILE [PLAN]]`
+fn check<'a>(alloc: Global) -> Result<Command<'a>, AllocError>
+    ensures app { IfOk result (λ a. app_of a ≡ spec.check) }
+    ensures local { IfOk result (λ a. (fields_of a).has_globals ≡ false) }
+{
+    let check = with(check_judging(alloc)?, quiet(alloc))?;
+    let check = with(check, file(alloc, "FILE", help::FILE))?;
+    with(check, file(alloc, "PLAN", help::PLAN_FILE))
+}
+
+/// `run`
+fn run<'a>(alloc: Global) -> Result<Command<'a>, AllocError>
+    ensures app { IfOk result (λ a. app_of a ≡ spec.run) }
+    ensures local { IfOk result (λ a. (fields_of a).has_globals ≡ false) }
+{
+    let run = command(alloc, "run", help::RUN, help::RUN_MORE);
+    let run = with(run, number(alloc, "limit", help::LIMIT))?;
+    let run = with(run, quiet(alloc))?;
+    with(run, file(alloc, "FILE", help::FILE))
+}
+
+/// The program without a command.
+fn program<'a>(alloc: Global) -> Command<'a>
+    ensures app { app_of result ≡ spec.program }
+    ensures local { (fields_of result).has_globals ≡ false }
+{
+    command(alloc, "onfi_sim", help::PROGRAM, help::PROGRAM_MORE).version(help::VERSION)
+}
+
+/// What the program understands.
+///
+/// # Errors
+/// Want of memory.
+pub fn app<'a>(alloc: Global) -> Result<Command<'a>, AllocError>
+    ensures { IfOk result (λ a. app_of a ≡ spec.app) }
+{
+    let plan = plan(alloc)?;
+    let check = check(alloc)?;
+    let run = run(alloc)?;
+    let app = program(alloc).subcommand(plan)?;
+    let app = app.subcommand(check)?;
+    app.subcommand(run)
+}

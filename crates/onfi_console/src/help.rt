@@ -1,0 +1,90 @@
+//! The texts of help. Times are ns, statuses are those that the program ends with.
+
+pub const VERSION: &str = "1.0.0";
+
+pub const PROGRAM: &str =
+    "Plans a channel of NAND dies on one ONFI bus, checks such plans, and runs hosts' operations.";
+
+pub const PROGRAM_MORE: &str = "\
+The script is read from FILE, or from standard input; the answer goes to standard output, messages to standard error.
+
+Statuses:
+  0  planned, accepted, legal, or each operation has its reply
+  1  the script is refused
+  2  the plan text or its certificate is refused
+  3  a channel stopped or was left unfinished
+  4  memory was refused
+  5  the command line is refused, or asks for help
+  6  as many nodes were opened as may be, and the search isn't over
+  7  a read or write failed
+
+Example:
+  onfi_sim plan examples/batch.onfi > batch.plan
+  onfi_sim check examples/batch.onfi batch.plan
+
+Formats of scripts and answers: docs/FORMATS.md";
+
+pub const PLAN: &str =
+    "Makes the bus schedule that ends soonest, with a certificate that nothing ends sooner.";
+
+pub const PLAN_MORE: &str = "\
+Input: a script of rows up to the line 'end': a device (shape and spans rows, or page and sheet rows), the state of bus
+and LUNs (bus, free, running), and up to eight requests (want).
+Output: the plan text: its finish in ns, the starts of each group's phases, the certificate.
+
+Statuses: 0 planned; 1 the script is refused; 4 memory was refused; 5 the command line is refused; 6 the search isn't over
+within the limit; 7 a read or write failed.
+
+Example:
+  onfi_sim plan examples/batch.onfi
+  onfi_sim plan --remember --requests examples/batch.onfi";
+
+pub const CHECK: &str =
+    "Says whether a plan text is legal, ends when it says, and is optimal by its certificate.";
+
+pub const CHECK_MORE: &str = "\
+Input: a script up to its line 'end', and a plan text behind that line or in the file PLAN. Whoever made the plan isn't
+trusted.
+Output: 'accepted N', the finish in ns, or what is wrong; with --legal 'legal N', the time at which the schedule ends.
+
+Statuses: 0 accepted or legal; 1 the script is refused; 2 the plan text or its certificate is refused; 4 memory was
+refused; 5 the command line is refused; 7 a read or write failed.
+
+Example:
+  onfi_sim plan examples/batch.onfi > batch.plan
+  onfi_sim check examples/batch.onfi batch.plan";
+
+pub const RUN: &str =
+    "Runs hosts' operations on simulated chips, a thread for each channel and each host.";
+
+pub const RUN_MORE: &str = "\
+Input: a script of page and sheet rows, channels, hosts and operations (op), up to the line 'end'.
+Output: a line for each reply, by host, channel and number, then 'closed'.
+
+Statuses: 0 each operation has its reply; 1 the script is refused; 3 a channel stopped or was left unfinished; 4 memory
+was refused; 5 the command line is refused; 6 a plan wasn't over within the limit; 7 a read or write failed.
+
+Example:
+  onfi_sim run examples/two-hosts.onfi";
+
+pub const LIMIT: &str =
+    "Open at most N nodes in a search, 1 to 1048576; the greatest where none is named";
+
+pub const TRACE: &str = "Print a line for each phase in place of the plan";
+
+pub const REQUESTS: &str = "Print that trace with the request of each line as a last column";
+
+pub const WORKERS: &str = "Search by N workers, 1 to 8; the plan is the same for any number";
+
+pub const REMEMBER_PLAN: &str =
+    "Search by remembered states; answers in practice where the plain search isn't over";
+
+pub const REMEMBER_CHECK: &str = "Take a certificate that remembers states, and no plain one";
+
+pub const LEGAL: &str = "Say whether the schedule is legal and when it ends; needs no certificate";
+
+pub const QUIET: &str = "Say nothing on standard error";
+
+pub const FILE: &str = "The script; '-' or none is standard input";
+
+pub const PLAN_FILE: &str = "The plan text; none: it stands behind the script";

@@ -1,0 +1,151 @@
+//! Why a plan text or its certificate is refused.
+use crate::escaping::shown;
+use crate::input::{Input, line_at, line_start, word_at};
+use onfi_breach::find_breach;
+use onfi_problem::Problem;
+use onfi_schedule::{Schedule, finish, legal};
+use onfi_script::{Purpose, behind_end, device_of, read_plan, read_rows, script_len, set_up};
+use std::alloc::{AllocError, Global};
+
+/// The message beside a line `refused ..`.
+///
+/// # Errors
+/// Want of memory.
+pub fn refused_message(alloc: Global, input: &Input<'_>, line: &str) -> Result<String, AllocError> {
+    match (word_at(line, 1), word_at(line, 2)) {
+        ("plan", number) => plan_line_message(alloc, input, number),
+        ("finish", _) => finish_message(alloc, input),
+        ("1", _) => illegal_message(alloc, input),
+        ("cert", what) => {
+            let what = text_fault(what);
+            format!(in alloc; "onfi_sim: the certificate is refused: {what}\n")
+        }
+        (_, what) => {
+            let (what, place) = (token_fault(what), word_at(line, 3));
+            if place.is_empty() {
+                format!(in alloc;
+                    "onfi_sim: the schedule is legal, and the certificate doesn't prove it optimal: {what}\n"
+                )
+            } else {
+                format!(in alloc;
+                    "onfi_sim: the schedule is legal, and the certificate doesn't prove it optimal: token {place}, counted from 0, {what}\n"
+                )
+            }
+        }
+    }
+}
+
+/// The text behind the line `end`.
+fn plan_text<'a>(input: &Input<'a>) -> &'a [u8] {
+    match script_len(input.text) {
+        Some(size) => behind_end(&input.text[size..]),
+        None => b"",
+    }
+}
+
+/// The message about a line of a plan text, counted from 1.
+fn plan_line_message(alloc: Global, input: &Input<'_>, number: &str) -> Result<String, AllocError> {
+    let number = number.parse::<usize>().unwrap_or(0);
+    let (text, above) = (plan_text(input), number.saturating_sub(1));
+    let before = input.text.len().saturating_sub(text.len());
+    let (name, line) = input.place(before.saturating_add(line_start(text, above)));
+    let found = shown(alloc, line_at(text, above))?;
+    let what = expected(number);
+    if line == number {
+        return format!(in alloc; "onfi_sim: {name}:{line}: '{found}': {what}\n");
+    }
+    format!(in alloc; "onfi_sim: {name}:{line}: line {number} of the plan text '{found}': {what}\n")
+}
+
+/// What stands in a line of a plan text, counted from 1.
+fn expected(number: usize) -> &'static str {
+    match number {
+        1 => "expected 'ONFIPLAN 1', with a line end",
+        2 => "expected 'finish N', N in ns without leading zeros, with a line end",
+        _ =>
+            "expected 'rest LUN START ..' by rising LUN, then 'group ID+ID.. START ..', at most 8 of each, with line ends, then the certificate",
+    }
+}
+
+/// The problem and the schedule of an input, and the finish that its text says, in ns.
+fn said(alloc: Global, input: &Input<'_>) -> Option<(Problem, Schedule, u64)> {
+    let rows = read_rows(alloc, Purpose::Problem, input.text).ok()?;
+    let device = device_of(alloc, rows.as_slice()).ok()?;
+    let setup = set_up(alloc, rows.as_slice(), &device).ok()?;
+    let (luns, wants) = (setup.luns.as_slice(), setup.wants.as_slice());
+    let problem = Problem::new(
+        alloc,
+        setup.timing,
+        setup.rules,
+        setup.bus_free,
+        luns,
+        wants,
+    )
+    .ok()?;
+    let mut text = Vec::new(alloc);
+    text.extend_from_slice(plan_text(input)).ok()?;
+    text.extend_from_slice(b"ONFICERT\n").ok()?;
+    let (plan, _) = read_plan(alloc, problem.wants(), text.as_slice()).ok()?;
+    let ends = plan.finish();
+    let schedule = plan.schedule(alloc, problem.lun_count()).ok()?;
+    Some((problem, schedule, ends))
+}
+
+/// The message about a finish that isn't the schedule's.
+fn finish_message(alloc: Global, input: &Input<'_>) -> Result<String, AllocError> {
+    let found = said(alloc, input);
+    match &found {
+        Some((problem, schedule, ends)) if legal(problem, schedule) => {
+            let is = finish(problem, schedule);
+            format!(in alloc;
+                "onfi_sim: the line 'finish' says {ends} ns, and the schedule ends at {is} ns\n"
+            )
+        }
+        _ => String::from_str(
+            alloc,
+            "onfi_sim: the schedule ends at another time than the line 'finish' says\n",
+        ),
+    }
+}
+
+/// The message about a schedule that isn't legal.
+fn illegal_message(alloc: Global, input: &Input<'_>) -> Result<String, AllocError> {
+    let Some((problem, schedule, _)) = said(alloc, input) else {
+        return String::from_str(alloc, "onfi_sim: the schedule isn't legal\n");
+    };
+    match find_breach(&problem, &schedule) {
+        Some(breach) => { format!(in alloc; "onfi_sim: the schedule isn't legal: {breach}\n") }
+        None => String::from_str(alloc, "onfi_sim: the schedule isn't legal\n"),
+    }
+}
+
+/// Why a text is no certificate.
+fn text_fault(what: &str) -> &'static str {
+    match what {
+        "Header" =>
+            "its header is of another kind; plain ones are for 'check', those of 'plan --remember' for 'check --remember'",
+        "BadToken" =>
+            "a token isn't one, counted from 0: take the text as it was printed, one space between tokens, one line end",
+        "TooLong" => "it has too many tokens",
+        _ =>
+            "its header is of the other option: 'strict' of the script differs from that of the plan",
+    }
+}
+
+/// Why tokens prove nothing.
+fn token_fault(what: &str) -> &'static str {
+    match what {
+        "Short" => "its tokens end too early",
+        "Trailing" => "stands behind the end of the tree",
+        "Width" => "has another number of moves than the problem there",
+        "BoundLow" => "names a bound that is below the finish",
+        "YieldNoFit" => "yields to a LUN whose moves don't fit",
+        "YieldLoop" => "yields in a circle",
+        "NotEnd" => "says that nothing is left, and phases are left",
+        "Unknown" => "names an open node that hasn't ended",
+        "OtherLeft" => "names a node at which something else is left",
+        "Sooner" => "names a node at which LUNs may go on only later",
+        "TooMany" => "is one open node too many, above 1048576",
+        _ => "isn't one of this problem",
+    }
+}

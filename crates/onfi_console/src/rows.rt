@@ -1,0 +1,105 @@
+//! What rows of scripts look like.
+use std::alloc::{AllocError, Global};
+use strsim::levenshtein;
+
+/// The names of rows, those that `plan` and `check` take first.
+const NAMES: [&str; 18] = [
+    "shape",
+    "spans",
+    "page",
+    "sheet",
+    "bus",
+    "free",
+    "running",
+    "want",
+    "strict",
+    "channels",
+    "hosts",
+    "batch",
+    "submitcap",
+    "postcap",
+    "op",
+    "fault",
+    "chipfail",
+    "notready",
+];
+
+/// The form of a row of this name.
+pub fn form_of(name: &[u8]) -> Option<&'static str> {
+    match std::str::from_utf8(name) {
+        Ok(name) => problem_form(name).or(run_form(name)),
+        Err(_) => None,
+    }
+}
+
+/// The form of a row that describes a device or a problem.
+fn problem_form(name: &str) -> Option<&'static str> {
+    match name {
+        "shape" => Some(
+            "shape,LUNS,PLANEBITS,READ,WRITE: 1 to 8 LUNs, 0 to 2 plane bits, two flags 0 or 1",
+        ),
+        "spans" => Some(
+            "spans,KIND,CMD,GAP,ARRAY,POST: read, program or erase; ns below 2^50, CMD and POST at least 1",
+        ),
+        "page" => Some("page,HEX: bytes of the parameter page, two hexadecimal digits each"),
+        "sheet" => Some(
+            "sheet,NAME,VALUE: tWC, tRC, tADL, tWHR, tRHW, tWB, tPLRBSY, tPLPBSY or tPLEBSY, in whole ns",
+        ),
+        "bus" => Some("bus,T: the bus is free from T ns, below 2^62"),
+        "free" => Some("free,LUN,T: LUN 0 to 7 of the device is free from T ns, below 2^62"),
+        "running" => Some(
+            "running,LUN,NEXT,READY,KIND,PAGE,BLOCK..: one to four blocks on rising planes; phase NEXT may start from READY ns",
+        ),
+        "want" => Some(
+            "want,KIND,LUN,BLOCK,PAGE: read, program or erase; LUN of the device, BLOCK below 65536, PAGE below 4096",
+        ),
+        "strict" => Some("strict,FLAG: 0 or 1"),
+        _ => None,
+    }
+}
+
+/// The form of a row that `run` alone takes.
+fn run_form(name: &str) -> Option<&'static str> {
+    match name {
+        "channels" => Some("channels,N: 1 to 4"),
+        "hosts" => Some("hosts,N: 1 to 4"),
+        "batch" => Some("batch,N: 1 to 8"),
+        "submitcap" => Some("submitcap,N: places of a submission queue"),
+        "postcap" => Some("postcap,N: places of a completion queue"),
+        "op" => Some(
+            "op,HOST,CHANNEL,KIND,LUN,BLOCK,PAGE and for a program DATA: hexadecimal bytes, or * and one byte",
+        ),
+        "fault" => Some(
+            "fault,CHANNEL,LUN,BLOCK,N: program or erase N of that block, counted from 0, fails",
+        ),
+        "chipfail" => Some(
+            "chipfail,CHANNEL,N: the call of the chip, counted from 0, whose bus fails",
+        ),
+        "notready" => Some(
+            "notready,CHANNEL,N: the status, counted from 0, that comes before its LUN is ready",
+        ),
+        _ => None,
+    }
+}
+
+/// Whether a word is at most two letters off this name, and not all of them.
+fn is_near(alloc: Global, word: &str, name: &str) -> Result<bool, AllocError> {
+    let off = levenshtein(alloc, word, name)?;
+    Ok(off <= 2 && off < name.len())
+}
+
+/// The name of a row that a misspelt one is near to.
+pub fn near_name(alloc: Global, word: &[u8]) -> Result<Option<&'static str>, AllocError> {
+    let Ok(word) = std::str::from_utf8(word) else {
+        return Ok(None);
+    };
+    if word.len() > 16 {
+        return Ok(None);
+    }
+    for name in NAMES {
+        if is_near(alloc, word, name)? {
+            return Ok(Some(name));
+        }
+    }
+    Ok(None)
+}

@@ -1,0 +1,54 @@
+//! The answer about a schedule alone, without a certificate.
+ghost use Rattle.std.specs.Prelude.{◌≡◌, ◌++◌, codes, IfOk};
+ghost use Rattle.onfi_script.specs.Answer.{AnswersAlone, AnswersLegal, TellsLegal};
+ghost use Rattle.onfi_script.specs.AnswerOf.{answer_of};
+
+use crate::plan_text::{PlanStop, read_plan};
+use crate::text::{Answer, legal_until, refused_at, refused_for};
+use onfi_problem::Problem;
+use onfi_schedule::{Schedule, finish, legal};
+use std::alloc::{AllocError, Global};
+
+/// The text, with a line behind it that closes its schedule where no certificate does.
+fn closed(alloc: Global, text: &[u8]) -> Result<Vec<u8>, AllocError>
+    ensures { IfOk result (λ v. v.items ≡ text.now ++ codes "ONFICERT\n") }
+{
+    let mut closed = Vec::new(alloc);
+    closed.extend_from_slice(text)?;
+    closed.extend_from_slice(b"ONFICERT\n")?;
+    Ok(closed)
+}
+
+/// Whether a schedule is legal, and when it ends.
+fn told(alloc: Global, problem: &Problem, schedule: &Schedule) -> Result<Answer, AllocError>
+    ensures { IfOk result (λ a. TellsLegal problem.now.problem schedule.now (answer_of a)) }
+{
+    if !legal(problem, schedule) {
+        return refused_for(alloc, "1 Illegal");
+    }
+    legal_until(alloc, finish(problem, schedule))
+}
+
+/// The answer to the schedule of a plan text.
+fn judged(alloc: Global, problem: &Problem, text: &[u8]) -> Result<Answer, AllocError>
+    requires begun { problem.now.all ≡ problem.now.problem.wants }
+    ensures { IfOk result (λ a. AnswersAlone problem.now.problem text.now (answer_of a)) }
+{
+    match read_plan(alloc, problem.wants(), text) {
+        Ok((plan, _)) => {
+            let schedule = plan.schedule(alloc, problem.lun_count())?;
+            told(alloc, problem, &schedule)
+        }
+        Err(PlanStop::Wrong(number)) => refused_at(alloc, "plan", number),
+        Err(PlanStop::Memory) => Err(AllocError),
+    }
+}
+
+/// The answer to the schedule of a plan text, in which a certificate may be missing.
+pub fn judged_alone(alloc: Global, problem: &Problem, text: &[u8]) -> Result<Answer, AllocError>
+    requires begun { problem.now.all ≡ problem.now.problem.wants }
+    ensures { IfOk result (λ a. AnswersLegal problem.now.problem text.now (answer_of a)) }
+{
+    let closed = closed(alloc, text)?;
+    judged(alloc, problem, closed.as_slice())
+}

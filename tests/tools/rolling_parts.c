@@ -1,0 +1,241 @@
+/*
+ * Parts of the simulator of tools/onfi_tools/rolling alone, a line each: what the judge says of phases that were spoilt, how a
+ * run ends whose way is bad, and what is chosen of requests that wait.
+ */
+#include "rolling.h"
+
+#include <inttypes.h>
+#include <string.h>
+
+enum { PHASES = 7, WANTS = 4 };
+
+static setup setup_of(unsigned luns)
+{
+    setup made = {.luns = luns, .workload = SEQUENTIAL, .outstanding = 64, .requests = 100, .seed = 1};
+    made.least_array = made.most_array = 1;
+    put_device("tlc", 2, &made.channel);
+    return made;
+}
+
+/* Two reads of LUN 0 that run as one, a read of LUN 1, and a program of its block. */
+static const onfi_want WANT[WANTS] = {
+    {.id = 0, .kind = ONFI_READ, .lun = 0, .block = 0, .page = 5},
+    {.id = 1, .kind = ONFI_READ, .lun = 0, .block = 1, .page = 5},
+    {.id = 2, .kind = ONFI_READ, .lun = 1, .block = 0, .page = 7},
+    {.id = 3, .kind = ONFI_PROGRAM, .lun = 1, .block = 0, .page = 0},
+};
+
+/* Legal phases: commands of reads take 175, data outputs 37,639, the gap 600, the array 75,100, the program's data 37,439 ns. */
+static void put_phases(phase *p)
+{
+    const phase legal[PHASES] = {
+        {.start = 0, .end = 175, .lun = 0, .want = WANT[0], .opens = 2, .member = {WANT[0], WANT[1]}},
+        {.start = 175, .end = 350, .lun = 1, .want = WANT[2], .opens = 1, .member = {WANT[2]}, .array = 75100},
+        {.start = 775, .end = 950, .lun = 0, .want = WANT[1], .array = 75100},
+        {.start = 75450, .end = 113089, .lun = 1, .is_post = true, .want = WANT[2]},
+        {.start = 113089, .end = 150728, .lun = 0, .is_post = true, .want = WANT[0]},
+        {.start = 150728, .end = 188367, .lun = 0, .is_post = true, .want = WANT[1]},
+        {.start = 188367, .end = 225806, .lun = 1, .want = WANT[3], .opens = 1, .member = {WANT[3]}, .array = 800100},
+    };
+    memcpy(p, legal, sizeof legal);
+}
+
+static void one_ns_sooner(phase *p)
+{
+    p->start--;
+    p->end--;
+}
+
+static void longer(phase *p)
+{
+    p->end++;
+}
+
+static void turned_round(phase *p)
+{
+    p->is_post = !p->is_post;
+}
+
+static void of_another_request(phase *p)
+{
+    p->want = WANT[1];
+}
+
+static void of_another_page(phase *p)
+{
+    p->member[1].page++;
+}
+
+static void of_another_kind(phase *p)
+{
+    p->member[1].kind = ONFI_ERASE;
+}
+
+static void of_falling_planes(phase *p)
+{
+    p->member[0] = WANT[1];
+    p->member[1] = WANT[0];
+}
+
+static void of_five(phase *p)
+{
+    p->opens = 5;
+}
+
+static void of_the_later_on_a_block(phase *p)
+{
+    p->want = p->member[0] = WANT[3];
+}
+
+static void of_one_that_has_run(phase *p)
+{
+    p->want = p->member[0] = WANT[2];
+}
+
+static void beginning(phase *p)
+{
+    p->opens = 1;
+    p->member[0] = p->want;
+}
+
+static void going_on(phase *p)
+{
+    p->opens = 0;
+}
+
+static void of_no_lun(phase *p)
+{
+    p->lun = 2;
+}
+
+typedef struct {
+    const char *name;
+    unsigned phase;
+    void (*spoil)(phase *p);
+} spoilt;
+
+/* What the judge says of the legal phases with that one spoilt; null where it finds nothing. */
+static const char *judged(const setup *setup, uint64_t since, const spoilt *spoilt)
+{
+    phase p[PHASES];
+    judge j = judge_of(setup);
+    const char *breach = NULL;
+    put_phases(p);
+    if (spoilt)
+        spoilt->spoil(&p[spoilt->phase]);
+    for (unsigned want = 0; want < WANTS; want++)
+        judge_acceptance(&j, &WANT[want], since);
+    for (unsigned at = 0; at < PHASES && !breach; at++)
+        breach = judge_phase(&j, &p[at]);
+    return breach;
+}
+
+static void print_judgement(const char *name, const char *breach)
+{
+    printf("%s: %s\n", name, breach ? breach : "legal");
+}
+
+static void print_judgements(void)
+{
+    static const spoilt all[] = {
+        {"data output 1 ns sooner", 4, one_ns_sooner}, {"command 1 ns sooner", 2, one_ns_sooner}, {"array 1 ns sooner", 3, one_ns_sooner},
+        {"longer", 4, longer}, {"post for command", 2, turned_round}, {"command for post", 4, turned_round},
+        {"another request", 4, of_another_request}, {"another page", 0, of_another_page}, {"another kind", 0, of_another_kind},
+        {"falling planes", 0, of_falling_planes}, {"five members", 0, of_five}, {"later on a block", 1, of_the_later_on_a_block},
+        {"once more", 6, of_one_that_has_run}, {"begins while its LUN runs", 2, beginning}, {"goes on while its LUN is free", 1, going_on},
+        {"no LUN", 1, of_no_lun},
+    };
+    setup setup = setup_of(2);
+    print_judgement("nothing spoilt", judged(&setup, 0, NULL));
+    print_judgement("accepted later", judged(&setup, 1, NULL));
+    for (size_t at = 0; at < sizeof all / sizeof *all; at++)
+        print_judgement(all[at].name, judged(&setup, 0, &all[at]));
+    setup.channel.rules.read = false;
+    print_judgement("no groups of reads", judged(&setup, 0, NULL));
+}
+
+/* Once the bus has been used, starts 1 ns before it or the LUN is free. */
+static bool too_soon(const way *way, mind *mind, const machine *m, const batch *batch, step *step)
+{
+    bool any = by_rule(way, mind, m, batch, step);
+    step->start -= any && step->start > 0;
+    return any;
+}
+
+static bool never(const way *way, mind *mind, const machine *m, const batch *batch, step *step)
+{
+    (void)way, (void)mind, (void)m, (void)batch, (void)step;
+    return false;
+}
+
+static void print_run(unsigned luns, const way *way)
+{
+    setup setup = setup_of(luns);
+    figures figures;
+    if (figures_begin(&figures, &setup))
+        print_judgement(way->name, simulate(&setup, way, NULL, &figures));
+    figures_end(&figures);
+}
+
+static void print_runs(void)
+{
+    const way good = {"as it should be", everything, by_rule, &READS_FIRST, NULL};
+    const way bus = {"too soon on the bus", everything, too_soon, &READS_FIRST, NULL};
+    const way idle = {"never", everything, never, NULL, NULL};
+    print_run(8, &good);
+    print_run(8, &bus);
+    print_run(8, &idle);
+}
+
+static void print_choice(const char *name, choice *choose, const machine *m)
+{
+    batch chosen;
+    choose(m, &chosen);
+    printf("%s:", name);
+    for (size_t at = 0; at < chosen.count; at++)
+        printf(" %" PRIu64, m->waiting[chosen.place[at]].want.id);
+    printf("\n");
+}
+
+static void wait_for(machine *m, unsigned kind, unsigned lun, unsigned block, unsigned page)
+{
+    onfi_want want = {.id = m->waiting_count, .kind = (uint8_t)kind, .lun = (uint8_t)lun, .block = (uint16_t)block, .page = (uint16_t)page};
+    accept_request(m, want, 0);
+}
+
+/* Seven programs of LUN 0, which runs one; then requests of LUN 1 and LUN 2, which are free. */
+static void put_waiting(machine *m)
+{
+    m->lun[0] = (lun_state){.members = 1, .next = 1, .member = {{.want = {.kind = ONFI_PROGRAM}}}, .ready = 800000, .real = 800000};
+    for (unsigned page = 0; page < 7; page++)
+        wait_for(m, ONFI_PROGRAM, 0, 0, page);
+    wait_for(m, ONFI_PROGRAM, 1, 0, 0);
+    wait_for(m, ONFI_READ, 1, 0, 0);
+    wait_for(m, ONFI_READ, 1, 5, 3);
+    wait_for(m, ONFI_READ, 2, 0, 4);
+    wait_for(m, ONFI_READ, 2, 1, 4);
+    wait_for(m, ONFI_READ, 2, 2, 9);
+    wait_for(m, ONFI_READ, 2, 6, 4);
+    wait_for(m, ONFI_READ, 2, 3, 4);
+}
+
+static void print_choices(void)
+{
+    setup setup = setup_of(3);
+    machine m = {.setup = &setup};
+    put_waiting(&m);
+    print_choice("everything", everything, &m);
+    print_choice("first eight", first_eight, &m);
+    print_choice("by LUN", by_lun, &m);
+    print_choice("by LUN, reads first", by_lun_reads_first, &m);
+    m.waiting[5].passed = PASSED_AT_MOST;
+    print_choice("by LUN, passed over", by_lun, &m);
+}
+
+int main(void)
+{
+    print_judgements();
+    print_runs();
+    print_choices();
+    return 0;
+}

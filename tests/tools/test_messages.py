@@ -1,0 +1,321 @@
+"""What the program says on standard error, and that its answers stand without it: words, help, version, files, quiet."""
+
+from __future__ import annotations
+
+import re
+import subprocess
+import tempfile
+import unittest
+from pathlib import Path
+from typing import List, NamedTuple, Sequence, Union
+
+import support
+from onfi_tools.cases import read_cases
+
+Word = Union[str, bytes]
+EXAMPLES = support.ROOT / "examples"
+BATCH = EXAMPLES / "batch.onfi"
+RUN = EXAMPLES / "two-hosts.onfi"
+COMMANDS = ("plan", "check", "run")
+REFUSED_WORDS, FAILED_STREAM = 5, 7
+SECONDS = 20
+# A control character or a byte above ASCII; lines end with LF.
+UNSAFE = re.compile(r"[^\n -~]")
+
+
+class Ran(NamedTuple):
+    output: str
+    said: str
+    status: int
+
+
+def ran(*words: Word, given: bytes = b"") -> Ran:
+    done = subprocess.run([str(support.program()), *words], input=given, capture_output=True, timeout=SECONDS)
+    return Ran(done.stdout.decode(), done.stderr.decode(), done.returncode)
+
+
+@unittest.skipUnless(support.program(), "no built program")
+class WrongWords(unittest.TestCase):
+    """A refused command line has status 5, no answer, and is told what is wrong with it."""
+
+    def assert_refused(self, words: Sequence[Word], *told: str) -> None:
+        found = ran(*words, given=BATCH.read_bytes())
+        self.assertEqual((found.output, found.status), ("", REFUSED_WORDS), words)
+        self.assertTrue(found.said.startswith("error: "), found.said)
+        for text in told:
+            self.assertIn(text, found.said)
+
+    def test_a_misspelt_command_is_told_the_right_one(self) -> None:
+        self.assert_refused(["plna"], "'plna'", "tip:", "'plan'")
+        self.assert_refused(["chekc"], "'chekc'", "tip:", "'check'")
+
+    def test_a_misspelt_option_is_told_the_right_one(self) -> None:
+        for words, right in ((["plan", "--trase"], "'--trace'"), (["plan", "--request"], "'--requests'"),
+                             (["plan", "--worker", "2"], "'--workers'"), (["check", "--remeber"], "'--remember'"),
+                             (["check", "--legl"], "'--legal'"), (["run", "--limt", "2"], "'--limit'")):
+            self.assert_refused(words, f"'{words[1]}'", "tip:", right)
+
+    def test_an_option_before_the_command_is_told_its_place(self) -> None:
+        self.assert_refused(["--limit", "7", "plan"], "'--limit'", "'plan --limit'")
+
+    def test_no_command_is_told_the_three(self) -> None:
+        self.assert_refused([], "'plan', 'check' or 'run'", "--help")
+
+    def test_a_value_out_of_its_range_is_told_the_range(self) -> None:
+        for value in ("0", "1048577", "x", "", "+7", "99999999999999999999"):
+            self.assert_refused(["plan", "--limit", value], "'--limit'", "1 to 1048576")
+            self.assert_refused(["run", "--limit", value], "'--limit'", "1 to 1048576")
+        for value in ("0", "9", "two"):
+            self.assert_refused(["plan", "--workers", value], "'--workers'", "1 to 8")
+
+    def test_a_missing_value_is_told(self) -> None:
+        self.assert_refused(["plan", "--limit"], "a value is required", "--limit <N>")
+
+    def test_options_that_exclude_each_other_are_told_both(self) -> None:
+        self.assert_refused(["plan", "--workers", "2", "--remember"], "'--workers'", "'--remember'")
+        self.assert_refused(["check", "--legal", "--remember"], "'--legal'", "'--remember'")
+
+    def test_a_word_too_many_and_an_option_twice_are_told(self) -> None:
+        self.assert_refused(["plan", "a", "b"], "'b'")
+        self.assert_refused(["check", "a", "b", "c"], "'c'")
+        self.assert_refused(["plan", "--trace", "--trace"], "'--trace'")
+
+    def test_control_characters_are_shown_escaped(self) -> None:
+        for words in (["\x1b[31mplan"], ["plan", "--\x1b[31m"], ["plan", "\x1b[31m"], ["plan", "a", "\x07b"], ["plan", "--limit=3\x7f"]):
+            found = ran(*words)
+            self.assertEqual((found.output, found.status), ("", REFUSED_WORDS))
+            self.assertIsNone(UNSAFE.search(found.said), found.said)
+            self.assertIn("error: ", found.said)
+
+    def test_bytes_that_are_no_text_are_shown_escaped(self) -> None:
+        for words in ([b"\xff"], [b"plan", b"\xff\xfe"], [b"plan", b"--limit", b"7\x80"], [b"plan", b"--\x9b31m"]):
+            found = ran(*words)
+            self.assertEqual((found.output, found.status), ("", REFUSED_WORDS))
+            self.assertIsNone(UNSAFE.search(found.said), found.said)
+            self.assertRegex(found.said, r"\\x(ff|80|9b)")
+
+
+@unittest.skipUnless(support.program(), "no built program")
+class Help(unittest.TestCase):
+    """Help is said on standard error with status 5; the version is an answer."""
+
+    OPTIONS = {"plan": ["--limit <N>", "--trace", "--requests", "--workers <N>", "--remember", "-q, --quiet", "[FILE]"],
+               "check": ["--remember", "--legal", "-q, --quiet", "[FILE]", "[PLAN]"],
+               "run": ["--limit <N>", "-q, --quiet", "[FILE]"]}
+
+    def help(self, *words: str) -> str:
+        found = ran(*words)
+        self.assertEqual((found.output, found.status), ("", REFUSED_WORDS))
+        self.assertFalse(found.said.startswith("error"), found.said)
+        return found.said
+
+    def test_help_of_the_program_names_its_commands_and_statuses(self) -> None:
+        text = self.help("--help")
+        self.assertEqual(text, self.help("-h"))
+        for command in COMMANDS:
+            self.assertRegex(text, rf"(?m)^  {command} +[A-Z]")
+        for status in range(8):
+            self.assertRegex(text, rf"(?m)^  {status}  \w")
+        for part in ("standard input", "standard output", "standard error", "Example:", "docs/FORMATS.md"):
+            self.assertIn(part, text)
+
+    def test_help_of_a_command_says_all_of_it(self) -> None:
+        for command, options in self.OPTIONS.items():
+            text = self.help(command, "--help")
+            self.assertEqual(text, self.help(command, "-h"))
+            self.assertRegex(text.splitlines()[0], r"^[A-Z].*\.$")
+            self.assertRegex(text, rf"(?m)^Usage: \S+ {command} \[OPTIONS\] \[FILE\]")
+            for part in [*options, "Input: ", "Output: ", "Statuses: 0 ", "Example:\n  onfi_sim ", f"\n  onfi_sim {command} "]:
+                self.assertIn(part, text)
+
+    def test_help_of_a_command_names_the_options_that_it_takes(self) -> None:
+        for command, options in self.OPTIONS.items():
+            told = set(re.findall(r"--\w+", self.help(command, "--help").split("Options:")[1].split("\n\n")[0]))
+            self.assertEqual(told - {"--help"}, set(re.findall(r"--\w+", " ".join(options))))
+
+    def test_the_examples_of_help_are_there_and_go_well(self) -> None:
+        for words in ((), ("plan",), ("check",), ("run",)):
+            lines = re.findall(r"^  (onfi_sim .*)$", self.help(*words, "--help").split("Example:")[1], re.MULTILINE)
+            self.assertTrue(lines)
+            with tempfile.TemporaryDirectory() as folder:
+                (Path(folder) / "examples").symlink_to(EXAMPLES)
+                (Path(folder) / "onfi_sim").symlink_to(Path(str(support.program())).resolve())
+                for line in lines:
+                    done = subprocess.run(f"PATH=.:$PATH\n{line}", shell=True, capture_output=True, cwd=folder)
+                    self.assertEqual((done.stderr, done.returncode), (b"", 0), line)
+
+    def test_lines_of_help_fit_a_wide_terminal(self) -> None:
+        for words in ((), ("plan",), ("check",), ("run",)):
+            for line in self.help(*words, "--help").splitlines():
+                self.assertLessEqual(len(line), 128, line)
+
+    def test_the_version_is_an_answer(self) -> None:
+        version = (support.ROOT / "VERSION").read_text()
+        for word in ("--version", "-V"):
+            self.assertEqual(ran(word), (f"onfi_sim {version}", "", 0))
+
+
+@unittest.skipUnless(support.program(), "no built program")
+class Files(unittest.TestCase):
+    """A script and a plan text may stand in files; the answer is that of the same bytes on standard input."""
+
+    def setUp(self) -> None:
+        room = tempfile.TemporaryDirectory()
+        self.addCleanup(room.cleanup)
+        self.room = Path(room.name)
+        self.script = BATCH.read_bytes()
+        self.plan = ran("plan", given=self.script).output.encode()
+
+    def file(self, name: str, text: bytes) -> str:
+        (self.room / name).write_bytes(text)
+        return str(self.room / name)
+
+    def test_a_script_is_read_from_a_file_or_standard_input(self) -> None:
+        for command, path in (("plan", BATCH), ("run", RUN)):
+            piped = ran(command, given=path.read_bytes())
+            self.assertEqual((piped.said, piped.status), ("", 0))
+            self.assertEqual(ran(command, str(path)), piped)
+            self.assertEqual(ran(command, str(path), given=b"not looked at"), piped)
+            self.assertEqual(ran(command, "-", given=path.read_bytes()), piped)
+
+    def test_options_stand_before_or_behind_a_file(self) -> None:
+        traced = ran("plan", "--trace", given=self.script)
+        self.assertEqual(ran("plan", str(BATCH), "--trace"), traced)
+        self.assertEqual(ran("plan", "--trace", "--", str(BATCH)), traced)
+
+    def test_a_plan_is_read_behind_its_script_or_from_a_file(self) -> None:
+        plan, whole = self.file("plan", self.plan), self.file("whole", self.script + self.plan)
+        accepted = Ran("accepted 58240\n", "", 0)
+        for words, given in ((["check"], self.script + self.plan), (["check", whole], b""), (["check", str(BATCH), plan], b""),
+                             (["check", "-", plan], self.script), (["check", str(BATCH), "-"], self.plan)):
+            self.assertEqual(ran(*words, given=given), accepted)
+
+    def test_a_script_without_a_last_line_end_has_its_plan_in_a_line_of_its_own(self) -> None:
+        plan = self.file("plan", self.plan)
+        for text in (self.script, self.script[:-1], self.script.replace(b"\n", b"\r\n")):
+            self.assertEqual(ran("check", self.file("script", text), plan), ("accepted 58240\n", "", 0))
+
+    def test_a_wrong_line_is_told_by_the_file_that_it_stands_in(self) -> None:
+        wrong = self.plan.replace(b"finish ", b"finish 0")
+        plan, whole = self.file("plan", wrong), self.file("whole", self.script + wrong)
+        line = self.script.count(b"\n") + 2
+        for words, place in ((["check", str(BATCH), plan], f"{plan}:2: 'finish 058240': "),
+                             (["check", self.file("script", self.script[:-1]), plan], f"{plan}:2: 'finish 058240': "),
+                             (["check", whole], f"{whole}:{line}: line 2 of the plan text 'finish 058240': ")):
+            found = ran(*words)
+            self.assertEqual((found.output, found.status), ("refused plan 2\n", 2))
+            self.assertTrue(found.said.startswith("onfi_sim: " + place), found.said)
+
+    def test_a_plan_text_may_begin_behind_the_script_and_go_on_in_its_own_file(self) -> None:
+        front, behind = self.plan.split(b"group 2", 1)
+        script, plan = self.file("script", self.script + front), self.file("plan", b"group 2" + behind)
+        self.assertEqual(ran("check", script, plan), ("accepted 58240\n", "", 0))
+        wrong = self.file("wrong", b"group 02" + behind)
+        self.assertTrue(ran("check", script, wrong).said.startswith(f"onfi_sim: {wrong}:1: line 3 of the plan text 'group 02 "))
+        empty = self.file("empty line", self.script + b"\n")
+        line = self.script.count(b"\n") + 1
+        self.assertTrue(ran("check", empty, plan).said.startswith(f"onfi_sim: {empty}:{line}: line 1 of the plan text '': "))
+
+    def test_standard_input_is_told_by_its_name(self) -> None:
+        wrong = self.plan.replace(b"finish ", b"finish 0")
+        self.assertTrue(ran("check", str(BATCH), "-", given=wrong).said.startswith("onfi_sim: <stdin>:2: 'finish 058240': "))
+        self.assertTrue(ran("check", "-", str(BATCH), given=b"\n\nbsu\nend\n").said.startswith("onfi_sim: <stdin>:3: row 1 'bsu': "))
+
+    def test_a_refused_row_is_told_by_the_file_that_it_stands_in(self) -> None:
+        script = self.file("script", b"shape,2,1,1,1\n\nbsu,0\nend\n")
+        for words in (["plan", script], ["check", script], ["check", script, "-"], ["run", self.file("run", b"\n\nbsu,0\nend\n")]):
+            found = ran(*words)
+            self.assertEqual(found.status, 1)
+            self.assertTrue(found.said.startswith(f"onfi_sim: {words[1]}:3: row "), found.said)
+
+    def test_an_empty_plan_file_has_no_plan(self) -> None:
+        empty = self.file("empty", b"")
+        found = ran("check", str(BATCH), empty)
+        self.assertEqual((found.output, found.status), ("refused plan 1\n", 2))
+        self.assertIn(f"{empty}:1: ", found.said)
+
+    def test_a_file_that_cannot_be_opened_is_a_refused_command_line(self) -> None:
+        absent = str(self.room / "absent")
+        for words in (["plan", absent], ["check", absent], ["run", absent], ["check", str(BATCH), absent], ["plan", ""]):
+            found = ran(*words)
+            self.assertEqual((found.output, found.status), ("", REFUSED_WORDS))
+            self.assertRegex(found.said, rf"^error: the file '{re.escape(words[-1])}' can't be read: \w.*\n\Z")
+
+    def test_the_name_of_such_a_file_is_shown_escaped(self) -> None:
+        found = ran("plan", "\x1b[2J\u0085")
+        self.assertEqual((found.output, found.status), ("", REFUSED_WORDS))
+        self.assertIsNone(UNSAFE.search(found.said), found.said)
+
+    def test_a_file_whose_read_fails_is_status_7_and_nothing_is_said(self) -> None:
+        for words in (["plan", str(self.room)], ["check", str(BATCH), str(self.room)], ["run", str(self.room)]):
+            self.assertEqual(ran(*words), ("", "", FAILED_STREAM))
+
+
+@unittest.skipUnless(support.program(), "no built program")
+class Quiet(unittest.TestCase):
+    def test_nothing_is_said_of_a_command_line_that_is_refused(self) -> None:
+        for words in (["-q"], ["--quiet"], ["plan", "-q", "--limit"], ["plan", "--quiet", "--limit", "0"], ["plna", "--quiet"],
+                      ["plan", "--trase", "-q"], ["check", "-q", "--legal", "--remember"], ["plan", "-q", "/absent/file"],
+                      ["check", "--quiet", str(BATCH), "/absent/file"], ["plan", "-q", "\x1b"]):
+            self.assertEqual(ran(*words), ("", "", REFUSED_WORDS), words)
+
+    def test_answers_are_the_same_with_messages_and_without(self) -> None:
+        """On each case of the pages of messages."""
+        cases = [case for page in ("messages.cases", "illegal.cases") for case in read_cases([page + ":"])]
+        self.assertGreater(sum(1 for case in cases if case.said), 100)
+        for case in cases:
+            more = [] if is_quiet(case.arguments) else [b"--quiet"]
+            self.assertEqual(ran(*case.arguments, *more, given=case.input), (case.output.decode(), "", case.status), case.place)
+
+
+def is_quiet(arguments: List[bytes]) -> bool:
+    return b"--quiet" in arguments or b"-q" in arguments
+
+
+@unittest.skipUnless(support.program(), "no built program")
+class Streams(unittest.TestCase):
+    GIVEN = ((["plan"], b"bsu,0\nend\n"), (["plan", "--limit", "1"], b""), (["check"], BATCH.read_bytes()), (["run"], b"x"))
+
+    def test_nothing_is_said_where_the_answer_cannot_be_written(self) -> None:
+        for words, given in self.GIVEN:
+            with open("/dev/full", "wb") as full:
+                done = subprocess.run([str(support.program()), *words], input=given, stdout=full, stderr=subprocess.PIPE, timeout=SECONDS)
+            self.assertEqual((done.stderr, done.returncode), (b"", FAILED_STREAM), words)
+
+    def test_nothing_is_said_where_standard_output_is_closed(self) -> None:
+        for words, given in self.GIVEN:
+            line = '"$0" "$@" >&-'
+            done = subprocess.run(["sh", "-c", line, str(support.program()), *words], input=given, stderr=subprocess.PIPE, timeout=SECONDS)
+            self.assertEqual((done.stderr, done.returncode), (b"", FAILED_STREAM), words)
+
+    def test_an_answer_stands_where_standard_error_cannot_be_written(self) -> None:
+        for words, given in self.GIVEN:
+            said = ran(*words, given=given)
+            self.assertTrue(said.said)
+            with open("/dev/full", "wb") as full:
+                done = subprocess.run([str(support.program()), *words], input=given, stdout=subprocess.PIPE, stderr=full, timeout=SECONDS)
+            self.assertEqual((done.stdout.decode(), done.returncode), (said.output, said.status), words)
+            done = subprocess.run(["sh", "-c", '"$0" "$@" 2>&-', str(support.program()), *words], input=given, stdout=subprocess.PIPE,
+                                  timeout=SECONDS)
+            self.assertEqual((done.stdout.decode(), done.returncode), (said.output, said.status), words)
+
+
+@unittest.skipUnless(support.program(), "no built program")
+class OverInARun(unittest.TestCase):
+    def test_a_channel_that_is_over_is_told_what_to_do(self) -> None:
+        """Which operations one plan takes up isn't fixed: the run is made again until two were taken together."""
+        device = "".join(line for line in RUN.read_text().splitlines(keepends=True) if line.startswith(("page,", "sheet,")))
+        operations = "".join(f"op,0,0,{kind},{block % 2},{block},0{data}\n" for block in range(8)
+                             for kind, data in (("read", ""), ("program", ",*11")))
+        for _ in range(200):
+            found = ran("run", "--limit", "1", given=(device + operations + "end\n").encode())
+            self.assertIn(found.status, (0, 6))
+            self.assertEqual(bool(found.said), found.status == 6)
+            if found.status == 6:
+                self.assertRegex(found.said, r"^onfi_sim: 'over,0,1': .*'--limit'.*'batch,N'.*\n\Z")
+                return
+        self.fail("no planning took up two operations")
+
+
+if __name__ == "__main__":
+    unittest.main()
