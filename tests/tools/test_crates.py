@@ -1,0 +1,136 @@
+"""The picture of the crates: what the tool draws, held against crates.txt."""
+
+from __future__ import annotations
+
+import itertools
+import re
+import tempfile
+import unittest
+import xml.etree.ElementTree as ET
+from pathlib import Path
+from typing import Dict, FrozenSet, List, NamedTuple, Set, Tuple
+
+import support
+from onfi_tools import layers
+
+SVG = "{http://www.w3.org/2000/svg}"
+CRATES = (support.ROOT / "crates.txt").read_text()
+PICTURE = support.ROOT / "docs/pictures/crates.svg"
+LINE = re.compile(r"(\w+) stands on (\w+)")
+
+
+class Box(NamedTuple):
+    left: float
+    top: float
+    right: float
+    bottom: float
+
+    def meets(self, x: float, y: float) -> bool:
+        return self.left <= x <= self.right and self.top <= y <= self.bottom
+
+
+def below_of(text: str) -> Dict[str, FrozenSet[str]]:
+    lines = re.findall(r"^(onfi_\w+)[^:\n]*:(.*)$", text, re.MULTILINE)
+    return {name: frozenset(re.findall(r"onfi_\w+", others)) for name, others in lines}
+
+
+def boxes_of(root: ET.Element) -> Dict[str, Box]:
+    found: Dict[str, Box] = {}
+    for group in root.iter(SVG + "g"):
+        rect, text = group.find(SVG + "rect"), group.find(SVG + "text")
+        assert rect is not None and text is not None and text.text
+        left, top, width, height = (float(rect.attrib[name]) for name in ("x", "y", "width", "height"))
+        found[text.text] = Box(left, top, left + width, top + height)
+    return found
+
+
+def lines_of(root: ET.Element) -> Dict[Tuple[str, str], List[Tuple[float, float]]]:
+    found: Dict[Tuple[str, str], List[Tuple[float, float]]] = {}
+    for line in root.iter(SVG + "polyline"):
+        title = LINE.fullmatch(line.findtext(SVG + "title") or "")
+        assert title
+        points = [point.split(",") for point in line.attrib["points"].split()]
+        found[title[1], title[2]] = [(float(x), float(y)) for x, y in points]
+    return found
+
+
+class Picture(unittest.TestCase):
+    drawn = support.run_tool("draw-crates")
+    root = ET.fromstring(drawn.stdout)
+    below = below_of(CRATES)
+
+    def test_the_picture_of_the_pages_is_what_the_tool_draws(self) -> None:
+        self.assertEqual((self.drawn.returncode, self.drawn.stderr), (0, ""))
+        self.assertTrue(self.drawn.stdout == PICTURE.read_text(), "tools/draw-crates > docs/pictures/crates.svg")
+        self.assertIn("](pictures/crates.svg)", (support.ROOT / "docs/ARCHITECTURE.md").read_text())
+
+    def test_each_crate_has_a_box_and_stands_above_others(self) -> None:
+        boxes = boxes_of(self.root)
+        self.assertGreater(len(self.below), 30)
+        self.assertLessEqual(set(self.below), set(boxes))
+        for name, others in self.below.items():
+            for other in others:
+                self.assertLess(boxes[name].bottom, boxes[other].top, f"{name} {other}")
+
+    def test_its_lines_say_what_each_crate_stands_on(self) -> None:
+        drawn: Dict[str, Set[str]] = {name: set() for name in self.below}
+        for upper, lower in lines_of(self.root):
+            self.assertIn(lower, self.below[upper])
+            drawn[upper].add(lower)
+        self.assertEqual(layers.all_below({name: frozenset(it) for name, it in drawn.items()}), layers.all_below(self.below))
+
+    def test_nothing_hides_anything(self) -> None:
+        boxes = boxes_of(self.root)
+        for a, b in itertools.combinations(boxes.values(), 2):
+            self.assertTrue(a.right <= b.left or b.right <= a.left or a.bottom <= b.top or b.bottom <= a.top)
+        for (upper, lower), points in lines_of(self.root).items():
+            self.assertTrue(boxes[upper].meets(*points[0]) and boxes[lower].meets(*points[-1]), f"{upper} {lower}")
+            others = [box for name, box in boxes.items() if name not in (upper, lower)]
+            for (x, y), (u, v) in zip(points, points[1:]):
+                for part in range(101):
+                    at = (x + (u - x) * part / 100, y + (v - y) * part / 100)
+                    self.assertFalse(any(box.meets(*at) for box in others), f"{upper} {lower}")
+        width, height = float(self.root.attrib["width"]), float(self.root.attrib["height"])
+        for box in boxes.values():
+            self.assertTrue(0 <= box.left and box.right <= width and 0 <= box.top and box.bottom <= height)
+
+    def test_tests_and_crates_that_wait_look_so(self) -> None:
+        fills: Dict[str, Tuple[str, bool]] = {}
+        for group in self.root.iter(SVG + "g"):
+            rect = group.find(SVG + "rect")
+            assert rect is not None
+            fills[group.findtext(SVG + "text") or ""] = rect.attrib["fill"], "stroke-dasharray" in rect.attrib
+        for line in CRATES.splitlines():
+            name = line.split(":")[0].split(" ")[0]
+            if name in self.below:
+                like = "may wait" if "may_wait=" in line else "a library"
+                self.assertEqual(fills[name], (fills[like][0], name.endswith("_tests")), name)
+
+
+class Files(unittest.TestCase):
+    def drawn(self, text: str) -> Tuple[int, str, str]:
+        with tempfile.TemporaryDirectory() as folder:
+            path = Path(folder) / "crates.txt"
+            path.write_text(text)
+            ran = support.run_tool("draw-crates", str(path))
+        return ran.returncode, ran.stdout, ran.stderr
+
+    def test_the_kit_and_comments_are_left_out(self) -> None:
+        status, drawing, _ = self.drawn("# low: none\nlow: csv\nhigh staticlib: low csv  # beside\n")
+        self.assertEqual(status, 0)
+        self.assertEqual(list(lines_of(ET.fromstring(drawing))), [("high", "low")])
+        self.assertNotIn("csv", drawing)
+
+    def test_a_line_that_another_way_says_is_left_out(self) -> None:
+        _, drawing, _ = self.drawn("a:\nb: a\nc: a b\n")
+        self.assertEqual(set(lines_of(ET.fromstring(drawing))), {("b", "a"), ("c", "b")})
+
+    def test_a_wrong_order_and_a_missing_file_are_told(self) -> None:
+        self.assertEqual(self.drawn("high: low\nlow:\n"), (1, "", "draw-crates: high stands on low, which stands behind it\n"))
+        ran = support.run_tool("draw-crates", "/no/such")
+        self.assertEqual((ran.returncode, ran.stdout), (1, ""))
+        self.assertIn("/no/such", ran.stderr)
+
+
+if __name__ == "__main__":
+    unittest.main()
