@@ -43,8 +43,8 @@ class Plans(unittest.TestCase):
         self.assertTrue(plan.certificate.startswith(b"ONFICERT 1\n"))
         self.assertEqual(onfi.check(CHANNEL, LUNS, WANTS, plan.schedule, plan.certificate), plan.finish)
 
-    def test_the_lines_of_the_readme(self) -> None:
-        text = (Path(__file__).resolve().parent.parent.parent / "README.md").read_text()
+    def test_the_lines_of_the_page(self) -> None:
+        text = (Path(__file__).resolve().parent.parent.parent / "docs/LIBRARIES.md").read_text()
         block = re.search(r"^    from onfi import .*\n(?:(?:    .*)?\n)*", text, re.MULTILINE)
         assert block
         names: Dict[str, Any] = {}

@@ -96,7 +96,7 @@ class Examples(unittest.TestCase):
         shown = [(ROOT / "CONTRIBUTING.md", "pub fn unrow", ROOT / "crates/onfi_addr/src/geometry.rt"),
                  (ROOT / "CONTRIBUTING.md", "opened: limit", bodies / "over_always.edit"),
                  (ROOT / "CONTRIBUTING.md", "u32::MAX", bodies / "over_always.twin"),
-                 (ROOT / "README.md", "Problem::new", ROOT / "examples/rattle/README.md")]
+                 (ROOT / "docs/LIBRARIES.md", "Problem::new", ROOT / "examples/rattle/README.md")]
         for page, word, source in shown:
             blocks = [block for block in re.findall(r"(?:^    .*\n)+", page.read_text(), re.MULTILINE) if word in block]
             lines = [line.strip() for line in source.read_text().splitlines()]

@@ -1,0 +1,105 @@
+"""The words of the pages: the glossary, the length of README, and the sections of the standard that the code cites."""
+
+from __future__ import annotations
+
+import re
+import unittest
+from typing import Dict, List, Tuple
+
+import support
+from definitions import Definitions
+
+ROOT = support.ROOT
+GLOSSARY = (ROOT / "docs/GLOSSARY.md").read_text()
+README = (ROOT / "README.md").read_text()
+DEFINITIONS = (ROOT / "docs/DEFINITIONS.md").read_text()
+# Words of README and of answers that no reader should have to guess.
+WANTED = """LUN, plane, block, page, parameter page, timing sheet, row address, R/B, opener, closer, phase, post, group, want, batch, bound, node, over,
+limit, certificate, token, finish, legal, optimal, schedule, plan, script, strict, die model, rightful, host, core, sequencer, turn, gate, channel, clause,
+definition, law, lemma, kit, case, trial, wrong body, twin, trace, remember, yield, gap, array time, move, demand, window, part"""
+
+
+def tables_of(text: str) -> List[List[Tuple[str, str]]]:
+    sections = text.split("\n## ")[1:]
+    rows = [[line.strip("| ").split(" | ") for line in section.splitlines() if line.startswith("| ")][1:] for section in sections]
+    return [[(word, meaning) for word, meaning in table] for table in rows]
+
+
+class Glossary(unittest.TestCase):
+    tables = tables_of(GLOSSARY)
+
+    def test_each_word_stands_once_in_order_with_a_short_line(self) -> None:
+        seen: List[str] = []
+        for table in self.tables:
+            self.assertGreater(len(table), 5)
+            words = [word.lower() for word, _ in table]
+            plain = [word.replace("/", "") for word in words]
+            self.assertEqual(plain, sorted(plain))
+            seen += words
+            for word, meaning in table:
+                self.assertLessEqual(len(meaning.split()), 30, word)
+        self.assertEqual(len(seen), len(set(seen)))
+
+    def test_words_that_readers_meet_are_there(self) -> None:
+        known = {word for table in self.tables for word, _ in table}
+        for word in re.split(r",\s*", WANTED):
+            self.assertIn(word, known)
+
+    def test_its_words_are_used(self) -> None:
+        pages = [ROOT / "README.md", ROOT / "CONTRIBUTING.md", *(ROOT / "docs").glob("*.md")]
+        text = "\n".join(page.read_text() for page in pages if page.name != "GLOSSARY.md").lower()
+        for table in self.tables:
+            for word, _ in table:
+                if word != "R/B":
+                    stem = re.escape(word.lower().rstrip("y"))
+                    self.assertRegex(text, rf"\b{stem}", word)
+
+
+class Readme(unittest.TestCase):
+    def test_it_takes_two_screens(self) -> None:
+        self.assertLessEqual(len(README.splitlines()), 120)
+
+    def test_the_glossary_is_told_before_the_first_heading(self) -> None:
+        self.assertIn("](docs/GLOSSARY.md)", README.split("\n## ")[0])
+
+
+class Sections(unittest.TestCase):
+    section = DEFINITIONS.split("## Which section each rule comes from")[1]
+
+    def cited(self) -> Dict[str, str]:
+        """The titles of sections that doc comments cite, with the file of each."""
+        found: Dict[str, str] = {}
+        for path in sorted((ROOT / "crates").glob("*/src/**/*.rt")):
+            text = re.sub(r"\n\s*//[/!]?\s*", " ", path.read_text())
+            for titles in re.findall(r"\(ONFI 4\.2, ([^)]*)\)", text):
+                for title in re.split(r"; | and |, ", titles):
+                    if not title.startswith("bit "):
+                        found[re.sub(r" bit \d+$", "", title)] = path.name
+        return found
+
+    def test_each_section_that_the_code_cites_has_a_row(self) -> None:
+        titles = self.cited()
+        self.assertGreater(len(titles), 8)
+        first = "\n".join(line.split(" | ")[0] for line in self.section.splitlines() if line.startswith("| "))
+        for title, path in titles.items():
+            self.assertIn(title, first, path)
+
+    def test_no_number_of_a_section_is_told(self) -> None:
+        for text in (self.section, *self.cited()):
+            self.assertNotRegex(text, r"§|[Ss]ection \d|\b\d+\.\d+\.\d+")
+
+    def test_its_definitions_are_where_they_are_said_to_be(self) -> None:
+        known = Definitions().found
+        rows = [line for line in self.section.splitlines() if line.startswith("| ")][1:]
+        self.assertGreater(len(rows), 10)
+        for row in rows:
+            cell = row.rsplit(" | ", 1)[1]
+            parts = re.findall(r"([^(]*)\(\[\w+\]\(\.\./crates/(\w+)/specs/(\w+)\.antt\)\)", cell)
+            self.assertTrue(parts, row)
+            for names, crate, module in parts:
+                for name in re.findall(r"`(\w+)`", names):
+                    self.assertIn((crate, module, name), known)
+
+
+if __name__ == "__main__":
+    unittest.main()
