@@ -77,6 +77,15 @@ class Proofs(unittest.TestCase):
             for name in NAME.findall(row.definition):
                 self.assertTrue(f"`{name}`" in told, f"{row.promise}: {name}")
 
+    def test_each_call_of_the_readme_has_its_clause_here(self) -> None:
+        told = {name for row in self.rows for names, _ in parts_of(row.clause) for name in names}
+        for row in test_claims.rows_of_readme():
+            calls = [name.split("::")[-1] for name in re.findall(r"`([\w:]+)`", row.clause)]
+            for call in calls:
+                if call not in test_claims.CRATES and call[0].islower():
+                    self.assertTrue(call in told, f"{row.promise}: {call}")
+        self.assertIn("](docs/PROOFS.md)", (support.ROOT / "README.md").read_text().split("## What is promised")[1])
+
     def test_each_call_and_clause_stands_in_its_file(self) -> None:
         self.assertGreater(len(self.rows), 20)
         for row in self.rows:
