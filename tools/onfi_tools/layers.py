@@ -11,6 +11,8 @@ Line = Tuple[str, str]
 
 ORDERINGS, SPREADINGS = 24, 600
 BOX, BEND, BESIDE = 122, 10, 14
+# How much of the way to the middle of the drawing each thing is drawn besides.
+PULL = 0.06
 
 
 class Place(NamedTuple):
@@ -128,9 +130,10 @@ class Layout:
         self.order()
         x = {name: float(at * (BOX + BESIDE)) for row in self.rows for at, name in enumerate(row)}
         for sweep in range(SPREADINGS):
+            middle = statistics.fmean(x.values()) if x else 0.0
             for row in self.rows if sweep % 2 else reversed(self.rows):
-                wanted = [statistics.fmean(x[it] for it in self.tied(name)) if self.tied(name) else x[name] for name in row]
-                x.update(zip(row, self.spread(wanted, row)))
+                ties = [statistics.fmean(x[it] for it in self.tied(name)) if self.tied(name) else x[name] for name in row]
+                x.update(zip(row, self.spread([PULL * middle + (1 - PULL) * it for it in ties], row)))
         least = min((x[name] - self.width(name) / 2 for name in x), default=0)
         places = {name: Place(round(x[name] - least), self.layer[name]) for name in x}
         return Drawing({name: places[name] for name in self.boxes_in_order()}, {line: [places[it] for it in way] for line, way in self.ways.items()})
