@@ -18,7 +18,7 @@ below = $(filter onfi_%,$(shell sed -n 's/^$(1)\( [^:]*\)\{0,1\}://p' crates.txt
 proved = $(patsubst %,crates/%/out/proved,$(1))
 sources_of = $(shell find $(wildcard crates/$(1)/src crates/$(1)/specs crates/$(1)/proofs) -type f)
 # What the library for C stands on, and what the program does.
-LIBRARIES := $(sort $(foreach crate,$(call below,onfi_script),$(call below,$(crate)) $(crate))) onfi_script
+LIBRARIES := $(sort $(foreach crate,$(call below,onfi_c),$(call below,$(crate)) $(crate)))
 PROGRAM := $(sort $(LIBRARIES) $(foreach crate,$(call below,onfi_sim),$(foreach lower,$(call below,$(crate)) $(crate),$(call below,$(lower)) $(lower))))
 
 # The crates are a chain but for one. So some are proved ahead, beside the crates named here, from their sources.

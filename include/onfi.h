@@ -49,6 +49,7 @@ enum { ONFI_LUNS = 8, ONFI_WANTS = 8, ONFI_MEMBERS = 4, ONFI_STARTS = 8 };
 
 /* What a call answers. onfi_status_text gives a text of each. */
 enum onfi_status {
+    /* from here on written by tools/make-statuses */
     ONFI_DONE = 0, /* All went well. */
     ONFI_NO_ROOM = 3, /* A text is longer than the room for it. */
     ONFI_MEMORY = 4, /* Memory was refused. */
@@ -64,8 +65,16 @@ enum onfi_status {
     ONFI_TOO_MANY = 20, /* More than eight wants, no LUN, or more than eight. */
     ONFI_BAD_LUN = 21, /* A want or a running group that the LUNs can't have. */
     ONFI_CLOCK = 22, /* Times that reach 2^62 ns. */
+    ONFI_BAD_PLACE = 23, /* A LUN, block or page that the device doesn't have. */
+    ONFI_BAD_GEOMETRY = 24, /* A geometry that no parameter page gives. */
+    ONFI_BAD_CHOICE = 25, /* The choice of a batch is above 2. */
+    ONFI_BAD_BATCH = 26, /* A batch of no request, or of more than eight. */
+    ONFI_BAD_ORDER = 27, /* Numbers of requests don't rise, or reach the count of all that were accepted. */
     /* schedules */
     ONFI_BAD_SCHEDULE = 30, /* A count of a schedule is out of its range, or a start is 2^63 ns or more. */
+    ONFI_NOTHING_DUE = 31, /* No phase of the schedule is left. */
+    ONFI_NOT_DUE = 33, /* The phase isn't the one that is due. */
+    ONFI_TOO_SOON = 34, /* The phase started before it may. */
     /* texts of certificates */
     ONFI_BAD_HEADER = 40, /* The header line is none of a certificate. */
     ONFI_BAD_TOKEN = 41, /* No token stands at the place, or so many good ones do and the text doesn't end with one LF behind them. */
@@ -80,6 +89,7 @@ enum onfi_status {
     ONFI_YIELD_NO_FIT = 55, /* A move of the LUN that is yielded to doesn't end in time, or there is none. */
     ONFI_YIELD_LOOP = 56, /* A move yields to its own LUN, to one that yields, or was yielded to. */
     ONFI_NOT_END = 57, /* Something is left to do, or less time has passed. */
+    ONFI_ENDS_BEFORE = 58, /* The schedule ends before the time that is told. */
     /* parameter pages */
     ONFI_PAGE_SHORT = 60, /* A parameter page has fewer than 256 bytes. */
     ONFI_NO_COPY = 61, /* No copy of a parameter page has two signature bytes and the right check value. */
@@ -106,6 +116,7 @@ enum onfi_status {
     ONFI_OTHER_LEFT = 91, /* Something else is left at the node that is named. */
     ONFI_SOONER = 92, /* A LUN may go on sooner than is asked at the node that is named. */
     ONFI_TOO_MANY_NODES = 93 /* More than 1,048,576 open nodes. */
+    /* until here */
 };
 
 /* What the calls onfi_text_.. answer besides ONFI_DONE, ONFI_NO_ROOM, ONFI_MEMORY, ONFI_BAD_LIMIT and ONFI_OVER. */
@@ -113,6 +124,9 @@ enum { ONFI_SCRIPT_REFUSED = 1, ONFI_PLAN_REFUSED = 2 };
 
 /* Kinds of requests. */
 enum onfi_kind { ONFI_READ = 0, ONFI_PROGRAM = 1, ONFI_ERASE = 2 };
+
+/* How a batch is chosen: the oldest requests; by LUN, the one that comes free first at first; by LUN, and of each its reads first. */
+enum onfi_choice { ONFI_IN_ORDER = 0, ONFI_BY_LUN = 1, ONFI_READS_FIRST = 2 };
 
 /* How long the phases of a kind take, in ns. */
 typedef struct onfi_spans {
@@ -185,6 +199,18 @@ typedef struct onfi_planned {
     uint32_t opened;        /* how many nodes the search opened, at least 1 */
 } onfi_planned;
 
+typedef struct onfi_within {
+    onfi_schedule schedule; /* places that it doesn't fill are 0 */
+    uint64_t finish;        /* when its last phase ends, in ns; where there is none, from when on the bus is free */
+    uint64_t below;         /* nothing ends before this time, in ns; the schedule is optimal where it is the finish */
+} onfi_within;
+
+/* How much each request counts: one of weight 2 counts as two of weight 1, and one of weight 0 doesn't. */
+typedef struct onfi_weights {
+    uint16_t want[ONFI_WANTS];                  /* by the place in the list of wants; others mean nothing */
+    uint16_t running[ONFI_LUNS][ONFI_MEMBERS];  /* of each LUN's running group, by the place of the member; others mean nothing */
+} onfi_weights;
+
 typedef struct onfi_verdict {
     uint64_t finish; /* when the schedule ends, in ns, where it is accepted; else 0 */
     uint64_t place;  /* the token that a refusal speaks of, counted from 0; else 0 */
@@ -212,6 +238,24 @@ typedef struct onfi_device {
     onfi_rules rules; /* not strict: a page doesn't tell */
     onfi_geometry geometry;
 } onfi_device;
+
+/* A phase on the bus: a command with its address and data, or a post, which is a data output or a status byte. */
+typedef struct onfi_phase {
+    uint64_t start;     /* when it starts by the schedule, in ns */
+    uint64_t end;       /* when it ends if it starts then, in ns */
+    uint64_t want;      /* the id of its request; of a running group's the id that the member has in the list of LUNs */
+    uint32_t row;       /* the row address of its page */
+    uint16_t block;
+    uint16_t page;
+    uint8_t lun;
+    uint8_t kind;       /* an onfi_kind */
+    uint8_t number;     /* its number in its group: commands are 0 .., posts follow */
+    uint8_t members;    /* how many requests its group has */
+    uint8_t opener;     /* the first command byte (ONFI 4.2): 00h, 80h, 60h; of a data output 06h, of a status 78h */
+    uint8_t closer;     /* the last one: 30h, 10h, D0h; with more of its group behind it 32h, 11h, D1h; of a data output E0h; of a status 0: none */
+    uint8_t row_cycles; /* how many cycles of the row address, lowest byte first */
+    bool is_post;
+} onfi_phase;
 
 /*
  * The ONFI_VERSION_NUMBER of the library. A program whose header has a greater one may use calls that the library doesn't
@@ -246,6 +290,29 @@ uint32_t onfi_plan_known(const onfi_channel *channel, const onfi_lun *luns, size
                          uint32_t limit, onfi_planned *plan, uint8_t *certificate, size_t certificate_room, size_t *certificate_bytes);
 
 /*
+ * Plans as onfi_plan_known does, and always gives a plan: where a search opened `limit` nodes and isn't over, the best that
+ * was found, with the text of a certificate that nothing ends before plan->below, for onfi_check_within. plan->below is
+ * less than plan->finish only where the search tree has more nodes than the limit. 65,536 nodes were enough in nearly all
+ * batches that were tried.
+ *
+ * The same is told, and never ONFI_OVER.
+ */
+uint32_t onfi_plan_within(const onfi_channel *channel, const onfi_lun *luns, size_t lun_count, const onfi_want *wants, size_t want_count,
+                          uint32_t limit, onfi_within *plan, uint8_t *certificate, size_t certificate_room, size_t *certificate_bytes);
+
+/*
+ * Plans as onfi_plan_within does, and makes the plan better: requests end early. What counts is the sum over all requests of
+ * their weight times the end of their last phase. The plan never counts for more than the one it was made from; that none
+ * counts for less isn't promised. With `slack` it may end later, by so many thousandths, 1,000 at most, of what lies
+ * between channel->bus_free and plan->below; onfi_check_within judges it.
+ *
+ * What onfi_plan_within tells is told.
+ */
+uint32_t onfi_plan_early(const onfi_channel *channel, const onfi_lun *luns, size_t lun_count, const onfi_want *wants, size_t want_count,
+                         uint32_t limit, const onfi_weights *weights, uint16_t slack,
+                         onfi_within *plan, uint8_t *certificate, size_t certificate_room, size_t *certificate_bytes);
+
+/*
  * Checks by the text of a certificate that no legal schedule of the wants ends sooner than this one. Whoever made the two
  * need not be trusted.
  *
@@ -265,6 +332,66 @@ uint32_t onfi_check(const onfi_channel *channel, const onfi_lun *luns, size_t lu
  */
 uint32_t onfi_check_known(const onfi_channel *channel, const onfi_lun *luns, size_t lun_count, const onfi_want *wants, size_t want_count,
                           const onfi_schedule *schedule, const uint8_t *certificate, size_t certificate_bytes, onfi_verdict *verdict);
+
+/*
+ * Checks by the text of a certificate that remembers states that no legal schedule of the wants ends before `below`, in ns,
+ * and that this one is legal and doesn't either. verdict->finish says when it ends; it is optimal where it ends then.
+ *
+ * What onfi_check_known tells is told, and behind ONFI_ILLEGAL ONFI_ENDS_BEFORE where the schedule ends before `below`.
+ */
+uint32_t onfi_check_within(const onfi_channel *channel, const onfi_lun *luns, size_t lun_count, const onfi_want *wants, size_t want_count,
+                           const onfi_schedule *schedule, uint64_t below, const uint8_t *certificate, size_t certificate_bytes, onfi_verdict *verdict);
+
+/*
+ * Chooses a batch of at most `batch` requests, 1 to 8, of the want_count that wait, which may be more than eight: chosen[0 ..
+ * *chosen_count - 1] are their places in the list of wants. The list is in acceptance order, each id is the place of
+ * acceptance, and `accepted` counts all that were accepted: those that are missing behind a want started before it.
+ * ONFI_IN_ORDER takes the oldest. By the other choices LUNs give in turn, the one that comes free first at first, each its
+ * oldest request, or by ONFI_READS_FIRST its oldest read, else program, else erase, with those that can join its group.
+ * Of two requests on one block the later is chosen only with the earlier; the batch is full, or all are chosen; and once 64
+ * later ones started before the oldest, it is chosen.
+ *
+ * ONFI_DONE; else nothing is given, and told is the first of: ONFI_ZERO_SPAN or ONFI_LONG_SPAN of reads, programs, erases;
+ * ONFI_BAD_PLANE_BITS; ONFI_BAD_MEMBERS; ONFI_BAD_KIND; ONFI_BAD_CHOICE; ONFI_BAD_BATCH; ONFI_BAD_ORDER; ONFI_MEMORY.
+ */
+uint32_t onfi_choose(const onfi_channel *channel, const onfi_lun *luns, size_t lun_count, const onfi_want *wants, size_t want_count,
+                     uint64_t accepted, uint8_t choice, uint8_t batch, size_t chosen[ONFI_WANTS], size_t *chosen_count);
+
+/*
+ * Tells the phase that is due: the undone one of least start, with its address and its command bytes. `schedule` is what is
+ * left of a plan of these LUNs and wants, or any other legal schedule of them.
+ *
+ * ONFI_DONE; else nothing is given, and told is the first of the channel's and the problem's faults as by onfi_plan;
+ * ONFI_BAD_SCHEDULE; ONFI_ILLEGAL, where the schedule isn't legal for what is said; ONFI_BAD_GEOMETRY; ONFI_NOTHING_DUE;
+ * ONFI_BAD_PLACE, where the device doesn't have the page. ONFI_MEMORY may stand in place of any behind ONFI_BAD_KIND.
+ */
+uint32_t onfi_due(const onfi_channel *channel, const onfi_lun *luns, size_t lun_count, const onfi_want *wants, size_t want_count,
+                  const onfi_geometry *geometry, const onfi_schedule *schedule, onfi_phase *phase);
+
+/*
+ * Makes of all that is said what stands behind the phase that is due, once it ran from `started` on, in ns: the bus is free
+ * from its end; its LUN goes on with its group, or is free behind the last post; a group that began has left the wants and
+ * runs on its LUN; and all starts that are left are later by as much as `started` is behind the phase's start. The first
+ * *want_count of the wants wait, of ONFI_WANTS places; what is behind them stays as it is. `lun` and `number` are those of
+ * the phase, as onfi_due tells them.
+ *
+ * A phase may start late, and the rest waits for it: the schedule stays legal, so channel->bus_free and the LUNs stay what
+ * this call made of them until a new plan is made. A LUN that is ready early may be told so by a lesser `since`.
+ *
+ * ONFI_DONE; else all is as it was, and told is the first of: ONFI_TOO_MANY, where *want_count is above ONFI_WANTS; the
+ * channel's and the problem's faults as by onfi_plan; ONFI_BAD_SCHEDULE; ONFI_ILLEGAL; ONFI_NOTHING_DUE; ONFI_NOT_DUE, where
+ * another phase is due; ONFI_TOO_SOON, where `started` is before its start; ONFI_CLOCK, where a phase would start at 2^62 ns
+ * or later. ONFI_MEMORY may stand in place of any behind ONFI_BAD_KIND.
+ */
+uint32_t onfi_ran(onfi_channel *channel, onfi_lun *luns, size_t lun_count, onfi_want wants[ONFI_WANTS], size_t *want_count,
+                  onfi_schedule *schedule, uint8_t lun, uint8_t number, uint64_t started);
+
+/*
+ * The row address of a page (ONFI 4.2, addressing): page, block and LUN number, from low to high bits.
+ *
+ * ONFI_DONE; else *row is as it was, and told is ONFI_BAD_GEOMETRY, or ONFI_BAD_PLACE, where the device doesn't have the page.
+ */
+uint32_t onfi_row(const onfi_geometry *geometry, uint8_t lun, uint16_t block, uint16_t page, uint32_t *row);
 
 /*
  * Reads a device from the bytes of its parameter page, with as many redundant copies as there are, and from the text of a

@@ -1,13 +1,15 @@
 /*
- * A static pool in place of an allocator, for a machine without one: the three functions that libonfi.a asks for memory.
+ * malloc, realloc and free over one static array, for a machine without an allocator: libonfi.a asks for no other function.
  *
- *     cc -std=c11 -c pool.c -DPOOL_BYTES=65536
- *     cc -std=c11 batch.c pool.o libonfi.a -o batch
+ *     cc -std=c99 -c pool.c -DPOOL_BYTES=65536
+ *     cc -std=c99 batch.c pool.o libonfi.a -o batch
  *
- * A call of the library gives back all memory before it returns. So blocks are laid one behind another, and the pool is
- * empty again once as many were given back as were taken. Where a block doesn't fit, the call answers ONFI_MEMORY.
- * It is for one thread; pool_peak tells how much a program has needed.
+ * The first free place that is large enough is taken, and free places beside each other become one. Where none is large enough,
+ * the call of the library answers ONFI_MEMORY. It is for one thread. A call of the library gives back all memory before it returns.
+ *
+ * pool_peak tells how much of the array was ever in use. stack_paint and stack_note, around a call, tell how deep the stack went.
  */
+#include <stdbool.h>
 #include <stddef.h>
 #include <stdint.h>
 #include <string.h>
@@ -16,80 +18,146 @@
 #define POOL_BYTES (1u << 20)
 #endif
 
-enum { UNIT = 16 }; /* as malloc aligns; before each block a unit holds its length */
+/* What the array is made of: as large as malloc aligns. A block is a unit that says how many follow, and these. */
+typedef union {
+    struct {
+        size_t units;
+        bool is_used;
+    } block;
+    long double number;
+    void *pointer;
+} unit;
 
-static _Alignas(UNIT) unsigned char pool[POOL_BYTES / UNIT * UNIT];
-static size_t top, taken, peak;
+enum { UNITS = POOL_BYTES / sizeof(unit) };
+
+static unit pool[UNITS];
+static size_t peak; /* in units */
 
 void *malloc(size_t bytes);
 void *realloc(void *block, size_t bytes);
 void free(void *block);
 size_t pool_peak(void);
 
-static size_t *length_of(void *block)
+/* How many units hold so many bytes; at least one. */
+static size_t units_of(size_t bytes)
 {
-    return (size_t *)((unsigned char *)block - UNIT);
+    return bytes ? (bytes - 1) / sizeof(unit) + 1 : 1;
 }
 
-/* The end of a block of the pool, counted from the pool's beginning. */
-static size_t end_of(void *block)
+static size_t behind(size_t at)
 {
-    return (size_t)((unsigned char *)block - pool) + *length_of(block);
+    return at + 1 + pool[at].block.units;
 }
 
-static size_t rounded(size_t bytes)
+/* Joins a block with the free ones behind it. */
+static void join(size_t at)
 {
-    return bytes ? (bytes + UNIT - 1) / UNIT * UNIT : UNIT;
+    while (behind(at) < UNITS && !pool[behind(at)].block.is_used)
+        pool[at].block.units += 1 + pool[behind(at)].block.units;
 }
 
-static void raise_top(size_t to)
+/* Takes so many units of a block that has them, and leaves the rest as a free one. */
+static void *take(size_t at, size_t units)
 {
-    top = to;
-    if (top > peak)
-        peak = top;
+    if (pool[at].block.units > units) {
+        size_t rest = at + 1 + units;
+        pool[rest].block.units = pool[at].block.units - units - 1;
+        pool[rest].block.is_used = false;
+        pool[at].block.units = units;
+    }
+    pool[at].block.is_used = true;
+    if (behind(at) > peak)
+        peak = behind(at);
+    return &pool[at + 1];
 }
 
 void *malloc(size_t bytes)
 {
-    if (bytes > sizeof pool || rounded(bytes) + UNIT > sizeof pool - top)
+    if (bytes >= sizeof pool)
         return NULL;
-    unsigned char *block = pool + top + UNIT;
-    *length_of(block) = rounded(bytes);
-    raise_top(top + UNIT + rounded(bytes));
-    taken++;
-    return block;
+    if (pool[0].block.units == 0) /* nothing was asked for before */
+        pool[0].block.units = UNITS - 1;
+    for (size_t at = 0; at < UNITS; at = behind(at)) {
+        if (pool[at].block.is_used)
+            continue;
+        join(at);
+        if (pool[at].block.units >= units_of(bytes))
+            return take(at, units_of(bytes));
+    }
+    return NULL;
+}
+
+/* The place of a block of the pool; UNITS where it is none, as what a C library had before. */
+static size_t place_of(const void *block)
+{
+    uintptr_t at = (uintptr_t)block, first = (uintptr_t)pool;
+    return at > first && at - first < sizeof pool ? (at - first) / sizeof(unit) - 1 : UNITS;
 }
 
 void free(void *block)
 {
-    uintptr_t at = (uintptr_t)block, first = (uintptr_t)pool;
-    if (at < first || at - first >= sizeof pool)
-        return; /* none of the pool's */
-    if (end_of(block) == top)
-        top -= *length_of(block) + UNIT;
-    if (--taken == 0)
-        top = 0;
+    size_t at = place_of(block);
+    if (at < UNITS)
+        pool[at].block.is_used = false;
 }
 
 void *realloc(void *block, size_t bytes)
 {
-    if (!block)
+    size_t at = place_of(block);
+    if (at == UNITS)
         return malloc(bytes);
-    size_t old = *length_of(block), start = end_of(block) - old;
-    if (end_of(block) == top && bytes <= sizeof pool && rounded(bytes) <= sizeof pool - start) {
-        *length_of(block) = rounded(bytes);
-        raise_top(start + rounded(bytes));
-        return block;
-    }
+    size_t old = pool[at].block.units * sizeof(unit);
+    if (bytes >= sizeof pool)
+        return NULL;
+    join(at);
+    if (pool[at].block.units >= units_of(bytes))
+        return take(at, units_of(bytes));
+    (void)take(at, units_of(old)); /* what was joined isn't enough */
     void *moved = malloc(bytes);
     if (!moved)
         return NULL;
-    memcpy(moved, block, old < bytes ? old : bytes);
+    memcpy(moved, block, old);
     free(block);
     return moved;
 }
 
 size_t pool_peak(void)
 {
-    return peak;
+    return peak * sizeof(unit);
+}
+
+/* The stack. */
+
+enum { PAINTED = 1 << 15, PAINT = 0x5A }; /* words, 256 kilobytes */
+
+static uintptr_t painted; /* the lowest address */
+static size_t deepest;
+
+void stack_paint(void);
+void stack_note(void);
+size_t stack_peak(void);
+
+/* Fills the stack below the caller, as far as 256 kilobytes. */
+void stack_paint(void)
+{
+    volatile uint64_t room[PAINTED];
+    for (size_t at = 0; at < PAINTED; at++)
+        room[at] = PAINT;
+    painted = (uintptr_t)room;
+}
+
+/* Looks how much of that was written over since. */
+void stack_note(void)
+{
+    size_t left = 0;
+    while (left < PAINTED && ((volatile uint64_t *)painted)[left] == PAINT)
+        left++;
+    if ((PAINTED - left) * sizeof(uint64_t) > deepest)
+        deepest = (PAINTED - left) * sizeof(uint64_t);
+}
+
+/* How deep calls between the two went, in bytes. */
+size_t stack_peak(void)
+{
+    return deepest;
 }

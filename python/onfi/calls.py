@@ -3,15 +3,16 @@
 from __future__ import annotations
 
 import ctypes
-from typing import Callable, Sequence, Tuple
+from typing import Callable, List, Sequence, Tuple, Union
 
 from onfi.library import library
-from onfi.model import Answer, Channel, Device, Lun, Plan, Schedule, Want
+from onfi.model import Answer, Channel, Choice, Device, Geometry, Lun, Phase, Plan, PlanWithin, Schedule, Stand, Want
 from onfi.refused import REFUSALS, Memory, Refused
-from onfi.structs import CChannel, CDevice, CLun, CPlan, CSchedule, CVerdict, CWant
+from onfi.structs import WANTS, CChannel, CDevice, CGeometry, CLun, CPhase, CPlan, CSchedule, CVerdict, CWant, CWeights, CWithin, number
 
 DONE, NO_ROOM, MEMORY = 0, 3, 4
 MOST_NODES = 1_048_576
+USUAL_NODES = 65_536
 FIRST_ROOM = 4096
 
 
@@ -72,14 +73,57 @@ def plan_known(channel: Channel, luns: Sequence[Lun], wants: Sequence[Want], lim
     return planned(library().onfi_plan_known, Problem(channel, luns, wants), limit)
 
 
+def plan_within(channel: Channel, luns: Sequence[Lun], wants: Sequence[Want], limit: int = USUAL_NODES) -> PlanWithin:
+    """The same, and always a plan: where a search opened `limit` nodes and isn't over, the best that was found.
+
+    Its certificate, for `check_within`, shows that nothing ends before the plan's `below`, which is less than its finish
+    only where the search tree has more nodes than the limit.
+
+    Raises what `plan` does but `Over`.
+    """
+    made = CWithin()
+    certificate = written(library().onfi_plan_within, Problem(channel, luns, wants), limit, made)
+    return PlanWithin(made.schedule.told(), made.finish, made.below, certificate)
+
+
+def plan_early(
+    channel: Channel,
+    luns: Sequence[Lun],
+    wants: Sequence[Want],
+    weights: Sequence[int] = (),
+    slack: int = 0,
+    limit: int = USUAL_NODES,
+    running: Sequence[Sequence[int]] = (),
+) -> PlanWithin:
+    """The same, made better: requests end early, each by its weight.
+
+    `weights` tells those of wants by their places, `running` those of each LUN's running group by the places of its members;
+    1 counts where none is told. The sum of weight times end over all requests is no more than that of the plan it was made
+    from; that none has less isn't promised. With `slack` the plan may end later, by so many thousandths, 1,000 at most, of
+    what lies between the time from when on the bus is free and the plan's `below`; `check_within` judges it.
+
+    Raises what `plan_within` does; `ValueError` where a weight or the slack isn't below 65,536.
+    """
+    made = CWithin()
+    told = (ctypes.byref(CWeights.of(weights, running)), number(slack, 1 << 16, "a slack"))
+    certificate = written(library().onfi_plan_early, Problem(channel, luns, wants), limit, made, *told)
+    return PlanWithin(made.schedule.told(), made.finish, made.below, certificate)
+
+
 def planned(call: Callable[..., int], said: Problem, limit: int) -> Plan:
     made = CPlan()
+    certificate = written(call, said, limit, made)
+    return Plan(made.schedule.told(), made.finish, made.opened, certificate)
+
+
+def written(call: Callable[..., int], said: Problem, limit: int, made: Union[CPlan, CWithin], *words: object) -> bytes:
+    """The text of the certificate that a call writes beside its plan."""
     if not 0 <= limit < 1 << 32:
         raise refusal(5)
-    status, certificate = with_room(lambda *room: call(*said.words, limit, ctypes.byref(made), *room))
+    status, certificate = with_room(lambda *room: call(*said.words, limit, *words, ctypes.byref(made), *room))
     if status != DONE:
         raise refusal(status)
-    return Plan(made.schedule.told(), made.finish, made.opened, certificate)
+    return certificate
 
 
 def check(channel: Channel, luns: Sequence[Lun], wants: Sequence[Want], schedule: Schedule, certificate: bytes) -> int:
@@ -100,13 +144,90 @@ def check_known(channel: Channel, luns: Sequence[Lun], wants: Sequence[Want], sc
     return judged(library().onfi_check_known, Problem(channel, luns, wants), schedule, certificate)
 
 
-def judged(call: Callable[..., int], said: Problem, schedule: Schedule, certificate: bytes) -> int:
+def check_within(channel: Channel, luns: Sequence[Lun], wants: Sequence[Want], schedule: Schedule, below: int, certificate: bytes) -> int:
+    """When the schedule ends, in ns, where it is legal and the certificate shows that no legal schedule ends before `below`.
+
+    The schedule is optimal where that is its end. Raises what `check_known` does, and behind `Illegal` `EndsBefore`, where
+    the schedule ends before `below`.
+    """
+    number(below, 1 << 64, "a time")
+    return judged(library().onfi_check_within, Problem(channel, luns, wants), schedule, certificate, below)
+
+
+def judged(call: Callable[..., int], said: Problem, schedule: Schedule, certificate: bytes, *below: int) -> int:
     verdict = CVerdict()
-    status = call(*said.words, ctypes.byref(CSchedule.of(schedule)), certificate, len(certificate), ctypes.byref(verdict))
+    status = call(*said.words, ctypes.byref(CSchedule.of(schedule)), *below, certificate, len(certificate), ctypes.byref(verdict))
     if status != DONE:
         raise refusal(status, verdict.place)
     finish: int = verdict.finish
     return finish
+
+
+def choose(
+    channel: Channel,
+    luns: Sequence[Lun],
+    wants: Sequence[Want],
+    accepted: int,
+    choice: Choice = Choice.BY_LUN,
+    batch: int = WANTS,
+) -> List[int]:
+    """The places, in the list of the requests that wait, of those that a batch of at most `batch` takes, 1 to 8; they rise.
+
+    The list is in acceptance order and may have more than eight; each id is the place of acceptance, and `accepted` counts
+    all that were accepted. Of two requests on one block the later is chosen only with the earlier; the batch is full, or all
+    are chosen; and once 64 later ones started before the oldest, it is chosen.
+
+    Raises what `plan` raises of lengths, plane bits, members and kinds; `BadChoice`, `BadBatch`, `BadOrder`; `Memory`.
+    """
+    said, chosen, count = Problem(channel, luns, wants), (ctypes.c_size_t * WANTS)(), ctypes.c_size_t()
+    words = (number(accepted, 1 << 64, "a count"), number(choice, 256, "a choice"), number(batch, 256, "a batch"))
+    status = library().onfi_choose(*said.words, *words, ctypes.byref(chosen), ctypes.byref(count))
+    if status != DONE:
+        raise refusal(status)
+    return chosen[: count.value]
+
+
+def due(channel: Channel, luns: Sequence[Lun], wants: Sequence[Want], geometry: Geometry, schedule: Schedule) -> Phase:
+    """The phase that is due of a legal schedule: the undone one of least start, with its address and its command bytes.
+
+    Raises what `plan` raises of the channel; `BadSchedule`, `Illegal`, `BadGeometry`, `NothingDue`, `BadPlace`; `Memory`.
+    """
+    said, phase = Problem(channel, luns, wants), CPhase()
+    status = library().onfi_due(*said.words, ctypes.byref(CGeometry.of(geometry)), ctypes.byref(CSchedule.of(schedule)), ctypes.byref(phase))
+    if status != DONE:
+        raise refusal(status)
+    return phase.told()
+
+
+def ran(channel: Channel, luns: Sequence[Lun], wants: Sequence[Want], schedule: Schedule, lun: int, phase: int, started: int) -> Stand:
+    """What stands behind the phase that is due, once it ran from `started` on, in ns, at or behind its start by the schedule.
+
+    The bus is free from its end, its LUN goes on or is free, a group that began has left the wants, and the starts that are
+    left are later by as much as this one was. `lun` and `phase` are the LUN of the phase and its number in its group.
+
+    Raises `TooMany` where more than eight wants wait; what `plan` raises of the channel; `BadSchedule`, `Illegal`,
+    `NothingDue`, `NotDue`, `TooSoon`; `Clock` where a phase would start at 2^62 ns or later; `Memory`.
+    """
+    said, left, count = Problem(channel, luns, wants), CSchedule.of(schedule), ctypes.c_size_t(len(wants))
+    waiting = (CWant * WANTS)(*(CWant.of(want) for want in wants[:WANTS]))
+    words = (number(lun, 256, "a LUN"), number(phase, 256, "a phase"), number(started, 1 << 64, "a time"))
+    status = library().onfi_ran(*said.words[:3], ctypes.byref(waiting), ctypes.byref(count), ctypes.byref(left), *words)
+    if status != DONE:
+        raise refusal(status)
+    return Stand(said.channel.told(), tuple(it.told() for it in said.luns[: len(luns)]), tuple(it.told() for it in waiting[: count.value]), left.told())
+
+
+def row(geometry: Geometry, lun: int, block: int, page: int) -> int:
+    """The row address of a page of a device: page, block and LUN number, from low to high bits.
+
+    Raises `BadGeometry` where no parameter page gives the geometry, `BadPlace` where the device doesn't have the page.
+    """
+    told = ctypes.c_uint32()
+    words = (number(lun, 256, "a LUN"), number(block, 65536, "a block"), number(page, 65536, "a page"))
+    status = library().onfi_row(ctypes.byref(CGeometry.of(geometry)), *words, ctypes.byref(told))
+    if status != DONE:
+        raise refusal(status)
+    return told.value
 
 
 def timing_of_page(page: bytes, sheet: str) -> Device:

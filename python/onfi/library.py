@@ -8,7 +8,7 @@ import os
 import pathlib
 from typing import List, Tuple
 
-from onfi.structs import CChannel, CDevice, CLun, CPlan, CSchedule, CVerdict, CWant
+from onfi.structs import WANTS, CChannel, CDevice, CGeometry, CLun, CPhase, CPlan, CSchedule, CVerdict, CWant, CWeights, CWithin
 
 SONAME = "libonfi.so.1"
 BYTES, SIZE = ctypes.c_char_p, ctypes.c_size_t
@@ -18,8 +18,15 @@ CALLS = {
     "onfi_version": (),
     "onfi_plan": (*PROBLEM, ctypes.c_uint32, ctypes.POINTER(CPlan), *ROOM),
     "onfi_plan_known": (*PROBLEM, ctypes.c_uint32, ctypes.POINTER(CPlan), *ROOM),
+    "onfi_plan_within": (*PROBLEM, ctypes.c_uint32, ctypes.POINTER(CWithin), *ROOM),
+    "onfi_plan_early": (*PROBLEM, ctypes.c_uint32, ctypes.POINTER(CWeights), ctypes.c_uint16, ctypes.POINTER(CWithin), *ROOM),
     "onfi_check": (*PROBLEM, ctypes.POINTER(CSchedule), BYTES, SIZE, ctypes.POINTER(CVerdict)),
     "onfi_check_known": (*PROBLEM, ctypes.POINTER(CSchedule), BYTES, SIZE, ctypes.POINTER(CVerdict)),
+    "onfi_check_within": (*PROBLEM, ctypes.POINTER(CSchedule), ctypes.c_uint64, BYTES, SIZE, ctypes.POINTER(CVerdict)),
+    "onfi_choose": (*PROBLEM, ctypes.c_uint64, ctypes.c_uint8, ctypes.c_uint8, ctypes.POINTER(SIZE * WANTS), ctypes.POINTER(SIZE)),
+    "onfi_due": (*PROBLEM, ctypes.POINTER(CGeometry), ctypes.POINTER(CSchedule), ctypes.POINTER(CPhase)),
+    "onfi_ran": (*PROBLEM[:3], ctypes.POINTER(CWant * WANTS), ctypes.POINTER(SIZE), ctypes.POINTER(CSchedule), ctypes.c_uint8, ctypes.c_uint8, ctypes.c_uint64),
+    "onfi_row": (ctypes.POINTER(CGeometry), ctypes.c_uint8, ctypes.c_uint16, ctypes.c_uint16, ctypes.POINTER(ctypes.c_uint32)),
     "onfi_timing_of_page": (BYTES, SIZE, BYTES, SIZE, ctypes.POINTER(CDevice), ctypes.POINTER(ctypes.c_uint64)),
     "onfi_text_plan": (BYTES, SIZE, ctypes.c_uint32, ctypes.c_bool, *ROOM),
     "onfi_text_plan_known": (BYTES, SIZE, ctypes.c_uint32, ctypes.c_bool, *ROOM),

@@ -15,6 +15,17 @@ class Kind(enum.IntEnum):
     ERASE = 2
 
 
+class Choice(enum.IntEnum):
+    """How a batch is chosen of the requests that wait."""
+
+    IN_ORDER = 0
+    """The oldest ones."""
+    BY_LUN = 1
+    """By LUN, the one that comes free first at first: its oldest request and those that can join its group."""
+    READS_FIRST = 2
+    """By LUN, and of each its oldest read; where it has none its oldest program, else its oldest erase."""
+
+
 @dataclass(frozen=True)
 class Spans:
     """How long the phases of a kind take, in ns, each below 2^50."""
@@ -118,6 +129,58 @@ class Plan:
     opened: int
     """How many nodes the search opened, at least 1."""
     certificate: bytes
+
+
+@dataclass(frozen=True)
+class PlanWithin:
+    """A schedule, and what shows how near it is to the best."""
+
+    schedule: Schedule
+    finish: int
+    """When its last phase ends, in ns; where there is none, from when on the bus is free."""
+    below: int
+    """Nothing ends before this time, in ns. Where it is the finish, no legal schedule beats this one."""
+    certificate: bytes
+
+
+@dataclass(frozen=True)
+class Phase:
+    """A phase on the bus, with the bytes and the address that a driver gives out for it."""
+
+    start: int
+    """When it starts by the schedule, in ns."""
+    end: int
+    """When it ends if it starts then, in ns."""
+    want: int
+    """The id of its request; of a running group's the id that the member has in the list of LUNs."""
+    row: int
+    """The row address of its page."""
+    block: int
+    page: int
+    lun: int
+    kind: Kind
+    number: int
+    """Its number in its group: commands are 0 .., posts follow."""
+    members: int
+    """How many requests its group has."""
+    opener: int
+    """The first command byte: 00h, 80h, 60h; of a data output 06h, of a status 78h."""
+    closer: int
+    """The last one: 30h, 10h, D0h; with more of its group behind it 32h, 11h, D1h; of a data output E0h; of a status 0: none."""
+    row_cycles: int
+    """How many cycles of the row address, lowest byte first."""
+    is_post: bool
+    """Whether it is a data output or a status byte; else it is a command with its address and data."""
+
+
+@dataclass(frozen=True)
+class Stand:
+    """A channel, what its LUNs do, the requests that wait, and the schedule that is left."""
+
+    channel: Channel
+    luns: Sequence[Lun]
+    wants: Sequence[Want]
+    schedule: Schedule
 
 
 @dataclass(frozen=True)

@@ -17,6 +17,7 @@ class Refused(Exception):
         """The token of a certificate that it speaks of, counted from 0, or the row, from 1, or the parameter of a timing sheet."""
 
 
+# from here on written by tools/make-statuses
 class Memory(Refused):
     """Memory was refused."""
 
@@ -83,10 +84,58 @@ class Clock(Refused):
     status = 22
 
 
+class BadPlace(Refused):
+    """A LUN, block or page that the device doesn't have."""
+
+    status = 23
+
+
+class BadGeometry(Refused):
+    """A geometry that no parameter page gives."""
+
+    status = 24
+
+
+class BadChoice(Refused):
+    """The choice of a batch is above 2."""
+
+    status = 25
+
+
+class BadBatch(Refused):
+    """A batch of no request, or of more than eight."""
+
+    status = 26
+
+
+class BadOrder(Refused):
+    """Numbers of requests don't rise, or reach the count of all that were accepted."""
+
+    status = 27
+
+
 class BadSchedule(Refused):
     """A count of a schedule is out of its range, or a start is 2^63 ns or more."""
 
     status = 30
+
+
+class NothingDue(Refused):
+    """No phase of the schedule is left."""
+
+    status = 31
+
+
+class NotDue(Refused):
+    """The phase isn't the one that is due."""
+
+    status = 33
+
+
+class TooSoon(Refused):
+    """The phase started before it may."""
+
+    status = 34
 
 
 class BadHeader(Refused):
@@ -159,6 +208,12 @@ class NotEnd(Refused):
     """Something is left to do, or less time has passed."""
 
     status = 57
+
+
+class EndsBefore(Refused):
+    """The schedule ends before the time that is told."""
+
+    status = 58
 
 
 class PageShort(Refused):
@@ -293,9 +348,11 @@ class TooManyNodes(Refused):
     status = 93
 
 
+# until here
 REFUSALS: Dict[int, Type[Refused]] = {
     it.status: it
     for it in (
+        # from here on written by tools/make-statuses
         Memory,
         BadLimit,
         Over,
@@ -307,7 +364,15 @@ REFUSALS: Dict[int, Type[Refused]] = {
         TooMany,
         BadLun,
         Clock,
+        BadPlace,
+        BadGeometry,
+        BadChoice,
+        BadBatch,
+        BadOrder,
         BadSchedule,
+        NothingDue,
+        NotDue,
+        TooSoon,
         BadHeader,
         BadToken,
         TooManyTokens,
@@ -320,6 +385,7 @@ REFUSALS: Dict[int, Type[Refused]] = {
         YieldNoFit,
         YieldLoop,
         NotEnd,
+        EndsBefore,
         PageShort,
         NoCopy,
         WideBus,
@@ -342,23 +408,31 @@ REFUSALS: Dict[int, Type[Refused]] = {
         OtherLeft,
         Sooner,
         TooManyNodes,
+        # until here
     )
 }
 
 __all__ = [
     "REFUSALS",
     "Refused",
+    # from here on written by tools/make-statuses
+    "BadBatch",
+    "BadChoice",
+    "BadGeometry",
     "BadHeader",
     "BadKind",
     "BadLimit",
     "BadLun",
     "BadMembers",
+    "BadOrder",
+    "BadPlace",
     "BadPlaneBits",
     "BadSchedule",
     "BadToken",
     "BoundLow",
     "Clock",
     "ColumnTooWide",
+    "EndsBefore",
     "Illegal",
     "LongSpan",
     "LunCount",
@@ -367,7 +441,9 @@ __all__ = [
     "NoCopy",
     "NoMultiLun",
     "NoStatusEnhanced",
+    "NotDue",
     "NotEnd",
+    "NothingDue",
     "OtherLeft",
     "OtherOption",
     "Over",
@@ -386,6 +462,7 @@ __all__ = [
     "TooMany",
     "TooManyNodes",
     "TooManyTokens",
+    "TooSoon",
     "Trailing",
     "UnknownNode",
     "WideBus",
@@ -394,4 +471,5 @@ __all__ = [
     "YieldNoFit",
     "Zero",
     "ZeroSpan",
+    # until here
 ]

@@ -3,9 +3,9 @@
 from __future__ import annotations
 
 import ctypes
-from typing import Sequence
+from typing import Any, Dict, Sequence
 
-from onfi.model import Channel, Device, Geometry, Group, Lun, Rules, Schedule, Spans, Timing, Want
+from onfi.model import Channel, Device, Geometry, Group, Kind, Lun, Phase, Rules, Schedule, Spans, Timing, Want
 
 LUNS, WANTS, MEMBERS, STARTS = 8, 8, 4, 8
 
@@ -55,6 +55,9 @@ class CChannel(ctypes.Structure):
             number(channel.bus_free, 1 << 64, "a time"),
         )
 
+    def told(self) -> Channel:
+        return Channel(self.timing.told(), self.rules.told(), self.bus_free)
+
 
 class CWant(ctypes.Structure):
     _fields_ = [
@@ -75,6 +78,9 @@ class CWant(ctypes.Structure):
             number(want.page, 65536, "the page of a want"),
         )
 
+    def told(self) -> Want:
+        return Want(self.id, Kind(self.kind), self.lun, self.block, self.page)
+
 
 class CLun(ctypes.Structure):
     _fields_ = [("since", ctypes.c_uint64), ("members", ctypes.c_uint8), ("next", ctypes.c_uint8), ("member", CWant * MEMBERS)]
@@ -85,6 +91,9 @@ class CLun(ctypes.Structure):
         for at, want in enumerate(lun.members[:MEMBERS]):
             made.member[at] = CWant.of(want)
         return made
+
+    def told(self) -> Lun:
+        return Lun(self.since, tuple(it.told() for it in self.member[: self.members]), self.next)
 
 
 class CRest(ctypes.Structure):
@@ -137,6 +146,40 @@ class CPlan(ctypes.Structure):
     _fields_ = [("schedule", CSchedule), ("finish", ctypes.c_uint64), ("opened", ctypes.c_uint32)]
 
 
+class CWithin(ctypes.Structure):
+    _fields_ = [("schedule", CSchedule), ("finish", ctypes.c_uint64), ("below", ctypes.c_uint64)]
+
+
+class CWeights(ctypes.Structure):
+    _fields_ = [("want", ctypes.c_uint16 * WANTS), ("running", (ctypes.c_uint16 * MEMBERS) * LUNS)]
+
+    @classmethod
+    def of(cls, weights: Sequence[int], running: Sequence[Sequence[int]]) -> CWeights:
+        """The weights of wants and of running groups by their places; 1 where none is told."""
+        made = cls()
+        for told, places in zip((weights, *running), (made.want, *made.running)):
+            for at in range(len(places)):
+                places[at] = number(told[at], 1 << 16, "a weight") if at < len(told) else 1
+        for places in made.running[len(running):]:
+            places[:] = [1] * MEMBERS
+        return made
+
+
+class CPhase(ctypes.Structure):
+    _fields_ = [
+        *((name, ctypes.c_uint64) for name in ("start", "end", "want")),
+        ("row", ctypes.c_uint32),
+        *((name, ctypes.c_uint16) for name in ("block", "page")),
+        *((name, ctypes.c_uint8) for name in ("lun", "kind", "number", "members", "opener", "closer", "row_cycles")),
+        ("is_post", ctypes.c_bool),
+    ]
+
+    def told(self) -> Phase:
+        made: Dict[str, Any] = {name: getattr(self, name) for name, *_ in self._fields_}
+        made["kind"] = Kind(self.kind)
+        return Phase(**made)
+
+
 class CVerdict(ctypes.Structure):
     _fields_ = [("finish", ctypes.c_uint64), ("place", ctypes.c_uint64)]
 
@@ -148,6 +191,15 @@ class CGeometry(ctypes.Structure):
         *((name, ctypes.c_uint8) for name in ("lun_count", "plane_address_bits", "column_address_cycles", "row_address_cycles")),
         *((name, ctypes.c_bool) for name in ("any_page_order", "multi_plane_writes", "multi_plane_reads")),
     ]
+
+    @classmethod
+    def of(cls, geometry: Geometry) -> CGeometry:
+        """The numbers of a geometry; a count is of as many bits as its place."""
+        made = cls()
+        for name, *_ in cls._fields_:
+            value, most = getattr(geometry, name), 1 << 8 * getattr(cls, name).size
+            setattr(made, name, bool(value) if isinstance(getattr(made, name), bool) else number(value, most, name))
+        return made
 
     def told(self) -> Geometry:
         return Geometry(*(getattr(self, name) for name, *_ in self._fields_))

@@ -71,11 +71,40 @@ static void refuses_check(const char *what, check_call *call, const problem *p, 
     expect(what, verdict.finish + verdict.place, 0);
 }
 
-/* By plain certificates, and by those that remember states. */
+static uint32_t within_of(const problem *p, onfi_within *plan, uint8_t *certificate, size_t room, size_t *bytes)
+{
+    return onfi_plan_within(&p->channel, p->luns, p->lun_count, p->wants, p->want_count, p->limit, plan, certificate, room, bytes);
+}
+
+static void refuses_within(const char *what, const problem *p, uint32_t wanted)
+{
+    static const uint8_t certificate[64];
+    const onfi_schedule none = {.luns = 2};
+    onfi_verdict verdict = {1, 1};
+    static const onfi_weights weights;
+    onfi_within plan, before;
+    size_t bytes = 1;
+    memset(&plan, 0xA5, sizeof plan);
+    memcpy(&before, &plan, sizeof plan);
+    expect(what, within_of(p, &plan, NULL, 0, &bytes), wanted);
+    expect(what, bytes, 0);
+    expect(what, (uint64_t)memcmp(&plan, &before, sizeof plan), 0);
+    bytes = 1;
+    expect(what, onfi_plan_early(&p->channel, p->luns, p->lun_count, p->wants, p->want_count, p->limit, &weights, 20, &plan, NULL, 0, &bytes), wanted);
+    expect(what, bytes, 0);
+    expect(what, (uint64_t)memcmp(&plan, &before, sizeof plan), 0);
+    if (wanted == ONFI_BAD_LIMIT)
+        return;
+    expect(what, onfi_check_within(&p->channel, p->luns, p->lun_count, p->wants, p->want_count, &none, 0, certificate, sizeof certificate, &verdict), wanted);
+    expect(what, verdict.finish + verdict.place, 0);
+}
+
+/* By plain certificates, by those that remember states, and within a limit. */
 static void refuses(const char *what, const problem *p, uint32_t wanted)
 {
     refuses_plan(what, onfi_plan, p, wanted);
     refuses_plan(what, onfi_plan_known, p, wanted);
+    refuses_within(what, p, wanted);
     if (wanted == ONFI_BAD_LIMIT)
         return;
     refuses_check(what, onfi_check, p, wanted);
@@ -195,6 +224,31 @@ static void remembered(void)
     expect("where it isn't asked for", check_of(&p, &plan.schedule, text, bytes, &verdict), ONFI_BAD_HEADER);
 }
 
+/* Eight programs on four LUNs: one node shows less than the finish. */
+static void within(void)
+{
+    problem p = usual();
+    onfi_within plan;
+    onfi_verdict verdict;
+    char text[256];
+    size_t bytes;
+    p.luns[1] = (onfi_lun){.since = 0}, p.lun_count = 4, p.want_count = 8, p.limit = 1;
+    for (unsigned at = 0; at < 8; at++)
+        p.wants[at] = (onfi_want){.id = at, .kind = ONFI_PROGRAM, .lun = (uint8_t)(at & 3), .block = (uint16_t)at};
+    expect("a plan of one node", within_of(&p, &plan, (uint8_t *)text, sizeof text, &bytes), ONFI_DONE);
+    expect("that isn't proved optimal", plan.below < plan.finish, 1);
+#define WITHIN(time, text, bytes) onfi_check_within(&p.channel, p.luns, 4, p.wants, 8, &plan.schedule, time, (const uint8_t *)(text), bytes, &verdict)
+    expect("its certificate", WITHIN(plan.below, text, bytes), ONFI_DONE);
+    expect("and its finish", verdict.finish, plan.finish);
+    expect("shows an earlier time too", WITHIN(plan.below - 1, text, bytes), ONFI_DONE);
+    expect("and no later one", WITHIN(plan.below + 1, text, bytes), ONFI_BOUND_LOW);
+    expect("at its only token", verdict.place, 0);
+    expect("a time behind the end", WITHIN(plan.finish + 1, text, bytes), ONFI_ENDS_BEFORE);
+    expect("tells no finish", verdict.finish, 0);
+    plan.schedule.groups--;
+    expect("a want left out", WITHIN(plan.below, text, bytes), ONFI_ILLEGAL);
+}
+
 static void devices(void)
 {
     static uint8_t page[768];
@@ -241,6 +295,7 @@ int main(void)
     rooms();
     schedules();
     remembered();
+    within();
     devices();
     texts();
     printf("%u tried, %u failed\n", tried, failed);

@@ -9,7 +9,7 @@ import sys
 import tempfile
 import unittest
 from pathlib import Path
-from typing import Dict, List, Sequence, Tuple
+from typing import Dict, List, Sequence, Tuple, Union
 
 ROOT = Path(__file__).resolve().parent.parent.parent
 sys.dont_write_bytecode = True
@@ -74,7 +74,8 @@ class Headers(unittest.TestCase):
     def test_shared_library_shows_its_calls_alone(self) -> None:
         told = run("nm", "-D", "--defined-only", str(LIBRARY / "libonfi.so")).stdout.decode().split()[2::3]
         self.assertEqual(sorted(told), [
-            "onfi_check", "onfi_check_known", "onfi_plan", "onfi_plan_known", "onfi_status_text", "onfi_text_check", "onfi_text_check_known",
+            "onfi_check", "onfi_check_known", "onfi_check_within", "onfi_choose", "onfi_due", "onfi_plan", "onfi_plan_early", "onfi_plan_known",
+            "onfi_plan_within", "onfi_ran", "onfi_row", "onfi_status_text", "onfi_text_check", "onfi_text_check_known",
             "onfi_text_legal", "onfi_text_plan", "onfi_text_plan_known", "onfi_text_trace", "onfi_timing_of_page", "onfi_version"])
 
     def test_shared_library_is_named_by_its_major_version(self) -> None:
@@ -193,8 +194,10 @@ def said(script: str) -> Tuple[onfi.Channel, List[onfi.Lun], List[onfi.Want]]:
     return channel, [luns.get(lun, onfi.Lun()) for lun in range(shape[0])], wants
 
 
-def plan_text(plan: onfi.Plan) -> bytes:
+def plan_text(plan: Union[onfi.Plan, onfi.PlanWithin]) -> bytes:
     lines = ["ONFIPLAN 1", f"finish {plan.finish}"]
+    if isinstance(plan, onfi.PlanWithin) and plan.below < plan.finish:
+        lines.append(f"below {plan.below}")
     lines += [" ".join(["rest", str(lun), *map(str, starts)]) for lun, starts in enumerate(plan.schedule.rest) if starts]
     lines += [" ".join(["group", "+".join(map(str, group.wants)), *map(str, group.starts)]) for group in plan.schedule.groups]
     return ("\n".join(lines) + "\n").encode() + plan.certificate
@@ -252,6 +255,44 @@ class Same(unittest.TestCase):
             plan = onfi.plan_known(channel, luns, wants)
             self.assertEqual(plan_text(plan), wanted.stdout, script)
             self.assertEqual(onfi.check_known(channel, luns, wants, plan.schedule, plan.certificate), plan.finish, script)
+
+    def test_plans_within(self) -> None:
+        draw, by_structs = random.Random(4), build(ROOT / "tests/libraries/plan_script.c")
+        short = 0
+        for number in range(SCRIPTS):
+            script, limit = any_script(draw), draw.choice((1, 2, 10, 65_536))
+            wanted = run(PROGRAM, "plan", "--within", "--limit", str(limit), given=script.encode())
+            c = run(by_structs, "within", str(limit), given=script.encode())
+            self.assertEqual((c.stdout, c.returncode, c.stderr), (wanted.stdout, wanted.returncode, b""), script)
+            channel, luns, wants = said(script)
+            plan = onfi.plan_within(channel, luns, wants, limit)
+            self.assertEqual(plan_text(plan), wanted.stdout, script)
+            self.assertEqual(onfi.check_within(channel, luns, wants, plan.schedule, plan.below, plan.certificate), plan.finish, script)
+            judged = run(PROGRAM, "check", "--within", given=script.encode() + wanted.stdout)
+            told = (f"within {plan.finish} {plan.below}\n", 8) if plan.below < plan.finish else (f"accepted {plan.finish}\n", 0)
+            self.assertEqual((judged.stdout.decode(), judged.returncode), told, script)
+            short += plan.below < plan.finish
+        self.assertGreater(short, 0)
+
+    def test_plans_made_better(self) -> None:
+        draw, by_structs = random.Random(5), build(ROOT / "tests/libraries/plan_script.c")
+        later = 0
+        for number in range(SCRIPTS):
+            script, limit, slack = any_script(draw), draw.choice((1, 10, 65_536)), draw.choice((0, 20, 1_000))
+            channel, luns, wants = said(script)
+            weights = [draw.choice((1, 2, 65_535)) for _ in range(draw.randint(0, len(wants)))]
+            rows = "".join(f"weight,{at},{weight}\n" for at, weight in enumerate(weights))
+            wanted = run(PROGRAM, "plan", "--early", "--within", "--limit", str(limit), "--slack", str(slack), given=(rows + script).encode())
+            c = run(by_structs, "early", str(limit), str(slack), *map(str, weights), given=script.encode())
+            self.assertEqual((c.stdout, c.returncode, c.stderr), (wanted.stdout, wanted.returncode, b""), script)
+            plan = onfi.plan_early(channel, luns, wants, weights, slack, limit)
+            self.assertEqual(plan_text(plan), wanted.stdout, script)
+            self.assertEqual(onfi.check_within(channel, luns, wants, plan.schedule, plan.below, plan.certificate), plan.finish, script)
+            found = onfi.plan_within(channel, luns, wants, limit)
+            self.assertEqual(plan.below, found.below, script)
+            self.assertLessEqual(plan.finish, found.finish + (found.below - channel.bus_free) * slack // 1_000, script)
+            later += plan.finish > found.finish
+        self.assertGreater(later, 0)
 
     def test_cases_of_the_program(self) -> None:
         by_text, tried = example("script"), 0

@@ -100,6 +100,55 @@ class Plans(unittest.TestCase):
         self.assertRaises(onfi.BadLimit, onfi.plan_known, CHANNEL, LUNS, WANTS, 0)
         self.assertRaises(onfi.BadLun, onfi.plan_known, CHANNEL, LUNS, [WANTS[1], WANTS[0]])
 
+    def test_a_plan_always(self) -> None:
+        best = onfi.plan(CHANNEL, LUNS, WANTS).finish
+        whole = onfi.plan_within(CHANNEL, LUNS, WANTS)
+        self.assertEqual((whole.finish, whole.below), (best, best))
+        programs = [onfi.Want(number, onfi.Kind.PROGRAM, number % 4, number) for number in range(8)]
+        luns = [onfi.Lun()] * 4
+        best = onfi.plan_known(CHANNEL, luns, programs).finish
+        for limit in (1, 2, 1_048_576):
+            made = onfi.plan_within(CHANNEL, luns, programs, limit)
+            self.assertTrue(made.below <= best <= made.finish)
+            self.assertEqual(onfi.check_within(CHANNEL, luns, programs, made.schedule, made.below, made.certificate), made.finish)
+        self.assertEqual((made.finish, made.below), (best, best))
+        self.assertEqual(onfi.check_known(CHANNEL, luns, programs, made.schedule, made.certificate), best)
+
+    def test_a_plan_made_better(self) -> None:
+        """Of two reads that take turns the one that counts more goes first."""
+        reads = [onfi.Want(number, onfi.Kind.READ, number, 0) for number in range(2)]
+        luns = [onfi.Lun()] * 2
+        for weights in ([1, 9], [9, 1]):
+            made = onfi.plan_early(CHANNEL, luns, reads, weights)
+            first = min(made.schedule.groups, key=lambda group: group.starts[0])
+            self.assertEqual(list(first.wants), [weights.index(9)])
+            self.assertEqual((made.finish, made.below), (onfi.plan_within(CHANNEL, luns, reads).finish,) * 2)
+
+    def test_a_running_group_that_counts(self) -> None:
+        """A status that is due goes before the data of a program where it counts, and behind them where the program counts more."""
+        program = onfi.Want(0, onfi.Kind.PROGRAM, 0, 4)
+        luns = [onfi.Lun(0, [program], 1), onfi.Lun()]
+        for weight, starts in ((0, (10_800, 0)), (1_000, (0, 280))):
+            made = onfi.plan_early(CHANNEL, luns, [onfi.Want(1, onfi.Kind.PROGRAM, 1, 0)], (1,), 1_000, 100, [(weight,)])
+            self.assertEqual((made.schedule.rest[0][0], made.schedule.groups[0].starts[0]), starts)
+
+    def test_refusals_of_a_plan_made_better(self) -> None:
+        self.assertRaises(onfi.BadLimit, onfi.plan_early, CHANNEL, LUNS, WANTS, (), 0, 0)
+        self.assertRaises(onfi.BadLun, onfi.plan_early, CHANNEL, LUNS, [WANTS[1], WANTS[0]])
+        self.assertRaises(ValueError, onfi.plan_early, CHANNEL, LUNS, WANTS, (65_536,))
+        self.assertRaises(ValueError, onfi.plan_early, CHANNEL, LUNS, WANTS, (), 0, 1, [(-1,)])
+        self.assertRaises(ValueError, onfi.plan_early, CHANNEL, LUNS, WANTS, (), -1)
+
+    def test_refusals_of_a_plan_always(self) -> None:
+        self.assertRaises(onfi.BadLimit, onfi.plan_within, CHANNEL, LUNS, WANTS, 0)
+        self.assertRaises(onfi.BadLun, onfi.plan_within, CHANNEL, LUNS, [WANTS[1], WANTS[0]])
+        made = onfi.plan_within(CHANNEL, LUNS, WANTS)
+        said = (CHANNEL, LUNS, WANTS, made.schedule)
+        self.assertRaises(onfi.EndsBefore, onfi.check_within, *said, made.finish + 1, made.certificate)
+        self.assertRaises(ValueError, onfi.check_within, *said, -1, made.certificate)
+        late = dataclasses.replace(made.schedule, groups=made.schedule.groups[1:])
+        self.assertRaises(onfi.Illegal, onfi.check_within, CHANNEL, LUNS, WANTS, late, made.below, made.certificate)
+
     def test_numbers_that_fit_no_place(self) -> None:
         for want in (dataclasses.replace(WANTS[0], block=65536), dataclasses.replace(WANTS[0], lun=-1), dataclasses.replace(WANTS[0], id=1 << 64)):
             self.assertRaises(ValueError, onfi.plan, CHANNEL, LUNS, [want])

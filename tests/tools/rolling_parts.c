@@ -228,8 +228,18 @@ static void print_choices(void)
     print_choice("first eight", first_eight, &m);
     print_choice("by LUN", by_lun, &m);
     print_choice("by LUN, reads first", by_lun_reads_first, &m);
-    m.waiting[5].passed = PASSED_AT_MOST;
-    print_choice("by LUN, passed over", by_lun, &m);
+}
+
+/* The same behind a program of LUN 2, whose reads are chosen before it until too many have passed it over. */
+static void print_passed(void)
+{
+    setup setup = setup_of(3);
+    machine m = {.setup = &setup};
+    wait_for(&m, ONFI_PROGRAM, 2, 4, 0);
+    put_waiting(&m);
+    print_choice("reads before a program", by_lun_reads_first, &m);
+    m.waiting[0].passed = PASSED_AT_MOST;
+    print_choice("the program passed over", by_lun_reads_first, &m);
 }
 
 int main(void)
@@ -237,5 +247,6 @@ int main(void)
     print_judgements();
     print_runs();
     print_choices();
+    print_passed();
     return 0;
 }

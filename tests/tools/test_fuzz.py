@@ -13,13 +13,14 @@ import support
 
 PLAN = "ONFIPLAN 1\\nfinish 7\\nONFICERT 1\\nU\\n"
 REMEMBERED = PLAN.replace("ONFICERT 1", "ONFICERT 3 remember")
+NEAR = REMEMBERED.replace("finish 7", "finish 7\\nbelow 6")
 PROGRAM = """#!{python} -SI
 import sys
 text = sys.stdin.buffer.read()
 words = sys.argv[1:]
 command = (words + [""])[0]
 traced = "--trace" in words or "--requests" in words
-remembers, split, legal = "--remember" in words, "--workers" in words, "--legal" in words
+remembers, split, legal, within = "--remember" in words, "--workers" in words, "--legal" in words, "--within" in words
 def say(text, status):
     sys.stdout.write(text)
     sys.exit(status)
@@ -28,8 +29,11 @@ def say(text, status):
 REFUSES = """
 form = " ".join("N" if word.isdigit() else word for word in words)
 taken = ["plan", "plan --limit N", "plan --limit N --trace", "plan --workers N", "check", "check --remember", "run --limit N"]
+taken += ["check --within", "plan --within --limit N", "plan --within --limit N --trace", "plan --within --limit N --requests"]
+taken += ["plan --within", "run --plain --limit N", "run --within --limit N"]
 taken += ["plan --remember", "plan --remember --limit N", "plan --remember --limit N --trace"]
-taken += ["check --legal", "plan --limit N --requests", "plan --remember --limit N --requests"]
+taken += ["check --legal", "plan --limit N --requests", "plan --remember --limit N --requests", "run --slack N --limit N"]
+taken += [it.replace("--limit", early + " --limit") for it in taken if it.startswith("plan --") for early in ("--early", "--early --slack N")]
 if form not in taken:
     sys.stderr.write("error: a word\\n")
     sys.exit(5)
@@ -37,10 +41,12 @@ if form not in taken:
 ANSWERS = f"""
 if legal:
     say("legal 7\\n", 0)
+if command == "check" and within:
+    say("within 7 6\\n", 8) if text.endswith(b"{NEAR}") else say("refused plan 1\\n", 2)
 if command == "check":
     whole = b"{REMEMBERED}" if remembers else b"{PLAN}"
     say("accepted 7\\n", 0) if text.endswith(whole) else say("refused plan 1\\n", 2)
-plan = "{REMEMBERED}" if remembers else "{PLAN}"
+plan = "{REMEMBERED}" if remembers else "{NEAR}" if within else "{PLAN}"
 say("closed\\n" if command == "run" else "" if traced else plan, 0)
 """
 RIGHT = REFUSES + ANSWERS
@@ -67,7 +73,7 @@ class Fuzz(unittest.TestCase):
         status, said = fuzzed(RIGHT, 100)
         self.assertEqual((status, said.splitlines()[-1]), (0, "100 passed, 0 failed"))
         plans = ("plan plan", "plan --remember recalled", "trace trace", "run ran", "words refused")
-        for told in ("check accepted", "check --remember accepted", "check --legal legal", *plans):
+        for told in ("plan --within near", "check --within within", "check accepted", "check --remember accepted", "check --legal legal", *plans):
             self.assertRegex(said, rf"[1-9]\d* {told}\b")
 
     def test_a_status_of_another_command_is_a_miss(self) -> None:
@@ -98,11 +104,19 @@ class Fuzz(unittest.TestCase):
     def test_another_finish_of_a_plan_that_remembers_is_a_miss(self) -> None:
         body = RIGHT.replace(REMEMBERED, REMEMBERED.replace("finish 7", "finish 6"))
         body = body.replace('say("accepted 7\\n", 0)', 'say("accepted 6\\n" if remembers else "accepted 7\\n", 0)')
-        self.assert_missed(body, "of a plan that remembers is another than that of the plan")
+        self.assert_missed(body, "of a plan that remembers is another than that of the plan", 100)
 
     def test_a_sooner_finish_that_is_accepted_is_a_miss(self) -> None:
         body = RIGHT.replace('say("refused plan 1\\n", 2)', 'say("accepted 6\\n", 0)')
         self.assert_missed(body, "another finish than that of the plan")
+
+    def test_a_time_above_the_optimum_is_a_miss(self) -> None:
+        far = NEAR.replace("finish 7", "finish 9").replace("below 6", "below 8")
+        body = RIGHT.replace(NEAR, far).replace("within 7 6", "within 9 8")
+        self.assert_missed(body, "nothing ends before 8, and a legal schedule ends at 9; the plan at 7", 100)
+
+    def test_a_plan_that_is_judged_otherwise_is_a_miss(self) -> None:
+        self.assert_missed(RIGHT.replace("within 7 6", "within 7 5"), "check --within says b'within 7 5", 100)
 
     def test_a_legal_schedule_that_ends_sooner_is_a_miss(self) -> None:
         self.assert_missed(RIGHT.replace("legal 7", "legal 6"), "a schedule is legal that ends at 6, sooner than the plan at 7")

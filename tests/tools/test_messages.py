@@ -99,9 +99,10 @@ class WrongWords(unittest.TestCase):
 class Help(unittest.TestCase):
     """Help is said on standard error with status 5; the version is an answer."""
 
-    OPTIONS = {"plan": ["--limit <N>", "--trace", "--requests", "--workers <N>", "--remember", "-q, --quiet", "[FILE]"],
-               "check": ["--remember", "--legal", "-q, --quiet", "[FILE]", "[PLAN]"],
-               "run": ["--limit <N>", "-q, --quiet", "[FILE]"]}
+    OPTIONS = {"plan": ["--limit <N>", "--trace", "--requests", "--workers <N>", "--remember", "--within", "--early", "--slack <N>", "-q, --quiet",
+                        "[FILE]"],
+               "check": ["--remember", "--within", "--legal", "-q, --quiet", "[FILE]", "[PLAN]"],
+               "run": ["--limit <N>", "--plain", "--within", "--slack <N>", "-q, --quiet", "[FILE]"]}
 
     def help(self, *words: str) -> str:
         found = ran(*words)
@@ -114,7 +115,7 @@ class Help(unittest.TestCase):
         self.assertEqual(text, self.help("-h"))
         for command in COMMANDS:
             self.assertRegex(text, rf"(?m)^  {command} +[A-Z]")
-        for status in range(8):
+        for status in range(9):
             self.assertRegex(text, rf"(?m)^  {status}  \w")
         for part in ("standard input", "standard output", "standard error", "Example:", "docs/FORMATS.md"):
             self.assertIn(part, text)

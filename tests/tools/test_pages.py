@@ -137,7 +137,7 @@ class Counts(unittest.TestCase):
             self.is_about(self.definitions.lines(self.below(crate, module, name)), said, name)
 
     def test_the_lines_of_the_headline(self) -> None:
-        other = self.below("onfi_schedule", "Schedule", "Optimal") | self.below("onfi_check", "Tree", "AcceptsTokens")
+        other = self.below("onfi_schedule", "Schedule", "Optimal") | self.below("onfi_plan", "Certificate", "ShowsBelow")
         said = re.search(r"that is about ([\d,]+) lines", self.page)
         assert said
         keys = self.below("onfi_core", "Kept", "KeepsPromise") - other

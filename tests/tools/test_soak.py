@@ -129,6 +129,12 @@ class Soak(unittest.TestCase):
         status, said = soaked("", "--heavy", scripts=1)
         self.assertEqual((status, said.splitlines()), (0, ["4000 operations, 0 differences", "1 passed, 0 failed"]))
 
+    def test_a_choice_that_is_named_stands_in_each_script(self) -> None:
+        named = 'assert [row[1] for row in rows if row[0] == "choice"] == ["by-lun"]'
+        status, said = soaked(named, "--choice", "by-lun")
+        self.assertEqual((status, said.splitlines()[-1]), (0, "30 passed, 0 failed"))
+        self.assert_told(named, "differences", "--choice", "reads-first")
+
     def test_a_lost_reply_is_told(self) -> None:
         self.assert_told("lines = lines[:-1]", "or none to [(")
 
@@ -152,8 +158,11 @@ if "--limit" in sys.argv:
         self.assert_told("stopped = {}", "the lines behind the replies")
 
     def test_a_channel_within_a_few_nodes_may_be_over(self) -> None:
-        status, said = soaked(over('"--limit" in sys.argv', "sys.argv[-1]"))
+        status, said = soaked(over('"--limit" in sys.argv and "--within" not in sys.argv', "sys.argv[-1]"))
         self.assertEqual((status, said.splitlines()[-1]), (0, "30 passed, 0 failed"))
+
+    def test_a_channel_that_plans_by_the_best_so_far_and_is_over_is_told(self) -> None:
+        self.assert_told(over('"--limit" in sys.argv and "--within" in sys.argv', "sys.argv[-1]"), "the lines behind the replies")
 
     def test_another_limit_is_told(self) -> None:
         self.assert_told(over('"--limit" in sys.argv', "int(sys.argv[-1]) - 1"), "the lines behind the replies")

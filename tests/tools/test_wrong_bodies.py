@@ -224,7 +224,7 @@ def git(folder: Path, *words: str) -> str:
 
 
 class Due(unittest.TestCase):
-    """What is due in a repository of two commits and six crates of two functions; the second one changes crates."""
+    """What is due in a repository of two commits and six crates of two functions; the second one changes crates. There is room for two crates."""
 
     NAMES = ["a", "b", "c", "d", "e", "f"]
     SOURCE = "pub fn one() -> u8 {\n    1\n}\n\npub fn two() -> u8 {\n    2\n}\n"
@@ -242,12 +242,14 @@ class Due(unittest.TestCase):
                     self.write(name, f"wrong-bodies/{function}{ending}", f"file: src/lib.rt\nold:     {text}\nnew:     {new}\n")
         self.commit()
         self.first = git(self.folder, "rev-parse", "HEAD")
-        was = TOOL.ROOT, TOOL.LANDINGS, TOOL.PROVE.CRATES
+        was = TOOL.ROOT, TOOL.LANDINGS, TOOL.COSTS, TOOL.PROVE.CRATES
         self.addCleanup(self.put_back, was)
-        TOOL.ROOT, TOOL.LANDINGS, TOOL.PROVE.CRATES = self.folder, self.folder / "landings", dict.fromkeys(self.NAMES)
+        TOOL.ROOT, TOOL.LANDINGS, TOOL.COSTS = self.folder, self.folder / "landings", self.folder / "costs"
+        TOOL.PROVE.CRATES = dict.fromkeys(self.NAMES)
+        TOOL.COSTS.write_text("# minutes\nroom: 8\n" + "".join(f"{name}: 4\n" for name in self.NAMES), encoding="utf-8")
 
-    def put_back(self, was: Tuple[Path, Path, Dict[str, List[str]]]) -> None:
-        TOOL.ROOT, TOOL.LANDINGS, TOOL.PROVE.CRATES = was
+    def put_back(self, was: Tuple[Path, Path, Path, Dict[str, List[str]]]) -> None:
+        TOOL.ROOT, TOOL.LANDINGS, TOOL.COSTS, TOOL.PROVE.CRATES = was
 
     def write(self, crate: str, path: str, text: str) -> None:
         file = self.folder / "crates" / crate / path
@@ -258,8 +260,9 @@ class Due(unittest.TestCase):
         git(self.folder, "add", "-A")
         git(self.folder, "commit", "-q", "-m", "more")
 
-    def land(self, *commits: str) -> None:
-        TOOL.LANDINGS.write_text("".join(f"{it}\n" for it in commits))
+    def land(self, *whole: str) -> None:
+        """The first commit landed as often as there are these, each time with these crates tried whole."""
+        TOOL.LANDINGS.write_text("".join(f"{self.first} {it}\n" for it in whole), encoding="utf-8")
 
     def due(self) -> Tuple[Dict[str, List[str]], str]:
         """By crate the edits and twins that are due, and what is said of it."""
@@ -272,64 +275,83 @@ class Due(unittest.TestCase):
 
     ALL = ["one.edit", "one.twin", "two.edit", "two.twin"]
 
-    def test_of_a_crate_that_changed_what_changed_and_every_third_of_the_others_whole(self) -> None:
+    def test_of_a_crate_that_changed_what_changed_and_others_whole_by_turns(self) -> None:
         self.write("b", "src/lib.rt", self.SOURCE.replace("    2", "    4 - 2"))
         self.write("b", "wrong-bodies/two.edit", "file: src/lib.rt\nold:     4 - 2\nnew:     0\n")
         self.write("b", "wrong-bodies/two.twin", "file: src/lib.rt\nold:     4 - 2\nnew:     2\n")
         self.commit()
-        self.land(self.first)
+        self.land("a b c d e f", "a", "d f")
         due, said = self.due()
-        self.assertEqual(due, {"b": ["two.edit", "two.twin"], "c": self.ALL, "f": self.ALL})
+        self.assertEqual(due, {"b": self.ALL, "c": self.ALL})
         self.assertIn("due: a: 0 of 4, since nothing that they rest on changed\n", said)
-        self.assertIn("due: b: 2 of 4\ndue: b/two.edit: its text changed\n", said)
         self.assertIn("due: c: all 4, in its turn\n", said)
+        self.assertIn("left for want of room: e, 4 minutes; it was tried whole 3 landings ago", said)
+        self.assertIn("due: 2 minutes of what changed, 6 of crates in their turn; 8 is the room\nwhole: b c\n", said)
+        self.land("a b c d e f", "a b", "d f")
+        due, said = self.due()
+        self.assertEqual(due, {"b": ["two.edit", "two.twin"], "c": self.ALL})
+        self.assertIn("due: b: 2 of 4\ndue: b/two.edit: its text changed\n", said)
 
     def test_a_comment_makes_nothing_due(self) -> None:
         self.write("a", "src/lib.rt", self.SOURCE.replace("    2", "    // two\n    2"))
         self.commit()
-        self.land(self.first)
-        self.assertEqual(self.due()[0], {"c": self.ALL, "f": self.ALL})
+        self.land("c", "a b d e f")
+        self.assertEqual(self.due()[0], {"c": self.ALL})
 
     def test_a_function_that_changed_makes_its_edits_due(self) -> None:
         self.write("a", "src/lib.rt", self.SOURCE.replace("pub fn two() -> u8 {", "pub fn two() -> u8\n    ensures { result ≡ 2 }\n{"))
-        self.land(self.first)
+        self.land("c", "a b d e f")
         due, said = self.due()
-        self.assertEqual(due["a"], ["two.edit", "two.twin"])
+        self.assertEqual(due, {"a": ["two.edit", "two.twin"], "c": self.ALL})
         self.assertIn("due: a/two.twin: two changed\n", said)
 
     def test_a_twin_that_changed_makes_its_edit_due(self) -> None:
         self.write("d", "wrong-bodies/one.twin", "file: src/lib.rt\nold:     1\nnew:     1 + 0\n")
-        self.land(self.first)
+        self.land("c", "a b d e f")
         self.assertEqual(self.due()[0]["d"], ["one.edit", "one.twin"])
 
     def test_what_is_not_in_git_yet_is_due(self) -> None:
         self.write("e", "wrong-bodies/three.edit", "file: src/lib.rt\nold:     1\nnew:     3\n")
-        self.land(self.first)
+        self.land("c", "a b d e f")
         self.assertEqual(self.due()[0]["e"], ["three.edit"])
 
-    def test_turns_go_round(self) -> None:
-        self.land(self.first, self.first)
-        self.assertEqual(sorted(self.due()[0]), ["b", "e"])
-        self.land(self.first, self.first, self.first)
-        self.assertEqual(sorted(self.due()[0]), ["a", "d"])
+    def test_what_changed_is_due_where_there_is_no_room_and_one_crate_whole(self) -> None:
+        for name in "abde":
+            self.write(name, "src/lib.rt", self.SOURCE.replace("-> u8 {", "-> u8\n    ensures { result ≡ 2 }\n{"))
+        self.land("")
+        due, said = self.due()
+        self.assertEqual(due, dict.fromkeys("abcde", self.ALL))
+        self.assertIn("left for want of room: f, 4 minutes; no landing tried it whole\n", said)
+        self.assertIn("\nwhole: a b c d e\n", said)
 
-    def test_three_landings_try_each(self) -> None:
-        tried = [at for landings in range(7, 10) for at in range(32) if TOOL.is_turn(at, landings)]
-        self.assertEqual(sorted(tried), list(range(32)))
+    def test_a_landing_is_added_with_the_crates_that_its_own_tool_names(self) -> None:
+        tool = "#!/usr/bin/env python3\nimport sys\nprint('due: a: all 4, in its turn')\nprint('whole: a c' if sys.argv[1:] == ['--due', '--list'] else 'no')\n"
+        (self.folder / "tools").mkdir()
+        (self.folder / "tools" / "wrong-bodies").write_text(tool, encoding="utf-8")
+        self.commit()
+        second = git(self.folder, "rev-parse", "HEAD")
+        self.assertEqual([self.added(it) for it in ("HEAD", "HEAD", self.first, "gone")], [0, 1, 0, 1])
+        self.assertEqual(TOOL.LANDINGS.read_text(encoding="utf-8"), f"{second} a c\n{self.first}\n")
+        self.assertEqual(git(self.folder, "worktree", "list").count("\n"), 0)
+
+    def added(self, commit: str) -> int:
+        with contextlib.redirect_stdout(io.StringIO()):
+            status: int = TOOL.add_landing(commit)
+            return status
 
     def test_all_where_git_cannot_tell(self) -> None:
         whole = dict.fromkeys(self.NAMES, self.ALL)
         due, said = self.due()
         self.assertEqual(due, whole)
         self.assertIn("due: a: all 4, since git can not tell what changed\n", said)
-        self.land("0123456789012345678901234567890123456789")
+        TOOL.LANDINGS.write_text("0123456789012345678901234567890123456789\n", encoding="utf-8")
         self.assertEqual(self.due()[0], whole)
         self.write("a", "src/lib.rt", self.SOURCE)
         git(self.folder, "commit", "-q", "--allow-empty", "-m", "more")
         clone = self.folder / "clone"
         git(self.folder, "clone", "-q", "--depth", "1", f"file://{self.folder}", str(clone))
         TOOL.ROOT, TOOL.LANDINGS = clone, clone / "landings"
-        self.land(self.first)
+        self.land("")
         self.assertEqual(self.due()[0], whole)
 
 

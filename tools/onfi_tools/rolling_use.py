@@ -24,7 +24,8 @@ GREEDY = {
     "rfirst:8": "reads first, eight",
     "rfirst:all": "reads first, all",
 }
-PLANS = {"plan": "plan in order", "plan-by-lun": "plan by LUN", "plan-reads-first": "plan by LUN, reads first"}
+PLANS = {"plan": "plan in order", "plan-by-lun": "plan by LUN", "plan-reads-first": "plan by LUN, reads first",
+         "plan-early": "plan in order, early", "plan-early-by-lun": "plan by LUN, early", "plan-early-reads-first": "plan by LUN, reads first, early"}
 WAYS = {**GREEDY, **PLANS}
 BASE = "rfirst:all"
 WORKLOADS = {"reads": "random reads", "mixed": "70 % reads", "sequential": "sequential programs", "erases": "with erases"}

@@ -155,7 +155,7 @@ def small_cell(costs: Sequence[Optional[int]]) -> str:
 def rows_of(library: Library) -> Dict[str, str]:
     """What each row of the table says of a library."""
     rows = {}
-    for way, word in (("plain", "plan"), ("known", "plan --remember")):
+    for way, word in (("plain", "plan"), ("known", "plan --remember"), ("early", "plan --early --within")):
         for requests in REQUESTS:
             rows[f"`{word}` of {requests}, median / nine of ten / greatest"] = small_cell(library.small(way, requests))
     plain, known = library.plain(), library.known()

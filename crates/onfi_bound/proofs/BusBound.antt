@@ -4,22 +4,23 @@ use Rattle.std.specs.Prelude.{slice_get, max}
 use Rattle.onfi_request.specs.declared.want.Want.{Want}
 use Rattle.onfi_problem.specs.declared.lun_state.LunState.{LunState}
 use Rattle.onfi_problem.specs.declared.lun_state.LunState.TheVariants.{Free, Running}
-use Rattle.onfi_problem.specs.Moves.{Move, Next, Start, IsMove, earliest, placed, lun_after}
+use Rattle.onfi_problem.specs.Moves.{Move, Next, Start, IsMove, earliest, placed, after, lun_after}
 use Rattle.onfi_group.specs.Words.{total}
 use Rattle.onfi_problem.specs.Problem.{Problem, IsProblem}
 use Rattle.onfi_timing.specs.Kinds.{spans_of}
 use Rattle.onfi_group.specs.Group.{group_spans, lun_of}
 use Rattle.onfi_timing.specs.Phases.{phase_length}
 use Rattle.onfi_schedule.specs.Runs.{Step, Run}
-use Rattle.onfi_problem.specs.Left.{command_time, post_time, want_command, want_post}
+use Rattle.onfi_problem.specs.Left.{command_time, post_time, want_command, want_post, work}
 use Rattle.onfi_bound.specs.Bounds.{bus}
 use Rattle.onfi_problem.proofs.Perm.{All-weaker}
 use Rattle.onfi_problem.proofs.Totals.{total_set, total_same, startable_total}
 use Rattle.onfi_problem.proofs.Work.{one_phase, commands_after, posts_after}
 use Rattle.onfi_problem.proofs.Kept.{kept}
 
-pub bus_step : (p : Problem) (m : Move) (t : ℕ) → IsProblem p → IsMove p m → earliest p m ≤ t → bus p ≤ bus (placed p m t)
-bus_step p (Next l) t ip (g, n, r, at) on_time =
+-- behind a move all that was left stands behind its start
+bus_placed : (p : Problem) (m : Move) (t : ℕ) → IsProblem p → IsMove p m → bus (placed p m t) ≡ t + work p
+bus_placed p (Next l) t ip (g, n, r, at) =
     let i = ip.running l g n r at in
     let some = i.group.some in
     let c = t + phase_length (group_spans p.timing g) (length g) n in
@@ -29,7 +30,7 @@ bus_step p (Next l) t ip (g, n, r, at) on_time =
     let a' = commands_after p.timing g n c some in
     let b' = posts_after p.timing g n c some in
     rw at (omega arith)
-bus_step p (Start ms) t ip (since, at, st) on_time =
+bus_placed p (Start ms) t ip (since, at, st) =
     let some = st.group.some in
     let k = length ms in
     let spans = group_spans p.timing ms in
@@ -46,6 +47,12 @@ bus_step p (Start ms) t ip (since, at, st) on_time =
     let mc = total_same (want_command p.timing) spans.cmd ms (All-weaker _ _ (λ m e. ap (λ kind. (spans_of p.timing kind).cmd) e) ms st.group.kind) in
     let mp = total_same (want_post p.timing) spans.post ms (All-weaker _ _ (λ m e. ap (λ kind. (spans_of p.timing kind).post) e) ms st.group.kind) in
     omega arith
+
+pub bus_after : (p : Problem) (m : Move) → IsProblem p → IsMove p m → bus (after p m) ≡ earliest p m + work p
+bus_after p m ip im = bus_placed p m (earliest p m) ip im
+
+pub bus_step : (p : Problem) (m : Move) (t : ℕ) → IsProblem p → IsMove p m → earliest p m ≤ t → bus p ≤ bus (placed p m t)
+bus_step p m t ip im on_time = let e = bus_placed p m t ip im in omega arith
 
 pub free_total : (f : LunState → ℕ) → ((since : ℕ) → f (Free since) ≡ 0) → (luns : List LunState) → ((l : ℕ) (g : List Want) (n r : ℕ) → slice_get luns l ≢ Some (Running g n r)) → total f luns ≡ 0
 free_total f z [] h = refl

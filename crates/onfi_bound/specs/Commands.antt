@@ -1,4 +1,4 @@
--- How many commands of each kind are left.
+-- How many commands of each kind are left, and what a walk keeps beside them.
 use Rattle.std.specs.Prelude.{◌≡◌, ℕ, ◌+◌, if◌then◌else◌, length}
 use Rattle.onfi_timing.specs.declared.kind.Kind.{Kind}
 use Rattle.onfi_timing.specs.declared.kind.Kind.TheVariants.{Read, Program, Erase}
@@ -10,7 +10,8 @@ use Rattle.onfi_problem.specs.declared.lun_state.LunState.TheVariants.{Free, Run
 use Rattle.onfi_problem.specs.Problem.{Problem}
 use Rattle.onfi_problem.specs.Left.{commands_left}
 use Rattle.onfi_bound.specs.declared.commands.Commands.{Commands}
-use Rattle.onfi_bound.specs.Bounds.{same_kind}
+use Rattle.onfi_bound.specs.declared.node.NodeBounds.{NodeBounds}
+use Rattle.onfi_bound.specs.Bounds.{bus, same_kind}
 
 -- those of that kind that are left of a LUN's running group
 abbrev pub commands_on : Kind → LunState → ℕ
@@ -32,3 +33,8 @@ count_of counts Erase = counts.erase
 -- the counts are those of the commands that are left to the problem
 abbrev pub AreCommands : Problem → Commands → Type 0
 AreCommands p counts = (kind : Kind) → count_of counts kind ≡ commands_of p kind
+
+-- the bus bound and the commands are those of the problem
+pub record AreNodeBounds (p : Problem) (bounds : NodeBounds) : Type 0 where
+  pub bus : bounds.bus ≡ bus p
+  pub commands : AreCommands p bounds.commands

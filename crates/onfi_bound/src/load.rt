@@ -108,15 +108,15 @@ impl Load {
         self.work[lun] += spans.cmd + spans.post + wait;
     }
 
-    /// Whether it is of the wants with these marks.
+    /// Whether it is of the wants with these marks. All are compared, which takes less than to stop at the first that
+    /// differs.
     pub fn is_of(&self, marks: &[bool; 8]) -> bool
         ensures { IsTrue result → self.now.marks ≡ marks.now }
     {
+        let mut same = true;
         for i in 0..8usize {
-            if self.marks[i] != marks[i] {
-                return false;
-            }
+            same &= self.marks[i] == marks[i];
         }
-        true
+        same
     }
 }

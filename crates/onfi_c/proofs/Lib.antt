@@ -1,6 +1,12 @@
 mod Answering
+mod Dues
 mod Few
+mod Geometries
 mod Judging
 mod Mapped
+mod Next
+mod Orders
 mod Recalled
+mod Shifted
+mod Standing
 mod Unplanned

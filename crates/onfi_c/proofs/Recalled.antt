@@ -1,16 +1,22 @@
 -- A plan by a search that remembers states, as it is told.
-use Rattle.std.proofs.Common.{◌≡◌, ℕ, ◌≤◌, List, sym, ap, subst}
+use Rattle.std.proofs.Common.{◌≡◌, ℕ, ◌≤◌, ◌<◌, List, sym, ap, subst}
+use Rattle.onfi_problem.specs.Left.{InLimits}
 use Rattle.onfi_problem.specs.Position.{Position}
 use Rattle.onfi_problem.specs.Problem.{Problem}
-use Rattle.onfi_schedule.specs.Schedule.{Schedule, Optimal, finish}
+use Rattle.onfi_schedule.specs.Schedule.{Schedule, Legal, Optimal, finish}
+use Rattle.onfi_known.specs.Laws.{BelowLaw, NoneBefore}
 use Rattle.onfi_known.specs.Proves.{ProvesTokens}
+use Rattle.onfi_check.specs.Nodes.{HasMoreNodes}
 use Rattle.onfi_planner.specs.Planning.{AreRising}
 use Rattle.onfi_recall.specs.Text.{HasNodesIn, ProvesText, last_opened}
 use Rattle.onfi_recall.specs.Walks.{EndsSooner, HasSoMany}
-use Rattle.onfi_script.specs.Answer.{IsKnown}
+use Rattle.onfi_script.specs.Answer.{IsKnown, IsNear, IsShown, ShowsBelow}
 use Rattle.onfi_c.specs.declared.schedule.PlainPlan.{PlainPlan}
+use Rattle.onfi_c.specs.declared.schedule.PlainWithin.{PlainWithin}
+use Rattle.onfi_c.specs.Early.{IsPlanNear}
 use Rattle.onfi_c.specs.Planned.{IsRecalled}
-use Rattle.onfi_c.specs.Written.{written_plan}
+use Rattle.onfi_c.specs.Within.{IsPlanWithin}
+use Rattle.onfi_c.specs.Written.{written_plan, written_within}
 
 pub is_known : (x : Position) (s : Schedule) (text : List ℕ) (ends : ℕ) → x.all ≡ x.problem.wants → Optimal x.problem s → finish x.problem s ≡ ends → ProvesText x text ends → IsKnown x.problem s text
 is_known x s text ends begun optimal is (tokens, certificate, proves) = record {
@@ -34,3 +40,35 @@ recalled p limit s ends opened reopened plan text known is rising some within no
   again = λ k. subst (EndsSooner p) (sym is) (again k);
   written = ap (λ z. written_plan s z opened) (sym is);
 })
+
+-- .. and of a time before which nothing ends
+pub shows_below : (x : Position) (below : ℕ) (text : List ℕ) → x.all ≡ x.problem.wants → ProvesText x text below → NoneBefore x.problem below → ShowsBelow x.problem below text
+shows_below x below text begun (tokens, certificate, proves) none = record {
+  tokens = tokens;
+  certificate = certificate;
+  certified = subst (λ all. ProvesTokens all tokens x.problem below) begun proves;
+  none_before = none;
+}
+
+none_before : (x : Position) (below : ℕ) (text : List ℕ) → InLimits x.problem → BelowLaw → ProvesText x text below → NoneBefore x.problem below
+none_before x below text limits law (tokens, certificate, proves) = law x.all x.problem tokens below limits.problem limits.small proves
+
+pub planned_within : (x : Position) (limit : ℕ) (s : Schedule) (ends below : ℕ) (text : List ℕ) (plan : PlainWithin) → x.all ≡ x.problem.wants → InLimits x.problem → BelowLaw → Legal x.problem s → finish x.problem s ≡ ends → AreRising s.groups → below ≤ ends
+    → ProvesText x text below → (below < ends → HasMoreNodes x.problem limit) → plan ≡ written_within s ends below → IsPlanWithin x.problem limit plan text
+planned_within x limit s ends below text plan begun limits law legal is rising least cert short written = subst (λ z. IsPlanWithin x.problem limit z text) (sym written) (record {
+  schedule = s;
+  within = record { legal = legal; rising = rising; shown = shows_below x below text begun cert (none_before x below text limits law cert); short = λ h. short (subst (λ z. below < z) is h) };
+  least = subst (λ z. below ≤ z) (sym is) least;
+  written = ap (λ z. written_within s z below) (sym is);
+})
+
+pub planned_near : (p : Problem) (slack limit : ℕ) (s : Schedule) (ends below : ℕ) (text : List ℕ) (plan : PlainWithin) → IsNear (HasMoreNodes p limit) slack p s below text → finish p s ≡ ends → below ≤ ends → plan ≡ written_within s ends below → IsPlanNear p slack limit plan text
+planned_near p slack limit s ends below text plan near is least written = subst (λ z. IsPlanNear p slack limit z text) (sym written) (record {
+  schedule = s;
+  near = near;
+  least = subst (λ z. below ≤ z) (sym is) least;
+  written = ap (λ z. written_within s z below) (sym is);
+})
+
+pub is_shown : (x : Position) (s : Schedule) (below ends : ℕ) (text : List ℕ) → x.all ≡ x.problem.wants → Legal x.problem s → finish x.problem s ≡ ends → below ≤ ends → NoneBefore x.problem below → ProvesText x text below → IsShown x.problem s below text
+is_shown x s below ends text begun legal is least none cert = record { legal = legal; shown = shows_below x below text begun cert none; least = subst (λ z. below ≤ z) (sym is) least }

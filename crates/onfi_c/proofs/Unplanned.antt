@@ -1,7 +1,7 @@
 -- Why there is no plan, as it is told.
 use Rattle.std.proofs.Common.{◌≡◌, ℕ, refl, sym, subst}
 use Rattle.onfi_problem.specs.Problem.{Problem}
-use Rattle.onfi_planner.specs.Nodes.{HasMoreNodes}
+use Rattle.onfi_check.specs.Nodes.{HasMoreNodes}
 use Rattle.onfi_planner.specs.declared.fault.PlanFault.{PlanFault}
 use Rattle.onfi_planner.specs.declared.fault.PlanFault.TheVariants.{Over, Memory}
 use Rattle.onfi_c.specs.declared.status.Status.{Status}

@@ -5,7 +5,7 @@ use Rattle.onfi_schedule.specs.Schedule.{Schedule, Optimal, finish}
 use Rattle.onfi_cert.specs.declared.token.Token.{Token}
 use Rattle.onfi_cert.specs.Text.{text_of}
 use Rattle.onfi_check.specs.Tree.{AcceptsTokens}
-use Rattle.onfi_planner.specs.Nodes.{HasMoreNodes, OpensNodes}
+use Rattle.onfi_check.specs.Nodes.{HasMoreNodes, OpensNodes}
 use Rattle.onfi_planner.specs.Planning.{AreRising}
 use Rattle.onfi_recall.specs.Text.{HasNodesIn, last_opened}
 use Rattle.onfi_recall.specs.Walks.{EndsSooner, HasSoMany}

@@ -5,6 +5,8 @@ use Rattle.onfi_check.specs.declared.fault.CertFault.{CertFault}
 use Rattle.onfi_check.specs.declared.fault.CertFault.TheVariants as cert
 use Rattle.onfi_check.specs.declared.fault.TextFault.{TextFault}
 use Rattle.onfi_check.specs.declared.fault.TextFault.TheVariants as in_text
+use Rattle.onfi_known.specs.declared.fault.WithinTextFault.{WithinTextFault}
+use Rattle.onfi_known.specs.declared.fault.WithinTextFault.TheVariants as in_within
 use Rattle.onfi_known.specs.declared.fault.KnownFault.{KnownFault}
 use Rattle.onfi_known.specs.declared.fault.KnownFault.TheVariants as known
 use Rattle.onfi_known.specs.declared.fault.KnownTextFault.{KnownTextFault}
@@ -60,3 +62,7 @@ known_text_refusal in_known.Header = whole status.BadHeader
 known_text_refusal (in_known.BadToken place) = record { status = status.BadToken; place = place }
 known_text_refusal in_known.Option = whole status.OtherOption
 known_text_refusal (in_known.Cert fault) = known_refusal fault
+
+abbrev pub within_refusal : WithinTextFault → Refusal
+within_refusal (in_within.Known fault) = known_text_refusal fault
+within_refusal in_within.Above = whole status.EndsBefore

@@ -45,11 +45,21 @@ IsBadProblem p _ = ⊥
 abbrev pub IsBadSaid : PlainChannel → List PlainLun → List PlainWant → Status → Type 0
 IsBadSaid channel luns wants status = (status ≡ Memory) ⊎ ((p : Problem) × IsSaid channel luns wants p × IsBadProblem p status)
 
+-- all numbers of what is said are in their ranges
+pub record AreSaid (channel : PlainChannel) (luns : List PlainLun) (wants : List PlainWant) : Type 0 where
+  pub timing : IsGoodTiming channel.timing
+  pub plane_bits : channel.rules.plane_bits ≤ 2
+  pub counts : list_any has_bad_count luns ≡ false
+  pub kinds : have_bad_kind luns wants ≡ false
+
+-- the first that isn't
+pub data IsUnsaid (channel : PlainChannel) (luns : List PlainLun) (wants : List PlainWant) (status : Status) : Type 0 where
+  is_timing : IsBadTiming channel.timing status → IsUnsaid channel luns wants status
+  is_plane_bits : IsGoodTiming channel.timing → 2 < channel.rules.plane_bits → status ≡ BadPlaneBits → IsUnsaid channel luns wants status
+  is_count : IsGoodTiming channel.timing → channel.rules.plane_bits ≤ 2 → list_any has_bad_count luns ≡ true → status ≡ BadMembers → IsUnsaid channel luns wants status
+  is_kind : IsGoodTiming channel.timing → channel.rules.plane_bits ≤ 2 → list_any has_bad_count luns ≡ false → have_bad_kind luns wants ≡ true → status ≡ BadKind → IsUnsaid channel luns wants status
+
 -- the first fault of what is said
 pub data IsRefused (channel : PlainChannel) (luns : List PlainLun) (wants : List PlainWant) (status : Status) : Type 0 where
-  is_timing : IsBadTiming channel.timing status → IsRefused channel luns wants status
-  is_plane_bits : IsGoodTiming channel.timing → 2 < channel.rules.plane_bits → status ≡ BadPlaneBits → IsRefused channel luns wants status
-  is_count : IsGoodTiming channel.timing → channel.rules.plane_bits ≤ 2 → list_any has_bad_count luns ≡ true → status ≡ BadMembers → IsRefused channel luns wants status
-  is_kind : IsGoodTiming channel.timing → channel.rules.plane_bits ≤ 2 → list_any has_bad_count luns ≡ false → have_bad_kind luns wants ≡ true → status ≡ BadKind → IsRefused channel luns wants status
-  is_problem : IsGoodTiming channel.timing → channel.rules.plane_bits ≤ 2 → list_any has_bad_count luns ≡ false → have_bad_kind luns wants ≡ false
-      → IsBadSaid channel luns wants status → IsRefused channel luns wants status
+  is_unsaid : IsUnsaid channel luns wants status → IsRefused channel luns wants status
+  is_problem : AreSaid channel luns wants → IsBadSaid channel luns wants status → IsRefused channel luns wants status

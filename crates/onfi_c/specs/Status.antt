@@ -5,7 +5,7 @@ use Rattle.onfi_planner.specs.declared.fault.PlanFault.TheVariants.{Over as Sear
 use Rattle.onfi_timing.specs.declared.spans.SpanFault.{SpanFault}
 use Rattle.onfi_timing.specs.declared.spans.SpanFault.TheVariants.{Zero as ZeroLength, TooLong}
 use Rattle.onfi_c.specs.declared.status.Status.{Status}
-use Rattle.onfi_c.specs.declared.status.Status.TheVariants.{Done, NoRoom, Memory, BadLimit, Over, ZeroSpan, LongSpan, BadPlaneBits, BadKind, BadMembers, TooMany, BadLun, Clock, BadSchedule, BadHeader, BadToken, TooManyTokens, OtherOption, Illegal, Short, Trailing, Width, BoundLow, YieldNoFit, YieldLoop, NotEnd, PageShort, NoCopy, WideBus, NoStatusEnhanced, NoColumnEnhanced, NoMultiLun, LunCount, PlaneBits, Zero, RowTooWide, ColumnTooWide, TooLarge, SheetMissing, SheetRepeated, SheetUnknown, SheetNotANumber, SheetZeroCycle, SheetTooLong, UnknownNode, OtherLeft, Sooner, TooManyNodes}
+use Rattle.onfi_c.specs.declared.status.Status.TheVariants.{Done, NoRoom, Memory, BadLimit, Over, ZeroSpan, LongSpan, BadPlaneBits, BadKind, BadMembers, TooMany, BadLun, Clock, BadPlace, BadGeometry, BadChoice, BadBatch, BadOrder, BadSchedule, NothingDue, NotDue, TooSoon, BadHeader, BadToken, TooManyTokens, OtherOption, Illegal, Short, Trailing, Width, BoundLow, YieldNoFit, YieldLoop, NotEnd, EndsBefore, PageShort, NoCopy, WideBus, NoStatusEnhanced, NoColumnEnhanced, NoMultiLun, LunCount, PlaneBits, Zero, RowTooWide, ColumnTooWide, TooLarge, SheetMissing, SheetRepeated, SheetUnknown, SheetNotANumber, SheetZeroCycle, SheetTooLong, UnknownNode, OtherLeft, Sooner, TooManyNodes}
 
 abbrev pub number_of : Status → ℕ
 number_of Done = 0
@@ -21,7 +21,15 @@ number_of BadMembers = 14
 number_of TooMany = 20
 number_of BadLun = 21
 number_of Clock = 22
+number_of BadPlace = 23
+number_of BadGeometry = 24
+number_of BadChoice = 25
+number_of BadBatch = 26
+number_of BadOrder = 27
 number_of BadSchedule = 30
+number_of NothingDue = 31
+number_of NotDue = 33
+number_of TooSoon = 34
 number_of BadHeader = 40
 number_of BadToken = 41
 number_of TooManyTokens = 42
@@ -34,6 +42,7 @@ number_of BoundLow = 54
 number_of YieldNoFit = 55
 number_of YieldLoop = 56
 number_of NotEnd = 57
+number_of EndsBefore = 58
 number_of PageShort = 60
 number_of NoCopy = 61
 number_of WideBus = 70
@@ -72,7 +81,15 @@ text_of BadMembers = codes "a running group of more than 4 members"
 text_of TooMany = codes "more than 8 wants, or not 1 to 8 LUNs"
 text_of BadLun = codes "a want, or a running group, that the LUNs can't have"
 text_of Clock = codes "times that reach 2^62 ns"
+text_of BadPlace = codes "a LUN, block or page that the device doesn't have"
+text_of BadGeometry = codes "a geometry that no parameter page gives"
+text_of BadChoice = codes "a choice of a batch that is none"
+text_of BadBatch = codes "a batch that is not 1 to 8"
+text_of BadOrder = codes "numbers of requests that don't rise, or reach the count of all"
 text_of BadSchedule = codes "a count of the schedule out of its range, or a start of 2^63 ns or more"
+text_of NothingDue = codes "no phase of the schedule is left"
+text_of NotDue = codes "a phase that isn't due"
+text_of TooSoon = codes "a phase that started before it may"
 text_of BadHeader = codes "the header line is none of a certificate"
 text_of BadToken = codes "no token of a certificate"
 text_of TooManyTokens = codes "more than 100,000,000 tokens"
@@ -85,6 +102,7 @@ text_of BoundLow = codes "a bound that doesn't reach the finish"
 text_of YieldNoFit = codes "a yield that doesn't fit"
 text_of YieldLoop = codes "a yield that goes round"
 text_of NotEnd = codes "no end"
+text_of EndsBefore = codes "the schedule ends before the time that is told"
 text_of PageShort = codes "fewer than 256 bytes of a parameter page"
 text_of NoCopy = codes "no copy of the parameter page is sound"
 text_of WideBus = codes "the data bus has 16 bits"

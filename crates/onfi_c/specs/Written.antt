@@ -5,6 +5,7 @@ use Rattle.onfi_c.specs.declared.schedule.PlainRest.{PlainRest}
 use Rattle.onfi_c.specs.declared.schedule.PlainGroup.{PlainGroup}
 use Rattle.onfi_c.specs.declared.schedule.PlainSchedule.{PlainSchedule}
 use Rattle.onfi_c.specs.declared.schedule.PlainPlan.{PlainPlan}
+use Rattle.onfi_c.specs.declared.schedule.PlainWithin.{PlainWithin}
 
 -- in front of as many of the rest as fill up n places
 abbrev pub filled : {A : Type 0} → ℕ → A → List A → List A
@@ -35,3 +36,7 @@ written_schedule s = record {
 
 abbrev pub written_plan : Schedule → ℕ → ℕ → PlainPlan
 written_plan s finish opened = record { schedule = written_schedule s; finish = finish; opened = opened }
+
+-- .. of which nothing ends before `below`
+abbrev pub written_within : Schedule → ℕ → ℕ → PlainWithin
+written_within s finish below = record { schedule = written_schedule s; finish = finish; below = below }

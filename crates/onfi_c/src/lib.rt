@@ -5,21 +5,33 @@
 #![tactic(auto)]
 
 mod answered;
+mod behind;
 mod channel;
 mod checking;
+mod choosing;
+mod coming;
 mod device;
+mod due;
+mod early;
+mod geometry;
+mod later;
 mod lun;
+mod phase;
 mod planning;
+mod ran;
 mod recalling;
 mod refusal;
 mod room;
+mod row;
 mod said;
 mod said_schedule;
 mod schedule;
 mod script;
+mod stand;
 mod status;
 mod status_text;
 mod timing;
 mod told;
 mod version;
+mod within;
 mod written;

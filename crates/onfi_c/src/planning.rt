@@ -18,7 +18,7 @@ use onfi_problem::Problem;
 use std::alloc::{AllocError, Global};
 
 /// The most nodes that a search may open.
-const MOST_NODES: u32 = 1_048_576;
+pub const MOST_NODES: u32 = 1_048_576;
 
 /// The text of a plan's certificate.
 fn certificate(alloc: Global, strict: bool, planned: &Planned) -> Result<Vec<u8>, AllocError>
@@ -88,7 +88,7 @@ fn tell_said(
 }
 
 /// Gives a text where there is room for any, and tells how many bytes it has.
-fn give_asked(text: &[u8], room: &mut [u8], bytes: &mut usize) -> u32
+pub fn give_asked(text: &[u8], room: &mut [u8], bytes: &mut usize) -> u32
     ensures { GivesAsked text.now room.old room.new bytes.new result }
 {
     if room.is_empty() {

@@ -2,7 +2,7 @@
 use crate::status::Status;
 use onfi_cert::CertTextFault;
 use onfi_check::{CertFault, TextFault};
-use onfi_known::{KnownFault, KnownTextFault};
+use onfi_known::{KnownFault, KnownTextFault, WithinTextFault};
 
 /// What a call tells, and the place that it speaks of; 0 where it speaks of none.
 #[derive(Clone, Copy)]
@@ -13,7 +13,7 @@ pub struct Refusal {
 
 impl Refusal {
     ghost use Rattle.std.specs.Prelude.{◌≡◌};
-    ghost use Rattle.onfi_c.specs.Refusal.{whole, cert_refusal, cert_text_refusal, text_refusal, known_refusal, known_text_refusal};
+    ghost use Rattle.onfi_c.specs.Refusal.{whole, cert_refusal, cert_text_refusal, text_refusal, known_refusal, known_text_refusal, within_refusal};
 
     /// What speaks of no place.
     pub fn whole(status: Status) -> Refusal
@@ -106,6 +106,16 @@ impl Refusal {
             },
             KnownTextFault::Option => Refusal::whole(Status::OtherOption),
             KnownTextFault::Cert(fault) => Refusal::of_known(fault),
+        }
+    }
+
+    /// What tells why such a text doesn't show that nothing ends before a time, of a schedule that ends then or later.
+    pub fn of_within(fault: WithinTextFault) -> Refusal
+        ensures { result ≡ within_refusal fault }
+    {
+        match fault {
+            WithinTextFault::Known(fault) => Refusal::of_known_text(fault),
+            WithinTextFault::Above => Refusal::whole(Status::EndsBefore),
         }
     }
 }

@@ -2,7 +2,7 @@
 ghost use Rattle.std.specs.Prelude.{◌≡◌, ◌≤◌, ◌%◌, ◌^◌, Bool, false, true, IfOk, IfErr, MatchResult};
 ghost use Rattle.std.specs.List.{list_any};
 ghost use Rattle.onfi_c.specs.Said as spec;
-ghost use Rattle.onfi_c.specs.Refused.{AreBadSpans, AreGoodSpans, IsBadTiming, IsGoodTiming, IsBadProblem, IsBadSaid, IsRefused};
+ghost use Rattle.onfi_c.specs.Refused.{AreBadSpans, AreGoodSpans, IsBadTiming, IsGoodTiming, IsBadProblem, IsBadSaid, IsRefused, IsUnsaid, AreSaid};
 ghost use Rattle.onfi_problem.specs.Kept.{problem_of as parts_of};
 
 use crate::channel::{PlainChannel, PlainRules, PlainSpans, PlainTiming};
@@ -66,7 +66,7 @@ fn kind_of(kind: u8) -> Kind
 }
 
 /// A request.
-fn want_of(plane_bits: u8, said: &PlainWant) -> Want
+pub fn want_of(plane_bits: u8, said: &PlainWant) -> Want
     requires { plane_bits ≤ 2 }
     ensures { result ≡ spec.want_of plane_bits said.now }
 {
@@ -81,7 +81,7 @@ fn want_of(plane_bits: u8, said: &PlainWant) -> Want
 }
 
 /// Requests.
-fn wants_of(alloc: Global, plane_bits: u8, said: &[PlainWant]) -> Result<Vec<Want>, AllocError>
+pub fn wants_of(alloc: Global, plane_bits: u8, said: &[PlainWant]) -> Result<Vec<Want>, AllocError>
     requires { plane_bits ≤ 2 }
     ensures { IfOk result (λ v. v.items ≡ spec.wants_of plane_bits said.now) }
 {
@@ -110,7 +110,11 @@ fn state_of(alloc: Global, plane_bits: u8, said: &PlainLun) -> Result<LunState, 
 }
 
 /// What each LUN does.
-fn states_of(alloc: Global, plane_bits: u8, said: &[PlainLun]) -> Result<Vec<LunState>, AllocError>
+pub fn states_of(
+    alloc: Global,
+    plane_bits: u8,
+    said: &[PlainLun],
+) -> Result<Vec<LunState>, AllocError>
     requires bits { plane_bits ≤ 2 }
     requires members { list_any spec.has_bad_count said.now ≡ false }
     ensures { IfOk result (λ v. v.items ≡ spec.states_of plane_bits said.now) }
@@ -154,7 +158,7 @@ fn have_bad_member(said: &[PlainLun]) -> bool
 }
 
 /// The rules of a channel.
-fn rules(said: &PlainRules) -> Rules
+pub fn rules(said: &PlainRules) -> Rules
     requires { said.now.plane_bits ≤ 2 }
     ensures { spec.AreRules said.now result }
 {
@@ -215,16 +219,15 @@ fn open_said(
     )
 }
 
-/// The problem that a caller says.
-pub fn problem_of(
-    alloc: Global,
+/// The lengths of a channel, where all numbers of what is said are in their ranges.
+pub fn timing_said(
     channel: &PlainChannel,
     luns: &[PlainLun],
     wants: &[PlainWant],
-) -> Result<Problem, Status>
-    ensures said { IfOk result (λ p. spec.IsSaid channel.now luns.now wants.now p.problem) }
-    ensures begun { IfOk result (λ p. p.all ≡ p.problem.wants) }
-    ensures refused { IfErr result (λ status. IsRefused channel.now luns.now wants.now status) }
+) -> Result<Timing, Status>
+    ensures timing { IfOk result (λ timing. spec.IsTiming channel.now.timing timing) }
+    ensures said { IfOk result (λ _. AreSaid channel.now luns.now wants.now) }
+    ensures unsaid { IfErr result (λ status. IsUnsaid channel.now luns.now wants.now status) }
 {
     let timing = match timing(&channel.timing) {
         Ok(timing) => timing,
@@ -239,5 +242,22 @@ pub fn problem_of(
     if have_bad_member(luns) || has_bad_kind(wants) {
         return Err(Status::BadKind);
     }
-    open_said(alloc, timing, channel, luns, wants)
+    Ok(timing)
+}
+
+/// The problem that a caller says.
+pub fn problem_of(
+    alloc: Global,
+    channel: &PlainChannel,
+    luns: &[PlainLun],
+    wants: &[PlainWant],
+) -> Result<Problem, Status>
+    ensures said { IfOk result (λ p. spec.IsSaid channel.now luns.now wants.now p.problem) }
+    ensures begun { IfOk result (λ p. p.all ≡ p.problem.wants) }
+    ensures refused { IfErr result (λ status. IsRefused channel.now luns.now wants.now status) }
+{
+    match timing_said(channel, luns, wants) {
+        Ok(timing) => open_said(alloc, timing, channel, luns, wants),
+        Err(status) => Err(status),
+    }
 }

@@ -82,7 +82,7 @@ fn rest_of(alloc: Global, said: &PlainRest) -> Starts
 }
 
 /// The same of several.
-fn rests_of(alloc: Global, said: &[PlainRest]) -> Result<Vec<Starts>, AllocError>
+pub fn rests_of(alloc: Global, said: &[PlainRest]) -> Result<Vec<Starts>, AllocError>
     requires { list_any spec.is_bad_rest said.now ≡ false }
     ensures { IfOk result (λ v. v.items ≡ map spec.rest_of said.now) }
 {
@@ -143,7 +143,11 @@ fn group_of(alloc: Global, wants: &[Want], said: &PlainGroup) -> Placed
 }
 
 /// The same of several.
-fn groups_of(alloc: Global, wants: &[Want], said: &[PlainGroup]) -> Result<Vec<Placed>, AllocError>
+pub fn groups_of(
+    alloc: Global,
+    wants: &[Want],
+    said: &[PlainGroup],
+) -> Result<Vec<Placed>, AllocError>
     requires { list_any spec.is_bad_group said.now ≡ false }
     ensures { IfOk result (λ v. v.items ≡ map (spec.group_of wants.now) said.now) }
 {

@@ -35,6 +35,15 @@ pub struct PlainPlan {
     pub opened: u32,
 }
 
+/// A plan within a limit of nodes: its schedule, when its last phase ends, and before which time nothing ends, both in ns.
+#[repr(C)]
+#[derive(Clone, Copy)]
+pub struct PlainWithin {
+    pub schedule: PlainSchedule,
+    pub finish: u64,
+    pub below: u64,
+}
+
 /// What a check tells: when the schedule ends, in ns, where it is accepted, and the token that a refusal speaks of.
 #[repr(C)]
 #[derive(Clone, Copy)]

@@ -34,8 +34,24 @@ pub enum Status {
     BadLun,
     /// Times that reach 2^62 ns.
     Clock,
+    /// A LUN, block or page that the device doesn't have.
+    BadPlace,
+    /// A geometry that no parameter page gives.
+    BadGeometry,
+    /// The choice of a batch is above 2.
+    BadChoice,
+    /// A batch of no request, or of more than eight.
+    BadBatch,
+    /// Numbers of requests don't rise, or reach the count of all that were accepted.
+    BadOrder,
     /// A count of a schedule is out of its range, or a start is 2^63 ns or more.
     BadSchedule,
+    /// No phase of the schedule is left.
+    NothingDue,
+    /// The phase isn't the one that is due.
+    NotDue,
+    /// The phase started before it may.
+    TooSoon,
     /// The header line is none of a certificate.
     BadHeader,
     /// No token stands at the place, or so many good ones do and the text doesn't end with one LF behind them.
@@ -60,6 +76,8 @@ pub enum Status {
     YieldLoop,
     /// Something is left to do, or less time has passed.
     NotEnd,
+    /// The schedule ends before the time that is told.
+    EndsBefore,
     /// A parameter page has fewer than 256 bytes.
     PageShort,
     /// No copy of a parameter page has two signature bytes and the right check value.
@@ -107,7 +125,7 @@ pub enum Status {
 }
 
 /// Each of them.
-pub const ALL: [Status; 48] = [
+pub const ALL: [Status; 57] = [
     Status::Done,
     Status::NoRoom,
     Status::Memory,
@@ -121,7 +139,15 @@ pub const ALL: [Status; 48] = [
     Status::TooMany,
     Status::BadLun,
     Status::Clock,
+    Status::BadPlace,
+    Status::BadGeometry,
+    Status::BadChoice,
+    Status::BadBatch,
+    Status::BadOrder,
     Status::BadSchedule,
+    Status::NothingDue,
+    Status::NotDue,
+    Status::TooSoon,
     Status::BadHeader,
     Status::BadToken,
     Status::TooManyTokens,
@@ -134,6 +160,7 @@ pub const ALL: [Status; 48] = [
     Status::YieldNoFit,
     Status::YieldLoop,
     Status::NotEnd,
+    Status::EndsBefore,
     Status::PageShort,
     Status::NoCopy,
     Status::WideBus,
@@ -177,7 +204,15 @@ impl Status {
             Status::TooMany => 20,
             Status::BadLun => 21,
             Status::Clock => 22,
+            Status::BadPlace => 23,
+            Status::BadGeometry => 24,
+            Status::BadChoice => 25,
+            Status::BadBatch => 26,
+            Status::BadOrder => 27,
             Status::BadSchedule => 30,
+            Status::NothingDue => 31,
+            Status::NotDue => 33,
+            Status::TooSoon => 34,
             Status::BadHeader => 40,
             Status::BadToken => 41,
             Status::TooManyTokens => 42,
@@ -190,6 +225,7 @@ impl Status {
             Status::YieldNoFit => 55,
             Status::YieldLoop => 56,
             Status::NotEnd => 57,
+            Status::EndsBefore => 58,
             Status::PageShort => 60,
             Status::NoCopy => 61,
             Status::WideBus => 70,
@@ -233,8 +269,16 @@ impl Status {
             Status::TooMany => "more than 8 wants, or not 1 to 8 LUNs",
             Status::BadLun => "a want, or a running group, that the LUNs can't have",
             Status::Clock => "times that reach 2^62 ns",
+            Status::BadPlace => "a LUN, block or page that the device doesn't have",
+            Status::BadGeometry => "a geometry that no parameter page gives",
+            Status::BadChoice => "a choice of a batch that is none",
+            Status::BadBatch => "a batch that is not 1 to 8",
+            Status::BadOrder => "numbers of requests that don't rise, or reach the count of all",
             Status::BadSchedule =>
                 "a count of the schedule out of its range, or a start of 2^63 ns or more",
+            Status::NothingDue => "no phase of the schedule is left",
+            Status::NotDue => "a phase that isn't due",
+            Status::TooSoon => "a phase that started before it may",
             Status::BadHeader => "the header line is none of a certificate",
             Status::BadToken => "no token of a certificate",
             Status::TooManyTokens => "more than 100,000,000 tokens",
@@ -247,6 +291,7 @@ impl Status {
             Status::YieldNoFit => "a yield that doesn't fit",
             Status::YieldLoop => "a yield that goes round",
             Status::NotEnd => "no end",
+            Status::EndsBefore => "the schedule ends before the time that is told",
             Status::PageShort => "fewer than 256 bytes of a parameter page",
             Status::NoCopy => "no copy of the parameter page is sound",
             Status::WideBus => "the data bus has 16 bits",

@@ -1,10 +1,10 @@
 //! From a plan to a plain struct.
 ghost use Rattle.std.specs.Prelude.{◌≡◌, ◌≤◌, ℕ, List, length, map, IfOk};
-ghost use Rattle.onfi_schedule.specs.Schedule.{Optimal};
+ghost use Rattle.onfi_schedule.specs.Schedule.{Legal, Optimal};
 ghost use Rattle.onfi_problem.specs.Left.{InLimits};
 ghost use Rattle.onfi_c.specs.Written as spec;
 
-use crate::schedule::{PlainGroup, PlainPlan, PlainRest, PlainSchedule};
+use crate::schedule::{PlainGroup, PlainPlan, PlainRest, PlainSchedule, PlainWithin};
 use onfi_problem::Problem;
 use onfi_request::Want;
 use onfi_schedule::{Placed, Schedule, Starts};
@@ -101,7 +101,7 @@ const NO_GROUP: PlainGroup = PlainGroup {
 };
 
 /// A schedule of up to eight LUNs and groups.
-fn schedule(alloc: Global, of: &Schedule) -> Result<PlainSchedule, AllocError>
+pub fn schedule(alloc: Global, of: &Schedule) -> Result<PlainSchedule, AllocError>
     requires luns { length of.now.rest ≤ 8 }
     requires groups { length of.now.groups ≤ 8 }
     ensures { IfOk result (λ s. s ≡ spec.written_schedule of.now) }
@@ -119,9 +119,9 @@ fn schedule(alloc: Global, of: &Schedule) -> Result<PlainSchedule, AllocError>
     })
 }
 
-/// An optimal schedule has no more LUNs and groups than there are places.
-fn is_small(problem: &Problem, of: &Schedule)
-    requires { Optimal problem.now.problem of.now }
+/// A legal schedule has no more LUNs and groups than there are places.
+pub fn is_small(problem: &Problem, of: &Schedule)
+    requires { Legal problem.now.problem of.now }
     ensures luns { length of.now.rest ≤ 8 }
     ensures groups { length of.now.groups ≤ 8 }
 {
@@ -146,5 +146,25 @@ pub fn plan(
         schedule,
         finish,
         opened,
+    })
+}
+
+/// A plan of the problem: its schedule, when it ends, and before which time nothing ends, both in ns.
+pub fn within(
+    alloc: Global,
+    problem: &Problem,
+    planned: &Schedule,
+    ends: u64,
+    below: u64,
+) -> Result<PlainWithin, AllocError>
+    requires { Legal problem.now.problem planned.now }
+    ensures { IfOk result (λ p. p ≡ spec.written_within planned.now ends below) }
+{
+    is_small(problem, planned);
+    let schedule = schedule(alloc, planned)?;
+    Ok(PlainWithin {
+        schedule,
+        finish: ends,
+        below,
     })
 }

@@ -5,6 +5,7 @@ use crate::held::HostEnds;
 use crate::play::fresh_chip;
 use onfi_chip::SimChip;
 use onfi_core::Setup;
+use onfi_planners::PlainPlanner;
 use onfi_queue::{Host, SubmitFault};
 use onfi_reply::Inbox;
 use onfi_request::{Reply, Request};
@@ -36,7 +37,7 @@ impl Gate for Watch {
 #[derive(Drop)]
 pub(crate) struct Bench {
     alloc: Global,
-    sequencer: Sequencer<SimChip>,
+    sequencer: Sequencer<PlainPlanner, SimChip>,
     hosts: [Host; 4],
     inboxes: [Inbox; 4],
     gate: Watch,
@@ -71,7 +72,15 @@ impl Bench {
             hosts,
             inboxes,
         } = ends;
-        let sequencer = Sequencer::open(alloc, setup, channel, chip, intake, posters)?;
+        let sequencer = Sequencer::open(
+            alloc,
+            setup,
+            channel,
+            PlainPlanner,
+            chip,
+            intake,
+            posters,
+        )?;
         let gate = Watch {
             channel,
             begun: 0,
@@ -220,7 +229,7 @@ impl Bench {
     }
 
     /// The sequencer and its hosts' ends, for threads of their own.
-    pub(crate) fn into_parts(self) -> (Sequencer<SimChip>, HostEnds) {
+    pub(crate) fn into_parts(self) -> (Sequencer<PlainPlanner, SimChip>, HostEnds) {
         let Bench {
             sequencer,
             hosts,

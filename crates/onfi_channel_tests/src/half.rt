@@ -4,6 +4,7 @@ ghost use Rattle.onfi_request.specs.Range.{Fits};
 use crate::setup::one_channel;
 use onfi_addr::Place;
 use onfi_core::{AcceptFault, Cause, Due, DueRefusal, Half, PhaseResult, PlanRefusal, Setup};
+use onfi_planners::PlainPlanner;
 use onfi_problem::LunState;
 use onfi_request::{Answer, Item, Request, check};
 use onfi_samples::request_of;
@@ -45,13 +46,42 @@ fn a_channel_goes_on_after_over(rt: HostRuntime) -> Result<(), AllocError> {
         request: second,
     });
     assert_eq!(rt; (first, second), (0, 1));
-    assert!(rt; half.plan(alloc) == Err(PlanRefusal::Over { opened: 2 }));
+    assert!(rt; half.plan(alloc, &PlainPlanner) == Err(PlanRefusal::Over { opened: 2 }));
     half.set_batch(1);
-    assert!(rt; half.plan(alloc) == Ok(211_180));
-    assert!(rt; half.plan(alloc) == Err(PlanRefusal::NothingToPlan));
+    assert!(rt; half.plan(alloc, &PlainPlanner) == Ok(211_180));
+    assert!(rt; half.plan(alloc, &PlainPlanner) == Err(PlanRefusal::NothingToPlan));
     let finish = half.last().map(|last| last.1.finish);
     assert_eq!(rt; finish, Some(211_180));
     assert!(rt; half.held(0).is_none());
+    Ok(())
+}
+
+#[test]
+fn a_lun_that_is_ready_early_posts_early(rt: HostRuntime) -> Result<(), AllocError> {
+    let alloc = rt.alloc();
+    let setup = one_channel(&rt, false, 4, 8, 1, 1_000);
+    let request = program(&rt, alloc, &setup, 0)?;
+    let mut half = Half::open(alloc, setup)?;
+    assert!(rt; half.refuses().is_none());
+    half.accept(Item {
+        host: 0,
+        serial: 0,
+        request,
+    });
+    assert!(rt; half.plan(alloc, &PlainPlanner) == Ok(211_180));
+    assert_eq!(rt; command_done(&rt, alloc, &mut half), (0, 0));
+    assert!(rt; half.wait(alloc, 100_000) == Ok(100_000));
+    assert!(rt; half.refuses_ready(0).is_none());
+    assert_eq!(rt; half.ready(0), 100_000);
+    assert!(rt; half.plan(alloc, &PlainPlanner) == Ok(100_280));
+    assert!(rt; half.plan(alloc, &PlainPlanner) == Err(PlanRefusal::NothingToPlan));
+    assert!(rt; half.refuses_ready(0).is_none());
+    assert_eq!(rt; half.ready(0), 100_000);
+    assert!(rt; half.plan(alloc, &PlainPlanner) == Err(PlanRefusal::NothingToPlan));
+    assert_eq!(rt;
+        post_done(&rt, alloc, &mut half, Answer::Done),
+        (100_000, 0)
+    );
     Ok(())
 }
 
@@ -68,7 +98,7 @@ fn the_first_command_is_due(rt: HostRuntime) -> Result<(), AllocError> {
         serial: 0,
         request,
     });
-    assert!(rt; half.plan(alloc) == Ok(211_180));
+    assert!(rt; half.plan(alloc, &PlainPlanner) == Ok(211_180));
     match half.due(alloc) {
         Ok(due) => is_first_command(&rt, &due),
         Err(_) => assert!(rt; false),
@@ -161,7 +191,7 @@ fn two_programs(rt: &impl Abort, alloc: Global) -> Result<Half, AllocError>
         serial: 0,
         request: second,
     });
-    assert!(rt; half.plan(alloc) == Ok(222_860));
+    assert!(rt; half.plan(alloc, &PlainPlanner) == Ok(222_860));
     Ok(half)
 }
 
@@ -200,7 +230,7 @@ fn a_stopped_channel_stays_stopped(rt: HostRuntime) -> Result<(), AllocError> {
     let cause = Cause::NotReady(1);
     half.stop(cause);
     assert!(rt; half.refuses() == Some(AcceptFault::Stopped(cause)));
-    assert!(rt; half.plan(alloc) == Err(PlanRefusal::Stopped(cause)));
+    assert!(rt; half.plan(alloc, &PlainPlanner) == Err(PlanRefusal::Stopped(cause)));
     match half.due(alloc) {
         Err(DueRefusal::Stopped(told)) => assert_eq!(rt; told, cause),
         Ok(_) | Err(DueRefusal::NoPlan) => assert!(rt; false),
@@ -236,7 +266,7 @@ fn a_half_tells_how_far_it_is(rt: HostRuntime) -> Result<(), AllocError> {
     assert_eq!(rt; progress(&half), (false, false, 1, 0, false));
     half.set_batch(2);
     assert_eq!(rt; progress(&half), (true, false, 1, 0, false));
-    assert!(rt; half.plan(alloc) == Ok(211_180));
+    assert!(rt; half.plan(alloc, &PlainPlanner) == Ok(211_180));
     assert_eq!(rt; progress(&half), (true, true, 1, 0, false));
     assert_eq!(rt; command_done(&rt, alloc, &mut half), (0, 3));
     assert_eq!(rt; progress(&half), (true, true, 1, 0, false));

@@ -2,6 +2,7 @@ use crate::batch::{NONE, Op, Told, request_for, told_by};
 use crate::bench::Bench;
 use crate::setup::two_channels;
 use onfi_chip::SimChip;
+use onfi_planners::PlainPlanner;
 use onfi_queue::Host;
 use onfi_reply::Inbox;
 use onfi_samples::sample_geometry;
@@ -58,7 +59,12 @@ impl Gate for Hold<'_> {
 }
 
 // Makes turns until nothing is left to do and the host has ended.
-fn serve<R: Wait>(rt: &R, alloc: Global, mut sequencer: Sequencer<SimChip>, signals: &Signals) {
+fn serve<R: Wait>(
+    rt: &R,
+    alloc: Global,
+    mut sequencer: Sequencer<PlainPlanner, SimChip>,
+    signals: &Signals,
+) {
     let mut gate = Hold { signals };
     for _ in rt.forever() {
         let turn = sequencer.turn(rt, alloc, &mut gate);
@@ -122,7 +128,7 @@ fn visit<R: Wait>(
 fn serve_other<R: Threads + Wait + Sync>(
     rt: &R,
     alloc: Global,
-    sequencer: Sequencer<SimChip>,
+    sequencer: Sequencer<PlainPlanner, SimChip>,
     held: HostEnds,
     other: HostEnds,
     signals: &Signals,

@@ -5,6 +5,7 @@ use crate::setup::one_channel;
 use onfi_cert::write;
 use onfi_chip::SimChip;
 use onfi_core::{Cause, Core};
+use onfi_planners::PlainPlanner;
 use onfi_timing::Kind;
 use std::alloc::{AllocError, Global};
 use std::process::Abort;
@@ -148,7 +149,7 @@ fn a_later_plan_is_kept_in_place_of_the_first(rt: HostRuntime) -> Result<(), All
 fn has_plan(
     rt: &impl Abort,
     alloc: Global,
-    core: &Core<SimChip>,
+    core: &Core<PlainPlanner, SimChip>,
     finish: u64,
     starts: &[&[u64]],
     text: &[u8],
@@ -162,7 +163,8 @@ fn has_plan(
     for (placed, want) in groups.iter().zip(starts.iter()) {
         assert!(rt; placed.starts().as_slice() == *want);
     }
-    let written = write(alloc, false, plan.cert.as_slice()).expect(rt, "memory");
+    let tokens = plan.cert.tokens().expect(rt, "tokens");
+    let written = write(alloc, false, tokens).expect(rt, "memory");
     assert!(rt; written.as_slice() == text);
 }
 

@@ -6,6 +6,8 @@ mod batch;
 #[cfg(test)]
 mod bench;
 #[cfg(test)]
+mod choosing;
+#[cfg(test)]
 mod half;
 #[cfg(test)]
 mod held;
@@ -14,9 +16,13 @@ mod last;
 #[cfg(test)]
 mod machine;
 #[cfg(test)]
+mod passing;
+#[cfg(test)]
 mod phases;
 #[cfg(test)]
 mod plain;
+#[cfg(test)]
+mod planners;
 #[cfg(test)]
 mod play;
 #[cfg(test)]

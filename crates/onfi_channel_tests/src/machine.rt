@@ -5,8 +5,9 @@ use crate::batch::NONE;
 use crate::play::{Act, Told, event_of, fresh_chip, named, open_core, open_with, play, play_on};
 use crate::setup::one_channel;
 use onfi_chip::{Chip, ChipFault, Closer, SimChip};
-use onfi_core::{Cause, Core, CoreFault, Event, Outcome, Setup};
+use onfi_core::{Cause, Choice, Core, CoreFault, Event, Outcome, Setup};
 use onfi_group::Rules;
+use onfi_planners::PlainPlanner;
 use onfi_request::RequestFault;
 use onfi_samples::{sample_geometry, sample_timing};
 use onfi_timing::{Kind, Spans, Timing};
@@ -49,6 +50,10 @@ impl Chip for Starved {
     fn status(&mut self, now: u64, row: u64) -> Result<u8, ChipFault> {
         self.chip.status(now, row)
     }
+
+    fn poll(&mut self, now: u64, lun: u8) -> bool {
+        self.chip.poll(now, lun)
+    }
 }
 
 #[test]
@@ -61,7 +66,7 @@ fn reads_of_one_host_one_after_another(rt: HostRuntime) -> Result<(), AllocError
 fn read_one_after_another(
     rt: &impl Abort,
     alloc: Global,
-    core: &mut Core<SimChip>,
+    core: &mut Core<PlainPlanner, SimChip>,
 ) -> Result<(), AllocError> {
     let first = [
         (READ, Told::Submitted(0)),
@@ -92,7 +97,7 @@ fn read_one_after_another(
 fn one_read(
     rt: &impl Abort,
     alloc: Global,
-    core: &mut Core<SimChip>,
+    core: &mut Core<PlainPlanner, SimChip>,
     number: u32,
 ) -> Result<(), AllocError> {
     let place = u64::from(number);
@@ -143,7 +148,7 @@ fn a_core_goes_on_after_over(rt: HostRuntime) -> Result<(), AllocError> {
 fn go_on_after_over(
     rt: &impl Abort,
     alloc: Global,
-    core: &mut Core<SimChip>,
+    core: &mut Core<PlainPlanner, SimChip>,
 ) -> Result<(), AllocError>
     requires { core.old.0.channels ≡ 1 }
 {
@@ -265,7 +270,12 @@ fn a_core_has_one_chip_for_each_channel(rt: HostRuntime) {
     )
     .expect(&rt, "in range");
     let none: Vec<SimChip> = Vec::new(alloc);
-    assert!(rt; matches!(Core::open(alloc, setup, none), Err(CoreFault::Chips)));
+    assert!(rt;
+        matches!(
+            Core::open(alloc, setup, PlainPlanner, none),
+            Err(CoreFault::Chips)
+        )
+    );
 }
 
 #[test]
@@ -280,7 +290,7 @@ fn a_window_and_a_completion_queue_are_full(rt: HostRuntime) -> Result<(), Alloc
 fn fill_the_window(
     rt: &impl Abort,
     alloc: Global,
-    core: &mut Core<SimChip>,
+    core: &mut Core<PlainPlanner, SimChip>,
 ) -> Result<(), AllocError> {
     for place in 0..64u32 {
         let table = [
@@ -300,7 +310,7 @@ fn fill_the_window(
 fn post_until_full(
     rt: &impl Abort,
     alloc: Global,
-    core: &mut Core<SimChip>,
+    core: &mut Core<PlainPlanner, SimChip>,
 ) -> Result<(), AllocError> {
     for number in 0..8u64 {
         let table = [
@@ -386,14 +396,17 @@ fn a_spent_clock_stops_its_channel(rt: HostRuntime) -> Result<(), AllocError> {
     let setup = Setup::new(sample_geometry(), timing, rules, 1, 1, 8, 1, 1, 1_000).expect(
         &rt, "in range",
     );
-    let mut core = open_core(&rt, alloc, setup, &[], &[])?;
-    spend_the_clock(&rt, alloc, &mut core)
+    for choice in [Choice::InOrder, Choice::ByLun] {
+        let mut core = open_core(&rt, alloc, setup.with_choice(choice), &[], &[])?;
+        spend_the_clock(&rt, alloc, &mut core)?;
+    }
+    Ok(())
 }
 
 fn spend_the_clock(
     rt: &impl Abort,
     alloc: Global,
-    core: &mut Core<SimChip>,
+    core: &mut Core<PlainPlanner, SimChip>,
 ) -> Result<(), AllocError> {
     for number in 0..1_365 {
         one_long_erase(rt, alloc, core, number)?;
@@ -414,7 +427,7 @@ fn spend_the_clock(
 fn one_long_erase(
     rt: &impl Abort,
     alloc: Global,
-    core: &mut Core<SimChip>,
+    core: &mut Core<PlainPlanner, SimChip>,
     number: u32,
 ) -> Result<(), AllocError>
     requires { number < 1365 }

@@ -2,7 +2,7 @@
 
 use crate::play::{Act, Told};
 use onfi_group::Group;
-use onfi_planner::Planned;
+use onfi_plan::Plan;
 use onfi_request::RequestFault;
 use onfi_schedule::Starts;
 use onfi_timing::{Kind, Timing};
@@ -107,7 +107,7 @@ impl Plain {
         alloc: Global,
         host: u8,
         act: Act,
-        plan: Option<&Planned>,
+        plan: Option<&Plan>,
     ) -> Result<Told, AllocError> {
         match act {
             Act::Submit(kind, lun, block) => self.submit(host, kind, lun, block),
@@ -158,7 +158,7 @@ impl Plain {
         &mut self,
         rt: &impl Abort,
         alloc: Global,
-        plan: Option<&Planned>,
+        plan: Option<&Plan>,
     ) -> Result<Told, AllocError> {
         let room = BATCH.saturating_sub(self.wants.len());
         let end = self.accepted.len().min(self.planned.saturating_add(room));
@@ -174,7 +174,7 @@ impl Plain {
     }
 
     // The starts of the plan take the place of those that are left; its groups are of the wants.
-    fn follow(&mut self, rt: &impl Abort, alloc: Global, plan: &Planned) -> Result<(), AllocError> {
+    fn follow(&mut self, rt: &impl Abort, alloc: Global, plan: &Plan) -> Result<(), AllocError> {
         self.left.clear();
         for (running, starts) in self.running.iter().zip(plan.schedule.rest()) {
             if let Some((group, next)) = running {

@@ -6,6 +6,8 @@ use crate::batch::Trouble;
 use onfi_addr::Place;
 use onfi_chip::{Chip, SimChip};
 use onfi_core::{Cause, Core, Event, Outcome, Setup};
+use onfi_plan::Planner;
+use onfi_planners::PlainPlanner;
 use onfi_request::{Answer, Request, RequestFault};
 use onfi_samples::{request_of, sample_geometry};
 use onfi_timing::Kind;
@@ -30,6 +32,8 @@ pub(crate) enum Told {
     Accepted(u64),
     Planned(u64),
     Phase(u64),
+    Waited(u64),
+    ReadyFrom(u64),
     Posted(u64),
     /// Place and serial, and the first byte of a read.
     Collected(u64, u32, Option<u8>),
@@ -47,6 +51,9 @@ pub(crate) enum Told {
     WindowFull,
     NothingToPlan,
     NothingToPost,
+    TooLate,
+    NotInArray,
+    StillBusy,
     NoSuch,
 }
 
@@ -63,6 +70,8 @@ pub(crate) fn named(outcome: &Outcome) -> Told {
         Outcome::Accepted { place } => Told::Accepted(*place),
         Outcome::Planned { finish } => Told::Planned(*finish),
         Outcome::Phase { start } => Told::Phase(*start),
+        Outcome::Waited { bus_free } => Told::Waited(*bus_free),
+        Outcome::ReadyFrom { ready } => Told::ReadyFrom(*ready),
         Outcome::Posted { place } => Told::Posted(*place),
         Outcome::Collected(reply) => match &reply.answer {
             Answer::Failed => Told::Failed(reply.place),
@@ -81,6 +90,9 @@ pub(crate) fn named(outcome: &Outcome) -> Told {
         Outcome::WindowFull => Told::WindowFull,
         Outcome::NothingToPlan => Told::NothingToPlan,
         Outcome::NothingToPost => Told::NothingToPost,
+        Outcome::TooLate => Told::TooLate,
+        Outcome::NotInArray => Told::NotInArray,
+        Outcome::StillBusy => Told::StillBusy,
         Outcome::NoSuch(_) => Told::NoSuch,
     }
 }
@@ -111,10 +123,10 @@ fn page_0(alloc: Global, kind: Kind, lun: u8, block: u16) -> Result<Request, All
 }
 
 /// Plays a table of events for host 0, each with what it comes to.
-pub(crate) fn play<C: Chip>(
+pub(crate) fn play<P: Planner, C: Chip>(
     rt: &impl Abort,
     alloc: Global,
-    core: &mut Core<C>,
+    core: &mut Core<P, C>,
     table: &[(Act, Told)],
 ) -> Result<(), AllocError>
     ensures { core.new.0 ≡ core.old.0 }
@@ -149,7 +161,7 @@ pub(crate) fn open_core(
     setup: Setup,
     calls: &[u32],
     statuses: &[u32],
-) -> Result<Core<SimChip>, AllocError>
+) -> Result<Core<PlainPlanner, SimChip>, AllocError>
     requires { setup.channels ≡ 1 }
     ensures { IfOk result (λ core. core.0 ≡ setup) }
 {
@@ -186,12 +198,27 @@ pub(crate) fn open_with<C: Chip + Drop>(
     alloc: Global,
     setup: Setup,
     chip: C,
-) -> Result<Core<C>, AllocError>
+) -> Result<Core<PlainPlanner, C>, AllocError>
+    requires channel { setup.channels ≡ 1 }
+    requires fresh { IsFresh setup (C.state chip) }
+    ensures { IfOk result (λ core. core.0 ≡ setup) }
+{
+    open_by(rt, alloc, setup, PlainPlanner, chip)
+}
+
+// .. and that planner.
+pub(crate) fn open_by<P: Planner + Drop, C: Chip + Drop>(
+    rt: &impl Abort,
+    alloc: Global,
+    setup: Setup,
+    planner: P,
+    chip: C,
+) -> Result<Core<P, C>, AllocError>
     requires channel { setup.channels ≡ 1 }
     requires fresh { IsFresh setup (C.state chip) }
     ensures { IfOk result (λ core. core.0 ≡ setup) }
 {
     let mut chips = Vec::new(alloc);
     chips.push(chip)?;
-    Ok(Core::open(alloc, setup, chips).expect(rt, "one chip"))
+    Ok(Core::open(alloc, setup, planner, chips).expect(rt, "one chip"))
 }

@@ -1,39 +1,50 @@
 ghost use Rattle.std.specs.Prelude.{◌≡◌, ◌↔◌, IsTrue};
-ghost use Rattle.onfi_bound.specs.Commands.{AreCommands};
+ghost use Rattle.onfi_bound.specs.Commands.{AreNodeBounds};
 ghost use Rattle.onfi_problem.specs.Moves.{IsMove, after};
 ghost use Rattle.onfi_problem.specs.Position.{move_of};
 ghost use Rattle.onfi_problem.specs.Starts.{IsNamed};
 ghost use Rattle.onfi_check.specs.Tree.{Closes, Closing, AtEnd, token_of};
 
-use onfi_bound::{Bound, Commands, reaches};
+use onfi_bound::{Bound, NodeBounds, reaches};
 use onfi_cert::Token;
 use onfi_problem::{Move, Problem};
 
 /// Whether a token closes the node of a problem for the finish `e`, in ns: its bound reaches it, or nothing is left and
 /// so much time has passed.
-pub(crate) fn closes(problem: &Problem, left: Commands, token: &Token, e: u64) -> bool
-    requires { AreCommands problem.now.problem left }
+pub(crate) fn closes(problem: &Problem, bounds: NodeBounds, token: &Token, e: u64) -> bool
+    requires { AreNodeBounds problem.now.problem bounds }
     ensures { IsTrue result ↔ ((c : Closing) × (token_of c ≡ token.now) × Closes problem.now.problem e c) }
 {
     match *token {
         Token::Bus => reaches(problem, Bound::Bus, e),
         Token::Lead => reaches(problem, Bound::Lead, e),
-        Token::Trail => left.trail_reaches(problem, e),
+        Token::Trail => bounds.commands.trail_reaches(problem, e),
         Token::Die(lun) => reaches(problem, Bound::Die(lun.get()), e),
         Token::End => is_over(problem, e),
         Token::Branch(_) | Token::Yield(_) => false,
     }
 }
 
-/// Whether the trail token closes the node behind a move for the finish `e`, in ns, where `left` are the commands before
-/// the move. Most leaves are such, so the move isn't made for them.
-pub(crate) fn trail_closes_after(problem: &Problem, left: Commands, m: Move, e: u64) -> bool
-    requires counts { AreCommands problem.now.problem left }
+/// Whether the bus token closes the node behind a move for the finish `e`, in ns, where `bounds` are those before the
+/// move. Most leaves are such or trail tokens, so the move isn't made for them.
+pub(crate) fn bus_closes_after(problem: &Problem, bounds: NodeBounds, m: Move, e: u64) -> bool
+    requires bounds { AreNodeBounds problem.now.problem bounds }
+    requires step { IsMove problem.now.problem (move_of problem.now.groups m) }
+    requires named { IsNamed problem.now.groups m }
+    ensures { IsTrue result ↔ ((c : Closing) × (token_of c ≡ Token.Bus) × Closes (after problem.now.problem (move_of problem.now.groups m)) e c) }
+{
+    bounds.bus_reaches_after(problem, m, e)
+}
+
+/// Whether the trail token closes the node behind a move for the finish `e`, in ns, where `bounds` are those before the
+/// move. The move isn't made.
+pub(crate) fn trail_closes_after(problem: &Problem, bounds: NodeBounds, m: Move, e: u64) -> bool
+    requires bounds { AreNodeBounds problem.now.problem bounds }
     requires step { IsMove problem.now.problem (move_of problem.now.groups m) }
     requires named { IsNamed problem.now.groups m }
     ensures { IsTrue result ↔ ((c : Closing) × (token_of c ≡ Token.Trail) × Closes (after problem.now.problem (move_of problem.now.groups m)) e c) }
 {
-    left.trail_reaches_after(problem, m, e)
+    bounds.commands.trail_reaches_after(problem, m, e)
 }
 
 // Whether nothing is left and so much time has passed.

@@ -5,18 +5,18 @@ ghost use Rattle.onfi_problem.specs.Moves.{AreMoves, IsMove, after};
 ghost use Rattle.onfi_problem.specs.Position.{move_of, moves_of};
 ghost use Rattle.onfi_problem.specs.Starts.{IsNamed};
 ghost use Rattle.std.specs.List.{AllByRecursion as Each};
-ghost use Rattle.onfi_bound.specs.Commands.{AreCommands};
+ghost use Rattle.onfi_bound.specs.Commands.{AreNodeBounds};
 ghost use Rattle.onfi_cert.specs.declared.token.Token.{Token as OneToken};
 ghost use Rattle.onfi_check.specs.Ends.{IsAsked};
 ghost use Rattle.onfi_check.specs.Faults.{FaultFits, IsTokenFault};
 ghost use Rattle.onfi_check.specs.Reading.{Begins, BeginsEach, ReadOn, ReadsChild, RefusesChild};
 ghost use Rattle.onfi_check.specs.Tree.{AcceptsTokens, Closes, Closing, token_of};
 
-use crate::closes::{closes, trail_closes_after};
+use crate::closes::{bus_closes_after, closes, trail_closes_after};
 use crate::fault::CertFault;
 use crate::numbered::Numbered;
 use crate::yields::{Standing, take_yield};
-use onfi_bound::Commands;
+use onfi_bound::NodeBounds;
 use onfi_cert::{Token, TokenSource, Width};
 use onfi_problem::{Move, Moves, Problem};
 
@@ -36,20 +36,42 @@ fn closing_fault(token: Token, place: usize) -> CertFault
 fn read_closing(
     problem: &Problem,
     e: u64,
-    left: Commands,
+    bounds: NodeBounds,
     token: Token,
     place: usize,
 ) -> Result<(), CertFault>
-    requires counts { AreCommands problem.now.problem left }
+    requires bounds { AreNodeBounds problem.now.problem bounds }
     requires closing { (width : ℕ) → token ≢ Token.Branch width }
     ensures ok { OnOk result ((c : Closing) × (token_of c ≡ token) × Closes problem.now.problem e c) }
     ensures err { IfErr result (λ _. ((c : Closing) × (token_of c ≡ token) × Closes problem.now.problem e c) → ⊥) }
     ensures kind { IfErr result (λ fault. (behind left : List OneToken) → FaultFits place (token ∷ behind) left fault) }
 {
-    if closes(problem, left, &token, e) {
+    if closes(problem, bounds, &token, e) {
         Ok(())
     } else {
         Err(closing_fault(token, place))
+    }
+}
+
+// Reads the bus token behind a move.
+fn read_bus(
+    problem: &Problem,
+    e: u64,
+    bounds: NodeBounds,
+    m: Move,
+    place: usize,
+) -> Result<(), CertFault>
+    requires bounds { AreNodeBounds problem.now.problem bounds }
+    requires step { IsMove problem.now.problem (move_of problem.now.groups m) }
+    requires named { IsNamed problem.now.groups m }
+    ensures ok { OnOk result ((c : Closing) × (token_of c ≡ Token.Bus) × Closes (after problem.now.problem (move_of problem.now.groups m)) e c) }
+    ensures err { IfErr result (λ _. ((c : Closing) × (token_of c ≡ Token.Bus) × Closes (after problem.now.problem (move_of problem.now.groups m)) e c) → ⊥) }
+    ensures kind { IfErr result (λ fault. (behind left : List OneToken) → FaultFits place (Token.Bus ∷ behind) left fault) }
+{
+    if bus_closes_after(problem, bounds, m, e) {
+        Ok(())
+    } else {
+        Err(CertFault::BoundLow(place))
     }
 }
 
@@ -57,18 +79,18 @@ fn read_closing(
 fn read_trail(
     problem: &Problem,
     e: u64,
-    left: Commands,
+    bounds: NodeBounds,
     m: Move,
     place: usize,
 ) -> Result<(), CertFault>
-    requires counts { AreCommands problem.now.problem left }
+    requires bounds { AreNodeBounds problem.now.problem bounds }
     requires step { IsMove problem.now.problem (move_of problem.now.groups m) }
     requires named { IsNamed problem.now.groups m }
     ensures ok { OnOk result ((c : Closing) × (token_of c ≡ Token.Trail) × Closes (after problem.now.problem (move_of problem.now.groups m)) e c) }
     ensures err { IfErr result (λ _. ((c : Closing) × (token_of c ≡ Token.Trail) × Closes (after problem.now.problem (move_of problem.now.groups m)) e c) → ⊥) }
     ensures kind { IfErr result (λ fault. (behind left : List OneToken) → FaultFits place (Token.Trail ∷ behind) left fault) }
 {
-    if trail_closes_after(problem, left, m, e) {
+    if trail_closes_after(problem, bounds, m, e) {
         Ok(())
     } else {
         Err(CertFault::BoundLow(place))
@@ -85,12 +107,12 @@ fn read_trail(
 fn read_tree<S: TokenSource>(
     problem: &mut Problem,
     e: u64,
-    left: Commands,
+    bounds: NodeBounds,
     token: Token,
     place: usize,
     tokens: &mut Numbered<S>,
 ) -> Result<(), CertFault>
-    requires counts { AreCommands problem.old.problem left }
+    requires bounds { AreNodeBounds problem.old.problem bounds }
     requires few { tokens.old.place + length (S.left tokens.old.source) < 2 ^ 64 }
     requires next { tokens.old.place ≡ place + 1 }
     ensures problem { OnOk result (problem.new ≡ problem.old) }
@@ -102,8 +124,8 @@ fn read_tree<S: TokenSource>(
     ensures kind { IfErr result (FaultFits place (token ∷ S.left tokens.old.source) (S.left tokens.new.source)) }
 {
     match token {
-        Token::Branch(width) => read_branch(problem, e, left, width, place, tokens),
-        _ => read_closing(problem, e, left, token, place),
+        Token::Branch(width) => read_branch(problem, e, bounds, width, place, tokens),
+        _ => read_closing(problem, e, bounds, token, place),
     }
 }
 
@@ -113,12 +135,12 @@ fn read_tree<S: TokenSource>(
 fn read_branch<S: TokenSource>(
     problem: &mut Problem,
     e: u64,
-    left: Commands,
+    bounds: NodeBounds,
     width: Width,
     place: usize,
     tokens: &mut Numbered<S>,
 ) -> Result<(), CertFault>
-    requires counts { AreCommands problem.old.problem left }
+    requires bounds { AreNodeBounds problem.old.problem bounds }
     requires few { tokens.old.place + length (S.left tokens.old.source) < 2 ^ 64 }
     requires next { tokens.old.place ≡ place + 1 }
     ensures problem { OnOk result (problem.new ≡ problem.old) }
@@ -134,7 +156,7 @@ fn read_branch<S: TokenSource>(
     if moves.len() != width.get() as usize {
         return Err(CertFault::Width(place));
     }
-    read_children(problem, e, left, &moves, tokens)
+    read_children(problem, e, bounds, &moves, tokens)
 }
 
 // Reads a child for each move of a node.
@@ -142,11 +164,11 @@ fn read_branch<S: TokenSource>(
 fn read_children<S: TokenSource>(
     problem: &mut Problem,
     e: u64,
-    left: Commands,
+    bounds: NodeBounds,
     moves: &Moves,
     tokens: &mut Numbered<S>,
 ) -> Result<(), CertFault>
-    requires counts { AreCommands problem.old.problem left }
+    requires bounds { AreNodeBounds problem.old.problem bounds }
     requires moves { AreMoves problem.old.problem (moves_of problem.old.groups moves.now) }
     requires named { Each (IsNamed problem.old.groups) moves.now }
     requires few { tokens.old.place + length (S.left tokens.old.source) < 2 ^ 64 }
@@ -165,7 +187,7 @@ fn read_children<S: TokenSource>(
         leaving: [false; 8],
     };
     for m in listed {
-        read_child(problem, e, left, *m, listed, &mut standing, tokens)?;
+        read_child(problem, e, bounds, *m, listed, &mut standing, tokens)?;
     }
     Ok(())
 }
@@ -175,13 +197,13 @@ fn read_children<S: TokenSource>(
 fn read_child<S: TokenSource>(
     problem: &mut Problem,
     e: u64,
-    left: Commands,
+    bounds: NodeBounds,
     m: Move,
     moves: &[Move],
     standing: &mut Standing,
     tokens: &mut Numbered<S>,
 ) -> Result<(), CertFault>
-    requires counts { AreCommands problem.old.problem left }
+    requires bounds { AreNodeBounds problem.old.problem bounds }
     requires step { IsMove problem.old.problem (move_of problem.old.groups m) }
     requires named { IsNamed problem.old.groups m }
     requires moves { Each (IsMove problem.old.problem) (moves_of problem.old.groups moves.now) }
@@ -202,8 +224,9 @@ fn read_child<S: TokenSource>(
     };
     match token {
         Token::Yield(lun) => take_yield(problem, moves, standing, m.lun(), lun.get(), place),
-        Token::Trail => read_trail(problem, e, left, m, place),
-        _ => read_below(problem, e, left, m, token, place, tokens),
+        Token::Bus => read_bus(problem, e, bounds, m, place),
+        Token::Trail => read_trail(problem, e, bounds, m, place),
+        _ => read_below(problem, e, bounds, m, token, place, tokens),
     }
 }
 
@@ -212,13 +235,13 @@ fn read_child<S: TokenSource>(
 fn read_below<S: TokenSource>(
     problem: &mut Problem,
     e: u64,
-    left: Commands,
+    bounds: NodeBounds,
     m: Move,
     token: Token,
     place: usize,
     tokens: &mut Numbered<S>,
 ) -> Result<(), CertFault>
-    requires counts { AreCommands problem.old.problem left }
+    requires bounds { AreNodeBounds problem.old.problem bounds }
     requires step { IsMove problem.old.problem (move_of problem.old.groups m) }
     requires named { IsNamed problem.old.groups m }
     requires few { tokens.old.place + length (S.left tokens.old.source) < 2 ^ 64 }
@@ -231,9 +254,9 @@ fn read_below<S: TokenSource>(
     ensures err { IfErr result (λ _. (rest : List OneToken) → Begins (after problem.old.problem (move_of problem.old.groups m)) e (token ∷ S.left tokens.old.source) rest → ⊥) }
     ensures kind { IfErr result (FaultFits place (token ∷ S.left tokens.old.source) (S.left tokens.new.source)) }
 {
-    let left = left.after(problem, m);
+    let bounds = bounds.after(problem, m);
     let undo = problem.advance(m);
-    read_tree(problem, e, left, token, place, tokens)?;
+    read_tree(problem, e, bounds, token, place, tokens)?;
     problem.undo(undo);
     Ok(())
 }
@@ -256,11 +279,11 @@ pub(crate) fn read_whole<S: TokenSource>(
     ensures err { IfErr result (λ _. AcceptsTokens (S.left tokens.old.source) problem.old.problem e → ⊥) }
     ensures kind { IfErr result (IsTokenFault problem.old.problem e (S.left tokens.old.source) (S.left tokens.new.source)) }
 {
-    let left = Commands::of(problem);
+    let bounds = NodeBounds::of(problem);
     let Some((token, place)) = tokens.take() else {
         return Err(CertFault::Short);
     };
-    read_tree(problem, e, left, token, place, tokens)?;
+    read_tree(problem, e, bounds, token, place, tokens)?;
     match tokens.take() {
         Some((_, place)) => Err(CertFault::Trailing(place)),
         None => Ok(()),

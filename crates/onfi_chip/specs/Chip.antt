@@ -1,5 +1,5 @@
 -- What a chip is, and what its calls do to it.
-use Rattle.std.specs.Prelude.{◌≡◌, ℕ, ◌+◌, List, [], ◌∷◌, ◌++◌, replicate, Option, Some, None, slice_get, slice_set}
+use Rattle.std.specs.Prelude.{◌≡◌, ℕ, ◌+◌, List, [], ◌∷◌, ◌++◌, min, replicate, Option, Some, None, slice_get, slice_set}
 use Rattle.onfi_addr.specs.declared.geometry.Geometry.{Geometry}
 use Rattle.onfi_timing.specs.declared.spans.Spans.{Spans}
 use Rattle.onfi_timing.specs.declared.timing.Timing.{Timing}
@@ -94,6 +94,20 @@ launched chip r now = happened chip r (now + (spans_for chip r).cmd + (spans_for
 abbrev pub after_post : List Post → ℕ → Lun
 after_post [] ready = Idle
 after_post (post ∷ more) ready = Posting (post ∷ more) ready
+
+-- a LUN whose array is done by then: its next post may start from that moment on
+abbrev pub ready_by : ℕ → Lun → Lun
+ready_by now Idle = Idle
+ready_by now (Commanding requests ready) = Commanding requests ready
+ready_by now (Posting posts ready) = Posting posts (min ready now)
+
+abbrev pub luns_ready_by : ℕ → ℕ → Option Lun → List Lun → List Lun
+luns_ready_by now lun None luns = luns
+luns_ready_by now lun (Some x) luns = slice_set luns lun (ready_by now x)
+
+-- the LUN was found ready at `now`
+abbrev pub found_ready : Chip → ℕ → ℕ → Chip
+found_ready chip lun now = record chip { luns = luns_ready_by now lun (slice_get chip.luns lun) chip.luns }
 
 -- a post, at `now`, of which these are left behind it
 abbrev pub posted : Chip → Post → List Post → ℕ → Chip

@@ -1,11 +1,11 @@
-ghost use Rattle.std.specs.Prelude.{◌≡◌, ◌≢◌, ℕ, ◌+◌, ◌≤◌, List, length, IsBitSet, OnOk, IfOk, IfErr};
+ghost use Rattle.std.specs.Prelude.{◌≡◌, ◌≢◌, ℕ, ◌+◌, ◌≤◌, List, length, false, IsBitSet, IsTrue, OnOk, IfOk, IfErr};
 ghost use Rattle.onfi_addr.specs.Rows.{page_bytes_of};
 ghost use Rattle.onfi_timing.specs.declared.kind.Kind.TheVariants as kind;
 ghost use Rattle.onfi_request.specs.declared.answer.Answer.TheVariants as answer;
 ghost use Rattle.onfi_request.specs.declared.request.Request.{Request as ARequest};
 ghost use Rattle.onfi_chip.specs.declared.fault.PostFault.TheVariants.{Bus, NotReady};
 ghost use Rattle.onfi_chip.specs.declared.post.Post.{Post as APost};
-ghost use Rattle.onfi_chip.specs.Chip.{Chip as ChipState, posted};
+ghost use Rattle.onfi_chip.specs.Chip.{Chip as ChipState, found_ready, posted};
 ghost use Rattle.onfi_chip.specs.Calls.{IsNextCommand, IsNextPost, command_of, HasDone, IsLost, AfterFault, TellsAnswer};
 
 use crate::closer::Closer;
@@ -70,4 +70,11 @@ pub trait Chip {
             → TellsAnswer byte post.answer × HasDone (posted (state self.old) post left now) (state self.new)) }
         ensures not_ready { IfOk result (λ byte. ¬ IsBitSet byte 6 → IsLost NotReady (state self.old) (state self.new)) }
         ensures err { IfErr result (λ fault. (fault ≡ ChipFault.Bus) × IsLost Bus (state self.old) (state self.new)) };
+
+    /// Whether the LUN says at `now` that it is ready, asked without the bus (R/B#, ONFI 4.2, pin description). It is said
+    /// only where the work of its array is done: its next post may start from `now` on. A chip may always say no, and does
+    /// where it can't tell one LUN from another.
+    fn poll(&mut self, now: u64, lun: u8) -> bool
+        ensures ready { IsTrue result → state self.new ≡ found_ready (state self.old) lun now }
+        ensures busy { result ≡ false → state self.new ≡ state self.old };
 }

@@ -1,4 +1,4 @@
-ghost use Rattle.std.specs.Prelude.{◌≡◌, ℕ, ◌+◌, List, ◌∷◌, Some, IfOk, OnOk, OnErr, slice_get, slice_set};
+ghost use Rattle.std.specs.Prelude.{◌≡◌, ℕ, ◌+◌, ◌≤◌, IsTrue, List, ◌∷◌, Some, IfOk, OnOk, OnErr, slice_get, slice_set};
 
 use crate::closer::Closer;
 use crate::lane::{Lane, idle_lanes};
@@ -122,6 +122,17 @@ impl Dies {
         let length = closer.hold(self.timing.spans(opener));
         let wait = Wait { from: now, length };
         self.add(alloc, Member { place, operation }, closer, wait)
+    }
+
+    /// Whether the wait of that LUN is over at `now`; of one that isn't there it is not.
+    pub(crate) fn is_ready(&self, lun: u8, now: u64) -> bool
+        ensures { IsTrue result → (posts : List APost) (ready : ℕ) → slice_get self.now.luns lun ≡ Some (InPosts posts ready) → ready ≤ now }
+    {
+        let at = usize::from(lun);
+        if at >= self.lanes.len() {
+            return false;
+        }
+        self.lanes[at].is_ready(now)
     }
 
     /// Gives up the next post of a LUN, which starts at `now`.

@@ -1,4 +1,4 @@
-ghost use Rattle.std.specs.Prelude.{◌≡◌, ℕ, ◌+◌, List, [], ◌∷◌, ◌++◌, length, replicate, Some, IfOk, OnOk, OnErr};
+ghost use Rattle.std.specs.Prelude.{◌≡◌, ℕ, ◌+◌, ◌≤◌, IsTrue, List, [], ◌∷◌, ◌++◌, length, replicate, Some, IfOk, OnOk, OnErr};
 ghost use Rattle.onfi_timing.specs.Kinds.{spans_of};
 ghost use Rattle.onfi_die.specs.Store.{Stored};
 ghost use Rattle.onfi_chip.specs.Chip.{taken, after_post};
@@ -33,6 +33,17 @@ impl Lane {
         match self {
             Lane::Commanding(members, _) => members.len(),
             Lane::Idle | Lane::Posting(_, _) => 0,
+        }
+    }
+
+    /// Whether its wait, if it has one, is over at `now`.
+    pub(crate) fn is_ready(&self, now: u64) -> bool
+        ensures { IsTrue result → (posts : List APost) (ready : ℕ) → lun_of self.now ≡ InPosts posts ready → ready ≤ now }
+    {
+        match self {
+            Lane::Idle => true,
+            Lane::Commanding(_, wait) => wait.is_over(now),
+            Lane::Posting(_, wait) => wait.is_over(now),
         }
     }
 

@@ -1,11 +1,11 @@
-ghost use Rattle.std.specs.Prelude.{◌≡◌, ◌≢◌, List, length, IfOk, OnOk, IfErr, IsBitSet};
+ghost use Rattle.std.specs.Prelude.{◌≡◌, ◌≢◌, List, length, false, IfOk, OnOk, IfErr, IsBitSet, IsTrue};
 ghost use Rattle.onfi_addr.specs.Rows.{page_bytes_of};
 ghost use Rattle.onfi_timing.specs.declared.kind.Kind.TheVariants as kind;
 ghost use Rattle.onfi_request.specs.declared.answer.Answer.TheVariants as answer;
 ghost use Rattle.onfi_request.specs.declared.request.Request.{Request as ARequest};
 ghost use Rattle.onfi_chip.specs.declared.fault.PostFault.TheVariants.{Bus, NotReady};
 ghost use Rattle.onfi_chip.specs.declared.post.Post.{Post as APost};
-ghost use Rattle.onfi_chip.specs.Chip.{posted};
+ghost use Rattle.onfi_chip.specs.Chip.{found_ready, posted};
 ghost use Rattle.onfi_chip.specs.Calls.{IsNextCommand, IsNextPost, command_of, HasDone, IsLost, AfterFault, TellsAnswer};
 
 use crate::chip::Chip;
@@ -23,7 +23,8 @@ use std::alloc::{AllocError, Global};
 /// A simulated chip: its dies, and which of its calls fail.
 ///
 /// Calls are numbered from 0 in the order in which they are made, one refused for memory not counted; status calls have
-/// numbers of their own, one whose bus failed not counted. It checks no time: that a wait is over is what its calls ask for.
+/// numbers of their own, one whose bus failed not counted. Its calls check no time: that a wait is over is what they ask for. Asked whether a LUN is
+/// ready it says so once the stated time is over, and not before.
 #[derive(Debug, Drop)]
 pub struct SimChip {
     dies: Dies,
@@ -147,5 +148,13 @@ impl Chip for SimChip {
             let post = self.dies.post(place, now);
             Ok(encode_status(&post.answer))
         }
+    }
+
+    fn poll(&mut self, now: u64, lun: u8) -> bool
+        ensures ready { IsTrue result → chip_in self.new ≡ found_ready (chip_in self.old) lun now }
+        ensures busy { result ≡ false → chip_in self.new ≡ chip_in self.old }
+        ensures unchanged { self.new ≡ self.old }
+    {
+        self.dies.is_ready(lun, now)
     }
 }

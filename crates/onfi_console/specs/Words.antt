@@ -1,8 +1,13 @@
 -- What the words of a command line ask for.
-use Rattle.std.specs.Prelude.{◌≡◌, ◌≤◌, ℕ, List, Bool, true, false, bytes_eq, Option, Some, None, IsSomeAnd, Ok, codes, option_map}
+use Rattle.std.specs.Prelude.{◌≡◌, ◌≤◌, ℕ, ◌==◌, ◌&&◌, if◌then◌else◌, List, Bool, true, false, not, is_some, bytes_eq, Option, Some, None, IsSomeAnd, Ok, codes, option_map, unwrap_or}
 use Rattle.clap.specs.Words.{App, Row as Used, Rule, first_of, new_app, new_rule, subcommand_of, with_rule, with_subcommand}
 use Rattle.clap.specs.declared.builder.ArgAction.TheVariants.{Set, SetTrue}
-use Rattle.onfi_script.specs.declared.command.Command.TheVariants.{Plan, Check, Legal}
+use Rattle.onfi_planners.specs.declared.chosen.ChosenPlanner.{ChosenPlanner}
+use Rattle.onfi_planners.specs.declared.chosen.ChosenPlanner.TheVariants.{Plain, Remembering, BestSoFar}
+use Rattle.onfi_script.specs.declared.command.Command.{Command}
+use Rattle.onfi_script.specs.declared.command.Command.TheVariants.{Plan, Check, PlanWithin, PlanEarly, PlanNear, CheckWithin, Legal}
+use Rattle.onfi_script.specs.declared.command.Finding.{Finding}
+use Rattle.onfi_script.specs.declared.command.Finding.TheVariants as found
 use Rattle.onfi_script.specs.declared.command.Output.{Output}
 use Rattle.onfi_script.specs.declared.command.Output.TheVariants as output
 use Rattle.onfi_script.specs.Field as field
@@ -34,25 +39,33 @@ command name = new_app name
 abbrev pub plan_output : App
 plan_output = with_rule (with_rule (with_rule (command (codes "plan")) (number (codes "limit"))) (flag (codes "trace"))) (flag (codes "requests"))
 
--- .. with `[--workers N] [--remember]`
+-- .. with `[--workers N] [--remember] [--within]`
 abbrev pub plan_search : App
-plan_search = with_rule (with_rule plan_output (number (codes "workers"))) (flag (codes "remember"))
+plan_search = with_rule (with_rule (with_rule plan_output (number (codes "workers"))) (flag (codes "remember"))) (flag (codes "within"))
+
+-- .. with `[--early] [--slack N]`
+abbrev pub plan_early : App
+plan_early = with_rule (with_rule plan_search (flag (codes "early"))) (number (codes "slack"))
 
 -- .. with `[--quiet] [FILE]`
 abbrev pub plan : App
-plan = with_rule (with_rule plan_search quiet) (file (codes "FILE"))
+plan = with_rule (with_rule plan_early quiet) (file (codes "FILE"))
 
--- `check [--remember] [--legal]`
+-- `check [--remember] [--within] [--legal]`
 abbrev pub check_judging : App
-check_judging = with_rule (with_rule (command (codes "check")) (flag (codes "remember"))) (flag (codes "legal"))
+check_judging = with_rule (with_rule (with_rule (command (codes "check")) (flag (codes "remember"))) (flag (codes "within"))) (flag (codes "legal"))
 
 -- .. with `[--quiet] [FILE [PLAN]]`
 abbrev pub check : App
 check = with_rule (with_rule (with_rule check_judging quiet) (file (codes "FILE"))) (file (codes "PLAN"))
 
--- `run [--limit N] [--quiet] [FILE]`
+-- `run [--limit N] [--plain] [--within] [--slack N]`
+abbrev pub run_search : App
+run_search = with_rule (with_rule (with_rule (with_rule (command (codes "run")) (number (codes "limit"))) (flag (codes "plain"))) (flag (codes "within"))) (number (codes "slack"))
+
+-- .. with `[--quiet] [FILE]`
 abbrev pub run : App
-run = with_rule (with_rule (with_rule (command (codes "run")) (number (codes "limit"))) quiet) (file (codes "FILE"))
+run = with_rule (with_rule run_search quiet) (file (codes "FILE"))
 
 abbrev pub program : App
 program = record (command (codes "onfi_sim")) { top = record (command (codes "onfi_sim")).top { has_version = true } }
@@ -60,10 +73,10 @@ program = record (command (codes "onfi_sim")) { top = record (command (codes "on
 abbrev pub app : App
 app = with_subcommand (with_subcommand (with_subcommand program plan.top) check.top) run.top
 
--- the number that was given, 1 to 1,048,576; the greatest where none was
-abbrev pub IsLimit : Option (List ℕ) → ℕ → Type 0
-IsLimit None n = n ≡ 1048576
-IsLimit (Some text) n = field.number 1 1048576 text ≡ Ok n
+-- the number that was given, 1 to 1,048,576; where none was the usual one
+abbrev pub IsLimit : ℕ → Option (List ℕ) → ℕ → Type 0
+IsLimit usual None n = n ≡ usual
+IsLimit usual (Some text) n = field.number 1 1048576 text ≡ Ok n
 
 -- the number of workers that was given, 1 to 8; one where none was. A search that remembers states is given none
 abbrev pub IsWorkers : Bool → Option (List ℕ) → ℕ → Type 0
@@ -82,21 +95,90 @@ output_of trace true = output.Trace true
 output_of true false = output.Trace false
 output_of false false = output.Plan
 
+-- the planner of a run, by the flags `plain` and `within`, of which one at most is given
+abbrev pub planner_of : Bool → Bool → Option ChosenPlanner
+planner_of false false = Some Remembering
+planner_of true false = Some Plain
+planner_of false true = Some BestSoFar
+planner_of true true = None
+
+-- its limit where none is named
+abbrev pub usual_of : ChosenPlanner → ℕ
+usual_of Plain = 1048576
+usual_of Remembering = 65536
+usual_of BestSoFar = 65536
+
+-- the thousandths that were given, 0 to 1,000, or none
+abbrev pub IsSlack : Option (List ℕ) → Option ℕ → Type 0
+IsSlack None slack = slack ≡ None
+IsSlack (Some text) None = ⊥
+IsSlack (Some text) (Some n) = field.number 0 1000 text ≡ Ok n
+
+-- the thousandths of a run: those that were given, or 0
+abbrev pub IsRunSlack : Option (List ℕ) → Option ℕ → Type 0
+IsRunSlack text slack = (named : Option ℕ) × IsSlack text named × (slack ≡ Some (unwrap_or named 0))
+
+-- neither `early` nor `slack` is given
+abbrev pub is_late : Option (List ℕ) → Option (List ℕ) → Bool
+is_late early slack = not (is_given early) && not (is_some slack)
+
+-- how a schedule is found that is then made better, by the flags `remember` and `within`, of which one at most is given
+abbrev pub finding_of : Bool → Bool → Option Finding
+finding_of false false = Some found.Plain
+finding_of true false = Some found.Remembering
+finding_of false true = Some found.BestSoFar
+finding_of true true = None
+
+-- its limit where none is named
+abbrev pub usual_for : Finding → ℕ
+usual_for found.Plain = 1048576
+usual_for found.Remembering = 1048576
+usual_for found.BestSoFar = 65536
+
+abbrev pub is_best_so_far : Finding → Bool
+is_best_so_far found.BestSoFar = true
+is_best_so_far _ = false
+
+-- a plan is made better within these thousandths
+abbrev pub early_command : Finding → ℕ → ℕ → Output → Command
+early_command finding slack limit out = if slack == 0 then PlanEarly limit out finding else PlanNear limit out (is_best_so_far finding) slack
+
 -- limits are 1 to 1,048,576, workers 1 to 8
 abbrev pub IsInRange : Named → Type 0
 IsInRange (Problem command workers) = IsLimited command × (1 ≤ workers) × (workers ≤ 8)
-IsInRange (Run limit) = (1 ≤ limit) × (limit ≤ 1048576)
+IsInRange (Run planner limit) = (1 ≤ limit) × (limit ≤ 1048576)
 
 -- the flag or number of this name
 abbrev pub given : List ℕ → List Used → Bool
 given name used = is_given (first_of name used)
 
+-- a plan is printed as the flags of this name ask for it
+abbrev pub IsOutput : Output → List Used → Type 0
+IsOutput out used = out ≡ output_of (given (codes "trace") used) (given (codes "requests") used)
+
+-- `plan` is to be made better
+pub record IsEarly (command : Command) (used : List Used) : Type 0 where
+  pub finding : Finding
+  pub slack : Option ℕ
+  pub limit : ℕ
+  pub out : Output
+  pub is_early : given (codes "early") used ≡ true
+  pub is_finding : finding_of (given (codes "remember") used) (given (codes "within") used) ≡ Some finding
+  pub is_slack : IsSlack (first_of (codes "slack") used) slack
+  pub is_limit : IsLimit (usual_for finding) (first_of (codes "limit") used) limit
+  pub is_output : IsOutput out used
+  pub is_command : command ≡ early_command finding (unwrap_or slack 0) limit out
+
 -- a subcommand with these arguments is what is named
 abbrev pub IsNamed : Named → List ℕ → List Used → Type 0
-IsNamed (Problem (Plan limit out remembers) workers) name used = (name ≡ codes "plan") × IsLimit (first_of (codes "limit") used) limit × (out ≡ output_of (given (codes "trace") used) (given (codes "requests") used)) × (remembers ≡ given (codes "remember") used) × IsWorkers remembers (first_of (codes "workers") used) workers
-IsNamed (Problem (Check remembers) workers) name used = (name ≡ codes "check") × (remembers ≡ given (codes "remember") used) × (given (codes "legal") used ≡ false) × (workers ≡ 1)
-IsNamed (Problem Legal workers) name used = (name ≡ codes "check") × (given (codes "remember") used ≡ false) × (given (codes "legal") used ≡ true) × (workers ≡ 1)
-IsNamed (Run limit) name used = (name ≡ codes "run") × IsLimit (first_of (codes "limit") used) limit
+IsNamed (Problem (Plan limit out remembers) workers) name used = (name ≡ codes "plan") × (is_late (first_of (codes "early") used) (first_of (codes "slack") used) ≡ true) × (given (codes "within") used ≡ false) × IsLimit 1048576 (first_of (codes "limit") used) limit × IsOutput out used × (remembers ≡ given (codes "remember") used) × IsWorkers remembers (first_of (codes "workers") used) workers
+IsNamed (Problem (PlanWithin limit out) workers) name used = (name ≡ codes "plan") × (is_late (first_of (codes "early") used) (first_of (codes "slack") used) ≡ true) × (given (codes "within") used ≡ true) × (given (codes "remember") used ≡ false) × IsLimit 65536 (first_of (codes "limit") used) limit × IsOutput out used × IsWorkers true (first_of (codes "workers") used) workers
+IsNamed (Problem (PlanEarly limit out finding) workers) name used = (name ≡ codes "plan") × IsEarly (PlanEarly limit out finding) used × (is_some (first_of (codes "workers") used) ≡ false) × (workers ≡ 1)
+IsNamed (Problem (PlanNear limit out within slack) workers) name used = (name ≡ codes "plan") × IsEarly (PlanNear limit out within slack) used × (is_some (first_of (codes "workers") used) ≡ false) × (workers ≡ 1)
+IsNamed (Problem (Check remembers) workers) name used = (name ≡ codes "check") × (remembers ≡ given (codes "remember") used) × (given (codes "within") used ≡ false) × (given (codes "legal") used ≡ false) × (workers ≡ 1)
+IsNamed (Problem CheckWithin workers) name used = (name ≡ codes "check") × (given (codes "remember") used ≡ false) × (given (codes "within") used ≡ true) × (given (codes "legal") used ≡ false) × (workers ≡ 1)
+IsNamed (Problem Legal workers) name used = (name ≡ codes "check") × (given (codes "remember") used ≡ false) × (given (codes "within") used ≡ false) × (given (codes "legal") used ≡ true) × (workers ≡ 1)
+IsNamed (Run planner limit) name used = (name ≡ codes "run") × (planner_of (given (codes "plain") used) (given (codes "within") used) ≡ Some planner.planner) × IsRunSlack (first_of (codes "slack") used) planner.slack × IsLimit (usual_of planner.planner) (first_of (codes "limit") used) limit
 
 -- .. with these files, quiet or not
 abbrev pub IsAsked : Asked → List ℕ → List Used → Type 0

@@ -1,3 +1,4 @@
+use onfi_planners::ChosenEarly;
 use onfi_script::Command;
 
 /// What a command line names.
@@ -6,8 +7,8 @@ pub enum Named {
     /// The problem of a script is planned, or a plan of it checked, by so many workers, 1 to 8; one where none are
     /// named.
     Problem { command: Command, workers: usize },
-    /// The operations of a script are run; each planning opens at most `limit` nodes, 1 to 1,048,576.
-    Run { limit: u32 },
+    /// The operations of a script are run; that planner plans each batch, with at most `limit` nodes, 1 to 1,048,576.
+    Run { planner: ChosenEarly, limit: u32 },
 }
 
 /// What a command line asks for.

@@ -1,5 +1,5 @@
 //! The command line.
-ghost use Rattle.std.specs.Prelude.{◌≡◌, ◌≤◌, IfOk, codes, map, option_map, string_bytes};
+ghost use Rattle.std.specs.Prelude.{◌≡◌, ◌≤◌, Some, false, true, is_some, IfOk, codes, map, option_map, string_bytes};
 ghost use Rattle.clap.specs.Words.{first_value, found_of, rows_of, subcommand_of, subcommand_rows_of};
 ghost use Rattle.onfi_console.specs.Words as spec;
 
@@ -8,7 +8,8 @@ use crate::commands::app;
 use crate::escaping::escaped;
 use clap::error::ErrorKind;
 use clap::{ArgMatches, Error};
-use onfi_script::{Command, Output, number};
+use onfi_planners::{ChosenEarly, ChosenPlanner};
+use onfi_script::{Command, Finding, Output, number};
 use std::alloc::{AllocError, Global};
 
 /// Why a command line is not taken.
@@ -29,7 +30,13 @@ enum ValueFault {
     Limit,
     Workers,
     WorkersBesideRemember,
+    WithinBesideRemember,
     RememberBesideLegal,
+    WithinBesideLegal,
+    PlainBesideWithin,
+    Slack,
+    SlackWithoutEarly,
+    WorkersBesideEarly,
 }
 
 impl ValueFault {
@@ -40,28 +47,52 @@ impl ValueFault {
             ValueFault::Limit => "'--limit' wants a number from 1 to 1048576, digits alone",
             ValueFault::Workers => "'--workers' wants a number from 1 to 8, digits alone",
             ValueFault::WorkersBesideRemember => {
-                "'--workers' can't be used with '--remember': that search has one worker"
+                "'--workers' can't be used with '--remember' or '--within': that search has one worker"
+            }
+            ValueFault::WithinBesideRemember => {
+                "'--within' can't be used with '--remember': both remember states, and only '--within' gives the best plan so far"
             }
             ValueFault::RememberBesideLegal => {
                 "'--remember' can't be used with '--legal': no certificate is looked at"
+            }
+            ValueFault::WithinBesideLegal => {
+                "'--within' can't be used with '--legal': no certificate is looked at"
+            }
+            ValueFault::PlainBesideWithin => {
+                "'--plain' can't be used with '--within': the plain search gives no plan where it isn't over"
+            }
+            ValueFault::Slack => "'--slack' wants a number from 0 to 1000, digits alone",
+            ValueFault::SlackWithoutEarly => {
+                "'--slack' can't be used without '--early': no other plan may end later"
+            }
+            ValueFault::WorkersBesideEarly => {
+                "'--workers' can't be used with '--early': one worker makes a plan better"
             }
         }
     }
 }
 
-/// The greatest limit of a search, and the one where none is named.
+/// The greatest limit of a search, and the usual one of `plan` for an optimal schedule and of the plain search.
 const MOST: u32 = 1_048_576;
+
+/// The usual limit of other searches, which bounds their time and memory.
+const USUAL: u32 = 65_536;
 
 /// As many workers as a search may have.
 const MOST_WORKERS: u64 = 8;
 
-/// A limit in its range, or the greatest where none is named.
-fn limit_of(matches: &ArgMatches<'_>) -> Result<u32, ValueFault>
+/// As many thousandths as a plan may end later.
+const MOST_SLACK: u64 = 1_000;
+
+/// A limit in its range, or the usual one where none is named.
+fn limit_of(matches: &ArgMatches<'_>, usual: u32) -> Result<u32, ValueFault>
+    requires some { 1 ≤ usual }
+    requires few { usual ≤ 1048576 }
     ensures range { IfOk result (λ n. (1 ≤ n) × (n ≤ 1048576)) }
-    ensures value { IfOk result (λ n. spec.IsLimit (first_value (found_of matches.now) (codes "limit")) n) }
+    ensures value { IfOk result (λ n. spec.IsLimit usual (first_value (found_of matches.now) (codes "limit")) n) }
 {
     let Some(text) = matches.get_str("limit") else {
-        return Ok(MOST);
+        return Ok(usual);
     };
     match number(text.as_bytes(), 1, u64::from(MOST)) {
         Ok(limit) => Ok(limit as u32),
@@ -96,6 +127,26 @@ fn is_given(matches: &ArgMatches<'_>, flag: &str) -> bool
     }
 }
 
+/// The slack that is named, in thousandths, in its range.
+fn named_slack(matches: &ArgMatches<'_>) -> Result<Option<u16>, ValueFault>
+    ensures { IfOk result (λ slack. spec.IsSlack (first_value (found_of matches.now) (codes "slack")) slack) }
+{
+    let Some(text) = matches.get_str("slack") else {
+        return Ok(None);
+    };
+    match number(text.as_bytes(), 0, MOST_SLACK) {
+        Ok(slack) => Ok(Some(slack as u16)),
+        Err(_) => Err(ValueFault::Slack),
+    }
+}
+
+/// Whether an option is given, with whichever value.
+fn has_value(matches: &ArgMatches<'_>, option: &str) -> bool
+    ensures { result ≡ is_some (first_value (found_of matches.now) option.now) }
+{
+    matches.get_str(option).is_some()
+}
+
 /// What is to be printed of a plan.
 fn output_of(matches: &ArgMatches<'_>) -> Output
     ensures { result ≡ spec.output_of (spec.is_given (first_value (found_of matches.now) (codes "trace"))) (spec.is_given (first_value (found_of matches.now) (codes "requests"))) }
@@ -110,12 +161,14 @@ fn output_of(matches: &ArgMatches<'_>) -> Output
     }
 }
 
-/// What `plan` with these arguments names.
-fn plan_of(used: &ArgMatches<'_>) -> Result<Named, ValueFault>
+/// What `plan`, for an optimal schedule, with these arguments names.
+fn optimal_of(used: &ArgMatches<'_>) -> Result<Named, ValueFault>
+    requires late { spec.is_late (first_value (found_of used.now) (codes "early")) (first_value (found_of used.now) (codes "slack")) ≡ true }
+    requires optimal { spec.is_given (first_value (found_of used.now) (codes "within")) ≡ false }
     ensures range { IfOk result (λ named. spec.IsInRange named) }
     ensures named { IfOk result (λ named. spec.IsNamed named (codes "plan") (rows_of (found_of used.now))) }
 {
-    let limit = limit_of(used)?;
+    let limit = limit_of(used, MOST)?;
     let remember = is_given(used, "remember");
     let workers = workers_of(used, remember)?;
     let output = output_of(used);
@@ -127,17 +180,124 @@ fn plan_of(used: &ArgMatches<'_>) -> Result<Named, ValueFault>
     Ok(Named::Problem { command, workers })
 }
 
+/// What `plan --within` with these arguments names.
+fn within_of(used: &ArgMatches<'_>) -> Result<Named, ValueFault>
+    requires late { spec.is_late (first_value (found_of used.now) (codes "early")) (first_value (found_of used.now) (codes "slack")) ≡ true }
+    requires within { spec.is_given (first_value (found_of used.now) (codes "within")) ≡ true }
+    ensures range { IfOk result (λ named. spec.IsInRange named) }
+    ensures named { IfOk result (λ named. spec.IsNamed named (codes "plan") (rows_of (found_of used.now))) }
+{
+    if is_given(used, "remember") {
+        return Err(ValueFault::WithinBesideRemember);
+    }
+    let limit = limit_of(used, USUAL)?;
+    let workers = workers_of(used, true)?;
+    let output = output_of(used);
+    let command = Command::PlanWithin { limit, output };
+    Ok(Named::Problem { command, workers })
+}
+
+/// How a schedule is found that is then made better, by the flags `remember` and `within`.
+fn finding_of(remember: bool, within: bool) -> Result<Finding, ValueFault>
+    ensures { IfOk result (λ finding. spec.finding_of remember within ≡ Some finding) }
+{
+    match (remember, within) {
+        (false, false) => Ok(Finding::Plain),
+        (true, false) => Ok(Finding::Remembering),
+        (false, true) => Ok(Finding::BestSoFar),
+        (true, true) => Err(ValueFault::WithinBesideRemember),
+    }
+}
+
+/// The limit of such a search where none is named.
+fn usual_for(finding: Finding) -> u32
+    ensures value { result ≡ spec.usual_for finding }
+    ensures some { 1 ≤ result }
+    ensures few { result ≤ 1048576 }
+{
+    match finding {
+        Finding::Plain | Finding::Remembering => MOST,
+        Finding::BestSoFar => USUAL,
+    }
+}
+
+/// What a plan is made better by, in thousandths; none where `slack` isn't named.
+fn early_command(finding: Finding, slack: u16, limit: u32, output: Output) -> Command
+    ensures { result ≡ spec.early_command finding slack limit output }
+{
+    if slack == 0 {
+        return Command::PlanEarly {
+            limit,
+            output,
+            finding,
+        };
+    }
+    Command::PlanNear {
+        limit,
+        output,
+        within: matches!(finding, Finding::BestSoFar),
+        slack,
+    }
+}
+
+/// What `plan --early` with these arguments names.
+fn early_of(used: &ArgMatches<'_>) -> Result<Named, ValueFault>
+    requires early { spec.is_given (first_value (found_of used.now) (codes "early")) ≡ true }
+    ensures range { IfOk result (λ named. spec.IsInRange named) }
+    ensures named { IfOk result (λ named. spec.IsNamed named (codes "plan") (rows_of (found_of used.now))) }
+{
+    if has_value(used, "workers") {
+        return Err(ValueFault::WorkersBesideEarly);
+    }
+    let remember = is_given(used, "remember");
+    let within = is_given(used, "within");
+    let finding = finding_of(remember, within)?;
+    let slack = named_slack(used)?;
+    let limit = limit_of(used, usual_for(finding))?;
+    let output = output_of(used);
+    let command = early_command(finding, slack.unwrap_or(0), limit, output);
+    let workers = 1;
+    Ok(Named::Problem { command, workers })
+}
+
+/// Whether neither `early` nor `slack` is given.
+fn is_late(used: &ArgMatches<'_>) -> bool
+    ensures { result ≡ spec.is_late (first_value (found_of used.now) (codes "early")) (first_value (found_of used.now) (codes "slack")) }
+{
+    !is_given(used, "early") && !has_value(used, "slack")
+}
+
+/// What `plan` with these arguments names.
+fn plan_of(used: &ArgMatches<'_>) -> Result<Named, ValueFault>
+    ensures range { IfOk result (λ named. spec.IsInRange named) }
+    ensures named { IfOk result (λ named. spec.IsNamed named (codes "plan") (rows_of (found_of used.now))) }
+{
+    if is_given(used, "early") {
+        early_of(used)
+    } else if !is_late(used) {
+        Err(ValueFault::SlackWithoutEarly)
+    } else if is_given(used, "within") {
+        within_of(used)
+    } else {
+        optimal_of(used)
+    }
+}
+
 /// What `check` with these arguments names.
 fn check_of(used: &ArgMatches<'_>) -> Result<Named, ValueFault>
     ensures range { IfOk result (λ named. spec.IsInRange named) }
     ensures named { IfOk result (λ named. spec.IsNamed named (codes "check") (rows_of (found_of used.now))) }
 {
     let remember = is_given(used, "remember");
+    let within = is_given(used, "within");
     let legal = is_given(used, "legal");
-    let command = match (legal, remember) {
-        (true, true) => return Err(ValueFault::RememberBesideLegal),
-        (true, false) => Command::Legal,
-        (false, remember) => Command::Check { remember },
+    let command = match (legal, within, remember) {
+        (true, _, true) => return Err(ValueFault::RememberBesideLegal),
+        (true, true, false) => return Err(ValueFault::WithinBesideLegal),
+        (true, false, false) => Command::Legal,
+        (false, true, true) => return Err(ValueFault::WithinBesideRemember),
+        (false, true, false) => Command::CheckWithin,
+        (false, false, remember) => Command::Check { remember },
     };
     Ok(Named::Problem {
         command,
@@ -145,13 +305,45 @@ fn check_of(used: &ArgMatches<'_>) -> Result<Named, ValueFault>
     })
 }
 
+/// The planner that these flags of `run` name.
+fn planner_of(plain: bool, within: bool) -> Result<ChosenPlanner, ValueFault>
+    ensures { IfOk result (λ planner. spec.planner_of plain within ≡ Some planner) }
+{
+    match (plain, within) {
+        (false, false) => Ok(ChosenPlanner::Remembering),
+        (true, false) => Ok(ChosenPlanner::Plain),
+        (false, true) => Ok(ChosenPlanner::BestSoFar),
+        (true, true) => Err(ValueFault::PlainBesideWithin),
+    }
+}
+
+/// The limit of a planner of `run` where none is named.
+fn usual_of(planner: ChosenPlanner) -> u32
+    ensures value { result ≡ spec.usual_of planner }
+    ensures some { 1 ≤ result }
+    ensures few { result ≤ 1048576 }
+{
+    match planner {
+        ChosenPlanner::Plain => MOST,
+        ChosenPlanner::Remembering | ChosenPlanner::BestSoFar => USUAL,
+    }
+}
+
 /// What `run` with these arguments names.
 fn run_of(used: &ArgMatches<'_>) -> Result<Named, ValueFault>
     ensures range { IfOk result (λ named. spec.IsInRange named) }
     ensures named { IfOk result (λ named. spec.IsNamed named (codes "run") (rows_of (found_of used.now))) }
 {
-    let limit = limit_of(used)?;
-    Ok(Named::Run { limit })
+    let plain = is_given(used, "plain");
+    let within = is_given(used, "within");
+    let planner = planner_of(plain, within)?;
+    let limit = limit_of(used, usual_of(planner))?;
+    let slack = named_slack(used)?;
+    let planner = ChosenEarly {
+        planner,
+        slack: Some(slack.unwrap_or(0)),
+    };
+    Ok(Named::Run { planner, limit })
 }
 
 /// What a command with these arguments names.

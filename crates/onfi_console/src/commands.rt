@@ -76,14 +76,25 @@ fn plan_output<'a>(alloc: Global) -> Result<Command<'a>, AllocError>
     with(plan, flag(alloc, "requests", help::REQUESTS))
 }
 
-/// .. with `[--workers N] [--remember]`
+/// .. with `[--workers N] [--remember] [--within]`
 fn plan_search<'a>(alloc: Global) -> Result<Command<'a>, AllocError>
     ensures app { IfOk result (λ a. app_of a ≡ spec.plan_search) }
     ensures local { IfOk result (λ a. (fields_of a).has_globals ≡ false) }
 {
     let plan = plan_output(alloc)?;
     let plan = with(plan, number(alloc, "workers", help::WORKERS))?;
-    with(plan, flag(alloc, "remember", help::REMEMBER_PLAN))
+    let plan = with(plan, flag(alloc, "remember", help::REMEMBER_PLAN))?;
+    with(plan, flag(alloc, "within", help::WITHIN_PLAN))
+}
+
+/// .. with `[--early] [--slack N]`
+fn plan_early<'a>(alloc: Global) -> Result<Command<'a>, AllocError>
+    ensures app { IfOk result (λ a. app_of a ≡ spec.plan_early) }
+    ensures local { IfOk result (λ a. (fields_of a).has_globals ≡ false) }
+{
+    let plan = plan_search(alloc)?;
+    let plan = with(plan, flag(alloc, "early", help::EARLY))?;
+    with(plan, number(alloc, "slack", help::SLACK))
 }
 
 /// .. with `[--quiet] [FILE]`
@@ -91,17 +102,18 @@ fn plan<'a>(alloc: Global) -> Result<Command<'a>, AllocError>
     ensures app { IfOk result (λ a. app_of a ≡ spec.plan) }
     ensures local { IfOk result (λ a. (fields_of a).has_globals ≡ false) }
 {
-    let plan = with(plan_search(alloc)?, quiet(alloc))?;
+    let plan = with(plan_early(alloc)?, quiet(alloc))?;
     with(plan, file(alloc, "FILE", help::FILE))
 }
 
-/// `check [--remember] [--legal]`
+/// `check [--remember] [--within] [--legal]`
 fn check_judging<'a>(alloc: Global) -> Result<Command<'a>, AllocError>
     ensures app { IfOk result (λ a. app_of a ≡ spec.check_judging) }
     ensures local { IfOk result (λ a. (fields_of a).has_globals ≡ false) }
 {
     let check = command(alloc, "check", help::CHECK, help::CHECK_MORE);
     let check = with(check, flag(alloc, "remember", help::REMEMBER_CHECK))?;
+    let check = with(check, flag(alloc, "within", help::WITHIN_CHECK))?;
     with(check, flag(alloc, "legal", help::LEGAL))
 }
 
@@ -115,14 +127,24 @@ fn check<'a>(alloc: Global) -> Result<Command<'a>, AllocError>
     with(check, file(alloc, "PLAN", help::PLAN_FILE))
 }
 
-/// `run`
+/// `run [--limit N] [--plain] [--within] [--slack N]`
+fn run_search<'a>(alloc: Global) -> Result<Command<'a>, AllocError>
+    ensures app { IfOk result (λ a. app_of a ≡ spec.run_search) }
+    ensures local { IfOk result (λ a. (fields_of a).has_globals ≡ false) }
+{
+    let run = command(alloc, "run", help::RUN, help::RUN_MORE);
+    let run = with(run, number(alloc, "limit", help::LIMIT_RUN))?;
+    let run = with(run, flag(alloc, "plain", help::PLAIN_RUN))?;
+    let run = with(run, flag(alloc, "within", help::WITHIN_RUN))?;
+    with(run, number(alloc, "slack", help::SLACK_RUN))
+}
+
+/// .. with `[--quiet] [FILE]`
 fn run<'a>(alloc: Global) -> Result<Command<'a>, AllocError>
     ensures app { IfOk result (λ a. app_of a ≡ spec.run) }
     ensures local { IfOk result (λ a. (fields_of a).has_globals ≡ false) }
 {
-    let run = command(alloc, "run", help::RUN, help::RUN_MORE);
-    let run = with(run, number(alloc, "limit", help::LIMIT))?;
-    let run = with(run, quiet(alloc))?;
+    let run = with(run_search(alloc)?, quiet(alloc))?;
     with(run, file(alloc, "FILE", help::FILE))
 }
 

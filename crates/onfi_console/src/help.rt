@@ -17,6 +17,7 @@ Statuses:
   5  the command line is refused, or asks for help
   6  as many nodes were opened as may be, and the search isn't over
   7  a read or write failed
+  8  legal, and proved to end at most so much later than the optimum
 
 Example:
   onfi_sim plan examples/batch.onfi > batch.plan
@@ -30,14 +31,17 @@ pub const PLAN: &str =
 pub const PLAN_MORE: &str = "\
 Input: a script of rows up to the line 'end': a device (shape and spans rows, or page and sheet rows), the state of bus
 and LUNs (bus, free, running), and up to eight requests (want).
-Output: the plan text: its finish in ns, the starts of each group's phases, the certificate.
+Output: the plan text: its finish in ns, the starts of each group's phases, the certificate. With --within a line
+'below N' where the plan isn't proved optimal: nothing ends before N ns. With --early requests end early by their weights
+(weight), which else mean nothing.
 
 Statuses: 0 planned; 1 the script is refused; 4 memory was refused; 5 the command line is refused; 6 the search isn't over
 within the limit; 7 a read or write failed.
 
 Example:
   onfi_sim plan examples/batch.onfi
-  onfi_sim plan --remember --requests examples/batch.onfi";
+  onfi_sim plan --remember --requests examples/batch.onfi
+  onfi_sim plan --early --slack 20 examples/batch.onfi";
 
 pub const CHECK: &str =
     "Says whether a plan text is legal, ends when it says, and is optimal by its certificate.";
@@ -45,10 +49,11 @@ pub const CHECK: &str =
 pub const CHECK_MORE: &str = "\
 Input: a script up to its line 'end', and a plan text behind that line or in the file PLAN. Whoever made the plan isn't
 trusted.
-Output: 'accepted N', the finish in ns, or what is wrong; with --legal 'legal N', the time at which the schedule ends.
+Output: 'accepted N', the finish in ns, or what is wrong; with --within also 'within N M': it ends at N ns, and nothing
+ends before M; with --legal 'legal N', the time at which the schedule ends.
 
 Statuses: 0 accepted or legal; 1 the script is refused; 2 the plan text or its certificate is refused; 4 memory was
-refused; 5 the command line is refused; 7 a read or write failed.
+refused; 5 the command line is refused; 7 a read or write failed; 8 'within'.
 
 Example:
   onfi_sim plan examples/batch.onfi > batch.plan
@@ -65,10 +70,20 @@ Statuses: 0 each operation has its reply; 1 the script is refused; 3 a channel s
 was refused; 5 the command line is refused; 6 a plan wasn't over within the limit; 7 a read or write failed.
 
 Example:
-  onfi_sim run examples/two-hosts.onfi";
+  onfi_sim run examples/two-hosts.onfi
+  onfi_sim run --within --limit 200 examples/two-hosts.onfi
+  onfi_sim run --slack 20 examples/two-hosts.onfi";
 
 pub const LIMIT: &str =
     "Open at most N nodes in a search, 1 to 1048576; the greatest where none is named";
+
+pub const LIMIT_RUN: &str =
+    "Open at most N nodes for a plan, 1 to 1048576; 65536 where none is named, with --plain the greatest";
+
+pub const PLAIN_RUN: &str = "Plan by the plain search, which remembers no states";
+
+pub const WITHIN_RUN: &str =
+    "Take the best plan so far where a search opened as many nodes as it may; no planning is over";
 
 pub const TRACE: &str = "Print a line for each phase in place of the plan";
 
@@ -78,6 +93,20 @@ pub const WORKERS: &str = "Search by N workers, 1 to 8; the plan is the same for
 
 pub const REMEMBER_PLAN: &str =
     "Search by remembered states; answers in practice where the plain search isn't over";
+
+pub const WITHIN_PLAN: &str =
+    "Search likewise, and give the best plan so far at the limit, 65536 where none is named";
+
+pub const EARLY: &str =
+    "Let requests end early by the weights of the script, and nothing later than the plan does";
+
+pub const SLACK: &str =
+    "With --early: let the plan end N thousandths of its time later, 0 to 1000; the text is that of --within";
+
+pub const SLACK_RUN: &str =
+    "Let plans end N thousandths of their time later, 0 to 1000, so that requests end early; 0 where none is named";
+
+pub const WITHIN_CHECK: &str = "Take plan texts of 'plan --within', and no others";
 
 pub const REMEMBER_CHECK: &str = "Take a certificate that remembers states, and no plain one";
 

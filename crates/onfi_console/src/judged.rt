@@ -4,31 +4,48 @@ use crate::input::{Input, line_at, line_start, word_at};
 use onfi_breach::find_breach;
 use onfi_problem::Problem;
 use onfi_schedule::{Schedule, finish, legal};
-use onfi_script::{Purpose, behind_end, device_of, read_plan, read_rows, script_len, set_up};
+use onfi_script::{
+    Command, PlanWithin, Purpose, behind_end, device_of, read_plan_within, read_rows, script_len,
+    set_up,
+};
 use std::alloc::{AllocError, Global};
+
+/// What a certificate has to prove for a command.
+fn proof_of(command: Command) -> &'static str {
+    match command {
+        Command::CheckWithin => "that nothing ends before the time that is told",
+        _ => "it optimal",
+    }
+}
 
 /// The message beside a line `refused ..`.
 ///
 /// # Errors
 /// Want of memory.
-pub fn refused_message(alloc: Global, input: &Input<'_>, line: &str) -> Result<String, AllocError> {
+pub fn refused_message(
+    alloc: Global,
+    command: Command,
+    input: &Input<'_>,
+    line: &str,
+) -> Result<String, AllocError> {
     match (word_at(line, 1), word_at(line, 2)) {
         ("plan", number) => plan_line_message(alloc, input, number),
         ("finish", _) => finish_message(alloc, input),
+        ("below", _) => below_message(alloc, input),
         ("1", _) => illegal_message(alloc, input),
         ("cert", what) => {
             let what = text_fault(what);
             format!(in alloc; "onfi_sim: the certificate is refused: {what}\n")
         }
         (_, what) => {
-            let (what, place) = (token_fault(what), word_at(line, 3));
+            let (proof, what, place) = (proof_of(command), token_fault(what), word_at(line, 3));
             if place.is_empty() {
                 format!(in alloc;
-                    "onfi_sim: the schedule is legal, and the certificate doesn't prove it optimal: {what}\n"
+                    "onfi_sim: the schedule is legal, and the certificate doesn't prove {proof}: {what}\n"
                 )
             } else {
                 format!(in alloc;
-                    "onfi_sim: the schedule is legal, and the certificate doesn't prove it optimal: token {place}, counted from 0, {what}\n"
+                    "onfi_sim: the schedule is legal, and the certificate doesn't prove {proof}: token {place}, counted from 0, {what}\n"
                 )
             }
         }
@@ -50,7 +67,11 @@ fn plan_line_message(alloc: Global, input: &Input<'_>, number: &str) -> Result<S
     let before = input.text.len().saturating_sub(text.len());
     let (name, line) = input.place(before.saturating_add(line_start(text, above)));
     let found = shown(alloc, line_at(text, above))?;
-    let what = expected(number);
+    let what = if number == 3 && found.as_str().starts_with("below ") {
+        "a line 'below N', N in ns without leading zeros, is taken by 'check --within' alone"
+    } else {
+        expected(number)
+    };
     if line == number {
         return format!(in alloc; "onfi_sim: {name}:{line}: '{found}': {what}\n");
     }
@@ -67,8 +88,17 @@ fn expected(number: usize) -> &'static str {
     }
 }
 
-/// The problem and the schedule of an input, and the finish that its text says, in ns.
-fn said(alloc: Global, input: &Input<'_>) -> Option<(Problem, Schedule, u64)> {
+/// What an input says: its problem and schedule, and the numbers of its lines `finish` and `below`, in ns.
+#[derive(Drop)]
+struct PlanSaid {
+    problem: Problem,
+    schedule: Schedule,
+    ends: u64,
+    below: u64,
+}
+
+/// What an input says, where its plan text can be read.
+fn said(alloc: Global, input: &Input<'_>) -> Option<PlanSaid> {
     let rows = read_rows(alloc, Purpose::Problem, input.text).ok()?;
     let device = device_of(alloc, rows.as_slice()).ok()?;
     let setup = set_up(alloc, rows.as_slice(), &device).ok()?;
@@ -85,18 +115,27 @@ fn said(alloc: Global, input: &Input<'_>) -> Option<(Problem, Schedule, u64)> {
     let mut text = Vec::new(alloc);
     text.extend_from_slice(plan_text(input)).ok()?;
     text.extend_from_slice(b"ONFICERT\n").ok()?;
-    let (plan, _) = read_plan(alloc, problem.wants(), text.as_slice()).ok()?;
+    let PlanWithin { plan, below, .. } = read_plan_within(
+        alloc,
+        problem.wants(),
+        text.as_slice(),
+    ).ok()?;
     let ends = plan.finish();
     let schedule = plan.schedule(alloc, problem.lun_count()).ok()?;
-    Some((problem, schedule, ends))
+    Some(PlanSaid {
+        problem,
+        schedule,
+        ends,
+        below,
+    })
 }
 
 /// The message about a finish that isn't the schedule's.
 fn finish_message(alloc: Global, input: &Input<'_>) -> Result<String, AllocError> {
     let found = said(alloc, input);
     match &found {
-        Some((problem, schedule, ends)) if legal(problem, schedule) => {
-            let is = finish(problem, schedule);
+        Some(said) if legal(&said.problem, &said.schedule) => {
+            let (ends, is) = (said.ends, finish(&said.problem, &said.schedule));
             format!(in alloc;
                 "onfi_sim: the line 'finish' says {ends} ns, and the schedule ends at {is} ns\n"
             )
@@ -108,12 +147,29 @@ fn finish_message(alloc: Global, input: &Input<'_>) -> Result<String, AllocError
     }
 }
 
+/// The message about a schedule that ends before the time before which nothing is said to end.
+fn below_message(alloc: Global, input: &Input<'_>) -> Result<String, AllocError> {
+    let found = said(alloc, input);
+    match &found {
+        Some(said) if legal(&said.problem, &said.schedule) => {
+            let (below, is) = (said.below, finish(&said.problem, &said.schedule));
+            format!(in alloc;
+                "onfi_sim: nothing is said to end before {below} ns, and the schedule ends at {is} ns\n"
+            )
+        }
+        _ => String::from_str(
+            alloc,
+            "onfi_sim: the schedule ends before the time that is told\n",
+        ),
+    }
+}
+
 /// The message about a schedule that isn't legal.
 fn illegal_message(alloc: Global, input: &Input<'_>) -> Result<String, AllocError> {
-    let Some((problem, schedule, _)) = said(alloc, input) else {
+    let Some(said) = said(alloc, input) else {
         return String::from_str(alloc, "onfi_sim: the schedule isn't legal\n");
     };
-    match find_breach(&problem, &schedule) {
+    match find_breach(&said.problem, &said.schedule) {
         Some(breach) => { format!(in alloc; "onfi_sim: the schedule isn't legal: {breach}\n") }
         None => String::from_str(alloc, "onfi_sim: the schedule isn't legal\n"),
     }

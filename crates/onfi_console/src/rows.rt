@@ -3,7 +3,7 @@ use std::alloc::{AllocError, Global};
 use strsim::levenshtein;
 
 /// The names of rows, those that `plan` and `check` take first.
-const NAMES: [&str; 18] = [
+const NAMES: [&str; 20] = [
     "shape",
     "spans",
     "page",
@@ -12,10 +12,12 @@ const NAMES: [&str; 18] = [
     "free",
     "running",
     "want",
+    "weight",
     "strict",
     "channels",
     "hosts",
     "batch",
+    "choice",
     "submitcap",
     "postcap",
     "op",
@@ -53,6 +55,9 @@ fn problem_form(name: &str) -> Option<&'static str> {
         "want" => Some(
             "want,KIND,LUN,BLOCK,PAGE: read, program or erase; LUN of the device, BLOCK below 65536, PAGE below 4096",
         ),
+        "weight" => Some(
+            "weight,REQUEST,N: want REQUEST, 0 to 7 by the order of their rows, counts N times, 1 to 65535",
+        ),
         "strict" => Some("strict,FLAG: 0 or 1"),
         _ => None,
     }
@@ -64,6 +69,7 @@ fn run_form(name: &str) -> Option<&'static str> {
         "channels" => Some("channels,N: 1 to 4"),
         "hosts" => Some("hosts,N: 1 to 4"),
         "batch" => Some("batch,N: 1 to 8"),
+        "choice" => Some("choice,WORD: by-lun or reads-first"),
         "submitcap" => Some("submitcap,N: places of a submission queue"),
         "postcap" => Some("postcap,N: places of a completion queue"),
         "op" => Some(

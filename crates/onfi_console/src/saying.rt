@@ -40,7 +40,9 @@ pub fn message(
             line,
         )?)),
         (_, Named::Run { .. }) => run_message(alloc, answer),
-        ("refused", Named::Problem { .. }) => Ok(Some(refused_message(alloc, input, line)?)),
+        ("refused", Named::Problem { command, .. }) => {
+            Ok(Some(refused_message(alloc, command, input, line)?))
+        }
         ("over", Named::Problem { .. }) => Ok(Some(over_message(alloc, line)?)),
         ("memory", Named::Problem { .. }) => Ok(Some(String::from_str(
             alloc,
@@ -54,6 +56,6 @@ pub fn message(
 fn over_message(alloc: Global, line: &str) -> Result<String, AllocError> {
     let opened = word_at(line, 1);
     format!(in alloc;
-        "onfi_sim: the search opened {opened} nodes and isn't over; raise '--limit' up to 1048576, or plan with '--remember'\n"
+        "onfi_sim: the search opened {opened} nodes and isn't over; raise '--limit' up to 1048576, or plan with '--remember' or '--within'\n"
     )
 }

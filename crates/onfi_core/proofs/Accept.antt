@@ -74,9 +74,12 @@ module _ (s : Setup) (h : HalfState) (half : IsSound s h) (x : Item) where
       let a = length-drop h.planned h.accepted in
       let b = half.planned in
       let e : h.planned + length (drop h.planned h.accepted) ≡ length h.accepted = omega arith in
+      let W = wants_from s.geometry h.planned (drop h.planned h.accepted) in
+      ap (λ ws. h.aside ++ ws) (
       ap (wants_from s.geometry h.planned) (drop-append-le h.planned h.accepted (x ∷ []) half.planned)
       ∙ wants_from-append s.geometry h.planned (drop h.planned h.accepted) (x ∷ [])
-      ∙ ap (λ n. unplanned s h ++ want_of s.geometry n x ∷ []) e
+      ∙ ap (λ n. W ++ want_of s.geometry n x ∷ []) e)
+      ∙ sym (append_assoc h.aside W (want_of s.geometry (length h.accepted) x ∷ []))
 
   stays : (w : Want) → IsTaken s h.planned h.accepted w → IsTaken s h.planned (h.accepted ++ x ∷ []) w
   stays w t = record { below = t.below; item = t.item; there = get_more h.accepted (x ∷ []) w.id t.item t.there; is = t.is }
@@ -103,6 +106,9 @@ module _ (s : Setup) (h : HalfState) (half : IsSound s h) (x : Item) where
         let b = ap (number (has_id i)) one_more ∙ number-append (has_id i) (unplanned s h) (want_of s.geometry (length h.accepted) x ∷ []) in
         let c = ap (number (has_id i)) all_wants ∙ number-append (has_id i) (wants_from s.geometry 0 h.accepted) (want_of s.geometry (length h.accepted) x ∷ []) in
         omega arith);
+    aside = All-weaker _ _ stays h.aside half.aside;
+    aside_rise = half.aside_rise;
+    in_order = half.in_order;
     last = half.last;
   }
 

@@ -1,6 +1,6 @@
 -- A bus phase keeps what every reachable state keeps.
-use Rattle.std.proofs.Common.{◌≡◌, ℕ, zero, suc, ◌+◌, ◌*◌, ◌-◌, ◌<◌, ◌≤◌, ◌⊎◌, inl, inr, Bool, List, [], ◌∷◌, ◌++◌, length, Some, None, drop, refl, sym, ap, ◌∙◌, subst, append-nil, arith}
-use Rattle.std.specs.Prelude.{slice_get, slice_set, if◌then◌else◌}
+use Rattle.std.proofs.Common.{◌≡◌, ℕ, zero, suc, ◌+◌, ◌*◌, ◌-◌, ◌<◌, ◌≤◌, ◌⊎◌, inl, inr, List, [], ◌∷◌, ◌++◌, length, Some, None, drop, refl, sym, ap, ◌∙◌, subst, append-nil, arith}
+use Rattle.std.specs.Prelude.{slice_get, slice_set}
 use Rattle.std.specs.List.{AllByRecursion as All, flat_map}
 use Rattle.std.proofs.lemmas.Bool.{cases_lt}
 use Rattle.std.proofs.lemmas.List.{drop_all}
@@ -18,7 +18,6 @@ use Rattle.onfi_problem.specs.declared.lun_state.LunState.TheVariants.{Running}
 use Rattle.onfi_problem.proofs.LunAfter.{lun_after_running, lun_after_free, running_is}
 use Rattle.onfi_problem.proofs.Perm.{All-append}
 use Rattle.onfi_problem.proofs.Places.{get_set_same, get_set_other, length_set, same_place}
-use Rattle.onfi_problem.proofs.Wants.{total-append}
 use Rattle.onfi_schedule.specs.Laws.{ComesNext}
 use Rattle.onfi_schedule.specs.Schedule.{Schedule, Legal}
 use Rattle.onfi_schedule.proofs.Following.{first_move_law}
@@ -83,6 +82,9 @@ module _ (s : Setup) (h : HalfState) (half : IsSound s h) (l : ℕ) (g : List Wa
         let f3 = number_set i h.now.luns l going.state (lun_after h.now.timing g n (start + phase_length (group_spans h.now.timing g) (length g) n)) going.there in
         let f4 = counts i in
         rw (wants_are, luns_are) (omega arith));
+    aside = half.aside;
+    aside_rise = half.aside_rise;
+    in_order = half.in_order;
     last = half.last;
   }
 

@@ -2,7 +2,7 @@
 use Rattle.std.proofs.Common.{◌≡◌, ℕ, zero, suc, ◌<◌, ◌≤◌, inl, inr, true, false, List, [], ◌∷◌, ◌++◌, length, Some, None, map, refl, sym, ap, ◌∙◌, subst, append_assoc, append-nil, arith}
 use Rattle.std.proofs.lemmas.Bool.{false≢true}
 use Rattle.std.proofs.lemmas.List.{length-map, map-append}
-use Rattle.std.specs.Prelude.{IfSome, slice_get, slice_set}
+use Rattle.std.specs.Prelude.{Bool, IfSome, IsTrue, slice_get, slice_set}
 use Rattle.std.specs.List.{AllByRecursion as All}
 use Rattle.onfi_problem.proofs.Lists.{map_get, map_set}
 use Rattle.onfi_problem.proofs.Places.{length_set}
@@ -20,11 +20,13 @@ use Rattle.onfi_core.specs.Core.Doing.{SetsBatch}
 use Rattle.onfi_core.specs.Kept.{IsReached, KeepsPromise, SerialsFrom, times}
 use Rattle.onfi_chip.specs.Chip.{Chip}
 use Rattle.onfi_core.specs.Queues.{ChannelView, AreChannels, AreOpened, opened_with, state_in}
-use Rattle.onfi_core.specs.State.{ChannelState, collected_by, device_for, posted_to, sent_by, wants_from}
-use Rattle.onfi_core.specs.Steps.{IsPlanned, Step}
+use Rattle.onfi_core.specs.State.{ChannelState, Planning, collected_by, device_for, posted_to, sent_by, wants_from}
+use Rattle.onfi_plan.specs.Certificate.{Certificate}
+use Rattle.onfi_core.specs.Steps.{IsOptimal, IsPlanned, IsPromised, Step}
 use Rattle.onfi_core.proofs.Channels.{All-set, run_keeps}
-use Rattle.onfi_core.proofs.Lists.{head_same, tail_same, All-at}
+use Rattle.onfi_core.proofs.Lists.{head_same, tail_same, All-at, All-map}
 use Rattle.onfi_core.proofs.Promise.{promise}
+use Rattle.onfi_core.proofs.Promised.{last_optimal}
 use Rattle.onfi_core.proofs.Reaching.{events_reach, opened_reaches, step_reaches}
 use Rattle.onfi_core.specs.Reaching.{Reaches}
 
@@ -33,7 +35,7 @@ get_none [] i h = refl
 get_none (x ∷ xs) zero h = absurd (omega arith)
 get_none (x ∷ xs) (suc i) h = get_none xs i (omega arith)
 
-module _ {C : Type 0} (state : C → Chip) where
+module _ {C : Type 0} (state : C → Chip) (Such : Planning → Type 0) where
   abbrev states : List (ChannelView C) → List ChannelState
   states views = map (state_in state) views
 
@@ -54,19 +56,20 @@ module _ {C : Type 0} (state : C → Chip) where
       )
 
   -- the channels stay those of the setup, and events reach them
-  pub channels_kept : (s : Setup) (views : List (ChannelView C)) (at : ℕ) (v v' : ChannelView C) → AreChannels state s views → slice_get views at ≡ Some v → v'.0.setup ≡ v.0.setup → Reaches s (state_in state v') → AreChannels state s (slice_set views at v')
-  channels_kept s views at v v' a there same reached = record {
+  pub channels_kept : (s : Setup) (views : List (ChannelView C)) (at : ℕ) (v v' : ChannelView C) → AreChannels state Such s views → slice_get views at ≡ Some v → v'.0.setup ≡ v.0.setup → Reaches s (state_in state v') → (IfSome v.0.half.last Such → IfSome v'.0.half.last Such) → AreChannels state Such s (slice_set views at v')
+  channels_kept s views at v v' a there same reached last = record {
     count = length_set views at v' ∙ a.count;
     each = All-set (λ (x : ChannelView C). (x.0.setup ≡ s) × Reaches s (state_in state x)) views at v' a.each (same ∙ (All-at (λ (x : ChannelView C). (x.0.setup ≡ s) × Reaches s (state_in state x)) views at v a.each there).0, reached);
+    last = All-set (λ (x : ChannelView C). IfSome x.0.half.last Such) views at v' a.last (last (All-at (λ (x : ChannelView C). IfSome x.0.half.last Such) views at v a.last there));
   }
 
-  pub setup_at : (s : Setup) (views : List (ChannelView C)) (at : ℕ) (v : ChannelView C) → AreChannels state s views → slice_get views at ≡ Some v → v.0.setup ≡ s
+  pub setup_at : (s : Setup) (views : List (ChannelView C)) (at : ℕ) (v : ChannelView C) → AreChannels state Such s views → slice_get views at ≡ Some v → v.0.setup ≡ s
   setup_at s views at v a there = (All-at (λ (x : ChannelView C). (x.0.setup ≡ s) × Reaches s (state_in state x)) views at v a.each there).0
 
-  pub reached_at : (s : Setup) (views : List (ChannelView C)) (at : ℕ) (v : ChannelView C) → AreChannels state s views → slice_get views at ≡ Some v → Reaches s (state_in state v)
+  pub reached_at : (s : Setup) (views : List (ChannelView C)) (at : ℕ) (v : ChannelView C) → AreChannels state Such s views → slice_get views at ≡ Some v → Reaches s (state_in state v)
   reached_at s views at v a there = (All-at (λ (x : ChannelView C). (x.0.setup ≡ s) × Reaches s (state_in state x)) views at v a.each there).1
 
-  pub reached_behind : (s : Setup) (views : List (ChannelView C)) (at : ℕ) (v v' : ChannelView C) (e : Event) (o : Outcome) → AreChannels state s views → slice_get views at ≡ Some v → Step v.0.setup (state_in state v) e o (state_in state v') → Reaches s (state_in state v')
+  pub reached_behind : (s : Setup) (views : List (ChannelView C)) (at : ℕ) (v v' : ChannelView C) (e : Event) (o : Outcome) → AreChannels state Such s views → slice_get views at ≡ Some v → Step v.0.setup (state_in state v) e o (state_in state v') → Reaches s (state_in state v')
   reached_behind s views at v v' e o a there step = step_reaches s (state_in state v) e o (state_in state v') (reached_at s views at v a there) (subst (λ (x : Setup). Step x (state_in state v) e o (state_in state v')) (setup_at s views at v a there) step)
 
   -- the batch of a channel is set
@@ -87,12 +90,12 @@ run_more s cs [] (p ∷ os) mid cs' e o run step = absurd run
 run_more s cs (d ∷ es) [] mid cs' e o run step = absurd run
 run_more s cs (d ∷ es) (p ∷ os) mid cs' e o (first, one, rest) step = (first, one, run_more s first es os mid cs' e o rest step)
 
-All-map : {A B : Type 0} (P : B → Type 0) (f : A → B) (xs : List A) → All (λ x. P (f x)) xs → All P (map f xs)
-All-map P f [] h = tt
-All-map P f (x ∷ xs) h = (h.0, All-map P f xs h.1)
+-- the last planning of each is such
+pub all_such : {C : Type 0} (state : C → Chip) (Such : Planning → Type 0) (s : Setup) (views : List (ChannelView C)) → AreChannels state Such s views → All (λ c. IfSome c.half.last Such) (map (state_in state) views)
+all_such state Such s views a = All-map (λ c. IfSome c.half.last Such) (state_in state) views a.last
 
-pub all_reached : {C : Type 0} (state : C → Chip) (s : Setup) (views : List (ChannelView C)) → AreChannels state s views → All (Reaches s) (map (state_in state) views)
-all_reached {C} state s views a = All-map (Reaches s) (state_in state) views (All-weaker (λ (v : ChannelView C). (v.0.setup ≡ s) × Reaches s (state_in state v)) (λ (v : ChannelView C). Reaches s (state_in state v)) (λ v h. h.1) views a.each)
+pub all_reached : {C : Type 0} (state : C → Chip) (Such : Planning → Type 0) (s : Setup) (views : List (ChannelView C)) → AreChannels state Such s views → All (Reaches s) (map (state_in state) views)
+all_reached {C} state Such s views a = All-map (Reaches s) (state_in state) views (All-weaker (λ (v : ChannelView C). (v.0.setup ≡ s) × Reaches s (state_in state v)) (λ (v : ChannelView C). Reaches s (state_in state v)) (λ v h. h.1) views a.each)
 
 pub all_kept_by_events : (s : Setup) (cs : List ChannelState) → All (Reaches s) cs → All (IsReached s) cs
 all_kept_by_events s cs h = All-weaker (Reaches s) (IsReached s) (λ c r. events_reach s c r) cs h
@@ -145,10 +148,15 @@ same_length f k xs ys e = sym (length-map xs f) ∙ ap length e ∙ length-map y
 opened_reached : (s : Setup) (chip : Chip) → Reaches s (opened_with s chip)
 opened_reached s chip = opened_reaches s (opened_with s chip) (chip.faults, chip.failures, refl)
 
-pub channels_opened : {C : Type 0} (state : C → Chip) (s : Setup) (chips : List C) (views : List (ChannelView C)) → AreOpened state s chips views → length chips ≡ s.channels → AreChannels state s views
-channels_opened {C} state s chips views a count = record {
+-- nothing is planned
+opened_last : (Such : Planning → Type 0) (s : Setup) (chip : Chip) → IfSome (opened_with s chip).half.last Such
+opened_last Such s chip = tt
+
+pub channels_opened : {C : Type 0} (state : C → Chip) (Such : Planning → Type 0) (s : Setup) (chips : List C) (views : List (ChannelView C)) → AreOpened state s chips views → length chips ≡ s.channels → AreChannels state Such s views
+channels_opened {C} state Such s chips views a count = record {
   count = same_length (state_in state) (λ x. opened_with s (state x)) views chips a.states ∙ count;
   each = All-both (λ (v : ChannelView C). v.0.setup ≡ s) (λ (v : ChannelView C). Reaches s (state_in state v)) views a.setups (paired (state_in state) (λ x. opened_with s (state x)) (Reaches s) (λ x. opened_reached s (state x)) views chips a.states);
+  last = paired (state_in state) (λ x. opened_with s (state x)) (λ (c : ChannelState). IfSome c.half.last Such) (λ x. opened_last Such s (state x)) views chips a.states;
 }
 
 pub none_left : {A : Type 0} (n : ℕ) (xs : List A) → (0 < n → false ≡ true) → n ≡ length xs → xs ≡ []
@@ -178,6 +186,11 @@ module _ (s : Setup) (cs : List ChannelState) (reached : All (IsReached s) cs) w
 
   pub all_last : All (λ c. IfSome c.half.last IsPlanned) cs
   all_last = each_promise (λ c. IfSome c.half.last IsPlanned) (λ c k. k.last)
+
+-- where the planner is exact, each last plan is optimal
+pub all_optimal : (exact : Bool) (certifies : Certificate → Type 0) (cs : List ChannelState) → IsTrue exact → All (λ c. IfSome c.half.last IsPlanned) cs → All (λ c. IfSome c.half.last (IsPromised exact certifies)) cs → All (λ c. IfSome c.half.last IsOptimal) cs
+all_optimal exact certifies [] is planned promised = tt
+all_optimal exact certifies (c ∷ cs) is planned promised = (last_optimal exact certifies c.half.last is planned.0 promised.0, all_optimal exact certifies cs is planned.1 promised.1)
 
 -- where nothing is left each channel is reached
 pub ends_reached : (s s' : Setup) (cs : List ChannelState) (events left : List Event) (outcomes : List Outcome) (now : List ChannelState) → All (IsReached s) cs → Halfway s cs events left outcomes now → left ≡ [] → s' ≡ s → All (IsReached s') now

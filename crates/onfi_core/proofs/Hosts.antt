@@ -92,6 +92,9 @@ sound_posted s h host r h' old out =
           let d = number-append (is_of_place i) out.before out.behind in
           let e = number-append (is_of_place i) h.posted (r ∷ []) in
           omega arith);
+      aside = old.aside;
+      aside_rise = old.aside_rise;
+      in_order = old.in_order;
       last = old.last;
     } in
     subst (IsSound s) (sym out.after) next

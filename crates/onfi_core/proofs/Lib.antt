@@ -1,4 +1,6 @@
 pub mod Lists
+pub mod Lags
+pub mod Shifted
 pub mod Cut
 pub mod Startable
 pub mod Members
@@ -6,12 +8,17 @@ pub mod Made
 pub mod Going
 pub mod Phase
 pub mod Bus
+pub mod Merged
+pub mod Marks
 pub mod Numbered
 pub mod Plan
 pub mod Accept
+pub mod Passing
+pub mod Readied
 pub mod Hosts
 pub mod Opening
 pub mod Reach
+pub mod Found
 pub mod Window
 pub mod Next
 pub mod Few
@@ -33,3 +40,4 @@ pub mod Queueing
 pub mod Running
 pub mod Cores
 pub mod Counting
+pub mod Promised

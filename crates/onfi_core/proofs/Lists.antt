@@ -1,11 +1,11 @@
 -- Lists and their places.
 use Rattle.std.proofs.Common.{◌≡◌, ℕ, zero, suc, ◌+◌, ◌≤◌, inl, inr, List, [], ◌∷◌, ◌++◌, length, Some, take, drop, refl, sym, ap, ◌∙◌, arith}
-use Rattle.std.specs.Prelude.{slice_get, slice_index_or}
+use Rattle.std.specs.Prelude.{map, slice_get, slice_index_or, slice_set}
 use Rattle.std.specs.List.{AllByRecursion as All}
 use Rattle.std.proofs.lemmas.List.{take-append-drop}
-use Rattle.onfi_group.specs.Words.{Has}
+use Rattle.onfi_group.specs.Words.{Has, Pairs}
 pub use Rattle.onfi_problem.proofs.Places.{drop_next, get_has}
-use Rattle.onfi_problem.proofs.Perm.{All-has}
+use Rattle.onfi_problem.proofs.Perm.{All-has, All-weaker}
 
 pub get_at_length : {A : Type 0} (xs : List A) (x : A) (ys : List A) → slice_get (xs ++ x ∷ ys) (length xs) ≡ Some x
 get_at_length [] x ys = refl
@@ -58,3 +58,30 @@ All-drop P (suc n) (x ∷ xs) h = All-drop P n xs h.1
 
 pub All-at : {A : Type 0} (P : A → Type 0) (xs : List A) (i : ℕ) (x : A) → All P xs → slice_get xs i ≡ Some x → P x
 All-at P xs i x h at = All-has P xs x h (get_has xs i x at)
+
+pub set_self : {A : Type 0} (xs : List A) (i : ℕ) (x : A) → slice_get xs i ≡ Some x → slice_set xs i x ≡ xs
+set_self [] i x h = refl
+set_self (y ∷ xs) zero x h = let e : x ≡ y = cc in ap (λ z. z ∷ xs) e
+set_self (y ∷ xs) (suc i) x h = ap (λ zs. y ∷ zs) (set_self xs i x h)
+
+-- Mapped lists
+
+-- a mapped element is that of one that is there
+pub get_map : {A B : Type 0} (f : A → B) (xs : List A) (i : ℕ) (y : B) → slice_get (map f xs) i ≡ Some y → (x : A) × (slice_get xs i ≡ Some x) × (y ≡ f x)
+get_map f [] i y h = cc
+get_map f (x ∷ xs) zero y h = (x, refl, cc)
+get_map f (x ∷ xs) (suc i) y h = get_map f xs i y h
+
+pub All-map : {A B : Type 0} (P : B → Type 0) (f : A → B) (xs : List A) → All (λ x. P (f x)) xs → All P (map f xs)
+All-map P f [] h = tt
+All-map P f (x ∷ xs) h = (h.0, All-map P f xs h.1)
+
+-- what two have to each other, their images have
+pub Pairs-map : {A B : Type 0} (f : A → B) (R : A → A → Type 0) (Q : B → B → Type 0) → ((a b : A) → R a b → Q (f a) (f b)) → (xs : List A) → Pairs R xs → Pairs Q (map f xs)
+Pairs-map f R Q more [] h = tt
+Pairs-map f R Q more (x ∷ xs) h = (All-map (Q (f x)) f xs (All-weaker (R x) (λ y. Q (f x) (f y)) (λ y r. more x y r) xs h.0), Pairs-map f R Q more xs h.1)
+
+pub Has-map_back : {A B : Type 0} (f : A → B) (xs : List A) (y : B) → Has (map f xs) y → (x : A) × Has xs x × (y ≡ f x)
+Has-map_back f [] y h = absurd h
+Has-map_back f (x ∷ xs) y (inl e) = (x, inl refl, sym e)
+Has-map_back f (x ∷ xs) y (inr h) = let (z, there, is) = Has-map_back f xs y h in (z, inr there, is)

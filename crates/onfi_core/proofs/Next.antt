@@ -1,8 +1,8 @@
 -- What the next planning takes, item by item.
-use Rattle.std.proofs.Common.{◌≡◌, ℕ, zero, suc, ◌+◌, ◌<◌, ◌≤◌, ◌⊎◌, inl, inr, true, false, List, [], ◌∷◌, ◌++◌, length, Some, None, ◌^◌, take, drop, refl, sym, ap, ◌∙◌, append_assoc, length-drop, arith}
-use Rattle.std.specs.Prelude.{slice_get, ◌==◌, nat_le}
+use Rattle.std.proofs.Common.{◌≡◌, ◌≢◌, ℕ, zero, suc, ◌+◌, ◌<◌, ◌≤◌, ◌⊎◌, inl, inr, true, false, List, [], ◌∷◌, ◌++◌, ◌-◌, length, Some, None, ◌^◌, take, drop, refl, sym, ap, ◌∙◌, append_assoc, length-drop, arith}
+use Rattle.std.specs.Prelude.{slice_get, ◌==◌, nat_le, nat_lt, not, if◌then◌else◌, Bool, Option}
 use Rattle.std.specs.List.{flat_map}
-use Rattle.std.proofs.lemmas.Bool.{cases_Bool}
+use Rattle.std.proofs.lemmas.Bool.{cases_Bool, cases_lt, lt-ltb}
 use Rattle.std.proofs.lemmas.Bool.Decides.{nat_tests}
 use Rattle.onfi_addr.specs.declared.geometry.Geometry.{Geometry}
 use Rattle.onfi_request.specs.declared.request.Item.{Item}
@@ -13,7 +13,13 @@ use Rattle.slab.specs.Slab.{Slab}
 use Rattle.onfi_core.specs.declared.setup.Setup.{Setup}
 use Rattle.onfi_core.specs.declared.slot.Slot.{Slot}
 use Rattle.onfi_core.specs.State.{HalfState, want_of, wants_from}
-use Rattle.onfi_core.specs.Steps.{unplanned, is_empty, taken_next, next_problem, plan_refusal}
+use Rattle.onfi_core.specs.declared.outcome.Cause.TheVariants.{Clock}
+use Rattle.onfi_core.specs.declared.outcome.Outcome.{Outcome}
+use Rattle.onfi_core.specs.declared.outcome.Outcome.TheVariants as outcome
+use Rattle.onfi_core.specs.declared.setup.Choice.{Choice}
+use Rattle.onfi_core.specs.declared.setup.Choice.TheVariants.{InOrder, ByLun, ReadsFirst}
+use Rattle.onfi_core.specs.Steps.{unplanned, if_stopped, is_current, is_empty, is_late, or_else, refused_where, taken_next, next_problem, nothing_to_plan, plan_refusal}
+use Rattle.onfi_group.proofs.Counting.{number-append}
 use Rattle.onfi_problem.specs.Left.{horizon}
 use Rattle.onfi_core.specs.Kept.{IsSound, is_of_place, unposted}
 use Rattle.onfi_core.specs.View.{HasSlot, AreSlots}
@@ -47,6 +53,7 @@ unplanned_slot s slots h i a sound low high =
     let l = length-drop h.planned h.accepted in
     let p = sound.planned in
     let w = is_wanted s.geometry h.planned i (drop h.planned h.accepted) low (omega arith) in
+    let n = number-append (has_id i) h.aside (wants_from s.geometry h.planned (drop h.planned h.accepted)) in
     a.kept i high (not_posted s h i sound (omega arith))
 
 get_wants : (geometry : Geometry) (n : ℕ) (xs : List Item) (i : ℕ) (x : Item) → slice_get xs i ≡ Some x → slice_get (wants_from geometry n xs) i ≡ Some (want_of geometry (n + i) x)
@@ -82,13 +89,105 @@ pub takes_all : {A : Type 0} (n m : ℕ) (xs : List A) → n ≤ m → (n ≡ m)
 takes_all n m xs low (inl e) = ap (λ k. take k xs) e
 takes_all n m xs low (inr h) = take_all n m xs h (omega arith)
 
-some_not_empty : {A : Type 0} (xs : List A) → 1 ≤ length xs → is_empty xs ≡ false
-some_not_empty [] h = absurd (omega arith)
-some_not_empty (x ∷ xs) h = refl
+goes : (stopped : Option Outcome) (none late : Bool) → stopped ≡ None → none ≡ false → late ≡ false → or_else stopped (or_else (refused_where none outcome.NothingToPlan) (refused_where late (outcome.Stopped Clock))) ≡ None
+goes stopped none late a b c = rw (a, b, c) refl
+
+goes_not : (stopped : Option Outcome) (none late : Bool) → stopped ≡ None → none ≡ true → or_else stopped (or_else (refused_where none outcome.NothingToPlan) (refused_where late (outcome.Stopped Clock))) ≡ Some outcome.NothingToPlan
+goes_not stopped none late a b = rw (a, b) refl
+
+goes_late : (stopped : Option Outcome) (none late : Bool) → stopped ≡ None → none ≡ false → late ≡ true → or_else stopped (or_else (refused_where none outcome.NothingToPlan) (refused_where late (outcome.Stopped Clock))) ≡ Some (outcome.Stopped Clock)
+goes_late stopped none late a b c = rw (a, b, c) refl
 
 -- where nothing stands against it a planning is not refused
-pub plan_goes_on : (s : Setup) (h : HalfState) → h.stopped ≡ None → 1 ≤ length (taken_next s h) → horizon (next_problem s h) < 2 ^ 62 → plan_refusal s h ≡ None
-plan_goes_on s h going some low =
-    let a = some_not_empty (taken_next s h) some in
-    let b : nat_le (2 ^ 62) (horizon (next_problem s h)) ≡ false = grind (arith, nat_tests) in
-    rw (going, a, b) refl
+pub plan_goes_on : (s : Setup) (h : HalfState) → h.stopped ≡ None → nothing_to_plan s h ≡ false → is_late s.choice s h ≡ false → plan_refusal s h ≡ None
+plan_goes_on s h going some early = goes (if_stopped h.stopped) (nothing_to_plan s h) (is_late s.choice s h) (ap if_stopped going) some early
+
+pub early_in_order : (s : Setup) (h : HalfState) → s.choice ≡ InOrder → horizon (next_problem s h) < 2 ^ 62 → is_late s.choice s h ≡ false
+early_in_order s h e low = let b : nat_le (2 ^ 62) (horizon (next_problem s h)) ≡ false = grind (arith, nat_tests) in rw e b
+
+pub late_in_order : (s : Setup) (h : HalfState) → s.choice ≡ InOrder → 2 ^ 62 ≤ horizon (next_problem s h) → is_late s.choice s h ≡ true
+late_in_order s h e high = let b : nat_le (2 ^ 62) (horizon (next_problem s h)) ≡ true = grind (arith, nat_tests) in rw e b
+
+never_late : (choice : Choice) (s : Setup) (h : HalfState) → choice ≢ InOrder → is_late choice s h ≡ false
+never_late InOrder s h n = absurd (n refl)
+never_late ByLun s h n = refl
+never_late ReadsFirst s h n = refl
+
+-- where all are chosen of, the state doesn't tell that the plan might end late
+pub early_chosen : (s : Setup) (h : HalfState) → s.choice ≢ InOrder → is_late s.choice s h ≡ false
+early_chosen s h n = never_late s.choice s h n
+
+-- a planning is refused where nothing new finds a place and the plan is current
+pub nothing_taken : (s : Setup) (h : HalfState) → h.stopped ≡ None → nothing_to_plan s h ≡ true → plan_refusal s h ≡ Some outcome.NothingToPlan
+nothing_taken s h going none = goes_not (if_stopped h.stopped) (nothing_to_plan s h) (is_late s.choice s h) (ap if_stopped going) none
+
+-- then no item is taken
+pub none_taken : (s : Setup) (h : HalfState) → nothing_to_plan s h ≡ true → is_empty (taken_next s h) ≡ true
+none_taken s h none = both (is_empty (taken_next s h)) (is_current h) none
+  where
+    both : (b e : Bool) → (if b then e else false) ≡ true → b ≡ true
+    both true e h = refl
+    both false e h = cc
+
+-- .. or where its plan might end late
+pub stopped_late : (s : Setup) (h : HalfState) → h.stopped ≡ None → nothing_to_plan s h ≡ false → is_late s.choice s h ≡ true → plan_refusal s h ≡ Some (outcome.Stopped Clock)
+stopped_late s h going some late = goes_late (if_stopped h.stopped) (nothing_to_plan s h) (is_late s.choice s h) (ap if_stopped going) some late
+
+-- Whether a planning takes more
+
+is_empty_take : {A : Type 0} (n : ℕ) (xs : List A) → 1 ≤ n → is_empty (take n xs) ≡ is_empty xs
+is_empty_take zero xs h = absurd (omega arith)
+is_empty_take (suc n) [] h = refl
+is_empty_take (suc n) (x ∷ xs) h = refl
+
+pub full_takes : (s : Setup) (h : HalfState) → h.batch ≤ length h.now.wants → false ≡ not (is_empty (taken_next s h))
+full_takes s h full = let e : h.batch - length h.now.wants ≡ 0 = omega arith in rw e refl
+
+pub some_taken : (s : Setup) (h : HalfState) → length h.now.wants < h.batch → is_empty (taken_next s h) ≡ is_empty (unplanned s h)
+some_taken s h room = is_empty_take (h.batch - length h.now.wants) (unplanned s h) (omega arith)
+
+empty_wants : (geometry : Geometry) (n : ℕ) (xs : List Item) → is_empty (wants_from geometry n xs) ≡ is_empty xs
+empty_wants geometry n [] = refl
+empty_wants geometry n (x ∷ xs) = refl
+
+lt_same : (n m k l : ℕ) → (n < m → k < l) → (k < l → n < m) → nat_lt n m ≡ nat_lt k l
+lt_same n m k l a b = elim (cases_lt n m) [
+  | inl lt ↦ lt-ltb n m lt ∙ sym (lt-ltb k l (a lt))
+  | inr ge ↦ elim (cases_lt k l) [
+    | inl lt ↦ absurd (let q = b lt in omega arith)
+    | inr ge' ↦ (let x : nat_lt n m ≡ false = grind (arith, nat_tests) in let y : nat_lt k l ≡ false = grind (arith, nat_tests) in x ∙ sym y)
+  ]
+]
+
+empty_drop : {A : Type 0} (n : ℕ) (xs : List A) → is_empty (drop n xs) ≡ not (nat_lt n (length xs))
+empty_drop zero [] = refl
+empty_drop zero (x ∷ xs) = ap not (sym (lt-ltb 0 (length (x ∷ xs)) (omega arith)))
+empty_drop (suc n) [] = let e : nat_lt (suc n) 0 ≡ false = grind (arith, nat_tests) in ap not (sym e)
+empty_drop (suc n) (x ∷ xs) = empty_drop n xs ∙ ap not (lt_same n (length xs) (suc n) (suc (length xs)) (λ l. omega arith) (λ l. omega arith))
+
+empty_front : {A : Type 0} (xs ys : List A) → is_empty xs ≡ false → is_empty (xs ++ ys) ≡ false
+empty_front [] ys h = cc
+empty_front (x ∷ xs) ys h = refl
+
+empty_back : {A : Type 0} (xs ys : List A) → is_empty xs ≡ true → is_empty (xs ++ ys) ≡ is_empty ys
+empty_back [] ys h = refl
+empty_back (x ∷ xs) ys h = cc
+
+none_there : {A : Type 0} (xs : List A) → length xs ≡ 0 → is_empty xs ≡ true
+none_there [] e = refl
+none_there (x ∷ xs) e = absurd (omega arith)
+
+not_not : (b : Bool) → b ≡ not (not b)
+not_not true = refl
+not_not false = refl
+
+-- what is set aside is taken
+pub aside_takes : (s : Setup) (h : HalfState) → length h.now.wants < h.batch → is_empty h.aside ≡ false → true ≡ not (is_empty (taken_next s h))
+aside_takes s h room some = let e = some_taken s h room ∙ empty_front h.aside (wants_from s.geometry h.planned (drop h.planned h.accepted)) some in sym (ap not e)
+
+-- else what no planning has looked at
+pub new_takes : (s : Setup) (h : HalfState) → length h.now.wants < h.batch → length h.aside ≡ 0 → nat_lt h.planned (length h.accepted) ≡ not (is_empty (taken_next s h))
+new_takes s h room none =
+    let W = wants_from s.geometry h.planned (drop h.planned h.accepted) in
+    let e = some_taken s h room ∙ empty_back h.aside W (none_there h.aside none) ∙ empty_wants s.geometry h.planned (drop h.planned h.accepted) ∙ empty_drop h.planned h.accepted in
+    not_not (nat_lt h.planned (length h.accepted)) ∙ ap not (sym e)

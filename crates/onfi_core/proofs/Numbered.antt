@@ -4,6 +4,7 @@ use Rattle.std.specs.Prelude.{slice_get}
 use Rattle.std.specs.List.{AllByRecursion as All}
 use Rattle.onfi_request.specs.declared.request.Item.{Item}
 use Rattle.onfi_request.specs.declared.want.Want.{Want}
+use Rattle.onfi_problem.proofs.Places.{within_get}
 use Rattle.onfi_problem.proofs.Wants.{Rising}
 use Rattle.onfi_core.specs.Kept.{IsTaken}
 use Rattle.onfi_addr.specs.declared.geometry.Geometry.{Geometry}
@@ -70,3 +71,23 @@ Rising-append n (u ∷ us) vs a b c d = (all_above us vs a.0 d, Rising-append n 
 pub below_length : (geometry : Geometry) (n : ℕ) (xs : List Item) (bound : ℕ) → n + length xs ≡ bound → All (λ (w : Want). w.id < bound) (wants_from geometry n xs)
 below_length geometry n [] bound e = tt
 below_length geometry n (x ∷ xs) bound e = (omega arith, below_length geometry (n + 1) xs bound (omega arith))
+
+from_above : (geometry : Geometry) (n k : ℕ) (xs : List Item) → n ≤ k → All (λ (w : Want). n ≤ w.id) (wants_from geometry k xs)
+from_above geometry n k [] h = tt
+from_above geometry n k (x ∷ xs) h = (h, from_above geometry n (k + 1) xs (omega arith))
+
+pub none_below : (geometry : Geometry) (n : ℕ) (xs : List Item) → All (λ (w : Want). n ≤ w.id) (wants_from geometry n xs)
+none_below geometry n xs = from_above geometry n n xs (omega arith)
+
+pub wants_rise : (geometry : Geometry) (n : ℕ) (xs : List Item) → Rising (wants_from geometry n xs)
+wants_rise geometry n [] = tt
+wants_rise geometry n (x ∷ xs) = (above n (want_of geometry n x) _ refl (none_below geometry (n + 1) xs), wants_rise geometry (n + 1) xs)
+
+-- the items behind n others, where all were looked at
+pub all_taken : (s : Setup) (all : List Item) (n : ℕ) (pre xs : List Item) → all ≡ pre ++ xs → n ≡ length pre → All (IsTaken s (length all) all) (wants_from s.geometry n xs)
+all_taken s all n pre [] e f = tt
+all_taken s all n pre (x ∷ xs) e f =
+    let at : slice_get all n ≡ Some x = rw (e, f) (get_at_length pre x xs) in (
+      record { below = within_get all n x at; item = x; there = at; is = refl },
+      all_taken s all (n + 1) (pre ++ x ∷ []) xs (e ∙ sym (append_assoc pre (x ∷ []) xs)) (omega (arith, length-append pre (x ∷ []))),
+    )

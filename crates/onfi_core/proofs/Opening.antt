@@ -86,6 +86,9 @@ opened_sound s = record {
   wants = tt;
   running = λ lun group next ready h. absurd (none_running s.geometry.lun_count lun group next ready h);
   once = λ i. omega (arith, nothing_unposted i s.geometry.lun_count);
+  aside = tt;
+  aside_rise = tt;
+  in_order = λ _. refl;
   last = tt;
 }
 

@@ -1,9 +1,9 @@
 -- A planning keeps what every reachable state keeps.
-use Rattle.std.proofs.Common.{◌≡◌, ℕ, zero, suc, ◌+◌, ◌-◌, ◌<◌, ◌≤◌, ◌⊎◌, inl, inr, List, [], ◌∷◌, ◌++◌, length, take, drop, refl, sym, ap, ◌∙◌, append_assoc, length-drop, length-append, arith}
+use Rattle.std.proofs.Common.{◌≡◌, ◌≢◌, ℕ, zero, suc, ◌+◌, ◌-◌, ◌<◌, ◌≤◌, ◌⊎◌, inl, inr, List, [], ◌∷◌, ◌++◌, length, take, drop, None, append-nil, refl, sym, ap, subst, ◌∙◌, append_assoc, length-drop, length-append, arith}
 use Rattle.std.specs.Prelude.{slice_get, ◌%◌, ◌^◌}
 use Rattle.std.specs.List.{AllByRecursion as All}
 use Rattle.std.proofs.Math.Nat.{mod-lt}
-use Rattle.std.proofs.lemmas.List.{drop-drop, length-take-le, take-append-drop}
+use Rattle.std.proofs.lemmas.List.{drop-drop, drop_all, length-take-le, take-append-drop}
 use Rattle.std.proofs.lemmas.List.Elements.{filter-append}
 use Rattle.onfi_addr.specs.Rows.{plane_of_block}
 use Rattle.onfi_timing.specs.declared.kind.Kind.{Kind}
@@ -11,17 +11,24 @@ use Rattle.onfi_timing.specs.declared.kind.Kind.TheVariants.{Read, Program, Eras
 use Rattle.onfi_request.specs.Range.{Fits, IsPageFor}
 use Rattle.onfi_request.specs.declared.request.Item.{Item}
 use Rattle.onfi_request.specs.declared.want.Want.{Want}
-use Rattle.onfi_group.specs.Words.{number}
+use Rattle.onfi_group.specs.Words.{Has, number}
 use Rattle.onfi_problem.specs.Problem.{Problem, IsProblem, IsSmall, IsWant, has_id}
-use Rattle.onfi_problem.proofs.Perm.{All-weaker, All-append}
+use Rattle.onfi_problem.proofs.Perm.{All-weaker, All-append, All-each}
 use Rattle.onfi_chip.specs.Chip.{Chip}
-use Rattle.onfi_core.specs.Kept.{on, is_want_on, IsTaken, IsSound, ChipAgrees, IsReached, commanding}
+use Rattle.onfi_problem.specs.declared.lun_state.LunState.{LunState}
+use Rattle.onfi_problem.specs.Kept.{problem_of}
+use Rattle.onfi_problem.proofs.Wants.{Pairs-filter, one_with_id}
+use Rattle.onfi_core.specs.Kept.{on, is_want_on, IsTaken, IsSound, ChipAgrees, IsReached, Rise, commanding}
 use Rattle.onfi_core.specs.State.{HalfState, ChannelState, Planning, want_of, wants_from}
-use Rattle.onfi_core.specs.Steps.{unplanned, taken_next, next_problem, planned_by, Plans}
+use Rattle.onfi_core.specs.Steps.{unplanned, taken_next, next_problem, planned_by, problem_with, AreItems, Chooses, Plans, Taken, Takes, TakesBy, taken_in_order}
+use Rattle.onfi_core.specs.declared.setup.Choice.{Choice}
+use Rattle.onfi_core.specs.declared.setup.Choice.TheVariants.{InOrder, ByLun, ReadsFirst}
 use Rattle.onfi_core.specs.declared.setup.Setup.{Setup}
 use Rattle.onfi_core.proofs.Bus.{number-append}
-use Rattle.onfi_core.proofs.Lists.{All-drop, length_least}
-use Rattle.onfi_core.proofs.Numbered.{length_wants, split_at, taken_are, not_below, numbers_rise, Rising-append}
+use Rattle.onfi_core.proofs.Lists.{All-at, All-drop, length_least}
+use Rattle.onfi_core.proofs.Merged.{all_parts, filter_merged, in_turn, merged_all, number_merged, rise_back, rise_parts}
+use Rattle.onfi_core.proofs.Numbered.{all_taken, length_wants, none_below, split_at, taken_are, not_below, numbers_rise, Rising-append, wants_rise}
+use Rattle.onfi_core.proofs.Promise.{one_each}
 
 -- an item in range is a want of a problem
 plane_small : (s : Setup) (block : ℕ) → plane_of_block s.geometry block ≤ 3
@@ -61,29 +68,74 @@ taken_in_range s n zero xs h = tt
 taken_in_range s n (suc m) [] h = tt
 taken_in_range s n (suc m) (x ∷ xs) h = (h.0.lun, taken_in_range s (n + 1) m xs h.1)
 
-take_few : {A : Type 0} (m : ℕ) (xs : List A) → length (take m xs) ≤ m
+pub take_few : {A : Type 0} (m : ℕ) (xs : List A) → length (take m xs) ≤ m
 take_few zero xs = omega arith
 take_few (suc m) [] = omega arith
 take_few (suc m) (x ∷ xs) = let h = take_few m xs in omega arith
 
-module _ (s : Setup) (h : HalfState) (half : IsSound s h) where
-  pub weaker : (w : Want) → IsTaken s h.planned h.accepted w → IsTaken s (h.planned + length (taken_next s h)) h.accepted w
-  weaker w t = let q = t.below in record { below = omega arith; item = t.item; there = t.there; is = t.is }
+-- a want that was looked at is one of a problem, of a LUN that is there
+module _ (s : Setup) (n : ℕ) (accepted : List Item) (in_range : All (λ (x : Item). Fits s.geometry x.request) accepted) where
+  taken_is_want : (w : Want) → IsTaken s n accepted w → IsWant w
+  taken_is_want w t = subst IsWant (sym t.is) (is_want s w.id t.item (All-at (λ (x : Item). Fits s.geometry x.request) accepted w.id t.item in_range t.there))
 
-  pub new_wants : All (IsTaken s (h.planned + length (taken_next s h)) h.accepted) (h.now.wants ++ taken_next s h)
-  new_wants = All-append (IsTaken s (h.planned + length (taken_next s h)) h.accepted) h.now.wants (taken_next s h)
-      (All-weaker _ _ weaker h.now.wants half.wants)
-      (taken_are s h.accepted h.planned (h.batch - length h.now.wants) (h.planned + length (taken_next s h)) (take h.planned h.accepted) (drop h.planned h.accepted) (sym (take-append-drop h.planned h.accepted)) (sym (length-take-le h.planned h.accepted half.planned)) refl)
+  taken_lun : (w : Want) → IsTaken s n accepted w → w.lun < s.geometry.lun_count
+  taken_lun w t = subst (λ (v : Want). v.lun < s.geometry.lun_count) (sym t.is) (All-at (λ (x : Item). Fits s.geometry x.request) accepted w.id t.item in_range t.there).lun
 
-  pub next_is_problem : IsProblem (next_problem s h)
-  next_is_problem = record {
-    wants = All-append IsWant h.now.wants (taken_next s h) half.problem.wants (wants_are_wants s h.planned (h.batch - length h.now.wants) (drop h.planned h.accepted) (All-drop _ h.planned h.accepted half.in_range));
-    running = half.problem.running;
-    ids = Rising-append h.planned h.now.wants (taken_next s h) half.problem.ids (numbers_rise s.geometry h.planned (h.batch - length h.now.wants) (drop h.planned h.accepted)) (All-weaker _ (λ (w : Want). w.id < h.planned) (λ w t. t.below) h.now.wants half.wants) (not_below s.geometry h.planned (h.batch - length h.now.wants) h.planned (drop h.planned h.accepted) (omega arith));
-    in_range = All-append _ h.now.wants (taken_next s h) half.problem.in_range (let e = half.luns in rw e (taken_in_range s h.planned (h.batch - length h.now.wants) (drop h.planned h.accepted) (All-drop _ h.planned h.accepted half.in_range)));
-  }
+later_taken : (s : Setup) (accepted : List Item) (n m : ℕ) → n ≤ m → (w : Want) → IsTaken s n accepted w → IsTaken s m accepted w
+later_taken s accepted n m low w t = let q = t.below in record { below = omega arith; item = t.item; there = t.there; is = t.is }
 
-  pub next_few : length (h.now.wants ++ taken_next s h) ≤ 8
+-- what is unplanned once that is taken
+abbrev pub unplanned_by : Setup → HalfState → Taken → List Want
+unplanned_by s h taken = taken.aside ++ wants_from s.geometry taken.planned (drop taken.planned h.accepted)
+
+-- what is taken keeps the half as it must be
+pub record Keeps (s : Setup) (h : HalfState) (taken : Taken) : Type 0 where
+  pub seen : h.planned ≤ taken.planned
+  pub within : taken.planned ≤ length h.accepted
+  pub problem : IsProblem (problem_with h taken.wants)
+  pub few : length taken.wants ≤ 8
+  pub wants : All (IsTaken s taken.planned h.accepted) taken.wants
+  pub aside : All (IsTaken s taken.planned h.accepted) taken.aside
+  pub aside_rise : Rise taken.aside
+  pub in_order : s.choice ≡ InOrder → taken.aside ≡ []
+  pub counts : (i : ℕ) → number (has_id i) (unplanned s h) + number (has_id i) h.now.wants ≡ number (has_id i) (unplanned_by s h taken) + number (has_id i) taken.wants
+  pub order : (l b : ℕ) → Rise (on l b h.now.wants ++ on l b (unplanned s h)) → on l b h.now.wants ++ on l b (unplanned s h) ≡ on l b taken.wants ++ on l b (unplanned_by s h taken)
+
+-- In order
+
+module _ (s : Setup) (h : HalfState) (half : IsSound s h) (empty : h.aside ≡ []) where
+  abbrev room : ℕ
+  room = h.batch - length h.now.wants
+
+  abbrev items : List Item
+  items = drop h.planned h.accepted
+
+  -- the first of those that no planning has looked at
+  taken_is : taken_next s h ≡ take (h.batch - length h.now.wants) (wants_from s.geometry h.planned (drop h.planned h.accepted))
+  taken_is = ap (λ (xs : List Want). take (h.batch - length h.now.wants) (xs ++ wants_from s.geometry h.planned (drop h.planned h.accepted))) empty
+
+  new_wants : All (IsTaken s (h.planned + length (taken_next s h)) h.accepted) (h.now.wants ++ taken_next s h)
+  new_wants =
+      let P : List Want → Type 0 = λ ts. All (IsTaken s (h.planned + length ts) h.accepted) (h.now.wants ++ ts) in
+      let T = take room (wants_from s.geometry h.planned items) in
+      let base : P T = All-append (IsTaken s (h.planned + length T) h.accepted) h.now.wants T
+      (All-weaker _ _ (later_taken s h.accepted h.planned (h.planned + length T) (omega arith)) h.now.wants half.wants)
+      (taken_are s h.accepted h.planned room (h.planned + length T) (take h.planned h.accepted) items (sym (take-append-drop h.planned h.accepted)) (sym (length-take-le h.planned h.accepted half.planned)) refl) in
+      subst P (sym taken_is) base
+
+  next_is_problem : IsProblem (next_problem s h)
+  next_is_problem =
+      let P : List Want → Type 0 = λ ts. IsProblem (problem_with h (h.now.wants ++ ts)) in
+      let T = take room (wants_from s.geometry h.planned items) in
+      let base : P T = record {
+        wants = All-append IsWant h.now.wants T half.problem.wants (wants_are_wants s h.planned room items (All-drop _ h.planned h.accepted half.in_range));
+        running = half.problem.running;
+        ids = Rising-append h.planned h.now.wants T half.problem.ids (numbers_rise s.geometry h.planned room items) (All-weaker _ (λ (w : Want). w.id < h.planned) (λ w t. t.below) h.now.wants half.wants) (not_below s.geometry h.planned room h.planned items (omega arith));
+        in_range = All-append _ h.now.wants T half.problem.in_range (let e = half.luns in rw e (taken_in_range s h.planned room items (All-drop _ h.planned h.accepted half.in_range)));
+      } in
+      subst P (sym taken_is) base
+
+  next_few : length (h.now.wants ++ taken_next s h) ≤ 8
   next_few =
       let a = length-append h.now.wants (taken_next s h) in
       let b = take_few (h.batch - length h.now.wants) (unplanned s h) in
@@ -91,80 +143,189 @@ module _ (s : Setup) (h : HalfState) (half : IsSound s h) where
       let d = half.few_batch in
       omega arith
 
-  pub next_is_small : IsSmall (next_problem s h)
-  next_is_small =
-      let e = half.luns in
-      let a = s.geometry.some_lun in
-      let b = s.geometry.few_luns in
-      record { wants = next_few; some_luns = omega arith; few_luns = omega arith }
+  -- what was not planned is what is taken now and what is left
+  unplanned_splits : unplanned s h ≡ taken_next s h ++ unplanned_by s h (taken_in_order s h)
+  unplanned_splits =
+      let T = take room (wants_from s.geometry h.planned items) in
+      let P : List Want → List Want → Type 0 = λ ts bs. bs ++ wants_from s.geometry h.planned items ≡ ts ++ (bs ++ wants_from s.geometry (h.planned + length ts) (drop (h.planned + length ts) h.accepted)) in
+      let base : P T [] = split_at s.geometry h.planned room items ∙ ap (λ xs. T ++ wants_from s.geometry (h.planned + length T) xs) (drop-drop (length T) h.planned h.accepted) in
+      subst (P (taken_next s h)) (sym empty) (subst (λ ts. P ts []) (sym taken_is) base)
 
-module _ (s : Setup) (h : HalfState) (half : IsSound s h) (plan : Planning) (plans : Plans s h plan) where
-  abbrev new : HalfState
-  new = planned_by h (length (taken_next s h)) plan
+  few_taken : h.planned + length (taken_next s h) ≤ length h.accepted
+  few_taken =
+      let T = take room (wants_from s.geometry h.planned items) in
+      let a = length_least room (wants_from s.geometry h.planned items) in
+      let b = length_wants s.geometry h.planned items in
+      let c = length-drop h.planned h.accepted in
+      let d = half.planned in
+      let e = ap length taken_is in
+      omega arith
+
+  pub keeps_in_order : Keeps s h (taken_in_order s h)
+  keeps_in_order = record {
+    seen = omega arith;
+    within = few_taken;
+    problem = next_is_problem;
+    few = next_few;
+    wants = new_wants;
+    aside = All-weaker _ _ (later_taken s h.accepted h.planned (h.planned + length (taken_next s h)) (omega arith)) h.aside half.aside;
+    aside_rise = half.aside_rise;
+    in_order = half.in_order;
+    counts = λ i. (
+        let b = number-append (has_id i) (taken_next s h) (unplanned_by s h (taken_in_order s h)) in
+        let c = ap (number (has_id i)) unplanned_splits in
+        let d = number-append (has_id i) h.now.wants (taken_next s h) in
+        omega arith);
+    order = λ l b rise. (
+        let a = filter-append (is_want_on l b) h.now.wants (taken_next s h) in
+        let c = ap (on l b) unplanned_splits ∙ filter-append (is_want_on l b) (taken_next s h) (unplanned_by s h (taken_in_order s h)) in
+        ap (λ zs. on l b h.now.wants ++ zs) c ∙ sym (append_assoc (on l b h.now.wants) (on l b (taken_next s h)) (on l b (unplanned_by s h (taken_in_order s h)))) ∙ ap (λ zs. zs ++ on l b (unplanned_by s h (taken_in_order s h))) (sym a));
+  }
+
+-- Chosen of all
+
+module _ (s : Setup) (h : HalfState) (half : IsSound s h) where
+  -- what is unplanned rises, and was accepted
+  pub unplanned_rises : Rise (unplanned s h)
+  unplanned_rises = Rising-append h.planned h.aside (wants_from s.geometry h.planned (drop h.planned h.accepted)) half.aside_rise (wants_rise s.geometry h.planned (drop h.planned h.accepted)) (All-weaker _ (λ (w : Want). w.id < h.planned) (λ w t. t.below) h.aside half.aside) (none_below s.geometry h.planned (drop h.planned h.accepted))
+
+  unplanned_taken : All (IsTaken s (length h.accepted) h.accepted) (unplanned s h)
+  unplanned_taken = All-append _ h.aside (wants_from s.geometry h.planned (drop h.planned h.accepted))
+      (All-weaker _ _ (later_taken s h.accepted h.planned (length h.accepted) half.planned) h.aside half.aside)
+      (all_taken s h.accepted h.planned (take h.planned h.accepted) (drop h.planned h.accepted) (sym (take-append-drop h.planned h.accepted)) (sym (length-take-le h.planned h.accepted half.planned)))
+
+  items_taken : (items : List Want) → AreItems s h items → All (IsTaken s (length h.accepted) h.accepted) items
+  items_taken items are = merged_all (IsTaken s (length h.accepted) h.accepted) h.now.wants (unplanned s h) items are.all (All-weaker _ _ (later_taken s h.accepted h.planned (length h.accepted) half.planned) h.now.wants half.wants) unplanned_taken
+
+  -- no want not started is unplanned
+  apart_at : (x y : Want) → Has h.now.wants x → Has (unplanned s h) y → x.id ≢ y.id
+  apart_at x y here there e =
+      let a = half.once x.id in
+      let b = one_each s.geometry 0 x.id h.accepted in
+      let c = one_with_id h.now.wants x half.problem.ids here in
+      let d = one_with_id (unplanned s h) y unplanned_rises there in
+      let d' : number (has_id x.id) (unplanned s h) ≡ 1 = ap (λ i. number (has_id i) (unplanned s h)) e ∙ d in
+      absurd (omega arith)
+
+  pub apart : All (λ (x : Want). All (λ (y : Want). x.id ≢ y.id) (unplanned s h)) h.now.wants
+  apart = All-each _ h.now.wants (λ x here. All-each _ (unplanned s h) (λ y there. apart_at x y here there))
+
+  module _ (taken : Taken) (chooses : Chooses s h taken) (chosen : s.choice ≢ InOrder) where
+    rises : Rise taken.wants × Rise taken.aside
+    rises = rise_parts taken.wants taken.aside chooses.items chooses.choice.both chooses.are.rise
+
+    looked_at : All (IsTaken s (length h.accepted) h.accepted) taken.wants × All (IsTaken s (length h.accepted) h.accepted) taken.aside
+    looked_at = all_parts (IsTaken s (length h.accepted) h.accepted) taken.wants taken.aside chooses.items chooses.choice.both (items_taken chooses.items chooses.are)
+
+    -- what is set aside is all that is unplanned then
+    aside_is : unplanned_by s h taken ≡ taken.aside
+    aside_is =
+        let none : wants_from s.geometry taken.planned (drop taken.planned h.accepted) ≡ [] = ap (wants_from s.geometry taken.planned) (drop_all taken.planned h.accepted (let e = chooses.all in omega arith)) in
+        ap (λ zs. taken.aside ++ zs) none ∙ append-nil taken.aside
+
+    abbrev Looked : ℕ → List Want → Type 0
+    Looked n ws = All (IsTaken s n h.accepted) ws
+
+    pub keeps_chosen : Keeps s h taken
+    keeps_chosen = record {
+      seen = let a = half.planned in let e = chooses.all in omega arith;
+      within = let e = chooses.all in omega arith;
+      problem = record {
+        wants = All-weaker _ IsWant (taken_is_want s (length h.accepted) h.accepted half.in_range) taken.wants looked_at.0;
+        running = half.problem.running;
+        ids = rises.0;
+        in_range = let e = half.luns in rw e (All-weaker _ (λ (w : Want). w.lun < s.geometry.lun_count) (taken_lun s (length h.accepted) h.accepted half.in_range) taken.wants looked_at.0);
+      };
+      few = let a = chooses.choice.few in let b = half.few_batch in omega arith;
+      wants = subst (λ n. Looked n taken.wants) (sym chooses.all) looked_at.0;
+      aside = subst (λ n. Looked n taken.aside) (sym chooses.all) looked_at.1;
+      aside_rise = rises.1;
+      in_order = λ e. absurd (chosen e);
+      counts = λ i. (
+          let a = number_merged (has_id i) h.now.wants (unplanned s h) chooses.items chooses.are.all in
+          let b = number_merged (has_id i) taken.wants taken.aside chooses.items chooses.choice.both in
+          let c = ap (number (has_id i)) aside_is in
+          omega arith);
+      order = λ l b rise. (
+          let m = filter_merged (is_want_on l b) h.now.wants (unplanned s h) chooses.items chooses.are.all in
+          let r = Pairs-filter _ (is_want_on l b) chooses.items chooses.are.rise in
+          let e = in_turn (on l b h.now.wants) (on l b (unplanned s h)) (on l b chooses.items) m rise r in
+          sym e ∙ chooses.choice.closed l b ∙ ap (λ zs. on l b taken.wants ++ on l b zs) (sym aside_is));
+    }
+
+keeps_by : (choice : Choice) (s : Setup) (h : HalfState) (taken : Taken) → IsSound s h → s.choice ≡ choice → TakesBy choice s h taken → Keeps s h taken
+keeps_by InOrder s h taken half is takes = subst (Keeps s h) (sym takes) (keeps_in_order s h half (half.in_order is))
+keeps_by ByLun s h taken half is takes = keeps_chosen s h half taken takes (λ e. let q : ByLun ≡ InOrder = sym is ∙ e in cc)
+keeps_by ReadsFirst s h taken half is takes = keeps_chosen s h half taken takes (λ e. let q : ReadsFirst ≡ InOrder = sym is ∙ e in cc)
+
+pub keeps_taken : (s : Setup) (h : HalfState) (taken : Taken) → IsSound s h → Takes s h taken → Keeps s h taken
+keeps_taken s h taken half takes = keeps_by s.choice s h taken half refl takes
+
+pub next_is_small : (s : Setup) (h : HalfState) (taken : Taken) → IsSound s h → Keeps s h taken → IsSmall (problem_with h taken.wants)
+next_is_small s h taken half keeps =
+    let e = half.luns in
+    let a = s.geometry.some_lun in
+    let b = s.geometry.few_luns in
+    record { wants = keeps.few; some_luns = omega arith; few_luns = omega arith }
+
+module _ (s : Setup) (h : HalfState) (half : IsSound s h) (taken : Taken) (plan : Planning) (plans : Plans s h taken plan) where
+  keeps : Keeps s h taken
+  keeps = keeps_taken s h taken half plans.tries.takes
 
   luns_same : plan.problem.luns ≡ h.now.luns
   luns_same = ap (λ (p : Problem). p.luns) plans.problem
 
-  wants_are : plan.problem.wants ≡ h.now.wants ++ taken_next s h
+  wants_are : plan.problem.wants ≡ taken.wants
   wants_are = ap (λ (p : Problem). p.wants) plans.problem
 
-  -- what was not planned is what is taken now and what is left
-  unplanned_splits : unplanned s h ≡ taken_next s h ++ unplanned s (planned_by h (length (taken_next s h)) plan)
-  unplanned_splits =
-      split_at s.geometry h.planned (h.batch - length h.now.wants) (drop h.planned h.accepted)
-      ∙ ap (λ xs. taken_next s h ++ wants_from s.geometry (h.planned + length (taken_next s h)) xs) (drop-drop (length (taken_next s h)) h.planned h.accepted)
+  pub sound_planned : IsSound s (planned_by h taken plan)
+  sound_planned =
+      let k = keeps in
+      record {
+        planned = k.within;
+        some_batch = half.some_batch;
+        few_batch = half.few_batch;
+        timing = ap (λ (p : Problem). p.timing) plans.problem ∙ half.timing;
+        rules = ap (λ (p : Problem). p.rules) plans.problem ∙ half.rules;
+        problem = subst IsProblem (sym plans.problem) k.problem;
+        few = rw wants_are k.few;
+        luns = ap length luns_same ∙ half.luns;
+        legal = plans.planned.legal;
+        in_range = half.in_range;
+        wants = rw wants_are k.wants;
+        running = λ lun group next ready at. All-weaker _ _ (later_taken s h.accepted h.planned taken.planned k.seen) group (half.running lun group next ready (ap (λ ls. slice_get ls lun) (sym luns_same) ∙ at));
+        once = λ i. (
+            let a = half.once i in
+            let b = k.counts i in
+            rw (wants_are, luns_same) (omega arith));
+        aside = k.aside;
+        aside_rise = k.aside_rise;
+        in_order = k.in_order;
+        last = plans.planned;
+      }
 
-  few : h.planned + length (taken_next s h) ≤ length h.accepted
-  few =
-      let a = length_least (h.batch - length h.now.wants) (unplanned s h) in
-      let b = length_wants s.geometry h.planned (drop h.planned h.accepted) in
-      let c = length-drop h.planned h.accepted in
-      let d = half.planned in
-      omega arith
-
-  pub sound_planned : IsSound s (planned_by h (length (taken_next s h)) plan)
-  sound_planned = record {
-    planned = few;
-    some_batch = half.some_batch;
-    few_batch = half.few_batch;
-    timing = ap (λ (p : Problem). p.timing) plans.problem ∙ half.timing;
-    rules = ap (λ (p : Problem). p.rules) plans.problem ∙ half.rules;
-    problem = let e = plans.problem in rw e (next_is_problem s h half);
-    few = rw wants_are (next_few s h half);
-    luns = ap length luns_same ∙ half.luns;
-    legal = plans.planned.optimal.legal;
-    in_range = half.in_range;
-    wants = rw wants_are (new_wants s h half);
-    running = λ lun group next ready at. All-weaker _ _ (weaker s h half) group (half.running lun group next ready (ap (λ ls. slice_get ls lun) (sym luns_same) ∙ at));
-    once = λ i. (
-        let a = half.once i in
-        let b = number-append (has_id i) (taken_next s h) (unplanned s (planned_by h (length (taken_next s h)) plan)) in
-        let c = ap (number (has_id i)) unplanned_splits in
-        let d = number-append (has_id i) h.now.wants (taken_next s h) in
-        rw (wants_are, luns_same) (omega arith));
-    last = plans.planned;
-  }
-
-  pub chip_planned : (chip : Chip) → ChipAgrees s h chip → ChipAgrees s (planned_by h (length (taken_next s h)) plan) chip
+  pub chip_planned : (chip : Chip) → ChipAgrees s h chip → ChipAgrees s (planned_by h taken plan) chip
   chip_planned chip agrees = record {
     geometry = agrees.geometry;
     timing = agrees.timing;
     blocks = λ l b. (
         let old = agrees.blocks l b in
-        let a = filter-append (is_want_on l b) h.now.wants (taken_next s h) in
-        let c = ap (on l b) unplanned_splits ∙ filter-append (is_want_on l b) (taken_next s h) (unplanned s (planned_by h (length (taken_next s h)) plan)) in
+        let C = on l b (commanding (slice_get h.now.luns l)) in
+        let X = on l b h.now.wants ++ on l b (unplanned s h) in
+        let all : Rise (on l b (wants_from s.geometry 0 h.accepted)) = Pairs-filter _ (is_want_on l b) (wants_from s.geometry 0 h.accepted) (wants_rise s.geometry 0 h.accepted) in
+        let rise : Rise X = rise_back C X (rise_back old.ran (C ++ X) (subst Rise old.order all)) in
         record {
           ran = old.ran;
           contents = old.contents;
-          order = rw (luns_same, wants_are, a) (old.order ∙ ap (λ zs. old.ran ++ (on l b (commanding (slice_get h.now.luns l)) ++ zs)) (ap (λ zs. on l b h.now.wants ++ zs) c ∙ sym (append_assoc (on l b h.now.wants) (on l b (taken_next s h)) (on l b (unplanned s (planned_by h (length (taken_next s h)) plan))))));
+          order = rw (luns_same, wants_are) (old.order ∙ ap (λ zs. old.ran ++ (C ++ zs)) (keeps.order l b rise));
         });
     luns = λ lun. (let e = luns_same in rw e (agrees.luns lun));
   }
 
-pub plan_kept : (s : Setup) (c : ChannelState) (plan : Planning) → IsReached s c → Plans s c.half plan → IsReached s (record c { half = planned_by c.half (length (taken_next s c.half)) plan })
-plan_kept s c plan reached plans = record {
-  half = record { sound = sound_planned s c.half reached.half.sound plan plans; held = reached.half.held; posted = reached.half.posted; made = reached.half.made };
-  chip = λ going. chip_planned s c.half reached.half.sound plan plans c.chip (reached.chip going);
+pub plan_kept : (s : Setup) (c : ChannelState) (taken : Taken) (plan : Planning) → c.half.stopped ≡ None → IsReached s c → Plans s c.half taken plan → IsReached s (record c { half = planned_by c.half taken plan })
+plan_kept s c taken plan going reached plans = record {
+  half = record { sound = sound_planned s c.half reached.half.sound taken plan plans; held = reached.half.held; posted = reached.half.posted; made = reached.half.made };
+  chip = λ _. chip_planned s c.half reached.half.sound taken plan plans c.chip (reached.chip going);
   sent = reached.sent;
   in_range = reached.in_range;
   hosts = reached.hosts;
@@ -172,3 +333,23 @@ plan_kept s c plan reached plans = record {
   serials = reached.serials;
   collected = reached.collected;
 }
+
+-- the problem of these parts
+pub parts_are : (s : Setup) (h : HalfState) → IsSound s h → (luns : List LunState) (wants these : List Want) → luns ≡ h.now.luns → wants ≡ these → problem_of s.timing s.rules h.now.bus_free luns wants ≡ problem_with h these
+parts_are s h sound luns wants these l w =
+    let t = sym sound.timing in
+    let r = sym sound.rules in
+    ap (λ x. problem_of x s.rules h.now.bus_free luns wants) t ∙ ap (λ x. problem_of h.now.timing x h.now.bus_free luns wants) r ∙ ap (λ x. problem_of h.now.timing h.now.rules h.now.bus_free x wants) l ∙ ap (problem_of h.now.timing h.now.rules h.now.bus_free h.now.luns) w
+
+-- What a planning takes
+
+pub takes_in_order : (s : Setup) (h : HalfState) → s.choice ≡ InOrder → Takes s h (taken_in_order s h)
+takes_in_order s h is = subst (λ c. TakesBy c s h (taken_in_order s h)) (sym is) refl
+
+takes_by : (choice : Choice) (s : Setup) (h : HalfState) (taken : Taken) → choice ≢ InOrder → Chooses s h taken → TakesBy choice s h taken
+takes_by InOrder s h taken n chooses = absurd (n refl)
+takes_by ByLun s h taken n chooses = chooses
+takes_by ReadsFirst s h taken n chooses = chooses
+
+pub takes_chosen : (s : Setup) (h : HalfState) (taken : Taken) → s.choice ≢ InOrder → Chooses s h taken → Takes s h taken
+takes_chosen s h taken n chooses = takes_by s.choice s h taken n chooses

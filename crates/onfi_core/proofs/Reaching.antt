@@ -1,15 +1,9 @@
 -- The channels that events reach, and what leads from one to another.
-use Rattle.std.proofs.Common.{◌≡◌, ℕ, ◌+◌, ◌-◌, ◌<◌, ◌≤◌, ◌^◌, inr, true, false, List, [], ◌∷◌, ◌++◌, length, Option, Some, None, refl, sym, ap, ◌∙◌, subst, length-append, arith}
-use Rattle.std.specs.Prelude.{slice_get, slice_set, nat_le}
-use Rattle.std.specs.List.{AllByRecursion as All, filter}
-use Rattle.std.proofs.lemmas.Bool.Decides.{nat_tests}
-use Rattle.onfi_addr.specs.declared.geometry.Geometry.{Geometry}
-use Rattle.onfi_timing.specs.declared.kind.Kind.{Kind}
-use Rattle.onfi_timing.specs.declared.kind.Kind.TheVariants.{Read, Program, Erase}
-use Rattle.onfi_request.specs.Range.{Fits, IsPageFor, IsLengthFor}
+use Rattle.std.proofs.Common.{◌≡◌, ℕ, ◌-◌, ◌<◌, ◌≤◌, ◌^◌, inr, List, [], ◌∷◌, ◌++◌, length, Option, Some, None, refl, sym, ap, ◌∙◌, subst, length-append, arith}
+use Rattle.std.specs.Prelude.{slice_get, slice_set}
+use Rattle.std.specs.List.{filter}
 use Rattle.onfi_request.specs.declared.reply.Reply.{Reply}
 use Rattle.onfi_request.specs.declared.request.Item.{Item}
-use Rattle.onfi_request.specs.declared.request.Request.{Request}
 use Rattle.onfi_chip.specs.Chip.{Chip}
 use Rattle.onfi_core.specs.declared.event.Event.{Event}
 use Rattle.onfi_core.specs.declared.event.Event.TheVariants as event
@@ -20,9 +14,9 @@ use Rattle.onfi_core.specs.Core.{Did, DidAll, Doing, IsOpened, channel_of, with_
 use Rattle.onfi_core.specs.Core.Doing.{Happens, SetsBatch}
 use Rattle.onfi_core.specs.Kept.{IsReached}
 use Rattle.onfi_core.specs.Reaching.{Reaches, StaysReached, EventsReach, StepReaches, BatchReached, AcceptingReached, PostingReached}
-use Rattle.onfi_core.specs.State.{HalfState, ChannelState, collected_by, is_from, is_to, posted_to, quiet, sent_by}
-use Rattle.onfi_core.specs.Steps.{Step, StepBy, GoesOut, accept_refusal, refusal, submitted}
-use Rattle.onfi_core.specs.View.{IsNext, IsOldest, accepting}
+use Rattle.onfi_core.specs.State.{HalfState, ChannelState, is_to, posted_to, quiet, sent_by}
+use Rattle.onfi_core.specs.Steps.{Step, StepBy, GoesOut, refusal, submitted}
+use Rattle.onfi_core.specs.View.{IsOldest, accepting}
 use Rattle.onfi_core.proofs.Channels.{all_kept, batch_kept}
 use Rattle.onfi_core.proofs.HeldFor.{goes_to}
 use Rattle.onfi_core.proofs.Hosted.{to_own}
@@ -38,6 +32,8 @@ to_first (event.Submit host channel r) = event.Submit host 0 r
 to_first (event.Accept channel) = event.Accept 0
 to_first (event.Plan channel) = event.Plan 0
 to_first (event.Bus channel) = event.Bus 0
+to_first (event.Wait channel moment) = event.Wait 0 moment
+to_first (event.Ready channel lun) = event.Ready 0 lun
 to_first (event.Post channel host) = event.Post 0 host
 to_first (event.Collect channel host) = event.Collect 0 host
 
@@ -46,6 +42,8 @@ of_first (event.Submit host channel r) = refl
 of_first (event.Accept channel) = refl
 of_first (event.Plan channel) = refl
 of_first (event.Bus channel) = refl
+of_first (event.Wait channel moment) = refl
+of_first (event.Ready channel lun) = refl
 of_first (event.Post channel host) = refl
 of_first (event.Collect channel host) = refl
 
@@ -55,6 +53,8 @@ same_refusal s c (event.Submit host channel r) = refl
 same_refusal s c (event.Accept channel) = refl
 same_refusal s c (event.Plan channel) = refl
 same_refusal s c (event.Bus channel) = refl
+same_refusal s c (event.Wait channel moment) = refl
+same_refusal s c (event.Ready channel lun) = refl
 same_refusal s c (event.Post channel host) = refl
 same_refusal s c (event.Collect channel host) = refl
 
@@ -64,6 +64,8 @@ first_by None s c (event.Submit host channel r) o c' h = h
 first_by None s c (event.Accept channel) o c' h = h
 first_by None s c (event.Plan channel) o c' h = h
 first_by None s c (event.Bus channel) o c' h = h
+first_by None s c (event.Wait channel moment) o c' h = h
+first_by None s c (event.Ready channel lun) o c' h = h
 first_by None s c (event.Post channel host) o c' h = h
 first_by None s c (event.Collect channel host) o c' h = h
 

@@ -1,6 +1,6 @@
 -- Which events are refused, and what an event does that isn't.
 use Rattle.std.proofs.Common.{◌≡◌, ℕ, ◌<◌, ◌≤◌, ◌^◌, inl, inr, true, false, List, [], ◌∷◌, ◌++◌, length, Option, Some, None, refl, sym, ap, ◌∙◌, subst, arith}
-use Rattle.std.specs.Prelude.{nat_le, ◌==◌}
+use Rattle.std.specs.Prelude.{max, nat_le, ◌==◌, Result, Ok, Err, IfOk, IfErr, OnErr}
 use Rattle.std.specs.List.{filter}
 use Rattle.std.proofs.lemmas.Bool.{cases_Bool}
 use Rattle.std.proofs.lemmas.Bool.Decides.{nat_tests}
@@ -8,15 +8,18 @@ use Rattle.onfi_request.specs.declared.checking.RequestFault.{RequestFault}
 use Rattle.onfi_request.specs.declared.reply.Reply.{Reply}
 use Rattle.onfi_request.specs.declared.request.Item.{Item}
 use Rattle.onfi_request.specs.declared.request.Request.{Request}
+use Rattle.onfi_chip.specs.Chip.{Chip, found_ready}
 use Rattle.onfi_core.specs.declared.event.Event.{Event}
 use Rattle.onfi_core.specs.declared.event.Event.TheVariants as event
 use Rattle.onfi_core.specs.declared.outcome.Cause.{Cause}
 use Rattle.onfi_core.specs.declared.outcome.Outcome.{Outcome}
 use Rattle.onfi_core.specs.declared.outcome.Outcome.TheVariants as outcome
 use Rattle.onfi_core.specs.declared.setup.Setup.{Setup}
-use Rattle.onfi_core.specs.State.{ChannelState, sent_by, posted_to, collected_by, is_to}
-use Rattle.onfi_core.specs.Steps.{Step, StepBy, Does, refusal, after_refusal, stopped_by, fault_of, is_empty, held_for, not_collected, accept_refusal, bus_refusal, or_else, if_stopped, refused_where, unanswered}
-use Rattle.onfi_core.specs.View.{IsOldest}
+use Rattle.onfi_core.specs.declared.half.passing.WaitRefusal.{WaitRefusal}
+use Rattle.onfi_core.specs.State.{ChannelState, HalfState, sent_by, posted_to, collected_by, is_to}
+use Rattle.onfi_core.specs.Steps.{Step, StepBy, Does, refusal, after_refusal, stopped_by, fault_of, is_empty, held_for, not_collected, accept_refusal, bus_refusal, or_else, if_stopped, readied, ready_of, ready_refusal, refused_where, unanswered, wait_refusal, waited}
+use Rattle.onfi_core.specs.Refusals.{wait_outcome, waited_outcome}
+use Rattle.onfi_core.specs.View.{HalfView, IsOldest}
 
 pub step_refused : (s : Setup) (c : ChannelState) (e : Event) (o : Outcome) (c' : ChannelState) → refusal s c e ≡ Some o → c' ≡ after_refusal o c → Step s c e o c'
 step_refused s c e o c' r a = let P : Option Outcome → Type 0 = λ q. StepBy q s c e o c' in subst P (sym r) (refl, a)
@@ -94,15 +97,58 @@ accepts s c c' channel x behind h e is =
 
 -- Bus
 
-bus_leaves : (c : ChannelState) (stop : Option Cause) (b : _) (o : Outcome) → c.half.stopped ≡ stop → or_else (if_stopped stop) (refused_where b outcome.NoPlan) ≡ Some o → c ≡ after_refusal o c
-bus_leaves c (Some cause) b o e h =
+leaves : (c : ChannelState) (stop : Option Cause) (b : _) (why o : Outcome) → c ≡ after_refusal why c → c.half.stopped ≡ stop → or_else (if_stopped stop) (refused_where b why) ≡ Some o → c ≡ after_refusal o c
+leaves c (Some cause) b why o same e h =
     let q : outcome.Stopped cause ≡ o = cc in
     subst (λ (p : Outcome). c ≡ after_refusal p c) q (same_stop c cause e)
-bus_leaves c None true o e h = let q : outcome.NoPlan ≡ o = cc in subst (λ (p : Outcome). c ≡ after_refusal p c) q refl
-bus_leaves c None false o e h = cc
+leaves c None true why o same e h = let q : why ≡ o = cc in subst (λ (p : Outcome). c ≡ after_refusal p c) q same
+leaves c None false why o same e h = cc
 
 pub not_run : (s : Setup) (c : ChannelState) (channel : ℕ) (o : Outcome) → bus_refusal c.half ≡ Some o → Step s c (event.Bus channel) o c
-not_run s c channel o h = step_refused s c (event.Bus channel) o c h (bus_leaves c c.half.stopped _ o refl h)
+not_run s c channel o h = step_refused s c (event.Bus channel) o c h (leaves c c.half.stopped _ outcome.NoPlan o refl refl h)
+
+-- Wait
+
+pub not_waited : (s : Setup) (c : ChannelState) (channel moment : ℕ) (o : Outcome) → wait_refusal moment c.half ≡ Some o → Step s c (event.Wait channel moment) o c
+not_waited s c channel moment o h = step_refused s c (event.Wait channel moment) o c h (leaves c c.half.stopped _ outcome.TooLate o refl refl h)
+
+pub after_waiting : (s : Setup) (c : ChannelState) (channel moment : ℕ) (old new : HalfView) (result : Result ℕ WaitRefusal) → old.state ≡ c.half
+    → IfOk result (λ bus_free. (wait_refusal moment c.half ≡ None) × (bus_free ≡ max c.half.now.bus_free moment) × (new ≡ record old { state = waited moment c.half }))
+    → IfErr result (λ refusal. wait_refusal moment c.half ≡ Some (wait_outcome refusal)) → OnErr result (new ≡ old)
+    → Step s c (event.Wait channel moment) (waited_outcome result) (record c { half = new.state })
+after_waiting s c channel moment old new (Ok bus_free) same (open', e, is) refused left =
+    step_does s c (event.Wait channel moment) (outcome.Waited bus_free) (record c { half = new.state }) open' (ap outcome.Waited e, ap (λ (v : HalfView). let z : ChannelState = record c { half = v.state } in z) is)
+after_waiting s c channel moment old new (Err refusal) same done refused left =
+    let P : HalfState → Type 0 = λ h. Step s c (event.Wait channel moment) (wait_outcome refusal) (record c { half = h }) in
+    subst P (sym (ap (λ (v : HalfView). v.state) left ∙ same)) (not_waited s c channel moment (wait_outcome refusal) refused)
+
+-- it posts nothing
+pub waiting_posts : (s : Setup) (c : ChannelState) (moment : ℕ) (old new : HalfView) (result : Result ℕ WaitRefusal) → old.state ≡ c.half
+    → IfOk result (λ bus_free. (wait_refusal moment c.half ≡ None) × (bus_free ≡ max c.half.now.bus_free moment) × (new ≡ record old { state = waited moment c.half }))
+    → OnErr result (new ≡ old) → new.state.posted ≡ c.half.posted
+waiting_posts s c moment old new (Ok bus_free) same (open', e, is) left = ap (λ (v : HalfView). v.state.posted) is
+waiting_posts s c moment old new (Err refusal) same done left = ap (λ (v : HalfView). v.state.posted) left ∙ ap (λ (h : HalfState). h.posted) same
+
+-- Ready
+
+ready_leaves : (c : ChannelState) (none : _) (stop : Option Cause) (b : _) (o : Outcome) → c.half.stopped ≡ stop → or_else (refused_where none (outcome.NoSuch None)) (or_else (if_stopped stop) (refused_where b outcome.NotInArray)) ≡ Some o → c ≡ after_refusal o c
+ready_leaves c true stop b o e h = let q : outcome.NoSuch None ≡ o = cc in subst (λ (p : Outcome). c ≡ after_refusal p c) q refl
+ready_leaves c false stop b o e h = leaves c stop b outcome.NotInArray o refl e h
+
+pub not_ready : (s : Setup) (c : ChannelState) (channel lun : ℕ) (o : Outcome) → ready_refusal lun c.half ≡ Some o → Step s c (event.Ready channel lun) o c
+not_ready s c channel lun o h = step_refused s c (event.Ready channel lun) o c h (ready_leaves c _ c.half.stopped _ o refl h)
+
+-- the chip says that the LUN is ready
+pub finds_ready : (s : Setup) (c : ChannelState) (channel lun ready : ℕ) (h : HalfState) (chip : Chip) → ready_refusal lun c.half ≡ None → ready ≡ ready_of lun c.half → h ≡ readied lun c.half → chip ≡ found_ready c.chip lun c.half.now.bus_free
+    → Step s c (event.Ready channel lun) (outcome.ReadyFrom ready) (record c { half = h; chip = chip })
+finds_ready s c channel lun ready h chip open' e half found =
+    step_does s c (event.Ready channel lun) (outcome.ReadyFrom ready) (record c { half = h; chip = chip }) open'
+    (inl (ap outcome.ReadyFrom e, ap (λ (x : HalfState). let z : ChannelState = record c { half = x; chip = chip } in z) half ∙ ap (λ (x : Chip). let z : ChannelState = record c { half = readied lun c.half; chip = x } in z) found))
+
+-- .. or that it isn't
+pub still_busy : (s : Setup) (c : ChannelState) (channel lun : ℕ) (chip : Chip) → ready_refusal lun c.half ≡ None → chip ≡ c.chip → Step s c (event.Ready channel lun) outcome.StillBusy (record c { chip = chip })
+still_busy s c channel lun chip open' same =
+    step_does s c (event.Ready channel lun) outcome.StillBusy (record c { chip = chip }) open' (inr (refl, ap (λ (x : Chip). let z : ChannelState = record c { chip = x } in z) same))
 
 -- Post and Collect
 

@@ -1,5 +1,5 @@
 -- What a planning and a bus phase of a channel come to.
-use Rattle.std.proofs.Common.{◌≡◌, ℕ, inl, inr, List, length, Some, None, Result, Ok, Err, IfOk, IfErr, refl, sym, ap, ◌∙◌, subst}
+use Rattle.std.proofs.Common.{◌≡◌, ℕ, inl, inr, List, Some, None, Result, Ok, Err, IfOk, IfErr, refl, sym, ap, ◌∙◌, subst}
 use Rattle.onfi_request.specs.declared.reply.Reply.{Reply}
 use Rattle.onfi_request.specs.declared.request.Item.{Item}
 use Rattle.onfi_request.specs.declared.want.Want.{Want}
@@ -23,7 +23,7 @@ use Rattle.onfi_core.specs.Dues.{IsDue, after_due, member_of, replies_of}
 use Rattle.onfi_core.specs.Kept.{IsReached}
 use Rattle.onfi_core.specs.Reaching.{PlannedStep}
 use Rattle.onfi_core.specs.State.{HalfState, ChannelState, Planning, item_at}
-use Rattle.onfi_core.specs.Steps.{Step, Plans, Runs, RunsOnChip, IsCauseOf, IsToldAs, bus_refusal, plan_refusal, planned_by, taken_next, half_after_phase, stopped_by}
+use Rattle.onfi_core.specs.Steps.{Step, Plans, Runs, RunsOnChip, IsCauseOf, IsToldAs, Taken, bus_refusal, plan_refusal, planned_by, half_after_phase, stopped_by}
 use Rattle.onfi_core.specs.Refusals.{planned_outcome, refusal_outcome}
 use Rattle.onfi_core.specs.View.{HalfView, PlanRefused}
 use Rattle.onfi_core.proofs.Done.{after_due_is}
@@ -33,38 +33,50 @@ use Rattle.onfi_core.proofs.Refused.{step_refused, step_does}
 
 -- Plan
 
-pub planned_step : (s : Setup) (c : ChannelState) (channel finish : ℕ) (plan : Planning) → plan_refusal s c.half ≡ None → finish ≡ plan.finish → Plans s c.half plan → Step s c (event.Plan channel) (outcome.Planned finish) (record c { half = planned_by c.half (length (taken_next s c.half)) plan })
-planned_step s c channel finish plan open' e plans =
-    step_does s c (event.Plan channel) (outcome.Planned finish) (record c { half = planned_by c.half (length (taken_next s c.half)) plan }) open' (inl (plan, ap outcome.Planned e, plans, refl))
+pub planned_step : (s : Setup) (c : ChannelState) (channel finish : ℕ) (taken : Taken) (plan : Planning) → plan_refusal s c.half ≡ None → finish ≡ plan.finish → Plans s c.half taken plan → Step s c (event.Plan channel) (outcome.Planned finish) (record c { half = planned_by c.half taken plan })
+planned_step s c channel finish taken plan open' e plans =
+    step_does s c (event.Plan channel) (outcome.Planned finish) (record c { half = planned_by c.half taken plan }) open' (inl (taken, plan, ap outcome.Planned e, plans, refl))
 
 pub not_planned : (s : Setup) (c : ChannelState) (channel : ℕ) (refusal : PlanRefusal) (h : HalfState) → PlanRefused s c.half refusal h → Step s c (event.Plan channel) (refusal_outcome refusal) (record c { half = h })
-not_planned s c channel (refused.Stopped cause) h (e, is) = step_refused s c (event.Plan channel) (outcome.Stopped cause) (record c { half = h }) e (ap (λ (x : HalfState). let z : ChannelState = record c { half = x } in z) is)
+not_planned s c channel (refused.Stopped cause) h (inl e, is) = step_refused s c (event.Plan channel) (outcome.Stopped cause) (record c { half = h }) e (ap (λ (x : HalfState). let z : ChannelState = record c { half = x } in z) is)
+not_planned s c channel (refused.Stopped stop) h (inr (open', why, late), is) =
+    let after : (let z : ChannelState = record c { half = h } in z) ≡ stopped_by cause.Clock c = ap (λ (x : HalfState). let z : ChannelState = record c { half = x } in z) is ∙ ap (λ k. stopped_by k c) why in
+    step_does s c (event.Plan channel) (outcome.Stopped stop) (record c { half = h }) open' (inr (inr (inl (ap outcome.Stopped why, late, after))))
 not_planned s c channel refused.NothingToPlan h (e, is) = step_refused s c (event.Plan channel) outcome.NothingToPlan (record c { half = h }) e (ap (λ (x : HalfState). let z : ChannelState = record c { half = x } in z) is)
 not_planned s c channel (refused.Over opened) h (e, count, more, is) =
     step_does s c (event.Plan channel) (outcome.Over opened) (record c { half = h }) e (inr (inl (ap outcome.Over count, more, ap (λ (x : HalfState). let z : ChannelState = record c { half = x } in z) is)))
 not_planned s c channel refused.Memory h (e, is) =
-    step_does s c (event.Plan channel) (outcome.Memory None) (record c { half = h }) e (inr (inr (refl, ap (λ (x : HalfState). let z : ChannelState = record c { half = x } in z) is)))
+    step_does s c (event.Plan channel) (outcome.Memory None) (record c { half = h }) e (inr (inr (inr (refl, ap (λ (x : HalfState). let z : ChannelState = record c { half = x } in z) is))))
 
 pub planning_step : PlannedStep
-planning_step s c channel (Ok finish) h (open', plan, e, plans, is) none =
+planning_step s c channel (Ok finish) h (open', taken, plan, e, plans, is) none =
     let P : HalfState → Type 0 = λ x. Step s c (event.Plan channel) (outcome.Planned finish) (record c { half = x }) in
-    subst P (sym is) (planned_step s c channel finish plan open' e plans)
+    subst P (sym is) (planned_step s c channel finish taken plan open' e plans)
 planning_step s c channel (Err refusal) h none r = not_planned s c channel refusal h r
+
+-- the half stops, whatever its fields are
+pub clock_stops : (inside old : HalfView) (A : Type 0) → inside ≡ old → A
+    → (A × ((let h : HalfState = record inside.state { stopped = Some cause.Clock } in h) ≡ record old.state { stopped = Some cause.Clock }))
+    × ((let v : HalfView = record inside { state = record inside.state { stopped = Some cause.Clock } } in v) ≡ record old { state = record inside.state { stopped = Some cause.Clock } })
+clock_stops inside old A e why = (
+  (why, ap (λ (v : HalfView). let h : HalfState = record v.state { stopped = Some cause.Clock } in h) e),
+  ap (λ (v : HalfView). let w : HalfView = record v { state = record inside.state { stopped = Some cause.Clock } } in w) e,
+)
 
 -- what a planning came to
 pub after_planning : (s : Setup) (c : ChannelState) (channel : ℕ) (old : HalfView) (result : Result ℕ PlanRefusal) (h : HalfView)
-    → IfOk result (λ finish. (plan_refusal s c.half ≡ None) × (plan : Planning) × (finish ≡ plan.finish) × Plans s c.half plan × (h ≡ record old { state = planned_by c.half (length (taken_next s c.half)) plan }))
+    → IfOk result (λ finish. (plan_refusal s c.half ≡ None) × (taken : Taken) × (plan : Planning) × (finish ≡ plan.finish) × Plans s c.half taken plan × (h ≡ record old { state = planned_by c.half taken plan }))
     → IfErr result (λ refusal. PlanRefused s c.half refusal h.state) → Step s c (event.Plan channel) (planned_outcome result) (record c { half = h.state })
-after_planning s c channel old (Ok finish) h (open', plan, e, plans, is) none =
+after_planning s c channel old (Ok finish) h (open', taken, plan, e, plans, is) none =
     let P : HalfState → Type 0 = λ x. Step s c (event.Plan channel) (outcome.Planned finish) (record c { half = x }) in
-    subst P (sym (ap (λ (v : HalfView). v.state) is)) (planned_step s c channel finish plan open' e plans)
+    subst P (sym (ap (λ (v : HalfView). v.state) is)) (planned_step s c channel finish taken plan open' e plans)
 after_planning s c channel old (Err refusal) h none r = not_planned s c channel refusal h.state r
 
 -- .. and it posts nothing
 pub nothing_posted : (s : Setup) (c : ChannelState) (old : HalfView) (result : Result ℕ PlanRefusal) (h : HalfView)
-    → IfOk result (λ finish. (plan_refusal s c.half ≡ None) × (plan : Planning) × (finish ≡ plan.finish) × Plans s c.half plan × (h ≡ record old { state = planned_by c.half (length (taken_next s c.half)) plan }))
+    → IfOk result (λ finish. (plan_refusal s c.half ≡ None) × (taken : Taken) × (plan : Planning) × (finish ≡ plan.finish) × Plans s c.half taken plan × (h ≡ record old { state = planned_by c.half taken plan }))
     → IfErr result (λ refusal. PlanRefused s c.half refusal h.state) → h.state.posted ≡ c.half.posted
-nothing_posted s c old (Ok finish) h (open', plan, e, plans, is) none = ap (λ (v : HalfView). v.state.posted) is
+nothing_posted s c old (Ok finish) h (open', taken, plan, e, plans, is) none = ap (λ (v : HalfView). v.state.posted) is
 nothing_posted s c old (Err (refused.Stopped cause)) h none (e, is) = ap (λ (x : HalfState). x.posted) is
 nothing_posted s c old (Err refused.NothingToPlan) h none (e, is) = ap (λ (x : HalfState). x.posted) is
 nothing_posted s c old (Err (refused.Over opened)) h none (e, count, more, is) = ap (λ (x : HalfState). x.posted) is

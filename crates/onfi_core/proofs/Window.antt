@@ -21,10 +21,11 @@ use Rattle.onfi_core.proofs.Plan.{sound_planned}
 use Rattle.onfi_problem.specs.Problem.{Problem}
 use Rattle.onfi_request.specs.declared.want.Want.{Want}
 use Rattle.onfi_schedule.specs.Schedule.{Placed}
-use Rattle.onfi_core.specs.Steps.{taken_next, next_problem, planned_by, Plans, accept_refusal, if_stopped, unanswered}
+use Rattle.onfi_core.specs.Steps.{planned_by, problem_with, Plans, Taken, taken_in_order, taken_next, accept_refusal, if_stopped, unanswered}
 use Rattle.onfi_core.specs.Kept.{IsSound, is_of_place, first_half}
 use Rattle.onfi_core.proofs.Opening.{opened_sound}
-use Rattle.onfi_core.specs.View.{IsNext, AreSlots, AreNumbered, AreFields}
+use Rattle.onfi_core.specs.View.{IsNext, AreSlots, AreNumbered, AreFields, taken_of}
+use Rattle.onfi_core.specs.declared.choosing.Chosen.{Chosen}
 use Rattle.onfi_core.proofs.Accept.{sound_accepted}
 use Rattle.onfi_core.proofs.Lists.{get_at_length}
 use Rattle.onfi_core.proofs.Next.{was_accepted}
@@ -192,21 +193,30 @@ fields_opened s slots room kept lent h empty reserved has none unlent is =
     })
 
 -- a plan takes the old one's place
-pub fields_planned : (s : Setup) (slots : Slab Slot) (n room : ℕ) (kept : List Reply) (at : Option Lent) (h : HalfState) (lent : Option Reply) (plan : Planning) (wants : List Want) (rest : List (List ℕ)) (groups : List Placed) (taken : ℕ)
-    → AreFields s slots n room kept at h lent → Plans s h plan → wants ≡ h.now.wants ++ taken_next s h → rest ≡ plan.schedule.rest → groups ≡ plan.schedule.groups → length wants ≡ length h.now.wants + taken
-    → AreFields s slots n room kept at (record h { planned = h.planned + taken; now = record h.now { wants = wants }; left = record { rest = rest; groups = groups }; last = Some plan }) lent
-fields_planned s slots n room kept at h lent plan wants rest groups taken f plans ew er eg count =
-    let k = length (taken_next s h) in
-    let l = ap length ew ∙ length-append h.now.wants (taken_next s h) in
-    let et : taken ≡ length (taken_next s h) = omega (arith, l, count) in
-    let built : (let z : HalfState = record h { planned = h.planned + k; now = next_problem s h; left = plan.schedule; last = Some plan } in z) ≡ planned_by h k plan = ap (λ (p : Problem). let z : HalfState = record h { planned = h.planned + k; now = p; left = plan.schedule; last = Some plan } in z) (sym plans.problem) in
+pub fields_planned : (s : Setup) (slots : Slab Slot) (n room : ℕ) (kept : List Reply) (at : Option Lent) (h : HalfState) (lent : Option Reply) (plan : Planning) (taken : Taken) (wants aside : List Want) (planned : ℕ) (rest : List (List ℕ)) (groups : List Placed)
+    → AreFields s slots n room kept at h lent → Plans s h taken plan → wants ≡ taken.wants → aside ≡ taken.aside → planned ≡ taken.planned → rest ≡ plan.schedule.rest → groups ≡ plan.schedule.groups
+    → AreFields s slots n room kept at (record h { planned = planned; aside = aside; now = record h.now { wants = wants }; left = record { rest = rest; groups = groups }; outdated = false; last = Some plan }) lent
+fields_planned s slots n room kept at h lent plan taken wants aside planned rest groups f plans ew ea ep er eg =
+    let built : (let z : HalfState = record h { planned = taken.planned; aside = taken.aside; now = problem_with h taken.wants; left = plan.schedule; outdated = false; last = Some plan } in z) ≡ planned_by h taken plan = ap (λ (p : Problem). let z : HalfState = record h { planned = taken.planned; aside = taken.aside; now = p; left = plan.schedule; outdated = false; last = Some plan } in z) (sym plans.problem) in
     let P : HalfState → Type 0 = λ z. AreFields s slots n room kept at z lent in
-    let base : P (planned_by h k plan) = record {
+    let base : P (planned_by h taken plan) = record {
       slots_are = f.slots_are;
       count = f.count;
       numbered = f.numbered;
       room_is = f.room_is;
       lending = f.lending;
-      sound = sound_planned s h f.sound plan plans;
+      sound = sound_planned s h f.sound taken plan plans;
     } in
-    rw (ew, er, eg, et) (subst P (sym built) base)
+    rw (ew, ea, ep, er, eg) (subst P (sym built) base)
+
+-- .. in order
+pub fields_in_order : (s : Setup) (slots : Slab Slot) (n room : ℕ) (kept : List Reply) (at : Option Lent) (h : HalfState) (lent : Option Reply) (plan : Planning) (wants : List Want) (planned : ℕ) (rest : List (List ℕ)) (groups : List Placed)
+    → AreFields s slots n room kept at h lent → Plans s h (taken_in_order s h) plan → wants ≡ h.now.wants ++ taken_next s h → planned ≡ h.planned + length (taken_next s h) → rest ≡ plan.schedule.rest → groups ≡ plan.schedule.groups
+    → AreFields s slots n room kept at (record h { planned = planned; now = record h.now { wants = wants }; left = record { rest = rest; groups = groups }; outdated = false; last = Some plan }) lent
+fields_in_order s slots n room kept at h lent plan wants planned rest groups f plans ew ep er eg = fields_planned s slots n room kept at h lent plan (taken_in_order s h) wants h.aside planned rest groups f plans ew refl ep er eg
+
+-- .. and where the wants are chosen
+pub fields_chosen : (s : Setup) (slots : Slab Slot) (n room : ℕ) (kept : List Reply) (at : Option Lent) (h : HalfState) (lent : Option Reply) (plan : Planning) (chosen : Chosen) (planned : ℕ) (rest : List (List ℕ)) (groups : List Placed)
+    → AreFields s slots n room kept at h lent → Plans s h (taken_of h chosen) plan → planned ≡ length h.accepted → rest ≡ plan.schedule.rest → groups ≡ plan.schedule.groups
+    → AreFields s slots n room kept at (record h { planned = planned; aside = chosen.rest.items; now = record h.now { wants = chosen.wants.items }; left = record { rest = rest; groups = groups }; outdated = false; last = Some plan }) lent
+fields_chosen s slots n room kept at h lent plan chosen planned rest groups f plans ep er eg = fields_planned s slots n room kept at h lent plan (taken_of h chosen) chosen.wants.items chosen.rest.items planned rest groups f plans refl refl ep er eg

@@ -5,7 +5,7 @@ use Rattle.onfi_request.specs.declared.request.Request.{Request}
 use Rattle.onfi_request.specs.declared.fault.Fault.{Fault}
 use Rattle.onfi_core.specs.declared.setup.Setup.{Setup}
 use Rattle.onfi_core.specs.declared.event.Event.{Event}
-use Rattle.onfi_core.specs.declared.event.Event.TheVariants.{Submit, Accept, Plan, Bus, Post, Collect}
+use Rattle.onfi_core.specs.declared.event.Event.TheVariants.{Submit, Accept, Plan, Bus, Wait, Ready, Post, Collect}
 use Rattle.onfi_core.specs.declared.outcome.Outcome.{Outcome}
 use Rattle.onfi_core.specs.declared.outcome.Outcome.TheVariants.{NoSuch}
 use Rattle.onfi_die.specs.Order.{AreInOrder}
@@ -19,6 +19,8 @@ channel_of (Submit host channel r) = channel
 channel_of (Accept channel) = channel
 channel_of (Plan channel) = channel
 channel_of (Bus channel) = channel
+channel_of (Wait channel moment) = channel
+channel_of (Ready channel lun) = channel
 channel_of (Post channel host) = channel
 channel_of (Collect channel host) = channel
 
@@ -28,6 +30,8 @@ request_in (Submit host channel r) = Some r
 request_in (Accept channel) = None
 request_in (Plan channel) = None
 request_in (Bus channel) = None
+request_in (Wait channel moment) = None
+request_in (Ready channel lun) = None
 request_in (Post channel host) = None
 request_in (Collect channel host) = None
 

@@ -23,14 +23,9 @@ use Rattle.onfi_chip.specs.Chip.{Chip, Failures, Lun, opened}
 use Rattle.onfi_chip.specs.Chip.Lun.{Idle, Commanding, Posting}
 use Rattle.onfi_core.specs.declared.setup.Setup.{Setup}
 use Rattle.onfi_core.specs.State.{HalfState, ChannelState, want_of, wants_from, item_at, request_of, device_for, is_to, sent_by, posted_to, collected_by}
+use Rattle.onfi_core.specs.declared.setup.Choice.TheVariants.{InOrder}
+pub use Rattle.onfi_core.specs.Choice.{is_want_on, on, Rise}
 use Rattle.onfi_core.specs.Steps.{unplanned, IsPlanned}
-
-abbrev pub is_want_on : ℕ → ℕ → Want → Bool
-is_want_on lun block w = if w.lun == lun then w.block == block else false
-
--- the wants of a block
-abbrev pub on : ℕ → ℕ → List Want → List Want
-on lun block wants = filter (is_want_on lun block) wants
 
 -- the group of a LUN that has commands left
 abbrev pub commanding : Option LunState → List Want
@@ -71,7 +66,7 @@ pub record ChipAgrees (s : Setup) (h : HalfState) (chip : Chip) : Type 0 where
   pub blocks : (lun block : ℕ) → BlockAgrees s h chip lun block
   pub luns : (lun : ℕ) → LunAgrees (device_for s chip) h.accepted (slice_get h.now.luns lun) (slice_get chip.luns lun)
 
--- a want that a plan has taken: the item at its place
+-- a want that a planning has looked at: the item at its place
 pub record IsTaken (s : Setup) (planned : ℕ) (accepted : List Item) (w : Want) : Type 0 where
   pub below : w.id < planned
   pub item : Item
@@ -117,6 +112,10 @@ pub record IsSound (s : Setup) (h : HalfState) : Type 0 where
   pub running : (lun : ℕ) (group : List Want) (next ready : ℕ) → slice_get h.now.luns lun ≡ Some (Running group next ready) → Each (IsTaken s h.planned h.accepted) group
   -- each accepted place is exactly one of unplanned, not started, running, held and posted, and no other place is any
   pub once : (place : ℕ) → times s h place ≡ number (has_id place) (wants_from s.geometry 0 h.accepted)
+  -- what is set aside was looked at, in acceptance order; in order nothing is
+  pub aside : Each (IsTaken s h.planned h.accepted) h.aside
+  pub aside_rise : Rise h.aside
+  pub in_order : s.choice ≡ InOrder → h.aside ≡ []
   pub last : IfSome h.last IsPlanned
 
 -- .. and its replies are those of the device
@@ -151,9 +150,11 @@ abbrev pub first_half : Setup → HalfState
 first_half s = record {
   accepted = [];
   planned = 0;
+  aside = [];
   batch = s.batch;
   now = first_problem s;
   left = record { rest = replicate s.geometry.lun_count []; groups = [] };
+  outdated = false;
   last = None;
   held = [];
   posted = [];

@@ -1,5 +1,5 @@
 -- What callers see of a channel and of a core, and what their fields keep.
-use Rattle.std.specs.Prelude.{◌≡◌, ℕ, ◌≤◌, List, [], ◌++◌, length, map, Option, Some, None, slice_get}
+use Rattle.std.specs.Prelude.{◌≡◌, ℕ, ◌≤◌, List, [], ◌++◌, length, map, Option, Some, None, IfSome, slice_get}
 use Rattle.std.specs.List.{AllByRecursion as Each}
 use Rattle.std.specs.VecDeque.{deque_capacity}
 use Rattle.onfi_request.specs.declared.request.Item.{Item}
@@ -9,7 +9,7 @@ use Rattle.onfi_core.specs.declared.host_queue.HostQueue.{HostQueue}
 use Rattle.onfi_core.specs.declared.setup.Setup.{Setup}
 use Rattle.onfi_core.specs.Kept.{first}
 use Rattle.onfi_core.specs.Reaching.{Reaches}
-use Rattle.onfi_core.specs.State.{HalfState, ChannelState, sent_by, posted_to, collected_by}
+use Rattle.onfi_core.specs.State.{HalfState, ChannelState, Planning, sent_by, posted_to, collected_by}
 
 -- a channel but for its chip
 pub record ChannelFields : Type 0 where
@@ -64,10 +64,11 @@ pub record AreQueues (s : Setup) (lent : Option Reply) (room : ℕ) (hosts : Lis
   pub count : length hosts ≡ s.hosts
   pub each : (host : ℕ) (queue : HostQueue) → slice_get hosts host ≡ Some queue → IsHostQueue s c host queue
 
--- the channels are those of the setup, and events reach them
-pub record AreChannels {C : Type 0} (state : C → Chip) (s : Setup) (views : List (ChannelView C)) : Type 0 where
+-- the channels are those of the setup, events reach them, and the last planning of each is such
+pub record AreChannels {C : Type 0} (state : C → Chip) (Such : Planning → Type 0) (s : Setup) (views : List (ChannelView C)) : Type 0 where
   pub count : length views ≡ s.channels
   pub each : Each (λ v. (v.0.setup ≡ s) × Reaches s (state_in state v)) views
+  pub last : Each (λ v. IfSome v.0.half.last Such) views
 
 -- the channels as they open with those chips
 pub record AreOpened {C : Type 0} (state : C → Chip) (s : Setup) (chips : List C) (views : List (ChannelView C)) : Type 0 where

@@ -1,5 +1,5 @@
 -- The channels that events reach.
-use Rattle.std.specs.Prelude.{◌≡◌, ℕ, ◌<◌, ◌≤◌, true, List, [], ◌∷◌, ◌++◌, length, None, Result, IfOk, IfErr}
+use Rattle.std.specs.Prelude.{◌≡◌, ℕ, ◌<◌, ◌≤◌, true, List, [], ◌∷◌, ◌++◌, None, Result, IfOk, IfErr}
 use Rattle.onfi_request.specs.declared.request.Item.{Item}
 use Rattle.onfi_request.specs.declared.reply.Reply.{Reply}
 use Rattle.onfi_die.specs.Order.{AreRightfulIn}
@@ -10,7 +10,7 @@ use Rattle.onfi_core.specs.declared.half.PlanRefusal.{PlanRefusal}
 use Rattle.onfi_core.specs.declared.outcome.Outcome.{Outcome}
 use Rattle.onfi_core.specs.declared.setup.Setup.{Setup}
 use Rattle.onfi_core.specs.State.{HalfState, ChannelState, Planning, quiet, posted_to}
-use Rattle.onfi_core.specs.Steps.{Step, GoesOut, Plans, accept_refusal, held_for, none_left, plan_refusal, planned_by, taken_next, unplanned}
+use Rattle.onfi_core.specs.Steps.{Step, GoesOut, Plans, Taken, accept_refusal, held_for, none_left, plan_refusal, planned_by, taken_next, unplanned}
 use Rattle.onfi_core.specs.Kept.{IsReached, IsSound}
 use Rattle.onfi_core.specs.Core.{Doing, DidAll, IsOpened, with_batch}
 use Rattle.onfi_core.specs.Refusals.{planned_outcome}
@@ -50,7 +50,7 @@ PostingReached = (s : Setup) (h h' : HalfState) (chip : Chip) (host : ℕ) (r : 
 -- what a half's planning came to is what its channel's does
 abbrev pub PlannedStep : Type 0
 PlannedStep = (s : Setup) (c : ChannelState) (channel : ℕ) (result : Result ℕ PlanRefusal) (h : HalfState)
-    → IfOk result (λ finish. (plan_refusal s c.half ≡ None) × (plan : Planning) × (finish ≡ plan.finish) × Plans s c.half plan × (h ≡ planned_by c.half (length (taken_next s c.half)) plan))
+    → IfOk result (λ finish. (plan_refusal s c.half ≡ None) × (taken : Taken) × (plan : Planning) × (finish ≡ plan.finish) × Plans s c.half taken plan × (h ≡ planned_by c.half taken plan))
     → IfErr result (λ refusal. PlanRefused s c.half refusal h) → Step s c (Plan channel) (planned_outcome result) (record c { half = h })
 
 -- where no phase is left and nothing is to be planned, no want waits to start and no item is unplanned

@@ -4,6 +4,10 @@ use Rattle.onfi_core.specs.declared.half.PlanRefusal.{PlanRefusal}
 use Rattle.onfi_core.specs.declared.half.PlanRefusal.TheVariants as refused
 use Rattle.onfi_core.specs.declared.outcome.Outcome.{Outcome}
 use Rattle.onfi_core.specs.declared.outcome.Outcome.TheVariants as outcome
+use Rattle.onfi_core.specs.declared.half.passing.WaitRefusal.{WaitRefusal}
+use Rattle.onfi_core.specs.declared.half.passing.WaitRefusal.TheVariants as waiting
+use Rattle.onfi_core.specs.declared.half.passing.ReadyRefusal.{ReadyRefusal}
+use Rattle.onfi_core.specs.declared.half.passing.ReadyRefusal.TheVariants as readying
 use Rattle.onfi_core.specs.declared.half.AcceptFault.{AcceptFault}
 use Rattle.onfi_core.specs.declared.half.AcceptFault.TheVariants.{Stopped, WindowFull}
 
@@ -16,6 +20,20 @@ refusal_outcome (refused.Stopped cause) = outcome.Stopped cause
 refusal_outcome refused.NothingToPlan = outcome.NothingToPlan
 refusal_outcome (refused.Over opened) = outcome.Over opened
 refusal_outcome refused.Memory = outcome.Memory None
+
+abbrev pub wait_outcome : WaitRefusal → Outcome
+wait_outcome (waiting.Stopped cause) = outcome.Stopped cause
+wait_outcome waiting.TooLate = outcome.TooLate
+
+-- what a wait came to
+abbrev pub waited_outcome : Result ℕ WaitRefusal → Outcome
+waited_outcome (Ok bus_free) = outcome.Waited bus_free
+waited_outcome (Err refusal) = wait_outcome refusal
+
+abbrev pub ready_outcome : ReadyRefusal → Outcome
+ready_outcome readying.NoSuchLun = outcome.NoSuch None
+ready_outcome (readying.Stopped cause) = outcome.Stopped cause
+ready_outcome readying.NotInArray = outcome.NotInArray
 
 -- what a planning came to
 abbrev pub planned_outcome : Result ℕ PlanRefusal → Outcome

@@ -1,5 +1,5 @@
 -- The state of one channel.
-use Rattle.std.specs.Prelude.{ℕ, ◌+◌, ◌==◌, Bool, List, [], ◌∷◌, Option, slice_index_or}
+use Rattle.std.specs.Prelude.{ℕ, ◌+◌, Bool, List, [], ◌∷◌, Option, slice_index_or}
 use Rattle.std.specs.List.{filter}
 use Rattle.onfi_addr.specs.declared.geometry.Geometry.{Geometry}
 use Rattle.onfi_addr.specs.Rows.{plane_of_block}
@@ -10,29 +10,33 @@ use Rattle.onfi_request.specs.declared.request.Item.{Item}
 use Rattle.onfi_request.specs.declared.reply.Reply.{Reply}
 use Rattle.onfi_problem.specs.Problem.{Problem}
 use Rattle.onfi_schedule.specs.Schedule.{Schedule}
-use Rattle.onfi_cert.specs.declared.token.Token.{Token}
+use Rattle.onfi_plan.specs.Certificate.{Certificate}
 use Rattle.onfi_die.specs.Shapes.{Device, device_of}
 use Rattle.onfi_chip.specs.Chip.{Chip}
 use Rattle.onfi_core.specs.declared.setup.Setup.{Setup}
 use Rattle.onfi_core.specs.declared.outcome.Cause.{Cause}
 pub use Rattle.onfi_request.specs.Items.{is_from, is_to}
 
--- an accepting planning: its problem, a schedule of it with its finish, and a certificate
+-- an accepting planning: its problem, a schedule of it with its finish, before when none ends, and the certificate of that
 pub record Planning : Type 0 where
   pub problem : Problem
   pub schedule : Schedule
   pub finish : ℕ
-  pub cert : List Token
+  pub below : ℕ
+  pub cert : Certificate
 
 -- what the sequencer knows of a channel
 pub record HalfState : Type 0 where
   pub accepted : List Item
-  -- how many of them a plan has taken
+  -- how many of them plannings have looked at, and which of those they set aside
   pub planned : ℕ
+  pub aside : List Want
   pub batch : ℕ
   -- what is left of the plan: `bus_free`, the LUN states and the wants not started, and the starts of the phases not done
   pub now : Problem
   pub left : Schedule
+  -- whether the bus has waited, or a LUN was ready sooner, since that plan was made
+  pub outdated : Bool
   -- the last planning
   pub last : Option Planning
   -- replies that are made and not posted, the oldest first; and those that are posted, to whichever host

@@ -1,10 +1,7 @@
 -- What an event does to a channel.
-use Rattle.std.specs.Prelude.{◌≡◌, ◌≢◌, ℕ, ◌+◌, ◌-◌, ◌^◌, ◌<◌, ◌≤◌, ◌==◌, ◌⊎◌, nat_le, nat_lt, not, Bool, true, false, if◌then◌else◌, List, [], ◌∷◌, ◌++◌, length, take, drop, Option, Some, None, slice_get}
+use Rattle.std.specs.Prelude.{◌≡◌, ◌≢◌, ℕ, ◌+◌, ◌-◌, ◌^◌, ◌<◌, ◌≤◌, ◌⊎◌, ◌==◌, max, min, not, nat_le, nat_lt, if◌then◌else◌, Bool, true, false, IsTrue, List, [], ◌∷◌, ◌++◌, length, take, drop, Option, Some, None, slice_get, slice_set}
 use Rattle.std.specs.List.{filter}
-use Rattle.onfi_addr.specs.declared.geometry.Geometry.{Geometry}
-use Rattle.onfi_addr.specs.Rows.{page_bytes_of}
-use Rattle.onfi_timing.specs.declared.kind.Kind.{Kind}
-use Rattle.onfi_timing.specs.declared.kind.Kind.TheVariants.{Read, Program, Erase}
+use Rattle.onfi_timing.specs.declared.kind.Kind.TheVariants.{Read}
 use Rattle.onfi_request.specs.declared.want.Want.{Want}
 use Rattle.onfi_request.specs.declared.answer.Answer.{Answer}
 use Rattle.onfi_request.specs.declared.request.Request.{Request}
@@ -12,59 +9,140 @@ use Rattle.onfi_request.specs.declared.request.Item.{Item}
 use Rattle.onfi_request.specs.declared.reply.Reply.{Reply}
 use Rattle.onfi_request.specs.declared.fault.Fault.{Fault}
 use Rattle.onfi_request.specs.declared.checking.RequestFault.{RequestFault}
-use Rattle.onfi_request.specs.declared.checking.RequestFault.TheVariants.{Lun as WrongLun, Block as WrongBlock, Page as WrongPage, DataLength as WrongLength}
 use Rattle.onfi_group.specs.Group.{lun_of}
-use Rattle.onfi_problem.specs.declared.lun_state.LunState.TheVariants.{Running}
+use Rattle.onfi_problem.specs.declared.lun_state.LunState.{LunState}
+use Rattle.onfi_problem.specs.declared.lun_state.LunState.TheVariants.{Free, Running}
 use Rattle.onfi_problem.specs.Problem.{Problem}
-use Rattle.onfi_problem.specs.Moves.{Move, Next, Start, placed, move_lun}
+use Rattle.onfi_problem.specs.Moves.{Move, Next, Start, free_from, placed, move_lun}
 use Rattle.onfi_problem.specs.Left.{horizon}
-use Rattle.onfi_schedule.specs.Schedule.{Schedule, phases, finish, Optimal}
+use Rattle.onfi_schedule.specs.Schedule.{Schedule, Legal, phases, finish, Optimal}
 use Rattle.onfi_schedule.specs.Laws.{ComesNext}
+use Rattle.onfi_cert.specs.declared.token.Token.{Token}
 use Rattle.onfi_check.specs.Tree.{AcceptsTokens}
-use Rattle.onfi_planner.specs.Nodes.{HasMoreNodes}
+use Rattle.onfi_check.specs.Nodes.{HasMoreNodes}
+use Rattle.onfi_known.specs.Laws.{NoneBefore}
+use Rattle.onfi_plan.specs.Certificate.{Certificate, Plain, IsPlain, ShowsBelow}
 use Rattle.onfi_chip.specs.declared.fault.PostFault.{PostFault}
 use Rattle.onfi_chip.specs.declared.fault.PostFault.TheVariants as post_fault
 use Rattle.onfi_chip.specs.declared.post.Post.{Post}
-use Rattle.onfi_chip.specs.Chip.{Chip, commanded, launched, posted}
+use Rattle.onfi_chip.specs.Chip.{Chip, commanded, found_ready, launched, posted}
 use Rattle.onfi_chip.specs.Chip.Lun.{Posting}
 use Rattle.onfi_chip.specs.Calls.{HasDone, IsLost}
 use Rattle.onfi_core.specs.declared.setup.Setup.{Setup}
+use Rattle.onfi_core.specs.declared.setup.Choice.{Choice}
+use Rattle.onfi_core.specs.declared.setup.Choice.TheVariants.{InOrder, ByLun, ReadsFirst}
+use Rattle.onfi_core.specs.Choice.{AreMerged, Rise, IsChoice}
 use Rattle.onfi_core.specs.declared.event.Event.{Event}
-use Rattle.onfi_core.specs.declared.event.Event.TheVariants.{Submit, Accept, Plan, Bus, Post as PostTo, Collect}
+use Rattle.onfi_core.specs.declared.event.Event.TheVariants.{Submit, Accept, Plan, Bus, Wait, Ready, Post as PostTo, Collect}
 use Rattle.onfi_core.specs.declared.outcome.Cause.{Cause}
 use Rattle.onfi_core.specs.declared.outcome.Cause.TheVariants.{Bus as BusFailed, NotReady, Clock}
 use Rattle.onfi_core.specs.declared.outcome.Outcome.{Outcome}
-use Rattle.onfi_core.specs.declared.outcome.Outcome.TheVariants.{Submitted, Accepted, Planned, Phase, Posted, Collected, SubmitFull, NothingToAccept, NoPlan, PostFull, NothingToCollect, Stopped, Over, Memory, Refused, SerialsSpent, WindowFull, NothingToPlan, NothingToPost, NoSuch}
+use Rattle.onfi_core.specs.declared.outcome.Outcome.TheVariants.{Submitted, Accepted, Planned, Phase, Waited, ReadyFrom, Posted, Collected, SubmitFull, NothingToAccept, NoPlan, PostFull, NothingToCollect, Stopped, Over, Memory, Refused, SerialsSpent, WindowFull, NothingToPlan, NothingToPost, TooLate, NotInArray, StillBusy, NoSuch}
 use Rattle.onfi_core.specs.State.{Planning, HalfState, ChannelState, sent_by, posted_to, collected_by, is_to, wants_from, item_at, request_of}
+use Rattle.onfi_core.specs.Times.{all_starts, free_at, lag, later, latest_start}
 pub use Rattle.onfi_request.specs.Range.{fault_of}
 
 -- What a planning takes
 
--- the items that no plan has taken, as wants
+-- the items that no plan has taken, as wants: those set aside, then those that no planning has looked at
 abbrev pub unplanned : Setup → HalfState → List Want
-unplanned s h = wants_from s.geometry h.planned (drop h.planned h.accepted)
+unplanned s h = h.aside ++ wants_from s.geometry h.planned (drop h.planned h.accepted)
 
 -- the first of them that find a place beside the wants not started, up to the batch in all
 abbrev pub taken_next : Setup → HalfState → List Want
 taken_next s h = take (h.batch - length h.now.wants) (unplanned s h)
 
--- the wants not started, then those; the bus and the LUNs as they stand
+-- these wants; the bus and the LUNs as they stand
+abbrev pub problem_with : HalfState → List Want → Problem
+problem_with h wants = record h.now { wants = wants }
+
+-- the wants not started, then those
 abbrev pub next_problem : Setup → HalfState → Problem
-next_problem s h = record h.now { wants = h.now.wants ++ taken_next s h }
+next_problem s h = problem_with h (h.now.wants ++ taken_next s h)
+
+-- what a planning takes: the wants of its problem; and what it leaves: how many accepted items have been looked at, and which of them are set aside
+pub record Taken : Type 0 where
+  pub wants : List Want
+  pub planned : ℕ
+  pub aside : List Want
+
+-- in order: the wants not started, then the first unplanned items
+abbrev pub taken_in_order : Setup → HalfState → Taken
+taken_in_order s h = record { wants = h.now.wants ++ taken_next s h; planned = h.planned + length (taken_next s h); aside = h.aside }
+
+-- all accepted items that aren't started, in acceptance order
+pub record AreItems (s : Setup) (h : HalfState) (items : List Want) : Type 0 where
+  pub all : AreMerged h.now.wants (unplanned s h) items
+  pub rise : Rise items
+
+-- else: a choice of all accepted items that aren't started; the others are set aside
+pub record Chooses (s : Setup) (h : HalfState) (taken : Taken) : Type 0 where
+  pub items : List Want
+  pub are : AreItems s h items
+  pub choice : IsChoice h.batch (length h.accepted) items taken.wants taken.aside
+  pub all : taken.planned ≡ length h.accepted
+
+abbrev pub TakesBy : Choice → Setup → HalfState → Taken → Type 0
+TakesBy InOrder s h taken = taken ≡ taken_in_order s h
+TakesBy ByLun s h taken = Chooses s h taken
+TakesBy ReadsFirst s h taken = Chooses s h taken
+
+abbrev pub Takes : Setup → HalfState → Taken → Type 0
+Takes s h taken = TakesBy s.choice s h taken
+
+-- what a planning takes that ends below 2^62 whatever its plan
+pub record Tries (s : Setup) (h : HalfState) (taken : Taken) : Type 0 where
+  pub takes : Takes s h taken
+  pub in_time : horizon (problem_with h taken.wants) < 2 ^ 62
+
+-- a legal schedule of the problem and its finish, a number no later before which no legal schedule ends, and a certificate accepted for that
+pub record IsPlanned (plan : Planning) : Type 0 where
+  pub legal : Legal plan.problem plan.schedule
+  pub finish : plan.finish ≡ finish plan.problem plan.schedule
+  pub below : plan.below ≤ plan.finish
+  pub none_before : NoneBefore plan.problem plan.below
+  pub shown : ShowsBelow plan.cert plan.problem.wants plan.problem plan.below
+
+-- what its planner promises beside: where it is exact nothing ends sooner, and the certificate is one that it gives
+pub record IsPromised (exact : Bool) (certifies : Certificate → Type 0) (plan : Planning) : Type 0 where
+  pub exactly : IsTrue exact → plan.below ≡ plan.finish
+  pub kind : certifies plan.cert
+
+abbrev pub IsOptimal : Planning → Type 0
+IsOptimal plan = Optimal plan.problem plan.schedule
 
 -- an optimal schedule of the problem, its finish, and a token list accepted for it
-pub record IsPlanned (plan : Planning) : Type 0 where
+pub record IsPlainlyPlanned (plan : Planning) : Type 0 where
   pub optimal : Optimal plan.problem plan.schedule
   pub finish : plan.finish ≡ finish plan.problem plan.schedule
-  pub accepted : AcceptsTokens plan.cert plan.problem plan.finish
+  pub tokens : List Token
+  pub cert : plan.cert ≡ Plain tokens
+  pub accepted : AcceptsTokens tokens plan.problem plan.finish
+
+-- a plan before whose finish nothing ends is optimal
+abbrev pub FinishIsOptimal : Type 0
+FinishIsOptimal = (plan : Planning) → IsPlanned plan → plan.below ≡ plan.finish → IsOptimal plan
+
+-- what an exact planner plans that gives tokens is shown by tokens
+abbrev pub PlainIsPlain : Type 0
+PlainIsPlain = (plan : Planning) → IsPlanned plan → IsPromised true IsPlain plan → IsPlainlyPlanned plan
 
 -- the plan takes the old one's place
-abbrev pub planned_by : HalfState → ℕ → Planning → HalfState
-planned_by h taken plan = record h { planned = h.planned + taken; now = plan.problem; left = plan.schedule; last = Some plan }
+abbrev pub planned_by : HalfState → Taken → Planning → HalfState
+planned_by h taken plan = record h { planned = taken.planned; aside = taken.aside; now = plan.problem; left = plan.schedule; outdated = false; last = Some plan }
 
-pub record Plans (s : Setup) (h : HalfState) (plan : Planning) : Type 0 where
-  pub problem : plan.problem ≡ next_problem s h
+pub record Plans (s : Setup) (h : HalfState) (taken : Taken) (plan : Planning) : Type 0 where
+  pub tries : Tries s h taken
+  pub problem : plan.problem ≡ problem_with h taken.wants
   pub planned : IsPlanned plan
+
+-- a search of what a planning takes has more nodes than it may open
+abbrev pub RunsOver : Setup → HalfState → Type 0
+RunsOver s h = (taken : Taken) × Tries s h taken × HasMoreNodes (problem_with h taken.wants) s.limit
+
+-- a plan of what a planning chooses might end at 2^62 or later; in order the state decides that
+abbrev pub RunsLate : Setup → HalfState → Type 0
+RunsLate s h = (taken : Taken) × Takes s h taken × (2 ^ 62 ≤ horizon (problem_with h taken.wants))
 
 -- What a phase does
 
@@ -173,16 +251,55 @@ accept_refusal h =
     or_else (if_stopped h.stopped)
     (refused_where (nat_le 64 (unanswered h)) WindowFull)
 
+-- in order the plan might end at 2^62 or later
+abbrev pub is_late : Choice → Setup → HalfState → Bool
+is_late InOrder s h = nat_le (2 ^ 62) (horizon (next_problem s h))
+is_late ByLun s h = false
+is_late ReadsFirst s h = false
+
+-- the plan is that of the bus and the LUNs as they stand, or nothing of it is left
+abbrev pub is_current : HalfState → Bool
+is_current h = if h.outdated then none_left h else true
+
+-- no item is taken, and the plan is current
+abbrev pub nothing_to_plan : Setup → HalfState → Bool
+nothing_to_plan s h = if is_empty (taken_next s h) then is_current h else false
+
 abbrev pub plan_refusal : Setup → HalfState → Option Outcome
 plan_refusal s h =
     or_else (if_stopped h.stopped)
-    (or_else (refused_where (is_empty (taken_next s h)) NothingToPlan)
-    (refused_where (nat_le (2 ^ 62) (horizon (next_problem s h))) (Stopped Clock)))
+    (or_else (refused_where (nothing_to_plan s h) NothingToPlan)
+    (refused_where (is_late s.choice s h) (Stopped Clock)))
 
 abbrev pub bus_refusal : HalfState → Option Outcome
 bus_refusal h =
     or_else (if_stopped h.stopped)
     (refused_where (none_left h) NoPlan)
+
+-- by how much the plan must be later so that it doesn't start before the moment
+abbrev pub wait_lag : ℕ → HalfState → ℕ
+wait_lag moment h = lag moment (all_starts h.left)
+
+-- the latest that a wait brings about: the moment, or the last start of the plan
+abbrev pub latest_waited : ℕ → HalfState → ℕ
+latest_waited moment h = max moment (latest_start (all_starts h.left) + wait_lag moment h)
+
+abbrev pub wait_refusal : ℕ → HalfState → Option Outcome
+wait_refusal moment h =
+    or_else (if_stopped h.stopped)
+    (refused_where (nat_le (2 ^ 62) (latest_waited moment h)) TooLate)
+
+-- the array of the LUN works: its group's next phase is the first post
+abbrev pub is_in_array : Option LunState → Bool
+is_in_array (Some (Running group next ready)) = next == length group
+is_in_array (Some (Free since)) = false
+is_in_array None = false
+
+abbrev pub ready_refusal : ℕ → HalfState → Option Outcome
+ready_refusal lun h =
+    or_else (refused_where (nat_le (length h.now.luns) lun) (NoSuch None))
+    (or_else (if_stopped h.stopped)
+    (refused_where (not (is_in_array (slice_get h.now.luns lun))) NotInArray))
 
 abbrev pub refusal : Setup → ChannelState → Event → Option Outcome
 refusal s c (Submit host channel r) =
@@ -193,6 +310,8 @@ refusal s c (Submit host channel r) =
 refusal s c (Accept channel) = or_else (accept_refusal c.half) (refused_where (is_empty c.waiting) NothingToAccept)
 refusal s c (Plan channel) = plan_refusal s c.half
 refusal s c (Bus channel) = bus_refusal c.half
+refusal s c (Wait channel moment) = wait_refusal moment c.half
+refusal s c (Ready channel lun) = ready_refusal lun c.half
 refusal s c (PostTo channel host) =
     or_else (refused_where (nat_le s.hosts host) (NoSuch None))
     (or_else (refused_where (is_empty (held_for host c.half)) NothingToPost)
@@ -224,6 +343,39 @@ submitted c host r =
 -- the front of what waits goes to the end of what is accepted
 abbrev pub Accepts : ChannelState → ChannelState → Type 0
 Accepts c c' = (x : Item) × (behind : List Item) × (c.waiting ≡ x ∷ behind) × (c' ≡ record c { half = record c.half { accepted = c.half.accepted ++ x ∷ [] }; waiting = behind })
+
+-- the bus was idle until the moment, and what is left of the plan starts no sooner; a later bus makes the plan outdated
+abbrev pub waited : ℕ → HalfState → HalfState
+waited moment h = record h {
+  now = free_at h.now (max h.now.bus_free moment);
+  left = later (wait_lag moment h) h.left;
+  outdated = if h.outdated then true else nat_lt h.now.bus_free moment;
+}
+
+-- from when on a LUN may go on that is ready now
+abbrev pub ready_of : ℕ → HalfState → ℕ
+ready_of lun h = min (free_from (slice_get h.now.luns lun)) h.now.bus_free
+
+abbrev pub ready_by : ℕ → LunState → LunState
+ready_by moment (Free since) = Free since
+ready_by moment (Running group next ready) = Running group next (min ready moment)
+
+abbrev pub luns_ready_by : ℕ → ℕ → Option LunState → List LunState → List LunState
+luns_ready_by moment lun None luns = luns
+luns_ready_by moment lun (Some x) luns = slice_set luns lun (ready_by moment x)
+
+-- the LUN is ready as the bus is free; one that is ready sooner makes the plan outdated
+abbrev pub readied : ℕ → HalfState → HalfState
+readied lun h = record h {
+  now = record h.now { luns = luns_ready_by h.now.bus_free lun (slice_get h.now.luns lun) h.now.luns };
+  outdated = if h.outdated then true else nat_lt h.now.bus_free (free_from (slice_get h.now.luns lun));
+}
+
+-- the chip says that the LUN is ready, or that it isn't: then nothing changes
+abbrev pub FindsReady : ℕ → ChannelState → Outcome → ChannelState → Type 0
+FindsReady lun c o c' =
+    ((o ≡ ReadyFrom (ready_of lun c.half)) × (c' ≡ record c { half = readied lun c.half; chip = found_ready c.chip lun c.half.now.bus_free }))
+    ⊎ ((o ≡ StillBusy) × (c' ≡ c))
 
 -- the move's phase is the status of a program or an erase
 pub record AsksStatus (p : Problem) (move : Move) : Type 0 where
@@ -267,11 +419,14 @@ abbrev pub Does : Setup → ChannelState → Event → Outcome → ChannelState 
 Does s c (Submit host channel r) o c' = (o ≡ Submitted (length (sent_by host c))) × (c' ≡ submitted c host r)
 Does s c (Accept channel) o c' = (o ≡ Accepted (length c.half.accepted)) × Accepts c c'
 Does s c (Plan channel) o c' =
-    ((plan : Planning) × (o ≡ Planned plan.finish) × Plans s c.half plan × (c' ≡ record c { half = planned_by c.half (length (taken_next s c.half)) plan }))
-    ⊎ ((o ≡ Over s.limit) × HasMoreNodes (next_problem s c.half) s.limit × (c' ≡ c)) ⊎ GaveUp c o c'
+    ((taken : Taken) × (plan : Planning) × (o ≡ Planned plan.finish) × Plans s c.half taken plan × (c' ≡ record c { half = planned_by c.half taken plan }))
+    ⊎ ((o ≡ Over s.limit) × RunsOver s c.half × (c' ≡ c))
+    ⊎ ((o ≡ Stopped Clock) × RunsLate s c.half × (c' ≡ stopped_by Clock c)) ⊎ GaveUp c o c'
 Does s c (Bus channel) o c' =
     ((start : ℕ) × (o ≡ Phase start) × Runs c c' start)
     ⊎ ((cause : Cause) × IsCauseOf c.half cause × (o ≡ Stopped cause) × Fails c c' cause) ⊎ GaveUp c o c'
+Does s c (Wait channel moment) o c' = (o ≡ Waited (max c.half.now.bus_free moment)) × (c' ≡ record c { half = waited moment c.half })
+Does s c (Ready channel lun) o c' = FindsReady lun c o c'
 Does s c (PostTo channel host) o c' = (r : Reply) × (h : HalfState) × (o ≡ Posted r.place) × GoesOut c.half h host r × (c' ≡ record c { half = h })
 Does s c (Collect channel host) o c' = (r : Reply) × (o ≡ Collected r) × (slice_get (posted_to host c) (length (collected_by host c)) ≡ Some r) × (c' ≡ record c { collected = c.collected ++ r ∷ [] })
 

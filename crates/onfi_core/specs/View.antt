@@ -1,5 +1,5 @@
 -- What callers see of a half, and what its fields keep.
-use Rattle.std.specs.Prelude.{◌≡◌, ℕ, ◌+◌, ◌^◌, ◌<◌, ◌≤◌, List, [], ◌∷◌, ◌++◌, length, take, Option, Some, None, slice_get}
+use Rattle.std.specs.Prelude.{◌≡◌, ℕ, ◌+◌, ◌^◌, ◌<◌, ◌≤◌, List, [], ◌∷◌, ◌++◌, length, take, Option, Some, None, Result, IfOk, IfErr, ◌⊎◌, slice_get}
 use Rattle.std.specs.List.{AllByRecursion as Each, filter}
 use Rattle.onfi_request.specs.Range.{Fits}
 use Rattle.onfi_request.specs.declared.request.Item.{Item}
@@ -7,21 +7,25 @@ use Rattle.onfi_request.specs.declared.reply.Reply.{Reply}
 use Rattle.onfi_group.specs.Words.{number}
 use Rattle.onfi_problem.specs.Problem.{Problem}
 use Rattle.onfi_problem.specs.Left.{horizon}
-use Rattle.onfi_planner.specs.Nodes.{HasMoreNodes}
-use Rattle.onfi_planner.specs.declared.fault.PlanFault.{PlanFault}
-use Rattle.onfi_planner.specs.declared.fault.PlanFault.TheVariants as planner
+use Rattle.onfi_check.specs.Nodes.{HasMoreNodes}
+use Rattle.onfi_plan.specs.Certificate.{certificate_in}
+use Rattle.onfi_plan.specs.declared.fault.PlannerFault.{PlannerFault}
+use Rattle.onfi_plan.specs.declared.fault.PlannerFault.TheVariants as planner
 use Rattle.slab.specs.Slab.{Slab, get, slab_len}
 use Rattle.onfi_core.specs.declared.setup.Setup.{Setup}
+use Rattle.onfi_core.specs.declared.setup.Choice.{Choice}
+use Rattle.onfi_core.specs.declared.setup.Choice.TheVariants.{InOrder, ByLun, ReadsFirst}
 use Rattle.onfi_core.specs.declared.slot.Slot.{Slot}
 use Rattle.onfi_core.specs.declared.lent.Lent.{Lent}
 use Rattle.onfi_core.specs.declared.batch.Batch.{Batch}
+use Rattle.onfi_core.specs.declared.choosing.Chosen.{Chosen}
 use Rattle.onfi_core.specs.declared.planning.PlanStop.{PlanStop}
 use Rattle.onfi_core.specs.declared.planning.PlanStop.TheVariants.{Clock, Over, Memory}
 use Rattle.onfi_core.specs.declared.half.PlanRefusal.{PlanRefusal}
 use Rattle.onfi_core.specs.declared.half.PlanRefusal.TheVariants.{Stopped, NothingToPlan, Over as IsOver, Memory as NoMemory}
 use Rattle.onfi_core.specs.declared.outcome.Cause.TheVariants as cause
 use Rattle.onfi_core.specs.declared.outcome.Outcome.TheVariants as outcome
-use Rattle.onfi_core.specs.Steps.{plan_refusal, next_problem}
+use Rattle.onfi_core.specs.Steps.{plan_refusal, planned_by, Plans, RunsLate, RunsOver, Taken, unplanned}
 use Rattle.onfi_core.specs.State.{Planning, HalfState, is_from, is_to}
 use Rattle.onfi_core.specs.Kept.{IsSound, is_of_place}
 
@@ -32,7 +36,7 @@ pub record HalfView : Type 0 where
   pub lent : Option Reply
 
 abbrev pub planning_of : Batch → Planning
-planning_of batch = record { problem = batch.problem.problem; schedule = batch.plan.schedule; finish = batch.plan.finish; cert = batch.plan.cert.items }
+planning_of batch = record { problem = batch.problem.problem; schedule = batch.plan.schedule; finish = batch.plan.finish; below = batch.plan.below; cert = certificate_in batch.plan.cert }
 
 -- an item as the intake gives it: in range, of a host that is there, with that host's next serial
 pub record IsNext (s : Setup) (h : HalfState) (x : Item) : Type 0 where
@@ -40,6 +44,15 @@ pub record IsNext (s : Setup) (h : HalfState) (x : Item) : Type 0 where
   pub host : x.host < s.hosts
   pub serial : x.serial ≡ length (filter (is_from x.host) h.accepted)
   pub fits : x.serial < 2 ^ 32
+
+-- whether an item may be taken in beside what is unplanned: in order while that is less than a batch, else always
+abbrev pub WantsBy : Choice → Setup → HalfState → Type 0
+WantsBy InOrder s h = length (unplanned s h) < h.batch
+WantsBy ByLun s h = Unit {0}
+WantsBy ReadsFirst s h = Unit {0}
+
+abbrev pub WantsItem : Setup → HalfState → Type 0
+WantsItem s h = WantsBy s.choice s h
 
 abbrev pub accepting : HalfState → Item → HalfState
 accepting h x = record h { accepted = h.accepted ++ x ∷ [] }
@@ -100,7 +113,7 @@ StopsBecause p limit (Over opened) = (horizon p < 2 ^ 62) × (opened ≡ limit) 
 StopsBecause p limit Memory = horizon p < 2 ^ 62
 
 -- why the planner gave no plan, as why there is none
-abbrev pub stop_of : PlanFault → PlanStop
+abbrev pub stop_of : PlannerFault → PlanStop
 stop_of (planner.Over opened) = Over opened
 stop_of planner.Memory = Memory
 
@@ -112,7 +125,22 @@ refusal_of Memory = NoMemory
 
 -- why a half doesn't plan, and what it leaves
 abbrev pub PlanRefused : Setup → HalfState → PlanRefusal → HalfState → Type 0
-PlanRefused s h (Stopped cause) h' = (plan_refusal s h ≡ Some (outcome.Stopped cause)) × (h' ≡ record h { stopped = Some cause })
+PlanRefused s h (Stopped why) h' =
+    ((plan_refusal s h ≡ Some (outcome.Stopped why)) ⊎ ((plan_refusal s h ≡ None) × (why ≡ cause.Clock) × RunsLate s h)) × (h' ≡ record h { stopped = Some why })
 PlanRefused s h NothingToPlan h' = (plan_refusal s h ≡ Some outcome.NothingToPlan) × (h' ≡ h)
-PlanRefused s h (IsOver opened) h' = (plan_refusal s h ≡ None) × (opened ≡ s.limit) × HasMoreNodes (next_problem s h) s.limit × (h' ≡ h)
+PlanRefused s h (IsOver opened) h' = (plan_refusal s h ≡ None) × (opened ≡ s.limit) × RunsOver s h × (h' ≡ h)
 PlanRefused s h NoMemory h' = (plan_refusal s h ≡ None) × (h' ≡ h)
+
+-- what a planning takes that takes this choice of all
+abbrev pub taken_of : HalfState → Chosen → Taken
+taken_of h chosen = record { wants = chosen.wants.items; planned = length h.accepted; aside = chosen.rest.items }
+
+-- a planning's plan took the old one's place
+abbrev pub PlannedAs : HalfView → HalfView → Result ℕ PlanRefusal → Type 0
+PlannedAs old new result = IfOk result (λ finish.
+    (plan_refusal old.setup old.state ≡ None) × (taken : Taken) × (plan : Planning) × (finish ≡ plan.finish)
+    × Plans old.setup old.state taken plan × (new ≡ record old { state = planned_by old.state taken plan }))
+
+-- .. or why it didn't, and what it left
+abbrev pub RefusedAs : HalfView → HalfView → Result ℕ PlanRefusal → Type 0
+RefusedAs old new result = IfErr result (λ refusal. PlanRefused old.setup old.state refusal new.state × (new ≡ record old { state = new.state }))

@@ -1,4 +1,4 @@
-use onfi_planner::Planned;
+use onfi_plan::Plan;
 use onfi_problem::Problem;
 
 /// An accepting planning.
@@ -7,5 +7,5 @@ pub struct Batch {
     /// What was planned.
     pub problem: Problem,
     /// Its plan.
-    pub plan: Planned,
+    pub plan: Plan,
 }

@@ -1,18 +1,20 @@
 //! One channel of a core: its half, its chip and its queues.
 
-ghost use Rattle.std.specs.Prelude.{◌≡◌, ℕ, ◌≤◌, ◌<◌, None, Some, Option, IfOk, MatchOption};
+ghost use Rattle.std.specs.Prelude.{◌≡◌, ℕ, ◌≤◌, ◌<◌, None, Some, Option, IfOk, IfSome, MatchOption};
 ghost use Rattle.std.specs.VecDeque.{deque_capacity};
 ghost use Rattle.onfi_core.specs.Drive.{cause_of};
 ghost use Rattle.onfi_core.specs.Dues.{IsDue};
 ghost use Rattle.onfi_core.specs.declared.event.Event.TheVariants as event;
-ghost use Rattle.onfi_core.specs.Steps.{Step, bus_refusal, fault_of};
+ghost use Rattle.onfi_plan.specs.Certificate.{certificate_in};
+ghost use Rattle.onfi_core.specs.Steps.{IsPromised, Step, bus_refusal, fault_of};
 ghost use Rattle.onfi_core.specs.Core.{with_batch};
-ghost use Rattle.onfi_core.specs.Refusals.{planned_outcome};
+ghost use Rattle.onfi_core.specs.Refusals.{planned_outcome, ready_outcome, waited_outcome};
 ghost use Rattle.onfi_core.specs.Queues.{IsFresh, opened_with, state_in};
 
 use crate::drive::{DriveFault, run_phase};
 use crate::due::Due;
 use crate::event::Event;
+use crate::half::passing::{ReadyRefusal, WaitRefusal};
 use crate::half::{AcceptFault, DueRefusal, Half, PlanRefusal};
 use crate::host_queue::{HostQueue, host_queues};
 use crate::outcome::{Cause, Outcome};
@@ -20,7 +22,7 @@ use crate::setup::Setup;
 use crate::traffic::Traffic;
 use onfi_addr::Geometry;
 use onfi_chip::Chip;
-use onfi_planner::Planned;
+use onfi_plan::{Plan, Planner};
 use onfi_problem::Problem;
 use onfi_request::{Item, Request, RequestFault, check};
 use std::alloc::{AllocError, Global};
@@ -131,13 +133,40 @@ impl<C: Chip> Channel<C> {
         }
     }
 
-    /// The sequencer plans.
-    pub fn plan(&mut self, alloc: Global) -> Outcome
+    /// The sequencer plans, by that planner.
+    pub fn plan<P: Planner>(&mut self, alloc: Global, planner: &P) -> Outcome
         ensures step { (channel : ℕ) → Step self.old.0.setup (state_in C.state self.old) (event.Plan channel) result (state_in C.state self.new) }
+        ensures promised { IfSome self.old.0.half.last (IsPromised P.exact P.certifies) → IfSome self.new.0.half.last (IsPromised P.exact P.certifies) }
         ensures setup { self.new.0.setup ≡ self.old.0.setup }
     {
-        let planned = self.half.plan(alloc);
+        let planned = self.half.plan(alloc, planner);
         planned_outcome(planned)
+    }
+
+    /// The bus was idle until that moment, in ns.
+    pub fn wait(&mut self, alloc: Global, moment: u64) -> Outcome
+        ensures step { (channel : ℕ) → Step self.old.0.setup (state_in C.state self.old) (event.Wait channel moment) result (state_in C.state self.new) }
+        ensures setup { self.new.0.setup ≡ self.old.0.setup }
+    {
+        let waited = self.half.wait(alloc, moment);
+        waited_outcome(waited)
+    }
+
+    /// The array of that LUN may be done: the chip is asked.
+    pub fn ready(&mut self, lun: u8) -> Outcome
+        ensures step { (channel : ℕ) → Step self.old.0.setup (state_in C.state self.old) (event.Ready channel lun) result (state_in C.state self.new) }
+        ensures setup { self.new.0.setup ≡ self.old.0.setup }
+    {
+        if let Some(refusal) = self.half.refuses_ready(lun) {
+            return ready_outcome(refusal);
+        }
+        let now = self.half.bus_free();
+        if self.chip.poll(now, lun) {
+            let ready = self.half.ready(lun);
+            Outcome::ReadyFrom { ready }
+        } else {
+            Outcome::StillBusy
+        }
     }
 
     /// The undone phase of least start happens on the chip.
@@ -221,9 +250,9 @@ impl<C: Chip> Channel<C> {
     }
 
     /// The problem and the plan of the last accepting planning; none before one.
-    pub fn last(&self) -> Option<(&Problem, &Planned)>
+    pub fn last(&self) -> Option<(&Problem, &Plan)>
         ensures { MatchOption result (self.now.0.half.last ≡ None)
-            (λ r. self.now.0.half.last ≡ Some (record { problem = r.0.now.problem; schedule = r.1.now.schedule; finish = r.1.now.finish; cert = r.1.now.cert.items })) }
+            (λ r. self.now.0.half.last ≡ Some (record { problem = r.0.now.problem; schedule = r.1.now.schedule; finish = r.1.now.finish; below = r.1.now.below; cert = certificate_in r.1.now.cert })) }
     {
         self.half.last()
     }
@@ -238,9 +267,10 @@ impl<C: Chip> Channel<C> {
         self.half.set_batch(batch);
     }
 
-    /// The event, whichever channel it names.
-    pub fn step(&mut self, alloc: Global, event: Event) -> Outcome
+    /// The event, whichever channel it names; that planner plans.
+    pub fn step<P: Planner>(&mut self, alloc: Global, planner: &P, event: Event) -> Outcome
         ensures step { Step self.old.0.setup (state_in C.state self.old) event result (state_in C.state self.new) }
+        ensures promised { IfSome self.old.0.half.last (IsPromised P.exact P.certifies) → IfSome self.new.0.half.last (IsPromised P.exact P.certifies) }
         ensures setup { self.new.0.setup ≡ self.old.0.setup }
     {
         match event {
@@ -250,8 +280,10 @@ impl<C: Chip> Channel<C> {
                 channel: _,
             } => self.submit(host, request),
             Event::Accept { channel: _ } => self.accept(),
-            Event::Plan { channel: _ } => self.plan(alloc),
+            Event::Plan { channel: _ } => self.plan(alloc, planner),
             Event::Bus { channel: _ } => self.bus(alloc),
+            Event::Wait { moment, channel: _ } => self.wait(alloc, moment),
+            Event::Ready { lun, channel: _ } => self.ready(lun),
             Event::Post { host, channel: _ } => self.post(host),
             Event::Collect { host, channel: _ } => self.collect(host),
         }
@@ -279,6 +311,28 @@ fn planned_outcome(planned: Result<u64, PlanRefusal>) -> Outcome
         Err(PlanRefusal::NothingToPlan) => Outcome::NothingToPlan,
         Err(PlanRefusal::Over { opened }) => Outcome::Over { opened },
         Err(PlanRefusal::Memory) => Outcome::Memory(None),
+    }
+}
+
+// What a wait came to.
+fn waited_outcome(waited: Result<u64, WaitRefusal>) -> Outcome
+    ensures { result ≡ waited_outcome waited }
+{
+    match waited {
+        Ok(bus_free) => Outcome::Waited { bus_free },
+        Err(WaitRefusal::Stopped(cause)) => Outcome::Stopped(cause),
+        Err(WaitRefusal::TooLate) => Outcome::TooLate,
+    }
+}
+
+// Why a LUN isn't found ready.
+fn ready_outcome(refusal: ReadyRefusal) -> Outcome
+    ensures { result ≡ ready_outcome refusal }
+{
+    match refusal {
+        ReadyRefusal::NoSuchLun => Outcome::NoSuch(None),
+        ReadyRefusal::Stopped(cause) => Outcome::Stopped(cause),
+        ReadyRefusal::NotInArray => Outcome::NotInArray,
     }
 }
 

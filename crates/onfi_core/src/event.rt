@@ -24,6 +24,20 @@ pub enum Event {
     Bus {
         channel: u8,
     },
+    /// The channel's bus was idle until this moment, in ns of its clock: no phase starts sooner, and what is left of the
+    /// plan starts later where it would. The next planning plans it anew. A moment that has passed changes nothing.
+    Wait {
+        channel: u8,
+        moment: u64,
+    },
+    /// The array of this LUN may be done: its group's next phase is the first post. The chip is asked whether the LUN is
+    /// ready as the bus is free; where it says so the post may start then, and the next planning plans anew. So a caller
+    /// that tells this of a LUN that works still changes nothing. A chip that says yes too early is one that breaks its
+    /// contract: the post that comes then finds the LUN busy, and a status stops the channel.
+    Ready {
+        channel: u8,
+        lun: u8,
+    },
     /// The channel's sequencer pushes the oldest reply held for the host into the host's completion queue.
     Post {
         channel: u8,
@@ -46,6 +60,8 @@ impl Event {
             | Event::Accept { channel }
             | Event::Plan { channel }
             | Event::Bus { channel }
+            | Event::Wait { channel, .. }
+            | Event::Ready { channel, .. }
             | Event::Post { channel, .. }
             | Event::Collect { channel, .. } => *channel,
         }

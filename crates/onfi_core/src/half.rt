@@ -1,12 +1,14 @@
 ghost use Rattle.std.specs.Prelude.{◌≡◌, ◌<◌, ◌≤◌, ◌+◌, ◌^◌, ◌++◌, [], length, replicate, None, Some, IfOk, IfErr, IfSome, IfNone, IsSome, MatchOption};
 ghost use Rattle.onfi_core.specs.Kept.{first_half};
 ghost use Rattle.onfi_request.specs.declared.reply.Reply.{Reply as AReply};
+ghost use Rattle.onfi_plan.specs.Certificate.{certificate_in};
 ghost use Rattle.onfi_core.specs.State.{Planning};
-ghost use Rattle.onfi_core.specs.Steps.{GoesOut, accept_refusal, bus_refusal, held_for, plan_refusal, taken_next, planned_by, Plans};
+ghost use Rattle.onfi_core.specs.Steps.{GoesOut, IsPromised, accept_refusal, bus_refusal, held_for, taken_in_order, taken_next, planned_by, Plans};
 ghost use Rattle.onfi_core.specs.Dues.{IsDue, IsTurn, due_outcome};
 ghost use Rattle.onfi_core.specs.declared.starting.Turn.TheVariants as turn;
 ghost use Rattle.onfi_core.specs.Refusals.{fault_outcome};
-ghost use Rattle.onfi_core.specs.View.{IsNext, IsOldest, accepting, planning_of, PlanRefused, refusal_of};
+ghost use Rattle.onfi_core.specs.View.{IsNext, IsOldest, accepting, planning_of, PlannedAs, RefusedAs, refusal_of};
+ghost use Rattle.onfi_core.specs.declared.setup.Choice.TheVariants.{InOrder};
 ghost use Rattle.onfi_problem.specs.declared.lun_state.LunState.TheVariants.{Free};
 
 use crate::batch::Batch;
@@ -17,12 +19,12 @@ use crate::lent::Lent;
 use crate::oldest::oldest_for;
 use crate::outcome::Cause;
 use crate::planning::{NextPlan, PlanStop, plan_wants};
-use crate::setup::Setup;
+use crate::setup::{Choice, Setup};
 use crate::slot::Slot;
 use crate::starting::{Start, Turn, next_turn};
 use crate::wants::want_of;
 use arrayvec::ArrayVec;
-use onfi_planner::Planned;
+use onfi_plan::{Plan, Planner};
 use onfi_problem::{LunState, Problem};
 use onfi_request::{Item, Reply, Want};
 use onfi_schedule::{Placed, Starts};
@@ -30,7 +32,9 @@ use slab::Slab;
 use std::alloc::{AllocError, Global};
 use std::marker::Model;
 
+mod choosing;
 mod counts;
+pub(crate) mod passing;
 mod phase;
 mod unanswered;
 
@@ -45,11 +49,13 @@ pub struct Half {
     slots: Slab<Slot>,
     accepted: u64,
     planned: u64,
+    aside: Vec<Want>,
     bus_free: u64,
     luns: Vec<LunState>,
     wants: ArrayVec<Want, 8>,
     rest: Vec<Starts>,
     groups: Vec<Placed>,
+    outdated: bool,
     last: Option<Batch>,
     held: Vec<Reply>,
     lent: Option<Lent>,
@@ -68,9 +74,11 @@ impl Model for Half {
       state = record {
         accepted = h.history.accepted;
         planned = h.planned;
+        aside = h.aside.items;
         batch = h.batch;
         now = record { timing = h.setup.timing; rules = h.setup.rules; bus_free = h.bus_free; luns = h.luns.items; wants = h.wants.items };
         left = record { rest = h.rest.items; groups = h.groups.items };
+        outdated = h.outdated;
         last = option_map planning_of h.last;
         held = h.history.held;
         posted = h.history.posted;
@@ -83,9 +91,11 @@ impl Model for Half {
         (record {
           accepted = h.history.accepted;
           planned = h.planned;
+          aside = h.aside.items;
           batch = h.batch;
           now = record { timing = h.setup.timing; rules = h.setup.rules; bus_free = h.bus_free; luns = h.luns.items; wants = h.wants.items };
           left = record { rest = h.rest.items; groups = h.groups.items };
+          outdated = h.outdated;
           last = option_map planning_of h.last;
           held = h.history.held;
           posted = h.history.posted;
@@ -107,7 +117,8 @@ pub enum AcceptFault {
 pub enum PlanRefusal {
     /// The channel stopped, now or earlier.
     Stopped(Cause),
-    /// No accepted item is unplanned, or the wants not started fill the batch.
+    /// No accepted item is unplanned, or the wants not started fill the batch; and no time passed since the plan was made,
+    /// or no phase of it is left.
     NothingToPlan,
     /// The search opened as many nodes as it may and isn't over; the old plan stands.
     Over { opened: u32 },
@@ -142,11 +153,13 @@ impl Half {
             slots,
             accepted: 0,
             planned: 0,
+            aside: Vec::new(alloc),
             bus_free: 0,
             luns,
             wants: ArrayVec::new(),
             rest,
             groups: Vec::new(alloc),
+            outdated: false,
             last: None,
             held,
             lent: None,
@@ -203,6 +216,7 @@ impl Half {
 
     // The wants not started, and behind them those that the next planning takes.
     fn next_wants(&self) -> ArrayVec<Want, 8>
+        requires in_order { self.now.setup.choice ≡ InOrder }
         ensures { result.items ≡ self.now.state.now.wants ++ taken_next self.now.setup self.now.state }
     {
         let mut wants = ArrayVec::try_from(self.wants.as_slice()).unwrap();
@@ -215,32 +229,48 @@ impl Half {
         wants
     }
 
-    /// Plans the wants not started, and behind them the first unplanned items, up to the batch in all, with the bus and
-    /// the LUNs as they stand. The plan takes the old one's place; its finish is answered, in ns of the channel's clock.
+    /// Plans, with the bus and the LUNs as they stand, by that planner: in order the wants not started, and behind them the
+    /// first unplanned items, up to the batch in all; else a choice of all accepted items that aren't started, and those that
+    /// it leaves are set aside. The plan takes the old one's place; its finish is answered, in ns of the channel's clock.
     ///
     /// # Errors
     /// `Stopped` where the channel stopped; `NothingToPlan` where no accepted item is unplanned, or the wants not started
-    /// fill the batch; `Stopped(Clock)` where the plan might end at 2^62 ns or later: the channel stops. Else `Over` or
+    /// fill the batch, and the plan is that of the bus as it stands or nothing of it is left; `Stopped(Clock)` where the plan might end at 2^62 ns or later: the channel stops. Else `Over` or
     /// `Memory`, and the old plan stands.
-    pub fn plan(&mut self, alloc: Global) -> Result<u64, PlanRefusal>
+    pub fn plan<P: Planner>(&mut self, alloc: Global, planner: &P) -> Result<u64, PlanRefusal>
         requires settled { self.old.lent ≡ None }
-        ensures planned { IfOk result (λ finish. (plan_refusal self.old.setup self.old.state ≡ None)
-            × (plan : Planning) × (finish ≡ plan.finish) × Plans self.old.setup self.old.state plan
-            × (self.new ≡ record self.old { state = planned_by self.old.state (length (taken_next self.old.setup self.old.state)) plan })) }
-        ensures refused { IfErr result (λ refusal. PlanRefused self.old.setup self.old.state refusal self.new.state
-            × (self.new ≡ record self.old { state = self.new.state })) }
+        ensures planned { PlannedAs self.old self.new result }
+        ensures promised { IfOk result (λ _. IfSome self.new.state.last (IsPromised P.exact P.certifies)) }
+        ensures refused { RefusedAs self.old self.new result }
+        ensures settled { self.new.lent ≡ None }
+        ensures setup { self.new.setup ≡ self.old.setup }
+    {
+        match self.setup.choice {
+            Choice::InOrder => self.plan_in_order(alloc, planner),
+            Choice::ByLun | Choice::ReadsFirst => self.plan_chosen(alloc, planner),
+        }
+    }
+
+    // Plans the wants not started, and behind them the first unplanned items, up to the batch in all.
+    fn plan_in_order<P: Planner>(&mut self, alloc: Global, planner: &P) -> Result<u64, PlanRefusal>
+        requires settled { self.old.lent ≡ None }
+        requires in_order { self.old.setup.choice ≡ InOrder }
+        ensures planned { PlannedAs self.old self.new result }
+        ensures promised { IfOk result (λ _. IfSome self.new.state.last (IsPromised P.exact P.certifies)) }
+        ensures refused { RefusedAs self.old self.new result }
         ensures settled { self.new.lent ≡ None }
         ensures setup { self.new.setup ≡ self.old.setup }
     {
         if let Some(cause) = self.stopped {
             return Err(PlanRefusal::Stopped(cause));
         }
-        let wants = self.next_wants();
-        if wants.len() == self.wants.len() {
+        if self.nothing_to_plan() {
             return Err(PlanRefusal::NothingToPlan);
         }
+        let wants = self.next_wants();
         let next = plan_wants(
             alloc,
+            planner,
             &self.setup,
             self.bus_free,
             self.luns.as_slice(),
@@ -261,10 +291,10 @@ impl Half {
     // The plan of these wants takes the old one's place.
     fn take_over(&mut self, wants: ArrayVec<Want, 8>, next: NextPlan) -> u64
         requires wants { wants.items ≡ self.old.state.now.wants ++ taken_next self.old.setup self.old.state }
-        requires plans { Plans self.old.setup self.old.state (planning_of next.batch) }
+        requires plans { Plans self.old.setup self.old.state (taken_in_order self.old.setup self.old.state) (planning_of next.batch) }
         requires rest { next.rest.items ≡ next.batch.plan.schedule.rest }
         requires groups { next.groups.items ≡ next.batch.plan.schedule.groups }
-        ensures planned { self.new ≡ record self.old { state = planned_by self.old.state (length (taken_next self.old.setup self.old.state)) (planning_of next.batch) } }
+        ensures planned { self.new ≡ record self.old { state = planned_by self.old.state (taken_in_order self.old.setup self.old.state) (planning_of next.batch) } }
         ensures finish { result ≡ next.batch.plan.finish }
     {
         let finish = next.batch.plan.finish;
@@ -272,6 +302,7 @@ impl Half {
         self.wants = wants;
         self.rest = next.rest;
         self.groups = next.groups;
+        self.outdated = false;
         self.last = Some(next.batch);
         finish
     }
@@ -401,9 +432,9 @@ impl Half {
     }
 
     /// The problem and the plan of the last accepting planning; none before one.
-    pub fn last(&self) -> Option<(&Problem, &Planned)>
+    pub fn last(&self) -> Option<(&Problem, &Plan)>
         ensures { MatchOption result (self.now.state.last ≡ None)
-            (λ r. self.now.state.last ≡ Some (record { problem = r.0.now.problem; schedule = r.1.now.schedule; finish = r.1.now.finish; cert = r.1.now.cert.items })) }
+            (λ r. self.now.state.last ≡ Some (record { problem = r.0.now.problem; schedule = r.1.now.schedule; finish = r.1.now.finish; below = r.1.now.below; cert = certificate_in r.1.now.cert })) }
     {
         self.last
             .as_ref()
@@ -412,7 +443,7 @@ impl Half {
 }
 
 // Why there is no plan, as why a half doesn't plan.
-fn refusal_of(stop: PlanStop) -> PlanRefusal
+pub(crate) fn refusal_of(stop: PlanStop) -> PlanRefusal
     ensures { result ≡ refusal_of stop }
 {
     match stop {

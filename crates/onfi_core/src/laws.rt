@@ -1,6 +1,8 @@
 //! What events keep, once for all, for whoever makes their steps.
 
 ghost use Rattle.onfi_core.specs.Core.{Headline, OpenedIsReached, StepKeeps, RunKeeps, ReachedKeeps, PostedInOrder};
+ghost use Rattle.onfi_core.specs.Steps.{FinishIsOptimal, PlainIsPlain};
+ghost use Rattle.onfi_core.specs.Times.{LaterLaw, ReadyLaw, ShiftLaw};
 ghost use Rattle.onfi_core.specs.Reaching.{EventsReach, StepReaches, BatchReached, AcceptingReached, PostingReached, PlannedStep, IdleIs, NothingHeld, NextBehind};
 
 /// Whatever list of events happens to an opened core, and whichever batches are set between them, each channel keeps
@@ -79,4 +81,30 @@ pub fn nothing_held()
 /// What was posted to a host, and then the reply that goes out to it, is rightful in what that reply rests on.
 pub fn next_behind()
     ensures { NextBehind }
+{}
+
+/// A plan before whose finish nothing ends is optimal.
+pub fn finish_is_optimal()
+    ensures { FinishIsOptimal }
+{}
+
+/// What an exact planner plans that gives tokens is shown by tokens, which are accepted for its finish.
+pub fn plain_is_plain()
+    ensures { PlainIsPlain }
+{}
+
+/// All starts of a legal schedule later by so much are legal where the bus is free before each of them.
+pub fn later_is_legal()
+    ensures { LaterLaw }
+{}
+
+/// All starts of a legal schedule later by so much are legal where the bus is free later by at most as much, and the
+/// schedule ends at most as much later.
+pub fn shifted_is_legal()
+    ensures { ShiftLaw }
+{}
+
+/// A legal schedule stays legal where the next phase of a running group is ready sooner, and ends no later.
+pub fn ready_is_legal()
+    ensures { ReadyLaw }
 {}

@@ -1,6 +1,6 @@
 //! Several channels, over events.
 
-ghost use Rattle.std.specs.Prelude.{◌≡◌, ℕ, ◌+◌, ◌<◌, ◌≤◌, ◌++◌, ◌↔◌, length, map, None, Some, Option, IfOk, IfSome, OnErr, IsErrOf, MatchOption, slice_get};
+ghost use Rattle.std.specs.Prelude.{◌≡◌, ℕ, ◌+◌, ◌<◌, ◌≤◌, ◌++◌, ◌↔◌, length, map, None, Some, Option, IfOk, IfSome, IsTrue, OnErr, IsErrOf, MatchOption, slice_get};
 ghost use Rattle.std.specs.List.{AllByRecursion as Each};
 ghost use Rattle.onfi_problem.specs.Problem.{has_id};
 ghost use Rattle.onfi_group.specs.Words.{number};
@@ -9,7 +9,8 @@ ghost use Rattle.onfi_die.specs.Order.{IsBeginning};
 ghost use Rattle.onfi_core.specs.Core.{CoreStep, CoreRun, Did};
 ghost use Rattle.onfi_core.specs.Core.Doing.{SetsBatch};
 ghost use Rattle.onfi_core.specs.State.{ChannelState, device_for, wants_from, sent_by, posted_to, collected_by};
-ghost use Rattle.onfi_core.specs.Steps.{IsPlanned};
+ghost use Rattle.onfi_plan.specs.Certificate.{certificate_in};
+ghost use Rattle.onfi_core.specs.Steps.{IsOptimal, IsPlanned, IsPromised};
 ghost use Rattle.onfi_core.specs.Kept.{IsReached, SerialsFrom, times};
 ghost use Rattle.onfi_core.specs.Reaching.{Reaches};
 ghost use Rattle.onfi_core.specs.Queues.{IsFresh, AreOpened, opened_with, state_in, states_in};
@@ -19,29 +20,31 @@ use crate::event::Event;
 use crate::outcome::Outcome;
 use crate::setup::Setup;
 use onfi_chip::Chip;
-use onfi_planner::Planned;
+use onfi_plan::{Plan, Planner};
 use onfi_problem::Problem;
 use std::alloc::{AllocError, Global};
 use std::marker::Model;
 use thiserror::Error;
 
-/// The channels of a setup with their hosts, in one thread.
+/// The channels of a setup with their hosts, in one thread, and what plans their batches.
 ///
 /// Contracts see the setup and, by `states_in`, the state of each channel.
 #[derive(Drop)]
-pub struct Core<C: Chip> {
+pub struct Core<P: Planner, C: Chip> {
     setup: Setup,
+    planner: P,
     channels: Vec<Channel<C>>,
 }
 
-impl<C: Chip> Model for Core<C> {
+impl<P: Planner, C: Chip> Model for Core<P, C> {
     ghost use Rattle.onfi_core.specs.Queues.{CoreView, AreChannels};
+    ghost use Rattle.onfi_core.specs.Steps.{IsPromised};
 
     ghost Value = { CoreView C };
 
     ghost view = { λ c. (c.setup, c.channels.items) };
 
-    ghost invariant = { λ c. AreChannels C.state c.setup c.channels.items };
+    ghost invariant = { λ c. AreChannels C.state (IsPromised P.exact P.certifies) c.setup c.channels.items };
 }
 
 /// Why a core doesn't open, in the order in which it is told.
@@ -55,13 +58,21 @@ pub enum CoreFault {
     Memory,
 }
 
-impl<C: Chip> Core<C> {
-    /// A core of these chips, one for each channel in order: nothing is sent, accepted or planned.
+impl<P: Planner, C: Chip> Core<P, C> {
+    /// A core of these chips, one for each channel in order, whose batches that planner plans: nothing is sent, accepted
+    /// or planned.
     ///
     /// # Errors
-    /// `Chips` exactly where there is not one chip for each channel of the setup; else `Memory`. The chips are dropped.
-    pub fn open(alloc: Global, setup: Setup, chips: Vec<C>) -> Result<Core<C>, CoreFault>
+    /// `Chips` exactly where there is not one chip for each channel of the setup; else `Memory`. Planner and chips are
+    /// dropped.
+    pub fn open(
+        alloc: Global,
+        setup: Setup,
+        planner: P,
+        chips: Vec<C>,
+    ) -> Result<Core<P, C>, CoreFault>
     where
+        P: Drop,
         C: Drop,
         requires { Each (λ chip. IsFresh setup (C.state chip)) chips.items }
         ensures opened { IfOk result (λ core. (core.0 ≡ setup) × (states_in C.state core ≡ map (λ chip. opened_with setup (C.state chip)) chips.items)) }
@@ -71,7 +82,11 @@ impl<C: Chip> Core<C> {
             return Err(CoreFault::Chips);
         }
         match open_channels(alloc, setup, chips) {
-            Ok(channels) => Ok(Core { setup, channels }),
+            Ok(channels) => Ok(Core {
+                setup,
+                planner,
+                channels,
+            }),
             Err(_) => Err(CoreFault::Memory),
         }
     }
@@ -81,6 +96,7 @@ impl<C: Chip> Core<C> {
         ensures step { CoreStep self.old.0 (states_in C.state self.old) event result (states_in C.state self.new) }
         ensures setup { self.new.0 ≡ self.old.0 }
         ensures by_events { Each (Reaches self.new.0) (states_in C.state self.new) }
+        ensures promised { Each (λ c. IfSome c.half.last (IsPromised P.exact P.certifies)) (states_in C.state self.new) }
     {
         self.is_reached();
         let at = usize::from(event.channel());
@@ -88,7 +104,7 @@ impl<C: Chip> Core<C> {
             return Outcome::NoSuch(event.into_request());
         }
         let channel = &mut self.channels[at];
-        channel.step(alloc, event)
+        channel.step(alloc, &self.planner, event)
     }
 
     /// The events one after another, and what each came to.
@@ -107,6 +123,8 @@ impl<C: Chip> Core<C> {
         ensures collected { Each (λ c. (host : ℕ) → IsBeginning (collected_by host c) (posted_to host c)) (states_in C.state self.new) }
         ensures once { Each (λ c. (place : ℕ) → times self.new.0 c.half place ≡ number (has_id place) (wants_from self.new.0.geometry 0 c.half.accepted)) (states_in C.state self.new) }
         ensures last { Each (λ c. IfSome c.half.last IsPlanned) (states_in C.state self.new) }
+        ensures promised { Each (λ c. IfSome c.half.last (IsPromised P.exact P.certifies)) (states_in C.state self.new) }
+        ensures optimal { IsTrue P.exact → Each (λ c. IfSome c.half.last IsOptimal) (states_in C.state self.new) }
     {
         self.is_reached();
         let mut outcomes = Vec::with_capacity(alloc, events.len())?;
@@ -121,15 +139,16 @@ impl<C: Chip> Core<C> {
     fn is_reached(&self)
         ensures by_events { Each (Reaches self.now.0) (states_in C.state self.now) }
         ensures reached { Each (IsReached self.now.0) (states_in C.state self.now) }
+        ensures promised { Each (λ c. IfSome c.half.last (IsPromised P.exact P.certifies)) (states_in C.state self.now) }
     {
         let _setup = self.setup;
     }
 
     /// The problem and the plan of the channel's last accepting planning; none before one.
-    pub fn last(&self, channel: u8) -> Option<(&Problem, &Planned)>
+    pub fn last(&self, channel: u8) -> Option<(&Problem, &Plan)>
         requires { channel < self.now.0.channels }
         ensures { (c : ChannelState) → slice_get (states_in C.state self.now) channel ≡ Some c → MatchOption result (c.half.last ≡ None)
-            (λ r. c.half.last ≡ Some (record { problem = r.0.now.problem; schedule = r.1.now.schedule; finish = r.1.now.finish; cert = r.1.now.cert.items })) }
+            (λ r. c.half.last ≡ Some (record { problem = r.0.now.problem; schedule = r.1.now.schedule; finish = r.1.now.finish; below = r.1.now.below; cert = certificate_in r.1.now.cert })) }
     {
         self.channels[usize::from(channel)].last()
     }

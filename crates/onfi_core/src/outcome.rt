@@ -1,6 +1,6 @@
 use onfi_request::{Reply, Request, RequestFault};
 
-/// What an event came to. The last fourteen are refusals: the state is unchanged, save that a stop cause stays.
+/// What an event came to. The last seventeen are refusals: the state is unchanged, save that a stop cause stays.
 #[derive(Debug, Drop)]
 pub enum Outcome {
     /// The item has this number among those that the host sent to the channel, from 0.
@@ -11,6 +11,10 @@ pub enum Outcome {
     Planned { finish: u64 },
     /// The phase started then, in ns of the channel's clock.
     Phase { start: u64 },
+    /// The bus is free from then on, in ns of the channel's clock.
+    Waited { bus_free: u64 },
+    /// The LUN's first post may start from then on, in ns of the channel's clock.
+    ReadyFrom { ready: u64 },
     /// The reply to the item at this place was posted.
     Posted { place: u64 },
     /// The host has this reply.
@@ -37,11 +41,18 @@ pub enum Outcome {
     SerialsSpent(Request),
     /// 64 accepted items have no posted reply.
     WindowFull,
-    /// No accepted item is unplanned, or the wants not started fill the batch.
+    /// No accepted item is unplanned, or the wants not started fill the batch; and no time passed since the plan was made,
+    /// or no phase of it is left.
     NothingToPlan,
     /// No reply is held for the host.
     NothingToPost,
-    /// There is no such channel or host; a request that was to be submitted comes back.
+    /// The moment, or the last start of what would be left of the plan, is at 2^62 ns or behind.
+    TooLate,
+    /// No array of the LUN works: it is free, or its group is in its commands or in its posts.
+    NotInArray,
+    /// The chip doesn't say that the LUN is ready.
+    StillBusy,
+    /// There is no such channel, host or LUN; a request that was to be submitted comes back.
     NoSuch(Option<Request>),
 }
 

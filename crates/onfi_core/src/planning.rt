@@ -2,12 +2,12 @@ ghost use Rattle.std.specs.Prelude.{◌≡◌, ◌<◌, ◌≤◌, ◌^◌, IfOk
 ghost use Rattle.onfi_problem.specs.Problem.{IsSmall, IsProblem};
 ghost use Rattle.onfi_problem.specs.Kept.{problem_of};
 ghost use Rattle.onfi_problem.specs.Left.{horizon};
-ghost use Rattle.onfi_core.specs.Steps.{IsPlanned};
+ghost use Rattle.onfi_core.specs.Steps.{IsPlanned, IsPromised};
 ghost use Rattle.onfi_core.specs.View.{planning_of, StopsBecause, stop_of};
 
 use crate::batch::Batch;
 use crate::setup::Setup;
-use onfi_planner::{PlanFault, Planned, plan};
+use onfi_plan::{Plan, Planner, PlannerFault};
 use onfi_problem::{LunState, Problem, ProblemFault};
 use onfi_request::Want;
 use onfi_schedule::{Placed, Schedule, Starts};
@@ -33,8 +33,9 @@ pub enum PlanStop {
 }
 
 /// Plans these wants on these LUNs.
-pub fn plan_wants(
+pub fn plan_wants<P: Planner>(
     alloc: Global,
+    planner: &P,
     setup: &Setup,
     bus_free: u64,
     luns: &[LunState],
@@ -44,6 +45,7 @@ pub fn plan_wants(
     requires problem { IsProblem (problem_of setup.now.timing setup.now.rules bus_free luns.now wants.now) }
     ensures problem { IfOk result (λ next. next.batch.problem.problem ≡ problem_of setup.now.timing setup.now.rules bus_free luns.now wants.now) }
     ensures planned { IfOk result (λ next. IsPlanned (planning_of next.batch)) }
+    ensures promised { IfOk result (λ next. IsPromised P.exact P.certifies (planning_of next.batch)) }
     ensures in_time { IfOk result (λ next. horizon (problem_of setup.now.timing setup.now.rules bus_free luns.now wants.now) < 2 ^ 62) }
     ensures rest { IfOk result (λ next. next.rest.items ≡ next.batch.plan.schedule.rest) }
     ensures groups { IfOk result (λ next. next.groups.items ≡ next.batch.plan.schedule.groups) }
@@ -56,7 +58,7 @@ pub fn plan_wants(
         Err(ProblemFault::TooMany) => unreachable!(),
         Err(ProblemFault::BadLun) => unreachable!(),
     };
-    let plan = match plan(alloc, &problem, setup.limit) {
+    let plan = match planner.plan(alloc, &problem, setup.limit) {
         Ok(plan) => plan,
         Err(fault) => return Err(stop_of(fault)),
     };
@@ -64,16 +66,16 @@ pub fn plan_wants(
 }
 
 // Why the planner gave no plan, as why there is none.
-fn stop_of(fault: PlanFault) -> PlanStop
+fn stop_of(fault: PlannerFault) -> PlanStop
     ensures { result ≡ stop_of fault }
 {
     match fault {
-        PlanFault::Over { opened } => PlanStop::Over { opened },
-        PlanFault::Memory => PlanStop::Memory,
+        PlannerFault::Over { opened } => PlanStop::Over { opened },
+        PlannerFault::Memory => PlanStop::Memory,
     }
 }
 
-fn with_starts(alloc: Global, problem: Problem, plan: Planned) -> Result<NextPlan, AllocError>
+fn with_starts(alloc: Global, problem: Problem, plan: Plan) -> Result<NextPlan, AllocError>
     ensures problem { IfOk result (λ next. next.batch.problem ≡ problem) }
     ensures plan { IfOk result (λ next. next.batch.plan ≡ plan) }
     ensures rest { IfOk result (λ next. next.rest.items ≡ plan.schedule.rest) }

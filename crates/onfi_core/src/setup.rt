@@ -1,10 +1,23 @@
 ghost use Rattle.std.specs.Prelude.{◌≡◌, ℕ, ◌≤◌, ◌↔◌, IfOk, IsErrOf};
 ghost use Rattle.onfi_core.specs.Ranges.{IsBetween};
+ghost use Rattle.onfi_core.specs.declared.setup.Choice.TheVariants.{InOrder};
 
 use onfi_addr::Geometry;
 use onfi_group::Rules;
 use onfi_timing::Timing;
 use thiserror::Error;
+
+/// Which of the accepted items that aren't started a planning takes, up to the batch.
+#[derive(Clone, Copy, Debug, Default, PartialEq, Eq)]
+pub enum Choice {
+    /// The wants not started, and behind them the first items that no plan has taken.
+    #[default]
+    InOrder,
+    /// By LUN, the one that comes free first at first: its oldest request and those that can join its group.
+    ByLun,
+    /// By LUN, and of each its oldest read; where it has none its oldest program, else its oldest erase.
+    ReadsFirst,
+}
 
 /// What never changes of a core, and the batch that its channels open with. Each value is in the range that its ghost
 /// fields say.
@@ -28,6 +41,8 @@ pub struct Setup {
     pub post_cap: u16,
     /// How many nodes one planning opens, 1 to 1,048,576.
     pub limit: u32,
+    /// Which wants a plan takes.
+    pub choice: Choice,
     ghost some_channel: { 1 ≤ channels },
     ghost few_channels: { channels ≤ 4 },
     ghost some_host: { 1 ≤ hosts },
@@ -67,7 +82,8 @@ pub enum SetupFault {
 
 impl Setup {
     /// The setup of so many channels with chips of this geometry and timing, so many hosts, a batch of so many wants,
-    /// submission and completion queues of so many places, and so many nodes for one planning.
+    /// submission and completion queues of so many places, and so many nodes for one planning. Items are planned in order;
+    /// [`Setup::with_choice`] changes that.
     ///
     /// # Errors
     /// The first of `Channels`, `Hosts`, `Batch`, `SubmitCap`, `PostCap` and `Limit` whose number is out of range.
@@ -85,6 +101,7 @@ impl Setup {
         ensures device { IfOk result (λ s. (s.geometry ≡ geometry) × (s.timing ≡ timing) × (s.rules ≡ rules)) }
         ensures counts { IfOk result (λ s. (s.channels ≡ channels) × (s.hosts ≡ hosts) × (s.batch ≡ batch)) }
         ensures room { IfOk result (λ s. (s.submit_cap ≡ submit_cap) × (s.post_cap ≡ post_cap) × (s.limit ≡ limit)) }
+        ensures choice { IfOk result (λ s. s.choice ≡ InOrder) }
         ensures channels { IsErrOf result SetupFault.Channels ↔ ¬ IsBetween 1 4 channels }
         ensures hosts { IsErrOf result SetupFault.Hosts ↔ (IsBetween 1 4 channels × ¬ IsBetween 1 4 hosts) }
         ensures batch { IsErrOf result SetupFault.Batch ↔ (IsBetween 1 4 channels × IsBetween 1 4 hosts × ¬ IsBetween 1 8 batch) }
@@ -123,6 +140,16 @@ impl Setup {
             submit_cap,
             post_cap,
             limit,
+            choice: Choice::InOrder,
         })
+    }
+
+    /// The same setup, whose plannings choose so.
+    pub fn with_choice(self, choice: Choice) -> Setup
+        ensures { result ≡ record self { choice = choice } }
+    {
+        let mut setup = self;
+        setup.choice = choice;
+        setup
     }
 }

@@ -10,3 +10,5 @@ pub mod Sound
 pub mod Keeping
 pub mod Walking
 pub mod Placing
+pub mod TextReading
+pub mod WithinFaults

@@ -30,7 +30,7 @@ memory_alone all p s tokens (Sooner at) legal accepted is = absurd (is.1 accepte
 memory_alone all p s tokens (TooMany at) legal accepted is = absurd (is.1 accepted)
 
 -- a text is that of one option and one list of tokens
-one_certificate : (text : List ℕ) (r s : Bool) (ts us : List Token) → IsCertificate text r ts → IsCertificate text s us → (r ≡ s) × (ts ≡ us)
+pub one_certificate : (text : List ℕ) (r s : Bool) (ts us : List Token) → IsCertificate text r ts → IsCertificate text s us → (r ≡ s) × (ts ≡ us)
 one_certificate text r s ts us c d =
     let read = reads text r s (line ts) us c.spelled d in
     (read.0, ap (λ (a : Ahead). a.tokens) (sym (line_read ts c.some c.in_range) ∙ read.1))

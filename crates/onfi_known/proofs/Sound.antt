@@ -31,7 +31,7 @@ use Rattle.onfi_known.specs.declared.known.Known.{Known}
 use Rattle.onfi_known.specs.declared.token.Token.{Token}
 use Rattle.onfi_known.specs.declared.token.Token.TheVariants.{Branch, Bus, Lead, Trail, Die, Yield, End, Window, Again}
 use Rattle.onfi_known.specs.Closing.{Closes, closing_demand}
-use Rattle.onfi_known.specs.Laws.{ProvedLaw}
+use Rattle.onfi_known.specs.Laws.{BelowLaw, ProvedLaw}
 use Rattle.onfi_known.specs.Proves.{Describes, times_of, MayYield, with_yields, Proves, Children, closed, again, opened, none, tree, yielded}
 
 -- what closes a node shows that its demand holds each run
@@ -256,11 +256,11 @@ module _ (e : ℕ) (all : List Want) (timing : Timing) (rules : Rules) where
         let f = sound_children p moves firsts known tokens asks before behind (Yield y.lun ∷ rest) firsts_are o are (λ n h. within n (subst (λ xs. Has xs n) (sym is) (Has-append_left firsts (m ∷ []) n h))) k in
         (subst (λ xs. Facts p moves xs asks (before ++ y ∷ [])) (sym is) (one_yield p moves firsts m asks before y f.0 may), f.1)
 
+pub proved_is_below : BelowLaw
+proved_is_below all p tokens e ip small (d, behind, proves, few) s legal =
+    let r = legal_run p s ip legal in
+    let a = sound e all p.timing p.rules p [] tokens d behind [] proves (record { timing_is = refl; rules_are = refl; problem = ip; small = small }) tt in
+    a.0.holds p (same_self p) ip a.0.meets r.0 (finish p s) r.1
+
 pub proved_is_optimal : ProvedLaw
-proved_is_optimal all p s tokens ip small lg (d, behind, proves, few) = record {
-  legal = lg;
-  least = λ other lg'.
-      let r = legal_run p other ip lg' in
-      let a = sound (finish p s) all p.timing p.rules p [] tokens d behind [] proves (record { timing_is = refl; rules_are = refl; problem = ip; small = small }) tt in
-      a.0.holds p (same_self p) ip a.0.meets r.0 (finish p other) r.1;
-}
+proved_is_optimal all p s tokens ip small legal accepted = record { legal = legal; least = proved_is_below all p tokens (finish p s) ip small accepted }

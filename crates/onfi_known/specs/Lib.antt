@@ -5,3 +5,4 @@ pub mod Text
 pub mod Word
 pub mod Faults
 pub mod Refused
+pub mod Within

@@ -1,8 +1,12 @@
-ghost use Rattle.std.specs.Prelude.{◌≡◌, ◌+◌, ◌<◌, ◌^◌, ◌↔◌, IfOk, IfErr, List, length};
-ghost use Rattle.onfi_schedule.specs.Schedule.{Legal, Optimal, finish};
-ghost use Rattle.onfi_known.specs.Faults.{IsKnownFault, IsTextFault};
+ghost use Rattle.std.specs.Prelude.{◌≡◌, ◌≢◌, ◌+◌, ◌<◌, ◌^◌, ◌↔◌, ℕ, IfOk, IfErr, OnOk, List, [], false, length};
+ghost use Rattle.onfi_schedule.specs.Schedule.{Schedule as AnySchedule, Legal, Optimal, finish};
+ghost use Rattle.onfi_request.specs.declared.want.Want.{Want};
+ghost use Rattle.onfi_known.specs.Faults.{IsKnownFault, IsTextFault, IsTokenFault, OfTokens};
+ghost use Rattle.onfi_known.specs.Laws.{NoneBefore};
 ghost use Rattle.onfi_known.specs.Proves.{ProvesTokens};
 ghost use Rattle.onfi_known.specs.Text.{IsCertificate};
+ghost use Rattle.onfi_known.specs.Within.{IsReading};
+ghost use Rattle.onfi_known.specs.Word.{ahead_of};
 ghost use Rattle.onfi_known.specs.declared.token.Token.{Token as OneToken};
 
 use crate::fault::{KnownFault, KnownTextFault};
@@ -16,6 +20,30 @@ use crate::walk::read_whole;
 use onfi_problem::Problem;
 use onfi_schedule::{Schedule, finish, legal};
 use std::alloc::Global;
+
+/// Reads tokens of a source that are to show that no legal schedule ends before `e` ns.
+pub(crate) fn read_source<S: TokenSource>(
+    alloc: Global,
+    problem: &Problem,
+    e: u64,
+    tokens: &mut Numbered<S>,
+) -> Result<(), KnownFault>
+    requires first { tokens.old.place ≡ 0 }
+    requires few { length (S.left tokens.old.source) < 2 ^ 64 }
+    ensures least { OnOk result (NoneBefore problem.now.problem e) }
+    ensures accepted { OnOk result (ProvesTokens problem.now.all (S.left tokens.old.source) problem.now.problem e) }
+    ensures refused { IfErr result (λ f. OfTokens f (ProvesTokens problem.now.all (S.left tokens.old.source) problem.now.problem e → ⊥)) }
+    ensures kind { IfErr result (IsTokenFault problem.now.all problem.now.problem e (S.left tokens.old.source) []) }
+    ensures behind { S.behind tokens.new.source ≡ S.behind tokens.old.source }
+    ensures counted { tokens.new.place + length (S.left tokens.new.source) ≡ length (S.left tokens.old.source) }
+{
+    let Ok(mut copy) = problem.copy(alloc) else {
+        return Err(KnownFault::Memory);
+    };
+    let mut known = Vec::new(alloc);
+    read_whole(&mut copy, e, tokens, &mut known)?;
+    Ok(())
+}
 
 // Checks a schedule by the tokens of a source.
 fn check_source<S: TokenSource>(
@@ -35,12 +63,8 @@ fn check_source<S: TokenSource>(
     if !legal(problem, schedule) {
         return Err(KnownFault::Illegal);
     }
-    let Ok(mut copy) = problem.copy(alloc) else {
-        return Err(KnownFault::Memory);
-    };
     let e = finish(problem, schedule);
-    let mut known = Vec::new(alloc);
-    read_whole(&mut copy, e, tokens, &mut known)?;
+    read_source(alloc, problem, e, tokens)?;
     Ok(e)
 }
 
@@ -69,6 +93,31 @@ pub fn check_known(
     check_source(alloc, problem, schedule, &mut tokens)
 }
 
+/// Reads a text on to its end behind a check of its tokens: whether it is a certificate with the option of the
+/// problem's rules, where `strict` is that of its header.
+///
+/// # Errors
+/// `BadToken` where it is no certificate, else `Option`, as `check_known_text` tells them.
+pub(crate) fn read_to_end(
+    problem: &Problem,
+    strict: bool,
+    tokens: &mut Numbered<Tokens>,
+) -> Result<(), KnownTextFault>
+    requires few { tokens.old.place + length tokens.old.source.tokens < 2 ^ 64 }
+    ensures ok { OnOk result ((text bytes : List ℕ) → IsReading text strict bytes tokens.old.place tokens.old.source → IsCertificate text problem.now.problem.rules.strict (ahead_of false bytes).tokens) }
+    ensures fault { IfErr result (λ f. (all : List Want) (s : AnySchedule) (text bytes : List ℕ) → IsReading text strict bytes tokens.old.place tokens.old.source → IsTextFault all problem.now.problem s text f) }
+    ensures text { IfErr result (λ f. (fault : KnownFault) → f ≢ KnownTextFault.Cert fault) }
+{
+    tokens.read_on();
+    if !tokens.source.is_at_end() {
+        return Err(KnownTextFault::BadToken(tokens.place));
+    }
+    if strict != problem.rules().strict {
+        return Err(KnownTextFault::Option);
+    }
+    Ok(())
+}
+
 /// The same by the text of a certificate: a fault of the text is told before all others, so behind another fault the
 /// text is read on to its end. No list of tokens is built.
 ///
@@ -93,13 +142,7 @@ pub fn check_known_text(
     };
     let mut tokens = Numbered::of(Tokens::new(bytes));
     let checked = check_source(alloc, problem, schedule, &mut tokens);
-    tokens.read_on();
-    if !tokens.source.is_at_end() {
-        return Err(KnownTextFault::BadToken(tokens.place));
-    }
-    if strict != problem.rules().strict {
-        return Err(KnownTextFault::Option);
-    }
+    read_to_end(problem, strict, &mut tokens)?;
     match checked {
         Ok(e) => Ok(e),
         Err(fault) => Err(KnownTextFault::Cert(fault)),

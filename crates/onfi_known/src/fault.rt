@@ -62,3 +62,27 @@ pub enum KnownTextFault {
     #[error("{0}")]
     Cert(KnownFault),
 }
+
+/// Why tokens don't show that no legal schedule ends before a number, for a schedule that ends then or later.
+#[derive(Clone, Copy, Debug, PartialEq, Eq, Error)]
+pub enum WithinFault {
+    /// The schedule is illegal, the tokens don't show it, or memory was refused. An illegal schedule is told before
+    /// `Above`, all else behind it.
+    #[error("{0}")]
+    Known(KnownFault),
+    /// The schedule ends before the number.
+    #[error("the schedule ends before the number that none is to end before")]
+    Above,
+}
+
+/// Why a text doesn't show it.
+#[derive(Clone, Copy, Debug, PartialEq, Eq, Error)]
+pub enum WithinTextFault {
+    /// The text is no certificate, has another option, or holds tokens that don't show it; or the schedule is illegal,
+    /// or memory was refused. Faults of the text and an illegal schedule are told before `Above`, all else behind it.
+    #[error("{0}")]
+    Known(KnownTextFault),
+    /// The schedule ends before the number.
+    #[error("the schedule ends before the number that none is to end before")]
+    Above,
+}

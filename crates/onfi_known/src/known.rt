@@ -3,7 +3,7 @@
 ghost use Rattle.std.specs.Prelude.{◌≡◌, ◌≤◌, ◌<◌, ◌↔◌, ℕ, IsTrue, length, map, take, []};
 ghost use Rattle.onfi_group.specs.Words.{Pairs};
 ghost use Rattle.onfi_demand.specs.Demand.{Meets};
-ghost use Rattle.onfi_demand.specs.Left.{left_on, Rest};
+ghost use Rattle.onfi_demand.specs.Left.{has_left, left_on, Rest};
 ghost use Rattle.onfi_demand.specs.Work.{left_of};
 ghost use Rattle.onfi_known.specs.Proves.{Describes, times_of};
 
@@ -101,6 +101,14 @@ fn are_left(problem: &Problem, luns: &[LunLeft]) -> bool
     are_alike(luns, own.as_slice())
 }
 
+// Whether a group runs on a LUN or a want waits for it.
+fn is_left(problem: &Problem, lun: u8) -> bool
+    requires { lun < length problem.now.problem.luns }
+    ensures { result ≡ has_left problem.now.problem lun }
+{
+    LunWork::of(problem, lun).is_some()
+}
+
 impl Known {
     /// A node of the problem, with these times.
     pub fn of(problem: &Problem, times: [u64; 8]) -> Known
@@ -133,8 +141,7 @@ impl Known {
         let _limits = problem.bus_free();
         let count = problem.lun_count();
         for lun in 0..count {
-            let work = LunWork::of(problem, lun as u8);
-            if work.is_some() && self.times[lun] > work.go {
+            if self.times[lun] > problem.may_go(lun as u8) && is_left(problem, lun as u8) {
                 return false;
             }
         }

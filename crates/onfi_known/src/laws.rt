@@ -1,20 +1,26 @@
 //! What certificates that remember states show, once for all.
 
-ghost use Rattle.std.specs.Prelude.{◌≡◌, ℕ, List};
+ghost use Rattle.std.specs.Prelude.{◌≡◌, ◌≤◌, ℕ, List};
 ghost use Rattle.onfi_request.specs.declared.want.Want.{Want};
 ghost use Rattle.onfi_problem.specs.Problem.{Problem};
 ghost use Rattle.onfi_schedule.specs.Schedule.{Schedule, Legal, finish};
 ghost use Rattle.onfi_known.specs.declared.token.Token.{Token};
 ghost use Rattle.onfi_known.specs.Faults.{IsKnownFault, IsTextFault};
-ghost use Rattle.onfi_known.specs.Laws.{ProvedLaw};
+ghost use Rattle.onfi_known.specs.Laws.{BelowLaw, ProvedLaw};
 ghost use Rattle.onfi_known.specs.Proves.{ProvesTokens};
 ghost use Rattle.onfi_known.specs.Text.{IsCertificate};
+ghost use Rattle.onfi_known.specs.Within.{IsWithinFault, IsWithinTextFault};
 
-use crate::fault::{KnownFault, KnownTextFault};
+use crate::fault::{KnownFault, KnownTextFault, WithinFault, WithinTextFault};
 
 /// A legal schedule is optimal where tokens are accepted for its finish.
 pub fn proved_is_optimal()
     ensures { ProvedLaw }
+{}
+
+/// No legal schedule ends before a number that tokens are accepted for, whether or not one ends then.
+pub fn proved_is_below()
+    ensures { BelowLaw }
 {}
 
 /// A legal schedule with tokens that are accepted for its finish is refused for no cause but memory, and so is the
@@ -25,4 +31,14 @@ pub fn accepted_is_refused_for_memory_alone()
     ensures text { (all : List Want) (p : Problem) (s : Schedule) (text : List ℕ) (tokens : List Token) (fault : KnownTextFault)
         → IsCertificate text p.rules.strict tokens → Legal p s → ProvesTokens all tokens p (finish p s)
         → IsTextFault all p s text fault → fault ≡ KnownTextFault.Cert KnownFault.Memory }
+{}
+
+/// The same of a number that a legal schedule doesn't end before, with tokens that are accepted for it.
+pub fn accepted_within_is_refused_for_memory_alone()
+    ensures tokens { (all : List Want) (p : Problem) (s : Schedule) (below : ℕ) (tokens : List Token) (fault : WithinFault)
+        → Legal p s → below ≤ finish p s → ProvesTokens all tokens p below → IsWithinFault all p s below tokens fault
+        → fault ≡ WithinFault.Known KnownFault.Memory }
+    ensures text { (all : List Want) (p : Problem) (s : Schedule) (below : ℕ) (text : List ℕ) (tokens : List Token) (fault : WithinTextFault)
+        → IsCertificate text p.rules.strict tokens → Legal p s → below ≤ finish p s → ProvesTokens all tokens p below
+        → IsWithinTextFault all p s below text fault → fault ≡ WithinTextFault.Known (KnownTextFault.Cert KnownFault.Memory) }
 {}

@@ -20,10 +20,11 @@ mod token;
 mod token_list;
 mod tokens;
 mod walk;
+mod within;
 mod word;
 
 pub use checking::{check_known, check_known_text};
-pub use fault::{KnownFault, KnownTextFault};
+pub use fault::{KnownFault, KnownTextFault, WithinFault, WithinTextFault};
 pub use given::Given;
 pub use known::Known;
 pub use source::TokenSource;
@@ -31,3 +32,4 @@ pub use standing::step_behind;
 pub use token::{MOST_KNOWN, Token};
 pub use token_list::TokenList;
 pub use tokens::Tokens;
+pub use within::{check_known_tokens_within, check_known_within};

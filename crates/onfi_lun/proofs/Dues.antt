@@ -1,7 +1,7 @@
 -- The due phase of a half that agrees with its chip may run on a LUN.
 use Rattle.std.proofs.Common.{◌≡◌, ℕ, ◌-◌, ◌<◌, ◌^◌, inl, inr, List, length, Some, take, sym, ap, subst, ◌∙◌, arith}
 use Rattle.std.specs.Prelude.{slice_get, nat_lt, if◌then◌else◌}
-use Rattle.std.proofs.lemmas.List.{length-take-le}
+use Rattle.std.proofs.lemmas.List.{length-map, length-take-le}
 use Rattle.onfi_addr.specs.declared.geometry.Geometry.{Geometry}
 use Rattle.onfi_request.specs.Range.{Fits}
 use Rattle.onfi_request.specs.declared.request.Item.{Item}
@@ -26,27 +26,31 @@ use Rattle.onfi_core.proofs.Lists.{get_has}
 use Rattle.onfi_core.proofs.Members.{place_lun}
 use Rattle.onfi_lun.specs.declared.target.Target.{Target}
 use Rattle.onfi_lun.specs.Lanes.{MayRunDue}
-use Rattle.onfi_lun.proofs.MayAdvance.{length_map}
 
 -- the LUN of a move is that of its group
-group_lun : (p : Problem) → IsProblem p → (move : Move) (g : List Want) (n : ℕ) → IsPhase p move g n → lun_of g ≡ move_lun move
+pub group_lun : (p : Problem) → IsProblem p → (move : Move) (g : List Want) (n : ℕ) → IsPhase p move g n → lun_of g ≡ move_lun move
 group_lun p is (Next l) g n (ready, at) = (is.running l g n ready at).lun
 group_lun p is (Start members) g n (same, none) = ap lun_of (sym same)
 
 -- the chip's LUN took the commands before this one
-taken_before : (s : Setup) (h : HalfState) (chip : Chip) → IsSound s h → ChipAgrees s h chip → (move : Move) → IsMove h.now move → (g : List Want) (n : ℕ) → IsPhase h.now move g n → n < length g → length (taken (slice_get chip.luns (move_lun move))) ≡ n
+taken_before : (s : Setup) (h : HalfState) (chip : Chip) → IsSound s h → ChipAgrees s h chip → (move : Move) → IsMove h.now move → (g : List Want) (n : ℕ)
+    → IsPhase h.now move g n → n < length g → length (taken (slice_get chip.luns (move_lun move))) ≡ n
 taken_before s h chip sound agrees (Next l) m g n (ready, at) lt =
-    let a : LunAgrees (device_for s chip) h.accepted (Some (Running g n ready)) (slice_get chip.luns l) = subst (λ o. LunAgrees (device_for s chip) h.accepted o (slice_get chip.luns l)) at (agrees.luns l) in
+    let a : LunAgrees (device_for s chip) h.accepted (Some (Running g n ready)) (slice_get chip.luns l) =
+    subst (λ o. LunAgrees (device_for s chip) h.accepted o (slice_get chip.luns l)) at (agrees.luns l) in
     elim a [
-      | inl x ↦ ap (λ o. length (taken o)) x.1 ∙ length_map (request_of h.accepted) (take n g) ∙ length-take-le n g (omega (arith, lt))
+      | inl x ↦ ap (λ o. length (taken o)) x.1 ∙ length-map (take n g) (request_of h.accepted) ∙ length-take-le n g (omega (arith, lt))
       | inr x ↦ absurd (let y = x.0 in omega (arith, y, lt))
     ]
 taken_before s h chip sound agrees (Start members) (since, at, st) g n (same, none) lt =
-    let a : LunAgrees (device_for s chip) h.accepted (Some (Free since)) (slice_get chip.luns (lun_of members)) = subst (λ o. LunAgrees (device_for s chip) h.accepted o (slice_get chip.luns (lun_of members))) at (agrees.luns (lun_of members)) in
+    let a : LunAgrees (device_for s chip) h.accepted (Some (Free since)) (slice_get chip.luns (lun_of members)) =
+    subst (λ o. LunAgrees (device_for s chip) h.accepted o (slice_get chip.luns (lun_of members))) at (agrees.luns (lun_of members)) in
     ap (λ o. length (taken o)) a ∙ sym none
 
 -- whoever holds a half and a chip that agree may run what is due
-pub may_run_due : (s : Setup) (target : Target) (h : HalfState) (chip : Chip) → s.geometry ≡ target.geometry → s.timing ≡ target.timing → IsSound s h → ChipAgrees s h chip → (due : Due) → IsDue h due → (m : Want) → member_of due.group due.phase ≡ Some m → (item : Item) → item ≡ item_at h.accepted m.id → due.start < 2 ^ 63
+pub may_run_due : (s : Setup) (target : Target) (h : HalfState) (chip : Chip) → s.geometry ≡ target.geometry → s.timing ≡ target.timing → IsSound s h
+    → ChipAgrees s h chip → (due : Due) → IsDue h due → (m : Want) → member_of due.group due.phase ≡ Some m → (item : Item) → item ≡ item_at h.accepted m.id
+    → due.start < 2 ^ 63
     → MayRunDue target chip due item
 may_run_due s target h chip geometry timing sound agrees due is m at item item_is time =
     let first = first_move_law h.now h.left is.move due.start is.left sound.problem sound.legal is.next in
@@ -58,7 +62,9 @@ may_run_due s target h chip geometry timing sound agrees due is m at item item_i
       of = record { geometry = agrees.geometry ∙ geometry; timing = agrees.timing ∙ timing };
       may_run = subst (λ (x : Geometry). MayRun chip x due item) geometry (may_run s h chip sound agrees due is m at item item_is);
       fits = subst (λ (x : Geometry). Fits x item.request) geometry (subst (λ (x : Item). Fits s.geometry x.request) (sym item_is) (fits_is s h sound m there));
-      lun = ap (λ (x : Item). x.request.place.lun) item_is ∙ place_lun s h m there ∙ All-has (λ (v : Want). v.lun ≡ lun_of due.group) due.group m ready.group.lun has ∙ here;
-      before = λ lt. ap (λ l. length (taken (slice_get chip.luns l))) is.lun_is ∙ taken_before s h chip sound agrees is.move first.is_move due.group due.phase is.is lt;
+      lun = ap (λ (x : Item). x.request.place.lun) item_is ∙ place_lun s h m there ∙ All-has (λ (v : Want). v.lun ≡ lun_of due.group) due.group m
+          ready.group.lun has ∙ here;
+      before = λ lt. ap (λ l. length (taken (slice_get chip.luns l))) is.lun_is ∙ taken_before s h chip sound agrees is.move first.is_move due.group due.phase
+          is.is lt;
       time = time;
     }

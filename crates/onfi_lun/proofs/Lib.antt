@@ -1,13 +1,6 @@
 pub mod Phases
-pub mod Choosing
-pub mod Turns
-pub mod MayAdvance
-pub mod Driving
-pub mod Steps
-pub mod Running
-pub mod Beginning
-pub mod Opening
-pub mod Order
-pub mod Posts
 pub mod LunMoves
 pub mod Dues
+pub mod Steps
+pub mod Order
+pub mod Opening

@@ -32,7 +32,11 @@ use Rattle.onfi_lun.specs.declared.target.Target.{Target}
 use Rattle.onfi_lun.specs.Phases.{IsOf, IsDue, IsQueuing, IsCommanded, IsPosted, OthersStay}
 use Rattle.onfi_lun.specs.Lanes.{IsThere, LanesAgree, AreIdle, IsIdleAt, MayRunDue, OthersKept, IsPostOf, IsRipe, number_in, left_in, ready_in, behind_command, behind_post}
 use Rattle.onfi_lun.proofs.Phases.{same_posts}
-use Rattle.onfi_lun.proofs.Driving.{set_twice}
+
+set_twice : {A : Type 0} (xs : List A) (i : ℕ) (a b : A) → slice_set (slice_set xs i a) i b ≡ slice_set xs i b
+set_twice [] i a b = refl
+set_twice (x ∷ xs) zero a b = refl
+set_twice (x ∷ xs) (suc i) a b = ap (λ ys. x ∷ ys) (set_twice xs i a b)
 
 -- A row names one place, and one post comes next there
 

@@ -128,18 +128,9 @@ device_kept closer.Last target old new r now of done = record { geometry = ap (�
 pub same_posts : (o : Option Lun) (ps qs : List Post) (t u : ℕ) → o ≡ Some (Posting ps t) → o ≡ Some (Posting qs u) → (ps ≡ qs) × (t ≡ u)
 same_posts o ps qs t u e f = (cc, cc)
 
-pub same_commands : (o : Option Lun) (ps qs : List Request) (t u : ℕ) → o ≡ Some (Commanding ps t) → o ≡ Some (Commanding qs u) → (ps ≡ qs) × (t ≡ u)
-same_commands o ps qs t u e f = (cc, cc)
-
 -- behind the last command
 pub launched_at : (old new : Chip) (r : Request) (now : ℕ) (y : Lun) → HasDone (command_of closer.Last old r now) new → slice_get old.luns r.place.lun ≡ Some y →
     slice_get new.luns r.place.lun ≡ Some (Posting (posts_of (device_in old) (taken (Some y) ++ r ∷ []) old.blocks) (now + (spans_for old r).cmd + (spans_for old r).array))
 launched_at old new r now y done there =
     ap (λ (x : Chip). slice_get x.luns r.place.lun) done.state ∙ get_set_same old.luns r.place.lun y _ there
     ∙ ap (λ o. Some (Posting (posts_of (device_in old) (taken o ++ r ∷ []) old.blocks) (now + (spans_for old r).cmd + (spans_for old r).array))) there
-
-pub queued_at : (old new : Chip) (r : Request) (now : ℕ) (y : Lun) → HasDone (command_of closer.More old r now) new → slice_get old.luns r.place.lun ≡ Some y →
-    slice_get new.luns r.place.lun ≡ Some (Commanding (taken (Some y) ++ r ∷ []) (now + (spans_for old r).cmd + (spans_for old r).gap))
-queued_at old new r now y done there =
-    ap (λ (x : Chip). slice_get x.luns r.place.lun) done.state ∙ get_set_same old.luns r.place.lun y _ there
-    ∙ ap (λ o. Some (Commanding (taken o ++ r ∷ []) (now + (spans_for old r).cmd + (spans_for old r).gap))) there

@@ -1,203 +1,161 @@
--- Steps of a drive.
-use Rattle.std.proofs.Common.{◌≡◌, ℕ, zero, suc, ◌+◌, ◌*◌, ◌-◌, ◌<◌, ◌≤◌, ◌^◌, inl, inr, List, [], ◌∷◌, ◌++◌, length, Option, Some, None, map, take, drop, get_or, sym, ap, subst, ◌∙◌, arith}
-use Rattle.std.specs.Prelude.{slice_get, slice_set, max}
-use Rattle.std.specs.List.{AllByRecursion as All}
-use Rattle.std.proofs.lemmas.List.{length-take-le}
-use Rattle.onfi_request.specs.declared.want.Want.{Want}
+-- A phase of a batch, and what it leaves.
+use Rattle.std.proofs.Common.{◌≡◌, ℕ, zero, suc, ◌-◌, ◌<◌, ◌≤◌, inl, inr, List, [], ◌∷◌, length, Some, get_or, refl, sym, ap, subst, ◌∙◌, arith}
+use Rattle.std.specs.Prelude.{slice_get}
+use Rattle.std.proofs.lemmas.Bool.{le-ltb}
+use Rattle.onfi_timing.specs.declared.kind.Kind.TheVariants.{Read}
+use Rattle.onfi_request.specs.declared.answer.Answer.{Answer}
+use Rattle.onfi_request.specs.declared.basis.Basis.{Basis}
+use Rattle.onfi_request.specs.declared.fault.Fault.{Fault}
 use Rattle.onfi_request.specs.declared.request.Item.{Item}
 use Rattle.onfi_request.specs.declared.reply.Reply.{Reply}
-use Rattle.onfi_chip.specs.declared.post.Post.{Post}
-use Rattle.onfi_chip.specs.Chip.{Chip}
-use Rattle.onfi_chip.specs.Chip.Lun.{Commanding, Posting}
+use Rattle.onfi_request.specs.declared.want.Want.{Want}
+use Rattle.onfi_die.specs.Shapes.{device_of}
+use Rattle.onfi_chip.specs.Calls.{AreNoFewer, HasDone}
+use Rattle.onfi_chip.specs.Chip.{Chip, Failures}
+use Rattle.onfi_group.specs.Group.{lun_of}
 use Rattle.onfi_group.specs.Words.{total}
-use Rattle.onfi_problem.specs.declared.lun_state.LunState.TheVariants.{Running}
-use Rattle.onfi_problem.specs.Problem.{Problem}
-use Rattle.onfi_problem.specs.Moves.{Next, placed, next_ran, ran}
-use Rattle.onfi_problem.proofs.Places.{same_some}
+use Rattle.onfi_problem.proofs.Perm.{All-has}
+use Rattle.onfi_problem.proofs.Places.{get_within}
 use Rattle.onfi_problem.proofs.Totals.{total_set}
-use Rattle.onfi_schedule.specs.Schedule.{Placed}
-use Rattle.onfi_schedule.specs.Laws.{ComesNext, IsFirstMove}
-use Rattle.onfi_schedule.proofs.Following.{first_move_law, next_law, done_law}
-use Rattle.onfi_lun.specs.declared.batch.lane.Stage.{Stage}
-use Rattle.onfi_lun.specs.declared.batch.lane.Stage.TheVariants as stage
-use Rattle.onfi_lun.specs.declared.batch.lane.Running.{Running as Run}
-use Rattle.onfi_lun.specs.declared.batch.lane.Lane.{Lane}
-use Rattle.onfi_lun.specs.declared.batch.lane.Lane.TheVariants as lane
-use Rattle.onfi_lun.specs.declared.batch.drive.Drive.{Drive}
-use Rattle.onfi_lun.specs.declared.batch.turn.Turn.TheVariants as turn
-use Rattle.onfi_lun.specs.declared.target.Target.{Target}
-use Rattle.onfi_lun.specs.Phases.{IsOf}
-use Rattle.onfi_core.specs.State.{device_for, request_of}
-use Rattle.onfi_core.specs.Kept.{IsTaken, LunAgrees, post_for}
-use Rattle.onfi_lun.specs.Drive.{starts_left, left_of, half_of, lane_start, IsLeast, IsDriven, LaneIs, StageIs, CanCommand, CanPost, CanAdvance, HasCommanded, HasPosted, LaneBehind, HasAdvanced, with_reply, steps_left}
-use Rattle.onfi_lun.proofs.Turns.{first_is, map_get, lane_comes_next}
-use Rattle.onfi_lun.proofs.MayAdvance.{length_map, can_go_on, can_post}
-use Rattle.onfi_lun.proofs.Driving.{command_driven, post_driven}
+use Rattle.onfi_problem.proofs.Wants.{total-append}
+use Rattle.onfi_problem.specs.Moves.{Move, Next, Start, move_lun}
+use Rattle.onfi_schedule.specs.Laws.{Begins}
+use Rattle.onfi_schedule.specs.Schedule.{Placed, Schedule}
+use Rattle.onfi_core.specs.declared.drive.DriveFault.{DriveFault}
+use Rattle.onfi_core.specs.declared.drive.DriveFault.TheVariants as drive
+use Rattle.onfi_core.specs.declared.due.Due.{Due}
+use Rattle.onfi_core.specs.declared.phase_result.PhaseResult.{PhaseResult}
+use Rattle.onfi_core.specs.declared.phase_result.PhaseResult.TheVariants as ran
+use Rattle.onfi_core.specs.declared.setup.Setup.{Setup}
+use Rattle.onfi_core.specs.Drive.{HasRun, AfterDrive, IsStatus}
+use Rattle.onfi_core.specs.Dues.{IsDue, after_due, member_of, replies_of}
+use Rattle.onfi_core.specs.Kept.{IsHalf, IsSound, IsTaken, ChipAgrees}
+use Rattle.onfi_core.specs.State.{HalfState, device_for, item_at, no_item}
+use Rattle.onfi_core.specs.Steps.{RunsOnChip, half_after_phase}
+use Rattle.onfi_core.proofs.Bus.{AfterPhase, after_move}
+use Rattle.onfi_core.proofs.Done.{after_due_is, goes, lun_there}
+use Rattle.onfi_core.proofs.Driving.{asks_status, ran_on_chip}
+use Rattle.onfi_core.proofs.Lists.{get_has, index_get}
+use Rattle.onfi_lun.specs.Batch.{AfterBatchFault, KeptSince, fault_of}
+use Rattle.onfi_lun.specs.Flight.{GoesOn, IsFaultOf, steps_left}
 
 pub get_of_or : {A : Type 0} (xs : List A) (i : ℕ) (v d : A) → i < length xs → v ≡ get_or xs i d → slice_get xs i ≡ Some v
 get_of_or [] i v d lt e = absurd (omega arith)
 get_of_or (x ∷ xs) zero v d lt e = ap Some (sym e)
 get_of_or (x ∷ xs) (suc i) v d lt e = get_of_or xs i v d (omega arith) e
 
--- Where a group runs
+-- Reading
 
-pub record RunsAt (target : Target) (accepted : List Item) (chip : Chip) (drive : Drive) (replies : List Reply) (driven : IsDriven target accepted chip drive replies) (l start : ℕ) (running : Run) : Type 0 where
-  pub ready : ℕ
-  pub state : slice_get driven.now.luns l ≡ Some (Running running.placed.members running.next ready)
-  pub stage_is : StageIs l (length running.placed.members) running.next ready running.stage
-  pub rest : List ℕ
-  pub rest_is : drop running.next running.placed.starts ≡ start ∷ rest
-  pub over : ready ≤ start
-  pub comes : ComesNext driven.now (left_of drive) (Next l) start (record { rest = slice_set (map starts_left drive.lanes.items) l rest; groups = drive.waiting.items })
-  pub first : IsFirstMove driven.now (left_of drive) (Next l) start (record { rest = slice_set (map starts_left drive.lanes.items) l rest; groups = drive.waiting.items })
+-- what a read of a list of wants gives where nothing stands
+abbrev pub no_want : Want
+no_want = record { id = 0; kind = Read; lun = 0; plane = 0; block = 0; page = 0 }
 
-module _ (target : Target) (accepted : List Item) (chip : Chip) (drive : Drive) (replies : List Reply) (driven : IsDriven target accepted chip drive replies) (l start : ℕ) (running : Run) (at : slice_get drive.lanes.items l ≡ Some (lane.Busy running)) (least : IsLeast drive (turn.Next l start)) where
-  starts_there : (rest : List ℕ) × (drop running.next running.placed.starts ≡ start ∷ rest)
-  starts_there =
-      let e : lane_start (lane.Busy running) ≡ Some start = ap lane_start (same_some (lane.Busy running) least.is.0 (slice_get drive.lanes.items l) at least.is.1) ∙ least.is.2 in
-      first_is (drop running.next running.placed.starts) start e
+pub item_read : (items : List Item) (i : ℕ) (v d : Item) → i < length items → v ≡ get_or items i d → v ≡ item_at items i
+item_read items i v d lt e = sym (index_get items i v no_item (get_of_or items i v d lt e))
 
-  comes_next : ComesNext driven.now (left_of drive) (Next l) start (record { rest = slice_set (map starts_left drive.lanes.items) l starts_there.0; groups = drive.waiting.items })
-  comes_next = lane_comes_next next_law done_law driven.now drive driven.half.sound.problem driven.half.sound.legal l start (lane.Busy running) starts_there.0 at starts_there.1 least
+-- each member of the due group was taken in
+pub taken_is : (s : Setup) (h : HalfState) (due : Due) → IsSound s h → IsDue h due → (i : ℕ) (m : Want) → slice_get due.group i ≡ Some m
+    → IsTaken s h.planned h.accepted m
+taken_is s h due sound is i m at = All-has (IsTaken s h.planned h.accepted) due.group m (goes s h due sound is).1.members (get_has due.group i m at)
 
-  first_there : IsFirstMove driven.now (left_of drive) (Next l) start (record { rest = slice_set (map starts_left drive.lanes.items) l starts_there.0; groups = drive.waiting.items })
-  first_there = first_move_law driven.now (left_of drive) (Next l) start _ driven.half.sound.problem driven.half.sound.legal comes_next
+-- a reply of these parts is that to the member
+pub reply_is : (accepted : List Item) (faults : List Fault) (due : Due) (given : PhaseResult) (answer : Answer) (place : ℕ) (item : Item) (basis : Basis)
+    → (m : Want) → given ≡ ran.Post answer → length due.group ≤ due.phase → member_of due.group due.phase ≡ Some m → place ≡ m.id
+    → item ≡ item_at accepted m.id → basis.accepted ≡ accepted → basis.faults ≡ faults
+    → (let r : Reply = record { host = item.host; serial = item.serial; place = place; answer = answer; basis = basis } in r) ∷ []
+    ≡ replies_of accepted faults due given
+reply_is accepted faults due given answer place item basis m eg le at ep ei ea ef =
+    let there : slice_get due.group (due.phase - length due.group) ≡ Some m = rw (le-ltb due.phase (length due.group) le) at at in
+    let b : basis ≡ record { accepted = accepted; faults = faults } = ap (λ xs. let z : Basis = record { accepted = xs; faults = basis.faults } in z) ea
+    ∙ ap (λ fs. let z : Basis = record { accepted = accepted; faults = fs } in z) ef in
+    rw (eg, there, ep, ei, b) refl
 
-  pub runs_at : RunsAt target accepted chip drive replies driven l start running
-  runs_at =
-      let move = first_there.is_move in
-      let is : LaneIs l (Some (Running move.0 move.1 move.2)) (Some (lane.Busy running)) = subst (λ o. LaneIs l o (Some (lane.Busy running))) move.3 (subst (LaneIs l (slice_get driven.now.luns l)) at (driven.lanes l)) in
-      let state : slice_get driven.now.luns l ≡ Some (Running running.placed.members running.next move.2) = move.3 ∙ ap (λ g. Some (Running g move.1 move.2)) (sym is.0) ∙ ap (λ n. Some (Running running.placed.members n move.2)) (sym is.1) in
-      let on_time : max driven.now.bus_free move.2 ≤ start = rw move.3 at first_there.on_time in
-      record {
-        ready = move.2;
-        state = state;
-        stage_is = subst (λ n. StageIs l (length running.placed.members) n move.2 running.stage) (sym is.1) (subst (λ g. StageIs l (length g) move.1 move.2 running.stage) (sym is.0) is.2);
-        rest = starts_there.0;
-        rest_is = starts_there.1;
-        over = omega arith;
-        comes = comes_next;
-        first = first_there;
-      }
+-- What is known of the chip
 
--- the next phase may run
-module _ (target : Target) (accepted : List Item) (chip : Chip) (drive : Drive) (replies : List Reply) (driven : IsDriven target accepted chip drive replies) (l start : ℕ) (running : Run) (at : RunsAt target accepted chip drive replies driven l start running) (time : start < 2 ^ 63) where
-  of : IsOf target chip
-  of = record { geometry = driven.agrees.geometry ∙ driven.geometry; timing = driven.agrees.timing ∙ driven.timing }
+pub kept_on : (first old new : Chip) → KeptSince first old → KeptSince old new → KeptSince first new
+kept_on first old new a b = record { faults = b.faults ∙ a.faults; failures = no_fewer first.failures old.failures new.failures a.failures b.failures }
+  where
+    no_fewer : (first old new : Failures) → AreNoFewer first old → AreNoFewer old new → AreNoFewer first new
+    no_fewer first old new a b =
+        let bus = a.bus in
+        let bus' = b.bus in
+        let unready = a.unready in
+        let unready' = b.unready in
+        record { bus = omega (arith, bus, bus'); unready = omega (arith, unready, unready') }
 
-  members : All (IsTaken driven.setup (length accepted) accepted) running.placed.members
-  members = driven.half.sound.running l running.placed.members running.next at.ready at.state
+pub kept_same : (old new : Chip) → new ≡ old → KeptSince old new
+kept_same old new e = subst (KeptSince old) (sym e) (record { faults = refl; failures = record { bus = omega arith; unready = omega arith } })
 
-  chip_lun : LunAgrees (device_for driven.setup chip) accepted (Some (Running running.placed.members running.next at.ready)) (slice_get chip.luns l)
-  chip_lun = subst (λ o. LunAgrees (device_for driven.setup chip) accepted o (slice_get chip.luns l)) at.state (driven.agrees.luns l)
+done_keeps : (chip after chip' : Chip) → after.faults ≡ chip.faults → after.failures ≡ chip.failures → HasDone after chip' → KeptSince chip chip'
+done_keeps chip after chip' faults failures done = record {
+  faults = ap (λ (x : Chip). x.faults) done.state ∙ faults;
+  failures = subst (λ f. AreNoFewer f chip'.failures) failures done.count;
+}
 
-  commands_there : running.next < length running.placed.members → slice_get chip.luns l ≡ Some (Commanding (map (request_of accepted) (take running.next running.placed.members)) at.ready)
-  commands_there lt = elim chip_lun [ inl x ↦ x.1 | inr x ↦ absurd (let y = x.0 in omega arith) ]
+pub kept_by : (h h' : HalfState) (chip chip' : Chip) (due : Due) → GoesOn h chip due h' chip' → KeptSince chip chip'
+kept_by h h' chip chip' due (replies, inl (inl c, none), after) = done_keeps chip _ chip' refl refl c.done
+kept_by h h' chip chip' due (replies, inl (inr c, none), after) = done_keeps chip _ chip' refl refl c.done
+kept_by h h' chip chip' due (replies, inr (member, answer, c, one), after) = done_keeps chip _ chip' refl refl c.done
 
-  posts_there : length running.placed.members ≤ running.next → slice_get chip.luns l ≡ Some (Posting (map (post_for (device_for driven.setup chip) accepted) (drop (running.next - length running.placed.members) running.placed.members)) at.ready)
-  posts_there le = elim chip_lun [ inl x ↦ absurd (let y = x.0 in omega arith) | inr x ↦ x.1 ]
+-- of a phase that wasn't run
+pub lost_by : (fault : DriveFault) (lun : ℕ) (chip chip' : Chip) → AfterDrive fault chip chip' → AfterBatchFault (fault_of fault lun) chip chip'
+lost_by drive.Bus lun chip chip' lost = lost
+lost_by drive.NotReady lun chip chip' lost = lost
+lost_by drive.Memory lun chip chip' same = kept_same chip chip' same
 
-  posts_next : (left : ℕ) → length running.placed.members ≤ running.next → running.next + left ≡ 2 * length running.placed.members → (m : Want) × (post : Post) × (others : List Post) × CanPost target accepted chip l at.ready left running.placed.members running.next start m post others
-  posts_next left le count =
-      let r = driven.half.sound.problem.running l running.placed.members running.next at.ready at.state in
-      can_post target chip driven.setup (half_of accepted driven.now (left_of drive) replies) driven.geometry of driven.half.sound l start running.placed.members r.group members r.lun time running.next at.ready left le r.unfinished at.over count (posts_there le)
+-- The due phase runs
 
-  by_stage : (s : Stage) → StageIs l (length running.placed.members) running.next at.ready s → CanAdvance target accepted chip running start s
-  by_stage (stage.Queuing lun) is =
-      let r = driven.half.sound.problem.running l running.placed.members running.next at.ready at.state in
-      let there = commands_there is.3 in
-      let can = can_go_on target chip driven.setup (half_of accepted driven.now (left_of drive) replies) driven.geometry of driven.half.sound l start running.placed.members r.group members r.lun time running.next at.ready is.3 at.over there in (
-        sym is.2,
-        (
-          map (request_of accepted) (take running.next running.placed.members),
-          record {
-            there = subst (λ n. slice_get chip.luns n ≡ Some (Commanding (map (request_of accepted) (take running.next running.placed.members)) lun.state.ready)) (sym is.0) (there ∙ ap (λ t. Some (Commanding (map (request_of accepted) (take running.next running.placed.members)) t)) (sym is.1));
-            count = is.2 ∙ sym (length_map (request_of accepted) (take running.next running.placed.members) ∙ length-take-le running.next running.placed.members (let z = is.3 in omega arith));
-          },
-        ),
-        (can.0, subst (λ n. CanCommand target accepted chip n running.placed.members running.next start can.0) (sym is.0) can.1),
+module _ (s : Setup) (h : HalfState) (chip : Chip) (half : IsHalf s (device_for s chip) h) (agrees : ChipAgrees s h chip) (due : Due) (is : IsDue h due) where
+  after_run : (chip' : Chip) (replies : List Reply) → RunsOnChip h.accepted due.group due.phase due.start chip chip' replies
+      → AfterPhase s chip (half_after_phase h is.move due.start is.left replies) chip'
+  after_run chip' replies on = after_move s h chip half agrees is.move due.start is.left is.next due.group due.phase is.is chip' replies on
+
+  -- the half and the chip agree behind it
+  pub agree_behind : (h' : HalfState) (chip' : Chip) → GoesOn h chip due h' chip' → IsHalf s (device_for s chip') h' × ChipAgrees s h' chip'
+  agree_behind h' chip' (replies, on, after) =
+      let a = after_run chip' replies on in
+      let e : half_after_phase h is.move due.start is.left replies ≡ h' = sym (after ∙ after_due_is h due is replies) in (
+        subst (λ d. IsHalf s d h') (sym (ap (device_of s.geometry) a.0)) (subst (IsHalf s (device_for s chip)) e a.1),
+        subst (λ (x : HalfState). ChipAgrees s x chip') e a.2,
       )
-  by_stage (stage.Working lun) is =
-      let can = posts_next lun.state.members (let e = is.3 in omega arith) (let e = is.3 in let f = is.2 in omega arith) in
-      (can.0, can.1, can.2, subst (λ n. CanPost target accepted chip n lun.state.ready lun.state.members running.placed.members running.next start can.0 can.1 can.2) (sym is.0) (subst (λ t. CanPost target accepted chip l t lun.state.members running.placed.members running.next start can.0 can.1 can.2) (sym is.1) can.3))
-  by_stage (stage.Posting lun) is =
-      let can = posts_next lun.state.left is.3 is.2 in
-      (can.0, can.1, can.2, subst (λ n. CanPost target accepted chip n lun.state.ready lun.state.left running.placed.members running.next start can.0 can.1 can.2) (sym is.0) (subst (λ t. CanPost target accepted chip l t lun.state.left running.placed.members running.next start can.0 can.1 can.2) (sym is.1) can.3))
 
-  pub can_advance : CanAdvance target accepted chip running start running.stage
-  can_advance = by_stage running.stage at.stage_is
+  module _ (item : Item) (m : Want) (at : member_of due.group due.phase ≡ Some m) (item_is : item ≡ item_at h.accepted m.id) where
+    pub goes_on : (h' : HalfState) (chip' : Chip) (given : PhaseResult) → HasRun chip s.geometry due item given chip'
+        → h' ≡ after_due h due (replies_of h.accepted chip'.faults due given) → GoesOn h chip due h' chip'
+    goes_on h' chip' given has_run after =
+        let on = ran_on_chip s h chip half.sound agrees due is m at item item_is chip' given has_run in
+        (replies_of h.accepted chip.faults due given, on, after ∙ ap (λ fs. after_due h due (replies_of h.accepted fs due given)) (after_run chip' _ on).0)
 
--- Behind a phase
+    pub fault_is : (fault : DriveFault) (lun : ℕ) → lun ≡ due.lun → (fault ≡ drive.NotReady → IsStatus due item) → IsFaultOf h (fault_of fault lun)
+    fault_is drive.Bus lun e status = tt
+    fault_is drive.NotReady lun e status =
+        let asks = asks_status s h chip half.sound agrees due is m at item item_is (status refl) in
+        (is.move, due.start, is.left, is.next, sym (e ∙ is.lun_is), asks)
+    fault_is drive.Memory lun e status = tt
 
-pub drop_tail : {A : Type 0} (n : ℕ) (xs : List A) (y : A) (ys : List A) → drop n xs ≡ y ∷ ys → drop (n + 1) xs ≡ ys
-drop_tail zero [] y ys h = absurd (let e : [] ≡ y ∷ ys = h in cc)
-drop_tail zero (x ∷ xs) y ys h = cc
-drop_tail (suc n) [] y ys h = absurd (let e : [] ≡ y ∷ ys = h in cc)
-drop_tail (suc n) (x ∷ xs) y ys h = let e : suc n + 1 ≡ suc (n + 1) = omega arith in rw e (drop_tail n xs y ys h)
+-- One phase less is left
 
--- the next phase of a group that runs ran
-module _ (target : Target) (accepted : List Item) (old new : Chip) (drive : Drive) (replies : List Reply) (driven : IsDriven target accepted old drive replies) (l start : ℕ) (running : Run) (lane_there : slice_get drive.lanes.items l ≡ Some (lane.Busy running)) (at : RunsAt target accepted old drive replies driven l start running)
-    (drive' : Drive) (lane' : Lane) (lanes_are : drive'.lanes.items ≡ slice_set drive.lanes.items l lane') (waiting_are : drive'.waiting.items ≡ drive.waiting.items) where
-  ran_is : placed driven.now (Next l) start ≡ ran driven.now l running.placed.members running.next start
-  ran_is = ap (λ o. next_ran driven.now l o start) at.state
+begins_fewer : (s : Schedule) (move : Move) (start : ℕ) (left : Schedule) → move_lun move < length s.rest → Begins s move start left
+    → steps_left left < steps_left s
+begins_fewer s (Next lun) start left low (starts, at, is) =
+    let a = total_set (λ (us : List ℕ). length us) s.rest lun (start ∷ starts) starts at in
+    let b = ap steps_left is in
+    omega (arith, a, b)
+begins_fewer s (Start group) start left low (starts, before, behind, are, is) =
+    let g : Placed = record { members = group; starts = start ∷ starts } in
+    let there = get_within s.rest (lun_of group) low in
+    let a = total_set (λ (us : List ℕ). length us) s.rest (lun_of group) there.0 starts there.1 in
+    let b = ap steps_left is in
+    let c = ap (total (λ (x : Placed). length x.starts)) are in
+    let d = total-append (λ (x : Placed). length x.starts) before (g ∷ behind) in
+    let e = total-append (λ (x : Placed). length x.starts) before behind in
+    omega (arith, a, b, c, d, e)
 
-  rests : running.next + length (start ∷ at.rest) ≡ 2 * length running.placed.members
-  rests = driven.half.sound.legal.shape.rest l running.placed.members running.next at.ready (start ∷ at.rest) at.state (map_get starts_left drive.lanes.items l (lane.Busy running) lane_there ∙ ap Some at.rest_is)
-
-  posted : (left : ℕ) (r : Reply) → length running.placed.members ≤ running.next → running.next + left ≡ 2 * length running.placed.members → HasPosted target accepted l left running.placed running.next start old new lane' r → IsDriven target accepted new drive' (replies ++ r ∷ [])
-  posted left r le count h =
-      let runs = driven.half.sound.problem.running l running.placed.members running.next at.ready at.state in
-      post_driven target accepted old new drive replies driven l running.placed running.next start (Next l) (at.ready, at.state) runs.lun runs.group (driven.half.sound.running l running.placed.members running.next at.ready at.state) _ at.state (ap (λ (p : Problem). p.luns) ran_is)
-      at.rest drive.waiting.items at.comes (drop_tail running.next running.placed.starts start at.rest at.rest_is) drive' (lane.Busy running) lane_there waiting_are lane' left r lanes_are le count (omega (arith, rests, count)) h
-
-  by_reply : (s : Stage) (reply : Option Reply) → StageIs l (length running.placed.members) running.next at.ready s → HasAdvanced target accepted running start old new s lane' reply → IsDriven target accepted new drive' (with_reply replies reply)
-  by_reply (stage.Queuing lun) None is h =
-      let r = driven.half.sound.problem.running l running.placed.members running.next at.ready at.state in
-      command_driven target accepted old new drive replies driven l running.placed running.next start (Next l) (at.ready, at.state) r.lun r.group (driven.half.sound.running l running.placed.members running.next at.ready at.state) _ at.state (ap (λ (p : Problem). p.luns) ran_is)
-      at.rest drive.waiting.items at.comes (drop_tail running.next running.placed.starts start at.rest at.rest_is) drive' (lane.Busy running) lane_there waiting_are lane' lanes_are
-      (subst (λ i. HasCommanded target accepted i running.placed running.next start old new lane') is.0 h)
-  by_reply (stage.Queuing lun) (Some r) is h = absurd h
-  by_reply (stage.Working lun) None is h = absurd h
-  by_reply (stage.Working lun) (Some r) is h =
-      let e = is.2 in
-      let f = is.3 in
-      posted lun.state.members r (omega arith) (omega arith) (subst (λ i. HasPosted target accepted i lun.state.members running.placed running.next start old new lane' r) is.0 h)
-  by_reply (stage.Posting lun) None is h = absurd h
-  by_reply (stage.Posting lun) (Some r) is h = posted lun.state.left r is.3 is.2 (subst (λ i. HasPosted target accepted i lun.state.left running.placed running.next start old new lane' r) is.0 h)
-
-  pub ran_driven : (reply : Option Reply) → HasAdvanced target accepted running start old new running.stage lane' reply → IsDriven target accepted new drive' (with_reply replies reply)
-  ran_driven reply h = by_reply running.stage reply at.stage_is h
-
-  behind_left : (run : Run) → run.placed ≡ running.placed → run.next ≡ running.next + 1 → length (starts_left (lane.Busy run)) ≤ length at.rest
-  behind_left run e f =
-      let q : drop run.next run.placed.starts ≡ at.rest = ap (λ (p : Placed). drop run.next p.starts) e ∙ ap (λ i. drop i running.placed.starts) f ∙ drop_tail running.next running.placed.starts start at.rest at.rest_is in
-      let n : length (drop run.next run.placed.starts) ≡ length at.rest = ap length q in
-      omega (arith, n)
-
-  posted_left : (x : Lane) (number left t : ℕ) → LaneBehind running.placed running.next number left t x → length (starts_left x) ≤ length at.rest
-  posted_left (lane.Free idle) number left t h = omega arith
-  posted_left lane.Moving number left t h = absurd h
-  posted_left (lane.Busy run) number left t h = behind_left run h.0 h.1
-
-  -- one phase less is left
-  lane_left : (s : Stage) (reply : Option Reply) → HasAdvanced target accepted running start old new s lane' reply → length (starts_left lane') ≤ length at.rest
-  lane_left (stage.Queuing lun) None h = commanded_left lane' h
-    where
-      commanded_left : (x : Lane) → HasCommanded target accepted lun.number running.placed running.next start old new x → length (starts_left x) ≤ length at.rest
-      commanded_left (lane.Free idle) h = absurd h
-      commanded_left lane.Moving h = absurd h
-      commanded_left (lane.Busy run) h = behind_left run h.0 h.1
-  lane_left (stage.Queuing lun) (Some r) h = absurd h
-  lane_left (stage.Working lun) None h = absurd h
-  lane_left (stage.Working lun) (Some r) h = posted_left lane' lun.number lun.state.members _ h.lane_is
-  lane_left (stage.Posting lun) None h = absurd h
-  lane_left (stage.Posting lun) (Some r) h = posted_left lane' lun.number lun.state.left _ h.lane_is
-
-  pub ran_fewer : (reply : Option Reply) → HasAdvanced target accepted running start old new running.stage lane' reply → steps_left drive' < steps_left drive
-  ran_fewer reply h =
-      let a = lane_left running.stage reply h in
-      let b = total_set (λ x. length (starts_left x)) drive.lanes.items l (lane.Busy running) lane' lane_there in
-      let c : total (λ x. length (starts_left x)) drive'.lanes.items ≡ total (λ x. length (starts_left x)) (slice_set drive.lanes.items l lane') = ap (total (λ x. length (starts_left x))) lanes_are in
-      let d : total (λ (p : Placed). length p.starts) drive'.waiting.items ≡ total (λ (p : Placed). length p.starts) drive.waiting.items = ap (total (λ (p : Placed). length p.starts)) waiting_are in
-      let e : length (drop running.next running.placed.starts) ≡ suc (length at.rest) = ap length at.rest_is in
-      omega (arith, a, b, c, d, e)
+pub fewer_left : (s : Setup) (h h' : HalfState) (chip chip' : Chip) (due : Due) → IsSound s h → IsDue h due → GoesOn h chip due h' chip'
+    → steps_left h'.left < steps_left h.left
+fewer_left s h h' chip chip' due sound is (replies, on, after) =
+    let low : move_lun is.move < length h.left.rest =
+    (let a = lun_there s h due sound is in let b = is.lun_is in let c = sound.legal.shape.luns in omega (arith, a, b, c)) in
+    let fewer = begins_fewer h.left is.move due.start is.left low is.next.begins in
+    let e : steps_left h'.left ≡ steps_left is.left = ap (λ (x : HalfState). steps_left x.left) (after ∙ after_due_is h due is replies) in
+    omega (arith, fewer, e)

@@ -1,5 +1,5 @@
 -- What a batch asks for, and what it gives.
-use Rattle.std.specs.Prelude.{◌≡◌, ◌≢◌, ℕ, List, Option, None, Some, slice_get}
+use Rattle.std.specs.Prelude.{◌≡◌, ◌≢◌, ℕ, List, Some, slice_get}
 use Rattle.std.specs.List.{AllByRecursion as Each}
 use Rattle.onfi_addr.specs.declared.geometry.Geometry.{Geometry}
 use Rattle.onfi_timing.specs.declared.timing.Timing.{Timing}
@@ -12,18 +12,16 @@ use Rattle.onfi_die.specs.Shapes.{Device}
 use Rattle.onfi_die.specs.Contents.{fresh, runs}
 use Rattle.onfi_die.specs.Answers.{requests_on}
 use Rattle.onfi_chip.specs.Chip.{Chip, Failures, opened}
-use Rattle.onfi_chip.specs.declared.fault.ChipFault.{ChipFault}
-use Rattle.onfi_chip.specs.declared.fault.ChipFault.TheVariants as chip_fault
-use Rattle.onfi_chip.specs.Calls.{IsLost}
-use Rattle.onfi_chip.specs.declared.fault.PostFault.{PostFault}
+use Rattle.onfi_chip.specs.Calls.{AreNoFewer, IsLost}
 use Rattle.onfi_chip.specs.declared.fault.PostFault.TheVariants as post_fault
 use Rattle.onfi_group.specs.Words.{Has}
 use Rattle.onfi_problem.specs.declared.lun_state.LunState.TheVariants.{Running}
 use Rattle.onfi_problem.specs.Problem.{Problem}
 use Rattle.onfi_lun.specs.declared.batch.fault.BatchFault.{BatchFault}
 use Rattle.onfi_lun.specs.declared.batch.fault.BatchFault.TheVariants.{Bus, NotReady, Memory}
+use Rattle.onfi_core.specs.declared.drive.DriveFault.{DriveFault}
+use Rattle.onfi_core.specs.declared.drive.DriveFault.TheVariants as drive
 use Rattle.onfi_core.specs.State.{wants_from}
-use Rattle.onfi_lun.specs.Drive.{KeptSince}
 
 -- a chip as it opened
 abbrev pub IsOpened : Geometry → Timing → Chip → Type 0
@@ -43,25 +41,23 @@ EachReplied items replies = (place : ℕ) (item : Item) → slice_get items plac
 abbrev pub HoldsItems : Device → List Item → Chip → Type 0
 HoldsItems device items chip = (lun block : ℕ) → chip.blocks lun block ≡ runs device (requests_on lun block items) (fresh device)
 
+-- the chip's faults are the same, and its counts of failures are no less
+pub record KeptSince (old new : Chip) : Type 0 where
+  pub faults : new.faults ≡ old.faults
+  pub failures : AreNoFewer old.failures new.failures
+
 -- what a fault leaves of the chip
 abbrev pub AfterBatchFault : BatchFault → Chip → Chip → Type 0
 AfterBatchFault Bus old new = IsLost post_fault.Bus old new
 AfterBatchFault (NotReady lun) old new = IsLost post_fault.NotReady old new
 AfterBatchFault Memory old new = KeptSince old new
 
--- the batch's fault for the chip's, and for a post's
-abbrev pub of_chip : ChipFault → BatchFault
-of_chip chip_fault.Bus = Bus
-of_chip chip_fault.Memory = Memory
-
-abbrev pub of_post : PostFault → ℕ → BatchFault
-of_post post_fault.Bus lun = Bus
-of_post post_fault.NotReady lun = NotReady lun
+-- why a phase on that LUN wasn't run, as why the batch ends
+abbrev pub fault_of : DriveFault → ℕ → BatchFault
+fault_of drive.Bus lun = Bus
+fault_of drive.NotReady lun = NotReady lun
+fault_of drive.Memory lun = Memory
 
 -- the reply rests on these items and faults
 abbrev pub RestsOn : List Item → List Fault → Reply → Type 0
 RestsOn items faults r = (r.basis.accepted ≡ items) × (r.basis.faults ≡ faults)
-
-abbrev pub IfRests : List Item → List Fault → Option Reply → Type 0
-IfRests items faults None = Unit {0}
-IfRests items faults (Some r) = RestsOn items faults r

@@ -1,7 +1,5 @@
 pub mod Phases
-pub mod Drive
-pub mod Least
 pub mod Batch
+pub mod Flight
 pub mod Order
-pub mod Part
 pub mod Lanes

@@ -9,22 +9,19 @@ ghost use Rattle.onfi_schedule.specs.Schedule.{Legal};
 ghost use Rattle.onfi_lun.specs.Batch.{IsOpened, IsBatchOf, EachReplied, HoldsItems, RestsOn, AfterBatchFault};
 ghost use Rattle.onfi_lun.specs.Order.{AreInPostOrder, TellsStatus};
 
-mod drive;
 mod fault;
-mod lane;
-mod running;
-mod turn;
+mod flight;
 
+use crate::lanes::Lanes;
 use crate::target::Target;
-use drive::Drive;
 pub use fault::BatchFault;
+use flight::Flight;
 use onfi_addr::Geometry;
 use onfi_chip::Chip;
 use onfi_problem::Problem;
 use onfi_request::{Item, Reply};
 use onfi_schedule::Schedule;
 use std::alloc::Global;
-use turn::next_turn;
 
 /// Drives a legal schedule of the items on a chip as it opened, each phase at its start, and answers one reply for each
 /// item, in order of post start, which rises; the place of a reply is its item's position, and it rests on the items and
@@ -60,21 +57,16 @@ pub fn run_batch<C: Chip>(
         geometry: *geometry,
         timing: problem.timing(),
     };
-    let Ok(mut replies) = Vec::with_capacity(alloc, items.len()) else {
+    let Ok(mut flight) = Flight::of(alloc, geometry.lun_count, problem, schedule, items) else {
         return Err(BatchFault::Memory);
     };
-    let Ok(mut drive) = Drive::new(alloc, schedule, geometry.lun_count) else {
+    let Ok(mut lanes) = Lanes::open(alloc, geometry.lun_count) else {
         return Err(BatchFault::Memory);
     };
-    while let Some(turn) = next_turn(&drive) {
-        let Some(reply) = drive.step(alloc, chip, &target, items.as_slice(), turn)? else {
-            continue;
-        };
-        if replies.push(reply).is_err() {
-            return Err(BatchFault::Memory);
-        }
+    while let Some(due) = flight.due(alloc) {
+        flight.run(alloc, chip, &target, &mut lanes, due)?;
     }
-    Ok(replies)
+    Ok(flight.replies)
 }
 
 // A problem is what its definition says.

@@ -1,5 +1,5 @@
 use crate::sample::{free, running, want};
-use onfi_bound::{Bound, Commands, Loads, bus, closing, die, lead, reaches, trail};
+use onfi_bound::{Bound, Commands, Loads, NodeBounds, bus, closing, die, lead, reaches, trail};
 use onfi_group::Rules;
 use onfi_problem::{LunState, Problem, ProblemFault};
 use onfi_request::Want;
@@ -93,6 +93,20 @@ fn commands_are_counted_down(rt: HostRuntime) -> Result<(), Fail> {
     assert_eq!(rt; left.after(&problem, program).program, 1);
     let status = problem.move_at(2).ok_or("a move")?;
     assert_eq!(rt; left.after(&problem, status), left);
+    Ok(())
+}
+
+#[test]
+fn bounds_behind_a_move(rt: HostRuntime) -> Result<(), Fail> {
+    let problem = programs_apart(rt.alloc())?;
+    let bounds = NodeBounds::of(&problem);
+    assert_eq!(rt; bounds.bus, 22440);
+    let program = problem.move_at(0).ok_or("a move")?;
+    assert_eq!(rt; bounds.after(&problem, program).bus, 22440);
+    let status = problem.move_at(2).ok_or("a move")?;
+    assert_eq!(rt; bounds.after(&problem, status).commands, bounds.commands);
+    assert!(rt; bounds.bus_reaches_after(&problem, status, 122440));
+    assert!(rt; !bounds.bus_reaches_after(&problem, status, 122441));
     Ok(())
 }
 

@@ -6,7 +6,7 @@ use Rattle.onfi_problem.specs.declared.moves.Move.{Move as KeptMove}
 use Rattle.onfi_problem.specs.Position.{Position, moves_of}
 use Rattle.onfi_schedule.specs.Runs.{Step, Run}
 use Rattle.onfi_planner.specs.declared.search.Begun.{Begun}
-use Rattle.onfi_planner.specs.First.{IsFirstRun}
+use Rattle.onfi_check.specs.First.{IsFirstRun}
 use Rattle.onfi_planner.specs.Planning.{run_of}
 use Rattle.onfi_planner.proofs.Halfway.{no_moves}
 

@@ -4,7 +4,7 @@ use Rattle.onfi_problem.specs.declared.moves.Undo.{Undo}
 use Rattle.onfi_problem.specs.Moves.{earliest}
 use Rattle.onfi_problem.specs.Position.{Position, move_of, moved, restored}
 use Rattle.onfi_planner.specs.declared.search.Begun.{Begun}
-use Rattle.onfi_planner.specs.First.{IsFirstRun, IsFirstChoice}
+use Rattle.onfi_check.specs.First.{IsFirstRun, IsFirstChoice}
 use Rattle.onfi_planner.specs.Planning.{run_of, taken}
 use Rattle.onfi_planner.proofs.Stacking.{run_split}
 

@@ -12,7 +12,7 @@ use Rattle.onfi_problem.specs.Position.{move_of, moves_of}
 use Rattle.onfi_problem.specs.Starts.{IsNamed}
 use Rattle.onfi_problem.proofs.Perm.{All-append, All-has, All-weaker}
 use Rattle.onfi_check.proofs.Reading.{drop_one}
-use Rattle.onfi_planner.specs.First.{wants_started, starts_before, GoesFirst, IsFirstChoice}
+use Rattle.onfi_check.specs.First.{wants_started, starts_before, GoesFirst, IsFirstChoice}
 use Rattle.onfi_planner.proofs.Taking.{take_all}
 use Rattle.onfi_group.proofs.Lists.{Has-get}
 

@@ -7,7 +7,8 @@ use Rattle.onfi_problem.specs.Problem.{Problem, IsProblem}
 use Rattle.onfi_check.specs.Tree.{Forest, Closing, Closes, token_of, width, preorder, preorders, Closed, Opened, NoMore, Child, Yields}
 use Rattle.onfi_problem.specs.declared.moves.Move.{Move as KeptMove}
 use Rattle.onfi_problem.specs.Position.{moves_of, Position, move_of, moved}
-use Rattle.onfi_planner.specs.Opening.{IsOpen, yield_at, AreYields}
+use Rattle.onfi_planner.specs.Opening.{yield_at, AreYields}
+use Rattle.onfi_check.specs.Nodes.{IsOpen}
 use Rattle.onfi_planner.specs.Planning.{Bounded, Written}
 use Rattle.onfi_problem.proofs.Perm.{All-has, append_nil}
 use Rattle.onfi_problem.proofs.Places.{within_get}

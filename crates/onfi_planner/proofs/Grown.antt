@@ -5,7 +5,7 @@ use Rattle.onfi_cert.specs.declared.token.Token.TheVariants.{Yield}
 use Rattle.onfi_problem.specs.Problem.{Problem}
 use Rattle.onfi_check.specs.Tree.{Tree, Forest, Closing, AtEnd, ByBus, ByLead, ByTrail, ByDie, Closes, width, preorder, preorders, NoneYields, Accepts, AcceptsEach, Closed, Opened, NoMore, Child, Yields}
 use Rattle.onfi_planner.specs.Opening.{yield_at, AreYields}
-use Rattle.onfi_planner.specs.Nodes.{nodes, nodes_below}
+use Rattle.onfi_check.specs.Nodes.{nodes, nodes_below}
 
 -- the children of these moves: trees that are accepted, and yields as chosen
 abbrev pub Grown : Problem → List (Option ℕ) → ℕ → List Move → Forest → Type 0

@@ -24,8 +24,8 @@ use Rattle.onfi_check.proofs.Sound.{sound}
 use Rattle.onfi_problem.specs.declared.moves.Move.{Move as KeptMove}
 use Rattle.onfi_planner.specs.declared.search.Best.{Best}
 use Rattle.onfi_problem.specs.Position.{Position, move_of, moves_of, moved, lun_named}
-use Rattle.onfi_planner.specs.Opening.{IsOpen, yield_at, AreYields}
-use Rattle.onfi_planner.specs.Nodes.{HasNodes, nodes_below}
+use Rattle.onfi_planner.specs.Opening.{yield_at, AreYields}
+use Rattle.onfi_check.specs.Nodes.{IsOpen, HasNodes, nodes_below}
 use Rattle.onfi_planner.specs.Planning.{Bounded, run_of, Searched, HasOpened, IsOver}
 use Rattle.onfi_planner.proofs.Paths.{Among, node_one, among_none, among_more, among_skip, among_all}
 use Rattle.onfi_planner.proofs.Opening.{Done, done_sooner, opened}

@@ -5,8 +5,7 @@ use Rattle.onfi_problem.specs.Moves.{Move, IsMove, after}
 use Rattle.onfi_group.specs.Words.{Has, Pairs}
 use Rattle.onfi_problem.specs.Problem.{Problem}
 use Rattle.onfi_problem.proofs.Perm.{All-append, All-weaker, Has-append_left, Has-append_right}
-use Rattle.onfi_planner.specs.Opening.{IsOpen}
-use Rattle.onfi_planner.specs.Nodes.{IsNode, HasNodes}
+use Rattle.onfi_check.specs.Nodes.{IsOpen, IsNode, HasNodes}
 
 -- a path that begins with one of these moves
 abbrev pub Below : ℕ → Problem → List Move → List Move → Type 0

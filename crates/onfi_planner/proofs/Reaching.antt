@@ -8,7 +8,7 @@ use Rattle.onfi_bound.specs.declared.bound.Bound.TheVariants.{Bus, Lead, Trail, 
 use Rattle.onfi_bound.specs.Reaching.{Reaches, NoneReaches}
 use Rattle.onfi_cert.specs.declared.token.Token.TheVariants.{Die as DieToken}
 use Rattle.onfi_check.specs.Tree.{Closing, ByDie, Closes, token_of}
-use Rattle.onfi_planner.specs.Opening.{IsOpen}
+use Rattle.onfi_check.specs.Nodes.{IsOpen}
 
 less : (a e : ℕ) → (e ≤ a → ⊥) → a < e
 less a e h = elim (cases_lt a e) [

@@ -22,9 +22,9 @@ use Rattle.onfi_planner.specs.declared.parts.Part.{Part}
 use Rattle.onfi_planner.specs.declared.root.Root.{Root}
 use Rattle.onfi_planner.specs.declared.search.Stop.{Stop}
 use Rattle.onfi_planner.specs.Dealing.{Gives, GivesFrom}
-use Rattle.onfi_planner.specs.First.{IsFirstRun}
-use Rattle.onfi_planner.specs.Nodes.{EachWithin, HasNodes, HasMoreNodes, HasPartsWithin, PartHasMore, OpensNodes, nodes_below}
-use Rattle.onfi_planner.specs.Opening.{IsOpen, AreYields, yield_at}
+use Rattle.onfi_check.specs.First.{IsFirstRun}
+use Rattle.onfi_check.specs.Nodes.{IsOpen, EachWithin, HasNodes, HasMoreNodes, HasPartsWithin, PartHasMore, OpensNodes, nodes_below}
+use Rattle.onfi_planner.specs.Opening.{AreYields, yield_at}
 use Rattle.onfi_planner.specs.Parts.{IsPart, AreFound, IsBranch, AreBranches, opened_by, parts_of}
 use Rattle.onfi_planner.specs.Planning.{Found, IsOver, IsRoot, run_of}
 use Rattle.onfi_planner.proofs.Beginning.{first_is_run}

@@ -13,8 +13,8 @@ use Rattle.onfi_planner.specs.declared.root.Root.{Root}
 use Rattle.onfi_problem.specs.Position.{Position}
 use Rattle.onfi_problem.specs.Left.{InLimits}
 use Rattle.onfi_planner.specs.declared.fault.PlanFault.TheVariants.{Over}
-use Rattle.onfi_planner.specs.First.{IsFirstRun}
-use Rattle.onfi_planner.specs.Nodes.{HasNodes, HasMoreNodes, HasTreeOf, OpensNodes}
+use Rattle.onfi_check.specs.First.{IsFirstRun}
+use Rattle.onfi_check.specs.Nodes.{HasNodes, HasMoreNodes, HasTreeOf, OpensNodes}
 use Rattle.onfi_planner.specs.Planning.{Searched, HasOpened, Written, IsOver, Found, IsRoot, run_of, AreRising}
 use Rattle.onfi_planner.proofs.Rising.{run_rises}
 use Rattle.onfi_planner.proofs.Beginning.{first_is_run}

@@ -1,17 +1,9 @@
--- Which nodes are open, and which of their moves yield.
+-- Which moves of an open node yield.
 use Rattle.std.specs.Prelude.{◌≡◌, ◌≢◌, ℕ, ◌≤◌, ◌<◌, Bool, true, false, List, length, Option, Some, None, slice_index_or}
 use Rattle.std.specs.List.{AllByRecursion as Each}
 use Rattle.onfi_group.specs.Words.{Has}
 use Rattle.onfi_problem.specs.Problem.{Problem}
 use Rattle.onfi_problem.specs.Moves.{Move, move_lun, may_go, after}
-use Rattle.onfi_bound.specs.Bounds.{bus, lead, trail, die}
-
--- no bound reaches f
-pub record IsOpen (f : ℕ) (p : Problem) : Type 0 where
-  pub bus : bus p < f
-  pub lead : lead p < f
-  pub trail : (t : ℕ) → trail p ≡ Some t → t < f
-  pub die : (lun : ℕ) → lun < length p.luns → die p lun < f
 
 -- the LUN that LUN j yields to
 abbrev pub yield_at : List (Option ℕ) → ℕ → Option ℕ

@@ -14,8 +14,8 @@ use Rattle.onfi_planner.specs.declared.search.Best.{Best}
 use Rattle.onfi_planner.specs.declared.root.Root.{Root}
 use Rattle.onfi_problem.specs.Position.{Position, move_of}
 use Rattle.onfi_bound.specs.Loads.{AreLoads}
-use Rattle.onfi_planner.specs.First.{IsFirstRun}
-use Rattle.onfi_planner.specs.Nodes.{HasNodes, HasTreeOf}
+use Rattle.onfi_check.specs.First.{IsFirstRun}
+use Rattle.onfi_check.specs.Nodes.{HasNodes, HasTreeOf}
 
 -- no run ends before e
 abbrev pub Bounded : Problem → ℕ → Type 0

@@ -10,7 +10,7 @@ use crate::yields::yields_of;
 use onfi_bound::Loads;
 use onfi_cert::{LunNumber, Token, Width};
 use onfi_check::last_ends;
-use onfi_problem::{Move, Problem};
+use onfi_problem::{Move, Moves, Problem};
 use std::alloc::AllocError;
 
 /// Appends the tokens of a tree that shows that nothing below a node ends before `e`.
@@ -31,7 +31,8 @@ pub fn write(
         tokens.push(token)?;
         return Ok(());
     }
-    let moves = problem.steps();
+    let mut moves = Moves::new();
+    problem.list_steps(&mut moves);
     if moves.is_empty() {
         unreachable!();
     }

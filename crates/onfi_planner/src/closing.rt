@@ -2,7 +2,7 @@ ghost use Rattle.std.specs.Prelude.{◌≡◌, MatchOption};
 ghost use Rattle.onfi_problem.specs.Left.{InLimits};
 ghost use Rattle.onfi_bound.specs.Loads.{AreLoads};
 ghost use Rattle.onfi_check.specs.Tree.{Closing, Closes, token_of};
-ghost use Rattle.onfi_planner.specs.Opening.{IsOpen};
+ghost use Rattle.onfi_check.specs.Nodes.{IsOpen};
 
 use onfi_bound::{Bound, Loads};
 use onfi_cert::{LunNumber, Token};

@@ -8,7 +8,7 @@ ghost use Rattle.onfi_problem.specs.Left.{InLimits};
 ghost use Rattle.onfi_problem.specs.Position.{move_of, moves_of, moved};
 ghost use Rattle.onfi_problem.specs.Starts.{IsNamed};
 ghost use Rattle.onfi_bound.specs.Loads.{AreLoads};
-ghost use Rattle.onfi_planner.specs.Nodes.{HasPartsWithin, IsSplitOver, OpensNodes};
+ghost use Rattle.onfi_check.specs.Nodes.{HasPartsWithin, IsSplitOver, OpensNodes};
 ghost use Rattle.onfi_planner.specs.Opening.{AreYields};
 ghost use Rattle.onfi_planner.specs.Parts.{IsPart, AreFound, opened_by, parts_of};
 ghost use Rattle.onfi_planner.specs.Planning.{Found, IsOver, IsRoot};

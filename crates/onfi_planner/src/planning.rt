@@ -2,7 +2,7 @@ ghost use Rattle.std.specs.Prelude.{◌≡◌, ℕ, ◌≤◌, IfOk, IfErr};
 ghost use Rattle.onfi_problem.specs.Left.{InLimits};
 ghost use Rattle.onfi_schedule.specs.Schedule.{Optimal, finish};
 ghost use Rattle.onfi_check.specs.Tree.{AcceptsTokens};
-ghost use Rattle.onfi_planner.specs.Nodes.{HasMoreNodes, OpensNodes};
+ghost use Rattle.onfi_check.specs.Nodes.{HasMoreNodes, OpensNodes};
 ghost use Rattle.onfi_planner.specs.Planning.{AreRising, Found};
 
 use crate::certificate;

@@ -10,7 +10,7 @@ use crate::closing::closing_token;
 use crate::yields::yields_of;
 use onfi_bound::Loads;
 use onfi_check::last_ends;
-use onfi_problem::{Move, Problem};
+use onfi_problem::{Move, Moves, Problem};
 
 /// A step, and when it begins.
 #[derive(Clone, Copy)]
@@ -60,7 +60,8 @@ pub fn search(
     if closing_token(problem, loads, best.finish).is_some() {
         return Ok(false);
     }
-    let moves = problem.steps();
+    let mut moves = Moves::new();
+    problem.list_steps(&mut moves);
     if moves.is_empty() {
         best.finish = problem.bus_free();
         best.steps.clear();

@@ -3,7 +3,7 @@
 ghost use Rattle.std.specs.Prelude.{◌≡◌, ℕ, ◌≤◌, IfOk, IfErr};
 ghost use Rattle.onfi_schedule.specs.Schedule.{Optimal, finish};
 ghost use Rattle.onfi_check.specs.Tree.{AcceptsTokens};
-ghost use Rattle.onfi_planner.specs.Nodes.{HasPartsWithin, IsSplitOver, OpensNodes};
+ghost use Rattle.onfi_check.specs.Nodes.{HasPartsWithin, IsSplitOver, OpensNodes};
 ghost use Rattle.onfi_planner.specs.Planning.{AreRising};
 
 use crate::branches::write_parts;

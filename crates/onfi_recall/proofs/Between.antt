@@ -5,7 +5,7 @@ use Rattle.std.specs.List.{AllByRecursion as All}
 use Rattle.std.proofs.lemmas.Bool.{cases_eq, cases_Bool, false≢true}
 use Rattle.onfi_group.specs.Words.{Has, Pairs}
 use Rattle.onfi_problem.specs.Problem.{IsProblem}
-use Rattle.onfi_problem.specs.Moves.{Move, IsMove, AreMoves, ComesBefore, move_lun, may_go, after}
+use Rattle.onfi_problem.specs.Moves.{Move, IsMove, AreMoves, ComesBefore, move_lun, may_go}
 use Rattle.onfi_problem.specs.declared.moves.Move.{Move as KeptMove}
 use Rattle.onfi_problem.specs.Position.{Position, move_of, moves_of, moved}
 use Rattle.onfi_problem.proofs.Limits.{after_limits}
@@ -20,16 +20,15 @@ use Rattle.onfi_known.specs.declared.token.Token.{Token}
 use Rattle.onfi_known.specs.declared.token.Token.TheVariants.{Branch, Yield}
 use Rattle.onfi_known.specs.Proves.{Children, MayYield, none, tree, yielded}
 use Rattle.onfi_known.specs.Text.{InRange}
-use Rattle.onfi_planner.specs.Nodes.{HasNodes}
-use Rattle.onfi_planner.specs.Opening.{IsOpen}
+use Rattle.onfi_check.specs.Nodes.{IsOpen}
 use Rattle.onfi_planner.specs.declared.search.Best.{Best}
 use Rattle.onfi_planner.proofs.Halfway.{open_later, not_before_itself}
-use Rattle.onfi_planner.proofs.Paths.{Among, among_none, among_more, among_skip, among_all}
+use Rattle.onfi_planner.proofs.Paths.{Among, among_none, among_more, among_skip}
 use Rattle.onfi_recall.specs.declared.notes.Notes.{Notes}
 use Rattle.onfi_recall.specs.declared.standing.Standing.{Standing}
 use Rattle.onfi_recall.specs.declared.yields.Soonest.{Soonest}
 use Rattle.onfi_recall.specs.Text.{nodes_in}
-use Rattle.onfi_recall.specs.Walks.{AreMore, Awaits, Growing, Halfway, HasWritten, IsAt, IsRunOf, IsSoonest, Visited}
+use Rattle.onfi_recall.specs.Walks.{Awaits, Growing, Halfway, HasWritten, IsAt, IsRunOf, IsSoonest, Visited}
 use Rattle.onfi_recall.proofs.Waiting.{yields_here, yields_same}
 
 all_at : {A B : Type 0} (P : B → Type 0) (f : A → B) (xs : List A) (i : ℕ) (d : A) → i < length xs → All P (map f xs) → P (f (get_or xs i d))
@@ -55,15 +54,31 @@ at_moved x step loads best notes s at = record {
   within = at.within;
   most = at.most;
   few = at.few;
+  full = at.full;
 }
+
+-- a walk that goes on is not cut, and may count a node more
+pub at_counted : (x : Position) (loads : Loads) (best : Best) (notes counted : Notes) → IsAt x loads best notes → notes.opened < notes.limit → counted.cert ≡ notes.cert → counted.opened ≡ notes.opened + 1 → counted.limit ≡ notes.limit → counted.cut ≡ notes.cut → counted.records ≡ notes.records → (counted.cut ≡ false) × IsAt x loads best counted
+at_counted x loads best notes counted at less cert count limit cut known =
+    let uncut : counted.cut ≡ false = elim (cases_Bool counted.cut) [ inl q ↦ (let full = at.full (sym cut ∙ q) in absurd (omega arith)) | inr q ↦ q ] in
+    let a = at.finish in
+    let b = at.within in
+    let c = at.most in
+    let d = at.few in
+    let same = ap (λ z. z.finish) cert in
+    let long = ap (λ z. length z.nodes.items) known in (
+      uncut,
+      record { tree = at.tree; finish = omega arith; within = omega arith; most = omega arith; few = omega arith; full = λ q. absurd (false≢true (sym uncut ∙ q)) },
+    )
 
 pub at_start : (x : Position) (moves : List Move) (soonest : Soonest) (first : Best) (before notes : Notes) (standing : Standing) (width : ℕ)
     → IsOpen first.finish x.problem → IsSoonest x.problem moves soonest → first.finish ≤ before.cert.finish → 1 ≤ before.opened → before.opened ≤ before.limit
     → notes.opened ≡ before.opened → notes.limit ≡ before.limit → notes.records.nodes.items ≡ before.records.nodes.items → notes.cert.finish ≡ before.cert.finish
     → (first.finish ≡ before.cert.finish → notes.cert.tokens.items ≡ before.cert.tokens.items ++ Branch width ∷ []) → width ≡ length moves
     → ((lun : ℕ) → slice_index standing.asked lun ≡ 0) → ((lun : ℕ) → slice_index_or standing.yielded lun false ≡ false) → standing.improved ≡ false
+    → before.cut ≡ false → notes.cut ≡ before.cut
     → Halfway x moves [] soonest first first before notes standing
-at_start x moves soonest first before notes standing width is_open is begun counted within opened limit known finish tokens wide asked marks improved =
+at_start x moves soonest first before notes standing width is_open is begun counted within opened limit known finish tokens wide asked marks improved uncut cut =
     let long = ap length known in
     let zero_more : notes.opened - before.opened ≡ 0 = omega arith in
     record {
@@ -71,6 +86,7 @@ at_start x moves soonest first before notes standing width is_open is begun coun
       is_soonest = is;
       begun = begun;
       counted = counted;
+      uncut = uncut;
       found = record { sooner = omega arith; run = λ q. absurd (false≢true (sym improved ∙ q)); kept = λ q. refl };
       met = λ lun few has. let a = asked lun in omega arith;
       waits = λ lun few q. absurd (false≢true (sym (marks lun) ∙ q));
@@ -80,7 +96,9 @@ at_start x moves soonest first before notes standing width is_open is begun coun
       few = omega arith;
       same_finish = finish;
       same_limit = limit;
-      growing = λ e. record {
+      full = λ q. absurd (false≢true (sym (cut ∙ uncut) ∙ q));
+      over = λ q. absurd (false≢true (sym (cut ∙ uncut) ∙ q));
+      growing = λ _ e. record {
         tree = [];
         given = [];
         nodes = omega arith;
@@ -103,7 +121,7 @@ still_at x moves firsts soonest first best before notes standing loads at h =
     let f = h.same_limit in
     let g = h.few in
     let i = h.more in
-    record { tree = at.tree; finish = omega arith; within = h.within; most = omega arith; few = omega arith }
+    record { tree = at.tree; finish = omega arith; within = h.within; most = omega arith; few = omega arith; full = h.full }
 
 -- the nodes of tokens behind one another
 nodes_more : (ts more : List Token) → nodes_in (ts ++ more) ≡ nodes_in ts + nodes_in more
@@ -153,9 +171,9 @@ module _ (x : Position) (moves firsts : List Move) (soonest : Soonest) (first be
   pub with_yield : (m : Move) (own : ℕ) (notes' : Notes) (standing' : Standing) → own ≡ move_lun m → own < 8 → soonest.lun < 8 → Awaits x.problem soonest own
       → notes'.opened ≡ notes.opened → notes'.limit ≡ notes.limit → notes'.records.nodes.items ≡ notes.records.nodes.items → notes'.cert.finish ≡ notes.cert.finish
       → (best.finish ≡ notes.cert.finish → notes'.cert.tokens.items ≡ notes.cert.tokens.items ++ Yield soonest.lun ∷ [])
-      → standing'.asked ≡ standing.asked → standing'.improved ≡ standing.improved → slice_index_or standing'.yielded own false ≡ true → ((other : ℕ) → other ≢ own → slice_index_or standing'.yielded other false ≡ slice_index_or standing.yielded other false)
+      → standing'.asked ≡ standing.asked → standing'.improved ≡ standing.improved → slice_index_or standing'.yielded own false ≡ true → ((other : ℕ) → other ≢ own → slice_index_or standing'.yielded other false ≡ slice_index_or standing.yielded other false) → notes'.cut ≡ notes.cut
       → Halfway x moves (firsts ++ m ∷ []) soonest first best before notes' standing'
-  with_yield m own notes' standing' of few few' awaits opened limit known finish written asked improved here others =
+  with_yield m own notes' standing' of few few' awaits opened limit known finish written asked improved here others cut =
       let known_long = ap length known in
       let so_many = h.few in
       let more = h.more in
@@ -167,6 +185,7 @@ module _ (x : Position) (moves firsts : List Move) (soonest : Soonest) (first be
         is_soonest = h.is_soonest;
         begun = h.begun;
         counted = h.counted;
+        uncut = h.uncut;
         found = record { sooner = h.found.sooner; run = λ q. h.found.run (sym improved ∙ q); kept = λ q. h.found.kept (sym improved ∙ q) };
         met = λ lun small has. subst (λ a. slice_index a lun ≤ may_go x.problem lun) (sym asked) (h.met lun small has);
         waits = λ lun small q. elim (cases_eq lun own) [
@@ -179,7 +198,9 @@ module _ (x : Position) (moves firsts : List Move) (soonest : Soonest) (first be
         few = omega arith;
         same_finish = finish ∙ h.same_finish;
         same_limit = limit ∙ h.same_limit;
-        growing = λ e. grown_yield m own notes' standing' of few few' awaits opened known (written (e ∙ sym h.same_finish)) asked here others (h.growing e);
+        full = λ q. let full = h.full (sym cut ∙ q) in omega arith;
+        over = λ q f le. among_skip f x.problem firsts (m ∷ []) (before.limit - before.opened + 1) (h.over (sym cut ∙ q) f le);
+        growing = λ q e. grown_yield m own notes' standing' of few few' awaits opened known (written (e ∙ sym h.same_finish)) asked here others (h.growing (sym cut ∙ q) e);
       }
 
   -- the node behind the next move was walked over
@@ -228,6 +249,7 @@ module _ (x : Position) (moves firsts : List Move) (soonest : Soonest) (first be
         is_soonest = h.is_soonest;
         begun = h.begun;
         counted = h.counted;
+        uncut = h.uncut;
         found = elim (cases_Bool improved) [
           | inl i ↦ record { sooner = omega arith; run = λ q. v.found.run i; kept = λ q. absurd (false≢true (sym q ∙ found i)) }
           | inr i ↦ (
@@ -244,20 +266,13 @@ module _ (x : Position) (moves firsts : List Move) (soonest : Soonest) (first be
         few = omega arith;
         same_finish = o.same_finish ∙ h.same_finish;
         same_limit = o.same_limit ∙ h.same_limit;
-        growing = λ e.
+        full = o.full;
+        over = λ q f le.
+            let more : notes.opened - before.opened + (notes'.limit - notes.opened + 1) ≡ before.limit - before.opened + 1 = omega arith in
+            let c = among_more f x.problem firsts m (notes.opened - before.opened) (notes'.limit - notes.opened + 1) (h.nodes f le) (open_later first.finish f x.problem le h.open_at) mv new (o.over q f (omega arith)) in
+            subst (Among f x.problem (firsts ++ m ∷ [])) more c;
+        growing = λ q e.
             let was : best.finish ≡ before.cert.finish = omega arith in
-            let w = v.written (e ∙ sym h.same_finish) in
-            grown_child step best' notes' standing' improved v (subst (λ z. HasWritten z (moved x step) notes.opened notes notes' v.demand) h.same_finish w) same (h.growing was);
+            let w = v.written q (e ∙ sym h.same_finish) in
+            grown_child step best' notes' standing' improved v (subst (λ z. HasWritten z (moved x step) notes.opened notes notes' v.demand) h.same_finish w) same (h.growing (o.stays q) was);
       }
-
-  -- the search is given up behind the next move
-  pub given_up : (m : Move) → IsMove x.problem m → (Has firsts m → ⊥) → AreMore (after x.problem m) best.finish (notes.limit - notes.opened + 1) → AreMore x.problem first.finish (before.limit - (before.opened - 1) + 1)
-  given_up m mv new over = λ f le.
-      let a = h.found.sooner in
-      let h1 = h.more in
-      let h2 = h.within in
-      let h5 = h.same_limit in
-      let h7 = h.counted in
-      let c = among_more f x.problem firsts m (notes.opened - before.opened) (notes.limit - notes.opened + 1) (h.nodes f le) (open_later first.finish f x.problem le h.open_at) mv new (over f (omega arith)) in
-      let sum : 1 + (notes.opened - before.opened + (notes.limit - notes.opened + 1)) ≡ before.limit - (before.opened - 1) + 1 = omega arith in
-      subst (HasNodes f x.problem) sum (among_all f x.problem (firsts ++ m ∷ []) (notes.opened - before.opened + (notes.limit - notes.opened + 1)) c)

@@ -6,3 +6,4 @@ mod Waiting
 mod Between
 mod Node
 mod Tree
+mod Gaps

@@ -1,6 +1,6 @@
 -- What a walk shows of a node.
 use Rattle.std.proofs.Common.{◌≡◌, ℕ, ◌+◌, ◌-◌, ◌≤◌, ◌<◌, ◌^◌, true, false, List, [], ◌∷◌, ◌++◌, length, refl, sym, ap, ◌∙◌, subst, arith, length-append}
-use Rattle.std.specs.Prelude.{Result, Ok, Err, IfOk, IfErr, slice_index, slice_index_or, max}
+use Rattle.std.specs.Prelude.{Result, Ok, Err, IfOk, slice_index, slice_index_or, max}
 use Rattle.std.proofs.lemmas.Bool.{false≢true}
 use Rattle.onfi_problem.specs.Problem.{Problem, IsProblem}
 use Rattle.onfi_problem.specs.Moves.{Move, IsMove, AreMoves, earliest}
@@ -10,18 +10,17 @@ use Rattle.onfi_problem.specs.Position.{Position, move_of, moves_of, moved}
 use Rattle.onfi_check.proofs.Nothing.{no_moves}
 use Rattle.onfi_schedule.specs.Runs.{Run}
 use Rattle.onfi_demand.specs.Asked.{AreRaised}
-use Rattle.onfi_demand.specs.Demand.{of_bus, of_luns}
-use Rattle.onfi_demand.specs.Kept.{IsKept}
+use Rattle.onfi_demand.specs.Demand.{Meets, of_bus, of_luns}
+use Rattle.onfi_demand.specs.Kept.{demand_of, IsKept}
 use Rattle.onfi_demand.specs.declared.demand.Demand.{Demand as Kept}
 use Rattle.onfi_demand.proofs.Keeping.{left_few}
 use Rattle.onfi_known.specs.declared.token.Token.TheVariants.{Branch}
 use Rattle.onfi_known.specs.Proves.{Proves, Remembers, times_of, with_yields, opened}
-use Rattle.onfi_planner.specs.Nodes.{HasNodes}
-use Rattle.onfi_planner.specs.Opening.{IsOpen}
+use Rattle.onfi_check.specs.Nodes.{IsOpen, HasNodes}
 use Rattle.onfi_planner.specs.Planning.{run_of}
 use Rattle.onfi_planner.specs.declared.search.Begun.{Begun}
 use Rattle.onfi_planner.specs.declared.search.Best.{Best}
-use Rattle.onfi_planner.proofs.Paths.{node_one, among_all}
+use Rattle.onfi_planner.proofs.Paths.{node_one, nodes_none, among_all}
 use Rattle.onfi_planner.proofs.Stacking.{run_split}
 use Rattle.onfi_recall.specs.declared.closing.Closing.{Closing}
 use Rattle.onfi_recall.specs.declared.notes.Notes.{Notes}
@@ -29,17 +28,13 @@ use Rattle.onfi_recall.specs.declared.phases.Phases.{Phases}
 use Rattle.onfi_recall.specs.declared.search.Shown.{Shown}
 use Rattle.onfi_recall.specs.declared.standing.Standing.{Standing}
 use Rattle.onfi_recall.specs.declared.yields.Soonest.{Soonest}
-use Rattle.onfi_recall.specs.Walks.{AreMore, Halfway, IsClosing, IsShown, Visited, wait_for}
+use Rattle.onfi_recall.specs.Walks.{AreMore, Halfway, IsClosing, IsFound, IsShown, Visited, wait_for}
 use Rattle.onfi_recall.proofs.Waiting.{raised_needs, raised_met}
 
 -- what a call gives, said otherwise
 pub each_ok : {A E : Type 0} (P Q : A → Type 0) (r : Result A E) → ((x : A) → P x → Q x) → IfOk r P → IfOk r Q
 each_ok P Q (Ok x) f h = f x h
 each_ok P Q (Err e) f h = tt
-
-pub each_err : {A E : Type 0} (P Q : E → Type 0) (r : Result A E) → ((x : E) → P x → Q x) → IfErr r P → IfErr r Q
-each_err P Q (Ok x) f h = tt
-each_err P Q (Err e) f h = f e h
 
 -- a step and a run behind it
 pub step_run : (x : Position) (b : Begun) (steps items : List Begun) (f : ℕ) → IsMove x.problem (move_of x.groups b.step) → b.start ≡ earliest x.problem (move_of x.groups b.step) → items ≡ steps ++ b ∷ [] → Run (moved x b.step).problem (run_of x.groups steps) f → Run x.problem (run_of x.groups items) f
@@ -51,15 +46,26 @@ one_more p finish n k e = λ f le. let q : 1 ≡ n - k = omega arith in subst (H
 -- a node that a token closes
 pub closed_shown : (x : Position) (best : Best) (before behind : Notes) (closing : Closing) → IsClosing best.finish x before.records.nodes.items closing → before.opened < before.limit
     → behind.opened ≡ before.opened + 1 → behind.limit ≡ before.limit → behind.records.nodes.items ≡ before.records.nodes.items → behind.cert.finish ≡ before.cert.finish
-    → (best.finish ≡ before.cert.finish → behind.cert.tokens.items ≡ before.cert.tokens.items ++ closing.token ∷ [])
+    → (best.finish ≡ before.cert.finish → behind.cert.tokens.items ≡ before.cert.tokens.items ++ closing.token ∷ []) → before.cut ≡ false → behind.cut ≡ before.cut
     → IsShown x best best before.opened before behind (record { demand = closing.demand; improved = false })
-closed_shown x best before behind closing c room count limit known finish tokens =
+closed_shown x best before behind closing c room count limit known finish tokens uncut cut =
     let long = ap length known in
     record {
       found = record { sooner = omega arith; run = λ q. absurd (false≢true q); kept = λ q. refl };
       met = c.met;
-      opened = record { more = omega arith; within = omega arith; nodes = one_more x.problem best.finish behind.opened before.opened count; few = omega arith; same_finish = finish; same_limit = limit };
-      written = λ e. record {
+      opened = record {
+        more = omega arith;
+        some = λ _. omega arith;
+        within = omega arith;
+        nodes = one_more x.problem best.finish behind.opened before.opened count;
+        few = omega arith;
+        same_finish = finish;
+        same_limit = limit;
+        stays = λ _. uncut;
+        full = λ q. absurd (false≢true (sym (cut ∙ uncut) ∙ q));
+        over = λ q. absurd (false≢true (sym (cut ∙ uncut) ∙ q));
+      };
+      written = λ _ e. record {
         tree = closing.token ∷ [];
         nodes = let one = c.node in omega arith;
         tokens = tokens e;
@@ -78,17 +84,28 @@ done_run x items steps f ip are none s e = rw s (no_moves x.problem ip (subst (�
 
 -- a node with nothing left
 pub done_shown : (x : Position) (items : List KeptMove) (old new : Best) (notes : Notes) (demand : Kept) → InLimits x.problem → AreMoves x.problem (moves_of x.groups items) → length items ≡ 0
-    → new.finish ≡ x.problem.bus_free → new.steps.items ≡ [] → IsOpen old.finish x.problem → old.finish ≤ notes.cert.finish → 1 ≤ notes.opened → notes.opened ≤ notes.limit → IsKept demand (of_bus new.finish)
+    → new.finish ≡ x.problem.bus_free → new.steps.items ≡ [] → IsOpen old.finish x.problem → old.finish ≤ notes.cert.finish → 1 ≤ notes.opened → notes.opened ≤ notes.limit → notes.cut ≡ false → IsKept demand (of_bus new.finish)
     → IsShown x old new (notes.opened - 1) notes notes (record { demand = demand; improved = true })
-done_shown x items old new notes demand limits are none end steps is_open begun counted within kept =
+done_shown x items old new notes demand limits are none end steps is_open begun counted within uncut kept =
     let d = no_moves x.problem limits.problem (subst (λ z. AreMoves x.problem (moves_of x.groups z)) (no_items x items none) are) in
     let u = is_open.bus in
     let b = kept.bus in
     record {
       found = record { sooner = omega arith; run = λ q. rw steps (d, sym end); kept = λ q. absurd (false≢true (sym q)) };
       met = record { bus = omega arith; luns = λ lun has. let z = kept.luns lun (left_few x.problem lun limits.problem limits.small has) in omega arith };
-      opened = record { more = omega arith; within = within; nodes = one_more x.problem old.finish notes.opened (notes.opened - 1) (omega arith); few = omega arith; same_finish = refl; same_limit = refl };
-      written = λ e. absurd (omega arith);
+      opened = record {
+        more = omega arith;
+        some = λ _. omega arith;
+        within = within;
+        nodes = one_more x.problem old.finish notes.opened (notes.opened - 1) (omega arith);
+        few = omega arith;
+        same_finish = refl;
+        same_limit = refl;
+        stays = λ q. q;
+        full = λ q. absurd (false≢true (sym uncut ∙ q));
+        over = λ q. absurd (false≢true (sym uncut ∙ q));
+      };
+      written = λ _ e. absurd (omega arith);
     }
 
 -- a node whose children were walked over, and which is remembered
@@ -98,9 +115,9 @@ pub node_shown : (x : Position) (moves : List Move) (soonest : Soonest) (first b
     → ((lun : ℕ) → lun < 8 → slice_index_or standing.yielded lun false ≡ true → wait_for x.problem soonest standing.asked < 2 ^ 64 → slice_index raised lun ≡ max (wait_for x.problem soonest standing.asked) (slice_index standing.asked lun))
     → ((lun : ℕ) → lun < 8 → slice_index raised lun < 2 ^ 64)
     → Remembers x.all x.problem raised notes.records.nodes.items behind.records.nodes.items (record { bus = 0; luns = raised })
-    → behind.opened ≡ notes.opened → behind.limit ≡ notes.limit → behind.cert ≡ notes.cert
+    → behind.opened ≡ notes.opened → behind.limit ≡ notes.limit → behind.cert ≡ notes.cert → notes.cut ≡ false → behind.cut ≡ notes.cut
     → IsShown x first best (before.opened - 1) before behind (record { demand = record { bus = 0; luns = raised }; improved = standing.improved })
-node_shown x moves soonest first best before notes behind standing raised limits are some few h kept more small r count limit cert =
+node_shown x moves soonest first best before notes behind standing raised limits are some few h kept more small r count limit cert uncut cut =
     let ip = limits.problem in
     let h1 = h.more in
     let h2 = h.within in
@@ -113,14 +130,18 @@ node_shown x moves soonest first best before notes behind standing raised limits
       met = record { bus = omega arith; luns = λ lun has. raised_met x.problem moves soonest standing.yielded standing.asked raised ip limits.small are.moves_only h.is_soonest h.met h.waits kept more lun (left_few x.problem lun ip limits.small has) has };
       opened = record {
         more = omega arith;
+        some = λ _. omega arith;
         within = omega arith;
         nodes = λ f le. subst (HasNodes f x.problem) sum (among_all f x.problem moves (notes.opened - before.opened) (h.nodes f le));
         few = omega arith;
         same_finish = ap (λ z. z.finish) cert ∙ h.same_finish;
         same_limit = limit ∙ h.same_limit;
+        stays = λ _. h.uncut;
+        full = λ q. absurd (false≢true (sym (cut ∙ uncut) ∙ q));
+        over = λ q. absurd (false≢true (sym (cut ∙ uncut) ∙ q));
       };
-      written = λ e.
-          let g = h.growing e in
+      written = λ _ e.
+          let g = h.growing uncut e in
           let d : Kept = record { bus = 0; luns = raised } in
           let needs = raised_needs x.problem moves soonest g.given standing.yielded standing.asked raised ip limits.small are.moves_only h.is_soonest h.met g.each_given g.marks h.waits kept more in
           let asks : IsKept d (of_luns (with_yields standing.asked g.given)) = record { bus = refl; luns = needs } in
@@ -135,8 +156,71 @@ node_shown x moves soonest first best before notes behind standing raised limits
           };
     }
 
+-- a node that is given up asks for nothing
+nothing_met : (x : Position) (demand : Kept) → InLimits x.problem → IsKept demand (of_bus 0) → Meets x.problem (demand_of demand)
+nothing_met x demand limits kept =
+    let b = kept.bus in
+    record { bus = omega arith; luns = λ lun has. let z = kept.luns lun (left_few x.problem lun limits.problem limits.small has) in omega arith }
+
+full_over : (p : Problem) (finish limit began : ℕ) → began ≡ limit → AreMore p finish (limit - began + 1)
+full_over p finish limit began e = λ f le. let q : 1 ≡ limit - began + 1 = omega arith in subst (HasNodes f p) q (node_one f p)
+
+-- a node that is one more than may be opened
+pub full_shown : (x : Position) (best : Best) (before behind : Notes) (shown : Shown) → InLimits x.problem → before.opened ≡ before.limit
+    → behind.opened ≡ before.opened → behind.limit ≡ before.limit → behind.records.nodes.items ≡ before.records.nodes.items → behind.cert.finish ≡ before.cert.finish → behind.cut ≡ true
+    → IsKept shown.demand (of_bus 0) → shown.improved ≡ false → IsShown x best best before.opened before behind shown
+full_shown x best before behind shown limits is_full count limit known finish cut kept improved =
+    let long = ap length known in
+    let zero : 0 ≡ behind.opened - before.opened = omega arith in
+    record {
+      found = record { sooner = omega arith; run = λ q. absurd (false≢true (sym improved ∙ q)); kept = λ _. refl };
+      met = nothing_met x shown.demand limits kept;
+      opened = record {
+        more = omega arith;
+        some = λ q. absurd (false≢true (sym q ∙ cut));
+        within = omega arith;
+        nodes = λ f le. subst (HasNodes f x.problem) zero (nodes_none f x.problem);
+        few = omega arith;
+        same_finish = finish;
+        same_limit = limit;
+        stays = λ q. absurd (false≢true (sym q ∙ cut));
+        full = λ _. omega arith;
+        over = λ _. full_over x.problem best.finish behind.limit before.opened (omega arith);
+      };
+      written = λ q. absurd (false≢true (sym q ∙ cut));
+    }
+
+-- a node below which the walk was cut
+pub cut_shown : (x : Position) (moves : List Move) (soonest : Soonest) (first best : Best) (before notes : Notes) (standing : Standing) (shown : Shown) → InLimits x.problem → Halfway x moves moves soonest first best before notes standing
+    → notes.cut ≡ true → IsKept shown.demand (of_bus 0) → shown.improved ≡ standing.improved → IsShown x first best (before.opened - 1) before notes shown
+cut_shown x moves soonest first best before notes standing shown limits h cut kept improved =
+    let h1 = h.more in
+    let h2 = h.within in
+    let h3 = h.few in
+    let h4 = h.counted in
+    let h5 = h.same_limit in
+    let sum : 1 + (notes.opened - before.opened) ≡ notes.opened - (before.opened - 1) = omega arith in
+    let more : 1 + (before.limit - before.opened + 1) ≡ notes.limit - (before.opened - 1) + 1 = omega arith in
+    record {
+      found = subst (IsFound x first best) (sym improved) h.found;
+      met = nothing_met x shown.demand limits kept;
+      opened = record {
+        more = omega arith;
+        some = λ q. absurd (false≢true (sym q ∙ cut));
+        within = h.within;
+        nodes = λ f le. subst (HasNodes f x.problem) sum (among_all f x.problem moves (notes.opened - before.opened) (h.nodes f le));
+        few = omega arith;
+        same_finish = h.same_finish;
+        same_limit = h.same_limit;
+        stays = λ q. absurd (false≢true (sym q ∙ cut));
+        full = h.full;
+        over = λ q f le. subst (HasNodes f x.problem) more (among_all f x.problem moves (before.limit - before.opened + 1) (h.over q f le));
+      };
+      written = λ q. absurd (false≢true (sym q ∙ cut));
+    }
+
 -- what was shown once the node was counted
-pub counted_shown : (x : Position) (old new : Best) (before behind : Notes) (phases : Phases) (shown : Shown) → IsShown x old new (before.opened + 1 - 1) (record { cert = before.cert; opened = before.opened + 1; limit = before.limit; records = before.records; phases = phases }) behind shown → IsShown x old new before.opened before behind shown
+pub counted_shown : (x : Position) (old new : Best) (before behind : Notes) (phases : Phases) (shown : Shown) → IsShown x old new (before.opened + 1 - 1) (record { cert = before.cert; opened = before.opened + 1; limit = before.limit; cut = before.cut; records = before.records; phases = phases }) behind shown → IsShown x old new before.opened before behind shown
 counted_shown x old new before behind phases shown s =
     let n : before.opened + 1 - 1 ≡ before.opened = omega arith in
     let o = s.opened in
@@ -145,15 +229,20 @@ counted_shown x old new before behind phases shown s =
     record {
       found = s.found;
       met = s.met;
-      opened = record { more = omega arith; within = o.within; nodes = subst (λ k. AreMore x.problem old.finish (behind.opened - k)) n o.nodes; few = omega arith; same_finish = o.same_finish; same_limit = o.same_limit };
-      written = λ e. let w = s.written e in record { tree = w.tree; nodes = let c = w.nodes in omega arith; tokens = w.tokens; in_range = w.in_range; proves = w.proves };
+      opened = record {
+        more = omega arith;
+        some = λ q. let some = o.some q in omega arith;
+        within = o.within;
+        nodes = subst (λ k. AreMore x.problem old.finish (behind.opened - k)) n o.nodes;
+        few = omega arith;
+        same_finish = o.same_finish;
+        same_limit = o.same_limit;
+        stays = o.stays;
+        full = o.full;
+        over = λ q. subst (λ k. AreMore x.problem old.finish (behind.limit - k + 1)) n (o.over q);
+      };
+      written = λ q e. let w = s.written q e in record { tree = w.tree; nodes = let c = w.nodes in omega arith; tokens = w.tokens; in_range = w.in_range; proves = w.proves };
     }
-
-pub counted_over : (p : Problem) (finish limit began : ℕ) → AreMore p finish (limit - (began + 1 - 1) + 1) → AreMore p finish (limit - began + 1)
-counted_over p finish limit began over = let n : began + 1 - 1 ≡ began = omega arith in subst (λ k. AreMore p finish (limit - k + 1)) n over
-
-pub full_over : (p : Problem) (finish limit began : ℕ) → began ≡ limit → AreMore p finish (limit - began + 1)
-full_over p finish limit began e = λ f le. let q : 1 ≡ limit - began + 1 = omega arith in subst (HasNodes f p) q (node_one f p)
 
 -- what was shown behind a step
 pub step_visited : (x : Position) (step : KeptMove) (start : ℕ) (old mid new : Best) (before behind : Notes) (shown : Shown) (asked raised : List ℕ) → IsMove x.problem (move_of x.groups step) → start ≡ earliest x.problem (move_of x.groups step)
@@ -172,5 +261,5 @@ step_visited x step start old mid new before behind shown asked raised mv at s r
       met = s.met;
       raises = raises;
       opened = s.opened;
-      written = λ e. s.written (sym finish ∙ e);
+      written = λ q e. s.written q (sym finish ∙ e);
     }

@@ -1,23 +1,23 @@
 -- What a walk over a whole tree gives, and the plan by it.
-use Rattle.std.proofs.Common.{◌≡◌, ℕ, ◌+◌, ◌-◌, ◌≤◌, ◌<◌, ◌^◌, inl, inr, Bool, true, false, List, [], ◌++◌, length, sym, ap, ◌∙◌, subst, arith}
+use Rattle.std.proofs.Common.{◌≡◌, ℕ, ◌+◌, ◌-◌, ◌≤◌, ◌<◌, inl, inr, Bool, true, false, List, [], ◌∷◌, ◌++◌, length, sym, ap, ◌∙◌, subst, arith}
 use Rattle.std.specs.List.{AllByRecursion as Each}
-use Rattle.std.specs.Prelude.{nat_lt}
+use Rattle.std.specs.Prelude.{nat_lt, Result, Ok, Err, IfOk}
 use Rattle.std.proofs.lemmas.Bool.{cases_Bool, cases_lt, lt-ltb, le-ltb, false≢true}
 use Rattle.std.proofs.lemmas.List.Elements.{All-from_recursion}
 use Rattle.onfi_problem.specs.Problem.{Problem}
 use Rattle.onfi_problem.specs.Left.{InLimits}
 use Rattle.onfi_problem.specs.Position.{Position}
 use Rattle.onfi_problem.proofs.Perm.{append_nil}
-use Rattle.onfi_schedule.specs.Schedule.{Schedule, Optimal, finish}
+use Rattle.onfi_schedule.specs.Schedule.{Schedule, Legal, Optimal, finish}
 use Rattle.onfi_schedule.specs.Runs.{schedule_of}
 use Rattle.onfi_schedule.proofs.RunLegal.{run_legal}
 use Rattle.onfi_known.specs.declared.token.Token.{Token}
-use Rattle.onfi_known.specs.Proves.{Proves, ProvesTokens}
+use Rattle.onfi_known.specs.Proves.{Proves, ProvesTokens, closed}
 use Rattle.onfi_known.specs.Text.{InRange, IsCertificate, header, line}
 use Rattle.onfi_known.proofs.Sound.{proved_is_optimal}
 use Rattle.onfi_known.proofs.Views.{Begin, by_closing, by_again, by_opening, begin_of}
 use Rattle.onfi_planner.specs.Planning.{run_of, AreRising, IsRoot}
-use Rattle.onfi_planner.specs.Nodes.{HasMoreNodes}
+use Rattle.onfi_check.specs.Nodes.{HasMoreNodes, IsOpen}
 use Rattle.onfi_planner.specs.declared.fault.PlanFault.TheVariants.{Over}
 use Rattle.onfi_planner.specs.declared.search.Best.{Best}
 use Rattle.onfi_planner.proofs.Paths.{nodes_none}
@@ -27,21 +27,32 @@ use Rattle.onfi_planner.proofs.Beginning.{first_is_run}
 use Rattle.onfi_group.specs.Words.{Pairs}
 use Rattle.onfi_bound.specs.Loads.{AreLoads}
 use Rattle.onfi_bound.specs.declared.loads.Loads.{Loads}
+use Rattle.onfi_recall.specs.declared.closing.Closing.{Closing}
 use Rattle.onfi_recall.specs.declared.notes.Notes.{Notes}
+use Rattle.onfi_recall.specs.declared.planned.PlannedWithin.{PlannedWithin}
 use Rattle.onfi_recall.specs.declared.search.Shown.{Shown}
-use Rattle.onfi_recall.specs.Text.{ProvesText, nodes_in}
-use Rattle.onfi_recall.specs.Walks.{AreMore, HasSoMany, IsAt, IsBegun, IsBetter, IsFound, IsProved, IsRunOf, IsShown, IsTree}
+use Rattle.onfi_recall.specs.declared.planning.Searched.{Searched}
+use Rattle.onfi_recall.specs.Searched.{IsSearched}
+use Rattle.onfi_recall.specs.Text.{ProvesText, last_opened, nodes_in}
+use Rattle.onfi_recall.specs.Walks.{AreMore, ClosesBy, HasSoMany, IsAt, IsBegun, IsBetter, IsFound, IsProved, IsRunOf, IsShown, IsTree}
+use Rattle.onfi_recall.specs.Within.{IsShownBefore, IsSought, IsWithin}
+use Rattle.onfi_recall.specs.declared.sought.Sought.{Sought}
+use Rattle.onfi_recall.specs.declared.within.ShownBefore.{ShownBefore}
 
 pub still_better : (x : Position) (old new : Best) (improved : Bool) → IsFound x old new improved → IsBetter x old new
 still_better x old new improved f = record {
   sooner = f.sooner;
   run = λ r. elim (cases_Bool improved) [ inl q ↦ f.run q | inr q ↦ subst (IsRunOf x) (sym (f.kept q)) r ];
+  found = λ less. elim (cases_Bool improved) [ inl q ↦ f.run q | inr q ↦ (let same = ap (λ (z : Best). z.finish) (f.kept q) in absurd (omega arith)) ];
 }
 
+pub better_same : (x : Position) (best : Best) → IsBetter x best best
+better_same x best = record { sooner = omega arith; run = λ r. r; found = λ less. absurd (omega arith) }
+
 -- the tokens of a walk that found nothing sooner
-walk_proved : (x : Position) (old new : Best) (before behind : Notes) (shown : Shown) → IsShown x old new before.opened before behind shown → before.opened ≡ 0 → before.limit ≤ 1048576 → before.records.nodes.items ≡ [] → before.cert.tokens.items ≡ [] → new.finish ≡ before.cert.finish → IsProved x behind.cert.tokens.items new.finish
-walk_proved x old new before behind shown s zero limit known none e =
-    let w = s.written e in
+walk_proved : (x : Position) (old new : Best) (before behind : Notes) (shown : Shown) → IsShown x old new before.opened before behind shown → before.opened ≡ 0 → before.limit ≤ 1048576 → before.records.nodes.items ≡ [] → before.cert.tokens.items ≡ [] → behind.cut ≡ false → new.finish ≡ before.cert.finish → IsProved x behind.cert.tokens.items new.finish
+walk_proved x old new before behind shown s zero limit known none uncut e =
+    let w = s.written uncut e in
     let o = s.opened in
     let o1 = o.within in
     let o2 = o.few in
@@ -55,8 +66,8 @@ walk_proved x old new before behind shown s zero limit known none e =
       in_range = subst (Each InRange) (sym tokens) w.in_range;
     }
 
-pub walk_at : (x : Position) (loads : Loads) (best : Best) (notes : Notes) (limit : ℕ) → IsTree x loads → limit ≤ 1048576 → notes.cert.finish ≡ best.finish → notes.opened ≡ 0 → notes.limit ≡ limit → notes.records.nodes.items ≡ [] → IsAt x loads best notes
-walk_at x loads best notes limit tree few finish opened is none = let l = ap length none in record { tree = tree; finish = omega arith; within = omega arith; most = omega arith; few = omega arith }
+pub walk_at : (x : Position) (loads : Loads) (best : Best) (notes : Notes) (limit : ℕ) → IsTree x loads → limit ≤ 1048576 → notes.cert.finish ≡ best.finish → notes.opened ≡ 0 → notes.limit ≡ limit → notes.records.nodes.items ≡ [] → notes.cut ≡ false → IsAt x loads best notes
+walk_at x loads best notes limit tree few finish opened is none uncut = let l = ap length none in record { tree = tree; finish = omega arith; within = omega arith; most = omega arith; few = omega arith; full = λ q. absurd (false≢true (sym uncut ∙ q)) }
 
 -- whether it found something sooner
 pub walk_fallen : (a b c : ℕ) → b ≡ c → nat_lt a b ≡ true → a < c
@@ -75,13 +86,13 @@ still_ends x old new before behind shown s begun q =
       | inr k ↦ omega arith
     ]
 
-pub walk_stands : (x : Position) (old new : Best) (before behind : Notes) (shown : Shown) → IsShown x old new before.opened before behind shown → before.opened ≡ 0 → before.limit ≤ 1048576 → before.records.nodes.items ≡ [] → before.cert.tokens.items ≡ [] → before.cert.finish ≡ old.finish → nat_lt new.finish behind.cert.finish ≡ false → IsProved x behind.cert.tokens.items new.finish
-walk_stands x old new before behind shown s zero limit known none begun q = walk_proved x old new before behind shown s zero limit known none (still_ends x old new before behind shown s begun q)
+pub walk_stands : (x : Position) (old new : Best) (before behind : Notes) (shown : Shown) → IsShown x old new before.opened before behind shown → before.opened ≡ 0 → before.limit ≤ 1048576 → before.records.nodes.items ≡ [] → before.cert.tokens.items ≡ [] → before.cert.finish ≡ old.finish → behind.cut ≡ false → nat_lt new.finish behind.cert.finish ≡ false → IsProved x behind.cert.tokens.items new.finish
+walk_stands x old new before behind shown s zero limit known none begun uncut q = walk_proved x old new before behind shown s zero limit known none uncut (still_ends x old new before behind shown s begun q)
 
 -- its tokens have the nodes that it opened
-pub walk_counts : (x : Position) (old new : Best) (before behind : Notes) (shown : Shown) → IsShown x old new before.opened before behind shown → before.opened ≡ 0 → before.cert.tokens.items ≡ [] → before.cert.finish ≡ old.finish → nat_lt new.finish behind.cert.finish ≡ false → nodes_in behind.cert.tokens.items ≡ behind.opened
-walk_counts x old new before behind shown s zero none begun q =
-    let w = s.written (still_ends x old new before behind shown s begun q) in
+pub walk_counts : (x : Position) (old new : Best) (before behind : Notes) (shown : Shown) → IsShown x old new before.opened before behind shown → before.opened ≡ 0 → before.cert.tokens.items ≡ [] → before.cert.finish ≡ old.finish → behind.cut ≡ false → nat_lt new.finish behind.cert.finish ≡ false → nodes_in behind.cert.tokens.items ≡ behind.opened
+walk_counts x old new before behind shown s zero none begun uncut q =
+    let w = s.written uncut (still_ends x old new before behind shown s begun q) in
     let tokens : behind.cert.tokens.items ≡ w.tree = w.tokens ∙ ap (λ z. z ++ w.tree) none in
     let same = ap nodes_in tokens in
     let n = w.nodes in
@@ -101,12 +112,58 @@ text_is x tokens text e p is =
 pub text_proves : (x : Position) (tokens : List Token) (text : List ℕ) (e : ℕ) → IsProved x tokens e → text ≡ header x.problem.rules.strict ++ line tokens → ProvesText x text e
 text_proves x tokens text e p is = (tokens, text_is x tokens text e p is, p.proves)
 
+-- what the schedule of a run is
+pub legal_plan : (x : Position) (best : Best) (s : Schedule) → InLimits x.problem → IsRunOf x best → s ≡ schedule_of x.problem (run_of x.groups best.steps.items) → Legal x.problem s × (finish x.problem s ≡ best.finish) × AreRising s.groups
+legal_plan x best s limits run e =
+    let l = run_legal (run_of x.groups best.steps.items) x.problem best.finish limits.problem run in
+    (subst (Legal x.problem) (sym e) l.0, ap (finish x.problem) e ∙ l.1, subst (λ (z : Schedule). AreRising z.groups) (sym e) (run_rises (run_of x.groups best.steps.items) x.problem best.finish run))
+
 pub best_plan : (x : Position) (best : Best) (s : Schedule) (tokens : List Token) → InLimits x.problem → IsRunOf x best → IsProved x tokens best.finish → s ≡ schedule_of x.problem (run_of x.groups best.steps.items) → Optimal x.problem s × (finish x.problem s ≡ best.finish) × AreRising s.groups
 best_plan x best s tokens limits run p e =
-    let t = schedule_of x.problem (run_of x.groups best.steps.items) in
-    let l = run_legal (run_of x.groups best.steps.items) x.problem best.finish limits.problem run in
-    let o = proved_is_optimal x.all x.problem t tokens limits.problem limits.small l.0 (subst (ProvesTokens x.all tokens x.problem) (sym l.1) p.proves) in
-    (subst (Optimal x.problem) (sym e) o, ap (finish x.problem) e ∙ l.1, subst (λ (z : Schedule). AreRising z.groups) (sym e) (run_rises (run_of x.groups best.steps.items) x.problem best.finish run))
+    let l = legal_plan x best s limits run e in
+    (proved_is_optimal x.all x.problem s tokens limits.problem limits.small l.0 (subst (ProvesTokens x.all tokens x.problem) (sym l.1) p.proves), l.1, l.2)
+
+-- the plan by a run, where tokens show that nothing ends before a number
+pub within_plan : (x : Position) (best : Best) (shown : ShownBefore) (plan : PlannedWithin) → InLimits x.problem → IsRunOf x best → IsShownBefore x best.finish shown
+    → plan.schedule ≡ schedule_of x.problem (run_of x.groups best.steps.items) → plan.finish ≡ best.finish → plan.below ≡ shown.below → plan.cert.items ≡ header x.problem.rules.strict ++ line shown.tokens.items → IsWithin x plan
+within_plan x best shown plan limits run h is ends below text =
+    let l = legal_plan x best plan.schedule limits run is in
+    let le = h.within in
+    let proved = subst (IsProved x shown.tokens.items) (sym below) h.proved in
+    record {
+      legal = l.0;
+      ends = l.1 ∙ sym ends;
+      rising = l.2;
+      below = omega arith;
+      cert = text_proves x shown.tokens.items plan.cert.items plan.below proved text;
+      greatest = λ less. subst (λ n. IsOpen (n + 1) x.problem) (sym below) (h.greatest (omega arith));
+      optimal = λ e. (best_plan x best plan.schedule shown.tokens.items limits run (subst (IsProved x shown.tokens.items) (e ∙ ends) proved) is).0;
+    }
+
+-- a token that closes the root shows what it reaches
+token_proves : (x : Position) (e : ℕ) (closing : Closing) → ClosesBy x.problem e closing → IsProved x (closing.token ∷ []) e
+token_proves x e closing c = record {
+  proves = (closing.demand, [], closed x.problem [] closing.token closing.demand [] c.closes c.asks, omega arith);
+  in_range = (c.in_range, tt);
+}
+
+-- what the bounds show is found
+pub bounds_shown : (x : Position) (e : ℕ) (sought : Sought) (shown : ShownBefore) → IsSought x.problem e sought → sought.below ≡ sought.most → shown.below ≡ sought.below → shown.tokens.items ≡ sought.closing.token ∷ [] → IsShownBefore x e shown
+bounds_shown x e sought shown s found below tokens =
+    let most = s.most in
+    record {
+      within = omega arith;
+      proved = subst (λ ts. IsProved x ts shown.below) (sym tokens) (subst (IsProved x (sought.closing.token ∷ [])) (sym below) (token_proves x sought.below sought.closing s.closes));
+      greatest = λ less. subst (λ n. IsOpen (n + 1) x.problem) (sym (below ∙ found)) (s.open_above (omega arith));
+    }
+
+-- a walk that isn't cut shows that nothing ends before the best
+pub finish_shown : (x : Position) (e : ℕ) (shown : ShownBefore) → IsProved x shown.tokens.items e → shown.below ≡ e → IsShownBefore x e shown
+finish_shown x e shown p below = record {
+  within = omega arith;
+  proved = subst (IsProved x shown.tokens.items) (sym below) p;
+  greatest = λ less. absurd (omega arith);
+}
 
 pub root_run : (x : Position) (root : Root) → IsRoot x root → IsRunOf root.problem root.best
 root_run x root r = subst (λ z. IsRunOf z root.best) (sym r.same) (first_is_run (run_of x.groups root.best.steps.items) x.problem root.best.finish r.first_run)
@@ -124,12 +181,6 @@ root_begun x at root best r same run le rising =
       sooner = le;
     }
 
-pub begun_over : (x : Position) (root : Root) (finish limit opened : ℕ) → IsBegun x root → finish ≤ root.best.finish → (opened ≡ limit) × AreMore root.problem.problem finish (limit + 1) → (opened ≡ limit) × HasMoreNodes x.problem limit
-begun_over x root finish limit opened b le (e, over) =
-    let s = b.sooner in
-    let over' = subst (λ (z : Position). AreMore z.problem finish (limit + 1)) b.same over in
-    (e, (b.first, b.ends, over' b.first (omega arith)))
-
 pub tree_at : (x at : Position) (root : Root) → IsBegun x root → at ≡ root.problem → IsTree at root.loads
 tree_at x at root b e = subst (λ z. IsTree z root.loads) (sym (e ∙ b.same)) b.tree
 
@@ -138,24 +189,19 @@ better_more x at old mid new e b c =
     let s = b.sooner in
     let d = subst (λ z. IsBetter z mid new) e c in
     let t = d.sooner in
-    record { sooner = omega arith; run = λ r. d.run (b.run r) }
+    record {
+      sooner = omega arith;
+      run = λ r. d.run (b.run r);
+      found = λ less. elim (cases_lt new.finish mid.finish) [ inl k ↦ d.found k | inr k ↦ d.run (b.found (omega arith)) ];
+    }
 
--- what all walks together have found
-pub last_found : (x at : Position) (root : Root) (mid last : Best) → IsBegun x root → at ≡ root.problem → IsBetter root.problem root.best mid → IsBetter at mid last → IsRunOf x last × (last.finish < 2 ^ 63)
-last_found x at root mid last b e f g =
-    let h = better_more root.problem at root.best mid last e f g in
-    let small = b.small in
-    let le = h.sooner in
-    ((subst (λ z. IsBetter z root.best last) b.same h).run b.run, omega arith)
+-- the limit was met, where a search that opened none before has more nodes
+pub over_from_none : (p : Problem) (finish limit l o : ℕ) → l ≡ limit → o ≡ 0 → AreMore p finish (l - o + 1) → AreMore p finish (limit + 1)
+over_from_none p finish limit l o e z over = let n : l - o + 1 ≡ limit + 1 = omega arith in subst (AreMore p finish) n over
 
-pub over_later : (at x : Position) (a b opened limit : ℕ) → at ≡ x → a ≤ b → (opened ≡ limit) × AreMore at.problem a (limit + 1) → (opened ≡ limit) × AreMore x.problem b (limit + 1)
-over_later at x a b opened limit e le (q, over) = (q, subst (λ (z : Position). AreMore z.problem b (limit + 1)) e (λ f k. over f (omega arith)))
-
-pub over_told : (p : Problem) (finish limit l o told opened : ℕ) → l ≡ limit → o ≡ 0 → told ≡ limit → Over told ≡ Over opened → AreMore p finish (l - o + 1) → (opened ≡ limit) × AreMore p finish (limit + 1)
-over_told p finish limit l o told opened e z t q over =
-    let same : told ≡ opened = cc in
-    let n : l - o + 1 ≡ limit + 1 = omega arith in
-    (sym same ∙ t, subst (AreMore p finish) n over)
+-- a search that tells its limit tells that it met it
+pub over_limit : (p : Problem) (limit told opened : ℕ) → Over told ≡ Over opened → told ≡ limit → HasMoreNodes p limit → (opened ≡ limit) × HasMoreNodes p limit
+over_limit p limit told opened e is over = let same : told ≡ opened = cc in (sym same ∙ is, over)
 
 pub nodes_from_none : (p : Problem) (finish n o : ℕ) → o ≡ 0 → AreMore p finish (n - o) → AreMore p finish n
 nodes_from_none p finish n o z nodes = let e : n - o ≡ n = omega arith in subst (AreMore p finish) e nodes
@@ -166,8 +212,38 @@ nodes_later at x a b n e le nodes = subst (λ (z : Position). AreMore z.problem 
 pub none_opened : (p : Problem) (finish : ℕ) → AreMore p finish 0
 none_opened p finish = λ f le. nodes_none f p
 
-pub begun_many : (x at : Position) (root : Root) (finish n told : ℕ) → IsBegun x root → at ≡ root.problem → finish ≤ root.best.finish → told ≡ n → AreMore at.problem finish n → HasSoMany x.problem told
-begun_many x at root finish n told b e le t nodes =
-    let s = b.sooner in
-    let all = nodes_later at x finish b.first n (e ∙ b.same) (omega arith) nodes in
-    subst (HasSoMany x.problem) (sym t) (b.first, b.ends, all b.first (omega arith))
+-- so many nodes of the root's tree
+begun_many : (x : Position) (root : Root) (n : ℕ) → IsBegun x root → AreMore root.problem.problem root.best.finish n → HasSoMany x.problem n
+begun_many x root n b nodes = let s = b.sooner in (b.first, b.ends, (nodes_later root.problem x root.best.finish b.first n b.same s nodes) b.first (omega arith))
+
+-- what the walks from a root have found
+pub is_searched : (x : Position) (root : Root) (limit : ℕ) (s : Searched) → IsBegun x root → IsBetter root.problem root.best s.best → s.loads ≡ root.loads → s.opened ≤ limit → s.reopened ≤ limit
+    → AreMore root.problem.problem root.best.finish s.opened → AreMore root.problem.problem root.best.finish s.reopened → (1 ≤ s.reopened → s.best.finish < root.best.finish)
+    → (s.cut ≡ false → IsProved root.problem s.tokens.items s.best.finish) → (s.cut ≡ false → nodes_in s.tokens.items ≡ last_opened s.opened s.reopened) → (s.cut ≡ false → 1 ≤ s.opened)
+    → (s.cut ≡ true → AreMore root.problem.problem root.best.finish (limit + 1)) → IsSearched x limit s
+is_searched x root limit s b better loads opened reopened nodes more again proved counted some over =
+    let small = b.small in
+    let le = better.sooner in
+    let first = b.sooner in
+    record {
+      limits = b.tree.limits;
+      are_loads = subst (λ (z : Loads). AreLoads x z.of.items) (sym loads) b.tree.are_loads;
+      run = (subst (λ z. IsBetter z root.best s.best) b.same better).run b.run;
+      small = omega arith;
+      first = b.first;
+      ends = b.ends;
+      sooner = omega arith;
+      proved = λ q. subst (λ z. IsProved z s.tokens.items s.best.finish) b.same (proved q);
+      counted = counted;
+      some = some;
+      opened = opened;
+      reopened = reopened;
+      again = λ q. let less = again q in (b.first, b.ends, omega arith);
+      nodes = (begun_many x root s.opened b nodes, begun_many x root s.reopened b more);
+      over = λ q. begun_many x root (limit + 1) b (over q);
+    }
+
+-- the plan tells how many nodes were opened
+pub counts_told : {E : Type 0} (p : Problem) (r : Result PlannedWithin E) (opened reopened : ℕ) → IfOk r (λ plan. plan.opened ≡ opened) → IfOk r (λ plan. plan.reopened ≡ reopened) → HasSoMany p opened × HasSoMany p reopened → IfOk r (λ plan. HasSoMany p plan.opened × HasSoMany p plan.reopened)
+counts_told p (Ok plan) opened reopened a b many = (subst (HasSoMany p) (sym a) many.0, subst (HasSoMany p) (sym b) many.1)
+counts_told p (Err fault) opened reopened a b many = tt

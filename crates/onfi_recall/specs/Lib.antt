@@ -1,5 +1,7 @@
 pub mod Codes
+pub mod Searched
 pub mod Steps
 pub mod Text
 pub mod Times
 pub mod Walks
+pub mod Within

@@ -24,9 +24,8 @@ use Rattle.onfi_known.specs.declared.known.Known.{Known}
 use Rattle.onfi_known.specs.declared.token.Token.{Token}
 use Rattle.onfi_known.specs.declared.token.Token.TheVariants.{Branch}
 use Rattle.onfi_known.specs.declared.token.TheConstants.{MOST_KNOWN}
-use Rattle.onfi_planner.specs.First.{EndsFirstRun}
-use Rattle.onfi_planner.specs.Nodes.{HasNodes}
-use Rattle.onfi_planner.specs.Opening.{IsOpen}
+use Rattle.onfi_check.specs.First.{EndsFirstRun}
+use Rattle.onfi_check.specs.Nodes.{IsOpen, HasNodes}
 use Rattle.onfi_planner.specs.Planning.{run_of}
 use Rattle.onfi_planner.specs.declared.root.Root.{Root}
 use Rattle.onfi_planner.specs.declared.search.Best.{Best}
@@ -54,10 +53,11 @@ IsRunOf x best = Run x.problem (run_of x.groups best.steps.items) best.finish
 abbrev pub EndsSooner : Problem → ℕ → Type 0
 EndsSooner p finish = (first : ℕ) × EndsFirstRun p first × (finish < first)
 
--- the best is no later, and still a run
+-- the best is no later, and still a run; where it is sooner, it is one
 pub record IsBetter (x : Position) (old new : Best) : Type 0 where
   pub sooner : new.finish ≤ old.finish
   pub run : IsRunOf x old → IsRunOf x new
+  pub found : new.finish < old.finish → IsRunOf x new
 
 -- what a walk begins with
 pub record IsTree (x : Position) (loads : Loads) : Type 0 where
@@ -87,6 +87,7 @@ pub record IsAt (x : Position) (loads : Loads) (best : Best) (notes : Notes) : T
   pub within : notes.opened ≤ notes.limit
   pub most : notes.limit ≤ MOST_KNOWN
   pub few : length notes.records.nodes.items ≤ notes.opened
+  pub full : notes.cut ≡ true → notes.opened ≡ notes.limit
 
 -- the token closes the node by a bound
 pub record ClosesBy (p : Problem) (e : ℕ) (c : Closing) : Type 0 where
@@ -101,14 +102,18 @@ pub record IsClosing (e : ℕ) (x : Position) (known : List Known) (c : Closing)
   pub met : Meets x.problem (demand_of c.demand)
   pub proves : (rest : List Token) → Proves e x.all x.problem known (c.token ∷ rest) c.demand known rest
 
--- so many nodes were opened and remembered since
+-- so many nodes were opened and remembered since; a walk that is cut has met one more than it may open, and is cut for good
 pub record HasOpened (p : Problem) (finish began : ℕ) (before behind : Notes) : Type 0 where
-  pub more : began < behind.opened
+  pub more : began ≤ behind.opened
+  pub some : behind.cut ≡ false → began < behind.opened
   pub within : behind.opened ≤ behind.limit
   pub nodes : AreMore p finish (behind.opened - began)
   pub few : length behind.records.nodes.items + began ≤ length before.records.nodes.items + behind.opened
   pub same_finish : behind.cert.finish ≡ before.cert.finish
   pub same_limit : behind.limit ≡ before.limit
+  pub stays : behind.cut ≡ false → before.cut ≡ false
+  pub full : behind.cut ≡ true → behind.opened ≡ behind.limit
+  pub over : behind.cut ≡ true → AreMore p finish (behind.limit - began + 1)
 
 -- the tokens of the node's accepted tree for e were written, one for each node opened, and its open nodes remembered
 pub record HasWritten (e : ℕ) (x : Position) (began : ℕ) (before behind : Notes) (d : Kept) : Type 0 where
@@ -129,7 +134,7 @@ pub record IsShown (x : Position) (old new : Best) (began : ℕ) (before behind 
   pub found : IsFound x old new shown.improved
   pub met : Meets x.problem (demand_of shown.demand)
   pub opened : HasOpened x.problem old.finish began before behind
-  pub written : new.finish ≡ before.cert.finish → HasWritten before.cert.finish x began before behind shown.demand
+  pub written : behind.cut ≡ false → new.finish ≡ before.cert.finish → HasWritten before.cert.finish x began before behind shown.demand
 
 -- what was shown of the node behind a step, and what is asked before it
 pub record Visited (x : Position) (step : KeptMove) (old new : Best) (before behind : Notes) (asked raised : List ℕ) (improved : Bool) : Type 0 where
@@ -138,7 +143,7 @@ pub record Visited (x : Position) (step : KeptMove) (old new : Best) (before beh
   pub met : Meets (moved x step).problem (demand_of demand)
   pub raises : AreRaised x.problem (move_of x.groups step) demand asked raised
   pub opened : HasOpened (moved x step).problem old.finish before.opened before behind
-  pub written : new.finish ≡ before.cert.finish → HasWritten before.cert.finish (moved x step) before.opened before behind demand
+  pub written : behind.cut ≡ false → new.finish ≡ before.cert.finish → HasWritten before.cert.finish (moved x step) before.opened before behind demand
 
 -- the moves of a LUN may yield to the soonest
 pub record Awaits (p : Problem) (soonest : Soonest) (own : ℕ) : Type 0 where
@@ -186,6 +191,7 @@ pub record Halfway (x : Position) (moves firsts : List Move) (soonest : Soonest)
   pub is_soonest : IsSoonest x.problem moves soonest
   pub begun : first.finish ≤ before.cert.finish
   pub counted : 1 ≤ before.opened
+  pub uncut : before.cut ≡ false
   pub found : IsFound x first best standing.improved
   pub met : (lun : ℕ) → lun < 8 → has_left x.problem lun ≡ true → slice_index standing.asked lun ≤ may_go x.problem lun
   pub waits : (lun : ℕ) → lun < 8 → slice_index_or standing.yielded lun false ≡ true → Awaits x.problem soonest lun
@@ -195,4 +201,6 @@ pub record Halfway (x : Position) (moves firsts : List Move) (soonest : Soonest)
   pub few : length notes.records.nodes.items + before.opened ≤ length before.records.nodes.items + notes.opened
   pub same_finish : notes.cert.finish ≡ before.cert.finish
   pub same_limit : notes.limit ≡ before.limit
-  pub growing : best.finish ≡ before.cert.finish → Growing before.cert.finish x moves firsts soonest before notes standing
+  pub full : notes.cut ≡ true → notes.opened ≡ notes.limit
+  pub over : notes.cut ≡ true → (f : ℕ) → first.finish ≤ f → Among f x.problem firsts (before.limit - before.opened + 1)
+  pub growing : notes.cut ≡ false → best.finish ≡ before.cert.finish → Growing before.cert.finish x moves firsts soonest before notes standing

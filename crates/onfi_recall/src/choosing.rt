@@ -22,6 +22,9 @@ use std::alloc::{AllocError, Global};
 /// How to choose among the moves that may start first.
 #[derive(Clone, Copy)]
 pub enum Rule {
+    /// What sets a LUN to work or lets it go before what fills the bus: commands of groups that run, statuses, reads, data
+    /// outputs, programs, erases; then the most wants.
+    LunsFirst,
     /// Of the LUN with the most work left, then the most wants.
     Work,
     /// Commands before posts, then the most wants, then erases before programs before reads.
@@ -34,7 +37,8 @@ pub enum Rule {
 
 const RULES: [Rule; 4] = [Rule::Work, Rule::Commands, Rule::Posts, Rule::FewestWants];
 
-/// The best among a schedule and those of the rules, of which none is tried once a bound shows that nothing ends sooner.
+/// The best among a schedule and those of the rules. The one that sets LUNs to work first is given where none ends sooner,
+/// since its LUNs are free early; of the others none is tried once a bound shows that nothing ends sooner.
 ///
 /// # Errors
 /// Only where memory was refused.
@@ -50,16 +54,43 @@ pub fn best_of_rules(
     ensures run { IfOk result (IsRunOf problem.old) }
     ensures sooner { IfOk result (λ best. best.finish ≤ first.finish) }
 {
-    let mut best = first;
+    let luns_first = schedule_by(alloc, problem, loads, Rule::LunsFirst)?;
+    let mut best = no_later(first, luns_first);
     for rule in RULES {
         if loads.closing(problem, best.finish).is_some() {
             return Ok(best);
         }
-        let mut steps = Vec::new(alloc);
-        let finish = run_by(problem, loads, rule, &mut steps)?;
-        best = sooner(best, Best { finish, steps });
+        let other = schedule_by(alloc, problem, loads, rule)?;
+        best = sooner(best, other);
     }
     Ok(best)
+}
+
+// The schedule of a rule.
+fn schedule_by(
+    alloc: Global,
+    problem: &mut Problem,
+    loads: &Loads,
+    rule: Rule,
+) -> Result<Best, AllocError>
+    ensures problem { OnOk result (problem.new ≡ problem.old) }
+    ensures run { IfOk result (IsRunOf problem.old) }
+{
+    let mut steps = Vec::new(alloc);
+    let finish = run_by(problem, loads, rule, &mut steps)?;
+    Ok(Best { finish, steps })
+}
+
+// The one of two that ends first; the other of equals.
+fn no_later(best: Best, other: Best) -> Best
+    ensures run { (problem : Position) → IsRunOf problem best → IsRunOf problem other → IsRunOf problem result }
+    ensures sooner { result.finish ≤ best.finish }
+{
+    if other.finish <= best.finish {
+        other
+    } else {
+        best
+    }
 }
 
 // The one of two that ends first; the first of equals.
@@ -157,10 +188,54 @@ fn rank(problem: &Problem, work: &[u64; 8], rule: Rule, m: Move) -> u64
     let lun = m.lun();
     let wants = started_wants(problem, m);
     match rule {
+        Rule::LunsFirst => rank_of_turn(turn_of(problem, lun, m), wants),
         Rule::Work => work_left(problem, work, lun).saturating_add(wants),
         Rule::FewestWants => work_left(problem, work, lun).saturating_sub(wants),
         Rule::Commands => rank_of_command(is_post(problem, lun), wants, kind_rank(problem, m)),
         Rule::Posts => rank_of_post(is_post(problem, lun), wants),
+    }
+}
+
+// The earlier turn ranks above the later one, and then the more wants.
+fn rank_of_turn(turn: u64, wants: u64) -> u64 {
+    turn.saturating_mul(16).saturating_add(wants)
+}
+
+// The turn of a move: the greater the number, the less it fills the bus for what it lets LUNs do.
+fn turn_of(problem: &Problem, lun: u8, m: Move) -> u64
+    requires step { IsMove problem.now.problem (move_of problem.now.groups m) }
+    requires lun { lun < length problem.now.problem.luns }
+{
+    match m {
+        Move::Next { .. } => turn_of_running(problem, lun),
+        Move::Start { place, .. } => match problem.group(place).kind() {
+            Kind::Read => 4,
+            Kind::Program => 2,
+            Kind::Erase => 1,
+        },
+    }
+}
+
+// The turn of a group that goes on.
+fn turn_of_running(problem: &Problem, lun: u8) -> u64
+    requires { lun < length problem.now.problem.luns }
+{
+    match left_on(problem, lun) {
+        LunLeft::Idle => 0,
+        LunLeft::Rest {
+            kind,
+            members,
+            next,
+        } => {
+            if next < members {
+                return 6;
+            }
+            match kind {
+                Kind::Read => 3,
+                Kind::Program => 5,
+                Kind::Erase => 5,
+            }
+        }
     }
 }
 

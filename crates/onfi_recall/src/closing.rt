@@ -5,7 +5,7 @@ ghost use Rattle.onfi_group.specs.Words.{Pairs};
 ghost use Rattle.onfi_bound.specs.Loads.{AreLoads};
 ghost use Rattle.onfi_bound.specs.Reaching.{Reaches};
 ghost use Rattle.onfi_demand.specs.Window.{IsWindow};
-ghost use Rattle.onfi_planner.specs.Opening.{IsOpen};
+ghost use Rattle.onfi_check.specs.Nodes.{IsOpen};
 ghost use Rattle.onfi_recall.specs.Walks.{ClosesBy, IsClosing};
 ghost use Rattle.onfi_known.specs.declared.token.TheConstants.{MOST_KNOWN as most};
 
@@ -52,6 +52,26 @@ pub fn find_closing(
     by_window(problem, loads, e, phases)
 }
 
+/// The first bound that closes a node for the finish `e`, in ns, or a window.
+///
+/// # Errors
+/// Only where memory was refused.
+pub fn bound_reaching(
+    problem: &Problem,
+    loads: &Loads,
+    e: u64,
+    phases: &mut Phases,
+) -> Result<Option<Closing>, AllocError>
+    requires { AreLoads problem.now loads.now.of.items }
+    ensures closing { IfOk result (λ found. IfSome found (ClosesBy problem.now.problem e)) }
+    ensures open { IfOk result (λ found. IfNone found (IsOpen e problem.now.problem)) }
+{
+    if let Some(closing) = by_bound(problem, loads, e) {
+        return Ok(Some(closing));
+    }
+    by_window(problem, loads, e, phases)
+}
+
 // The first bound that reaches `e`.
 fn by_bound(problem: &Problem, loads: &Loads, e: u64) -> Option<Closing>
     requires { AreLoads problem.now loads.now.of.items }
@@ -64,8 +84,8 @@ fn by_bound(problem: &Problem, loads: &Loads, e: u64) -> Option<Closing>
     }
 }
 
-// The token of a bound that reaches `e`.
-fn bound_closing(problem: &Problem, bound: Bound, e: u64) -> Closing
+/// The token of a bound that reaches `e`, in ns.
+pub fn bound_closing(problem: &Problem, bound: Bound, e: u64) -> Closing
     requires { Reaches problem.now.problem e bound }
     ensures { ClosesBy problem.now.problem e result }
 {

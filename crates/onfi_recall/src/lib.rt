@@ -8,6 +8,7 @@
 mod cert;
 mod choosing;
 mod closing;
+mod gap;
 mod guessed;
 mod notes;
 mod phases;
@@ -15,9 +16,12 @@ mod planned;
 mod planning;
 mod records;
 mod search;
+mod sought;
 mod standing;
 mod text;
+mod within;
 mod yields;
 
-pub use planned::PlannedKnown;
+pub use planned::{PlannedKnown, PlannedWithin};
 pub use planning::plan_known;
+pub use within::plan_within;

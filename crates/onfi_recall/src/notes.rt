@@ -1,6 +1,6 @@
 //! What a walk keeps beside the best schedule.
 
-ghost use Rattle.std.specs.Prelude.{◌≡◌, []};
+ghost use Rattle.std.specs.Prelude.{◌≡◌, false, []};
 
 use crate::cert::Cert;
 use crate::phases::Phases;
@@ -14,6 +14,8 @@ pub struct Notes {
     pub cert: Cert,
     pub opened: u32,
     pub limit: u32,
+    /// Whether it met more nodes than it may open.
+    pub cut: bool,
     pub records: Records,
     pub phases: Phases,
 }
@@ -25,12 +27,14 @@ impl Notes {
         ensures tokens { result.cert.tokens.items ≡ [] }
         ensures opened { result.opened ≡ 0 }
         ensures limit { result.limit ≡ limit }
+        ensures uncut { result.cut ≡ false }
         ensures none { result.records.nodes.items ≡ [] }
     {
         Notes {
             cert: Cert::new(alloc, finish),
             opened: 0,
             limit,
+            cut: false,
             records: Records::new(alloc),
             phases: Phases::new(alloc),
         }

@@ -16,3 +16,20 @@ pub struct PlannedKnown {
     /// schedule was the best.
     pub reopened: u32,
 }
+
+/// A schedule of a problem, and before what no schedule ends.
+#[derive(Drop)]
+pub struct PlannedWithin {
+    /// As in a [`PlannedKnown`].
+    pub schedule: Schedule,
+    /// When the last phase ends, in ns; where no phase is left, from when on the bus is free.
+    pub finish: u64,
+    /// No schedule ends before it, in ns; where it is the finish, none ends sooner than this one.
+    pub below: u64,
+    /// The text of the certificate that shows it.
+    pub cert: Vec<u8>,
+    /// How many nodes the first search opened.
+    pub opened: u32,
+    /// How many nodes the last search opened; 0 where that was the first one.
+    pub reopened: u32,
+}

@@ -3,10 +3,11 @@
 ghost use Rattle.std.specs.Prelude.{◌≡◌, ◌+◌, ◌^◌, ℕ, ◌≤◌, ◌<◌, true, false, IfOk, IfErr, OnOk};
 ghost use Rattle.onfi_problem.specs.Left.{InLimits};
 ghost use Rattle.onfi_schedule.specs.Schedule.{Optimal, finish};
-ghost use Rattle.onfi_planner.specs.Nodes.{HasMoreNodes};
+ghost use Rattle.onfi_check.specs.Nodes.{HasMoreNodes};
 ghost use Rattle.onfi_planner.specs.Planning.{AreRising};
 ghost use Rattle.onfi_recall.specs.Text.{HasNodesIn, ProvesText, last_opened, nodes_in};
 ghost use Rattle.onfi_recall.specs.Walks.{AreMore, EndsSooner, HasSoMany, IsBegun, IsBetter, IsProved, IsRunOf, IsTree};
+ghost use Rattle.onfi_recall.specs.Searched.{IsSearched};
 
 use crate::choosing::best_of_rules;
 use crate::notes::Notes;
@@ -15,7 +16,7 @@ use crate::search::search;
 use crate::text::text_of;
 use onfi_bound::Loads;
 use onfi_known::Token;
-use onfi_planner::{Best, PlanFault, Root, Stop, root_of, schedule_of};
+use onfi_planner::{Best, PlanFault, Root, root_of, schedule_of};
 use onfi_problem::Problem;
 use std::alloc::{AllocError, Global};
 
@@ -41,9 +42,48 @@ pub fn plan_known(alloc: Global, problem: &Problem, limit: u32) -> Result<Planne
     ensures nodes { IfOk result (λ plan. HasSoMany problem.now.problem plan.opened × HasSoMany problem.now.problem plan.reopened) }
     ensures over { IfErr result (λ fault. (opened : ℕ) → fault ≡ PlanFault.Over opened → (opened ≡ limit) × HasMoreNodes problem.now.problem limit) }
 {
-    let Ok(root) = begin(alloc, problem) else {
+    let Ok(searched) = search_tree(alloc, problem, limit) else {
         return Err(PlanFault::Memory);
     };
+    if searched.cut {
+        return Err(PlanFault::Over { opened: limit });
+    }
+    let (best, tokens) = (&searched.best, searched.tokens.as_slice());
+    let (opened, reopened) = (searched.opened, searched.reopened);
+    let Ok(planned) = found_plan(alloc, problem, best, tokens, opened, reopened) else {
+        return Err(PlanFault::Memory);
+    };
+    Ok(planned)
+}
+
+/// What the walks over a problem's tree have found.
+#[derive(Drop)]
+pub struct Searched {
+    /// What each set of the problem's wants takes.
+    pub loads: Loads,
+    /// The best schedule that was found.
+    pub best: Best,
+    /// The tokens that show that nothing ends sooner, where no walk was cut.
+    pub tokens: Vec<Token>,
+    /// Whether a walk was cut, since it met more nodes than it may open.
+    pub cut: bool,
+    /// How many nodes the first walk opened.
+    pub opened: u32,
+    /// How many nodes the last walk opened, or 0 where that was the first one.
+    pub reopened: u32,
+}
+
+/// Walks over the tree of a problem until a walk finds nothing sooner or is cut; each opens at most `limit` nodes, 1 to
+/// 1,048,576.
+///
+/// # Errors
+/// Only where memory was refused.
+pub fn search_tree(alloc: Global, problem: &Problem, limit: u32) -> Result<Searched, AllocError>
+    requires some { 1 ≤ limit }
+    requires few { limit ≤ 1048576 }
+    ensures { IfOk result (IsSearched problem.now limit) }
+{
+    let root = begin(alloc, problem)?;
     let Root {
         problem: mut at,
         loads,
@@ -51,16 +91,32 @@ pub fn plan_known(alloc: Global, problem: &Problem, limit: u32) -> Result<Planne
     } = root;
     let found = walk(alloc, &mut at, &loads, &mut best, limit)?;
     let opened = found.opened;
+    if found.cut {
+        return Ok(Searched {
+            loads,
+            best,
+            tokens: found.tokens,
+            cut: true,
+            opened,
+            reopened: 0,
+        });
+    }
     let written = walk_again(alloc, &mut at, &loads, &mut best, found, limit)?;
-    let tokens = written.tokens.as_slice();
-    let Ok(planned) = found_plan(alloc, problem, &best, tokens, opened, written.opened) else {
-        return Err(PlanFault::Memory);
-    };
-    Ok(planned)
+    Ok(Searched {
+        loads,
+        best,
+        tokens: written.tokens,
+        cut: written.cut,
+        opened,
+        reopened: written.opened,
+    })
 }
 
-// A problem's root, where the best of the first schedules is the best so far.
-fn begin(alloc: Global, problem: &Problem) -> Result<Root, AllocError>
+/// A problem's root, where the best of the first schedules is the best so far.
+///
+/// # Errors
+/// Only where memory was refused.
+pub fn begin(alloc: Global, problem: &Problem) -> Result<Root, AllocError>
     ensures { IfOk result (IsBegun problem.now) }
 {
     let root = root_of(alloc, problem)?;
@@ -77,10 +133,22 @@ fn begin(alloc: Global, problem: &Problem) -> Result<Root, AllocError>
 /// What a walk over the tree of a problem has given.
 #[derive(Drop)]
 pub struct Walked {
-    /// The tokens of the tree, where no sooner finish was found.
+    /// The tokens of the tree, where no sooner finish was found and the walk wasn't cut.
     pub tokens: Vec<Token>,
     pub improved: bool,
+    /// Whether it met more nodes than it may open.
+    pub cut: bool,
     pub opened: u32,
+}
+
+impl Walked {
+    // Whether another walk is due, since the tokens of this one are of a later finish.
+    fn is_outdone(&self) -> bool
+        ensures outdone { result ≡ true → self.now.improved ≡ true }
+        ensures stands { result ≡ false → self.now.cut ≡ false → self.now.improved ≡ false }
+    {
+        self.improved && !self.cut
+    }
 }
 
 // Walks over the tree of a problem for a sooner finish than the best.
@@ -90,60 +158,61 @@ fn walk(
     loads: &Loads,
     best: &mut Best,
     limit: u32,
-) -> Result<Walked, PlanFault>
+) -> Result<Walked, AllocError>
     requires root { IsTree at.old loads.now }
     requires few { limit ≤ 1048576 }
     ensures problem { OnOk result (at.new ≡ at.old) }
     ensures found { OnOk result (IsBetter at.old best.old best.new) }
     ensures fallen { IfOk result (λ walked. walked.improved ≡ true → best.new.finish < best.old.finish) }
-    ensures proved { IfOk result (λ walked. walked.improved ≡ false → IsProved at.old walked.tokens.items best.new.finish) }
-    ensures some { IfOk result (λ walked. 1 ≤ walked.opened) }
-    ensures counted { IfOk result (λ walked. walked.improved ≡ false → nodes_in walked.tokens.items ≡ walked.opened) }
+    ensures proved { IfOk result (λ walked. walked.cut ≡ false → walked.improved ≡ false → IsProved at.old walked.tokens.items best.new.finish) }
+    ensures some { IfOk result (λ walked. walked.cut ≡ false → 1 ≤ walked.opened) }
+    ensures counted { IfOk result (λ walked. walked.cut ≡ false → walked.improved ≡ false → nodes_in walked.tokens.items ≡ walked.opened) }
     ensures opened { IfOk result (λ walked. walked.opened ≤ limit) }
     ensures nodes { IfOk result (λ walked. AreMore at.old.problem best.old.finish walked.opened) }
-    ensures over { IfErr result (λ fault. (opened : ℕ) → fault ≡ PlanFault.Over opened → (opened ≡ limit) × AreMore at.old.problem best.old.finish (limit + 1)) }
+    ensures over { IfOk result (λ walked. walked.cut ≡ true → AreMore at.old.problem best.old.finish (limit + 1)) }
 {
     let mut notes = Notes::new(alloc, best.finish, limit);
-    match search(at, loads, best, &mut notes) {
-        Ok(_) => {}
-        Err(Stop::Over) => return Err(PlanFault::Over { opened: limit }),
-        Err(Stop::Memory) => return Err(PlanFault::Memory),
-    }
+    search(at, loads, best, &mut notes)?;
     let improved = best.finish < notes.cert.finish;
     Ok(Walked {
         tokens: notes.cert.tokens,
         improved,
+        cut: notes.cut,
         opened: notes.opened,
     })
 }
 
-// Walks until a walk finds nothing sooner; that one has written the tokens.
-fn walk_on(
+/// Walks until a walk finds nothing sooner, which has written the tokens then, or is cut; each opens at most `limit`
+/// nodes, 1,048,576 at most.
+///
+/// # Errors
+/// Only where memory was refused.
+pub fn walk_on(
     alloc: Global,
     at: &mut Problem,
     loads: &Loads,
     best: &mut Best,
     limit: u32,
-) -> Result<Walked, PlanFault>
+) -> Result<Walked, AllocError>
     requires root { IsTree at.old loads.now }
     requires few { limit ≤ 1048576 }
     ensures found { OnOk result (IsBetter at.old best.old best.new) }
-    ensures proved { IfOk result (λ walked. IsProved at.old walked.tokens.items best.new.finish) }
-    ensures some { IfOk result (λ walked. 1 ≤ walked.opened) }
-    ensures counted { IfOk result (λ walked. nodes_in walked.tokens.items ≡ walked.opened) }
+    ensures proved { IfOk result (λ walked. walked.cut ≡ false → IsProved at.old walked.tokens.items best.new.finish) }
+    ensures counted { IfOk result (λ walked. walked.cut ≡ false → nodes_in walked.tokens.items ≡ walked.opened) }
+    ensures some { IfOk result (λ walked. walked.cut ≡ false → 1 ≤ walked.opened) }
     ensures opened { IfOk result (λ walked. walked.opened ≤ limit) }
     ensures nodes { IfOk result (λ walked. AreMore at.old.problem best.old.finish walked.opened) }
-    ensures over { IfErr result (λ fault. (opened : ℕ) → fault ≡ PlanFault.Over opened → (opened ≡ limit) × AreMore at.old.problem best.old.finish (limit + 1)) }
+    ensures over { IfOk result (λ walked. walked.cut ≡ true → AreMore at.old.problem best.old.finish (limit + 1)) }
 {
     let walked = walk(alloc, at, loads, best, limit)?;
-    if walked.improved {
+    if walked.is_outdone() {
         return walk_on(alloc, at, loads, best, limit);
     }
     Ok(walked)
 }
 
-// Walks once more where a walk has found a sooner finish, so that the tokens are written for it; tells how many nodes
-// were opened once more.
+// Walks once more where a walk that wasn't cut has found a sooner finish, so that the tokens are written for it; tells
+// how many nodes were opened once more.
 fn walk_again(
     alloc: Global,
     at: &mut Problem,
@@ -151,18 +220,18 @@ fn walk_again(
     best: &mut Best,
     found: Walked,
     limit: u32,
-) -> Result<Walked, PlanFault>
+) -> Result<Walked, AllocError>
     requires root { IsTree at.old loads.now }
     requires few { limit ≤ 1048576 }
     requires proved { found.improved ≡ false → IsProved at.old found.tokens.items best.old.finish }
     requires counted { found.improved ≡ false → nodes_in found.tokens.items ≡ found.opened }
     ensures found { OnOk result (IsBetter at.old best.old best.new) }
-    ensures proved { IfOk result (λ walked. IsProved at.old walked.tokens.items best.new.finish) }
-    ensures counted { IfOk result (λ walked. nodes_in walked.tokens.items ≡ last_opened found.opened walked.opened) }
+    ensures proved { IfOk result (λ walked. walked.cut ≡ false → IsProved at.old walked.tokens.items best.new.finish) }
+    ensures counted { IfOk result (λ walked. walked.cut ≡ false → nodes_in walked.tokens.items ≡ last_opened found.opened walked.opened) }
     ensures again { IfOk result (λ walked. 1 ≤ walked.opened → found.improved ≡ true) }
     ensures opened { IfOk result (λ walked. walked.opened ≤ limit) }
     ensures nodes { IfOk result (λ walked. AreMore at.old.problem best.old.finish walked.opened) }
-    ensures over { IfErr result (λ fault. (opened : ℕ) → fault ≡ PlanFault.Over opened → (opened ≡ limit) × AreMore at.old.problem best.old.finish (limit + 1)) }
+    ensures over { IfOk result (λ walked. walked.cut ≡ true → AreMore at.old.problem best.old.finish (limit + 1)) }
 {
     if found.improved {
         return walk_on(alloc, at, loads, best, limit);
@@ -170,6 +239,7 @@ fn walk_again(
     Ok(Walked {
         tokens: found.tokens,
         improved: false,
+        cut: false,
         opened: 0,
     })
 }

@@ -1,14 +1,16 @@
 //! The walk that finds the finish, and writes the certificate.
 
-ghost use Rattle.std.specs.Prelude.{◌≡◌, ◌+◌, ◌-◌, ℕ, ◌≤◌, ◌<◌, true, false, [], ◌∷◌, ◌++◌, List, IfOk, IfErr, OnOk, length, slice_index};
+ghost use Rattle.std.specs.Prelude.{◌≡◌, ◌+◌, ◌-◌, ℕ, ◌≤◌, ◌<◌, true, false, [], ◌∷◌, ◌++◌, List, IfOk, OnOk, length, slice_index};
 ghost use Rattle.std.specs.List.{AllByRecursion as Each};
 ghost use Rattle.onfi_group.specs.Words.{Has};
 ghost use Rattle.onfi_problem.specs.Moves.{AreMoves, Move as OneMove};
 ghost use Rattle.onfi_problem.specs.Position.{move_of, moves_of, moved};
 ghost use Rattle.onfi_problem.specs.Starts.{IsNamed};
-ghost use Rattle.onfi_planner.specs.Opening.{IsOpen};
+ghost use Rattle.onfi_check.specs.Nodes.{IsOpen};
+ghost use Rattle.onfi_demand.specs.Demand.{of_bus};
+ghost use Rattle.onfi_demand.specs.Kept.{IsKept};
 ghost use Rattle.onfi_recall.specs.Steps.{IsStep};
-ghost use Rattle.onfi_recall.specs.Walks.{AreMore, Halfway, IsAt, IsFound, IsShown, Visited};
+ghost use Rattle.onfi_recall.specs.Walks.{Halfway, IsAt, IsFound, IsShown, Visited};
 ghost use Rattle.onfi_recall.specs.declared.notes.Notes.{Notes as AnyNotes};
 ghost use Rattle.onfi_planner.specs.declared.search.Best.{Best as AnyBest};
 
@@ -21,7 +23,7 @@ use onfi_cert::Width;
 use onfi_check::last_ends;
 use onfi_demand::Demand;
 use onfi_known::{Token, step_behind};
-use onfi_planner::{Begun, Best, Stop};
+use onfi_planner::{Begun, Best};
 use onfi_problem::{Move, Moves, Problem};
 use std::alloc::AllocError;
 
@@ -32,36 +34,47 @@ pub struct Shown {
     pub improved: bool,
 }
 
-/// Looks below a node for what ends before the best, and writes the tokens of its tree.
+impl Shown {
+    // Of a node that the walk gives up: it asks for nothing.
+    fn given_up(improved: bool) -> Shown
+        ensures demand { IsKept result.demand (of_bus 0) }
+        ensures improved { result.improved ≡ improved }
+    {
+        let demand = Demand::of_bus(0);
+        Shown { demand, improved }
+    }
+}
+
+/// Looks below a node for what ends before the best, and writes the tokens of its tree. Where as many nodes are opened
+/// as may be the walk is cut: it comes home with what it has found, and opens no more.
+///
+/// # Errors
+/// Only where memory was refused.
 #[cycle(search)]
 pub fn search(
     problem: &mut Problem,
     loads: &Loads,
     best: &mut Best,
     notes: &mut Notes,
-) -> Result<Shown, Stop>
+) -> Result<Shown, AllocError>
     requires { IsAt problem.old loads.now best.old notes.old }
     ensures problem { OnOk result (problem.new ≡ problem.old) }
     ensures shown { IfOk result (IsShown problem.old best.old best.new notes.old.opened notes.old notes.new) }
-    ensures over { IfErr result (λ stop. stop ≡ Stop.Over → AreMore problem.old.problem best.old.finish (notes.old.limit - notes.old.opened + 1)) }
 {
     if notes.opened == notes.limit {
-        return Err(Stop::Over);
+        notes.cut = true;
+        return Ok(Shown::given_up(false));
     }
     notes.opened += 1;
-    let Ok(found) = find_closing(
+    let found = find_closing(
         problem,
         loads,
         best.finish,
         &notes.records,
         &mut notes.phases,
-    ) else {
-        return Err(Stop::Memory);
-    };
+    )?;
     if let Some(closing) = found {
-        let Ok(()) = notes.cert.write(closing.token, best.finish) else {
-            return Err(Stop::Memory);
-        };
+        notes.cert.write(closing.token, best.finish)?;
         let demand = closing.demand;
         let improved = false;
         return Ok(Shown { demand, improved });
@@ -76,13 +89,13 @@ fn search_open(
     loads: &Loads,
     best: &mut Best,
     notes: &mut Notes,
-) -> Result<Shown, Stop>
+) -> Result<Shown, AllocError>
     requires at { IsAt problem.old loads.now best.old notes.old }
     requires counted { 1 ≤ notes.old.opened }
+    requires uncut { notes.old.cut ≡ false }
     requires is_open { IsOpen best.old.finish problem.old.problem }
     ensures problem { OnOk result (problem.new ≡ problem.old) }
     ensures shown { IfOk result (IsShown problem.old best.old best.new (notes.old.opened - 1) notes.old notes.new) }
-    ensures over { IfErr result (λ stop. stop ≡ Stop.Over → AreMore problem.old.problem best.old.finish (notes.old.limit - (notes.old.opened - 1) + 1)) }
 {
     let mut moves = Moves::new();
     problem.list_steps(&mut moves);
@@ -96,7 +109,7 @@ fn search_open(
     search_children(problem, loads, &moves, best, notes)
 }
 
-// Looks below each move of an open node, and remembers the node.
+// Looks below each move of an open node, and remembers the node unless the walk was cut below it.
 #[cycle(search)]
 fn search_children(
     problem: &mut Problem,
@@ -104,9 +117,10 @@ fn search_children(
     moves: &Moves,
     best: &mut Best,
     notes: &mut Notes,
-) -> Result<Shown, Stop>
+) -> Result<Shown, AllocError>
     requires at { IsAt problem.old loads.now best.old notes.old }
     requires counted { 1 ≤ notes.old.opened }
+    requires uncut { notes.old.cut ≡ false }
     requires is_open { IsOpen best.old.finish problem.old.problem }
     requires some { 1 ≤ length moves.now }
     requires few { length moves.now ≤ 87 }
@@ -114,24 +128,23 @@ fn search_children(
     requires named { Each (IsNamed problem.old.groups) moves.now }
     ensures problem { OnOk result (problem.new ≡ problem.old) }
     ensures shown { IfOk result (IsShown problem.old best.old best.new (notes.old.opened - 1) notes.old notes.new) }
-    ensures over { IfErr result (λ stop. stop ≡ Stop.Over → AreMore problem.old.problem best.old.finish (notes.old.limit - (notes.old.opened - 1) + 1)) }
+    ensures forgotten { IfOk result (λ _. notes.new.cut ≡ true → length notes.new.records.nodes.items + notes.old.opened ≤ length notes.old.records.nodes.items + notes.new.opened) }
 {
     let _limits = problem.bus_free();
     let listed = moves.as_slice();
     let ends = last_ends(problem, listed);
     let soonest = Soonest::of(problem, &ends);
     let branch = Token::Branch(Width::of(listed.len() as u8));
-    let Ok(()) = notes.cert.write(branch, best.finish) else {
-        return Err(Stop::Memory);
-    };
+    notes.cert.write(branch, best.finish)?;
     let mut standing = Standing::new();
     for step in listed {
         search_child(problem, loads, *step, &soonest, best, &mut standing, notes)?;
     }
+    if notes.cut {
+        return Ok(Shown::given_up(standing.improved));
+    }
     soonest.raise(problem, &standing.yielded, &mut standing.asked);
-    let Ok(()) = notes.records.keep(problem, standing.asked) else {
-        return Err(Stop::Memory);
-    };
+    notes.records.keep(problem, standing.asked)?;
     let luns = standing.asked;
     let demand = Demand { bus: 0, luns };
     let improved = standing.improved;
@@ -148,7 +161,7 @@ fn search_child(
     best: &mut Best,
     standing: &mut Standing,
     notes: &mut Notes,
-) -> Result<(), Stop>
+) -> Result<(), AllocError>
     requires at { IsAt problem.old loads.now best.old notes.old }
     requires step { IsStep problem.old step }
     requires soonest { soonest.now.lun < length problem.old.problem.luns }
@@ -156,15 +169,10 @@ fn search_child(
     ensures more { OnOk result ((moves firsts : List OneMove) (first : AnyBest) (before : AnyNotes) → (Has firsts (move_of problem.old.groups step) → ⊥)
         → Halfway problem.old moves firsts soonest.now first best.old before notes.old standing.old
         → Halfway problem.old moves (firsts ++ move_of problem.old.groups step ∷ []) soonest.now first best.new before notes.new standing.new) }
-    ensures over { IfErr result (λ stop. (moves firsts : List OneMove) (first : AnyBest) (before : AnyNotes) → (Has firsts (move_of problem.old.groups step) → ⊥)
-        → Halfway problem.old moves firsts soonest.now first best.old before notes.old standing.old
-        → stop ≡ Stop.Over → AreMore problem.old.problem first.finish (before.limit - (before.opened - 1) + 1)) }
 {
     let own = step.lun();
     if soonest.is_awaited(problem, own) {
-        let Ok(()) = notes.cert.write(soonest.token(), best.finish) else {
-            return Err(Stop::Memory);
-        };
+        notes.cert.write(soonest.token(), best.finish)?;
         standing.mark(own);
         return Ok(());
     }
@@ -183,12 +191,11 @@ fn visit(
     best: &mut Best,
     asked: &mut [u64; 8],
     notes: &mut Notes,
-) -> Result<bool, Stop>
+) -> Result<bool, AllocError>
     requires at { IsAt problem.old loads.now best.old notes.old }
     requires step { IsStep problem.old step }
     ensures problem { OnOk result (problem.new ≡ problem.old) }
     ensures visited { IfOk result (Visited problem.old step best.old best.new notes.old notes.new asked.old asked.new) }
-    ensures over { IfErr result (λ stop. stop ≡ Stop.Over → AreMore (moved problem.old step).problem best.old.finish (notes.old.limit - notes.old.opened + 1)) }
 {
     let start = problem.earliest(step);
     let count = problem.lun_count();
@@ -197,9 +204,7 @@ fn visit(
     let behind = step_behind(problem, step.lun(), start);
     problem.undo(undo);
     shown.demand.raise(&behind, count, asked);
-    let Ok(()) = add(best, Begun { step, start }, shown.improved) else {
-        return Err(Stop::Memory);
-    };
+    add(best, Begun { step, start }, shown.improved)?;
     Ok(shown.improved)
 }
 

@@ -2,12 +2,13 @@ ghost use Rattle.std.specs.Prelude.{◌≡◌, ◌≤◌};
 
 use onfi_addr::Place;
 use onfi_group::{Group, Rules};
-use onfi_known::check_known_text;
+use onfi_known::{check_known_text, check_known_within};
 use onfi_planner::{PlanFault, plan};
 use onfi_problem::{LunState, Problem, ProblemFault};
-use onfi_recall::plan_known;
+use onfi_recall::{plan_known, plan_within};
 use onfi_request::Want;
 use onfi_samples::{sample_timing, want_of};
+use onfi_schedule::{finish, legal};
 use onfi_timing::Kind;
 use std::alloc::Global;
 use std::test::Fail;
@@ -115,5 +116,52 @@ fn a_search_that_needs_more_nodes_is_over(rt: HostRuntime) -> Result<(), Fail> {
     let problem = six_reads(alloc)?;
     let over = plan_known(alloc, &problem, 100);
     assert!(rt; matches!(over, Err(PlanFault::Over { opened: 100 })));
+    Ok(())
+}
+
+#[test]
+fn a_plan_within_an_ample_limit_is_the_one_that_ends_first(rt: HostRuntime) -> Result<(), Fail> {
+    let alloc = rt.alloc();
+    let problem = six_reads(alloc)?;
+    let known = plan_known(alloc, &problem, 1000)?;
+    let planned = plan_within(alloc, &problem, 1000)?;
+    assert_eq!(rt; (planned.finish, planned.below), (92_120, 92_120));
+    assert!(rt; planned.cert.as_slice() == known.cert.as_slice());
+    let text = planned.cert.as_slice();
+    let checked = check_known_text(alloc, &problem, &planned.schedule, text);
+    assert_eq!(rt; checked, Ok(92_120));
+    Ok(())
+}
+
+// No data output starts before a command and an array time, at 25,240 ns, and six of 11,000 ns each are left then. Both the
+// first walk and the one for the middle meet the limit.
+#[test]
+fn a_plan_within_a_small_limit_tells_what_nothing_ends_before(rt: HostRuntime) -> Result<(), Fail> {
+    let alloc = rt.alloc();
+    let problem = six_reads(alloc)?;
+    let planned = plan_within(alloc, &problem, 100)?;
+    assert!(rt; legal(&problem, &planned.schedule));
+    assert_eq!(rt; finish(&problem, &planned.schedule), planned.finish);
+    assert!(rt; planned.finish >= 92_120);
+    assert_eq!(rt; planned.below, 91_240);
+    assert!(rt; planned.cert.as_slice() == b"ONFICERT 3 remember\nL\n".as_slice());
+    assert_eq!(rt; (planned.opened, planned.reopened), (100, 100));
+    Ok(())
+}
+
+// The first search opens 256 nodes, and has found what ends first before it meets one more than 255. Nothing ends before
+// the middle between its finish and the bound of 91,240 ns, as a walk within the same limit shows.
+#[test]
+fn a_plan_within_a_limit_is_the_best_that_was_found(rt: HostRuntime) -> Result<(), Fail> {
+    let alloc = rt.alloc();
+    let problem = six_reads(alloc)?;
+    let planned = plan_within(alloc, &problem, 255)?;
+    assert!(rt; legal(&problem, &planned.schedule));
+    assert_eq!(rt; (planned.finish, planned.below), (92_120, 91_680));
+    assert_eq!(rt; planned.opened, 255);
+    assert!(rt; planned.reopened >= 1);
+    let text = planned.cert.as_slice();
+    let checked = check_known_within(alloc, &problem, &planned.schedule, 91_680, text);
+    assert_eq!(rt; checked, Ok(92_120));
     Ok(())
 }

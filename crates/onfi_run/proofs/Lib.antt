@@ -1,7 +1,6 @@
 pub mod Numbered
 pub mod Rows
-pub mod OnDevice
-pub mod Ports
+pub mod ByHost
 pub mod Links
 pub mod Lanes
 pub mod Told

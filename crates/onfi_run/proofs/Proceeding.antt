@@ -1,6 +1,6 @@
 -- What turns and drainings come to.
 use Rattle.std.proofs.Common.{◌≡◌, Bool, true, false, refl, sym, ap, ◌∙◌, inl, inr}
-use Rattle.std.specs.Prelude.{◌||◌, IsTrue}
+use Rattle.std.specs.Prelude.{IsTrue}
 use Rattle.onfi_seq.specs.declared.turn.Turn.{Turn}
 use Rattle.onfi_seq.specs.declared.turn.Turn.TheVariants as turn
 use Rattle.onfi_seq.specs.Sequencer.{Seen}
@@ -26,10 +26,6 @@ by_answer q q' none turn.Idle turned refused = absurd (cc)
 -- a turn that memory was refused to is kept
 pub refused_kept : (q q' : Seen) (none : Bool) (t : Turn) (p : Progress) → Turned q t q' → p ≡ progress_of none t → IsTrue (is_refusal p) → IsTrue q'.0.short
 refused_kept q q' none t p turned told refused = by_answer q q' none t turned (sym (ap is_refusal told) ∙ refused)
-
-pub or_true : (a b : Bool) → IsTrue b → IsTrue (a || b)
-or_true true b is = refl
-or_true false b is = is
 
 -- a channel is told to be done only where each operation has its answer, or memory was refused
 pub done_complete : (drained thread : ChannelEnd) (complete short : Bool) → channel_end drained thread complete short ≡ end.Done → short ≡ false → IsTrue complete

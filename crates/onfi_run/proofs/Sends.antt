@@ -6,25 +6,23 @@ use Rattle.std.specs.List.{cons_option}
 use Rattle.std.proofs.Math.Bool.{cond}
 use Rattle.std.proofs.lemmas.Bool.{eq-eqb, ne_eqb}
 use Rattle.std.proofs.lemmas.List.Elements.{filter_map-append}
-use Rattle.std.proofs.lemmas.Option.{slice_get-get_or, slice_get_within}
+use Rattle.std.proofs.Math.Seq.{map-set_same}
+use Rattle.std.proofs.lemmas.Option.{slice_get-get_or, slice_get-map, slice_get_within}
+use Rattle.std.proofs.lemmas.Simd.{map-map}
 use Rattle.onfi_addr.specs.declared.geometry.Geometry.{Geometry}
 use Rattle.onfi_request.specs.declared.request.Item.{Item}
 use Rattle.onfi_request.specs.declared.request.Request.{Request}
 use Rattle.onfi_script.specs.declared.operation.Operation.{Operation}
 use Rattle.onfi_script.specs.declared.row.Row.{Row}
 use Rattle.onfi_run.specs.declared.port.Port.{Port}
-use Rattle.onfi_run.specs.Keys.{port_key, port_state, HasSamePorts, SendsNothing}
+use Rattle.onfi_run.specs.Keys.{port_state, HasSamePorts, SendsNothing}
 use Rattle.onfi_run.specs.Operations.{on_channel, operation_of, request_in, requests_on}
 use Rattle.onfi_run.specs.Requests.{request_of}
 use Rattle.onfi_run.specs.Sending.{AreSending, HasSent, IsSending, Tried, with_request}
 
 -- ---- ports that send nothing
-keys_by_state : (ports : List Port) → map port_key ports ≡ map (λ s. s.0) (map port_state ports)
-keys_by_state [] = refl
-keys_by_state (p ∷ ports) = ap (λ ks. port_key p ∷ ks) (keys_by_state ports)
-
 pub same_keys : (old new : List Port) → SendsNothing old new → HasSamePorts old new
-same_keys old new same = keys_by_state new ∙ ap (map (λ s. s.0)) same ∙ sym (keys_by_state old)
+same_keys old new same = sym (map-map (λ k. k.0) port_state new) ∙ ap (map (λ k. k.0)) same ∙ map-map (λ k. k.0) port_state old
 
 pub still_sending : (requests : List Request) (p q : Port) → port_state q ≡ port_state p → IsSending requests p → IsSending requests q
 still_sending requests p q same s = record {
@@ -34,21 +32,16 @@ still_sending requests p q same s = record {
 }
 
 -- a port with the same state stood at the place
-was_there : (old new : List Port) (at : ℕ) (q : Port) → SendsNothing old new → slice_get new at ≡ Some q → (p : Port) × (slice_get old at ≡ Some p) × (port_state q ≡ port_state p)
-was_there [] [] at q same there = absurd (let lt = slice_get_within [] at q there in omega arith)
-was_there [] (n ∷ new) at q same there = absurd (cc)
-was_there (o ∷ old) [] at q same there = absurd (cc)
-was_there (o ∷ old) (n ∷ new) zero q same there = (o, refl, ap port_state (sym (some_is n q there)) ∙ head_is (port_state n) (port_state o) (map port_state new) (map port_state old) same)
+was_there : (old new : List Port) (at : ℕ) (q : Port) → SendsNothing old new → slice_get new at ≡ Some q
+    → (p : Port) × (slice_get old at ≡ Some p) × (port_state q ≡ port_state p)
+was_there old new at q same there =
+    let seen = sym (slice_get-map port_state old at) ∙ ap (λ states. slice_get states at) (sym same) ∙ slice_get-map port_state new at in
+    by_place (slice_get old at) refl (seen ∙ ap (option_map port_state) there)
   where
-    some_is : (x y : Port) → Some x ≡ Some y → x ≡ y
-    some_is x y e = cc
-
-    head_is : {A : Type 0} (x y : A) (xs ys : List A) → x ∷ xs ≡ y ∷ ys → x ≡ y
-    head_is x y xs ys e = cc
-was_there (o ∷ old) (n ∷ new) (suc at) q same there = was_there old new at q (tail_is (port_state n) (port_state o) (map port_state new) (map port_state old) same) there
-  where
-    tail_is : {A : Type 0} (x y : A) (xs ys : List A) → x ∷ xs ≡ y ∷ ys → xs ≡ ys
-    tail_is x y xs ys e = cc
+    by_place : (o : Option Port) → slice_get old at ≡ o → option_map port_state o ≡ Some (port_state q)
+        → (p : Port) × (slice_get old at ≡ Some p) × (port_state q ≡ port_state p)
+    by_place None is e = absurd (cc)
+    by_place (Some p) is e = (p, is, cc)
 
 pub all_still_sending : (old new : List Port) → SendsNothing old new → (requests : ℕ → List Request) → AreSending requests old → AreSending requests new
 all_still_sending old new same requests sending channel q there =
@@ -67,11 +60,6 @@ set_get (p ∷ ports) (suc at) (suc i) new q there = behind (set_get ports at i 
     behind : ((i ≡ at) × (q ≡ new)) ⊎ ((at ≢ i) × (slice_get ports i ≡ Some q)) → ((suc i ≡ suc at) × (q ≡ new)) ⊎ ((suc at ≢ suc i) × (slice_get ports i ≡ Some q))
     behind (inl (e, is)) = inl (ap suc e, is)
     behind (inr (ne, is)) = inr (λ e. ne (omega (e, arith)), is)
-
-pub set_state : (ports : List Port) (at : ℕ) (d new : Port) → at < length ports → port_state new ≡ port_state (get_or ports at d) → SendsNothing ports (set ports at new)
-set_state [] at d new h e = absurd (omega arith)
-set_state (p ∷ ports) zero d new h e = ap (λ k. k ∷ map port_state ports) e
-set_state (p ∷ ports) (suc at) d new h e = ap (λ ks. port_state p ∷ ks) (set_state ports at d new (omega arith) e)
 
 with_here : (requests : ℕ → List Request) (at i : ℕ) (request : Request) → at ≡ i → with_request requests at request i ≡ requests i ++ request ∷ []
 with_here requests at i request e = ap (λ (b : Bool). cond b (requests i ++ request ∷ []) (requests i)) (eq-eqb at i e)
@@ -103,7 +91,7 @@ pub tried_one : (o : Option Request) (ports : List Port) (at : ℕ) (d new : Por
     → IfNone o ((requests : List Request) → IsSending requests (get_or ports at d) → IsSending (requests ++ request ∷ []) new)
     → IfSome o (λ back. (back ≡ request) × (port_state new ≡ port_state (get_or ports at d))) → Tried o at request ports (set ports at new)
 tried_one None ports at d new request h sent full = λ requests sending. one_more requests ports at d new request h (sent (requests at)) sending
-tried_one (Some back) ports at d new request h sent full = (full.0, all_still_sending ports (set ports at new) (set_state ports at d new h full.1))
+tried_one (Some back) ports at d new request h sent full = (full.0, all_still_sending ports (set ports at new) (map-set_same port_state ports at new d full.1))
 
 pub tried_then : (o : Option Request) (at : ℕ) (request back : Request) (a b c : List Port) → Tried (Some back) at request a b → Tried o at back b c → Tried o at request a c
 tried_then None at request back a b c first second = λ requests sending.

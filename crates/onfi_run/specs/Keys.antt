@@ -7,8 +7,9 @@ use Rattle.onfi_request.specs.declared.request.Item.{Item}
 use Rattle.onfi_queue.specs.Ends.{HostView, AreHostsOf}
 use Rattle.onfi_reply.specs.Ends.{InboxView, after_collecting}
 use Rattle.onfi_run.specs.declared.port.Port.{Port}
-use Rattle.onfi_run.specs.declared.station.Stations.{Stations}
+use Rattle.onfi_run.specs.declared.station.Station.{Station}
 use Rattle.onfi_run.specs.Answers.{with_reply}
+use Rattle.onfi_run.specs.ByHost.{host_numbers}
 
 -- the queues of a channel: the submission queue, and the completion queue of each host
 pub record ChannelQueues : Type 0 where
@@ -60,23 +61,25 @@ HasSamePorts old new = map port_key new ≡ map port_key old
 abbrev pub SendsNothing : List Port → List Port → Type 0
 SendsNothing old new = map port_state new ≡ map port_state old
 
--- the same of each host
-pub record HaveSamePorts (old new : Stations) : Type 0 where
-  pub first : HasSamePorts old.first.ports.items new.first.ports.items
-  pub second : HasSamePorts old.second.ports.items new.second.ports.items
-  pub third : HasSamePorts old.third.ports.items new.third.ports.items
-  pub fourth : HasSamePorts old.fourth.ports.items new.fourth.ports.items
+-- the ports of each host
+abbrev pub ports_of : List Station → List (List Port)
+ports_of stations = map (λ (s : Station). s.ports.items) stations
 
--- the ports are that host's ends on these channels
-abbrev pub AreLinked : ℕ → List ChannelQueues → List Port → Type 0
-AreLinked host qs ports = map port_ends ports ≡ map (end_of host) qs
+-- each host has the same ends and places
+abbrev pub HaveSamePorts : List Station → List Station → Type 0
+HaveSamePorts old new = map (map port_key) (ports_of new) ≡ map (map port_key) (ports_of old)
 
--- .. of each host
-pub record AreAllLinked (qs : List ChannelQueues) (stations : Stations) : Type 0 where
-  pub first : AreLinked 0 qs stations.first.ports.items
-  pub second : AreLinked 1 qs stations.second.ports.items
-  pub third : AreLinked 2 qs stations.third.ports.items
-  pub fourth : AreLinked 3 qs stations.fourth.ports.items
+-- the ports are the hosts' ends on that channel
+abbrev pub AreEndsOf : ChannelQueues → List Port → Type 0
+AreEndsOf q ports = map port_ends ports ≡ map (λ host. end_of host q) host_numbers
+
+-- the ends of that host on these channels
+abbrev pub ends_on : List ChannelQueues → ℕ → List PortEnds
+ends_on qs host = map (end_of host) qs
+
+-- each host's ports are its ends on these channels
+abbrev pub AreLinked : List ChannelQueues → List Station → Type 0
+AreLinked qs stations = map (map port_ends) (ports_of stations) ≡ map (ends_on qs) host_numbers
 
 abbrev pub queues_of : List InboxView → List TableId
 queues_of inboxes = map (λ (i : InboxView). i.queue) inboxes

@@ -13,17 +13,17 @@ use Rattle.onfi_run.specs.declared.lane.Lane.{Lane}
 use Rattle.onfi_run.specs.Chips.{all_on, fault_on, failing_on, unready_on}
 use Rattle.onfi_run.specs.declared.port.Port.{Port}
 use Rattle.onfi_run.specs.declared.station.Station.{Station}
-use Rattle.onfi_run.specs.declared.station.Stations.{Stations}
-use Rattle.onfi_run.specs.Keys.{ChannelQueues, port_places}
+use Rattle.onfi_run.specs.ByHost.{host_numbers}
+use Rattle.onfi_run.specs.Keys.{ChannelQueues, port_places, ports_of}
 use Rattle.onfi_run.specs.Operations.{kinds_of, kinds_on}
 use Rattle.onfi_run.specs.Setup.{SetsUp}
 
 -- the queues of a channel
-abbrev pub lane_queues : {G : Type 0} → Lane (Gated G) → ChannelQueues
+abbrev pub lane_queues : {P G : Type 0} → Lane (Gated P G) → ChannelQueues
 lane_queues lane = record { requests = lane.channel.sequencer.0.intake.queue; replies = poster_queues lane.channel.sequencer.0.posters }
 
 -- the channel of that number with that gate as it opens, over the chip that the rows tell of
-pub record IsOpened {G : Type 0} (setup : Setup) (rows : List Row) (number : ℕ) (gate : G) (lane : Lane (Gated G)) : Type 0 where
+pub record IsOpened {P G : Type 0} (setup : Setup) (rows : List Row) (number : ℕ) (gate : G) (lane : Lane (Gated P G)) : Type 0 where
   pub setup_is : lane.channel.sequencer.0.setup ≡ setup
   pub number_is : lane.channel.sequencer.0.intake.opened.channel ≡ number
   pub half_is : lane.channel.sequencer.0.half ≡ first_half setup
@@ -34,31 +34,28 @@ pub record IsOpened {G : Type 0} (setup : Setup) (rows : List Row) (number : ℕ
   pub statuses : failing_statuses lane.channel.sequencer.1 ≡ all_on (unready_on number) rows
 
 -- the channels from that number on, each with its gate
-abbrev pub AreOpened : {G : Type 0} → Setup → List Row → ℕ → List G → List (Lane (Gated G)) → Type 0
+abbrev pub AreOpened : {P G : Type 0} → Setup → List Row → ℕ → List G → List (Lane (Gated P G)) → Type 0
 AreOpened setup rows number [] [] = Unit {0}
 AreOpened setup rows number (gate ∷ gates) (lane ∷ lanes) = IsOpened setup rows number gate lane × AreOpened setup rows (number + 1) gates lanes
 AreOpened setup rows number [] (lane ∷ lanes) = ⊥
 AreOpened setup rows number (gate ∷ gates) [] = ⊥
 
 -- all channels that the rows set up on the device, with that limit, each with the gate of its number
-abbrev pub AreOpenedOn : {G : Type 0} → List Row → PageDevice → ℕ → List G → List (Lane (Gated G)) → Type 0
+abbrev pub AreOpenedOn : {P G : Type 0} → List Row → PageDevice → ℕ → List G → List (Lane (Gated P G)) → Type 0
 AreOpenedOn rows device limit gates lanes = (setup : Setup) × SetsUp rows device limit setup × AreOpened setup rows 0 (take setup.channels gates) lanes
 
 -- ---- hosts
--- nothing was sent there, and there are places for the answers to the host's operations on the channel
-pub record IsNewPort (rows : List Row) (host channel : ℕ) (p : Port) : Type 0 where
-  pub unsent : p.host.sent ≡ []
-  pub places : port_places p ≡ kinds_on rows host channel
+-- nothing was sent there
+abbrev pub IsUnsent : Port → Type 0
+IsUnsent p = p.host.sent ≡ []
 
--- the host of that number, .. on each of so many channels
-pub record IsNewStation (rows : List Row) (channels host : ℕ) (s : Station) : Type 0 where
-  pub number_is : s.number ≡ host
-  pub unsent : Each (λ p. p.host.sent ≡ []) s.ports.items
-  pub places : map port_places s.ports.items ≡ kinds_of rows channels host
+-- each host sent nothing on the channel, and has places for the answers to its operations there
+pub record AreNewPorts (rows : List Row) (channel : ℕ) (ports : List Port) : Type 0 where
+  pub unsent : Each IsUnsent ports
+  pub places : map port_places ports ≡ map (λ host. kinds_on rows host channel) host_numbers
 
--- the four hosts
-pub record AreNew (rows : List Row) (channels : ℕ) (stations : Stations) : Type 0 where
-  pub first : IsNewStation rows channels 0 stations.first
-  pub second : IsNewStation rows channels 1 stations.second
-  pub third : IsNewStation rows channels 2 stations.third
-  pub fourth : IsNewStation rows channels 3 stations.fourth
+-- .. on each of so many channels
+pub record AreNew (rows : List Row) (channels : ℕ) (stations : List Station) : Type 0 where
+  pub numbers : map (λ (s : Station). s.number) stations ≡ host_numbers
+  pub unsent : Each (Each IsUnsent) (ports_of stations)
+  pub places : map (map port_places) (ports_of stations) ≡ map (kinds_of rows channels) host_numbers

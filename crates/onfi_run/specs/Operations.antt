@@ -8,8 +8,6 @@ use Rattle.onfi_timing.specs.declared.kind.Kind.{Kind}
 use Rattle.onfi_script.specs.declared.operation.Operation.{Operation}
 use Rattle.onfi_script.specs.declared.row.Row.{Row}
 use Rattle.onfi_script.specs.declared.row.Row.TheVariants.{Op}
-use Rattle.onfi_request.specs.declared.answer.Answer.{Answer}
-use Rattle.onfi_run.specs.Answers.{none_yet}
 use Rattle.onfi_run.specs.Requests.{request_of}
 
 -- the operation of a row, where it is one of that host
@@ -31,10 +29,6 @@ kind_in host channel row = option_map (λ (op : Operation). op.aim.kind) (operat
 
 abbrev pub kinds_on : List Row → ℕ → ℕ → List Kind
 kinds_on rows host channel = filter_map (kind_in host channel) rows
-
--- a place for its answer
-abbrev pub place_in : ℕ → ℕ → Row → Option (Option Answer)
-place_in host channel row = option_map none_yet (kind_in host channel row)
 
 -- by channel
 abbrev pub kinds_of : List Row → ℕ → ℕ → List (List Kind)

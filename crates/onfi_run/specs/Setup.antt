@@ -2,6 +2,10 @@
 use Rattle.std.specs.Prelude.{◌≡◌, ℕ, List, Option, Some}
 use Rattle.onfi_group.specs.declared.rules.Rules.{Rules}
 use Rattle.onfi_core.specs.declared.setup.Setup.{Setup}
+use Rattle.onfi_core.specs.declared.setup.Choice.{Choice}
+use Rattle.onfi_core.specs.declared.setup.Choice.TheVariants as choice
+use Rattle.onfi_script.specs.declared.choosing.Choosing.TheVariants.{ByLun, ReadsFirst}
+use Rattle.onfi_script.specs.declared.row.Row.TheVariants as row
 use Rattle.onfi_script.specs.declared.device.PageDevice.{PageDevice}
 use Rattle.onfi_script.specs.declared.row.Row.{Row}
 use Rattle.onfi_script.specs.declared.row.Row.TheVariants.{Channels, Hosts, Batch, SubmitCap, PostCap}
@@ -22,6 +26,12 @@ abbrev pub batch_from : Option Row → ℕ
 batch_from (Some (Batch count)) = count
 batch_from _ = 8
 
+-- in order where no row tells
+abbrev pub choice_from : Option Row → Choice
+choice_from (Some (row.Choice ByLun)) = choice.ByLun
+choice_from (Some (row.Choice ReadsFirst)) = choice.ReadsFirst
+choice_from _ = choice.InOrder
+
 abbrev pub submit_cap_from : Option Row → ℕ
 submit_cap_from (Some (SubmitCap count)) = count
 submit_cap_from _ = 64
@@ -38,6 +48,9 @@ hosts_in rows = hosts_from (row_on on.Hosts rows)
 
 abbrev pub batch_in : List Row → ℕ
 batch_in rows = batch_from (row_on on.Batch rows)
+
+abbrev pub choice_in : List Row → Choice
+choice_in rows = choice_from (row_on on.Choice rows)
 
 abbrev pub submit_cap_in : List Row → ℕ
 submit_cap_in rows = submit_cap_from (row_on on.SubmitCap rows)
@@ -63,3 +76,4 @@ pub record SetsUp (rows : List Row) (device : PageDevice) (most : ℕ) (setup : 
   pub submit_cap : setup.submit_cap ≡ submit_cap_in rows
   pub post_cap : setup.post_cap ≡ post_cap_in rows
   pub limit : setup.limit ≡ most
+  pub choice : setup.choice ≡ choice_in rows

@@ -1,10 +1,9 @@
 //! What a host got.
-ghost use Rattle.std.specs.Prelude.{◌≡◌, ◌++◌, [], ◌∷◌, IfOk, Some, slice_get, slice_set};
+ghost use Rattle.std.specs.Prelude.{◌≡◌, ◌++◌, [], ◌∷◌, IfOk, Some, map, slice_get, slice_set};
 ghost use Rattle.onfi_run.specs.Answers as spec;
-ghost use Rattle.onfi_run.specs.ByHost as four;
 ghost use Rattle.onfi_run.specs.Operations.{kinds_on as spec_kinds_on};
 
-use crate::operations::{kinds_on, places_on};
+use crate::operations::kinds_on;
 use onfi_request::{Answer, Reply};
 use onfi_script::Row;
 use onfi_timing::Kind;
@@ -51,6 +50,13 @@ fn suits_at(kinds: &[Kind], at: usize, answer: &Answer) -> bool
     }
 }
 
+/// A place for the answer to each operation, in which there is none yet.
+fn places(alloc: Global, kinds: &[Kind]) -> Result<Vec<Option<Answer>>, AllocError>
+    ensures { IfOk result (λ places. places.items ≡ map spec.none_yet kinds.now) }
+{
+    kinds.iter().map(|_| None).collect(alloc)
+}
+
 /// Puts an answer into the place of its serial, where there is one.
 fn put(by_serial: &mut Vec<Option<Answer>>, at: usize, answer: Answer)
     ensures { by_serial.new.items ≡ slice_set by_serial.old.items at (Some answer) }
@@ -74,7 +80,7 @@ impl Answers {
         ensures { IfOk result (λ answers. answers ≡ spec.awaiting (spec_kinds_on rows.now host channel)) }
     {
         let kinds = kinds_on(alloc, rows, host, channel)?;
-        let by_serial = places_on(alloc, rows, host, channel)?;
+        let by_serial = places(alloc, kinds.as_slice())?;
         Ok(Answers { kinds, by_serial })
     }
 
@@ -146,50 +152,5 @@ impl Got {
         ensures { result.now ≡ self.now }
     {
         self.by_channel.as_slice()
-    }
-}
-
-/// What four hosts got from a channel, in the order of their numbers.
-#[derive(Drop)]
-pub(crate) struct ByHost {
-    pub(crate) first: Answers,
-    pub(crate) second: Answers,
-    pub(crate) third: Answers,
-    pub(crate) fourth: Answers,
-}
-
-impl ByHost {
-    /// Places for the answers to the operations of four hosts on a channel, in the order of their rows.
-    ///
-    /// # Errors
-    /// Want of memory.
-    pub(crate) fn awaiting(alloc: Global, rows: &[Row], channel: u8) -> Result<ByHost, AllocError>
-        ensures first { IfOk result (λ got. got.first ≡ spec.awaiting (spec_kinds_on rows.now 0 channel)) }
-        ensures second { IfOk result (λ got. got.second ≡ spec.awaiting (spec_kinds_on rows.now 1 channel)) }
-        ensures third { IfOk result (λ got. got.third ≡ spec.awaiting (spec_kinds_on rows.now 2 channel)) }
-        ensures fourth { IfOk result (λ got. got.fourth ≡ spec.awaiting (spec_kinds_on rows.now 3 channel)) }
-    {
-        let first = Answers::awaiting(alloc, rows, 0, channel)?;
-        let second = Answers::awaiting(alloc, rows, 1, channel)?;
-        let third = Answers::awaiting(alloc, rows, 2, channel)?;
-        let fourth = Answers::awaiting(alloc, rows, 3, channel)?;
-        Ok(ByHost {
-            first,
-            second,
-            third,
-            fourth,
-        })
-    }
-
-    /// Whether each operation of each host has its answer.
-    pub(crate) fn is_complete(&self) -> bool
-        ensures complete { result ≡ four.are_complete self.now }
-        ensures suited { four.AreAllSuited self.now }
-    {
-        let first = self.first.is_complete();
-        let second = self.second.is_complete();
-        let third = self.third.is_complete();
-        let fourth = self.fourth.is_complete();
-        first && second && third && fourth
     }
 }

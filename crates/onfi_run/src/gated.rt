@@ -7,6 +7,7 @@ use crate::channel::{Channel, Drained};
 use crate::channel_end::ChannelEnd;
 use crate::progress::Progress;
 use onfi_chip::SimChip;
+use onfi_plan::Planner;
 use onfi_queue::Host;
 use onfi_reply::Inbox;
 use onfi_seq::{Drained as End, Gate, Sequencer, Turn};
@@ -16,14 +17,15 @@ use std::sync::Wait;
 /// The most turns of a drain.
 const MOST_TURNS: u64 = 1_000_000;
 
-/// The sequencer of a simulated chip, with the gate that is called before each of its turns.
+/// The sequencer of a simulated chip, which plans by a planner of this type, with the gate that is called before each of its
+/// turns.
 #[derive(Drop)]
-pub(crate) struct Gated<G: Gate> {
-    pub(crate) sequencer: Sequencer<SimChip>,
+pub(crate) struct Gated<P: Planner, G: Gate> {
+    pub(crate) sequencer: Sequencer<P, SimChip>,
     pub(crate) gate: G,
 }
 
-impl<G: Gate> Gated<G> {
+impl<P: Planner, G: Gate> Gated<P, G> {
     /// How its thread goes on behind a turn that came to this.
     fn progress(&self, turn: Turn) -> Progress
         ensures { result ≡ spec.progress_of (none_left self.now.sequencer.0.half) turn }
@@ -60,7 +62,7 @@ fn is_short(end: End, short: bool) -> bool
     matches!(end, End::Memory) || short
 }
 
-impl<G: Gate + Drop> Channel for Gated<G> {
+impl<P: Planner + Drop, G: Gate + Drop> Channel for Gated<P, G> {
     ghost use Rattle.onfi_chip.specs.SimChip.{chip_in};
     ghost use Rattle.onfi_seq.specs.Drained.{poster_queues};
     ghost use Rattle.onfi_seq.specs.Sequencer.{seen_in};

@@ -1,9 +1,7 @@
 //! The operations of a host on a channel.
 ghost use Rattle.std.specs.Prelude.{◌≡◌, IfOk, IfSome, IfNone, Some, None};
-ghost use Rattle.std.specs.List.{filter_map};
 ghost use Rattle.onfi_run.specs.Operations as spec;
 
-use onfi_request::Answer;
 use onfi_script::{Operation, Row};
 use onfi_timing::Kind;
 use std::alloc::{AllocError, Global};
@@ -31,16 +29,6 @@ fn kind_in(row: &Row, host: u8, channel: u8) -> Option<Kind>
     }
 }
 
-/// A place for its answer.
-fn place_in(row: &Row, host: u8, channel: u8) -> Option<Option<Answer>>
-    ensures { result ≡ spec.place_in host channel row.now }
-{
-    match kind_in(row, host, channel) {
-        Some(_) => Some(None),
-        None => None,
-    }
-}
-
 /// The kinds of a host's operations on a channel, in the order of their rows.
 ///
 /// # Errors
@@ -55,22 +43,5 @@ pub(crate) fn kinds_on(
 {
     rows.iter()
         .filter_map(|row| kind_in(row, host, channel))
-        .collect(alloc)
-}
-
-/// Places for their answers.
-///
-/// # Errors
-/// Want of memory.
-pub(crate) fn places_on(
-    alloc: Global,
-    rows: &[Row],
-    host: u8,
-    channel: u8,
-) -> Result<Vec<Option<Answer>>, AllocError>
-    ensures { IfOk result (λ places. places.items ≡ filter_map (spec.place_in host channel) rows.now) }
-{
-    rows.iter()
-        .filter_map(|row| place_in(row, host, channel))
         .collect(alloc)
 }

@@ -1,5 +1,5 @@
 //! Reading the script of a run, with all refusals in their order.
-ghost use Rattle.std.specs.Prelude.{◌≡◌, IfOk, MatchResult, Ok, Err};
+ghost use Rattle.std.specs.Prelude.{◌≡◌, IfOk, MatchResult};
 ghost use Rattle.onfi_script.specs.Stop.{IfRefused};
 ghost use Rattle.onfi_run.specs.Prepared as spec;
 ghost use Rattle.onfi_run.specs.Prepares.{IsPrepared, IsRefused};
@@ -95,20 +95,20 @@ fn first_refused(
     Ok(None)
 }
 
-/// The rows on their device, where nothing is wrong with one.
-fn on_device(alloc: Global, rows: Vec<Row>, device: PageDevice) -> Result<Prepared, Stop>
-    ensures { MatchResult result (λ p. (p.rows.items ≡ rows.items) × (p.device ≡ device) × (spec.first_refused (channels_in rows.items) (hosts_in rows.items) device.geometry 1 rows.items ≡ None)) (λ stop. IfRefused stop (λ refusal. spec.first_refused (channels_in rows.items) (hosts_in rows.items) device.geometry 1 rows.items ≡ Some refusal)) }
+/// The first row with which something is wrong on this device, with its hosts and channels.
+fn refusal_on(
+    alloc: Global,
+    rows: &[Row],
+    device: &PageDevice,
+) -> Result<Option<Refusal>, AllocError>
+    ensures { IfOk result (λ r. r ≡ spec.first_refused (channels_in rows.now) (hosts_in rows.now) device.now.geometry 1 rows.now) }
 {
     let bounds = Bounds {
-        channels: channel_count(rows.as_slice()),
-        hosts: host_count(rows.as_slice()),
+        channels: channel_count(rows),
+        hosts: host_count(rows),
         geometry: device.geometry,
     };
-    match first_refused(alloc, &bounds, rows.as_slice()) {
-        Ok(None) => Ok(Prepared { rows, device }),
-        Ok(Some(refusal)) => Err(Stop::Refused(refusal)),
-        Err(AllocError) => Err(Stop::Memory),
-    }
+    first_refused(alloc, &bounds, rows)
 }
 
 /// The rows of an input, where nothing is wrong with the script.
@@ -122,7 +122,11 @@ pub fn prepare(alloc: Global, input: &[u8]) -> Result<Prepared, Stop>
 {
     let rows = read_rows(alloc, Purpose::Run, input)?;
     match page_device(alloc, rows.as_slice()) {
-        Ok(device) => on_device(alloc, rows, device),
+        Ok(device) => match refusal_on(alloc, rows.as_slice(), &device) {
+            Ok(None) => Ok(Prepared { rows, device }),
+            Ok(Some(refusal)) => Err(Stop::Refused(refusal)),
+            Err(AllocError) => Err(Stop::Memory),
+        },
         Err(RowStop::Fault(fault)) => Err(Stop::Refused(Refusal { row: 0, fault })),
         Err(RowStop::Memory) => Err(Stop::Memory),
     }

@@ -13,6 +13,7 @@ use crate::preparing::{Prepared, prepare};
 use crate::report::Report;
 use crate::text::report_answer;
 use crate::threads::run_threads;
+use onfi_plan::Planner;
 use onfi_script::{Answer, EngineFault, InputFault, Stop, read_all, refused, tell};
 use onfi_seq::Gate;
 use std::alloc::{AllocError, Global};
@@ -21,9 +22,10 @@ use std::sync::Wait;
 use std::thread::Threads;
 
 /// Runs what was prepared, and answers what it came to.
-fn run<R: Threads + Wait + Sync, G: Gate + Send + Drop>(
+fn run<R: Threads + Wait + Sync, P: Planner + Copy + Send + Drop, G: Gate + Send + Drop>(
     rt: &R,
     alloc: Global,
+    planner: P,
     limit: u32,
     gates: Vec<G>,
     prepared: &Prepared,
@@ -34,18 +36,19 @@ fn run<R: Threads + Wait + Sync, G: Gate + Send + Drop>(
     ensures { IfOk result (λ report. IsReportOf prepared.now.rows.items report) }
 {
     let rows = prepared.rows.as_slice();
-    let stage = Stage::open(alloc, rows, &prepared.device, limit, gates)?;
+    let stage = Stage::open(alloc, rows, &prepared.device, planner, limit, gates)?;
     let Stage { lanes, stations } = stage;
     match run_threads(rt, alloc, &prepared.device.geometry, rows, lanes, stations) {
-        Some((lanes, stations)) => finish_all(rt, alloc, lanes, stations),
+        Some(ran) => finish_all(rt, alloc, ran.0, ran.1),
         None => Err(AllocError),
     }
 }
 
 /// The answer to an input.
-fn answer<R: Threads + Wait + Sync, G: Gate + Send + Drop>(
+fn answer<R: Threads + Wait + Sync, P: Planner + Copy + Send + Drop, G: Gate + Send + Drop>(
     rt: &R,
     alloc: Global,
+    planner: P,
     limit: u32,
     gates: Vec<G>,
     input: &[u8],
@@ -57,7 +60,7 @@ fn answer<R: Threads + Wait + Sync, G: Gate + Send + Drop>(
 {
     match prepare(alloc, input) {
         Ok(prepared) => {
-            let report = run(rt, alloc, limit, gates, &prepared)?;
+            let report = run(rt, alloc, planner, limit, gates, &prepared)?;
             report_answer(alloc, &report)
         }
         Err(Stop::Refused(refusal)) => refused(alloc, refusal),
@@ -66,7 +69,8 @@ fn answer<R: Threads + Wait + Sync, G: Gate + Send + Drop>(
 }
 
 /// Reads a script of hosts' operations, runs each channel and each host in a thread of its own, and writes what each host
-/// got. Gate i, of four, is called before each turn of channel i; one planning opens at most `limit` nodes, 1 to 1,048,576.
+/// got. Each channel plans by a copy of `planner`, with at most `limit` nodes, 1 to 1,048,576, for one planning. Gate i, of
+/// four, is called before each turn of channel i.
 ///
 /// Answers the exit status of the program: 0 only where each operation of the script is answered, 1 where the script is
 /// refused, 3 where a channel stopped or was left unfinished, 4 for want of memory, 6 where a planning opened `limit` nodes
@@ -75,9 +79,16 @@ fn answer<R: Threads + Wait + Sync, G: Gate + Send + Drop>(
 /// # Errors
 /// `Read` where a read failed or 2^40 reads did not come to the end: nothing was written. `Write` where a write failed: a
 /// beginning of the answer was written.
-pub fn run_script<R: Threads + Wait + Sync, G: Gate + Send + Drop, I: Read, O: Write>(
+pub fn run_script<
+    R: Threads + Wait + Sync,
+    P: Planner + Copy + Send + Drop,
+    G: Gate + Send + Drop,
+    I: Read,
+    O: Write,
+>(
     rt: &R,
     alloc: Global,
+    planner: P,
     limit: u32,
     gates: Vec<G>,
     reader: &mut I,
@@ -95,7 +106,7 @@ pub fn run_script<R: Threads + Wait + Sync, G: Gate + Send + Drop, I: Read, O: W
         Err(InputFault::Read) => return Err(EngineFault::Read),
         Err(InputFault::Memory) => return tell(writer, b"memory\n", 4),
     };
-    match answer(rt, alloc, limit, gates, input.as_slice()) {
+    match answer(rt, alloc, planner, limit, gates, input.as_slice()) {
         Ok(answer) => tell(writer, answer.text.as_slice(), answer.status),
         Err(AllocError) => tell(writer, b"memory\n", 4),
     }
@@ -105,9 +116,10 @@ pub fn run_script<R: Threads + Wait + Sync, G: Gate + Send + Drop, I: Read, O: W
 ///
 /// # Errors
 /// As `run_script`.
-pub fn run_freely<R: Threads + Wait + Sync, I: Read, O: Write>(
+pub fn run_freely<R: Threads + Wait + Sync, P: Planner + Copy + Send + Drop, I: Read, O: Write>(
     rt: &R,
     alloc: Global,
+    planner: P,
     limit: u32,
     reader: &mut I,
     writer: &mut O,
@@ -119,7 +131,7 @@ pub fn run_freely<R: Threads + Wait + Sync, I: Read, O: Write>(
     ensures unwritten { result ≡ Err EngineFault.Write → BeginsAnswer (I.remaining reader.old) (O.contents writer.old) (O.contents writer.new) }
 {
     match no_gates(alloc) {
-        Ok(gates) => run_script(rt, alloc, limit, gates, reader, writer),
+        Ok(gates) => run_script(rt, alloc, planner, limit, gates, reader, writer),
         Err(AllocError) => tell(writer, b"memory\n", 4),
     }
 }

@@ -5,9 +5,9 @@ ghost use Rattle.onfi_script.specs.Subject.{row_on as spec_row_on};
 ghost use Rattle.onfi_script.specs.declared.row.Subject.TheVariants as on;
 ghost use Rattle.onfi_run.specs.Setup as spec;
 
-use onfi_core::Setup;
+use onfi_core::{Choice, Setup};
 use onfi_group::Rules;
-use onfi_script::{PageDevice, Row, Subject, is_strict, row_on};
+use onfi_script::{Choosing, PageDevice, Row, Subject, is_strict, row_on};
 
 /// How many channels there are.
 pub fn channel_count(rows: &[Row]) -> u8
@@ -42,6 +42,19 @@ fn batch(rows: &[Row]) -> u8
     match row_on(rows, Subject::Batch) {
         Some(Row::Batch { count }) => count.get(),
         _ => 8,
+    }
+}
+
+/// Which wants a plan takes.
+fn choice(rows: &[Row]) -> Choice
+    ensures { result ≡ spec.choice_in rows.now }
+{
+    match row_on(rows, Subject::Choice) {
+        Some(Row::Choice { choosing }) => match choosing {
+            Choosing::ByLun => Choice::ByLun,
+            Choosing::ReadsFirst => Choice::ReadsFirst,
+        },
+        _ => Choice::InOrder,
     }
 }
 
@@ -100,4 +113,5 @@ pub fn setup_of(rows: &[Row], device: &PageDevice, limit: u32) -> Setup
         limit,
     )
     .unwrap()
+    .with_choice(choice(rows))
 }

@@ -26,13 +26,12 @@ pub(crate) struct Station {
     pub(crate) short_of_memory: bool,
 }
 
-/// The four hosts of a run, in the order of their numbers.
-#[derive(Drop)]
-pub(crate) struct Stations {
-    pub(crate) first: Station,
-    pub(crate) second: Station,
-    pub(crate) third: Station,
-    pub(crate) fourth: Station,
+/// The elements of an array with one for each host, apart.
+pub(crate) fn apart<T>(of: [T; 4]) -> (T, T, T, T)
+    ensures { of ≡ result.0 ∷ result.1 ∷ result.2 ∷ result.3 ∷ [] }
+{
+    let [first, second, third, fourth] = of;
+    (first, second, third, fourth)
 }
 
 impl Station {

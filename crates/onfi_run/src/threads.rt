@@ -7,7 +7,7 @@ ghost use Rattle.onfi_run.specs.Threads.{IsWorkerOf};
 use crate::board::Board;
 use crate::channel::Channel;
 use crate::lane::Lane;
-use crate::station::{Station, Stations};
+use crate::station::{Station, apart};
 use onfi_addr::Geometry;
 use onfi_script::Row;
 use std::alloc::Global;
@@ -71,10 +71,7 @@ fn is_used(rows: &[Row], host: u8) -> bool {
 
 /// How many of the four hosts aren't used.
 fn unused_hosts(rows: &[Row]) -> u64 {
-    u64::from(!is_used(rows, 0))
-        + u64::from(!is_used(rows, 1))
-        + u64::from(!is_used(rows, 2))
-        + u64::from(!is_used(rows, 3))
+    (0..4u8).filter(|host| !is_used(rows, *host)).count() as u64
 }
 
 /// Starts the thread of a host; `None` where no thread can be made.
@@ -131,30 +128,21 @@ fn work_all<'s, E, R: Threads + Wait + Sync>(
     scope: &'s Scope<'s, E>,
     rt: &'s R,
     shared: Shared<'s>,
-    stations: Stations,
-) -> Option<Stations>
+    stations: [Station; 4],
+) -> Option<[Station; 4]>
     ensures { IfSome result (λ r. HaveSamePorts stations r) }
 {
-    let Stations {
-        first,
-        second,
-        third,
-        fourth,
-    } = stations;
-    let w0 = start_host(scope, rt, shared, first)?;
-    let w1 = start_host(scope, rt, shared, second)?;
-    let w2 = start_host(scope, rt, shared, third)?;
-    let w3 = start_host(scope, rt, shared, fourth)?;
-    let first = finish_host(rt, w0);
-    let second = finish_host(rt, w1);
-    let third = finish_host(rt, w2);
-    let fourth = finish_host(rt, w3);
-    Some(Stations {
-        first,
-        second,
-        third,
-        fourth,
-    })
+    let (s0, s1, s2, s3) = apart(stations);
+    let w0 = start_host(scope, rt, shared, s0)?;
+    let w1 = start_host(scope, rt, shared, s1)?;
+    let w2 = start_host(scope, rt, shared, s2)?;
+    let w3 = start_host(scope, rt, shared, s3)?;
+    Some([
+        finish_host(rt, w0),
+        finish_host(rt, w1),
+        finish_host(rt, w2),
+        finish_host(rt, w3),
+    ])
 }
 
 /// Starts the thread of a channel; where none can be made, all that others wait for has ended.
@@ -189,8 +177,8 @@ fn serve_all<'s, E, R: Threads + Wait + Sync, C: Channel + Send + Drop + 's>(
     rt: &'s R,
     shared: Shared<'s>,
     lanes: Vec<Lane<C>>,
-    stations: Stations,
-) -> Option<(Vec<Lane<C>>, Stations)>
+    stations: [Station; 4],
+) -> Option<(Vec<Lane<C>>, [Station; 4])>
     ensures lanes { IfSome result (λ r. map (λ l. C.queues l.channel) r.0.items ≡ map (λ l. C.queues l.channel) lanes.items) }
     ensures stations { IfSome result (λ r. HaveSamePorts stations r.1) }
 {
@@ -215,8 +203,8 @@ pub(crate) fn run_threads<R: Threads + Wait + Sync, C: Channel + Send + Drop>(
     geometry: &Geometry,
     rows: &[Row],
     lanes: Vec<Lane<C>>,
-    stations: Stations,
-) -> Option<(Vec<Lane<C>>, Stations)>
+    stations: [Station; 4],
+) -> Option<(Vec<Lane<C>>, [Station; 4])>
     ensures lanes { IfSome result (λ r. map (λ l. C.queues l.channel) r.0.items ≡ map (λ l. C.queues l.channel) lanes.items) }
     ensures stations { IfSome result (λ r. HaveSamePorts stations r.1) }
 {
@@ -230,7 +218,7 @@ pub(crate) fn run_threads<R: Threads + Wait + Sync, C: Channel + Send + Drop>(
     thread::scope(
         thread::scope_env(),
         rt,
-        move |scope| -> Option<(Vec<Lane<C>>, Stations)>
+        move |scope| -> Option<(Vec<Lane<C>>, [Station; 4])>
             ensures lanes { IfSome result (λ r. map (λ l. C.queues l.channel) r.0.items ≡ map (λ l. C.queues l.channel) lanes.items) }
             ensures stations { IfSome result (λ r. HaveSamePorts stations r.1) }
         { serve_all(scope, rt, shared, lanes, stations) },

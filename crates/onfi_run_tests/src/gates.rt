@@ -1,5 +1,6 @@
 ghost use Rattle.std.specs.Prelude.{◌<◌, ◌≤◌};
 
+use onfi_planners::ChosenPlanner;
 use onfi_run::run_script;
 use onfi_seq::Gate;
 use std::alloc::Global;
@@ -90,11 +91,12 @@ impl Gate for Party<'_> {
     }
 }
 
-// Status and text of a run of these rows, whose two channels wait for each other before their first turns; none where memory
+// Status and text of a run of these rows by that planner, whose two channels wait for each other before their first turns; none where memory
 // was refused or a gate missed something.
 fn meet<R: Threads + Wait + Sync>(
     rt: &R,
     alloc: Global,
+    planner: ChosenPlanner,
     limit: u32,
     rows: &str,
 ) -> Option<(u8, Vec<u8>)>
@@ -112,7 +114,7 @@ fn meet<R: Threads + Wait + Sync>(
     let script = format!(in alloc; "{DEVICE}channels,2\n{rows}end\n").ok()?;
     let mut reader = script.as_bytes();
     let mut text = Vec::new(alloc);
-    let status = run_script(rt, alloc, limit, gates, &mut reader, &mut text).ok()?;
+    let status = run_script(rt, alloc, planner, limit, gates, &mut reader, &mut text).ok()?;
     if meeting.missed.load(Ordering::SeqCst) {
         return None;
     }
@@ -122,7 +124,8 @@ fn meet<R: Threads + Wait + Sync>(
 #[test]
 fn two_channels_make_their_turns_at_once(rt: HostRuntime) {
     let rows = "op,0,0,read,0,0,0\nop,0,1,read,0,0,0\n";
-    let (status, text) = meet(&rt, rt.alloc(), 1_048_576, rows).expect(&rt, "a meeting");
+    let planner = ChosenPlanner::Remembering;
+    let (status, text) = meet(&rt, rt.alloc(), planner, 65_536, rows).expect(&rt, "a meeting");
     assert_eq!(rt; status, 0);
     let told = b"reply,0,0,0,read,*FF\nreply,0,1,0,read,*FF\nclosed\n";
     assert!(rt; text.as_slice() == told.as_slice());
@@ -134,7 +137,8 @@ fn two_channels_make_their_turns_at_once(rt: HostRuntime) {
 fn a_search_over_its_limit_ends_a_run(rt: HostRuntime) {
     let rows = "op,0,0,read,0,0,0\nop,0,0,program,1,0,0,*A5\n";
     for _ in 0..1_000 {
-        let (status, text) = meet(&rt, rt.alloc(), 1, rows).expect(&rt, "a meeting");
+        let planner = ChosenPlanner::Plain;
+        let (status, text) = meet(&rt, rt.alloc(), planner, 1, rows).expect(&rt, "a meeting");
         if status == 6 {
             assert!(rt; text.as_slice() == b"over,0,1\nclosed\n".as_slice());
             return;
@@ -144,4 +148,17 @@ fn a_search_over_its_limit_ends_a_run(rt: HostRuntime) {
         assert!(rt; text.as_slice() == told.as_slice());
     }
     panic!(rt; "the host was never ahead of its channel");
+}
+
+// The same operations are answered always where the best plan so far is taken.
+#[test]
+fn a_run_by_the_best_plans_so_far_is_never_over(rt: HostRuntime) {
+    let rows = "op,0,0,read,0,0,0\nop,0,0,program,1,0,0,*A5\n";
+    for _ in 0..1_000 {
+        let planner = ChosenPlanner::BestSoFar;
+        let (status, text) = meet(&rt, rt.alloc(), planner, 1, rows).expect(&rt, "a meeting");
+        assert_eq!(rt; status, 0);
+        let told = b"reply,0,0,0,read,*FF\nreply,0,0,1,done\nclosed\n";
+        assert!(rt; text.as_slice() == told.as_slice());
+    }
 }

@@ -1,7 +1,6 @@
 -- A walk over the blocks that a row names.
-use Rattle.std.proofs.Common.{◌≡◌, ◌<◌, ◌≤◌, ℕ, zero, suc, ◌+◌, List, [], ◌∷◌, ◌++◌, length, drop, Ok, Err, refl, sym, ap, ◌∙◌, arith, append_assoc, append-nil}
+use Rattle.std.proofs.Common.{◌≡◌, ◌<◌, ℕ, zero, suc, ◌+◌, List, [], ◌∷◌, ◌++◌, length, drop, Ok, Err, refl, sym, ap, ◌∙◌, arith, append_assoc}
 use Rattle.std.specs.Prelude.{Result}
-use Rattle.std.proofs.Math.ListN.{drop_of_length-le}
 use Rattle.csv.specs.Records.{field_at}
 use Rattle.onfi_script.specs.declared.fault.ScriptFault.{ScriptFault}
 use Rattle.onfi_script.specs.Field.{given, field, block}
@@ -26,17 +25,3 @@ blocks_passed row at b xs all h ok e =
     e ∙ ap (λ l. given (blocks_of l) (λ rest. Ok (xs ++ rest))) (drop_field row at h)
     ∙ ap (λ o. given (given o (λ b. given (blocks_of (drop (at + 1) row)) (λ bs. Ok (b ∷ bs)))) (λ rest. Ok (xs ++ rest))) ok
     ∙ more (blocks_of (drop (at + 1) row)) xs b
-
-pub blocks_stopped : (row : List (List ℕ)) (at : ℕ) (fault : ScriptFault) (xs : List ℕ) (all : Result (List ℕ) ScriptFault) → at < length row → block (field row at) ≡ Err fault
-    → all ≡ given (blocks_of (drop at row)) (λ rest. Ok (xs ++ rest)) → all ≡ Err fault
-blocks_stopped row at fault xs all h bad e =
-    e ∙ ap (λ l. given (blocks_of l) (λ rest. Ok (xs ++ rest))) (drop_field row at h)
-    ∙ ap (λ o. given (given o (λ b. given (blocks_of (drop (at + 1) row)) (λ bs. Ok (b ∷ bs)))) (λ rest. Ok (xs ++ rest))) bad
-
-pub blocks_ended : (row : List (List ℕ)) (at : ℕ) (xs : List ℕ) (all : Result (List ℕ) ScriptFault) → length row ≤ at
-    → all ≡ given (blocks_of (drop at row)) (λ rest. Ok (xs ++ rest)) → all ≡ Ok xs
-blocks_ended row at xs all h e = e ∙ ap (λ l. given (blocks_of l) (λ rest. Ok (xs ++ rest))) (drop_of_length-le row h) ∙ ap Ok (append-nil xs)
-
-pub blocks_begun : (o : Result (List ℕ) ScriptFault) → o ≡ given o (λ rest. Ok ([] ++ rest))
-blocks_begun (Ok xs) = refl
-blocks_begun (Err e) = refl

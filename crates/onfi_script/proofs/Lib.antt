@@ -1,13 +1,12 @@
 pub mod Known
 pub mod Scan
 pub mod BlockLemmas
-pub mod RowsLemmas
-pub mod SetupLemmas
-pub mod TextLemmas
+pub mod Scripts
 pub mod Told
 pub mod PartsLemmas
 pub mod NumbersLemmas
 pub mod LineLemmas
+pub mod NearPlans
 pub mod PlanLemmas
 pub mod Spelled
 pub mod ReadBack

@@ -4,7 +4,7 @@ use Rattle.std.specs.Prelude.{◌==◌, ◌&&◌, ◌||◌, nat_lt, nat_le, find
 use Rattle.std.specs.List.{flat_map, list_all, list_any, AllByRecursion as Each}
 use Rattle.std.specs.Fmt.{decimal}
 use Rattle.std.proofs.Math.Seq.{take-suc}
-use Rattle.std.proofs.lemmas.List.{take_all}
+use Rattle.std.proofs.lemmas.List.{length-map, take_all}
 use Rattle.std.proofs.lemmas.Bool.Decides.{nat_tests}
 use Rattle.onfi_request.specs.declared.want.Want.{Want}
 use Rattle.onfi_schedule.specs.Schedule.{Placed, Schedule}
@@ -12,11 +12,11 @@ use Rattle.onfi_script.specs.declared.plan_line.Line.{Line}
 use Rattle.onfi_script.specs.declared.plan_line.Line.TheVariants.{Rest, Group}
 use Rattle.onfi_script.specs.declared.plan_line.RestLine.{RestLine}
 use Rattle.onfi_script.specs.Parts.{parts}
-use Rattle.onfi_script.specs.PlanLine.{and_then, numbers, want_named, line_of, line_of_words, finish_of, finish_of_words}
-use Rattle.onfi_script.specs.PlanText.{Plan, takes, with_line, is_certificate, plan_after, plan_of, starts_in, starts_on, rests, names_absent, schedule_on}
+use Rattle.onfi_script.specs.PlanLine.{and_then, numbers, want_named, line_of, line_of_words, finish_of, number_in_words}
+use Rattle.onfi_script.specs.PlanText.{Plan, takes, with_line, is_certificate, and_on, lines_of, plan_after, plan_of, starts_in, starts_on, rests, names_absent, schedule_on}
 use Rattle.onfi_script.specs.Laws.{AreStarts, IsLineOf, HasText, rest_written, written}
 use Rattle.onfi_script.specs.Text.{spaced, joined, ids, group_line, rest_lines, schedule_text}
-use Rattle.onfi_script.proofs.PlanLemmas.{opened, plan_ended, line_taken}
+use Rattle.onfi_script.proofs.PlanLemmas.{finish_told, plan_ended, line_taken}
 use Rattle.onfi_script.proofs.Spelled.{Lacks, decimal_lacks, number_read, numbers_read, part_ended, part_whole, spaced_parts, joined_parts, lacks_both, lacks_by, lacks_more, same, spaced_lacks, joined_lacks, differs}
 
 -- the line `rest` without its LF
@@ -45,10 +45,6 @@ small_numbers : (wants : List Want) → Each (λ w. w.id < 2 ^ 63) wants → Eac
 small_numbers [] h = h
 small_numbers (w ∷ wants) h = (h.0, small_numbers wants h.1)
 
-counted : (wants : List Want) → length (numbers_of wants) ≡ length wants
-counted [] = refl
-counted (w ∷ wants) = ap suc (counted wants)
-
 all_named : (wants members : List Want) → Each (λ w. want_named wants w.id ≡ w) members → map (want_named wants) (numbers_of members) ≡ members
 all_named wants [] h = refl
 all_named wants (w ∷ members) h = ap (λ x. x ∷ map (want_named wants) (numbers_of members)) h.0 ∙ ap (λ l. w ∷ l) (all_named wants members h.1)
@@ -68,7 +64,7 @@ group_text g = codes "group" ++ 32 ∷ (ids g.members ++ spaced g.starts)
 
 group_read : (wants : List Want) (g : Placed) → IsLineOf wants g → line_of wants (group_text g) ≡ Some (Group g)
 group_read wants g is =
-    let many = counted g.members in
+    let many = length-map g.members (λ w. w.id) in
     ap (line_of_words wants) (part_ended 32 (codes "group") (ids g.members ++ spaced g.starts) (lacks_by 32 (codes "group") refl)
     ∙ ap (λ l. codes "group" ∷ l) (spaced_parts (ids g.members) g.starts (ids_lack 32 g.members refl (λ a b. omega arith) is.ids) is.starts.small))
     ∙ ap (λ l. and_then (numbers 4 l) (λ ids. and_then (numbers 8 (map decimal g.starts)) (λ starts. Some (Group (record { members = map (want_named wants) ids; starts = starts }))))) (ids_parts g.members is.some is.ids)
@@ -151,7 +147,7 @@ regroup_text d r g c = simp append_assoc
 
 finish_read : (ends : ℕ) → ends < 2 ^ 63 → finish_of (codes "finish" ++ 32 ∷ decimal ends) ≡ Some ends
 finish_read ends small =
-    ap finish_of_words (part_ended 32 (codes "finish") (decimal ends) (lacks_by 32 (codes "finish") refl)
+    ap (number_in_words (codes "finish")) (part_ended 32 (codes "finish") (decimal ends) (lacks_by 32 (codes "finish") refl)
     ∙ ap (λ l. codes "finish" ∷ l) (part_whole 32 (decimal ends) (decimal_lacks 32 ends (omega arith) (λ a b. omega arith))))
     ∙ number_read ends small
 
@@ -169,8 +165,8 @@ text_read wants s ends line more has small certificate lacks =
     let left = r ++ (g ++ c) in
     let text = codes "ONFIPLAN 1" ++ 10 ∷ (second ++ 10 ∷ left) in
     ap (plan_of wants) (regroup_text (decimal ends) r g c)
-    ∙ opened wants text (codes "ONFIPLAN 1") (second ++ 10 ∷ left) second left (Some ends) (part_ended 10 (codes "ONFIPLAN 1") (second ++ 10 ∷ left) (lacks_by 10 (codes "ONFIPLAN 1") refl)) refl
-    (part_ended 10 second left (finish_ends ends small)) (sym (finish_read ends small))
+    ∙ ap (λ o. and_on o (λ o. lines_of wants o.0 o.1)) (finish_told text (codes "ONFIPLAN 1") (second ++ 10 ∷ left) second left (Some ends) (part_ended 10 (codes "ONFIPLAN 1") (second ++ 10 ∷ left) (lacks_by 10 (codes "ONFIPLAN 1") refl)) refl
+    (part_ended 10 second left (finish_ends ends small)) (sym (finish_read ends small)))
     ∙ rests_walk wants s.rest 0 ends [] (g ++ c) has.rest tt (omega (arith, has.luns)) (omega (arith, has.luns))
     ∙ groups_walk wants s.groups ends (rest_written 0 s.rest) [] c has.groups (omega (arith, has.few))
     ∙ plan_ended wants (written s ends) c line more (plan_after wants (written s ends) (parts 10 c)) (part_ended 10 line more lacks) certificate refl

@@ -7,6 +7,7 @@ use Rattle.std.specs.Fmt.{decimal}
 use Rattle.std.specs.Str.Parse.{AllDigits, digits_value}
 use Rattle.std.proofs.lemmas.Fmt.{decimal_is_IsNumeral, decimal_digit, first_decimal}
 use Rattle.std.proofs.lemmas.Str.Parse.{digit_from_value, not_in_digits, numerals_by_value, tells_digits}
+use Rattle.std.proofs.lemmas.List.{length-map}
 use Rattle.std.proofs.lemmas.List.Elements.{All-append}
 use Rattle.std.proofs.lemmas.List.Sums.{AllPass-from_list_all}
 use Rattle.std.proofs.lemmas.List.Splits.{slice_split_at, slice_split_none}
@@ -74,13 +75,9 @@ each_read (n ∷ ns) h =
     ap (λ o. and_then o (λ n. and_then (each_number (map decimal ns)) (λ rest. Some (n ∷ rest)))) (number_read n h.0)
     ∙ ap (λ o. and_then o (λ rest. Some (n ∷ rest))) (each_read ns h.1)
 
-sized : {X Y : Type 0} (f : X → Y) (xs : List X) → length (map f xs) ≡ length xs
-sized f [] = refl
-sized f (x ∷ xs) = ap suc (sized f xs)
-
 pub numbers_read : (most : ℕ) (ns : List ℕ) → 1 ≤ length ns → length ns ≤ most → Each (λ n. n < 2 ^ 63) ns → numbers most (map decimal ns) ≡ Some ns
 numbers_read most ns some few small =
-    let size = sized decimal ns in
+    let size = length-map ns decimal in
     let counted : (nat_le 1 (length (map decimal ns)) && nat_le (length (map decimal ns)) most) ≡ true = grind (arith, nat_tests, size) in
     ap (λ b. cond b (each_number (map decimal ns)) None) counted ∙ each_read ns small
 

@@ -1,8 +1,6 @@
 -- What is written for an input, and with which status.
-use Rattle.std.specs.Prelude.{◌≡◌, ◌≢◌, codes, ℕ, ◌+◌, ◌++◌, ◌^◌, ◌≤◌, ◌⊎◌, Bool, true, false, List, take, Option, Some, None, position, Ok, Err, IfSome, MatchOption, MatchResult}
+use Rattle.std.specs.Prelude.{◌≡◌, ◌≢◌, codes, ℕ, ◌+◌, ◌++◌, ◌^◌, ◌<◌, ◌≤◌, ◌⊎◌, Bool, true, false, List, take, Option, Some, None, position, Result, Ok, Err, IfSome, MatchResult}
 use Rattle.std.specs.Io.KnownBytes.{Appends}
-use Rattle.csv.specs.Reading.{AreRecords, default_config, strip_bom}
-use Rattle.csv.specs.declared.parser.State.TheVariants as st
 use Rattle.onfi_problem.specs.Problem.{Problem, IsSmall, IsProblem}
 use Rattle.onfi_problem.specs.Left.{horizon, InLimits}
 use Rattle.onfi_schedule.specs.Schedule.{Schedule, Legal, Optimal, finish}
@@ -13,38 +11,39 @@ use Rattle.onfi_check.specs.Tree.{AcceptsTokens}
 use Rattle.onfi_check.specs.Faults.{IsTextFault}
 use Rattle.onfi_check.specs.declared.fault.TextFault.{TextFault}
 use Rattle.onfi_known.specs.Faults.{IsTextFault as IsKnownTextFault}
+use Rattle.onfi_known.specs.Laws.{NoneBefore}
 use Rattle.onfi_known.specs.Proves.{ProvesTokens}
+use Rattle.onfi_known.specs.Within.{IsWithinTextFault}
+use Rattle.onfi_known.specs.declared.fault.WithinTextFault.{WithinTextFault}
 use Rattle.onfi_known.specs.Text.{IsCertificate as IsKnownCertificate}
 use Rattle.onfi_known.specs.declared.fault.KnownTextFault.{KnownTextFault}
 use Rattle.onfi_known.specs.declared.token.Token.{Token as KnownToken}
-use Rattle.onfi_planner.specs.Nodes.{HasMoreNodes, IsSplitOver}
+use Rattle.onfi_check.specs.Nodes.{HasMoreNodes, IsSplitOver}
 use Rattle.onfi_planner.specs.Planning.{AreRising}
+use Rattle.onfi_early.specs.Slack.{slack_of}
 use Rattle.onfi_script.specs.declared.command.Command.{Command}
 use Rattle.onfi_script.specs.declared.command.Command.TheVariants as asked
+use Rattle.onfi_script.specs.declared.command.Finding.{Finding}
+use Rattle.onfi_script.specs.declared.command.Finding.TheVariants as found
 use Rattle.onfi_script.specs.declared.command.Output.{Output}
 use Rattle.onfi_script.specs.declared.command.Output.TheVariants.{Plan, Trace}
 use Rattle.onfi_script.specs.declared.fault.ScriptFault.{ScriptFault}
-use Rattle.onfi_script.specs.declared.fault.ScriptFault.TheVariants.{NoEnd, OutOfRange, Problem as Fault}
+use Rattle.onfi_script.specs.declared.fault.ScriptFault.TheVariants.{OutOfRange, Problem as Fault}
 use Rattle.onfi_problem.specs.declared.fault.ProblemFault.TheVariants.{TooMany, BadLun, Clock}
 use Rattle.onfi_script.specs.declared.fault.Refusal.{Refusal}
 use Rattle.onfi_script.specs.declared.purpose.Purpose.TheVariants as for_a
 use Rattle.onfi_script.specs.declared.row.Row.{Row}
-use Rattle.onfi_script.specs.Row.{Record}
-use Rattle.onfi_script.specs.Rows.{rows_of}
-use Rattle.onfi_script.specs.Script.{plan_text_of, script_of}
+use Rattle.onfi_script.specs.Input.{TellsRows}
+use Rattle.onfi_script.specs.Script.{plan_text_of}
 use Rattle.onfi_script.specs.declared.device.Device.{Device}
 use Rattle.onfi_script.specs.Device.{TellsDevice}
 use Rattle.onfi_script.specs.Setup.{names_absent, SetsUp}
-use Rattle.onfi_script.specs.PlanText.{plan_of, schedule_of}
-use Rattle.onfi_script.specs.Text.{Answer, memory, refused, planned, recalled, over, accepted, legal_until, refused_for, refused_at, text_refused, known_text_refused}
+use Rattle.onfi_script.specs.PlanText.{plan_of, plan_within_of, schedule_of}
+use Rattle.onfi_script.specs.Text.{Answer, memory, refused, planned, recalled, planned_within, over, accepted, within, legal_until, refused_for, refused_at, text_refused, known_text_refused, within_refused}
 
 -- a fault of the script as a whole
 abbrev pub whole : ScriptFault → Refusal
 whole fault = record { row = 0; fault = fault }
-
--- the script is refused for this
-abbrev pub Refuses : ScriptFault → Answer → Type 0
-Refuses fault answer = answer ≡ refused (whole fault)
 
 -- the text is a certificate by which nothing ends before the schedule
 pub record IsAccepted (p : Problem) (s : Schedule) (text : List ℕ) : Type 0 where
@@ -94,6 +93,47 @@ Prints (Trace requests) remember p answer = Traces requests p answer
 Prints Plan true p answer = Recalls p answer
 Prints Plan false p answer = Plans p answer
 
+-- the text is a certificate, which remembers states, that nothing ends before this time
+pub record ShowsBelow (p : Problem) (below : ℕ) (text : List ℕ) : Type 0 where
+  pub tokens : List KnownToken
+  pub certificate : IsKnownCertificate text p.rules.strict tokens
+  pub certified : ProvesTokens p.wants tokens p below
+  pub none_before : NoneBefore p below
+
+-- a legal schedule, its groups by rising first start, with the text of a certificate that nothing ends before `below`; that
+-- is its finish, unless the tree of the problem has more nodes than the limit
+pub record IsWithin (limit : ℕ) (p : Problem) (s : Schedule) (below : ℕ) (text : List ℕ) : Type 0 where
+  pub legal : Legal p s
+  pub rising : AreRising s.groups
+  pub shown : ShowsBelow p below text
+  pub short : below < finish p s → HasMoreNodes p limit
+
+-- the text of a plan that is so: a schedule, before which time nothing ends, and a certificate
+pub record PlansBelow (Is : Schedule → ℕ → List ℕ → Type 0) (p : Problem) (answer : Answer) : Type 0 where
+  pub schedule : Schedule
+  pub ends : ℕ
+  pub below : ℕ
+  pub certificate : List ℕ
+  pub finish : finish p schedule ≡ ends
+  pub is : Is schedule below certificate
+  pub text : answer ≡ planned_within schedule ends below certificate
+
+-- its trace
+pub record TracesBelow (Is : Schedule → ℕ → List ℕ → Type 0) (requests : Bool) (p : Problem) (answer : Answer) : Type 0 where
+  pub schedule : Schedule
+  pub below : ℕ
+  pub certificate : List ℕ
+  pub is : Is schedule below certificate
+  pub is_trace : IsTrace requests p schedule answer.text
+  pub fine : answer.status ≡ 0
+
+abbrev pub PrintsBelow : (Schedule → ℕ → List ℕ → Type 0) → Output → Problem → Answer → Type 0
+PrintsBelow Is (Trace requests) p answer = TracesBelow Is requests p answer
+PrintsBelow Is Plan p answer = PlansBelow Is p answer
+
+abbrev pub PrintsWithin : ℕ → Output → Problem → Answer → Type 0
+PrintsWithin limit output p answer = PrintsBelow (IsWithin limit p) output p answer
+
 -- one search with a limit tells that limit, where the tree of the problem has more nodes
 abbrev pub OneTells : ℕ → Problem → ℕ → Type 0
 OneTells limit p opened = (opened ≡ limit) × HasMoreNodes p limit
@@ -105,6 +145,34 @@ PartsTell limit p opened = IsSplitOver p limit opened
 -- a plan, or how many nodes were opened, where a search tells so
 abbrev pub AnswersPlan : (ℕ → Problem → ℕ → Type 0) → ℕ → Output → Bool → Problem → Answer → Type 0
 AnswersPlan Tells limit output remember p answer = Prints output remember p answer ⊎ ((opened : ℕ) × Tells limit p opened × (answer ≡ over opened))
+
+-- a legal schedule, its groups by rising first start, with the text of a certificate that nothing ends before `below`; it
+-- ends at most so many thousandths later, of what lies between the bus and that time, or else this is so
+pub record IsNear (Else : Type 0) (slack : ℕ) (p : Problem) (s : Schedule) (below : ℕ) (text : List ℕ) : Type 0 where
+  pub legal : Legal p s
+  pub rising : AreRising s.groups
+  pub shown : ShowsBelow p below text
+  pub near : below + slack_of slack p.bus_free below < finish p s → Else
+
+abbrev pub PrintsNear : Type 0 → ℕ → Output → Problem → Answer → Type 0
+PrintsNear Else slack output p answer = PrintsBelow (IsNear Else slack p) output p answer
+
+-- a schedule is printed, with its finish, what nothing ends before, and the text of a certificate
+abbrev pub TellsNear : Output → Problem → Schedule → ℕ → ℕ → List ℕ → Answer → Type 0
+TellsNear (Trace requests) p s ends below certificate answer = IsTrace requests p s answer.text × (answer.status ≡ 0)
+TellsNear Plan p s ends below certificate answer = answer ≡ planned_within s ends below certificate
+
+-- such a plan; it may end later only where it is the best within a limit, and the tree of the problem has more nodes.
+-- Where it isn't, a search may be over
+abbrev pub AnswersNear : Bool → ℕ → ℕ → Output → Problem → Answer → Type 0
+AnswersNear true slack limit output p answer = PrintsNear (HasMoreNodes p limit) slack output p answer
+AnswersNear false slack limit output p answer = PrintsNear ⊥ slack output p answer ⊎ ((opened : ℕ) × OneTells limit p opened × (answer ≡ over opened))
+
+-- a plan that is made better is still one of its search
+abbrev pub AnswersEarly : (ℕ → Problem → ℕ → Type 0) → Finding → ℕ → Output → Problem → Answer → Type 0
+AnswersEarly Tells found.Plain limit output p answer = AnswersPlan Tells limit output false p answer
+AnswersEarly Tells found.Remembering limit output p answer = AnswersPlan OneTells limit output true p answer
+AnswersEarly Tells found.BestSoFar limit output p answer = PrintsWithin limit output p answer
 
 -- a certificate is taken, one that remembers states or a plain one
 abbrev pub IsTaken : Bool → Problem → Schedule → List ℕ → Type 0
@@ -127,6 +195,24 @@ pub data AnswersSchedule (remember : Bool) (p : Problem) (s : Schedule) (ends : 
 abbrev pub AnswersCheck : Bool → Problem → List ℕ → Answer → Type 0
 AnswersCheck remember p text answer = MatchResult (plan_of p.wants text) (λ r. AnswersSchedule remember p (schedule_of p r.0) r.0.finish r.1 answer) (λ number. answer ≡ refused_at (codes "plan") number)
 
+-- the schedule is legal, and its certificate shows that nothing ends before `below`, when it may not have ended yet
+pub record IsShown (p : Problem) (s : Schedule) (below : ℕ) (text : List ℕ) : Type 0 where
+  pub legal : Legal p s
+  pub shown : ShowsBelow p below text
+  pub least : below ≤ finish p s
+
+-- the answer to a schedule that is said to end at `ends`, where nothing is said to end before `below`, and the text of its
+-- certificate: what is wrong with them, that the schedule ends at another time, or that it is legal and so near the optimum
+pub data AnswersWithin (p : Problem) (s : Schedule) (ends below : ℕ) (text : List ℕ) (answer : Answer) : Type 0 where
+  tells_fault : (fault : WithinTextFault) → IsWithinTextFault p.wants p s below text fault → answer ≡ within_refused fault → AnswersWithin p s ends below text answer
+  ends_elsewhere : IsShown p s below text → finish p s ≢ ends → answer ≡ refused_for (codes "finish") → AnswersWithin p s ends below text answer
+  is_within : IsShown p s below text → finish p s ≡ ends → below < ends → answer ≡ within ends below → AnswersWithin p s ends below text answer
+  is_optimal : IsKnown p s text → finish p s ≡ ends → answer ≡ accepted ends → AnswersWithin p s ends below text answer
+
+-- the answer to a plan text in which a line `below` may stand: its first wrong line, or the answer to what it says
+abbrev pub AnswersCheckWithin : Problem → List ℕ → Answer → Type 0
+AnswersCheckWithin p text answer = MatchResult (plan_within_of p.wants text) (λ r. AnswersWithin p (schedule_of p r.0) r.0.finish r.1 r.2 answer) (λ number. answer ≡ refused_at (codes "plan") number)
+
 -- the answer to a schedule alone: that a condition is broken, or when it ends
 pub data TellsLegal (p : Problem) (s : Schedule) (answer : Answer) : Type 0 where
   is_illegal : (Legal p s → ⊥) → answer ≡ refused_for (codes "1 Illegal") → TellsLegal p s answer
@@ -146,33 +232,41 @@ abbrev pub AnswersCommand : (ℕ → Problem → ℕ → Type 0) → Command →
 AnswersCommand Tells (asked.Plan limit output false) text p answer = AnswersPlan Tells limit output false p answer
 AnswersCommand Tells (asked.Plan limit output true) text p answer = AnswersPlan OneTells limit output true p answer
 AnswersCommand Tells (asked.Check remember) text p answer = AnswersCheck remember p text answer
+AnswersCommand Tells (asked.PlanWithin limit output) text p answer = PrintsWithin limit output p answer
+AnswersCommand Tells (asked.PlanEarly limit output finding) text p answer = AnswersEarly Tells finding limit output p answer
+AnswersCommand Tells (asked.PlanNear limit output within slack) text p answer = AnswersNear within slack limit output p answer
+AnswersCommand Tells asked.CheckWithin text p answer = AnswersCheckWithin p text answer
 AnswersCommand Tells asked.Legal text p answer = AnswersLegal p text answer
 
--- the answer to a problem: its first fault, or what the command asks for
-pub data AnswersProblem (Tells : ℕ → Problem → ℕ → Type 0) (command : Command) (text : List ℕ) (p : Problem) (answer : Answer) : Type 0 where
-  is_too_many : (IsSmall p → ⊥) → Refuses (Fault TooMany) answer → AnswersProblem Tells command text p answer
-  is_bad_lun : IsSmall p → (IsProblem p → ⊥) → Refuses (Fault BadLun) answer → AnswersProblem Tells command text p answer
-  is_late : IsSmall p → IsProblem p → 2 ^ 62 ≤ horizon p → Refuses (Fault Clock) answer → AnswersProblem Tells command text p answer
-  is_problem : InLimits p → AnswersCommand Tells command text p answer → AnswersProblem Tells command text p answer
+-- a problem that is set up: its first fault, or the problem itself
+pub data TellsProblem (p : Problem) (told : Result Problem Refusal) : Type 0 where
+  is_too_many : (IsSmall p → ⊥) → told ≡ Err (whole (Fault TooMany)) → TellsProblem p told
+  is_bad_lun : IsSmall p → (IsProblem p → ⊥) → told ≡ Err (whole (Fault BadLun)) → TellsProblem p told
+  is_late : IsSmall p → IsProblem p → 2 ^ 62 ≤ horizon p → told ≡ Err (whole (Fault Clock)) → TellsProblem p told
+  is_problem : InLimits p → told ≡ Ok p → TellsProblem p told
 
--- the answer to rows that are each in order: why they tell of no device, the first that names a LUN that isn't
--- there, or the answer to what they set up
-pub data AnswersRows (Tells : ℕ → Problem → ℕ → Type 0) (command : Command) (text : List ℕ) (rows : List Row) (answer : Answer) : Type 0 where
-  has_no_device : (fault : ScriptFault) → TellsDevice rows (Err fault) → Refuses fault answer → AnswersRows Tells command text rows answer
+-- rows that are each in order: why they tell of no device, the first that names a LUN that isn't there, or the problem that
+-- they set up
+pub data TellsSetup (rows : List Row) (told : Result Problem Refusal) : Type 0 where
+  has_no_device : (fault : ScriptFault) → TellsDevice rows (Err fault) → told ≡ Err (whole fault) → TellsSetup rows told
   has_no_lun : (device : Device) (at : ℕ) → TellsDevice rows (Ok device) → position (names_absent device.luns) rows ≡ Some at
-      → answer ≡ refused (record { row = at + 1; fault = OutOfRange }) → AnswersRows Tells command text rows answer
+      → told ≡ Err (record { row = at + 1; fault = OutOfRange }) → TellsSetup rows told
   has_problem : (device : Device) (p : Problem) → TellsDevice rows (Ok device) → position (names_absent device.luns) rows ≡ None → SetsUp rows device p
-      → AnswersProblem Tells command text p answer → AnswersRows Tells command text rows answer
+      → TellsProblem p told → TellsSetup rows told
 
--- the answer to records: their first refused row, or the answer to all
-abbrev pub AnswersRecords : (ℕ → Problem → ℕ → Type 0) → Command → List ℕ → List Record → Answer → Type 0
-AnswersRecords Tells command text records answer = MatchResult (rows_of for_a.Problem records) (λ rows. AnswersRows Tells command text rows answer) (λ refusal. answer ≡ refused refusal)
+-- the script of an input: the first refusal of its rows, or what they set up
+pub data TellsScript (input : List ℕ) (told : Result Problem Refusal) : Type 0 where
+  has_refusal : (refusal : Refusal) → TellsRows for_a.Problem input (Err refusal) → told ≡ Err refusal → TellsScript input told
+  has_rows : (rows : List Row) → TellsRows for_a.Problem input (Ok rows) → TellsSetup rows told → TellsScript input told
 
--- the answers to an input: the one to the records that its script reads as and the text behind it, or that memory ran out
+-- the answer to an input: why its script is refused, or what the command asks for
+pub data AnswersScript (Tells : ℕ → Problem → ℕ → Type 0) (command : Command) (input : List ℕ) (answer : Answer) : Type 0 where
+  is_unread : (refusal : Refusal) → TellsScript input (Err refusal) → answer ≡ refused refusal → AnswersScript Tells command input answer
+  is_read : (p : Problem) → TellsScript input (Ok p) → AnswersCommand Tells command (plan_text_of input) p answer → AnswersScript Tells command input answer
+
+-- .. or that memory ran out
 abbrev pub IsAnswerBy : (ℕ → Problem → ℕ → Type 0) → Command → List ℕ → Answer → Type 0
-IsAnswerBy Tells command input answer = (answer ≡ memory)
-    ⊎ MatchOption (script_of input) (Refuses NoEnd answer)
-    (λ script. (records : List Record) × AreRecords default_config st.StartRecord (strip_bom script) records × AnswersRecords Tells command (plan_text_of script input) records answer)
+IsAnswerBy Tells command input answer = (answer ≡ memory) ⊎ AnswersScript Tells command input answer
 
 -- the writer was given the answer to what the reader had, where both tell their bytes
 abbrev pub AnswersBy : (ℕ → Problem → ℕ → Type 0) → Command → Option (List ℕ) → Option (List ℕ) → Option (List ℕ) → ℕ → Type 0

@@ -2,11 +2,13 @@
 use Rattle.std.specs.Prelude.{ℕ, ◌==◌, ◌&&◌, nat_le, if◌then◌else◌, Bool, List, [], unwrap_or, Option, Some, None, Result, Ok, Err, codes}
 use Rattle.std.specs.Str.{bytes_eq}
 use Rattle.csv.specs.Records.{field_at}
+use Rattle.hex.specs.Hex.{decode_of}
+use Rattle.hex.specs.declared.error.FromHexError.{FromHexError}
 use Rattle.onfi_timing.specs.Decimal.{number_of}
 use Rattle.onfi_timing.specs.declared.kind.Kind.{Kind}
 use Rattle.onfi_timing.specs.declared.kind.Kind.TheVariants.{Read, Program, Erase}
 use Rattle.onfi_script.specs.declared.fault.ScriptFault.{ScriptFault}
-use Rattle.onfi_script.specs.declared.fault.ScriptFault.TheVariants.{NotANumber, OutOfRange}
+use Rattle.onfi_script.specs.declared.fault.ScriptFault.TheVariants.{Hex, NotANumber, OutOfRange}
 
 -- goes on with what was read, or tells why nothing was
 abbrev pub given : {A B : Type 0} → Result A ScriptFault → (A → Result B ScriptFault) → Result B ScriptFault
@@ -46,6 +48,9 @@ block text = number 0 65535 text
 abbrev pub page : List ℕ → Result ℕ ScriptFault
 page text = number 0 4095 text
 
+abbrev pub weight : List ℕ → Result ℕ ScriptFault
+weight text = number 1 65535 text
+
 -- a length or a wait in ns, below 2^50
 abbrev pub span : ℕ → List ℕ → Result ℕ ScriptFault
 span least text = number least 1125899906842623 text
@@ -53,3 +58,11 @@ span least text = number least 1125899906842623 text
 -- a time in ns, below 2^62
 abbrev pub time : List ℕ → Result ℕ ScriptFault
 time text = number 0 4611686018427387903 text
+
+-- bytes in hexadecimal
+abbrev pub in_hex : Result (List ℕ) FromHexError → Result (List ℕ) ScriptFault
+in_hex (Ok bytes) = Ok bytes
+in_hex (Err fault) = Err Hex
+
+abbrev pub hex_bytes : List ℕ → Result (List ℕ) ScriptFault
+hex_bytes text = in_hex (decode_of text)

@@ -68,10 +68,18 @@ line_of_words wants (name ∷ words) =
 abbrev pub line_of : List Want → List ℕ → Option Line
 line_of wants line = line_of_words wants (parts 32 line)
 
--- `finish N`
-abbrev pub finish_of_words : List (List ℕ) → Option ℕ
-finish_of_words (name ∷ number' ∷ []) = if bytes_eq name (codes "finish") then number number' else None
-finish_of_words words = None
+-- `NAME N`
+abbrev pub number_in_words : List ℕ → List (List ℕ) → Option ℕ
+number_in_words name (first ∷ number' ∷ []) = if bytes_eq first name then number number' else None
+number_in_words name words = None
 
+abbrev pub number_in : List ℕ → List ℕ → Option ℕ
+number_in name line = number_in_words name (parts 32 line)
+
+-- `finish N`
 abbrev pub finish_of : List ℕ → Option ℕ
-finish_of line = finish_of_words (parts 32 line)
+finish_of line = number_in (codes "finish") line
+
+-- `below N`
+abbrev pub below_of : List ℕ → Option ℕ
+below_of line = number_in (codes "below") line

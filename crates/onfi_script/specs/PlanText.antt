@@ -1,12 +1,12 @@
 -- What a plan text says: its schedule, and the text of the certificate behind it, or which line is the first wrong one.
-use Rattle.std.specs.Prelude.{◌≡◌, ℕ, ◌+◌, ◌==◌, ◌&&◌, nat_eq, nat_le, nat_lt, if◌then◌else◌, Bool, List, [], ◌∷◌, ◌++◌, length, zero, suc, find, Option, Some, None, Result, Ok, Err, codes}
+use Rattle.std.specs.Prelude.{◌≡◌, ℕ, ◌+◌, ◌==◌, ◌&&◌, nat_eq, nat_le, nat_lt, if◌then◌else◌, Bool, List, [], ◌∷◌, ◌++◌, length, zero, suc, find, option_map, Option, Some, None, Result, Ok, Err, codes}
 use Rattle.std.specs.List.{list_all, list_any, starts_with, join_with_byte}
 use Rattle.std.specs.Str.{bytes_eq}
 use Rattle.onfi_request.specs.declared.want.Want.{Want}
 use Rattle.onfi_problem.specs.Problem.{Problem}
 use Rattle.onfi_schedule.specs.Schedule.{Placed, Schedule}
 use Rattle.onfi_script.specs.Parts.{parts}
-use Rattle.onfi_script.specs.PlanLine.{line_of, finish_of}
+use Rattle.onfi_script.specs.PlanLine.{line_of, finish_of, below_of}
 use Rattle.onfi_script.specs.declared.plan_line.RestLine.{RestLine}
 use Rattle.onfi_script.specs.declared.plan_line.Line.{Line}
 use Rattle.onfi_script.specs.declared.plan_line.Line.TheVariants.{Rest, Group}
@@ -60,33 +60,60 @@ plan_after wants plan (line ∷ next ∷ more) =
     if is_certificate line then Ok (plan, join_with_byte 10 (line ∷ next ∷ more))
     else told (next_number plan) (grown plan (line_of wants line)) (λ plan. plan_after wants plan (next ∷ more))
 
--- .. behind the second line
-abbrev pub behind_finish : List Want → Option ℕ → List (List ℕ) → Result (Plan × List ℕ) ℕ
-behind_finish wants None parts = Err 2
-behind_finish wants (Some finish) parts = plan_after wants (begun finish) parts
+-- the plan of that finish with the lines of a text up to its certificate, and the text of that
+abbrev pub lines_of : List Want → ℕ → List (List ℕ) → Result (Plan × List ℕ) ℕ
+lines_of wants finish parts = plan_after wants (begun finish) parts
 
--- .. behind the first
-abbrev pub behind_head : List Want → List (List ℕ) → Result (Plan × List ℕ) ℕ
-behind_head wants [] = Err 2
-behind_head wants (last ∷ []) = Err 2
-behind_head wants (line ∷ next ∷ more) = behind_finish wants (finish_of line) (next ∷ more)
+-- the finish that the second line tells, with the parts behind it
+abbrev pub behind_finish : Option ℕ → List (List ℕ) → Result (ℕ × List (List ℕ)) ℕ
+behind_finish None parts = Err 2
+behind_finish (Some finish) parts = Ok (finish, parts)
 
-abbrev pub plan_of_parts : List Want → List (List ℕ) → Result (Plan × List ℕ) ℕ
-plan_of_parts wants [] = Err 1
-plan_of_parts wants (last ∷ []) = Err 1
-plan_of_parts wants (line ∷ next ∷ more) = if bytes_eq line (codes "ONFIPLAN 1") then behind_head wants (next ∷ more) else Err 1
+-- .. read behind the first line
+abbrev pub behind_head : List (List ℕ) → Result (ℕ × List (List ℕ)) ℕ
+behind_head [] = Err 2
+behind_head (last ∷ []) = Err 2
+behind_head (line ∷ next ∷ more) = behind_finish (finish_of line) (next ∷ more)
 
--- the first two lines tell this finish, and these parts stand behind them
-abbrev pub Opens : List ℕ → ℕ → List (List ℕ) → Type 0
-Opens text finish parts' = (wants : List Want) → plan_of_parts wants (parts 10 text) ≡ plan_after wants (begun finish) parts'
+-- the finish that the first two lines of a text tell and the parts behind them, or which of the two is wrong
+abbrev pub opened : List (List ℕ) → Result (ℕ × List (List ℕ)) ℕ
+opened [] = Err 1
+opened (last ∷ []) = Err 1
+opened (line ∷ next ∷ more) = if bytes_eq line (codes "ONFIPLAN 1") then behind_head (next ∷ more) else Err 1
 
--- this one of the first two lines is wrong
-abbrev pub OpensWrong : List ℕ → ℕ → Type 0
-OpensWrong text number = (wants : List Want) → plan_of_parts wants (parts 10 text) ≡ Err number
+-- goes on with what was read, or tells the same wrong line
+abbrev pub and_on : {A B : Type 0} → Result A ℕ → (A → Result B ℕ) → Result B ℕ
+and_on (Ok x) go = go x
+and_on (Err number) go = Err number
 
 -- the plan that a text says of these wants and the text of its certificate, or its first wrong line
 abbrev pub plan_of : List Want → List ℕ → Result (Plan × List ℕ) ℕ
-plan_of wants text = plan_of_parts wants (parts 10 text)
+plan_of wants text = and_on (opened (parts 10 text)) (λ o. lines_of wants o.0 o.1)
+
+-- the number of a line `below` in front, and the parts behind it
+abbrev pub below_first : List (List ℕ) → Option (ℕ × List (List ℕ))
+below_first [] = None
+below_first (last ∷ []) = None
+below_first (line ∷ next ∷ more) = option_map (λ below. (below, next ∷ more)) (below_of line)
+
+-- a plan with the number of a line `below` before its lines, which are so counted from one more on
+abbrev pub behind_below : ℕ → Result (Plan × List ℕ) ℕ → Result (Plan × ℕ × List ℕ) ℕ
+behind_below below (Ok r) = Ok (r.0, below, r.1)
+behind_below below (Err number) = Err (number + 1)
+
+-- a plan without such a line: nothing ends before its finish
+abbrev pub without_below : ℕ → Result (Plan × List ℕ) ℕ → Result (Plan × ℕ × List ℕ) ℕ
+without_below finish (Ok r) = Ok (r.0, finish, r.1)
+without_below finish (Err number) = Err number
+
+abbrev pub lines_within : List Want → ℕ → List (List ℕ) → Option (ℕ × List (List ℕ)) → Result (Plan × ℕ × List ℕ) ℕ
+lines_within wants finish parts None = without_below finish (lines_of wants finish parts)
+lines_within wants finish parts (Some r) = behind_below r.0 (lines_of wants finish r.1)
+
+-- the plan that a text says of these wants, before which time nothing ends, and the text of its certificate, or its first
+-- wrong line; a line `below` may stand behind the finish
+abbrev pub plan_within_of : List Want → List ℕ → Result (Plan × ℕ × List ℕ) ℕ
+plan_within_of wants text = and_on (opened (parts 10 text)) (λ o. lines_within wants o.0 o.1 (below_first o.1))
 
 -- the starts of a LUN's line, none where there is no such line
 abbrev pub starts_in : Option RestLine → List ℕ

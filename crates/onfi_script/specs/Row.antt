@@ -1,15 +1,13 @@
 -- What a row says, by its name.
 use Rattle.std.specs.Prelude.{ℕ, List, [], ◌∷◌, drop, Result, Ok, Err}
-use Rattle.hex.specs.Hex.{decode_of}
-use Rattle.hex.specs.declared.error.FromHexError.{FromHexError}
 use Rattle.onfi_timing.specs.declared.fault.SheetFault.{SheetFault}
 use Rattle.onfi_timing.specs.declared.sheet.Sheet.{Sheet as SheetOf}
 use Rattle.onfi_timing.specs.Sheet.{with_row}
 use Rattle.onfi_script.specs.declared.fault.ScriptFault.{ScriptFault}
-use Rattle.onfi_script.specs.declared.fault.ScriptFault.TheVariants.{Hex, Sheet as InSheet}
+use Rattle.onfi_script.specs.declared.fault.ScriptFault.TheVariants.{Sheet as InSheet}
 use Rattle.onfi_script.specs.declared.row.Row.{Row}
-use Rattle.onfi_script.specs.declared.row.Row.TheVariants.{Shape, Spans, Page, Sheet, Bus, Free, Running, Want, Strict}
-use Rattle.onfi_script.specs.Field.{given, field, number, flag, kind, lun, block, page, span, time}
+use Rattle.onfi_script.specs.declared.row.Row.TheVariants.{Shape, Spans, Page, Sheet, Bus, Free, Running, Want, Weight, Strict}
+use Rattle.onfi_script.specs.Field.{given, field, hex_bytes, number, flag, kind, lun, block, page, span, time, weight}
 
 -- the fields of a row, its name first
 abbrev pub Record : Type 0
@@ -32,13 +30,8 @@ spans_row row =
     given (span 1 (field row 5)) (λ post.
     Ok (Spans (record { kind = kind; cmd = cmd; gap = gap; array = array; post = post })))))))
 
--- bytes in hexadecimal
-abbrev pub bytes_row : Result (List ℕ) FromHexError → Result Row ScriptFault
-bytes_row (Ok bytes) = Ok (Page bytes)
-bytes_row (Err fault) = Err Hex
-
 abbrev pub page_row : Record → Result Row ScriptFault
-page_row row = bytes_row (decode_of (field row 1))
+page_row row = given (hex_bytes (field row 1)) (λ bytes. Ok (Page bytes))
 
 -- a sheet with one value more
 abbrev pub values_row : Result SheetOf SheetFault → Result Row ScriptFault
@@ -75,6 +68,9 @@ want_row row =
     given (block (field row 3)) (λ block.
     given (page (field row 4)) (λ page.
     Ok (Want kind lun block page)))))
+
+abbrev pub weight_row : Record → Result Row ScriptFault
+weight_row row = given (number 0 7 (field row 1)) (λ request. given (weight (field row 2)) (λ weight. Ok (Weight request weight)))
 
 abbrev pub strict_row : Record → Result Row ScriptFault
 strict_row row = given (flag (field row 1)) (λ strict. Ok (Strict strict))

@@ -1,5 +1,5 @@
 -- The names of rows, what they are taken for, and how many fields each has.
-use Rattle.std.specs.Prelude.{ℕ, ◌==◌, ◌&&◌, nat_le, if◌then◌else◌, Bool, true, false, List, length, Option, Some, None, codes}
+use Rattle.std.specs.Prelude.{ℕ, ◌==◌, ◌&&◌, ◌||◌, not, nat_le, if◌then◌else◌, Bool, true, false, List, length, Option, Some, None, codes}
 use Rattle.std.specs.Str.{bytes_eq}
 use Rattle.onfi_script.specs.Field.{field}
 use Rattle.onfi_script.specs.declared.purpose.Purpose.{Purpose}
@@ -7,7 +7,7 @@ use Rattle.onfi_script.specs.declared.purpose.Purpose.TheVariants.{Problem, Run}
 use Rattle.onfi_script.specs.declared.row_name.Form.{Form}
 use Rattle.onfi_script.specs.declared.row_name.Form.TheVariants.{First, Second}
 use Rattle.onfi_script.specs.declared.row_name.RowName.{RowName}
-use Rattle.onfi_script.specs.declared.row_name.RowName.TheVariants.{Shape, Spans, Page, Sheet, Bus, Free, Running, Want, Strict, Channels, Hosts, Batch, SubmitCap, PostCap, Op, Fault, ChipFail, NotReady}
+use Rattle.onfi_script.specs.declared.row_name.RowName.TheVariants.{Shape, Spans, Page, Sheet, Bus, Free, Running, Want, Weight, Strict, Channels, Hosts, Batch, SubmitCap, PostCap, Choice, Op, Fault, ChipFail, NotReady}
 
 -- the rows that are taken for a run alone
 abbrev pub run_name_of : List ℕ → Option RowName
@@ -15,13 +15,14 @@ run_name_of text =
     if bytes_eq text (codes "channels") then Some Channels
     else (if bytes_eq text (codes "hosts") then Some Hosts
     else (if bytes_eq text (codes "batch") then Some Batch
+    else (if bytes_eq text (codes "choice") then Some Choice
     else (if bytes_eq text (codes "submitcap") then Some SubmitCap
     else (if bytes_eq text (codes "postcap") then Some PostCap
     else (if bytes_eq text (codes "op") then Some Op
     else (if bytes_eq text (codes "fault") then Some Fault
     else (if bytes_eq text (codes "chipfail") then Some ChipFail
     else (if bytes_eq text (codes "notready") then Some NotReady
-    else None))))))))
+    else None)))))))))
 
 abbrev pub name_of : List ℕ → Option RowName
 name_of text =
@@ -33,41 +34,31 @@ name_of text =
     else (if bytes_eq text (codes "free") then Some Free
     else (if bytes_eq text (codes "running") then Some Running
     else (if bytes_eq text (codes "want") then Some Want
+    else (if bytes_eq text (codes "weight") then Some Weight
     else (if bytes_eq text (codes "strict") then Some Strict
-    else run_name_of text))))))))
+    else run_name_of text)))))))))
 
--- the rows of a device and a problem
+-- the rows that are taken for a problem alone
 abbrev pub is_of_problem : RowName → Bool
 is_of_problem Shape = true
 is_of_problem Spans = true
-is_of_problem Page = true
-is_of_problem Sheet = true
 is_of_problem Bus = true
 is_of_problem Free = true
 is_of_problem Running = true
 is_of_problem Want = true
-is_of_problem Strict = true
+is_of_problem Weight = true
 is_of_problem _ = false
 
--- the rows of a device, hosts and channels
-abbrev pub is_of_run : RowName → Bool
-is_of_run Page = true
-is_of_run Sheet = true
-is_of_run Strict = true
-is_of_run Channels = true
-is_of_run Hosts = true
-is_of_run Batch = true
-is_of_run SubmitCap = true
-is_of_run PostCap = true
-is_of_run Op = true
-is_of_run Fault = true
-is_of_run ChipFail = true
-is_of_run NotReady = true
-is_of_run _ = false
+-- .. and for a run too
+abbrev pub is_of_both : RowName → Bool
+is_of_both Page = true
+is_of_both Sheet = true
+is_of_both Strict = true
+is_of_both _ = false
 
 abbrev pub is_taken : Purpose → RowName → Bool
-is_taken Problem name = is_of_problem name
-is_taken Run name = is_of_run name
+is_taken Problem name = is_of_both name || is_of_problem name
+is_taken Run name = is_of_both name || not (is_of_problem name)
 
 -- the form whose row it is
 abbrev pub form_of : RowName → Option Form
@@ -92,19 +83,6 @@ fits (Some own) (Some form) = is_form own form
 abbrev pub op_fields : List (List ℕ) → ℕ
 op_fields row = if bytes_eq (field row 3) (codes "program") then 8 else 7
 
--- a row that is taken for a run alone has as many fields as it needs
-abbrev pub has_run_fields : RowName → List (List ℕ) → Bool
-has_run_fields Channels row = length row == 2
-has_run_fields Hosts row = length row == 2
-has_run_fields Batch row = length row == 2
-has_run_fields SubmitCap row = length row == 2
-has_run_fields PostCap row = length row == 2
-has_run_fields ChipFail row = length row == 3
-has_run_fields NotReady row = length row == 3
-has_run_fields Fault row = length row == 5
-has_run_fields Op row = length row == op_fields row
-has_run_fields _ row = false
-
 -- a row has as many fields as it needs, its name with them
 abbrev pub has_fields : RowName → List (List ℕ) → Bool
 has_fields Shape row = length row == 5
@@ -115,5 +93,15 @@ has_fields Bus row = length row == 2
 has_fields Free row = length row == 3
 has_fields Running row = nat_le 7 (length row) && nat_le (length row) 10
 has_fields Want row = length row == 5
+has_fields Weight row = length row == 3
 has_fields Strict row = length row == 2
-has_fields name row = has_run_fields name row
+has_fields Channels row = length row == 2
+has_fields Hosts row = length row == 2
+has_fields Batch row = length row == 2
+has_fields Choice row = length row == 2
+has_fields SubmitCap row = length row == 2
+has_fields PostCap row = length row == 2
+has_fields ChipFail row = length row == 3
+has_fields NotReady row = length row == 3
+has_fields Fault row = length row == 5
+has_fields Op row = length row == op_fields row

@@ -8,44 +8,37 @@ use Rattle.onfi_script.specs.declared.fault.Refusal.{Refusal}
 use Rattle.onfi_script.specs.declared.row.Row.{Row}
 use Rattle.onfi_script.specs.declared.row.Subject.{Subject}
 use Rattle.onfi_script.specs.declared.row_name.RowName.{RowName}
-use Rattle.onfi_script.specs.declared.row_name.RowName.TheVariants.{Shape, Spans, Page, Sheet, Bus, Free, Running, Want, Strict, Channels, Hosts, Batch, SubmitCap, PostCap, Op, Fault, ChipFail, NotReady}
+use Rattle.onfi_script.specs.declared.row_name.RowName.TheVariants.{Shape, Spans, Page, Sheet, Bus, Free, Running, Want, Weight, Strict, Channels, Hosts, Batch, SubmitCap, PostCap, Choice, Op, Fault, ChipFail, NotReady}
 use Rattle.onfi_script.specs.Field.{given, field}
 use Rattle.onfi_script.specs.RowName.{name_of, is_taken, form_of, fits, has_fields}
-use Rattle.onfi_script.specs.Row.{Record, shape_row, spans_row, page_row, sheet_row, bus_row, free_row, running_row, want_row, strict_row}
+use Rattle.onfi_script.specs.Row.{Record, shape_row, spans_row, page_row, sheet_row, bus_row, free_row, running_row, want_row, weight_row, strict_row}
 use Rattle.onfi_script.specs.declared.seen.Seen.{Seen}
 use Rattle.onfi_script.specs.Seen.{seen}
-use Rattle.onfi_script.specs.RunRow.{channels_row, hosts_row, batch_row, submit_cap_row, post_cap_row, op_row, fault_row, chip_fail_row, not_ready_row}
+use Rattle.onfi_script.specs.RunRow.{channels_row, hosts_row, batch_row, submit_cap_row, post_cap_row, op_row, fault_row, chip_fail_row, not_ready_row, choice_row}
 use Rattle.onfi_script.specs.Subject.{subject_of, settles, is_op}
 
--- .. of a run alone
-abbrev pub told_of_run : RowName → Record → Result Row ScriptFault
-told_of_run Channels row = channels_row row
-told_of_run Hosts row = hosts_row row
-told_of_run Batch row = batch_row row
-told_of_run SubmitCap row = submit_cap_row row
-told_of_run PostCap row = post_cap_row row
-told_of_run Fault row = fault_row row
-told_of_run ChipFail row = chip_fail_row row
-told_of_run NotReady row = not_ready_row row
-told_of_run _ row = Err NotHere
-
--- what a row of that name says by itself
-abbrev pub told_alone : RowName → Record → Result Row ScriptFault
-told_alone Shape row = shape_row row
-told_alone Spans row = spans_row row
-told_alone Bus row = bus_row row
-told_alone Free row = free_row row
-told_alone Running row = running_row row
-told_alone Want row = want_row row
-told_alone Strict row = strict_row row
-told_alone name row = told_of_run name row
-
--- what row number `number` says; a row of the sheet is read with those before it
+-- what row number `number` of that name says; a row of the sheet is read with those before it
 abbrev pub said : RowName → Seen → ℕ → Record → Result Row ScriptFault
+said Shape seen number row = shape_row row
+said Spans seen number row = spans_row row
 said Page seen number row = page_row row
 said Sheet seen number row = sheet_row seen.sheet number row
+said Bus seen number row = bus_row row
+said Free seen number row = free_row row
+said Running seen number row = running_row row
+said Want seen number row = want_row row
+said Weight seen number row = weight_row row
+said Strict seen number row = strict_row row
+said Channels seen number row = channels_row row
+said Hosts seen number row = hosts_row row
+said Batch seen number row = batch_row row
+said Choice seen number row = choice_row row
+said SubmitCap seen number row = submit_cap_row row
+said PostCap seen number row = post_cap_row row
 said Op seen number row = op_row row
-said name seen number row = told_alone name row
+said Fault seen number row = fault_row row
+said ChipFail seen number row = chip_fail_row row
+said NotReady seen number row = not_ready_row row
 
 -- an earlier row settles the same
 abbrev pub is_settled : Option Subject → List Row → Bool

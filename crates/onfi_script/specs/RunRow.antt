@@ -1,15 +1,16 @@
 -- What a row that is taken for a run alone says.
-use Rattle.std.specs.Prelude.{ℕ, ◌==◌, if◌then◌else◌, List, [], ◌∷◌, Result, Ok, Err}
-use Rattle.hex.specs.Hex.{decode_of}
-use Rattle.hex.specs.declared.error.FromHexError.{FromHexError}
+use Rattle.std.specs.Prelude.{ℕ, ◌==◌, if◌then◌else◌, List, [], ◌∷◌, Result, Ok, Err, codes}
+use Rattle.std.specs.Str.{bytes_eq}
 use Rattle.onfi_script.specs.declared.fault.ScriptFault.{ScriptFault}
-use Rattle.onfi_script.specs.declared.fault.ScriptFault.TheVariants.{Hex}
+use Rattle.onfi_script.specs.declared.fault.ScriptFault.TheVariants.{Hex, OutOfRange}
 use Rattle.onfi_script.specs.declared.operation.Aim.{Aim}
 use Rattle.onfi_script.specs.declared.operation.Content.{Content}
 use Rattle.onfi_script.specs.declared.operation.Content.TheVariants.{Given, Filled}
 use Rattle.onfi_script.specs.declared.row.Row.{Row}
-use Rattle.onfi_script.specs.declared.row.Row.TheVariants.{Channels, Hosts, Batch, SubmitCap, PostCap, Op, Fault, ChipFail, NotReady}
-use Rattle.onfi_script.specs.Field.{given, field, number, kind, lun, block, page}
+use Rattle.onfi_script.specs.declared.row.Row.TheVariants.{Channels, Hosts, Batch, SubmitCap, PostCap, Op, Fault, ChipFail, NotReady, Choice}
+use Rattle.onfi_script.specs.declared.choosing.Choosing.{Choosing}
+use Rattle.onfi_script.specs.declared.choosing.Choosing.TheVariants.{ByLun, ReadsFirst}
+use Rattle.onfi_script.specs.Field.{given, field, hex_bytes, number, kind, lun, block, page}
 use Rattle.onfi_script.specs.Row.{Record}
 
 -- how many places a queue has
@@ -20,9 +21,12 @@ capacity text = number 1 1024 text
 abbrev pub few : List ℕ → Result ℕ ScriptFault
 few text = number 1 4 text
 
--- how many wants one plan takes up
-abbrev pub batch : List ℕ → Result ℕ ScriptFault
-batch text = number 1 8 text
+-- by what a batch is chosen
+abbrev pub choosing : List ℕ → Result Choosing ScriptFault
+choosing text =
+    if bytes_eq text (codes "by-lun") then Ok ByLun
+    else (if bytes_eq text (codes "reads-first") then Ok ReadsFirst
+    else Err OutOfRange)
 
 -- the number of a call, below 2^32
 abbrev pub call_number : List ℕ → Result ℕ ScriptFault
@@ -39,7 +43,10 @@ abbrev pub hosts_row : Record → Result Row ScriptFault
 hosts_row row = given (few (field row 1)) (λ count. Ok (Hosts count))
 
 abbrev pub batch_row : Record → Result Row ScriptFault
-batch_row row = given (batch (field row 1)) (λ count. Ok (Batch count))
+batch_row row = given (number 1 8 (field row 1)) (λ count. Ok (Batch count))
+
+abbrev pub choice_row : Record → Result Row ScriptFault
+choice_row row = given (choosing (field row 1)) (λ choosing. Ok (Choice choosing))
 
 abbrev pub submit_cap_row : Record → Result Row ScriptFault
 submit_cap_row row = given (capacity (field row 1)) (λ count. Ok (SubmitCap count))
@@ -60,14 +67,6 @@ fault_row row =
     given (block (field row 3)) (λ block.
     given (call_number (field row 4)) (λ number.
     Ok (Fault channel (record { lun = lun; block = block; number = number }))))))
-
--- bytes in hexadecimal
-abbrev pub in_hex : Result (List ℕ) FromHexError → Result (List ℕ) ScriptFault
-in_hex (Ok bytes) = Ok bytes
-in_hex (Err fault) = Err Hex
-
-abbrev pub hex_bytes : List ℕ → Result (List ℕ) ScriptFault
-hex_bytes text = in_hex (decode_of text)
 
 -- the only one of the bytes
 abbrev pub only : List ℕ → Result ℕ ScriptFault

@@ -6,7 +6,7 @@ use Rattle.onfi_problem.specs.declared.lun_state.LunState.TheVariants as state
 use Rattle.onfi_problem.specs.Problem.{Problem}
 use Rattle.onfi_script.specs.declared.device.Device.{Device}
 use Rattle.onfi_script.specs.declared.row.Row.{Row}
-use Rattle.onfi_script.specs.declared.row.Row.TheVariants.{Bus, Free, Running, Want, Strict}
+use Rattle.onfi_script.specs.declared.row.Row.TheVariants.{Bus, Free, Running, Want, Weight, Strict}
 use Rattle.onfi_script.specs.declared.row.Subject.TheVariants as on
 use Rattle.onfi_script.specs.RowParts.{RunningRow}
 use Rattle.onfi_script.specs.Subject.{row_on}
@@ -23,6 +23,18 @@ strict_from _ = false
 
 abbrev pub plane_of : ℕ → ℕ → ℕ
 plane_of plane_bits block = block % 2 ^ plane_bits
+
+-- how much a request counts, 1 where no row tells
+abbrev pub weight_from : Option Row → ℕ
+weight_from (Some (Weight request weight)) = weight
+weight_from _ = 1
+
+abbrev pub weight_at : List Row → ℕ → ℕ
+weight_at rows request = weight_from (row_on (on.Weight request) rows)
+
+-- of the wants, by their numbers
+abbrev pub weights : List Row → List ℕ
+weights rows = map (weight_at rows) (0 ∷ 1 ∷ 2 ∷ 3 ∷ 4 ∷ 5 ∷ 6 ∷ 7 ∷ [])
 
 -- a member of the group that a row tells of
 abbrev pub member : ℕ → RunningRow → ℕ → WantOf

@@ -1,5 +1,5 @@
 -- What a stop tells of a script.
-use Rattle.std.specs.Prelude.{ℕ}
+use Rattle.std.specs.Prelude.{◌≡◌, ℕ, Result, Ok, Err, MatchResult}
 use Rattle.onfi_script.specs.declared.fault.Refusal.{Refusal}
 use Rattle.onfi_script.specs.declared.fault.ScriptFault.{ScriptFault}
 use Rattle.onfi_script.specs.declared.fault.RowStop.{RowStop}
@@ -21,3 +21,11 @@ IfFault of.Memory P = Unit {0}
 abbrev pub stop_at : ℕ → RowStop → Stop
 stop_at row (of.Fault fault) = Refused (record { row = row; fault = fault })
 stop_at row of.Memory = Memory
+
+-- `Told` holds of what was read, seen by `view`, or of why nothing was read, where the stop says so by `If`
+abbrev pub Tells : {A B E S : Type 0} → (S → (E → Type 0) → Type 0) → (A → B) → Result A S → (Result B E → Type 0) → Type 0
+Tells If view result Told = MatchResult result (λ x. Told (Ok (view x))) (λ stop. If stop (λ fault. Told (Err fault)))
+
+-- .. what was read is what the text says
+abbrev pub Gives : {A B E S : Type 0} → (S → (E → Type 0) → Type 0) → (A → B) → Result A S → Result B E → Type 0
+Gives If view result said = Tells If view result (λ told. said ≡ told)

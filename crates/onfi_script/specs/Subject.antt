@@ -3,7 +3,7 @@ use Rattle.std.specs.Prelude.{◌==◌, Bool, true, false, List, Option, Some, N
 use Rattle.onfi_timing.specs.declared.kind.Kind.{Kind}
 use Rattle.onfi_timing.specs.declared.kind.Kind.TheVariants.{Read, Program, Erase}
 use Rattle.onfi_script.specs.declared.row.Row.{Row}
-use Rattle.onfi_script.specs.declared.row.Row.TheVariants.{Shape, Spans, Page, Sheet, Bus, Free, Running, Want, Strict, Channels, Hosts, Batch, SubmitCap, PostCap, Op, Fault, ChipFail, NotReady}
+use Rattle.onfi_script.specs.declared.row.Row.TheVariants.{Shape, Spans, Page, Sheet, Bus, Free, Running, Want, Weight, Strict, Channels, Hosts, Batch, SubmitCap, PostCap, Choice, Op, Fault, ChipFail, NotReady}
 use Rattle.onfi_script.specs.declared.row.Subject.{Subject}
 use Rattle.onfi_script.specs.declared.row.Subject.TheVariants as on
 
@@ -16,10 +16,12 @@ subject_of (Bus bus_free) = Some on.Bus
 subject_of (Free lun since) = Some (on.Lun lun)
 subject_of (Running row) = Some (on.Lun row.lun)
 subject_of (Want kind lun block page) = None
+subject_of (Weight request weight) = Some (on.Weight request)
 subject_of (Strict strict) = Some on.Strict
 subject_of (Channels count) = Some on.Channels
 subject_of (Hosts count) = Some on.Hosts
 subject_of (Batch count) = Some on.Batch
+subject_of (Choice choosing) = Some on.Choice
 subject_of (SubmitCap count) = Some on.SubmitCap
 subject_of (PostCap count) = Some on.PostCap
 subject_of (Op op) = None
@@ -43,10 +45,12 @@ is_subject on.Shape on.Shape = true
 is_subject (on.Spans kind) (on.Spans other) = is_kind kind other
 is_subject on.Bus on.Bus = true
 is_subject (on.Lun lun) (on.Lun other) = lun == other
+is_subject (on.Weight request) (on.Weight other) = request == other
 is_subject on.Strict on.Strict = true
 is_subject on.Channels on.Channels = true
 is_subject on.Hosts on.Hosts = true
 is_subject on.Batch on.Batch = true
+is_subject on.Choice on.Choice = true
 is_subject on.SubmitCap on.SubmitCap = true
 is_subject on.PostCap on.PostCap = true
 is_subject subject other = false

@@ -1,5 +1,5 @@
 -- The texts that are written.
-use Rattle.std.specs.Prelude.{ℕ, ◌+◌, ◌++◌, List, [], ◌∷◌, codes}
+use Rattle.std.specs.Prelude.{ℕ, ◌+◌, ◌++◌, nat_lt, if◌then◌else◌, List, [], ◌∷◌, codes}
 use Rattle.std.specs.List.{flat_map}
 use Rattle.std.specs.Fmt.{decimal}
 use Rattle.onfi_request.specs.declared.want.Want.{Want}
@@ -27,6 +27,8 @@ use Rattle.onfi_known.specs.declared.fault.KnownFault.{KnownFault}
 use Rattle.onfi_known.specs.declared.fault.KnownFault.TheVariants as known
 use Rattle.onfi_known.specs.declared.fault.KnownTextFault.{KnownTextFault}
 use Rattle.onfi_known.specs.declared.fault.KnownTextFault.TheVariants as in_known
+use Rattle.onfi_known.specs.declared.fault.WithinTextFault.{WithinTextFault}
+use Rattle.onfi_known.specs.declared.fault.WithinTextFault.TheVariants as in_within
 use Rattle.onfi_script.specs.declared.fault.ScriptFault.{ScriptFault}
 use Rattle.onfi_script.specs.declared.fault.ScriptFault.TheVariants.{NoEnd, UnknownRow, FieldCount, NotANumber, OutOfRange, Repeated, Missing, Hex, Page, Geometry, Sheet, Problem, Request, NotHere}
 use Rattle.onfi_script.specs.declared.fault.Refusal.{Refusal}
@@ -38,6 +40,10 @@ pub record Answer : Type 0 where
 
 abbrev pub memory : Answer
 memory = record { text = codes "memory\n"; status = 4 }
+
+-- a line of a word and a number
+abbrev pub line : List ℕ → ℕ → ℕ → Answer
+line word number status = record { text = word ++ (codes " " ++ (decimal number ++ codes "\n")); status = status }
 
 abbrev pub page_name : PageFault → List ℕ
 page_name Short = codes "Page Short"
@@ -124,6 +130,14 @@ rest_lines lun (starts ∷ rest) = rest_line lun starts ++ rest_lines (lun + 1) 
 abbrev pub schedule_text : Schedule → ℕ → List ℕ
 schedule_text s ends = codes "ONFIPLAN 1\n" ++ (codes "finish " ++ decimal ends) ++ codes "\n" ++ rest_lines 0 s.rest ++ flat_map group_line s.groups
 
+-- a line of the time before which nothing ends, where that isn't the finish
+abbrev pub below_line : ℕ → ℕ → List ℕ
+below_line ends below = if nat_lt below ends then codes "below " ++ decimal below ++ codes "\n" else []
+
+-- .. behind the finish
+abbrev pub schedule_within : Schedule → ℕ → ℕ → List ℕ
+schedule_within s ends below = codes "ONFIPLAN 1\n" ++ (codes "finish " ++ decimal ends) ++ codes "\n" ++ below_line ends below ++ rest_lines 0 s.rest ++ flat_map group_line s.groups
+
 -- the answer that plans a problem: the schedule, and behind it the certificate of these tokens, which names the option strict
 abbrev pub planned : ProblemOf → Schedule → ℕ → List Token → Answer
 planned p s ends tokens = record { text = schedule_text s ends ++ text_of p.rules.strict tokens; status = 0 }
@@ -131,6 +145,10 @@ planned p s ends tokens = record { text = schedule_text s ends ++ text_of p.rule
 -- .. with the text of a certificate
 abbrev pub recalled : Schedule → ℕ → List ℕ → Answer
 recalled s ends certificate = record { text = schedule_text s ends ++ certificate; status = 0 }
+
+-- the answer that plans a problem within a limit of nodes: nothing ends before `below`
+abbrev pub planned_within : Schedule → ℕ → ℕ → List ℕ → Answer
+planned_within s ends below certificate = record { text = schedule_within s ends below ++ certificate; status = 0 }
 
 -- what is refused for this reason
 abbrev pub refused_for : List ℕ → Answer
@@ -142,11 +160,15 @@ refused_at reason place = record { text = codes "refused " ++ (reason ++ (codes 
 
 -- the answer to a schedule that ends at `ends` and that nothing beats
 abbrev pub accepted : ℕ → Answer
-accepted ends = record { text = codes "accepted " ++ (decimal ends ++ codes "\n"); status = 0 }
+accepted ends = line (codes "accepted") ends 0
 
 -- the answer to a schedule that is legal and ends at `ends`
 abbrev pub legal_until : ℕ → Answer
-legal_until ends = record { text = codes "legal " ++ (decimal ends ++ codes "\n"); status = 0 }
+legal_until ends = line (codes "legal") ends 0
+
+-- the answer to a schedule that ends at `ends`, where nothing ends before `below`
+abbrev pub within : ℕ → ℕ → Answer
+within ends below = record { text = codes "within " ++ (decimal ends ++ (codes " " ++ (decimal below ++ codes "\n"))); status = 8 }
 
 -- why the tokens of a certificate are refused; want of memory refuses nothing
 abbrev pub cert_refused : CertFault → Answer
@@ -195,6 +217,11 @@ known_text_refused (in_known.BadToken place) = refused_at (codes "cert BadToken"
 known_text_refused in_known.Option = refused_for (codes "cert Option")
 known_text_refused (in_known.Cert fault) = known_refused fault
 
+-- .. of a time before which nothing ends, beside a schedule
+abbrev pub within_refused : WithinTextFault → Answer
+within_refused (in_within.Known fault) = known_text_refused fault
+within_refused in_within.Above = refused_for (codes "below")
+
 -- the answer where so many nodes were opened, and the search is not over
 abbrev pub over : ℕ → Answer
-over opened = record { text = codes "over " ++ (decimal opened ++ codes "\n"); status = 6 }
+over opened = line (codes "over") opened 6

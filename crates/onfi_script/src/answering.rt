@@ -1,40 +1,32 @@
 //! From the bytes of an input to the bytes of its answer.
-ghost use Rattle.std.specs.Prelude.{◌≡◌, ◌≤◌, ℕ, take, length, map, false, IfOk, IfErr, OnErr, IsTrue, string_bytes, Ok};
-ghost use Rattle.std.specs.Io.KnownBytes.{Appends, Keeps};
-ghost use Rattle.csv.specs.Records.{fields_of};
-ghost use Rattle.onfi_problem.specs.Left.{InLimits};
+ghost use Rattle.std.specs.Prelude.{◌≡◌, ◌≤◌, false, IfOk};
+ghost use Rattle.std.specs.Io.KnownBytes.{Keeps};
 ghost use Rattle.onfi_script.specs.Text.{planned as spec_planned};
-ghost use Rattle.onfi_script.specs.Answer.{AnswersCheck, AnswersCommand, AnswersPlan, AnswersSchedule, Refuses, AnswersProblem, AnswersRows, AnswersRecords, IsAnswerBy, Answers, AnswersBy, BeginsAnswer, BeginsAnswerBy, PartsTell};
+ghost use Rattle.onfi_script.specs.Answer.{AnswersCheck, AnswersCommand, AnswersEarly, AnswersPlan, AnswersSchedule, IsAnswerBy, Answers, AnswersBy, BeginsAnswer, BeginsAnswerBy, PartsTell};
 ghost use Rattle.onfi_script.specs.AnswerOf.{answer_of};
-ghost use Rattle.onfi_script.specs.Device.{TellsDevice};
 ghost use Rattle.onfi_script.specs.Limit.{IsLimited};
-ghost use Rattle.onfi_script.specs.SetupOf.{problem_of};
 
 use crate::alone::judged_alone;
-use crate::command::{Command, Output};
-use crate::device::Device;
-use crate::fault::{Refusal, RowStop, ScriptFault, Stop};
-use crate::forms::device_of;
+use crate::command::{Command, Finding, Output};
+use crate::early::{Early, planned_near};
+use crate::fault::Stop;
 use crate::plan_text::{PlanStop, read_plan};
-use crate::purpose::Purpose;
+use crate::reading::{Script, read_script};
 use crate::remembered::{judged_known, planned_known};
-use crate::row::Row;
-use crate::rows::rows;
-use crate::script::{behind_end, script_len};
+use crate::script::plan_text_of;
 use crate::search::{One, Search, Team};
-use crate::setup::{Setup, absent, set_up};
 use crate::text::{
     Answer, accepted, over, plan_text, refused, refused_at, refused_for, text_refused,
 };
 use crate::traced::trace_answer;
 use crate::transfer::{EngineFault, InputFault, read_all, tell};
-use csv::ByteRecord;
+use crate::within::{checked_within, planned_within};
 use onfi_cert::write;
 use onfi_check::check_text;
+use onfi_early::Weights;
 use onfi_planner::{PlanFault, Planned};
-use onfi_problem::{Problem, ProblemFault};
+use onfi_problem::Problem;
 use onfi_schedule::Schedule;
-use onfi_timing::read_records;
 use std::alloc::{AllocError, Global};
 use std::io::{Read, Write};
 use std::thread::Threads;
@@ -122,19 +114,43 @@ fn checked(
     }
 }
 
+/// The answer that plans a problem and makes the plan better, by these weights.
+fn planned_early<S: Search>(
+    alloc: Global,
+    search: &S,
+    finding: Finding,
+    weights: &Weights,
+    problem: &Problem,
+    limit: u32,
+    output: Output,
+) -> Result<Answer, AllocError>
+    requires ready { S.ready search.now }
+    requires some { 1 ≤ limit }
+    requires few { limit ≤ 1048576 }
+    requires begun { problem.now.all ≡ problem.now.problem.wants }
+    ensures { IfOk result (λ a. AnswersEarly S.tells finding limit output problem.now.problem (answer_of a)) }
+{
+    match finding {
+        Finding::Plain => planned(alloc, &Early { search, weights }, problem, limit, output),
+        Finding::Remembering => planned_known(alloc, problem, Some(weights), limit, output),
+        Finding::BestSoFar => planned_within(alloc, problem, Some(weights), limit, output),
+    }
+}
+
 /// What the command asks for; `text` stands behind the script.
 fn commanded<S: Search>(
     alloc: Global,
     search: &S,
     command: Command,
     text: &[u8],
-    problem: &Problem,
+    script: &Script,
 ) -> Result<Answer, AllocError>
     requires ready { S.ready search.now }
     requires limit { IsLimited command }
-    requires begun { problem.now.all ≡ problem.now.problem.wants }
-    ensures { IfOk result (λ a. AnswersCommand S.tells command text.now problem.now.problem (answer_of a)) }
+    requires begun { script.now.problem.all ≡ script.now.problem.problem.wants }
+    ensures { IfOk result (λ a. AnswersCommand S.tells command text.now script.now.problem.problem (answer_of a)) }
 {
+    let (problem, weights) = (&script.problem, &script.weights);
     match command {
         Command::Plan {
             limit,
@@ -145,127 +161,24 @@ fn commanded<S: Search>(
             limit,
             output,
             remember: true,
-        } => planned_known(alloc, problem, limit, output),
+        } => planned_known(alloc, problem, None, limit, output),
         Command::Check { remember } => checked(alloc, remember, problem, text),
-        Command::Legal => judged_alone(alloc, problem, text),
-    }
-}
-
-/// Times of a problem that was made end below 2^62 ns.
-fn keeps_limits(problem: &Problem)
-    ensures { InLimits problem.now.problem }
-{
-    let _ = problem.bus_free();
-}
-
-/// The line that refuses a script as a whole.
-fn refused_whole(alloc: Global, fault: ScriptFault) -> Result<Answer, AllocError>
-    ensures { IfOk result (λ a. Refuses fault (answer_of a)) }
-{
-    refused(alloc, Refusal { row: 0, fault })
-}
-
-/// The line that refuses a script for what it sets up.
-fn refused_problem(alloc: Global, fault: ProblemFault) -> Result<Answer, AllocError>
-    ensures { IfOk result (λ a. Refuses (ScriptFault.Problem fault) (answer_of a)) }
-{
-    refused_whole(alloc, ScriptFault::Problem(fault))
-}
-
-/// The answer to what a script sets up.
-fn answer_problem<S: Search>(
-    alloc: Global,
-    search: &S,
-    command: Command,
-    text: &[u8],
-    setup: &Setup,
-) -> Result<Answer, AllocError>
-    requires ready { S.ready search.now }
-    requires limit { IsLimited command }
-    ensures { IfOk result (λ a. AnswersProblem S.tells command text.now (problem_of setup.now) (answer_of a)) }
-{
-    let problem = Problem::new(
-        alloc,
-        setup.timing,
-        setup.rules,
-        setup.bus_free,
-        setup.luns.as_slice(),
-        setup.wants.as_slice(),
-    );
-    match problem {
-        Ok(problem) => {
-            keeps_limits(&problem);
-            commanded(alloc, search, command, text, &problem)
+        Command::PlanWithin { limit, output } => {
+            planned_within(alloc, problem, None, limit, output)
         }
-        Err(ProblemFault::TooMany) => refused_problem(alloc, ProblemFault::TooMany),
-        Err(ProblemFault::BadLun) => refused_problem(alloc, ProblemFault::BadLun),
-        Err(ProblemFault::Clock) => refused_problem(alloc, ProblemFault::Clock),
-        Err(ProblemFault::Memory) => Err(AllocError),
-    }
-}
-
-/// The answer to rows that are each in order, and that tell of this device.
-fn answer_device<S: Search>(
-    alloc: Global,
-    search: &S,
-    command: Command,
-    text: &[u8],
-    rows: &[Row],
-    device: &Device,
-) -> Result<Answer, AllocError>
-    requires ready { S.ready search.now }
-    requires limit { IsLimited command }
-    requires told { TellsDevice rows.now (Ok device.now) }
-    ensures { IfOk result (λ a. AnswersRows S.tells command text.now rows.now (answer_of a)) }
-{
-    if let Some(at) = absent(rows, device.luns) {
-        return refused(
-            alloc,
-            Refusal {
-                row: at as u64 + 1,
-                fault: ScriptFault::OutOfRange,
-            },
-        );
-    }
-    let setup = set_up(alloc, rows, device)?;
-    answer_problem(alloc, search, command, text, &setup)
-}
-
-/// The answer to rows that are each in order.
-fn answer_rows<S: Search>(
-    alloc: Global,
-    search: &S,
-    command: Command,
-    text: &[u8],
-    rows: &[Row],
-) -> Result<Answer, AllocError>
-    requires ready { S.ready search.now }
-    requires limit { IsLimited command }
-    ensures { IfOk result (λ a. AnswersRows S.tells command text.now rows.now (answer_of a)) }
-{
-    match device_of(alloc, rows) {
-        Ok(device) => answer_device(alloc, search, command, text, rows, &device),
-        Err(RowStop::Fault(fault)) => refused_whole(alloc, fault),
-        Err(RowStop::Memory) => Err(AllocError),
-    }
-}
-
-/// The answer to the records of a script.
-fn answer_records<S: Search>(
-    alloc: Global,
-    search: &S,
-    command: Command,
-    text: &[u8],
-    records: &[ByteRecord],
-) -> Result<Answer, AllocError>
-    requires ready { S.ready search.now }
-    requires limit { IsLimited command }
-    ensures { IfOk result (λ a. AnswersRecords S.tells command text.now (map fields_of records.now) (answer_of a)) }
-{
-    match rows(alloc, Purpose::Problem, records) {
-        Ok(rows) => answer_rows(alloc, search, command, text, rows.as_slice()),
-        Err(Stop::Refused(refusal)) => refused(alloc, refusal),
-        Err(Stop::Memory) => Err(AllocError),
+        Command::PlanEarly {
+            limit,
+            output,
+            finding,
+        } => planned_early(alloc, search, finding, weights, problem, limit, output),
+        Command::PlanNear {
+            limit,
+            output,
+            within,
+            slack,
+        } => planned_near(alloc, problem, weights, slack, within, limit, output),
+        Command::CheckWithin => checked_within(alloc, problem, text),
+        Command::Legal => judged_alone(alloc, problem, text),
     }
 }
 
@@ -280,14 +193,11 @@ fn answer<S: Search>(
     requires limit { IsLimited command }
     ensures { IfOk result (λ a. IsAnswerBy S.tells command input.now (answer_of a)) }
 {
-    let Some(size) = script_len(input) else {
-        return refused_whole(alloc, ScriptFault::NoEnd);
-    };
-    let (script, closed) = input.split_at(size);
-    let Ok(found) = read_records(alloc, script) else {
-        return Err(AllocError);
-    };
-    answer_records(alloc, search, command, behind_end(closed), found.as_slice())
+    match read_script(alloc, input) {
+        Ok(script) => commanded(alloc, search, command, plan_text_of(input), &script),
+        Err(Stop::Refused(refusal)) => refused(alloc, refusal),
+        Err(Stop::Memory) => Err(AllocError),
+    }
 }
 
 /// Reads all that there is, and writes the answer to it and nothing else.

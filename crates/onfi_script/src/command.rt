@@ -7,6 +7,17 @@ pub enum Output {
     Trace { requests: bool },
 }
 
+/// How a schedule is found that is then made better.
+#[derive(Clone, Copy)]
+pub enum Finding {
+    /// By the plain search.
+    Plain,
+    /// By the search that remembers states.
+    Remembering,
+    /// Likewise, the best that is found within the limit.
+    BestSoFar,
+}
+
 /// What the program is asked to do with a script.
 #[derive(Clone, Copy)]
 pub enum Command {
@@ -22,6 +33,31 @@ pub enum Command {
     Check {
         remember: bool,
     },
+    /// Print the best schedule that is found within `limit` nodes, 1 to 1,048,576, by a search that remembers states, with a
+    /// certificate of a time before which nothing ends; or its trace in their place.
+    PlanWithin {
+        limit: u32,
+        output: Output,
+    },
+    /// As `Plan`, or `PlanWithin` where that is how it is found; behind that the schedule is made better: requests end sooner by
+    /// the weights of the script, and the last phase no later.
+    PlanEarly {
+        limit: u32,
+        output: Output,
+        finding: Finding,
+    },
+    /// Likewise by a search that remembers states, which gives the best so far where `within` says so; and the last phase
+    /// may end later by `slack` thousandths, 1,000 at most, of what lies between the time from when on the bus is free and
+    /// the one before which nothing ends.
+    PlanNear {
+        limit: u32,
+        output: Output,
+        within: bool,
+        slack: u16,
+    },
+    /// Say whether the schedule of the plan text behind the script is legal, and its certificate, which remembers states,
+    /// shows that nothing ends before its finish, or before the time of a line `below`.
+    CheckWithin,
     /// Say whether the schedule of the plan text behind the script is legal, and when it ends. A certificate need not
     /// stand there, and isn't looked at; nor is the number behind `finish`.
     Legal,

@@ -1,4 +1,5 @@
 ghost use Rattle.std.specs.Prelude.{◌≡◌};
+ghost use Rattle.onfi_script.specs.declared.fault.RowStop.TheVariants.{Fault};
 ghost use Rattle.onfi_script.specs.Stop.{stop_at};
 ghost use Rattle.onfi_script.specs.Text.{name_of, page_name, geometry_name, sheet_name, problem_name, request_name};
 
@@ -150,6 +151,14 @@ pub enum Stop {
     Refused(Refusal),
     /// A growth was refused.
     Memory,
+}
+
+impl From<ScriptFault> for RowStop {
+    ghost from_gives = { λ fault stop. stop ≡ Fault fault };
+
+    fn from(fault: ScriptFault) -> RowStop {
+        RowStop::Fault(fault)
+    }
 }
 
 impl RowStop {

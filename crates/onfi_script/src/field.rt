@@ -3,10 +3,13 @@ ghost use Rattle.std.specs.Prelude.{◌≡◌, ◌≤◌, ◌<◌, ◌-◌, ◌^
 ghost use Rattle.std.specs.Str.{bytes_eq};
 ghost use Rattle.csv.specs.Records.{fields_of};
 ghost use Rattle.onfi_script.specs.Field as spec;
+ghost use Rattle.onfi_script.specs.Stop.{Gives, IfFault};
 
-use crate::fault::ScriptFault;
+use crate::fault::{RowStop, ScriptFault};
 use csv::ByteRecord;
+use hex::FromHexError;
 use onfi_timing::{Kind, read_number};
+use std::alloc::Global;
 
 /// A field of a row, from 0, which is its name; nothing where the row is shorter.
 pub fn field(row: &ByteRecord, at: usize) -> &[u8]
@@ -47,6 +50,14 @@ pub fn small(text: &[u8], least: u8, most: u8) -> Result<u8, ScriptFault>
     Ok(value as u8)
 }
 
+/// A number from `least` to `most` in two bytes.
+fn short(text: &[u8], least: u16, most: u16) -> Result<u16, ScriptFault>
+    ensures { result ≡ spec.number least most text.now }
+{
+    let value = number(text, u64::from(least), u64::from(most))?;
+    Ok(value as u16)
+}
+
 /// 0 or 1.
 pub fn flag(text: &[u8]) -> Result<bool, ScriptFault>
     ensures { result ≡ spec.flag text.now }
@@ -81,16 +92,21 @@ pub fn lun(text: &[u8]) -> Result<u8, ScriptFault>
 pub fn block(text: &[u8]) -> Result<u16, ScriptFault>
     ensures { result ≡ spec.block text.now }
 {
-    let value = number(text, 0, 65535)?;
-    Ok(value as u16)
+    short(text, 0, 65535)
 }
 
 /// A page number, from 0.
 pub fn page(text: &[u8]) -> Result<u16, ScriptFault>
     ensures { result ≡ spec.page text.now }
 {
-    let value = number(text, 0, 4095)?;
-    Ok(value as u16)
+    short(text, 0, 4095)
+}
+
+/// The weight of a request, at least 1.
+pub fn weight(text: &[u8]) -> Result<u16, ScriptFault>
+    ensures { result ≡ spec.weight text.now }
+{
+    short(text, 1, 65535)
 }
 
 /// A length or a wait in ns, below 2^50.
@@ -106,4 +122,15 @@ pub fn time(text: &[u8]) -> Result<u64, ScriptFault>
     ensures { result ≡ spec.time text.now }
 {
     number(text, 0, (1 << 62) - 1)
+}
+
+/// The bytes in hexadecimal.
+pub fn hex_bytes(alloc: Global, text: &[u8]) -> Result<Vec<u8>, RowStop>
+    ensures { Gives IfFault (λ v. v.items) result (spec.hex_bytes text.now) }
+{
+    match hex::decode(alloc, text) {
+        Ok(bytes) => Ok(bytes),
+        Err(FromHexError::OutOfMemory) => Err(RowStop::Memory),
+        Err(_) => Err(RowStop::Fault(ScriptFault::Hex)),
+    }
 }

@@ -1,9 +1,9 @@
 //! The device of a script, in either form.
-ghost use Rattle.std.specs.Prelude.{◌≡◌, ℕ, ◌≤◌, List, IsTrue, IsSomeAnd, IfOk, MatchOption, MatchResult, option_map, Ok, Err, None, false};
+ghost use Rattle.std.specs.Prelude.{◌≡◌, IsTrue, IsSomeAnd, IfOk, MatchOption, MatchResult, option_map, Ok, Err, None, false};
 ghost use Rattle.std.specs.List.{list_any};
 ghost use Rattle.onfi_script.specs.Device as spec;
 ghost use Rattle.onfi_script.specs.Seen.{seen};
-ghost use Rattle.onfi_script.specs.Stop.{IfFault};
+ghost use Rattle.onfi_script.specs.Stop.{IfFault, Tells};
 ghost use Rattle.onfi_script.specs.Subject.{row_on as spec_row_on};
 
 use crate::device::{Device, PageDevice};
@@ -112,7 +112,7 @@ fn described(bytes: &[u8], sheet: &Sheet) -> Result<PageDevice, ScriptFault>
 /// The chips that rows with this sheet tell of.
 fn chips_of(alloc: Global, rows: &[Row], sheet: &Sheet) -> Result<PageDevice, RowStop>
     requires { sheet.now ≡ (seen rows.now).sheet }
-    ensures { MatchResult result (λ device. spec.TellsChips rows.now (Ok device)) (λ stop. IfFault stop (λ fault. spec.TellsChips rows.now (Err fault))) }
+    ensures { Tells IfFault (λ device. device) result (spec.TellsChips rows.now) }
 {
     if !has_page(rows) {
         return Err(RowStop::Fault(ScriptFault::Missing));
@@ -120,10 +120,8 @@ fn chips_of(alloc: Global, rows: &[Row], sheet: &Sheet) -> Result<PageDevice, Ro
     let Ok(bytes) = page_bytes(alloc, rows) else {
         return Err(RowStop::Memory);
     };
-    match described(bytes.as_slice(), sheet) {
-        Ok(device) => Ok(device),
-        Err(fault) => Err(RowStop::Fault(fault)),
-    }
+    let device = described(bytes.as_slice(), sheet)?;
+    Ok(device)
 }
 
 /// The chips that the rows of a run tell of.
@@ -140,7 +138,7 @@ pub fn page_device(alloc: Global, rows: &[Row]) -> Result<PageDevice, RowStop>
 /// The device of a script of the second form.
 fn second_form(alloc: Global, rows: &[Row], sheet: &Sheet) -> Result<Device, RowStop>
     requires { sheet.now ≡ (seen rows.now).sheet }
-    ensures { MatchResult result (λ device. spec.TellsSecond rows.now (Ok device)) (λ stop. IfFault stop (λ fault. spec.TellsSecond rows.now (Err fault))) }
+    ensures { Tells IfFault (λ device. device) result (spec.TellsSecond rows.now) }
 {
     let PageDevice { geometry, timing } = chips_of(alloc, rows, sheet)?;
     Ok(Device {
@@ -159,10 +157,7 @@ pub fn device_of(alloc: Global, rows: &[Row]) -> Result<Device, RowStop>
     let seen = Seen::of(rows);
     match seen.form {
         None => Err(RowStop::Fault(ScriptFault::Missing)),
-        Some(Form::First) => match first_form(rows) {
-            Ok(device) => Ok(device),
-            Err(fault) => Err(RowStop::Fault(fault)),
-        },
+        Some(Form::First) => Ok(first_form(rows)?),
         Some(Form::Second) => second_form(alloc, rows, &seen.sheet),
     }
 }

@@ -1,5 +1,5 @@
 //! Texts that are cut at a byte.
-ghost use Rattle.std.specs.Prelude.{◌≡◌, ◌==◌, ◌<◌, ◌∷◌, ◌++◌, [], length, position, IfSome, IfNone};
+ghost use Rattle.std.specs.Prelude.{◌≡◌, ◌==◌, ◌<◌, ◌∷◌, [], length, position, IfSome, IfNone};
 ghost use Rattle.onfi_script.specs.Parts.{parts};
 
 /// The place of the first such byte.

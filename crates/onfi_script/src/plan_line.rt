@@ -58,6 +58,7 @@ fn with_last(mut numbers: Starts, last: &[u8]) -> Option<Starts>
 }
 
 /// One number to `most` with such a byte between each two; kept as starts are, in room for eight.
+#[tactic(auto, using(crate::proofs::NumbersLemmas::read_over))]
 fn numbers(alloc: Global, text: &[u8], byte: u8, most: u8) -> Option<Starts>
     requires { most ≤ 8 }
     ensures value { result ≡ spec.numbers most (parts byte text.now) }
@@ -148,16 +149,31 @@ pub fn line_of(alloc: Global, wants: &[Want], line: &[u8]) -> Option<Line>
     }
 }
 
-/// `finish N`
-pub fn finish_of(line: &[u8]) -> Option<u64>
-    ensures { result ≡ spec.finish_of line.now }
+/// `NAME N`
+#[tactic(auto, using(crate::proofs::LineLemmas::number_in_longer, crate::proofs::PartsLemmas::some_parts))]
+fn number_in(line: &[u8], name: &str) -> Option<u64>
+    ensures { result ≡ spec.number_in name.now line.now }
 {
-    let (name, text) = cut(line, b' ')?;
-    if !is_word(name, "finish") {
+    let (first, text) = cut(line, b' ')?;
+    if !is_word(first, name) {
         return None;
     }
     match cut(text, b' ') {
         Some(_) => None,
         None => number(text),
     }
+}
+
+/// `finish N`
+pub fn finish_of(line: &[u8]) -> Option<u64>
+    ensures { result ≡ spec.finish_of line.now }
+{
+    number_in(line, "finish")
+}
+
+/// `below N`
+pub fn below_of(line: &[u8]) -> Option<u64>
+    ensures { result ≡ spec.below_of line.now }
+{
+    number_in(line, "below")
 }

@@ -1,9 +1,9 @@
 //! Plan texts: a schedule, its finish, and the text of a certificate behind them.
-ghost use Rattle.std.specs.Prelude.{◌≡◌, ◌==◌, ◌<◌, ◌≤◌, ◌^◌, length, find, option_map, IfOk, IfErr, OnOk, IsTrue, MatchResult, Ok, Err, Some, None};
-ghost use Rattle.std.specs.List.{AllByRecursion as Each};
+ghost use Rattle.std.specs.Prelude.{◌≡◌, ◌==◌, ◌≤◌, find, option_map, IfOk, IfErr, OnOk, IsTrue, MatchResult, Ok, Err, Some, None};
 ghost use Rattle.onfi_script.specs.Parts.{parts};
 ghost use Rattle.onfi_script.specs.PlanLine.{line_of};
 ghost use Rattle.onfi_script.specs.PlanText as spec;
+ghost use Rattle.onfi_script.specs.Stop.{Gives};
 ghost use Rattle.onfi_script.specs.Wrong.{IfWrong};
 
 use crate::field::is_word;
@@ -63,7 +63,8 @@ impl Plan {
 
     /// The number of the line behind those that were read.
     fn next_number(&self) -> u64
-        ensures { result ≡ spec.next_number self.now }
+        ensures number { result ≡ spec.next_number self.now }
+        ensures few { result ≤ 19 }
     {
         self.rest.len() as u64 + self.groups.len() as u64 + 3
     }
@@ -106,6 +107,7 @@ impl Plan {
     fn read_line(&mut self, alloc: Global, wants: &[Want], line: &[u8]) -> Result<(), PlanStop>
         ensures read { OnOk result (spec.grown self.old (line_of wants.now line.now) ≡ Some self.new) }
         ensures wrong { IfErr result (λ stop. IfWrong stop (λ number. (spec.grown self.old (line_of wants.now line.now) ≡ None) × (number ≡ spec.next_number self.old))) }
+        ensures few { IfErr result (λ stop. IfWrong stop (λ number. number ≤ 19)) }
     {
         match line_of(alloc, wants, line) {
             Some(line) if self.takes(&line) => match self.put(line) {
@@ -125,19 +127,6 @@ impl Plan {
     }
 }
 
-/// The same starts once more.
-fn copy_of(alloc: Global, starts: &[u64]) -> Starts
-    requires small { Each (λ t. t < 2 ^ 63) starts.now }
-    requires few { length starts.now ≤ 8 }
-    ensures { result ≡ starts.now }
-{
-    let mut copy = Starts::new(alloc);
-    for start in starts {
-        copy.push(*start);
-    }
-    copy
-}
-
 /// The line of a LUN.
 fn line_on(lines: &[RestLine], lun: u64) -> Option<&RestLine>
     ensures { option_map (λ line. line.now) result ≡ find (λ line. line.lun == lun) lines.now }
@@ -150,12 +139,13 @@ fn starts_on(alloc: Global, lines: &[RestLine], lun: u64) -> Starts
     ensures { result ≡ spec.starts_on lines.now lun }
 {
     match line_on(lines, lun) {
-        Some(line) => copy_of(alloc, line.starts.as_slice()),
+        Some(line) => line.starts.copy(),
         None => Starts::new(alloc),
     }
 }
 
 /// The starts of each LUN.
+#[tactic(auto, unfolding(crate::specs::PlanText::rests))]
 fn rests(alloc: Global, lines: &[RestLine], luns: usize) -> Result<Vec<Starts>, AllocError>
     ensures { IfOk result (λ v. v.items ≡ spec.rests lines.now luns) }
 {
@@ -192,8 +182,8 @@ fn is_certificate(line: &[u8]) -> bool
 }
 
 /// The finish that the first two lines of a text tell and what stands behind them, or which of them is wrong.
-fn opening(text: &[u8]) -> Result<(u64, &[u8]), u64>
-    ensures { MatchResult result (λ p. spec.Opens text.now p.0 (parts 10 p.1.now)) (λ number. spec.OpensWrong text.now number) }
+pub fn opening(text: &[u8]) -> Result<(u64, &[u8]), u64>
+    ensures { MatchResult result (λ p. spec.opened (parts 10 text.now) ≡ Ok (p.0, parts 10 p.1.now)) (λ number. spec.opened (parts 10 text.now) ≡ Err number) }
 {
     let Some((head, rest)) = cut(text, b'\n') else {
         return Err(1);
@@ -210,6 +200,31 @@ fn opening(text: &[u8]) -> Result<(u64, &[u8]), u64>
     }
 }
 
+/// The plan of that finish, in ns, with the lines that stand in a text up to its certificate, and the text of that.
+#[tactic(auto, using(crate::proofs::PlanLemmas::read_wrong, crate::proofs::PlanLemmas::text_ended))]
+pub fn read_lines<'a>(
+    alloc: Global,
+    wants: &[Want],
+    finish: u64,
+    text: &'a [u8],
+) -> Result<(Plan, &'a [u8]), PlanStop>
+    ensures read { Gives IfWrong (λ r. (r.0, r.1.now)) result (spec.lines_of wants.now finish (parts 10 text.now)) }
+    ensures few { IfErr result (λ stop. IfWrong stop (λ number. number ≤ 19)) }
+{
+    let mut left = text;
+    let mut plan = Plan::new(alloc, finish);
+    while let Some((line, behind)) = cut(left, b'\n') {
+        if is_certificate(line) {
+            return Ok((plan, left));
+        }
+        if let Err(stop) = plan.read_line(alloc, wants, line) {
+            return Err(stop);
+        }
+        left = behind;
+    }
+    Err(PlanStop::Wrong(plan.next_number()))
+}
+
 /// What a plan text says of these wants, and the text of its certificate.
 ///
 /// # Errors
@@ -222,19 +237,8 @@ pub fn read_plan<'a>(
 ) -> Result<(Plan, &'a [u8]), PlanStop>
     ensures { MatchResult result (λ r. spec.plan_of wants.now text.now ≡ Ok (r.0, r.1.now)) (λ stop. IfWrong stop (λ number. spec.plan_of wants.now text.now ≡ Err number)) }
 {
-    let (finish, mut left) = match opening(text) {
-        Ok(opened) => opened,
-        Err(number) => return Err(PlanStop::Wrong(number)),
-    };
-    let mut plan = Plan::new(alloc, finish);
-    while let Some((line, behind)) = cut(left, b'\n') {
-        if is_certificate(line) {
-            return Ok((plan, left));
-        }
-        if let Err(stop) = plan.read_line(alloc, wants, line) {
-            return Err(stop);
-        }
-        left = behind;
+    match opening(text) {
+        Ok((finish, behind)) => read_lines(alloc, wants, finish, behind),
+        Err(number) => Err(PlanStop::Wrong(number)),
     }
-    Err(PlanStop::Wrong(plan.next_number()))
 }

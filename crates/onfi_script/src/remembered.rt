@@ -5,12 +5,14 @@ ghost use Rattle.onfi_script.specs.AnswerOf.{answer_of};
 ghost use Rattle.onfi_script.specs.Text as spec;
 
 use crate::command::Output;
+use crate::early::best_known;
 use crate::text::{Answer, accepted, known_text_refused, over, plan_text, refused_for};
 use crate::traced::trace_answer;
+use onfi_early::Weights;
 use onfi_known::check_known_text;
 use onfi_planner::PlanFault;
 use onfi_problem::Problem;
-use onfi_recall::{PlannedKnown, plan_known};
+use onfi_recall::PlannedKnown;
 use onfi_schedule::Schedule;
 use std::alloc::{AllocError, Global};
 
@@ -27,10 +29,12 @@ fn recalled(alloc: Global, planned: &PlannedKnown) -> Result<Answer, AllocError>
     Ok(Answer { text, status: 0 })
 }
 
-/// The answer that plans a problem by a search that remembers states, with this limit of nodes.
+/// The answer that plans a problem by a search that remembers states, with this limit of nodes; the plan is made better
+/// where weights are named.
 pub fn planned_known(
     alloc: Global,
     problem: &Problem,
+    weights: Option<&Weights>,
     limit: u32,
     output: Output,
 ) -> Result<Answer, AllocError>
@@ -39,7 +43,7 @@ pub fn planned_known(
     requires begun { problem.now.all ≡ problem.now.problem.wants }
     ensures { IfOk result (λ a. AnswersPlan OneTells limit output true problem.now.problem (answer_of a)) }
 {
-    match plan_known(alloc, problem, limit) {
+    match best_known(alloc, problem, weights, limit) {
         Ok(planned) => match output {
             Output::Trace { requests } => {
                 trace_answer(alloc, problem, &planned.schedule, requests)

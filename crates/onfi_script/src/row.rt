@@ -4,19 +4,19 @@ ghost use Rattle.csv.specs.Records.{fields_of};
 ghost use Rattle.onfi_timing.specs.Lengths.{AreLengths};
 ghost use Rattle.onfi_script.specs.Row as spec;
 ghost use Rattle.onfi_script.specs.Seen.{form_in, sheet_in};
-ghost use Rattle.onfi_script.specs.Stop.{IfFault};
+ghost use Rattle.onfi_script.specs.Stop.{Gives, IfFault};
 ghost use Rattle.onfi_script.specs.Device.{HasLengths, bytes_in, is_page};
 ghost use Rattle.onfi_script.specs.Setup.{names_absent, want_in, members, plane_of as spec_plane_of};
 ghost use Rattle.onfi_problem.specs.declared.lun_state.LunState.TheVariants.{Running};
 ghost use Rattle.onfi_script.specs.Subject.{subject_of, settles, is_subject, is_kind, is_op};
 
+use crate::choosing::Choosing;
 use crate::count::{Batch, Capacity, Few};
 use crate::fault::{RowStop, ScriptFault};
-use crate::field::{block, field, flag, kind, lun, page, small, span, time};
+use crate::field::{block, field, flag, hex_bytes, kind, lun, page, small, span, time, weight};
 use crate::operation::Operation;
 use crate::row_name::Form;
 use csv::ByteRecord;
-use hex::FromHexError;
 use onfi_group::Group;
 use onfi_problem::LunState;
 use onfi_request::{Fault, Want};
@@ -156,6 +156,11 @@ pub enum Row {
         block: u16,
         page: u16,
     },
+    /// How much the want of that number counts, 0 to 7 in the order of their rows, where plans are made better.
+    Weight {
+        request: u8,
+        weight: u16,
+    },
     Strict {
         strict: bool,
     },
@@ -170,6 +175,10 @@ pub enum Row {
     /// How many wants one plan takes up.
     Batch {
         count: Batch,
+    },
+    /// By what a batch is chosen; without such a row it is taken in order.
+    Choice {
+        choosing: Choosing,
     },
     /// How many items a submission queue holds.
     SubmitCap {
@@ -204,10 +213,13 @@ pub enum Subject {
     Spans(Kind),
     Bus,
     Lun(u8),
+    /// The weight of a want.
+    Weight(u8),
     Strict,
     Channels,
     Hosts,
     Batch,
+    Choice,
     SubmitCap,
     PostCap,
 }
@@ -225,10 +237,12 @@ impl Row {
             Row::Free { lun, .. } => Some(Subject::Lun(*lun)),
             Row::Running(row) => Some(Subject::Lun(row.lun())),
             Row::Want { .. } => None,
+            Row::Weight { request, .. } => Some(Subject::Weight(*request)),
             Row::Strict { .. } => Some(Subject::Strict),
             Row::Channels { .. } => Some(Subject::Channels),
             Row::Hosts { .. } => Some(Subject::Hosts),
             Row::Batch { .. } => Some(Subject::Batch),
+            Row::Choice { .. } => Some(Subject::Choice),
             Row::SubmitCap { .. } => Some(Subject::SubmitCap),
             Row::PostCap { .. } => Some(Subject::PostCap),
             Row::Op(_) | Row::Fault { .. } | Row::ChipFail { .. } | Row::NotReady { .. } => None,
@@ -239,10 +253,7 @@ impl Row {
     pub fn is_op(&self) -> bool
         ensures { result ≡ is_op self.now }
     {
-        match self {
-            Row::Op(_) => true,
-            _ => false,
-        }
+        matches!(self, Row::Op(_))
     }
 
     /// The form whose row it is.
@@ -270,10 +281,7 @@ impl Row {
     pub fn is_page(&self) -> bool
         ensures { result ≡ is_page self.now }
     {
-        match self {
-            Row::Page(_) => true,
-            _ => false,
-        }
+        matches!(self, Row::Page(_))
     }
 
     /// Its bytes of the page.
@@ -343,10 +351,12 @@ impl Subject {
             | (Subject::Channels, Subject::Channels)
             | (Subject::Hosts, Subject::Hosts)
             | (Subject::Batch, Subject::Batch)
+            | (Subject::Choice, Subject::Choice)
             | (Subject::SubmitCap, Subject::SubmitCap)
             | (Subject::PostCap, Subject::PostCap) => true,
             (Subject::Spans(kind), Subject::Spans(other)) => is_kind(kind, other),
             (Subject::Lun(lun), Subject::Lun(other)) => lun == other,
+            (Subject::Weight(request), Subject::Weight(other)) => request == other,
             _ => false,
         }
     }
@@ -472,13 +482,10 @@ pub fn spans_row(row: &ByteRecord) -> Result<Row, ScriptFault>
 
 /// `page,HEX`
 pub fn page_row(alloc: Global, row: &ByteRecord) -> Result<Row, RowStop>
-    ensures { MatchResult result (λ r. spec.page_row (fields_of row.now) ≡ Ok r) (λ stop. IfFault stop (λ fault. spec.page_row (fields_of row.now) ≡ Err fault)) }
+    ensures { Gives IfFault (λ r. r) result (spec.page_row (fields_of row.now)) }
 {
-    match hex::decode(alloc, field(row, 1)) {
-        Ok(bytes) => Ok(Row::Page(PageRow { bytes })),
-        Err(FromHexError::OutOfMemory) => Err(RowStop::Memory),
-        Err(_) => Err(RowStop::Fault(ScriptFault::Hex)),
-    }
+    let bytes = hex_bytes(alloc, field(row, 1))?;
+    Ok(Row::Page(PageRow { bytes }))
 }
 
 /// `sheet,NAME,VALUE`, behind rows that made this sheet.
@@ -510,6 +517,7 @@ pub fn free_row(row: &ByteRecord) -> Result<Row, ScriptFault>
 }
 
 /// The blocks that a row names from field number 6 on.
+#[tactic(auto, using(crate::proofs::BlockLemmas::drop_field))]
 fn blocks(alloc: Global, row: &ByteRecord) -> Result<SmallVec<u16, 4>, ScriptFault>
     requires some { 7 ≤ length (fields_of row.now) }
     requires few { length (fields_of row.now) ≤ 10 }
@@ -559,6 +567,15 @@ pub fn want_row(row: &ByteRecord) -> Result<Row, ScriptFault>
         block,
         page,
     })
+}
+
+/// `weight,REQUEST,N`
+pub fn weight_row(row: &ByteRecord) -> Result<Row, ScriptFault>
+    ensures { result ≡ spec.weight_row (fields_of row.now) }
+{
+    let request = small(field(row, 1), 0, 7)?;
+    let weight = weight(field(row, 2))?;
+    Ok(Row::Weight { request, weight })
 }
 
 /// `strict,FLAG`

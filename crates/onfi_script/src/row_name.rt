@@ -17,10 +17,12 @@ pub enum RowName {
     Free,
     Running,
     Want,
+    Weight,
     Strict,
     Channels,
     Hosts,
     Batch,
+    Choice,
     SubmitCap,
     PostCap,
     Op,
@@ -71,6 +73,8 @@ impl RowName {
             Some(RowName::Running)
         } else if is_word(text, "want") {
             Some(RowName::Want)
+        } else if is_word(text, "weight") {
+            Some(RowName::Weight)
         } else if is_word(text, "strict") {
             Some(RowName::Strict)
         } else {
@@ -88,6 +92,8 @@ impl RowName {
             Some(RowName::Hosts)
         } else if is_word(text, "batch") {
             Some(RowName::Batch)
+        } else if is_word(text, "choice") {
+            Some(RowName::Choice)
         } else if is_word(text, "submitcap") {
             Some(RowName::SubmitCap)
         } else if is_word(text, "postcap") {
@@ -105,7 +111,7 @@ impl RowName {
         }
     }
 
-    /// Whether it tells of a problem.
+    /// Whether it is taken for a problem alone.
     fn is_of_problem(self) -> bool
         ensures { result ≡ spec.is_of_problem self }
     {
@@ -113,35 +119,19 @@ impl RowName {
             self,
             RowName::Shape
                 | RowName::Spans
-                | RowName::Page
-                | RowName::Sheet
                 | RowName::Bus
                 | RowName::Free
                 | RowName::Running
                 | RowName::Want
-                | RowName::Strict
+                | RowName::Weight
         )
     }
 
-    /// Whether it tells of hosts and channels, or of their device.
-    fn is_of_run(self) -> bool
-        ensures { result ≡ spec.is_of_run self }
+    /// Whether it is taken for a problem and for a run.
+    fn is_of_both(self) -> bool
+        ensures { result ≡ spec.is_of_both self }
     {
-        matches!(
-            self,
-            RowName::Page
-                | RowName::Sheet
-                | RowName::Strict
-                | RowName::Channels
-                | RowName::Hosts
-                | RowName::Batch
-                | RowName::SubmitCap
-                | RowName::PostCap
-                | RowName::Op
-                | RowName::Fault
-                | RowName::ChipFail
-                | RowName::NotReady
-        )
+        matches!(self, RowName::Page | RowName::Sheet | RowName::Strict)
     }
 
     /// Whether rows of this name are taken for that purpose.
@@ -149,8 +139,8 @@ impl RowName {
         ensures { result ≡ spec.is_taken purpose self }
     {
         match purpose {
-            Purpose::Problem => self.is_of_problem(),
-            Purpose::Run => self.is_of_run(),
+            Purpose::Problem => self.is_of_both() || self.is_of_problem(),
+            Purpose::Run => self.is_of_both() || !self.is_of_problem(),
         }
     }
 
@@ -181,30 +171,24 @@ impl RowName {
     {
         let count = row.len();
         match self {
-            RowName::Page | RowName::Bus | RowName::Strict => count == 2,
-            RowName::Sheet | RowName::Free => count == 3,
-            RowName::Shape | RowName::Want => count == 5,
-            RowName::Spans => count == 6,
-            RowName::Running => 7 <= count && count <= 10,
-            _ => self.has_run_fields(row),
-        }
-    }
-
-    /// The same of a row that is taken for a run alone.
-    fn has_run_fields(self, row: &ByteRecord) -> bool
-        ensures { result ≡ spec.has_run_fields self (fields_of row.now) }
-    {
-        let count = row.len();
-        match self {
-            RowName::Channels
+            RowName::Page
+            | RowName::Bus
+            | RowName::Strict
+            | RowName::Channels
             | RowName::Hosts
             | RowName::Batch
+            | RowName::Choice
             | RowName::SubmitCap
             | RowName::PostCap => count == 2,
-            RowName::ChipFail | RowName::NotReady => count == 3,
-            RowName::Fault => count == 5,
+            RowName::Sheet
+            | RowName::Free
+            | RowName::Weight
+            | RowName::ChipFail
+            | RowName::NotReady => count == 3,
+            RowName::Shape | RowName::Want | RowName::Fault => count == 5,
+            RowName::Spans => count == 6,
+            RowName::Running => 7 <= count && count <= 10,
             RowName::Op => count == op_fields(row),
-            _ => false,
         }
     }
 }

@@ -1,10 +1,10 @@
 //! The rows of a script, read from the top.
-ghost use Rattle.std.specs.Prelude.{◌≡◌, length, map, IsTrue, MatchResult, Ok, Err};
+ghost use Rattle.std.specs.Prelude.{◌≡◌, map, IsTrue};
 ghost use Rattle.std.specs.List.{list_any};
 ghost use Rattle.csv.specs.Records.{fields_of};
 ghost use Rattle.onfi_script.specs.Rows as spec;
 ghost use Rattle.onfi_script.specs.RowName.{has_fields};
-ghost use Rattle.onfi_script.specs.Stop.{IfFault, IfRefused};
+ghost use Rattle.onfi_script.specs.Stop.{Gives, IfFault, IfRefused};
 ghost use Rattle.onfi_script.specs.Subject.{settles, subject_of};
 
 use crate::fault::{RowStop, ScriptFault, Stop};
@@ -12,60 +12,16 @@ use crate::field::field;
 use crate::purpose::Purpose;
 use crate::row::{
     Row, Subject, bus_row, free_row, page_row, running_row, shape_row, sheet_row, spans_row,
-    strict_row, want_row,
+    strict_row, want_row, weight_row,
 };
 use crate::row_name::RowName;
 use crate::run_row::{
-    batch_row, channels_row, chip_fail_row, fault_row, hosts_row, not_ready_row, op_row,
-    post_cap_row, submit_cap_row,
+    batch_row, channels_row, chip_fail_row, choice_row, fault_row, hosts_row, not_ready_row,
+    op_row, post_cap_row, submit_cap_row,
 };
 use crate::seen::Seen;
 use csv::ByteRecord;
 use std::alloc::Global;
-
-/// What a row of that name, which is taken for a run alone, says by itself.
-fn told_of_run(name: RowName, fields: &ByteRecord) -> Result<Row, ScriptFault>
-    ensures { result ≡ spec.told_of_run name (fields_of fields.now) }
-{
-    match name {
-        RowName::Channels => channels_row(fields),
-        RowName::Hosts => hosts_row(fields),
-        RowName::Batch => batch_row(fields),
-        RowName::SubmitCap => submit_cap_row(fields),
-        RowName::PostCap => post_cap_row(fields),
-        RowName::Fault => fault_row(fields),
-        RowName::ChipFail => chip_fail_row(fields),
-        RowName::NotReady => not_ready_row(fields),
-        _ => Err(ScriptFault::NotHere),
-    }
-}
-
-/// What a row of that name says by itself.
-fn told_alone(alloc: Global, name: RowName, fields: &ByteRecord) -> Result<Row, ScriptFault>
-    requires { IsTrue (has_fields name (fields_of fields.now)) }
-    ensures { result ≡ spec.told_alone name (fields_of fields.now) }
-{
-    match name {
-        RowName::Shape => shape_row(fields),
-        RowName::Spans => spans_row(fields),
-        RowName::Bus => bus_row(fields),
-        RowName::Free => free_row(fields),
-        RowName::Running => running_row(alloc, fields),
-        RowName::Want => want_row(fields),
-        RowName::Strict => strict_row(fields),
-        _ => told_of_run(name, fields),
-    }
-}
-
-/// Without want of memory.
-fn told(read: Result<Row, ScriptFault>) -> Result<Row, RowStop>
-    ensures { MatchResult result (λ row. read ≡ Ok row) (λ stop. IfFault stop (λ fault. read ≡ Err fault)) }
-{
-    match read {
-        Ok(row) => Ok(row),
-        Err(fault) => Err(RowStop::Fault(fault)),
-    }
-}
 
 /// What row number `number` says, behind rows that show that much.
 fn said(
@@ -76,13 +32,29 @@ fn said(
     fields: &ByteRecord,
 ) -> Result<Row, RowStop>
     requires { IsTrue (has_fields name (fields_of fields.now)) }
-    ensures { MatchResult result (λ row. spec.said name seen.now number (fields_of fields.now) ≡ Ok row) (λ stop. IfFault stop (λ fault. spec.said name seen.now number (fields_of fields.now) ≡ Err fault)) }
+    ensures { Gives IfFault (λ row. row) result (spec.said name seen.now number (fields_of fields.now)) }
 {
     match name {
+        RowName::Shape => Ok(shape_row(fields)?),
+        RowName::Spans => Ok(spans_row(fields)?),
         RowName::Page => page_row(alloc, fields),
-        RowName::Sheet => told(sheet_row(&seen.sheet, number, fields)),
+        RowName::Sheet => Ok(sheet_row(&seen.sheet, number, fields)?),
+        RowName::Bus => Ok(bus_row(fields)?),
+        RowName::Free => Ok(free_row(fields)?),
+        RowName::Running => Ok(running_row(alloc, fields)?),
+        RowName::Want => Ok(want_row(fields)?),
+        RowName::Weight => Ok(weight_row(fields)?),
+        RowName::Strict => Ok(strict_row(fields)?),
+        RowName::Channels => Ok(channels_row(fields)?),
+        RowName::Hosts => Ok(hosts_row(fields)?),
+        RowName::Batch => Ok(batch_row(fields)?),
+        RowName::Choice => Ok(choice_row(fields)?),
+        RowName::SubmitCap => Ok(submit_cap_row(fields)?),
+        RowName::PostCap => Ok(post_cap_row(fields)?),
         RowName::Op => op_row(alloc, fields),
-        _ => told(told_alone(alloc, name, fields)),
+        RowName::Fault => Ok(fault_row(fields)?),
+        RowName::ChipFail => Ok(chip_fail_row(fields)?),
+        RowName::NotReady => Ok(not_ready_row(fields)?),
     }
 }
 
@@ -105,7 +77,7 @@ fn is_settled(row: &Row, earlier: &[Row]) -> bool
 
 /// The row, where no earlier row settles the same, and where an operation may come yet.
 fn admitted(ops_left: u16, earlier: &[Row], row: Row) -> Result<Row, RowStop>
-    ensures { MatchResult result (λ r. spec.admitted ops_left earlier.now row ≡ Ok r) (λ stop. IfFault stop (λ fault. spec.admitted ops_left earlier.now row ≡ Err fault)) }
+    ensures { Gives IfFault (λ r. r) result (spec.admitted ops_left earlier.now row) }
 {
     if is_settled(&row, earlier) {
         Err(RowStop::Fault(ScriptFault::Repeated))
@@ -124,7 +96,7 @@ fn row_of(
     earlier: &[Row],
     fields: &ByteRecord,
 ) -> Result<Row, RowStop>
-    ensures { MatchResult result (λ row. spec.row_of purpose seen.now earlier.now (fields_of fields.now) ≡ Ok row) (λ stop. IfFault stop (λ fault. spec.row_of purpose seen.now earlier.now (fields_of fields.now) ≡ Err fault)) }
+    ensures { Gives IfFault (λ row. row) result (spec.row_of purpose seen.now earlier.now (fields_of fields.now)) }
 {
     let Some(name) = RowName::of(field(fields, 0)) else {
         return Err(RowStop::Fault(ScriptFault::UnknownRow));
@@ -140,8 +112,9 @@ fn row_of(
 }
 
 /// All rows, or the first that is refused.
+#[tactic(auto, unfolding(crate::specs::Rows::rows_after))]
 pub fn rows(alloc: Global, purpose: Purpose, records: &[ByteRecord]) -> Result<Vec<Row>, Stop>
-    ensures { MatchResult result (λ v. spec.rows_of purpose (map fields_of records.now) ≡ Ok v.items) (λ stop. IfRefused stop (λ refusal. spec.rows_of purpose (map fields_of records.now) ≡ Err refusal)) }
+    ensures { Gives IfRefused (λ v. v.items) result (spec.rows_of purpose (map fields_of records.now)) }
 {
     let mut rows = Vec::new(alloc);
     let mut seen = Seen::nothing();

@@ -1,16 +1,16 @@
 //! The rows that are taken for a run alone.
-ghost use Rattle.std.specs.Prelude.{◌≡◌, ◌≤◌, MatchResult, Ok, Err};
+ghost use Rattle.std.specs.Prelude.{◌≡◌};
 ghost use Rattle.csv.specs.Records.{fields_of};
 ghost use Rattle.onfi_script.specs.RunRow as spec;
-ghost use Rattle.onfi_script.specs.Stop.{IfFault};
+ghost use Rattle.onfi_script.specs.Stop.{Gives, IfFault};
 
+use crate::choosing::Choosing;
 use crate::count::{Batch, Capacity, Few};
 use crate::fault::{RowStop, ScriptFault};
-use crate::field::{block, field, kind, lun, number, page, small};
+use crate::field::{block, field, hex_bytes, is_word, kind, lun, number, page, small};
 use crate::operation::{Aim, Content, Operation};
 use crate::row::Row;
 use csv::ByteRecord;
-use hex::FromHexError;
 use onfi_addr::Place;
 use onfi_request::{Bytes, Fault};
 use std::alloc::Global;
@@ -31,12 +31,17 @@ fn few(text: &[u8]) -> Result<Few, ScriptFault>
     Ok(Few::of(count))
 }
 
-/// How many wants one plan takes up.
-fn batch(text: &[u8]) -> Result<Batch, ScriptFault>
-    ensures { result ≡ spec.batch text.now }
+/// By what a batch is chosen.
+fn choosing(text: &[u8]) -> Result<Choosing, ScriptFault>
+    ensures { result ≡ spec.choosing text.now }
 {
-    let count = small(text, 1, 8)?;
-    Ok(Batch::of(count))
+    if is_word(text, "by-lun") {
+        Ok(Choosing::ByLun)
+    } else if is_word(text, "reads-first") {
+        Ok(Choosing::ReadsFirst)
+    } else {
+        Err(ScriptFault::OutOfRange)
+    }
 }
 
 /// The number of a call, from 0.
@@ -74,8 +79,16 @@ pub fn hosts_row(row: &ByteRecord) -> Result<Row, ScriptFault>
 pub fn batch_row(row: &ByteRecord) -> Result<Row, ScriptFault>
     ensures { result ≡ spec.batch_row (fields_of row.now) }
 {
-    let count = batch(field(row, 1))?;
+    let count = Batch::of(small(field(row, 1), 1, 8)?);
     Ok(Row::Batch { count })
+}
+
+/// `choice,by-lun` or `choice,reads-first`
+pub fn choice_row(row: &ByteRecord) -> Result<Row, ScriptFault>
+    ensures { result ≡ spec.choice_row (fields_of row.now) }
+{
+    let choosing = choosing(field(row, 1))?;
+    Ok(Row::Choice { choosing })
 }
 
 /// `submitcap,N`
@@ -126,17 +139,6 @@ pub fn fault_row(row: &ByteRecord) -> Result<Row, ScriptFault>
     })
 }
 
-/// The bytes in hexadecimal.
-fn hex_bytes(alloc: Global, text: &[u8]) -> Result<Vec<u8>, RowStop>
-    ensures { MatchResult result (λ v. spec.hex_bytes text.now ≡ Ok v.items) (λ stop. IfFault stop (λ fault. spec.hex_bytes text.now ≡ Err fault)) }
-{
-    match hex::decode(alloc, text) {
-        Ok(bytes) => Ok(bytes),
-        Err(FromHexError::OutOfMemory) => Err(RowStop::Memory),
-        Err(_) => Err(RowStop::Fault(ScriptFault::Hex)),
-    }
-}
-
 /// The only one of the bytes.
 fn only(bytes: &[u8]) -> Result<u8, ScriptFault>
     ensures { result ≡ spec.only bytes.now }
@@ -149,18 +151,16 @@ fn only(bytes: &[u8]) -> Result<u8, ScriptFault>
 
 /// A page of one byte, `*HH`, without the star.
 fn filled(alloc: Global, digits: &[u8]) -> Result<Content, RowStop>
-    ensures { MatchResult result (λ content. spec.filled digits.now ≡ Ok content) (λ stop. IfFault stop (λ fault. spec.filled digits.now ≡ Err fault)) }
+    ensures { Gives IfFault (λ content. content) result (spec.filled digits.now) }
 {
     let bytes = hex_bytes(alloc, digits)?;
-    match only(bytes.as_slice()) {
-        Ok(byte) => Ok(Content::Filled(byte)),
-        Err(fault) => Err(RowStop::Fault(fault)),
-    }
+    let byte = only(bytes.as_slice())?;
+    Ok(Content::Filled(byte))
 }
 
 /// A whole page in hexadecimal, or `*HH` for a page of one byte; nothing is no bytes.
 fn content(alloc: Global, text: &[u8]) -> Result<Content, RowStop>
-    ensures { MatchResult result (λ content. spec.content text.now ≡ Ok content) (λ stop. IfFault stop (λ fault. spec.content text.now ≡ Err fault)) }
+    ensures { Gives IfFault (λ content. content) result (spec.content text.now) }
 {
     match text.split_first() {
         Some((mark, digits)) if *mark == b'*' => filled(alloc, digits),
@@ -188,12 +188,9 @@ fn aim(row: &ByteRecord) -> Result<Aim, ScriptFault>
 
 /// `op,HOST,CHANNEL,KIND,LUN,BLOCK,PAGE`, and the bytes of a program behind it.
 pub fn op_row(alloc: Global, row: &ByteRecord) -> Result<Row, RowStop>
-    ensures { MatchResult result (λ r. spec.op_row (fields_of row.now) ≡ Ok r) (λ stop. IfFault stop (λ fault. spec.op_row (fields_of row.now) ≡ Err fault)) }
+    ensures { Gives IfFault (λ r. r) result (spec.op_row (fields_of row.now)) }
 {
-    let aim = match aim(row) {
-        Ok(aim) => aim,
-        Err(fault) => return Err(RowStop::Fault(fault)),
-    };
+    let aim = aim(row)?;
     let content = content(alloc, field(row, 7))?;
     Ok(Row::Op(Operation { aim, content }))
 }

@@ -1,6 +1,6 @@
 //! The text of a script.
 ghost use Rattle.std.specs.Prelude.{◌≡◌, ◌&&◌, ◌≤◌, take, length, MatchOption, Some, None};
-ghost use Rattle.onfi_script.specs.Script.{behind_end, is_end_line, script_of};
+ghost use Rattle.onfi_script.specs.Script.{behind_end, is_end_line, plan_text_of, script_of};
 
 /// Whether a line `end` stands at the front of the text.
 fn is_end_line(text: &[u8]) -> bool
@@ -17,6 +17,7 @@ fn closes(starts: bool, text: &[u8]) -> bool
 }
 
 /// How much of the input stands before the line `end`.
+#[tactic(auto, unfolding(crate::specs::Script::before_end))]
 pub fn script_len(input: &[u8]) -> Option<usize>
     ensures { MatchOption result (script_of input.now ≡ None) (λ n. (n ≤ length input.now) × (script_of input.now ≡ Some (take n input.now))) }
 {
@@ -36,4 +37,14 @@ pub fn behind_end(text: &[u8]) -> &[u8]
 {
     let len = if text.starts_with(b"end\r\n") { 5 } else { 4 };
     &text[text.len().min(len)..]
+}
+
+/// What stands behind the line that closes the script of an input; nothing where none does.
+pub fn plan_text_of(input: &[u8]) -> &[u8]
+    ensures { result.now ≡ plan_text_of input.now }
+{
+    match script_len(input) {
+        Some(size) => behind_end(&input[size..]),
+        None => b"",
+    }
 }

@@ -1,5 +1,5 @@
 //! What the rows of a script set up on its device.
-ghost use Rattle.std.specs.Prelude.{◌≡◌, ℕ, ◌≤◌, position, IfOk};
+ghost use Rattle.std.specs.Prelude.{◌≡◌, ◌≤◌, position, IfOk};
 ghost use Rattle.onfi_script.specs.Setup as spec;
 ghost use Rattle.onfi_script.specs.SetupOf.{problem_of};
 ghost use Rattle.onfi_script.specs.Subject.{row_on as spec_row_on};
@@ -58,6 +58,7 @@ fn state(alloc: Global, rows: &[Row], plane_bits: u8, lun: u8) -> LunState
 }
 
 /// What each LUN does.
+#[tactic(auto, unfolding(crate::specs::Setup::states))]
 fn states(
     alloc: Global,
     rows: &[Row],
@@ -75,6 +76,7 @@ fn states(
 }
 
 /// The wants, numbered from 0.
+#[tactic(auto, unfolding(crate::specs::Setup::wants_from))]
 fn wants(alloc: Global, rows: &[Row], plane_bits: u8) -> Result<Vec<Want>, AllocError>
     requires { plane_bits ≤ 2 }
     ensures { IfOk result (λ v. v.items ≡ spec.wants_from plane_bits 0 rows.now) }

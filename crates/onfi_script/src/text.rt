@@ -1,5 +1,5 @@
 //! The texts that are written.
-ghost use Rattle.std.specs.Prelude.{◌≡◌, ◌++◌, codes, string_bytes, IfOk, OnOk};
+ghost use Rattle.std.specs.Prelude.{◌≡◌, ◌++◌, string_bytes, IfOk, OnOk};
 ghost use Rattle.std.specs.Fmt.{decimal};
 ghost use Rattle.std.specs.List.{flat_map};
 ghost use Rattle.onfi_script.specs.Text as spec;
@@ -8,7 +8,7 @@ ghost use Rattle.onfi_script.specs.AnswerOf.{answer_of};
 use crate::fault::Refusal;
 use onfi_cert::CertTextFault;
 use onfi_check::{CertFault, TextFault};
-use onfi_known::{KnownFault, KnownTextFault};
+use onfi_known::{KnownFault, KnownTextFault, WithinTextFault};
 use onfi_request::Want;
 use onfi_schedule::{Placed, Schedule, Starts};
 use std::alloc::{AllocError, Global};
@@ -18,6 +18,16 @@ use std::alloc::{AllocError, Global};
 pub struct Answer {
     pub text: Vec<u8>,
     pub status: u8,
+}
+
+impl Answer {
+    /// This text, with this status.
+    fn of(text: String, status: u8) -> Answer
+        ensures { answer_of result ≡ record { text = string_bytes text; status = status } }
+    {
+        let text = text.into_bytes();
+        Answer { text, status }
+    }
 }
 
 /// The line that refuses a script.
@@ -30,21 +40,22 @@ pub fn refused(alloc: Global, refusal: Refusal) -> Result<Answer, AllocError>
     let row = refusal.row;
     let name = refusal.fault.name();
     let text = format!(in alloc; "script refused {row} {name}\n")?;
-    Ok(Answer {
-        text: text.into_bytes(),
-        status: 1,
-    })
+    Ok(Answer::of(text, 1))
+}
+
+/// A line of a word and a number.
+fn line(alloc: Global, word: &str, number: u64, status: u8) -> Result<Answer, AllocError>
+    ensures { IfOk result (λ a. answer_of a ≡ spec.line word.now number status) }
+{
+    let text = format!(in alloc; "{word} {number}\n")?;
+    Ok(Answer::of(text, status))
 }
 
 /// The line of a search that opened as many nodes as it may, and is not over.
 pub fn over(alloc: Global, opened: u32) -> Result<Answer, AllocError>
     ensures { IfOk result (λ a. answer_of a ≡ spec.over opened) }
 {
-    let text = format!(in alloc; "over {opened}\n")?;
-    Ok(Answer {
-        text: text.into_bytes(),
-        status: 6,
-    })
+    line(alloc, "over", u64::from(opened), 6)
 }
 
 /// The line that refuses for this reason.
@@ -52,10 +63,7 @@ pub fn refused_for(alloc: Global, reason: &str) -> Result<Answer, AllocError>
     ensures { IfOk result (λ a. answer_of a ≡ spec.refused_for reason.now) }
 {
     let text = format!(in alloc; "refused {reason}\n")?;
-    Ok(Answer {
-        text: text.into_bytes(),
-        status: 2,
-    })
+    Ok(Answer::of(text, 2))
 }
 
 /// The line that refuses for this reason, with a place.
@@ -63,32 +71,29 @@ pub fn refused_at(alloc: Global, reason: &str, place: u64) -> Result<Answer, All
     ensures { IfOk result (λ a. answer_of a ≡ spec.refused_at reason.now place) }
 {
     let text = format!(in alloc; "refused {reason} {place}\n")?;
-    Ok(Answer {
-        text: text.into_bytes(),
-        status: 2,
-    })
+    Ok(Answer::of(text, 2))
 }
 
 /// The line of a schedule that ends at `ends`, in ns, and that nothing beats.
 pub fn accepted(alloc: Global, ends: u64) -> Result<Answer, AllocError>
     ensures { IfOk result (λ a. answer_of a ≡ spec.accepted ends) }
 {
-    let text = format!(in alloc; "accepted {ends}\n")?;
-    Ok(Answer {
-        text: text.into_bytes(),
-        status: 0,
-    })
+    line(alloc, "accepted", ends, 0)
+}
+
+/// The line of a schedule that ends at `ends` where nothing ends before `below`, both in ns.
+pub fn within(alloc: Global, ends: u64, below: u64) -> Result<Answer, AllocError>
+    ensures { IfOk result (λ a. answer_of a ≡ spec.within ends below) }
+{
+    let text = format!(in alloc; "within {ends} {below}\n")?;
+    Ok(Answer::of(text, 8))
 }
 
 /// The line of a schedule that is legal and ends at `ends`, in ns.
 pub fn legal_until(alloc: Global, ends: u64) -> Result<Answer, AllocError>
     ensures { IfOk result (λ a. answer_of a ≡ spec.legal_until ends) }
 {
-    let text = format!(in alloc; "legal {ends}\n")?;
-    Ok(Answer {
-        text: text.into_bytes(),
-        status: 0,
-    })
+    line(alloc, "legal", ends, 0)
 }
 
 /// The line that refuses the tokens of a certificate; none where memory was refused.
@@ -161,6 +166,17 @@ pub fn known_text_refused(alloc: Global, fault: KnownTextFault) -> Result<Answer
         KnownTextFault::BadToken(place) => refused_at(alloc, "cert BadToken", place as u64),
         KnownTextFault::Option => refused_for(alloc, "cert Option"),
         KnownTextFault::Cert(fault) => known_refused(alloc, fault),
+    }
+}
+
+/// The line that refuses a schedule, or the text of a certificate of a time before which nothing ends; none where memory was
+/// refused.
+pub fn within_refused(alloc: Global, fault: WithinTextFault) -> Result<Answer, AllocError>
+    ensures { IfOk result (λ a. answer_of a ≡ spec.within_refused fault) }
+{
+    match fault {
+        WithinTextFault::Known(fault) => known_text_refused(alloc, fault),
+        WithinTextFault::Above => refused_for(alloc, "below"),
     }
 }
 
@@ -244,6 +260,7 @@ fn put_rest(alloc: Global, text: &mut String, lun: usize, starts: &[u64]) -> Res
 }
 
 /// Puts the lines of running groups behind a text.
+#[tactic(auto, unfolding(crate::specs::Text::rest_lines))]
 fn put_rests(alloc: Global, text: &mut String, rest: &[Starts]) -> Result<(), AllocError>
     ensures { OnOk result (string_bytes text.new ≡ string_bytes text.old ++ spec.rest_lines 0 rest.now) }
 {
@@ -263,6 +280,51 @@ fn schedule_text(alloc: Global, schedule: &Schedule, finish: u64) -> Result<Stri
     text.push_str("\n")?;
     put_rests(alloc, &mut text, schedule.rest())?;
     put_groups(alloc, &mut text, schedule.groups())?;
+    Ok(text)
+}
+
+/// Puts a line of the time before which nothing ends, in ns, behind a text, where that isn't the finish.
+fn put_below(alloc: Global, text: &mut String, finish: u64, below: u64) -> Result<(), AllocError>
+    ensures { OnOk result (string_bytes text.new ≡ string_bytes text.old ++ spec.below_line finish below) }
+{
+    if finish <= below {
+        return Ok(());
+    }
+    put_number(alloc, text, "below ", below)?;
+    text.push_str("\n")
+}
+
+/// The lines of a schedule that ends at `finish` where nothing ends before `below`, both in ns.
+fn schedule_within(
+    alloc: Global,
+    schedule: &Schedule,
+    finish: u64,
+    below: u64,
+) -> Result<String, AllocError>
+    ensures { IfOk result (λ t. string_bytes t ≡ spec.schedule_within schedule.now finish below) }
+{
+    let mut lines = String::new(alloc);
+    lines.push_str("ONFIPLAN 1\n")?;
+    put_number(alloc, &mut lines, "finish ", finish)?;
+    lines.push_str("\n")?;
+    put_below(alloc, &mut lines, finish, below)?;
+    put_rests(alloc, &mut lines, schedule.rest())?;
+    put_groups(alloc, &mut lines, schedule.groups())?;
+    Ok(lines)
+}
+
+/// .. with the text of its certificate behind them.
+pub fn within_text(
+    alloc: Global,
+    schedule: &Schedule,
+    finish: u64,
+    below: u64,
+    certificate: &[u8],
+) -> Result<Vec<u8>, AllocError>
+    ensures { IfOk result (λ text. text.items ≡ spec.schedule_within schedule.now finish below ++ certificate.now) }
+{
+    let mut text = schedule_within(alloc, schedule, finish, below)?.into_bytes();
+    text.extend_from_slice(certificate)?;
     Ok(text)
 }
 

@@ -1,6 +1,7 @@
 //! The answer that tells the trace of a plan.
-ghost use Rattle.std.specs.Prelude.{IfOk};
-ghost use Rattle.onfi_schedule.specs.Schedule.{Optimal};
+ghost use Rattle.std.specs.Prelude.{◌≡◌, IfOk};
+ghost use Rattle.onfi_schedule.specs.Schedule.{Legal, Optimal};
+ghost use Rattle.onfi_schedule.specs.Trace.{IsTrace};
 ghost use Rattle.onfi_script.specs.Answer.{Traces};
 ghost use Rattle.onfi_script.specs.AnswerOf.{answer_of};
 
@@ -9,7 +10,22 @@ use onfi_problem::Problem;
 use onfi_schedule::{Schedule, trace};
 use std::alloc::{AllocError, Global};
 
-/// The trace of an optimal schedule; each line names its request where that is asked for.
+/// The trace of a legal schedule; each line names its request where that is asked for.
+pub fn legal_trace(
+    alloc: Global,
+    problem: &Problem,
+    schedule: &Schedule,
+    requests: bool,
+) -> Result<Answer, AllocError>
+    requires { Legal problem.now.problem schedule.now }
+    ensures trace { IfOk result (λ a. IsTrace requests problem.now.problem schedule.now a.text.items) }
+    ensures fine { IfOk result (λ a. a.status ≡ 0) }
+{
+    let text = trace(alloc, problem, schedule, requests)?;
+    Ok(Answer { text, status: 0 })
+}
+
+/// The trace of an optimal schedule.
 pub fn trace_answer(
     alloc: Global,
     problem: &Problem,
@@ -19,6 +35,6 @@ pub fn trace_answer(
     requires { Optimal problem.now.problem schedule.now }
     ensures { IfOk result (λ a. Traces requests problem.now.problem (answer_of a)) }
 {
-    let text = trace(alloc, problem, schedule, requests)?;
-    Ok(Answer { text, status: 0 })
+    let answer = legal_trace(alloc, problem, schedule, requests)?;
+    Ok(answer)
 }

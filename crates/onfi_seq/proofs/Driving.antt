@@ -1,6 +1,6 @@
 -- A half with its chip: what its calls come to, and what they keep.
 use Rattle.std.proofs.Common.{◌≡◌, ◌≢◌, ℕ, ◌<◌, ◌≤◌, ◌^◌, List, [], ◌∷◌, ◌++◌, length, Some, None, Option, Result, Ok, Err, IfOk, IfErr, refl, sym, ap, ◌∙◌, subst}
-use Rattle.std.specs.Prelude.{replicate}
+use Rattle.std.specs.Prelude.{IfSome, replicate}
 use Rattle.std.specs.List.{filter}
 use Rattle.onfi_addr.specs.declared.geometry.Geometry.{Geometry}
 use Rattle.onfi_request.specs.declared.request.Item.{Item}
@@ -27,12 +27,13 @@ use Rattle.onfi_core.specs.Queues.{IsFresh}
 use Rattle.onfi_core.specs.Reaching.{Reaches}
 use Rattle.onfi_core.specs.Refusals.{planned_outcome}
 use Rattle.onfi_core.specs.State.{HalfState, ChannelState, Planning, is_to, item_at, quiet}
-use Rattle.onfi_core.specs.Steps.{GoesOut, Plans, Step, accept_refusal, bus_refusal, plan_refusal, planned_by, taken_next}
-use Rattle.onfi_core.specs.View.{HalfView, IsOldest, PlanRefused, accepting}
+use Rattle.onfi_core.specs.Steps.{GoesOut, Step, accept_refusal, bus_refusal}
+use Rattle.onfi_core.specs.View.{HalfView, IsOldest, PlannedAs, RefusedAs, accepting}
 use Rattle.onfi_core.specs.View.{IsNext as IsHostsNext}
 use Rattle.onfi_core.proofs.HeldFor.{next_behind}
 use Rattle.onfi_core.proofs.Reach.{none_first, not_stopped}
 use Rattle.onfi_core.proofs.Reaching.{accepting_reached, batch_reached, events_reach, opened_reaches, posting_reached, step_reaches}
+use Rattle.onfi_core.proofs.Promised.{planned_last}
 use Rattle.onfi_core.proofs.Running.{after_planning, cause_is, lost_by, no_memory, nothing_posted, ran_step, refused_alone, same_by, stop_step}
 use Rattle.onfi_lun.specs.declared.lanes.any_lun.AnyLun.{AnyLun}
 use Rattle.onfi_lun.specs.declared.target.Target.{Target}
@@ -50,15 +51,16 @@ quiet_is h h' chip chip' accepted posted =
 
 -- Opening
 
-pub driven_opened : (s : Setup) (h : HalfView) (chip : Chip) (lanes : List AnyLun) → h ≡ record { setup = s; state = first_half s; lent = None } → IsFresh s chip → ((other : Chip) → other.luns ≡ replicate s.geometry.lun_count Idle → LanesAgree other lanes) → IsDriven h.setup h.lent h.state chip lanes
-driven_opened s h chip lanes is fresh agree =
+pub driven_opened : (Such : Planning → Type 0) (s : Setup) (h : HalfView) (chip : Chip) (lanes : List AnyLun) → h ≡ record { setup = s; state = first_half s; lent = None } → IsFresh s chip → ((other : Chip) → other.luns ≡ replicate s.geometry.lun_count Idle → LanesAgree other lanes) → IsDriven Such h.setup h.lent h.state chip lanes
+driven_opened Such s h chip lanes is fresh agree =
     let here : ChannelState = quiet (first_half s) chip in
-    let opened : IsDriven s None (first_half s) chip lanes = record {
+    let opened : IsDriven Such s None (first_half s) chip lanes = record {
       settled = refl;
       reached = opened_reaches s here (chip.faults, chip.failures, ap (λ (x : Chip). quiet (first_half s) x) fresh);
       lanes_are = λ going. agree chip (ap (λ (x : Chip). x.luns) fresh);
+      last = tt;
     } in
-    subst (λ (v : HalfView). IsDriven v.setup v.lent v.state chip lanes) (sym is) opened
+    subst (λ (v : HalfView). IsDriven Such v.setup v.lent v.state chip lanes) (sym is) opened
 
 -- What is told of a driver, of its fields and back
 module _ {C : Type 0} where
@@ -70,30 +72,26 @@ module _ {C : Type 0} where
 
 -- Accepting, and the batch
 
-pub driven_accepting : (s : Setup) (lent : Option Reply) (h : HalfState) (chip : Chip) (lanes : List AnyLun) (x : Item) → accept_refusal h ≡ None → IsHostsNext s h x → IsDriven s lent h chip lanes → IsDriven s lent (accepting h x) chip lanes
-driven_accepting s lent h chip lanes x room next driven = record {
+pub driven_accepting : (Such : Planning → Type 0) (s : Setup) (lent : Option Reply) (h : HalfState) (chip : Chip) (lanes : List AnyLun) (x : Item) → accept_refusal h ≡ None → IsHostsNext s h x → IsDriven Such s lent h chip lanes → IsDriven Such s lent (accepting h x) chip lanes
+driven_accepting Such s lent h chip lanes x room next driven = record {
   settled = driven.settled;
   reached = (accepting_reached s h chip x room next).1 driven.reached;
   lanes_are = driven.lanes_are;
+  last = driven.last;
 }
 
-pub driven_batch : (s : Setup) (lent : Option Reply) (h : HalfState) (chip : Chip) (lanes : List AnyLun) (batch : ℕ) → 1 ≤ batch → batch ≤ 8 → IsDriven s lent h chip lanes → IsDriven s lent (record h { batch = batch }) chip lanes
-driven_batch s lent h chip lanes batch some few driven = record {
+pub driven_batch : (Such : Planning → Type 0) (s : Setup) (lent : Option Reply) (h : HalfState) (chip : Chip) (lanes : List AnyLun) (batch : ℕ) → 1 ≤ batch → batch ≤ 8 → IsDriven Such s lent h chip lanes → IsDriven Such s lent (record h { batch = batch }) chip lanes
+driven_batch Such s lent h chip lanes batch some few driven = record {
   settled = driven.settled;
   reached = (batch_reached s (quiet h chip) batch some few).1 driven.reached;
   lanes_are = driven.lanes_are;
+  last = driven.last;
 }
 
 -- Planning
 
-abbrev PlannedAs : HalfView → HalfView → Result ℕ PlanRefusal → Type 0
-PlannedAs old h result = IfOk result (λ finish. (plan_refusal old.setup old.state ≡ None) × (plan : Planning) × (finish ≡ plan.finish) × Plans old.setup old.state plan × (h ≡ record old { state = planned_by old.state (length (taken_next old.setup old.state)) plan }))
-
-abbrev RefusedAs : HalfView → HalfView → Result ℕ PlanRefusal → Type 0
-RefusedAs old h result = IfErr result (λ refusal. PlanRefused old.setup old.state refusal h.state × (h ≡ record old { state = h.state }))
-
 pub accepted_kept : (old h : HalfView) (result : Result ℕ PlanRefusal) → PlannedAs old h result → RefusedAs old h result → h.state.accepted ≡ old.state.accepted
-accepted_kept old h (Ok finish) (open', plan, e, plans, is) none = ap (λ (v : HalfView). v.state.accepted) is
+accepted_kept old h (Ok finish) (open', taken, plan, e, plans, is) none = ap (λ (v : HalfView). v.state.accepted) is
 accepted_kept old h (Err (refused.Stopped cause)) none ((e, is), same) = ap (λ (x : HalfState). x.accepted) is
 accepted_kept old h (Err refused.NothingToPlan) none ((e, is), same) = ap (λ (x : HalfState). x.accepted) is
 accepted_kept old h (Err (refused.Over opened)) none ((e, count, more, is), same) = ap (λ (x : HalfState). x.accepted) is
@@ -103,7 +101,7 @@ pub posted_kept : (old h : HalfView) (chip : Chip) (result : Result ℕ PlanRefu
 posted_kept old h chip result planned why = nothing_posted old.setup (quiet old.state chip) old result h planned (refused_alone old.setup old.state result h old why)
 
 going_before : (old h : HalfView) (result : Result ℕ PlanRefusal) → PlannedAs old h result → RefusedAs old h result → h.state.stopped ≡ None → old.state.stopped ≡ None
-going_before old h (Ok finish) (open', plan, e, plans, is) none going = sym (ap (λ (v : HalfView). v.state.stopped) is) ∙ going
+going_before old h (Ok finish) (open', taken, plan, e, plans, is) none going = sym (ap (λ (v : HalfView). v.state.stopped) is) ∙ going
 going_before old h (Err (refused.Stopped cause)) none ((e, is), same) going = let q : Some cause ≡ None = sym (ap (λ (x : HalfState). x.stopped) is) ∙ going in cc
 going_before old h (Err refused.NothingToPlan) none ((e, is), same) going = sym (ap (λ (x : HalfState). x.stopped) is) ∙ going
 going_before old h (Err (refused.Over opened)) none ((e, count, more, is), same) going = sym (ap (λ (x : HalfState). x.stopped) is) ∙ going
@@ -114,13 +112,14 @@ planning_step old h chip channel result planned why =
     let step = after_planning old.setup (quiet old.state chip) channel old result h planned (refused_alone old.setup old.state result h old why) in
     subst (λ (c : ChannelState). Step old.setup (quiet old.state chip) (event.Plan channel) (planned_outcome result) c) (quiet_is old.state h.state chip chip (accepted_kept old h result planned why) (posted_kept old h chip result planned why)) step
 
-pub driven_planned : (old h : HalfView) (chip : Chip) (lanes : List AnyLun) (result : Result ℕ PlanRefusal) → IsDriven old.setup old.lent old.state chip lanes → PlannedAs old h result → RefusedAs old h result → h.lent ≡ None → h.setup ≡ old.setup → IsDriven h.setup h.lent h.state chip lanes
-driven_planned old h chip lanes result driven planned why settled setup =
+pub driven_planned : (Such : Planning → Type 0) (old h : HalfView) (chip : Chip) (lanes : List AnyLun) (result : Result ℕ PlanRefusal) → IsDriven Such old.setup old.lent old.state chip lanes → PlannedAs old h result → IfOk result (λ _. IfSome h.state.last Such) → RefusedAs old h result → h.lent ≡ None → h.setup ≡ old.setup → IsDriven Such h.setup h.lent h.state chip lanes
+driven_planned Such old h chip lanes result driven planned new why settled setup =
     let reached = step_reaches old.setup (quiet old.state chip) (event.Plan 0) (planned_outcome result) (quiet h.state chip) driven.reached (planning_step old h chip 0 result planned why) in
     record {
       settled = settled;
       reached = subst (λ (s : Setup). Reaches s (quiet h.state chip)) (sym setup) reached;
       lanes_are = λ going. driven.lanes_are (going_before old h result planned why going);
+      last = planned_last Such old.setup old.state result h.state new (refused_alone old.setup old.state result h old why) driven.last;
     }
 
 -- Phases
@@ -145,18 +144,20 @@ module _ (s : Setup) (h : HalfState) (chip : Chip) (reached : Reaches s (quiet h
       let r = events_reach s (quiet h chip) reached in
       may_run_due s target h chip geometry timing r.half.sound (r.chip (going_on h open')) due is member.0 member.1 item member.2 time
 
-  pub driven_ran : (lent : Option Reply) (chip' : Chip) (lanes : List AnyLun) (given : PhaseResult) (h' : HalfState) → HasRun chip s.geometry due item given chip' → h' ≡ after_due h due (replies_of h.accepted chip'.faults due given) → lent ≡ None → LanesAgree chip' lanes → IsDriven s lent h' chip' lanes
-  driven_ran lent chip' lanes given h' run after settled agree = record {
+  pub driven_ran : (Such : Planning → Type 0) (lent : Option Reply) (chip' : Chip) (lanes : List AnyLun) (given : PhaseResult) (h' : HalfState) → HasRun chip s.geometry due item given chip' → h' ≡ after_due h due (replies_of h.accepted chip'.faults due given) → lent ≡ None → LanesAgree chip' lanes → IfSome h.last Such → IsDriven Such s lent h' chip' lanes
+  driven_ran Such lent chip' lanes given h' run after settled agree last = record {
     settled = settled;
     reached = step_reaches s (quiet h chip) (event.Bus 0) (outcome.Phase due.start) (quiet h' chip') reached (ran_phase 0 chip' given h' run after);
     lanes_are = λ going. agree;
+    last = subst (λ (x : HalfState). IfSome x.last Such) (sym after) last;
   }
 
-  pub driven_stopped : (lent : Option Reply) (chip' : Chip) (lanes : List AnyLun) (fault : DriveFault) (stop : Cause) (h' : HalfState) → cause_of fault due.lun ≡ Some stop → (fault ≡ drive.NotReady → IsStatus due item) → AfterDrive fault chip chip' → h' ≡ record h { stopped = Some stop } → lent ≡ None → IsDriven s lent h' chip' lanes
-  driven_stopped lent chip' lanes fault stop h' cause status after is_stopped settled = record {
+  pub driven_stopped : (Such : Planning → Type 0) (lent : Option Reply) (chip' : Chip) (lanes : List AnyLun) (fault : DriveFault) (stop : Cause) (h' : HalfState) → cause_of fault due.lun ≡ Some stop → (fault ≡ drive.NotReady → IsStatus due item) → AfterDrive fault chip chip' → h' ≡ record h { stopped = Some stop } → lent ≡ None → IfSome h.last Such → IsDriven Such s lent h' chip' lanes
+  driven_stopped Such lent chip' lanes fault stop h' cause status after is_stopped settled last = record {
     settled = settled;
     reached = step_reaches s (quiet h chip) (event.Bus 0) (outcome.Stopped stop) (quiet h' chip') reached (stopped_phase 0 fault stop chip' h' cause status after is_stopped);
     lanes_are = λ going. absurd (let q : Some stop ≡ None = sym (ap (λ (x : HalfState). x.stopped) is_stopped) ∙ going in cc);
+    last = subst (λ (x : HalfState). IfSome x.last Such) (sym is_stopped) last;
   }
 
   pub memory_phase : (channel : ℕ) (chip' : Chip) → chip' ≡ chip → Step s (quiet h chip) (event.Bus channel) (outcome.Memory None) (quiet h chip')
@@ -176,9 +177,10 @@ module _ (s : Setup) (h : HalfState) (chip : Chip) (reached : Reaches s (quiet h
         rightful = subst (λ (rs : List Reply). AreRightfulIn p.opened.geometry r (rs ++ r ∷ [])) (sym posted) here;
       }
 
-  pub driven_posted : (lent : Option Reply) (h' : HalfState) (lanes : List AnyLun) → GoesOut h h' host r → lent ≡ None → (h.stopped ≡ None → LanesAgree chip lanes) → IsDriven s lent h' chip lanes
-  driven_posted lent h' lanes goes settled agree = record {
+  pub driven_posted : (Such : Planning → Type 0) (lent : Option Reply) (h' : HalfState) (lanes : List AnyLun) → GoesOut h h' host r → lent ≡ None → (h.stopped ≡ None → LanesAgree chip lanes) → IfSome h.last Such → IsDriven Such s lent h' chip lanes
+  driven_posted Such lent h' lanes goes settled agree last = record {
     settled = settled;
     reached = (posting_reached s h h' chip host r goes).1 reached;
     lanes_are = λ going. agree (sym (ap (λ (x : HalfState). x.stopped) goes.after) ∙ going);
+    last = subst (λ (x : HalfState). IfSome x.last Such) (sym goes.after) last;
   }

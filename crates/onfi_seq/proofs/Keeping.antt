@@ -32,6 +32,30 @@ module _ {C : Type 0} where
   pub seen_outside : (state : C → Chip) (P : Seen → Type 0) (inside now : SequencerView C) → inside ≡ now → P (seen_in state inside) → P (seen_in state now)
   seen_outside state P inside now is h = subst (λ (x : SequencerView C). P (seen_in state x)) is h
 
+-- What a planning leaves
+
+pub kept_planning : (s s' : Setup) (h h' : HalfState) (intake : IntakeView) (posters : List PosterView) (refused short : Bool) (counts : List ℕ) → s' ≡ s → h'.accepted ≡ h.accepted → h'.posted ≡ h.posted
+    → IsKept (record { setup = s; half = h; intake = intake; posters = posters; refused = refused; short = short }) counts
+    → IsKept (record { setup = s'; half = h'; intake = intake; posters = posters; refused = refused; short = short }) counts
+kept_planning s s' h h' intake posters refused short counts same accepted posted k = record {
+  hosts = ap (λ z. z.hosts) same ∙ k.hosts;
+  opened = k.opened ∙ ap (λ z. opened_as z intake.opened.channel) (sym same);
+  room = k.room ∙ ap (λ z. z.submit_cap) (sym same);
+  accepted = k.accepted ∙ sym accepted;
+  posters = k.posters;
+  each = λ host p there. (
+      let is = k.each host p there in
+      record {
+        opened = is.opened ∙ ap (λ z. opened_for z intake.opened.channel host) (sym same);
+        room = is.room ∙ ap (λ z. z.post_cap) (sym same);
+        posted = is.posted ∙ ap (filter (is_to host)) (sym posted);
+      });
+  counts_are = record {
+    hosts = k.counts_are.hosts;
+    each = λ host count there. k.counts_are.each host count there ∙ ap (λ items. length (filter (is_from host) items)) (sym accepted);
+  };
+}
+
 -- Opening
 
 no_some : (n count : ℕ) → None ≡ Some count → n ≡ count

@@ -37,6 +37,8 @@ refused_faults c (outcome.Submitted serial) = refl
 refused_faults c (outcome.Accepted place) = refl
 refused_faults c (outcome.Planned finish) = refl
 refused_faults c (outcome.Phase start) = refl
+refused_faults c (outcome.Waited bus_free) = refl
+refused_faults c (outcome.ReadyFrom ready) = refl
 refused_faults c (outcome.Posted place) = refl
 refused_faults c (outcome.Collected reply) = refl
 refused_faults c (outcome.SubmitFull request) = refl
@@ -51,6 +53,9 @@ refused_faults c (outcome.SerialsSpent request) = refl
 refused_faults c outcome.WindowFull = refl
 refused_faults c outcome.NothingToPlan = refl
 refused_faults c outcome.NothingToPost = refl
+refused_faults c outcome.TooLate = refl
+refused_faults c outcome.NotInArray = refl
+refused_faults c outcome.StillBusy = refl
 refused_faults c (outcome.NoSuch request) = refl
 
 -- The posters

@@ -10,10 +10,11 @@ use Rattle.onfi_core.specs.declared.outcome.Outcome.{Outcome}
 use Rattle.onfi_core.specs.declared.outcome.Outcome.TheVariants.{NoPlan, NothingToPlan, Stopped, WindowFull}
 use Rattle.onfi_core.specs.Reaching.{Reaches}
 use Rattle.onfi_core.specs.State.{ChannelState, HalfState, is_to}
-use Rattle.onfi_core.specs.Steps.{accept_refusal, bus_refusal, held_for, if_stopped, is_empty, none_left, or_else, plan_refusal, refused_where, taken_next, unanswered}
+use Rattle.onfi_core.specs.Steps.{accept_refusal, bus_refusal, held_for, if_stopped, none_left, nothing_to_plan, or_else, plan_refusal, refused_where, taken_next, unanswered}
 use Rattle.onfi_core.specs.declared.setup.Setup.{Setup}
 use Rattle.onfi_core.proofs.HeldFor.{idle_is, is_nil, nothing_held}
 use Rattle.onfi_core.proofs.Dues.{next_cases}
+use Rattle.onfi_core.proofs.Next.{none_taken as nothing_taken}
 use Rattle.onfi_core.proofs.Reaching.{events_reach}
 use Rattle.onfi_queue.specs.Ends.{IntakeView}
 use Rattle.onfi_reply.specs.Ends.{PosterView}
@@ -50,7 +51,7 @@ nothing_new (Some cause) none late going e = cc
 
 -- nothing is to be planned
 pub none_taken : (s : Setup) (h : HalfState) → h.stopped ≡ None → plan_refusal s h ≡ Some NothingToPlan → taken_next s h ≡ []
-none_taken s h going e = is_nil (taken_next s h) (nothing_new h.stopped (is_empty (taken_next s h)) _ going e)
+none_taken s h going e = is_nil (taken_next s h) (nothing_taken s h (nothing_new h.stopped (nothing_to_plan s h) _ going e))
 
 -- Rest
 

@@ -1,5 +1,5 @@
 -- A half with its chip, as the sequencer drives them.
-use Rattle.std.specs.Prelude.{◌≡◌, ◌≢◌, ℕ, List, [], Option, None, Some}
+use Rattle.std.specs.Prelude.{◌≡◌, ◌≢◌, ℕ, List, [], Option, None, Some, IfSome}
 use Rattle.std.specs.List.{filter}
 use Rattle.onfi_request.specs.declared.reply.Reply.{Reply}
 use Rattle.onfi_chip.specs.Chip.{Chip}
@@ -8,7 +8,7 @@ use Rattle.onfi_core.specs.declared.outcome.Outcome.{Outcome}
 use Rattle.onfi_core.specs.declared.outcome.Outcome.TheVariants as outcome
 use Rattle.onfi_core.specs.declared.setup.Setup.{Setup}
 use Rattle.onfi_core.specs.Reaching.{Reaches}
-use Rattle.onfi_core.specs.State.{HalfState, ChannelState, quiet}
+use Rattle.onfi_core.specs.State.{HalfState, ChannelState, Planning, quiet}
 use Rattle.onfi_core.specs.Steps.{GoesOut, Step, bus_refusal, held_for}
 use Rattle.onfi_lun.specs.declared.lanes.any_lun.AnyLun.{AnyLun}
 use Rattle.onfi_lun.specs.Lanes.{LanesAgree}
@@ -31,11 +31,12 @@ DriverView C = DriverFields × C
 abbrev pub channel_in : {C : Type 0} → (C → Chip) → DriverView C → ChannelState
 channel_in state view = quiet view.0.half (state view.1)
 
--- no reply is on its way out, events reach the channel, and until it stops the LUNs in their phases are the chip's
-pub record IsDriven (s : Setup) (lent : Option Reply) (h : HalfState) (chip : Chip) (lanes : List AnyLun) : Type 0 where
+-- no reply is on its way out, events reach the channel, until it stops the LUNs in their phases are the chip's, and the last planning is such
+pub record IsDriven (Such : Planning → Type 0) (s : Setup) (lent : Option Reply) (h : HalfState) (chip : Chip) (lanes : List AnyLun) : Type 0 where
   pub settled : lent ≡ None
   pub reached : Reaches s (quiet h chip)
   pub lanes_are : h.stopped ≡ None → LanesAgree chip lanes
+  pub last : IfSome h.last Such
 
 -- what the next phase came to, as an outcome of the machine
 abbrev pub ran_outcome : Ran → Outcome

@@ -1,5 +1,5 @@
 -- What a turn did, and why it did nothing earlier.
-use Rattle.std.specs.Prelude.{◌≡◌, ◌≢◌, ◌⊎◌, ℕ, ◌<◌, ◌≤◌, Bool, true, false, List, [], length, None, Some, slice_get, slice_set}
+use Rattle.std.specs.Prelude.{◌≡◌, ◌≢◌, ◌⊎◌, ℕ, ◌<◌, ◌≤◌, Bool, true, false, List, [], None, Some, slice_get, slice_set}
 use Rattle.onfi_request.specs.declared.reply.Reply.{Reply}
 use Rattle.onfi_request.specs.declared.request.Item.{Item}
 use Rattle.onfi_core.specs.declared.event.Event.TheVariants as event
@@ -7,7 +7,7 @@ use Rattle.onfi_core.specs.declared.outcome.Cause.{Cause}
 use Rattle.onfi_core.specs.declared.outcome.Outcome.{Outcome}
 use Rattle.onfi_core.specs.declared.outcome.Outcome.TheVariants as outcome
 use Rattle.onfi_core.specs.Steps.{GoesOut, Step, accept_refusal, held_for, none_left, taken_next, unanswered, unplanned}
-use Rattle.onfi_core.specs.View.{IsNext, accepting}
+use Rattle.onfi_core.specs.View.{IsNext, WantsItem, accepting}
 use Rattle.onfi_queue.specs.Ends.{SawEmpty, after_accepting}
 use Rattle.onfi_reply.specs.Ends.{PosterView, SawFull, after_posting}
 use Rattle.onfi_seq.specs.declared.offer.Offer.{Offer}
@@ -30,9 +30,9 @@ pub record IsGoing (q : Seen) : Type 0 where
   pub posts : NothingPosts q 4
   pub going : q.0.half.stopped ≡ None
 
--- no item is accepted: 64 are unanswered, or the batch is unplanned, or the submission queue was empty
+-- no item is accepted: 64 are unanswered, or none is wanted, since in order the batch is unplanned, or the submission queue was empty
 abbrev pub WhyNoItem : Seen → Type 0
-WhyNoItem q = (64 ≤ unanswered q.0.half) ⊎ (q.0.half.batch ≤ length (unplanned q.0.setup q.0.half)) ⊎ SawEmpty q.0.intake
+WhyNoItem q = (64 ≤ unanswered q.0.half) ⊎ (¬ WantsItem q.0.setup q.0.half) ⊎ SawEmpty q.0.intake
 
 -- .. and no item is accepted
 pub record TakesNothing (q : Seen) : Type 0 where
@@ -76,7 +76,7 @@ pub record Posts (q q' : Seen) : Type 0 where
 pub record Takes (q q' : Seen) : Type 0 where
   pub before : IsGoing q
   pub room : accept_refusal q.0.half ≡ None
-  pub few : length (unplanned q.0.setup q.0.half) < q.0.half.batch
+  pub wanted : WantsItem q.0.setup q.0.half
   pub item : Item
   pub next : IsNext q.0.setup q.0.half item
   pub after : q' ≡ (record q.0 { half = accepting q.0.half item; intake = after_accepting q.0.intake item }, q.1)

@@ -1,6 +1,6 @@
-//! A half with its chip.
+//! A half with its chip and its planner.
 
-ghost use Rattle.std.specs.Prelude.{◌≡◌, ◌⊎◌, ℕ, ◌<◌, ◌≤◌, ◌^◌, false, length, None, Some, IfOk, IfErr, IsTrue};
+ghost use Rattle.std.specs.Prelude.{◌≡◌, ◌⊎◌, ℕ, ◌<◌, ◌≤◌, ◌^◌, false, length, None, Some, IfOk, IfErr, IfSome, IsTrue};
 ghost use Rattle.std.specs.List.{filter};
 ghost use Rattle.onfi_core.specs.declared.event.Event.TheVariants as event;
 ghost use Rattle.onfi_core.specs.Dues.{IsDue};
@@ -9,8 +9,8 @@ ghost use Rattle.onfi_core.specs.Queues.{IsFresh};
 ghost use Rattle.onfi_core.specs.Reaching.{Reaches};
 ghost use Rattle.onfi_core.specs.Refusals.{planned_outcome};
 ghost use Rattle.onfi_core.specs.State.{is_to};
-ghost use Rattle.onfi_core.specs.Steps.{Step, accept_refusal, bus_refusal, unanswered, unplanned};
-ghost use Rattle.onfi_core.specs.View.{IsNext, PlanRefused, accepting};
+ghost use Rattle.onfi_core.specs.Steps.{IsPromised, Step, accept_refusal, bus_refusal, unanswered};
+ghost use Rattle.onfi_core.specs.View.{IsNext, PlanRefused, WantsItem, accepting};
 ghost use Rattle.onfi_seq.specs.Driver.{Offered, RanTo, channel_in};
 
 use crate::offer::Offer;
@@ -18,50 +18,65 @@ use crate::ran::Ran;
 use onfi_chip::Chip;
 use onfi_core::{AcceptFault, Cause, Due, DueRefusal, Half, PlanRefusal, Setup, cause_of};
 use onfi_lun::{Lanes, Target};
+use onfi_plan::Planner;
 use onfi_reply::Poster;
 use onfi_request::Item;
 use std::alloc::{AllocError, Global};
 use std::marker::Model;
 use std::sync::Wait;
 
-/// A half with its chip, and the chip's LUNs in their typed phases.
+/// A half with its chip, the chip's LUNs in their typed phases, and what plans its batches.
 #[derive(Drop)]
-pub(crate) struct Driver<C: Chip> {
+pub(crate) struct Driver<P: Planner, C: Chip> {
+    planner: P,
     half: Half,
     chip: C,
     lanes: Lanes,
 }
 
-impl<C: Chip> Model for Driver<C> {
+impl<P: Planner, C: Chip> Model for Driver<P, C> {
+    ghost use Rattle.onfi_core.specs.Steps.{IsPromised};
     ghost use Rattle.onfi_seq.specs.Driver.{DriverView, IsDriven};
 
     ghost Value = { DriverView C };
 
     ghost view = { λ d. (record { setup = d.half.setup; half = d.half.state }, d.chip) };
 
-    ghost invariant = { λ d. IsDriven d.half.setup d.half.lent d.half.state (C.state d.chip) d.lanes };
+    ghost invariant = { λ d. IsDriven (IsPromised P.exact P.certifies) d.half.setup d.half.lent d.half.state (C.state d.chip) d.lanes };
 }
 
-impl<C: Chip> Driver<C> {
+impl<P: Planner, C: Chip> Driver<P, C> {
     /// Nothing is accepted yet, and the chip's LUNs are idle.
     ///
     /// # Errors
     /// Want of memory.
-    pub(crate) fn open(alloc: Global, setup: Setup, chip: C) -> Result<Driver<C>, AllocError>
+    pub(crate) fn open(
+        alloc: Global,
+        setup: Setup,
+        planner: P,
+        chip: C,
+    ) -> Result<Driver<P, C>, AllocError>
     where
+        P: Drop,
         C: Drop,
         requires { IsFresh setup (C.state chip) }
         ensures { IfOk result (λ d. d ≡ (record { setup = setup; half = first_half setup }, chip)) }
     {
         let half = Half::open(alloc, setup)?;
         let lanes = Lanes::open(alloc, setup.geometry.lun_count)?;
-        Ok(Driver { half, chip, lanes })
+        Ok(Driver {
+            planner,
+            half,
+            chip,
+            lanes,
+        })
     }
 
     /// The half, to look at.
     pub(crate) fn half(&self) -> &Half
         ensures half { result.now ≡ record { setup = self.now.0.setup; state = self.now.0.half; lent = None } }
         ensures reached { Reaches self.now.0.setup (channel_in C.state self.now) }
+        ensures promised { IfSome self.now.0.half.last (IsPromised P.exact P.certifies) }
     {
         &self.half
     }
@@ -77,12 +92,12 @@ impl<C: Chip> Driver<C> {
         }
     }
 
-    /// Whether an item may be accepted: fewer than 64 are unanswered, and fewer than the batch unplanned.
+    /// Whether an item may be accepted: fewer than 64 are unanswered, and the half wants one.
     pub(crate) fn has_room(&self) -> bool
         ensures room { IsTrue result → accept_refusal self.now.0.half ≡ None }
-        ensures few { IsTrue result → length (unplanned self.now.0.setup self.now.0.half) < self.now.0.half.batch }
+        ensures wanted { IsTrue result → WantsItem self.now.0.setup self.now.0.half }
         ensures none { result ≡ false → self.now.0.half.stopped ≡ None
-            → (64 ≤ unanswered self.now.0.half) ⊎ (self.now.0.half.batch ≤ length (unplanned self.now.0.setup self.now.0.half)) }
+            → (64 ≤ unanswered self.now.0.half) ⊎ (¬ WantsItem self.now.0.setup self.now.0.half) }
     {
         match self.half.refuses() {
             Some(_) => false,
@@ -119,7 +134,7 @@ impl<C: Chip> Driver<C> {
         ensures accepted { self.new.0.half.accepted ≡ self.old.0.half.accepted }
         ensures posted { self.new.0.half.posted ≡ self.old.0.half.posted }
     {
-        self.half.plan(alloc)
+        self.half.plan(alloc, &self.planner)
     }
 
     /// Runs the undone phase of least start on the chip. Memory is asked for before the chip is called.

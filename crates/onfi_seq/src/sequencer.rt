@@ -1,16 +1,17 @@
 //! The sequencer of one channel.
 
-ghost use Rattle.std.specs.Prelude.{◌≡◌, ◌↔◌, ℕ, ◌<◌, ◌≤◌, false, length, IfOk, IsTrue, MatchOption, None, Some};
+ghost use Rattle.std.specs.Prelude.{◌≡◌, ◌↔◌, ℕ, ◌<◌, ◌≤◌, false, length, IfOk, IfSome, IsTrue, MatchOption, None, Some};
+ghost use Rattle.onfi_plan.specs.Certificate.{certificate_in};
 ghost use Rattle.onfi_core.specs.Kept.{first_half};
 ghost use Rattle.onfi_core.specs.Queues.{IsFresh};
-ghost use Rattle.onfi_core.specs.Steps.{none_left};
+ghost use Rattle.onfi_core.specs.Steps.{IsOptimal, IsPromised, none_left};
 ghost use Rattle.onfi_core.specs.Unanswered.{unanswered_senders};
 ghost use Rattle.onfi_seq.specs.Sequencer.{AreFreshPosters, IsFreshIntake, IsRight, seen_in};
 
 use crate::driver::Driver;
 use onfi_chip::Chip;
 use onfi_core::Setup;
-use onfi_planner::Planned;
+use onfi_plan::{Plan, Planner};
 use onfi_problem::Problem;
 use onfi_queue::Intake;
 use onfi_reply::Poster;
@@ -21,14 +22,14 @@ mod closing;
 mod draining;
 mod turning;
 
-/// The sequencer of one channel: its half, its chip, the intake of its submission queue and the posters of its four
-/// completion queues. One thread drives it; hosts use their ends from threads of their own meanwhile.
+/// The sequencer of one channel: its half, its planner, its chip, the intake of its submission queue and the posters of its
+/// four completion queues. One thread drives it; hosts use their ends from threads of their own meanwhile.
 ///
 /// Contracts see the setup, the half's state, the two kinds of ends, whether a planning was refused since the last phase,
 /// whether a turn or a draining ever answered Memory, and the chip.
 #[derive(Drop)]
-pub struct Sequencer<C: Chip> {
-    driver: Driver<C>,
+pub struct Sequencer<P: Planner, C: Chip> {
+    driver: Driver<P, C>,
     intake: Intake,
     /// By host.
     posters: [Poster; 4],
@@ -42,7 +43,7 @@ pub struct Sequencer<C: Chip> {
     turns: u64,
 }
 
-impl<C: Chip> Model for Sequencer<C> {
+impl<P: Planner, C: Chip> Model for Sequencer<P, C> {
     ghost use Rattle.onfi_seq.specs.Sequencer.{SequencerView, IsKept};
 
     ghost Value = { SequencerView C };
@@ -57,21 +58,24 @@ impl<C: Chip> Model for Sequencer<C> {
         q.accepted_by };
 }
 
-impl<C: Chip> Sequencer<C> {
-    /// The sequencer of a channel of a setup with four hosts, over its chip as that opened, with the intake and the posters
-    /// of the channel's queues as those were opened: for the setup's geometry, with its capacities, host h at place h.
+impl<P: Planner, C: Chip> Sequencer<P, C> {
+    /// The sequencer of a channel of a setup with four hosts, whose batches that planner plans, over its chip as that opened,
+    /// with the intake and the posters of the channel's queues as those were opened: for the setup's geometry, with its
+    /// capacities, host h at place h.
     ///
     /// # Errors
-    /// Want of memory; chip, intake and posters are dropped then.
+    /// Want of memory; planner, chip, intake and posters are dropped then.
     pub fn open(
         alloc: Global,
         setup: Setup,
         channel: u8,
+        planner: P,
         chip: C,
         intake: Intake,
         posters: [Poster; 4],
-    ) -> Result<Sequencer<C>, AllocError>
+    ) -> Result<Sequencer<P, C>, AllocError>
     where
+        P: Drop,
         C: Drop,
         requires hosts { setup.hosts ≡ 4 }
         requires channel { channel < setup.channels }
@@ -81,7 +85,7 @@ impl<C: Chip> Sequencer<C> {
         ensures { IfOk result (λ q. q ≡ (record { setup = setup; half = first_half setup; intake = intake; posters = posters; refused = false; short = false }, chip)) }
     {
         let _ = channel;
-        let driver = Driver::open(alloc, setup, chip)?;
+        let driver = Driver::open(alloc, setup, planner, chip)?;
         Ok(Sequencer {
             driver,
             intake,
@@ -101,9 +105,11 @@ impl<C: Chip> Sequencer<C> {
     }
 
     /// The problem and the plan of the last accepting planning; none before one.
-    pub fn last(&self) -> Option<(&Problem, &Planned)>
-        ensures { MatchOption result (self.now.0.half.last ≡ None)
-            (λ r. self.now.0.half.last ≡ Some (record { problem = r.0.now.problem; schedule = r.1.now.schedule; finish = r.1.now.finish; cert = r.1.now.cert.items })) }
+    pub fn last(&self) -> Option<(&Problem, &Plan)>
+        ensures last { MatchOption result (self.now.0.half.last ≡ None)
+            (λ r. self.now.0.half.last ≡ Some (record { problem = r.0.now.problem; schedule = r.1.now.schedule; finish = r.1.now.finish; below = r.1.now.below; cert = certificate_in r.1.now.cert })) }
+        ensures promised { IfSome self.now.0.half.last (IsPromised P.exact P.certifies) }
+        ensures optimal { IsTrue P.exact → IfSome self.now.0.half.last IsOptimal }
     {
         self.driver.half().last()
     }

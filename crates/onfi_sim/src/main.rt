@@ -116,7 +116,7 @@ fn answer_to<R: Threads + Wait + Sync + AllocGlobal>(
 {
     let alloc = rt.alloc();
     match asked.named {
-        Named::Run { limit } => run_freely(rt, alloc, limit, &mut text, answer),
+        Named::Run { planner, limit } => run_freely(rt, alloc, planner, limit, &mut text, answer),
         Named::Problem {
             command: Command::Plan { limit, output, .. },
             workers,

@@ -8,6 +8,7 @@ use onfi_addr::Place;
 use onfi_chip::SimChip;
 use onfi_core::{Core, Event, Outcome, Setup};
 use onfi_group::Rules;
+use onfi_planners::PlainPlanner;
 use onfi_request::{Answer, Reply, Request};
 use onfi_samples::{request_of, sample_geometry, sample_timing};
 use onfi_timing::Kind;
@@ -159,17 +160,22 @@ fn fresh_chips(alloc: Global, setup: Setup) -> Result<Vec<SimChip>, AllocError>
     Ok(chips)
 }
 
-fn open_core(alloc: Global) -> Result<Core<SimChip>, Ended> {
+fn open_core(alloc: Global) -> Result<Core<PlainPlanner, SimChip>, Ended> {
     let setup = setup(1, 1)?;
     let chips = fresh_chips(alloc, setup)?;
-    match Core::open(alloc, setup, chips) {
+    match Core::open(alloc, setup, PlainPlanner, chips) {
         Ok(core) => Ok(core),
         Err(_) => Err(Ended::Memory),
     }
 }
 
 /// One event; once more where memory was refused.
-fn step(rt: &impl Print, alloc: Global, core: &mut Core<SimChip>, act: Act) -> Result<(), Ended> {
+fn step(
+    rt: &impl Print,
+    alloc: Global,
+    core: &mut Core<PlainPlanner, SimChip>,
+    act: Act,
+) -> Result<(), Ended> {
     for _try in 0..2u8 {
         let Ok(event) = event_of(alloc, act) else {
             println!(rt; "memory")?;

@@ -3,6 +3,7 @@ ghost use Rattle.std.specs.Prelude.{◌≡◌, ◌<◌};
 use crate::channel::{fresh_chip, page_0, say_reply, setup};
 use crate::ended::Ended;
 use onfi_chip::SimChip;
+use onfi_planners::PlainPlanner;
 use onfi_queue::Host;
 use onfi_reply::Inbox;
 use onfi_request::{Reply, Request};
@@ -26,7 +27,7 @@ impl Gate for NoGate {
 #[derive(Drop)]
 struct Served {
     alloc: Global,
-    sequencer: Sequencer<SimChip>,
+    sequencer: Sequencer<PlainPlanner, SimChip>,
     hosts: [Host; 4],
     inboxes: [Inbox; 4],
 }
@@ -54,7 +55,7 @@ impl Served {
             hosts,
             inboxes,
         } = ends;
-        let sequencer = Sequencer::open(alloc, setup, 0, chip, intake, posters)?;
+        let sequencer = Sequencer::open(alloc, setup, 0, PlainPlanner, chip, intake, posters)?;
         Ok(Served {
             alloc,
             sequencer,

@@ -15,6 +15,7 @@
  *   requests  answered before it ends, 1 to 10,000,000   2000
  *   seed      of all that is random                      1
  *   limit     nodes that a search may open               100000
+ *   slack     thousandths that an early plan ends later  0
  *   trace     yes prints each phase instead; no          no
  *
  * The exit status is 0, 1 where a phase is illegal or the run can't go on, 2 where a word can't be read.
@@ -85,6 +86,8 @@ static bool put_setup(const char *name, const char *value, setup *setup)
         setup->seed = count;
     else if (!strcmp(name, "limit") && (is_read = put_count(value, ONFI_NODES, &count)))
         setup->limit = (uint32_t)count;
+    else if (!strcmp(name, "slack") && (is_read = !strcmp(value, "0") || put_count(value, 1000, &count)))
+        setup->slack = (uint16_t)count;
     return is_read;
 }
 

@@ -12,6 +12,73 @@ uint32_t plan_known(const problem *problem, uint32_t limit, onfi_planned *plan)
     return onfi_plan_known(&problem->channel, problem->lun, problem->luns, problem->want, problem->wants, limit, plan, &no_room, 0, &bytes);
 }
 
+/* The mean age of all requests of a problem, at least 1. */
+static double mean_age(const problem *problem)
+{
+    double sum = 0, count = 0;
+    for (size_t at = 0; at < problem->wants; at++, count++)
+        sum += (double)problem->age[at];
+    for (unsigned lun = 0; lun < problem->luns; lun++)
+        for (unsigned at = 0; at < problem->lun[lun].members; at++, count++)
+            sum += (double)problem->member_age[lun][at];
+    return sum > count ? sum / count : 1;
+}
+
+/* Eight times 1 + 4 (age / mean age)^2. */
+static uint16_t weight_by(double age, double mean)
+{
+    double weight = 8 + 32 * (age / mean) * (age / mean);
+    return weight < UINT16_MAX ? (uint16_t)weight : UINT16_MAX;
+}
+
+static onfi_weights weights_by_age(const problem *problem)
+{
+    double mean = mean_age(problem);
+    onfi_weights made;
+    for (size_t at = 0; at < ONFI_WANTS; at++)
+        made.want[at] = weight_by((double)problem->age[at], mean);
+    for (unsigned lun = 0; lun < ONFI_LUNS; lun++)
+        for (unsigned at = 0; at < ONFI_MEMBERS; at++)
+            made.running[lun][at] = weight_by((double)problem->member_age[lun][at], mean);
+    return made;
+}
+
+static onfi_weights equal_weights(void)
+{
+    onfi_weights made;
+    for (size_t at = 0; at < ONFI_WANTS; at++)
+        made.want[at] = 1;
+    for (unsigned lun = 0; lun < ONFI_LUNS; lun++)
+        for (unsigned at = 0; at < ONFI_MEMBERS; at++)
+            made.running[lun][at] = 1;
+    return made;
+}
+
+/* The plan tells no nodes, since a plan at any limit doesn't. */
+static uint32_t plan_by(const problem *problem, uint32_t limit, const onfi_weights *weights, onfi_planned *plan)
+{
+    onfi_within within;
+    uint8_t no_room;
+    size_t bytes;
+    uint32_t status = onfi_plan_early(&problem->channel, problem->lun, problem->luns, problem->want, problem->wants, limit, weights, problem->slack,
+                                      &within, &no_room, 0, &bytes);
+    if (status == ONFI_DONE)
+        *plan = (onfi_planned){.schedule = within.schedule, .finish = within.finish};
+    return status;
+}
+
+uint32_t plan_early(const problem *problem, uint32_t limit, onfi_planned *plan)
+{
+    onfi_weights weights = equal_weights();
+    return plan_by(problem, limit, &weights, plan);
+}
+
+uint32_t plan_early_by_age(const problem *problem, uint32_t limit, onfi_planned *plan)
+{
+    onfi_weights weights = weights_by_age(problem);
+    return plan_by(problem, limit, &weights, plan);
+}
+
 static onfi_lun lun_of(const lun_state *lun)
 {
     onfi_lun made = {.since = lun->ready, .members = (uint8_t)lun->members, .next = (uint8_t)lun->next};
@@ -20,13 +87,21 @@ static onfi_lun lun_of(const lun_state *lun)
     return made;
 }
 
+static void put_ages(const machine *m, unsigned lun, uint64_t *age)
+{
+    for (unsigned at = 0; at < m->lun[lun].members; at++)
+        age[at] = m->now - m->lun[lun].member[at].arrived;
+}
+
 /* The batch as the library takes it, planned from now on. */
 static problem problem_of(const machine *m, const batch *batch)
 {
-    problem made = {.channel = m->setup->channel, .luns = m->setup->luns, .wants = batch->count};
+    problem made = {.channel = m->setup->channel, .luns = m->setup->luns, .wants = batch->count, .slack = m->setup->slack};
     made.channel.bus_free = later_of(m->now, m->bus_free);
-    for (unsigned lun = 0; lun < m->setup->luns; lun++)
+    for (unsigned lun = 0; lun < m->setup->luns; lun++) {
         made.lun[lun] = lun_of(&m->lun[lun]);
+        put_ages(m, lun, made.member_age[lun]);
+    }
     for (size_t at = 0; at < batch->count; at++) {
         made.want[at] = m->waiting[batch->place[at]].want;
         made.age[at] = m->now - m->waiting[batch->place[at]].arrived;

@@ -26,7 +26,7 @@ enum {
     KINDS = 3,
     MOST_OUTSTANDING = 256,
     MOST_WAITING = MOST_OUTSTANDING + ONFI_MEMBERS, /* erases of several planes come together */
-    PASSED_AT_MOST = 64, /* so many later starts, and a request is chosen first */
+    PASSED_AT_MOST = 64, /* so many later starts, and the oldest request is chosen first */
     PLAN_STEPS = ONFI_LUNS * ONFI_STARTS + 2 * ONFI_WANTS
 };
 
@@ -45,6 +45,7 @@ typedef struct {
     size_t requests; /* how many are answered before it ends; the first tenth isn't measured */
     uint64_t seed;
     uint32_t limit; /* of nodes in a search */
+    uint16_t slack; /* by how many thousandths plans in which requests end early may end later */
 } setup;
 
 /* Puts timing and rules of a device by name, at so many ns a byte; false where there is no such device. */
@@ -192,13 +193,15 @@ typedef struct {
     size_t luns;
     onfi_want want[ONFI_WANTS];
     uint64_t age[ONFI_WANTS]; /* since they arrived */
+    uint64_t member_age[ONFI_LUNS][ONFI_MEMBERS]; /* those of running groups likewise */
     size_t wants;
+    uint16_t slack;
 } problem;
 
 /* Plans by at most `limit` nodes; gives an onfi_status. */
 typedef uint32_t planner(const problem *problem, uint32_t limit, onfi_planned *plan);
 
-planner plan_known;
+planner plan_known, plan_early, plan_early_by_age;
 
 typedef struct {
     step step[PLAN_STEPS]; /* in order of start */

@@ -15,6 +15,9 @@ static const way WAYS[] = {
     {"plan", first_eight, by_plan, &ROUND_ROBIN, plan_known},
     {"plan-by-lun", by_lun, by_plan, &ROUND_ROBIN, plan_known},
     {"plan-reads-first", by_lun_reads_first, by_plan, &ROUND_ROBIN, plan_known},
+    {"plan-early", first_eight, by_plan, &ROUND_ROBIN, plan_early_by_age},
+    {"plan-early-by-lun", by_lun, by_plan, &ROUND_ROBIN, plan_early_by_age},
+    {"plan-early-reads-first", by_lun_reads_first, by_plan, &ROUND_ROBIN, plan_early},
 #endif
 };
 

@@ -2,19 +2,23 @@
 
 ghost use Rattle.std.specs.Prelude.{◌≡◌, ℕ, ◌<◌, ◌↔◌, IsTrue, false, length};
 ghost use Rattle.onfi_group.specs.Words.{number};
-ghost use Rattle.onfi_core.specs.Steps.{none_left, unplanned};
+ghost use Rattle.onfi_core.specs.Steps.{none_left};
+ghost use Rattle.onfi_core.specs.View.{WantsItem};
 ghost use Rattle.onfi_core.specs.Kept.{is_of_place};
 
 use crate::half::Half;
+use crate::setup::Choice;
 use crate::starting::next_turn;
 
 impl Half {
-    /// Whether fewer accepted items than the batch are unplanned.
+    /// Whether an item more is of use: in order while fewer accepted items than the batch are unplanned, else always.
     pub fn wants_item(&self) -> bool
-        ensures { IsTrue result ↔ (length (unplanned self.now.setup self.now.state) < self.now.state.batch) }
+        ensures { IsTrue result ↔ WantsItem self.now.setup self.now.state }
     {
-        let unplanned = self.accepted - self.planned;
-        unplanned < u64::from(self.batch)
+        match self.setup.choice {
+            Choice::InOrder => self.accepted - self.planned < u64::from(self.batch),
+            Choice::ByLun | Choice::ReadsFirst => true,
+        }
     }
 
     /// Whether a phase of the plan is left, stopped or not.
@@ -22,6 +26,13 @@ impl Half {
         ensures { IsTrue result ↔ (none_left self.now.state ≡ false) }
     {
         next_turn(self.rest.as_slice(), self.groups.as_slice()).is_some()
+    }
+
+    /// From when on the bus is free, in ns of the channel's clock.
+    pub fn bus_free(&self) -> u64
+        ensures { result ≡ self.now.state.now.bus_free }
+    {
+        self.bus_free
     }
 
     /// How many items were accepted.

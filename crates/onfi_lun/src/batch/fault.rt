@@ -1,3 +1,7 @@
+ghost use Rattle.std.specs.Prelude.{◌≡◌};
+ghost use Rattle.onfi_lun.specs.Batch.{fault_of};
+
+use onfi_core::DriveFault;
 use thiserror::Error;
 
 /// Why a batch wasn't driven to its end.
@@ -12,4 +16,15 @@ pub enum BatchFault {
     /// Want of memory; calls may have been made, and the chip is as they left it.
     #[error("out of memory")]
     Memory,
+}
+
+/// Why the phase on that LUN wasn't run, as why the batch ends.
+pub(crate) fn fault_of(fault: DriveFault, lun: u8) -> BatchFault
+    ensures { result ≡ fault_of fault lun }
+{
+    match fault {
+        DriveFault::Bus => BatchFault::Bus,
+        DriveFault::NotReady => BatchFault::NotReady(lun),
+        DriveFault::Memory => BatchFault::Memory,
+    }
 }

@@ -9,14 +9,16 @@ ghost use Rattle.onfi_seq.specs.Drained.{AllSettled, AreOtherEnds, CompletesWher
 use crate::closed::Closed;
 use crate::sequencer::Sequencer;
 use onfi_chip::Chip;
+use onfi_plan::Planner;
 use onfi_queue::Host;
 use onfi_reply::{Inbox, Poster};
 
-impl<C: Chip> Sequencer<C> {
+impl<P: Planner, C: Chip> Sequencer<P, C> {
     /// Takes all hosts and inboxes back, in the order of the hosts' numbers, and answers how much went through the channel. It
     /// takes no memory and doesn't wait; what still waits in a queue is dropped.
     pub fn close<R>(self, _rt: &R, hosts: [Host; 4], inboxes: [Inbox; 4]) -> Closed
     where
+        P: Drop,
         C: Drop,
         requires { AreOtherEnds self.0 hosts inboxes }
         ensures sent { result.sent ≡ map (λ host. length host.sent) hosts }

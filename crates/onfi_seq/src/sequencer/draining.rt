@@ -11,12 +11,13 @@ use crate::gate::Gate;
 use crate::sequencer::Sequencer;
 use crate::turn::Turn;
 use onfi_chip::Chip;
+use onfi_plan::Planner;
 use onfi_queue::Host;
 use onfi_reply::Inbox;
 use std::alloc::{AllocError, Global};
 use std::sync::Wait;
 
-impl<C: Chip> Sequencer<C> {
+impl<P: Planner, C: Chip> Sequencer<P, C> {
     /// Makes turns, at most so many, until all that the hosts sent is accepted and answered, and takes replies in before each,
     /// so that no queue stays full. Hosts and inboxes are the other ends of the channel's queues, in the order of the hosts'
     /// numbers. Stopped ends it, and so do Over and Memory of a turn where no phase is left then, and a taking in that is refused

@@ -12,14 +12,15 @@ use crate::sequencer::Sequencer;
 use crate::turn::Turn;
 use onfi_chip::Chip;
 use onfi_core::PlanRefusal;
+use onfi_plan::Planner;
 use std::alloc::Global;
 use std::sync::Wait;
 
-impl<C: Chip> Sequencer<C> {
+impl<P: Planner, C: Chip> Sequencer<P, C> {
     /// Does the first of these that it can: post the oldest held reply of the lowest host whose queue isn't full; answer
-    /// Stopped; accept one item, while fewer than 64 are unanswered and fewer than the batch unplanned; plan, unless a
-    /// planning was refused as Over or Memory since the last phase and a phase is left; run the next phase. Else it answers
-    /// PostFull where a reply is held, and Idle where none is.
+    /// Stopped; accept one item, while fewer than 64 are unanswered and, in order, fewer than the batch unplanned; plan,
+    /// unless a planning was refused as Over or Memory since the last phase and a phase is left; run the next phase. Else it
+    /// answers PostFull where a reply is held, and Idle where none is.
     ///
     /// The gate is called once, before all that, for this channel. Acceptance and post take no memory, a phase asks for its own
     /// before the chip is called, so a turn that answers Memory has lost no item and made no event.

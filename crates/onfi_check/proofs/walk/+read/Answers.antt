@@ -7,8 +7,8 @@ use Rattle.onfi_problem.specs.Position.{Position, move_of, moves_of}
 use Rattle.onfi_problem.specs.Starts.{IsNamed}
 use Rattle.std.specs.Prelude.{OnOk, IfErr}
 use Rattle.onfi_cert.specs.declared.token.Token.{Token}
-use Rattle.onfi_cert.specs.declared.token.Token.TheVariants.{Branch, Trail, Yield}
-use Rattle.onfi_bound.specs.Commands.{AreCommands}
+use Rattle.onfi_cert.specs.declared.token.Token.TheVariants.{Branch, Bus, Trail, Yield}
+use Rattle.onfi_bound.specs.Commands.{AreNodeBounds}
 use Rattle.onfi_check.specs.Reading.{Begins, BeginsEach, ReadsChild, RefusesChild}
 use Rattle.onfi_check.specs.Ends.{IsAsked}
 use Rattle.onfi_check.proofs.LastEnds.{move_at}
@@ -25,8 +25,8 @@ read_below-returns-in_err-read_tree-clause-err g t c =
 
 pub read_below-read_tree-requires : goal.read_below-read_tree-requires
 read_below-read_tree-requires g t c κs within =
-    let counts = subst (λ (z : Position). AreCommands z.problem c.after-left.result) (sym c.advance-undo.ensures.moved) c.after-left.ensures in
-    (omega (arith, c.decreases), (within, (counts, (c.requires.few, c.requires.next))))
+    let bounds = subst (λ (z : Position). AreNodeBounds z.problem c.after-bounds.result) (sym c.advance-undo.ensures.moved) c.after-bounds.ensures in
+    (omega (arith, c.decreases), (within, (bounds, (c.requires.few, c.requires.next))))
 
 pub read_child-returns-in_default-clause-err : goal.read_child-returns-in_default-clause-err
 read_child-returns-in_default-clause-err g t c = none_left c.args.problem.now.problem c.args.e (moves_of c.args.problem.now.groups c.args.moves.now) (move_of c.args.problem.now.groups c.args.m) c.args.standing.now (g.S.TokenSource.left c.args.tokens.now.source) c.in_default.ensures.end.0
@@ -76,6 +76,25 @@ read_child-returns-in_default-token g t c =
       kind = err_here c.read_below.result c.args.tokens.now.place c.in-Some.place c.in-Some.token tokens left next c.in-Some.ensures.token c.in-Some.ensures.place c.read_below.ensures.kind;
     }
 
+pub read_child-returns-in-Bus : goal.read_child-returns-in-Bus
+read_child-returns-in-Bus g t c =
+    let p = c.args.problem.now.problem in
+    let all = moves_of c.args.problem.now.groups c.args.moves.now in
+    let m = move_of c.args.problem.now.groups c.args.m in
+    let tokens = g.S.TokenSource.left c.args.tokens.now.source in
+    let left = g.S.TokenSource.left c.take.new.self.source in
+    let first = c.in-Some.ensures.token ∙ ap (λ z. z ∷ left) c.in-Bus.is in
+    record {
+      problem = on_ok c.read_bus.result refl;
+      fewer = fewer_left tokens left left Bus c.read_bus.result first (on_ok c.read_bus.result (omega arith));
+      read = on_ok c.read_bus.result (read_one c.args.tokens.now.place c.take.new.self.place tokens left Bus first c.in-Some.ensures.next);
+      behind = c.take.ensures.behind;
+      asked = c.requires.asked;
+      ok = child_taken p c.args.e all m c.args.standing.now tokens left left Bus c.read_bus.result first (closing_taken (after p m) c.args.e Bus left c.read_bus.result c.read_bus.ensures.ok);
+      err = child_refused p c.args.e all m c.args.standing.now tokens left Bus c.read_bus.result first (λ l q. let k : Bus ≡ Yield l = q in cc) (closing_refused (after p m) c.args.e Bus left c.read_bus.result (λ w q. let k : Bus ≡ Branch w = q in cc) c.read_bus.ensures.err);
+      kind = err_here c.read_bus.result c.args.tokens.now.place c.in-Some.place Bus tokens left left first c.in-Some.ensures.place (err_each c.read_bus.result c.in-Some.place Bus left left c.read_bus.ensures.kind);
+    }
+
 pub read_child-returns-in-Trail : goal.read_child-returns-in-Trail
 read_child-returns-in-Trail g t c =
     let p = c.args.problem.now.problem in
@@ -121,7 +140,7 @@ read_children-read_child-requires g t c κs within =
       (
         within,
         (
-          subst (λ (z : Position). AreCommands z.problem c.args.left) same c.requires.counts,
+          subst (λ (z : Position). AreNodeBounds z.problem c.args.bounds) same c.requires.bounds,
           (
             subst (λ (z : Position). IsMove z.problem (move_of z.groups (get_or items i (Next 0)))) same (move_at x.problem x.groups items i (Next 0) c.loop-m-test.true are.moves_only),
             (

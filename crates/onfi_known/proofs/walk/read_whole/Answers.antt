@@ -1,6 +1,5 @@
 use Rattle.std.proofs.Common.{sym, ◌∙◌, subst, arith}
 use Rattle.std.proofs.lemmas.Result.{err_from_is_err_and}
-use Rattle.onfi_known.specs.Faults.{NoTree, OfTokens}
 use Rattle.onfi_known.proofs.Placing.{fault_of, fits_whole, no_tree_behind, nothing_front, read_end, read_more, read_one, trailing_at}
 use Rattle.onfi_known.specs.Proves.{Proves}
 use Rattle.onfi_known.proofs.Refusing.{of_so, trailing}

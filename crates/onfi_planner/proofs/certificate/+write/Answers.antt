@@ -27,7 +27,7 @@ write-returns-in-Some-clause-written t c = closed_written c.args.problem.now.pro
 pub write-unreachable-requires : goal.write-unreachable-requires
 write-unreachable-requires t c =
     let x = c.args.problem.now in
-    no_end x c.steps-moves.result c.args.e c.requires.limits.problem c.steps-moves.ensures.moves (eqb-true _ _ (sym c.if-is_empty.ensures)) c.in_default.ensures c.requires.least
+    no_end x c.list_steps.new.moves c.args.e c.requires.limits.problem c.list_steps.ensures.moves (eqb-true _ _ (sym c.if-is_empty.ensures)) c.in_default.ensures c.requires.least
 
 pub write-loop-step-init : goal.write-loop-step-init
 write-loop-step-init t c = record {
@@ -39,15 +39,15 @@ pub write-of-requires-in-Some-yields : goal.write-of-requires-in-Some-yields
 write-of-requires-in-Some-yields t c =
     let x = c.args.problem.now in
     let items = c.as_slice-steps.result.now in
-    let are = steps_same x items _ c.as_slice-steps.ensures.value c.steps-moves.ensures.moves in
+    let are = steps_same x items _ c.as_slice-steps.ensures.value c.list_steps.ensures.moves in
     yields_small x.problem (moves_of x.groups items) c.yields_of-yields.result c.lun.result c.lun.result c.in-Some-yields.lun are c.yields_of-yields.ensures.yields c.requires.limits.small.few_luns refl c.in-Some-yields.is
 
 pub write-write_below-requires : goal.write-write_below-requires
 write-write_below-requires t c =
     let x = c.args.problem.now in
     let items = c.as_slice-steps.result.now in
-    let are = steps_same x items _ c.as_slice-steps.ensures.value c.steps-moves.ensures.moves in
-    let luns = subst (λ z. All (λ s. move_lun (move_of x.groups s) ≡ lun_named s) z) (sym c.as_slice-steps.ensures.value) (luns_of x.groups c.steps-moves.result c.steps-moves.ensures.named) in
+    let are = steps_same x items _ c.as_slice-steps.ensures.value c.list_steps.ensures.moves in
+    let luns = subst (λ z. All (λ s. move_lun (move_of x.groups s) ≡ lun_named s) z) (sym c.as_slice-steps.ensures.value) (luns_of x.groups c.list_steps.new.moves c.list_steps.ensures.named) in
     let e = c.loop-step.invariant.problem in
     let m = step_moves x items c.loop-step.step-index (get_or items c.loop-step.step-index (Next 0)) are luns (get_or_default items c.loop-step.step-index (Next 0) _ c.loop-step-test.true) c.loop-step-test.true in
     let w : work c.loop-step.problem.problem ≡ work x.problem = ap (λ (z : Position). work z.problem) e in (
@@ -74,8 +74,8 @@ write-loop-step-preserved t c =
     let i = c.loop-step.step-index in
     let s = get_or items i (Next 0) in
     let here = get_or_default items i (Next 0) s c.loop-step-test.true in
-    let are = steps_same x items _ c.as_slice-steps.ensures.value c.steps-moves.ensures.moves in
-    let luns = subst (λ z. All (λ s. move_lun (move_of x.groups s) ≡ lun_named s) z) (sym c.as_slice-steps.ensures.value) (luns_of x.groups c.steps-moves.result c.steps-moves.ensures.named) in
+    let are = steps_same x items _ c.as_slice-steps.ensures.value c.list_steps.ensures.moves in
+    let luns = subst (λ z. All (λ s. move_lun (move_of x.groups s) ≡ lun_named s) z) (sym c.as_slice-steps.ensures.value) (luns_of x.groups c.list_steps.new.moves c.list_steps.ensures.named) in
     let e = c.loop-step.invariant.problem in
     let g = c.loop-step.invariant.growing in
     elim c.match-yields-lun.branch [
@@ -91,7 +91,7 @@ pub write-returns-clause-written : goal.write-returns-clause-written
 write-returns-clause-written t c =
     let x = c.args.problem.now in
     let items = c.as_slice-steps.result.now in
-    let are = steps_same x items _ c.as_slice-steps.ensures.value c.steps-moves.ensures.moves in
+    let are = steps_same x items _ c.as_slice-steps.ensures.value c.list_steps.ensures.moves in
     let ay = c.yields_of-yields.ensures.yields in
     grown_up x items c.yields_of-yields.result c.args.e c.loop-step.step-index c.args.tokens.now.items c.loop-step.tokens.items are (some_items items (c.if-is_empty.ensures ∙ ap (λ z. length z == 0) (sym c.as_slice-steps.ensures.value))) ay c.loop-step-test.false c.loop-step.invariant.growing
 
@@ -121,13 +121,13 @@ pub write-returns-in-Some-clause-problem : goal.write-returns-in-Some-clause-pro
 write-returns-in-Some-clause-problem t c = refl
 
 pub write-last_ends-ends-requires-clause-moves : goal.write-last_ends-ends-requires-clause-moves
-write-last_ends-ends-requires-clause-moves t c = (steps_same c.args.problem.now c.as_slice-steps.result.now _ c.as_slice-steps.ensures.value c.steps-moves.ensures.moves).moves_only
+write-last_ends-ends-requires-clause-moves t c = (steps_same c.args.problem.now c.as_slice-steps.result.now _ c.as_slice-steps.ensures.value c.list_steps.ensures.moves).moves_only
 
 pub write-last_ends-ends-requires-clause-luns : goal.write-last_ends-ends-requires-clause-luns
-write-last_ends-ends-requires-clause-luns t c = subst (λ z. All (λ s. move_lun (move_of c.args.problem.now.groups s) ≡ lun_named s) z) (sym c.as_slice-steps.ensures.value) (luns_of c.args.problem.now.groups c.steps-moves.result c.steps-moves.ensures.named)
+write-last_ends-ends-requires-clause-luns t c = subst (λ z. All (λ s. move_lun (move_of c.args.problem.now.groups s) ≡ lun_named s) z) (sym c.as_slice-steps.ensures.value) (luns_of c.args.problem.now.groups c.list_steps.new.moves c.list_steps.ensures.named)
 
 pub write-last_ends-ends-requires-clause-few : goal.write-last_ends-ends-requires-clause-few
-write-last_ends-ends-requires-clause-few t c = subst (λ z. All (λ s. lun_named s < 8) z) (sym c.as_slice-steps.ensures.value) (luns_small c.args.problem.now.groups c.steps-moves.result c.steps-moves.ensures.named)
+write-last_ends-ends-requires-clause-few t c = subst (λ z. All (λ s. lun_named s < 8) z) (sym c.as_slice-steps.ensures.value) (luns_small c.args.problem.now.groups c.list_steps.new.moves c.list_steps.ensures.named)
 
 pub write-yields_of-yields-requires : goal.write-yields_of-yields-requires
 write-yields_of-yields-requires t c = record { ends = c.last_ends-ends.ensures.ends }
@@ -145,10 +145,10 @@ pub write-returns-in_err-push-2-clause-written : goal.write-returns-in_err-push-
 write-returns-in_err-push-2-clause-written t c = rw (err_from_is_err_and c.from_residual-in_err-push-2.result c.from_residual-in_err-push-2.ensures.1).1 tt
 
 pub write-bounds : goal.write-bounds
-write-bounds t c = lun_in c.args.problem.now.groups c.steps-moves.result c.as_slice-steps.result.now c.loop-step.step-index (Next 0) c.lun.result c.as_slice-steps.ensures.value c.steps-moves.ensures.named c.lun.ensures c.loop-step-test.true
+write-bounds t c = lun_in c.args.problem.now.groups c.list_steps.new.moves c.as_slice-steps.result.now c.loop-step.step-index (Next 0) c.lun.result c.as_slice-steps.ensures.value c.list_steps.ensures.named c.lun.ensures c.loop-step-test.true
 
 pub write-bounds-yields-lun : goal.write-bounds-yields-lun
-write-bounds-yields-lun t c = lun_in c.args.problem.now.groups c.steps-moves.result c.as_slice-steps.result.now c.loop-step.step-index (Next 0) c.lun.result c.as_slice-steps.ensures.value c.steps-moves.ensures.named c.lun.ensures c.loop-step-test.true
+write-bounds-yields-lun t c = lun_in c.args.problem.now.groups c.list_steps.new.moves c.as_slice-steps.result.now c.loop-step.step-index (Next 0) c.lun.result c.as_slice-steps.ensures.value c.list_steps.ensures.named c.lun.ensures c.loop-step-test.true
 
 pub write-returns-in_err-push-in-Some-yields-clause-problem : goal.write-returns-in_err-push-in-Some-yields-clause-problem
 write-returns-in_err-push-in-Some-yields-clause-problem t c = rw (err_from_is_err_and c.from_residual-in_err-push-in-Some-yields.result c.from_residual-in_err-push-in-Some-yields.ensures.1).1 tt

@@ -7,7 +7,7 @@ use Rattle.onfi_problem.specs.Moves.{after}
 use Rattle.onfi_problem.specs.Position.{Position, move_of, restored}
 use Rattle.onfi_problem.specs.Left.{InLimits}
 use Rattle.onfi_problem.specs.Starts.{IsNamed}
-use Rattle.onfi_planner.specs.First.{IsFirstRun}
+use Rattle.onfi_check.specs.First.{IsFirstRun}
 use Rattle.onfi_planner.specs.Planning.{work, run_of}
 use Rattle.onfi_bound.proofs.BusWork.{work_after}
 use Rattle.onfi_planner.proofs.Beginning.{first_done}

@@ -1,5 +1,5 @@
 use Rattle.std.proofs.Common.{◌≤◌, sym, subst}
-use Rattle.onfi_planner.specs.Nodes.{OpensNodes}
+use Rattle.onfi_check.specs.Nodes.{OpensNodes}
 use Rattle.onfi_planner.proofs.Whole.{root_ready, found, nodes_opened, some_opened}
 use Rattle.onfi_planner.proofs.planning.plan.Goals as goal
 

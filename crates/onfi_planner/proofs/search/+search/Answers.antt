@@ -31,19 +31,19 @@ search-returns-then-is_some-clause-opened t c = one_opened _ _ _ _ (closed_by c.
 
 pub search-returns-then-is_empty-clause-found : goal.search-returns-then-is_empty-clause-found
 search-returns-then-is_empty-clause-found t c =
-    let items = c.steps-moves.result in
-    let are = c.steps-moves.ensures.moves in
+    let items = c.list_steps.new.moves in
+    let are = c.list_steps.ensures.moves in
     done_node c.args.problem.now items c.args.best.now _ c.requires.limits.problem are (eqb-true _ _ (sym c.if-is_empty.ensures)) c.bus_free-best.ensures.value c.clear.ensures.items (open_node c.args.problem.now _ c.closing_token.result _ (sym c.if-is_some.ensures) c.closing_token.ensures)
 
 pub search-returns-then-is_empty-clause-opened : goal.search-returns-then-is_empty-clause-opened
-search-returns-then-is_empty-clause-opened t c = one_opened _ _ _ _ (closed_at_end c.args.problem.now c.steps-moves.result _ c.requires.limits.problem c.steps-moves.ensures.moves (eqb-true _ _ (sym c.if-is_empty.ensures)) c.bus_free-best.ensures.value)
+search-returns-then-is_empty-clause-opened t c = one_opened _ _ _ _ (closed_at_end c.args.problem.now c.list_steps.new.moves _ c.requires.limits.problem c.list_steps.ensures.moves (eqb-true _ _ (sym c.if-is_empty.ensures)) c.bus_free-best.ensures.value)
 
 pub search-visit-requires : goal.search-visit-requires
 search-visit-requires t c =
     let x = c.args.problem.now in
     let items = c.as_slice-steps.result.now in
-    let are = steps_same x items _ c.as_slice-steps.ensures.value c.steps-moves.ensures.moves in
-    let luns = subst (λ z. All (λ s. move_lun (move_of x.groups s) ≡ lun_named s) z) (sym c.as_slice-steps.ensures.value) (luns_of x.groups c.steps-moves.result c.steps-moves.ensures.named) in
+    let are = steps_same x items _ c.as_slice-steps.ensures.value c.list_steps.ensures.moves in
+    let luns = subst (λ z. All (λ s. move_lun (move_of x.groups s) ≡ lun_named s) z) (sym c.as_slice-steps.ensures.value) (luns_of x.groups c.list_steps.new.moves c.list_steps.ensures.named) in
     let e = c.loop-step.invariant.problem in
     let m = step_moves x items c.loop-step.step-index (get_or items c.loop-step.step-index (Next 0)) are luns (get_or_default items c.loop-step.step-index (Next 0) _ c.loop-step-test.true) c.loop-step-test.true in
     let w : work c.loop-step.problem.problem ≡ work x.problem = ap (λ (z : Position). work z.problem) e in (
@@ -70,8 +70,8 @@ search-returns-in_err-visit-clause-over t c =
     let items = c.as_slice-steps.result.now in
     let i = c.loop-step.step-index in
     let s = get_or items i (Next 0) in
-    let are = steps_same x items _ c.as_slice-steps.ensures.value c.steps-moves.ensures.moves in
-    let luns = subst (λ z. All (λ s. move_lun (move_of x.groups s) ≡ lun_named s) z) (sym c.as_slice-steps.ensures.value) (luns_of x.groups c.steps-moves.result c.steps-moves.ensures.named) in
+    let are = steps_same x items _ c.as_slice-steps.ensures.value c.list_steps.ensures.moves in
+    let luns = subst (λ z. All (λ s. move_lun (move_of x.groups s) ≡ lun_named s) z) (sym c.as_slice-steps.ensures.value) (luns_of x.groups c.list_steps.new.moves c.list_steps.ensures.named) in
     let o = open_node x c.args.best.now.finish c.closing_token.result _ (sym c.if-is_some.ensures) c.closing_token.ensures in
     rw (p.1, p.2) (λ q. given_up x items c.yields_of-yields.result i c.args.best.now c.loop-step.best c.loop-step.improved c.args.opened.now c.loop-step.opened c.visit.new.opened c.args.limit s are luns (get_or_default items i (Next 0) s c.loop-step-test.true) c.loop-step-test.true o c.loop-step.invariant.half
     (subst (λ (z : Position). IsOver (moved z s).problem c.loop-step.best.finish c.loop-step.opened c.visit.new.opened c.args.limit) c.loop-step.invariant.problem (c.in_err-visit.ensures.over q)))
@@ -82,8 +82,8 @@ search-loop-step-preserved-then-is_some-2 t c =
     let items = c.as_slice-steps.result.now in
     let i = c.loop-step.step-index in
     let s = get_or items i (Next 0) in
-    let are = steps_same x items _ c.as_slice-steps.ensures.value c.steps-moves.ensures.moves in
-    let luns = subst (λ z. All (λ s. move_lun (move_of x.groups s) ≡ lun_named s) z) (sym c.as_slice-steps.ensures.value) (luns_of x.groups c.steps-moves.result c.steps-moves.ensures.named) in
+    let are = steps_same x items _ c.as_slice-steps.ensures.value c.list_steps.ensures.moves in
+    let luns = subst (λ z. All (λ s. move_lun (move_of x.groups s) ≡ lun_named s) z) (sym c.as_slice-steps.ensures.value) (luns_of x.groups c.list_steps.new.moves c.list_steps.ensures.named) in
     let here = get_or_default items i (Next 0) s c.loop-step-test.true in
     let h = c.loop-step.invariant.half in
     let e = c.loop-step.invariant.problem in
@@ -99,8 +99,8 @@ search-loop-step-preserved t c =
     let items = c.as_slice-steps.result.now in
     let i = c.loop-step.step-index in
     let s = get_or items i (Next 0) in
-    let are = steps_same x items _ c.as_slice-steps.ensures.value c.steps-moves.ensures.moves in
-    let luns = subst (λ z. All (λ s. move_lun (move_of x.groups s) ≡ lun_named s) z) (sym c.as_slice-steps.ensures.value) (luns_of x.groups c.steps-moves.result c.steps-moves.ensures.named) in
+    let are = steps_same x items _ c.as_slice-steps.ensures.value c.list_steps.ensures.moves in
+    let luns = subst (λ z. All (λ s. move_lun (move_of x.groups s) ≡ lun_named s) z) (sym c.as_slice-steps.ensures.value) (luns_of x.groups c.list_steps.new.moves c.list_steps.ensures.named) in
     let here = get_or_default items i (Next 0) s c.loop-step-test.true in
     let h = c.loop-step.invariant.half in
     let e = c.loop-step.invariant.problem in
@@ -133,7 +133,7 @@ pub search-returns-clause-found : goal.search-returns-clause-found
 search-returns-clause-found t c =
     let x = c.args.problem.now in
     let items = c.as_slice-steps.result.now in
-    let are = steps_same x items _ c.as_slice-steps.ensures.value c.steps-moves.ensures.moves in
+    let are = steps_same x items _ c.as_slice-steps.ensures.value c.list_steps.ensures.moves in
     let ay = c.yields_of-yields.ensures.yields in
     ended x items _ _ _ _ _ _ _ _ c.requires.limits.problem are ay (λ q. not_empty items false (c.if-is_empty.ensures ∙ ap (λ z. length z == 0) (sym c.as_slice-steps.ensures.value)) q) c.loop-step-test.false c.loop-step.invariant.half
 
@@ -141,7 +141,7 @@ pub search-returns-clause-opened : goal.search-returns-clause-opened
 search-returns-clause-opened t c =
     let x = c.args.problem.now in
     let items = c.as_slice-steps.result.now in
-    let are = steps_same x items _ c.as_slice-steps.ensures.value c.steps-moves.ensures.moves in
+    let are = steps_same x items _ c.as_slice-steps.ensures.value c.list_steps.ensures.moves in
     let ay = c.yields_of-yields.ensures.yields in
     ended_count x items _ _ _ _ _ _ _ _ are ay (λ q. not_empty items false (c.if-is_empty.ensures ∙ ap (λ z. length z == 0) (sym c.as_slice-steps.ensures.value)) q) c.loop-step-test.false c.loop-step.invariant.half
 
@@ -233,16 +233,16 @@ pub search-loop-step-init : goal.search-loop-step-init
 search-loop-step-init t c = record { problem = refl; half = started c.args.problem.now c.as_slice-steps.result.now c.yields_of-yields.result c.args.best.now c.args.opened.now c.args.limit (omega (arith, c.if-opened-limit.false)) }
 
 pub search-last_ends-ends-requires-clause-moves : goal.search-last_ends-ends-requires-clause-moves
-search-last_ends-ends-requires-clause-moves t c = (steps_same c.args.problem.now c.as_slice-steps.result.now _ c.as_slice-steps.ensures.value c.steps-moves.ensures.moves).moves_only
+search-last_ends-ends-requires-clause-moves t c = (steps_same c.args.problem.now c.as_slice-steps.result.now _ c.as_slice-steps.ensures.value c.list_steps.ensures.moves).moves_only
 
 pub search-last_ends-ends-requires-clause-luns : goal.search-last_ends-ends-requires-clause-luns
-search-last_ends-ends-requires-clause-luns t c = subst (λ z. All (λ s. move_lun (move_of c.args.problem.now.groups s) ≡ lun_named s) z) (sym c.as_slice-steps.ensures.value) (luns_of c.args.problem.now.groups c.steps-moves.result c.steps-moves.ensures.named)
+search-last_ends-ends-requires-clause-luns t c = subst (λ z. All (λ s. move_lun (move_of c.args.problem.now.groups s) ≡ lun_named s) z) (sym c.as_slice-steps.ensures.value) (luns_of c.args.problem.now.groups c.list_steps.new.moves c.list_steps.ensures.named)
 
 pub search-last_ends-ends-requires-clause-few : goal.search-last_ends-ends-requires-clause-few
-search-last_ends-ends-requires-clause-few t c = subst (λ z. All (λ s. lun_named s < 8) z) (sym c.as_slice-steps.ensures.value) (luns_small c.args.problem.now.groups c.steps-moves.result c.steps-moves.ensures.named)
+search-last_ends-ends-requires-clause-few t c = subst (λ z. All (λ s. lun_named s < 8) z) (sym c.as_slice-steps.ensures.value) (luns_small c.args.problem.now.groups c.list_steps.new.moves c.list_steps.ensures.named)
 
 pub search-yields_of-yields-requires : goal.search-yields_of-yields-requires
 search-yields_of-yields-requires t c = record { ends = c.last_ends-ends.ensures.ends }
 
 pub search-bounds-yields-lun : goal.search-bounds-yields-lun
-search-bounds-yields-lun t c = lun_in c.args.problem.now.groups c.steps-moves.result c.as_slice-steps.result.now c.loop-step.step-index (Next 0) c.lun.result c.as_slice-steps.ensures.value c.steps-moves.ensures.named c.lun.ensures c.loop-step-test.true
+search-bounds-yields-lun t c = lun_in c.args.problem.now.groups c.list_steps.new.moves c.as_slice-steps.result.now c.loop-step.step-index (Next 0) c.lun.result c.as_slice-steps.ensures.value c.list_steps.ensures.named c.lun.ensures c.loop-step-test.true

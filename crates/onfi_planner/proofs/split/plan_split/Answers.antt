@@ -1,7 +1,7 @@
 use Rattle.std.proofs.Common.{subst}
 use Rattle.std.proofs.lemmas.Result.{err_from_is_err_and}
 use Rattle.onfi_problem.specs.Position.{Position}
-use Rattle.onfi_planner.specs.Nodes.{IsSplitOver}
+use Rattle.onfi_check.specs.Nodes.{IsSplitOver}
 use Rattle.onfi_planner.proofs.split.plan_split.Goals as goal
 
 pub returns-in_err-opened-clause-over : goal.returns-in_err-opened-clause-over

@@ -12,3 +12,6 @@ is_post-requires c = step_there c.args.problem.now c.args.m c.lun-lun.result c.r
 
 pub is_post-requires-in-Posts : goal.is_post-requires-in-Posts
 is_post-requires-in-Posts c = step_there c.args.problem.now c.args.m c.lun-lun.result c.requires c.lun-lun.ensures
+
+pub turn_of-requires-clause-lun : goal.turn_of-requires-clause-lun
+turn_of-requires-clause-lun c = step_there c.args.problem.now c.args.m c.lun-lun.result c.requires c.lun-lun.ensures

@@ -1,45 +1,21 @@
-use Rattle.std.proofs.Common.{◌≡◌, ◌+◌, refl, sym, ◌∙◌, subst, arith}
-use Rattle.std.proofs.lemmas.Result.{err_from_is_err_and}
-use Rattle.onfi_problem.specs.Position.{Position}
-use Rattle.onfi_recall.specs.Walks.{AreMore, IsProved}
-use Rattle.onfi_recall.proofs.Tree.{begun_many, begun_over, last_found, tree_at}
+use Rattle.std.proofs.Common.{◌≤◌, sym, subst, arith}
+use Rattle.onfi_recall.specs.Walks.{EndsSooner, HasSoMany, IsProved}
+use Rattle.onfi_recall.proofs.Tree.{over_limit}
 use Rattle.onfi_recall.proofs.planning.plan_known.Goals as goal
 
-pub walk-requires-clause-root : goal.walk-requires-clause-root
-walk-requires-clause-root c = tree_at c.args.problem.now c.in-Ok.root.problem c.in-Ok.root c.in-Ok.ensures refl
-
-pub walk_again-requires-clause-root : goal.walk_again-requires-clause-root
-walk_again-requires-clause-root c = tree_at c.args.problem.now c.walk.new.at c.in-Ok.root c.in-Ok.ensures c.in_ok-found.ensures.problem
-
-pub walk_again-requires-clause-proved : goal.walk_again-requires-clause-proved
-walk_again-requires-clause-proved c = λ q. subst (λ (z : Position). IsProved z c.in_ok-found.found.tokens.items c.walk.new.best.finish) (sym c.in_ok-found.ensures.problem) (c.in_ok-found.ensures.proved q)
-
-pub found_plan-requires-clause-run : goal.found_plan-requires-clause-run
-found_plan-requires-clause-run c = (last_found c.args.problem.now c.walk.new.at c.in-Ok.root c.walk.new.best c.walk_again.new.best c.in-Ok.ensures c.in_ok-found.ensures.problem c.in_ok-found.ensures.found c.in_ok-written.ensures.found).0
-
-pub found_plan-requires-clause-small : goal.found_plan-requires-clause-small
-found_plan-requires-clause-small c = (last_found c.args.problem.now c.walk.new.at c.in-Ok.root c.walk.new.best c.walk_again.new.best c.in-Ok.ensures c.in_ok-found.ensures.problem c.in_ok-found.ensures.found c.in_ok-written.ensures.found).1
-
 pub found_plan-requires-clause-proved : goal.found_plan-requires-clause-proved
-found_plan-requires-clause-proved c =
-    let e = c.in_ok-found.ensures.problem ∙ c.in-Ok.ensures.same in
-    let p = subst (λ (z : Position). IsProved z c.in_ok-written.written.tokens.items c.walk_again.new.best.finish) e c.in_ok-written.ensures.proved in
-    subst (λ tokens. IsProved c.args.problem.now tokens c.walk_again.new.best.finish) (sym c.as_slice-tokens.ensures.value) p
+found_plan-requires-clause-proved c = subst (λ tokens. IsProved c.args.problem.now tokens c.in-Ok.searched.best.finish) (sym c.as_slice-tokens.ensures.value) (c.in-Ok.ensures.proved c.if-searched.false)
 
-pub returns-in_err-found-clause-over : goal.returns-in_err-found-clause-over
-returns-in_err-found-clause-over c =
-    let p = err_from_is_err_and c.from_residual.result c.from_residual.ensures.1 in
-    rw (p.1, p.2) (λ opened q. begun_over c.args.problem.now c.in-Ok.root c.in-Ok.root.best.finish c.args.limit opened c.in-Ok.ensures (omega arith) (c.in_err-found.ensures.over opened q))
+pub returns-then-searched-clause-over : goal.returns-then-searched-clause-over
+returns-then-searched-clause-over c = λ opened q. over_limit c.args.problem.now.problem c.args.limit _ opened q (grind arith) (c.in-Ok.ensures.over c.if-searched.true)
 
-pub returns-in_err-written-clause-over : goal.returns-in_err-written-clause-over
-returns-in_err-written-clause-over c =
-    let p = err_from_is_err_and c.from_residual-in_err-written.result c.from_residual-in_err-written.ensures.1 in
-    rw (p.1, p.2) (λ opened q. begun_over c.args.problem.now c.in-Ok.root c.walk.new.best.finish c.args.limit opened c.in-Ok.ensures c.in_ok-found.ensures.found.sooner (subst (λ (z : Position). (opened ≡ c.args.limit) × AreMore z.problem c.walk.new.best.finish (c.args.limit + 1)) c.in_ok-found.ensures.problem (c.in_err-written.ensures.over opened q)))
+pub returns-clause-again : goal.returns-clause-again
+returns-clause-again c = λ more.
+    let plan = c.in-Ok-found_plan.ensures in
+    subst (EndsSooner c.args.problem.now.problem) (sym plan.ends) (c.in-Ok.ensures.again (subst (λ n. 1 ≤ n) plan.reopened more))
 
 pub returns-clause-nodes : goal.returns-clause-nodes
 returns-clause-nodes c =
-    let root = c.in-Ok.root in
-    let plan = c.in-Ok-found_plan.planned in (
-      begun_many c.args.problem.now root.problem root root.best.finish c.in_ok-found.found.opened plan.opened c.in-Ok.ensures refl (omega arith) c.in-Ok-found_plan.ensures.opened c.in_ok-found.ensures.nodes,
-      begun_many c.args.problem.now c.walk.new.at root c.walk.new.best.finish c.in_ok-written.written.opened plan.reopened c.in-Ok.ensures c.in_ok-found.ensures.problem c.in_ok-found.ensures.found.sooner c.in-Ok-found_plan.ensures.reopened c.in_ok-written.ensures.nodes,
-    )
+    let p = c.args.problem.now.problem in
+    let plan = c.in-Ok-found_plan.ensures in
+    (subst (HasSoMany p) (sym plan.opened) c.in-Ok.ensures.nodes.0, subst (HasSoMany p) (sym plan.reopened) c.in-Ok.ensures.nodes.1)

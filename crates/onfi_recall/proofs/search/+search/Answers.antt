@@ -1,8 +1,7 @@
-use Rattle.std.proofs.Common.{◌≡◌, ◌<◌, ◌+◌, ◌-◌, ℕ, true, false, [], ◌∷◌, ◌++◌, length, get_or, take, refl, sym, ap, ◌∙◌, subst, arith}
-use Rattle.std.specs.Prelude.{IfSome, max, slice_index, slice_index_or}
+use Rattle.std.proofs.Common.{◌≡◌, ◌<◌, ◌+◌, ℕ, true, false, [], ◌∷◌, ◌++◌, length, get_or, take, refl, sym, ap, ◌∙◌, subst, arith}
+use Rattle.std.specs.Prelude.{IfNone, IfSome, max, slice_index, slice_index_or}
 use Rattle.std.proofs.lemmas.Bool.{eqb-true, false≢true}
 use Rattle.std.proofs.lemmas.List.{take_all}
-use Rattle.std.proofs.lemmas.Result.{err_from_is_err_and}
 use Rattle.onfi_group.specs.Words.{Has}
 use Rattle.onfi_problem.specs.Moves.{AreMoves, after}
 use Rattle.onfi_problem.specs.declared.moves.Move.TheVariants.{Next}
@@ -13,29 +12,34 @@ use Rattle.onfi_check.proofs.OneList.{map_length}
 use Rattle.onfi_demand.specs.Asked.{GoesOn}
 use Rattle.onfi_known.specs.Proves.{Remembers}
 use Rattle.onfi_known.proofs.Walking.{moves_more, raised_by, step_is}
+use Rattle.onfi_check.specs.Nodes.{IsOpen}
 use Rattle.onfi_planner.specs.Planning.{work}
 use Rattle.onfi_recall.specs.Steps.{IsStep}
-use Rattle.onfi_recall.specs.Walks.{AreMore, Halfway, IsAt, IsClosing, IsShown, IsSoonest, wait_for}
+use Rattle.onfi_recall.specs.Walks.{Halfway, IsAt, IsClosing, IsShown, IsSoonest, wait_for}
 use Rattle.onfi_recall.proofs.Steps.{step_at, there_behind}
-use Rattle.onfi_recall.proofs.Between.{at_moved, at_start, given_up, new_move, still_at, with_child, with_yield}
-use Rattle.onfi_recall.proofs.Node.{closed_shown, counted_over, counted_shown, done_shown, each_err, each_ok, full_over, node_shown, step_visited}
+use Rattle.onfi_recall.proofs.Between.{at_counted, at_moved, at_start, new_move, still_at, with_child, with_yield}
+use Rattle.onfi_recall.proofs.Node.{closed_shown, counted_shown, cut_shown, done_shown, each_ok, full_shown, node_shown, step_visited}
 use Rattle.onfi_recall.proofs.search.+search.Goals as goal
 
-pub search-returns-then-notes-clause-over : goal.search-returns-then-notes-clause-over
-search-returns-then-notes-clause-over t c = λ q. full_over c.args.problem.now.problem c.args.best.now.finish c.args.notes.now.limit c.args.notes.now.opened (omega (arith, c.if-notes.true, c.requires.within))
+pub search-returns-then-notes-clause-shown : goal.search-returns-then-notes-clause-shown
+search-returns-then-notes-clause-shown t c = full_shown c.args.problem.now c.args.best.now c.args.notes.now _ c.given_up.result c.requires.tree.limits (omega (arith, c.if-notes.true, c.requires.within)) refl refl refl refl refl c.given_up.ensures.demand c.given_up.ensures.improved
+
+pub search-search_open-requires : goal.search-search_open-requires
+search-search_open-requires t c =
+    let x = c.args.problem.now in
+    let at = at_counted x c.args.loads.now c.args.best.now c.args.notes.now _ c.requires (omega (arith, c.if-notes.false, c.requires.within)) refl refl refl refl refl in
+    (omega (arith, c.decreases), (at.1, (omega arith, (at.0, subst (λ o. IfNone o (IsOpen c.args.best.now.finish x.problem)) c.in_default.is c.in_ok-found.ensures.open))))
 
 pub search-returns-in-Some-clause-shown : goal.search-returns-in-Some-clause-shown
 search-returns-in-Some-clause-shown t c =
     let x = c.args.problem.now in
     let notes = c.args.notes.now in
-    let closes = subst (λ o. IfSome o (IsClosing c.args.best.now.finish x notes.records.nodes.items)) c.in-Some.is c.in-Ok.ensures.closing in
-    closed_shown x c.args.best.now notes _ c.in-Some.closing closes (omega (arith, c.requires.within, c.if-notes.false)) refl refl refl c.write.ensures.finish c.in-Ok-write.ensures.tokens
+    let closes = subst (λ o. IfSome o (IsClosing c.args.best.now.finish x notes.records.nodes.items)) c.in-Some.is c.in_ok-found.ensures.closing in
+    let at = at_counted x c.args.loads.now c.args.best.now notes (record { cert = notes.cert; opened = notes.opened + 1; limit = notes.limit; cut = notes.cut; records = notes.records; phases = notes.phases }) c.requires (omega (arith, c.if-notes.false, c.requires.within)) refl refl refl refl refl in
+    closed_shown x c.args.best.now notes _ c.in-Some.closing closes (omega (arith, c.requires.within, c.if-notes.false)) refl refl refl c.write.ensures.finish c.in_ok-write.ensures.tokens at.0 refl
 
 pub search-returns-clause-shown : goal.search-returns-clause-shown
 search-returns-clause-shown t c = each_ok _ _ c.search_open.result (λ shown s. counted_shown c.args.problem.now c.args.best.now c.search_open.new.best c.args.notes.now c.search_open.new.notes _ shown s) c.search_open.ensures.shown
-
-pub search-returns-clause-over : goal.search-returns-clause-over
-search-returns-clause-over t c = each_err _ _ c.search_open.result (λ stop over q. counted_over c.args.problem.now.problem c.args.best.now.finish c.args.notes.now.limit c.args.notes.now.opened (over q)) c.search_open.ensures.over
 
 pub search_child-returns-then-is_awaited-clause-more : goal.search_child-returns-then-is_awaited-clause-more
 search_child-returns-then-is_awaited-clause-more t c = λ moves firsts first before new h.
@@ -44,13 +48,7 @@ search_child-returns-then-is_awaited-clause-more t c = λ moves firsts first bef
     let named = c.requires.step.named in
     let small = c.requires.at.tree.limits.small.few_luns in
     with_yield x moves firsts c.args.soonest.now first c.args.best.now before c.args.notes.now c.args.standing.now h m c.lun-own.result _ c.mark.new.self (c.lun-own.ensures ∙ sym named.lun) (omega (arith, c.lun-own.ensures, named.few)) (omega (arith, c.requires.soonest, small)) (c.if-is_awaited.ensures refl)
-    refl refl refl c.write.ensures.finish (subst (λ token. c.args.best.now.finish ≡ c.args.notes.now.cert.finish → c.write.new.self.tokens.items ≡ c.args.notes.now.cert.tokens.items ++ token ∷ []) c.token.ensures c.in-Ok.ensures.tokens) c.mark.ensures.asked c.mark.ensures.improved c.mark.ensures.here c.mark.ensures.others
-
-pub search_child-returns-in_err-visit-clause-over : goal.search_child-returns-in_err-visit-clause-over
-search_child-returns-in_err-visit-clause-over t c =
-    let p = err_from_is_err_and c.from_residual.result c.from_residual.ensures.1 in
-    let x = c.args.problem.now in
-    rw (p.1, p.2) (λ moves firsts first before new h q. given_up x moves firsts c.args.soonest.now first c.args.best.now before c.args.notes.now c.args.standing.now h (move_of x.groups c.args.step) c.requires.step.move new (c.in_err-visit.ensures.over q))
+    refl refl refl c.write.ensures.finish (subst (λ token. c.args.best.now.finish ≡ c.args.notes.now.cert.finish → c.write.new.self.tokens.items ≡ c.args.notes.now.cert.tokens.items ++ token ∷ []) c.token.ensures c.in_ok-write.ensures.tokens) c.mark.ensures.asked c.mark.ensures.improved c.mark.ensures.here c.mark.ensures.others refl
 
 pub search_child-returns-then-branch-clause-more : goal.search_child-returns-then-branch-clause-more
 search_child-returns-then-branch-clause-more t c = λ moves firsts first before new h.
@@ -70,7 +68,7 @@ search_children-loop-step-init t c =
     let is : IsSoonest x.problem (moves_of x.groups items) soonest = λ early. subst (IsLastEnd x.problem (moves_of x.groups items) soonest.lun) (c.of-soonest.ensures.end early) (c.last_ends-ends.ensures.ends soonest.lun (omega (arith, there, small))) in
     record {
       problem = refl;
-      half = at_start x (moves_of x.groups items) soonest c.args.best.now c.args.notes.now _ c.new-standing.result c.of.result c.requires.is_open is c.requires.at.finish c.requires.counted c.requires.at.within refl refl refl c.write.ensures.finish c.in-Ok.ensures.tokens (c.of.ensures ∙ sym (map_length x items)) c.new-standing.ensures.asked c.new-standing.ensures.yielded c.new-standing.ensures.improved;
+      half = at_start x (moves_of x.groups items) soonest c.args.best.now c.args.notes.now _ c.new-standing.result c.of.result c.requires.is_open is c.requires.at.finish c.requires.counted c.requires.at.within refl refl refl c.write.ensures.finish c.in_ok-write.ensures.tokens (c.of.ensures ∙ sym (map_length x items)) c.new-standing.ensures.asked c.new-standing.ensures.yielded c.new-standing.ensures.improved c.requires.uncut refl;
     }
 
 pub search_children-search_child-requires : goal.search_children-search_child-requires
@@ -88,21 +86,6 @@ search_children-search_child-requires t c =
         (subst (λ (z : Position). IsStep z (get_or items i (Next 0))) e step, subst (λ (z : Position). c.of-soonest.result.lun < length z.problem.luns) e c.of-soonest.ensures.there),
       ),
     )
-
-pub search_children-returns-in_err-search_child-clause-over : goal.search_children-returns-in_err-search_child-clause-over
-search_children-returns-in_err-search_child-clause-over t c =
-    let p = err_from_is_err_and c.from_residual.result c.from_residual.ensures.1 in
-    let x = c.args.problem.now in
-    let items = c.as_slice-listed.result.now in
-    let i = c.loop-step.step-index in
-    let s = get_or items i (Next 0) in
-    let moves = moves_of x.groups items in
-    let firsts = moves_of x.groups (take i items) in
-    let e = c.loop-step.invariant.problem in
-    let are = subst (λ z. AreMoves x.problem (moves_of x.groups z)) (sym c.as_slice-listed.ensures.value) c.requires.moves in
-    let new = subst (λ (z : Position). Has firsts (move_of z.groups s) → ⊥) (sym e) (new_move x items i (Next 0) are c.loop-step-test.true) in
-    let half = subst (λ (z : Position). Halfway z moves firsts c.of-soonest.result c.args.best.now c.loop-step.best c.args.notes.now c.loop-step.notes c.loop-step.standing) (sym e) c.loop-step.invariant.half in
-    rw (p.1, p.2) (λ q. subst (λ (z : Position). AreMore z.problem c.args.best.now.finish (c.args.notes.now.limit - (c.args.notes.now.opened - 1) + 1)) e (c.in_err-search_child.ensures.over moves firsts c.args.best.now c.args.notes.now new half q))
 
 pub search_children-loop-step-preserved : goal.search_children-loop-step-preserved
 search_children-loop-step-preserved t c =
@@ -133,11 +116,25 @@ search_children-returns-clause-shown t c =
     let same = ap length c.as_slice-listed.ensures.value in
     let half = subst (λ ms. Halfway x moves (moves_of x.groups ms) c.of-soonest.result c.args.best.now c.loop-step.best c.args.notes.now c.loop-step.notes c.loop-step.standing) (take_all c.loop-step.step-index items c.loop-step-test.false) c.loop-step.invariant.half in
     let raised = subst (λ (z : Position). (lun : ℕ) → lun < 8 → slice_index_or c.loop-step.standing.yielded lun false ≡ true → wait_for z.problem c.of-soonest.result c.loop-step.standing.asked < 18446744073709551616 → slice_index c.raise.new.asked lun ≡ max (wait_for z.problem c.of-soonest.result c.loop-step.standing.asked) (slice_index c.loop-step.standing.asked lun)) e c.raise.ensures.raised in
-    let kept = subst (λ (z : Position). Remembers z.all z.problem c.raise.new.asked c.loop-step.notes.records.nodes.items c.keep.new.self.nodes.items (record { bus = 0; luns = c.raise.new.asked })) e c.in-Ok-keep.ensures in
-    node_shown x moves c.of-soonest.result c.args.best.now c.loop-step.best c.args.notes.now c.loop-step.notes _ c.loop-step.standing c.raise.new.asked c.requires.at.tree.limits are (omega (arith, c.requires.some)) (omega (arith, c.requires.few)) half c.raise.ensures.kept raised c.raise.ensures.small kept refl refl refl
+    let kept = subst (λ (z : Position). Remembers z.all z.problem c.raise.new.asked c.loop-step.notes.records.nodes.items c.keep.new.self.nodes.items (record { bus = 0; luns = c.raise.new.asked })) e c.in_ok-keep.ensures in
+    node_shown x moves c.of-soonest.result c.args.best.now c.loop-step.best c.args.notes.now c.loop-step.notes _ c.loop-step.standing c.raise.new.asked c.requires.at.tree.limits are (omega (arith, c.requires.some)) (omega (arith, c.requires.few)) half c.raise.ensures.kept raised c.raise.ensures.small kept refl refl refl c.if-notes.false refl
+
+pub search_children-returns-then-notes-clause-shown : goal.search_children-returns-then-notes-clause-shown
+search_children-returns-then-notes-clause-shown t c =
+    let x = c.args.problem.now in
+    let items = c.as_slice-listed.result.now in
+    let moves = moves_of x.groups items in
+    let half = subst (λ ms. Halfway x moves (moves_of x.groups ms) c.of-soonest.result c.args.best.now c.loop-step.best c.args.notes.now c.loop-step.notes c.loop-step.standing) (take_all c.loop-step.step-index items c.loop-step-test.false) c.loop-step.invariant.half in
+    cut_shown x moves c.of-soonest.result c.args.best.now c.loop-step.best c.args.notes.now c.loop-step.notes c.loop-step.standing c.given_up.result c.requires.at.tree.limits half c.if-notes.true c.given_up.ensures.demand c.given_up.ensures.improved
+
+pub search_children-returns-then-notes-clause-forgotten : goal.search_children-returns-then-notes-clause-forgotten
+search_children-returns-then-notes-clause-forgotten t c = λ q. c.loop-step.invariant.half.few
+
+pub search_children-returns-clause-forgotten : goal.search_children-returns-clause-forgotten
+search_children-returns-clause-forgotten t c = λ q. absurd (false≢true (sym c.if-notes.false ∙ q))
 
 pub search_open-returns-then-is_empty-clause-shown : goal.search_open-returns-then-is_empty-clause-shown
-search_open-returns-then-is_empty-clause-shown t c = done_shown c.args.problem.now c.list_steps.new.moves c.args.best.now _ c.args.notes.now c.of_bus-demand.result c.requires.at.tree.limits c.list_steps.ensures.moves (eqb-true _ _ (sym c.if-is_empty.ensures)) c.bus_free-best.ensures.value c.clear.ensures.items c.requires.is_open c.requires.at.finish c.requires.counted c.requires.at.within c.of_bus-demand.ensures
+search_open-returns-then-is_empty-clause-shown t c = done_shown c.args.problem.now c.list_steps.new.moves c.args.best.now _ c.args.notes.now c.of_bus-demand.result c.requires.at.tree.limits c.list_steps.ensures.moves (eqb-true _ _ (sym c.if-is_empty.ensures)) c.bus_free-best.ensures.value c.clear.ensures.items c.requires.is_open c.requires.at.finish c.requires.counted c.requires.at.within c.requires.uncut c.of_bus-demand.ensures
 
 pub visit-search-requires : goal.visit-search-requires
 visit-search-requires t c =
@@ -146,11 +143,6 @@ visit-search-requires t c =
     let less = work_after x.problem m c.requires.at.tree.limits.problem c.requires.step.move in
     let w : work c.advance-undo.new.self.problem ≡ work (after x.problem m) = ap (λ (z : Position). work z.problem) c.advance-undo.ensures.moved in
     (omega (arith, c.decreases, w, less), subst (λ (z : Position). IsAt z c.args.loads.now c.args.best.now c.args.notes.now) (sym c.advance-undo.ensures.moved) (at_moved x c.args.step c.args.loads.now c.args.best.now c.args.notes.now c.requires.step c.requires.at))
-
-pub visit-returns-in_err-shown-clause-over : goal.visit-returns-in_err-shown-clause-over
-visit-returns-in_err-shown-clause-over t c =
-    let p = err_from_is_err_and c.from_residual.result c.from_residual.ensures.1 in
-    rw (p.1, p.2) (λ q. subst (λ (z : Position). AreMore z.problem c.args.best.now.finish (c.args.notes.now.limit - c.args.notes.now.opened + 1)) c.advance-undo.ensures.moved (c.in_err-shown.ensures.over q))
 
 pub visit-step_behind-behind-requires : goal.visit-step_behind-behind-requires
 visit-step_behind-behind-requires t c = subst (λ (z : Position). c.lun.result < length z.problem.luns) (sym (c.in_ok-shown.ensures.problem ∙ c.advance-undo.ensures.moved)) (there_behind c.args.problem.now c.args.step c.lun.result c.requires.step c.lun.ensures)
@@ -167,4 +159,4 @@ visit-returns-clause-visited t c =
     (c.step_behind-behind.ensures.end ∙ ap (λ (z : Position). z.problem.bus_free) behind) (subst (λ (z : Position). GoesOn z.problem c.lun.result step.go) behind c.step_behind-behind.ensures.go) in
     let raises = raised_by x.problem m shown.demand step c.lun_count-count.result c.args.asked.now c.raise.new.asked is c.lun_count-count.ensures.value c.raise.ensures in
     let s = subst (λ (z : Position). IsShown z c.args.best.now c.search.new.best c.args.notes.now.opened c.args.notes.now c.search.new.notes shown) c.advance-undo.ensures.moved c.in_ok-shown.ensures.shown in
-    step_visited x c.args.step c.earliest-start.result c.args.best.now c.search.new.best c.add.new.best c.args.notes.now c.search.new.notes shown c.args.asked.now c.raise.new.asked c.requires.step.move c.earliest-start.ensures s raises c.add.ensures.finish c.in-Ok.ensures.steps c.in-Ok.ensures.kept
+    step_visited x c.args.step c.earliest-start.result c.args.best.now c.search.new.best c.add.new.best c.args.notes.now c.search.new.notes shown c.args.asked.now c.raise.new.asked c.requires.step.move c.earliest-start.ensures s raises c.add.ensures.finish c.in_ok-add.ensures.steps c.in_ok-add.ensures.kept

@@ -1,13 +1,31 @@
-use Rattle.std.proofs.Common.{◌∙◌}
+use Rattle.std.proofs.Common.{◌∙◌, map, sym, subst, arith}
+use Rattle.std.specs.List.{AllZip}
+use Rattle.onfi_run.specs.Answers.{AddsReplies}
 use Rattle.onfi_run.proofs.Collecting.{or_either}
-use Rattle.onfi_run.proofs.Links.{still_ends}
+use Rattle.onfi_run.proofs.Links.{ends_are, still_ends}
 use Rattle.onfi_run.proofs.finishing.close_channel.Goals as goal
+
+pub drain-drained-requires : goal.drain-drained-requires
+drain-drained-requires g c =
+    let ends = c.ends_of-hosts in
+    ends_are (g.C.Channel.queues c.args.lane.channel) c.args.ports ends.result.0 ends.result.1 ends.ensures.hosts ends.ensures.inboxes (omega arith) c.requires
 
 pub close-requires : goal.close-requires
 close-requires g c =
-    still_ends (g.C.Channel.queues c.args.lane.channel) (g.C.Channel.queues c.drain-drained.new.self) c.args.hosts c.args.inboxes c.empty_all-got.new.inboxes c.requires c.drain-drained.ensures.same
-    (c.empty_all-got.ensures.same ∙ c.drain-drained.ensures.inboxes)
+    let q = g.C.Channel.queues c.args.lane.channel in
+    let ends = c.ends_of-hosts in
+    let drained = c.drain-drained in
+    let before = ends_are q c.args.ports ends.result.0 ends.result.1 ends.ensures.hosts ends.ensures.inboxes (omega arith) c.requires in
+    still_ends q (g.C.Channel.queues drained.new.self) ends.result.0 ends.result.1 c.empty_all.new.inboxes before drained.ensures.same
+    (c.empty_all.ensures.same ∙ drained.ensures.inboxes)
+
+pub returns-clause-got : goal.returns-clause-got
+returns-clause-got g c =
+    let adds = subst (λ l. AllZip AddsReplies l c.empty_all.new.got) c.ends_of-hosts.ensures.answers c.empty_all.ensures.adds in
+    subst (AllZip AddsReplies (map (λ p. p.answers) c.args.ports)) (sym c.conclude.ensures.got) adds
 
 pub returns-clause-short : goal.returns-clause-short
 returns-clause-short g c =
-    or_either c.args.short_of_memory (g.C.Channel.short c.args.lane.channel) c.drain-drained.result.short_of_memory c.conclude.result.short_of_memory c.conclude.ensures.short c.drain-drained.ensures.short
+    let drained = c.drain-drained in
+    or_either c.args.short_of_memory (g.C.Channel.short c.args.lane.channel) drained.result.short_of_memory c.conclude.result.short_of_memory
+    c.conclude.ensures.short drained.ensures.short

@@ -1,7 +1,6 @@
 use Rattle.std.proofs.Common.{◌≡◌}
-use Rattle.onfi_run.specs.ByHost.{Empties}
-use Rattle.onfi_run.specs.Keys.{queues_of}
+use Rattle.onfi_run.specs.Finishing.{Empties}
 use Rattle.onfi_run.proofs.finishing.empty.Given as goal
 
 abbrev pub invariant-loop : goal.invariant-loop
-invariant-loop g l = (queues_of l.inboxes ≡ queues_of l.fn.inboxes) × Empties l.fn.host l.fn.inboxes l.inboxes l.fn.answers l.answers
+invariant-loop g l = (l.inbox.queue ≡ l.fn.inbox.queue) × Empties (l.fn.inbox, l.fn.answers) (l.inbox, l.answers)

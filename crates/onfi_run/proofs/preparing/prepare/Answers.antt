@@ -1,14 +1,18 @@
-use Rattle.std.proofs.Common.{Ok, Err, subst, refl}
+use Rattle.std.proofs.Common.{◌≡◌, Ok, Err, Some, sym, subst, refl}
 use Rattle.onfi_script.specs.Device.{TellsChips}
 use Rattle.onfi_script.specs.Stop.{IfFault}
-use Rattle.onfi_run.specs.Prepares.{has_no_device}
-use Rattle.onfi_run.proofs.OnDevice.{on_prepared}
+use Rattle.onfi_run.specs.Prepared.{first_refused}
+use Rattle.onfi_run.specs.Prepares.{has_no_device, has_wrong_row}
+use Rattle.onfi_run.specs.Setup.{channels_in, hosts_in}
 use Rattle.onfi_run.proofs.preparing.prepare.Goals as goal
 
-pub returns-in-Ok : goal.returns-in-Ok
-returns-in-Ok c =
-    on_prepared (λ p. p.rows.items) (λ p. p.device) c.args.input.now c.in_ok-rows.rows.items c.in-Ok.device c.on_device.result c.in_ok-rows.ensures
-    (subst (λ l. TellsChips l (Ok c.in-Ok.device)) c.as_slice.ensures.value c.in-Ok.ensures) c.on_device.ensures
+pub returns-in-Ok-Some : goal.returns-in-Ok-Some
+returns-in-Ok-Some c =
+    let device = c.in-Ok.device in
+    let refusal = c.in-Ok-Some.refusal in
+    let told = rw c.in-Ok-Some.field-0-is at c.in-Ok-Some.ensures in
+    has_wrong_row c.in_ok-rows.rows.items device c.in_ok-rows.ensures (subst (λ l. TellsChips l (Ok device)) c.as_slice.ensures.value c.in-Ok.ensures)
+    (subst (λ l. first_refused (channels_in l) (hosts_in l) device.geometry 1 l ≡ Some refusal) c.as_slice-in-Ok.ensures.value (sym told))
 
 pub returns-in-Err-Fault : goal.returns-in-Err-Fault
 returns-in-Err-Fault c =

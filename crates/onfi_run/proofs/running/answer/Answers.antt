@@ -1,4 +1,4 @@
-use Rattle.std.proofs.Common.{◌≡◌, subst}
+use Rattle.std.proofs.Common.{◌≡◌, IfOk, subst}
 use Rattle.std.proofs.lemmas.Result.{IfOk-weaker}
 use Rattle.onfi_script.specs.AnswerOf.{answer_of}
 use Rattle.onfi_script.specs.Stop.{IfRefused}
@@ -18,6 +18,6 @@ returns-in-Ok g c =
 pub returns-in-Err-Refused : goal.returns-in-Err-Refused
 returns-in-Err-Refused g c =
     let input = c.args.input.now in
-    let refusal = c.in-Err-Refused.refusal in
     let why = subst (λ s. IfRefused s (λ r. IsRefused input r)) c.in-Err-Refused.field-0-is c.in-Err-Refused.ensures in
-    IfOk-weaker c.refused.result (λ a. answer_of a ≡ refused refusal) (λ a. IsAnswer input (answer_of a)) (λ a e. is_refused refusal why e) c.refused.ensures
+    let refuses = subst (λ r. IfOk c.refused.result (λ a. answer_of a ≡ refused r)) c.in-Err-Refused.refusal-is c.refused.ensures in
+    IfOk-weaker c.refused.result (λ a. answer_of a ≡ refused c.in-Err-Refused.refusal) (λ a. IsAnswer input (answer_of a)) (λ a e. is_refused c.in-Err-Refused.refusal why e) refuses

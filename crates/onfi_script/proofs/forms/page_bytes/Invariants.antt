@@ -1,7 +1,6 @@
-use Rattle.onfi_script.specs.Device.{bytes_in}
-use Rattle.onfi_script.proofs.TextLemmas.{Grown}
-use Rattle.std.proofs.Common.{[]}
+use Rattle.std.proofs.Common.{◌≡◌, take}
+use Rattle.onfi_script.specs.Device.{page_bytes}
 use Rattle.onfi_script.proofs.forms.page_bytes.Given as goal
 
 abbrev pub invariant-loop-row : goal.invariant-loop-row
-invariant-loop-row l = Grown bytes_in l.rows l.row-index [] l.bytes.items
+invariant-loop-row l = l.bytes.items ≡ page_bytes (take l.row-index l.rows)

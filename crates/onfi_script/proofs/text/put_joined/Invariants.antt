@@ -1,8 +1,7 @@
-use Rattle.std.proofs.Common.{◌++◌}
-use Rattle.std.specs.Fmt.{decimal}
-use Rattle.std.specs.Prelude.{string_bytes, codes}
-use Rattle.onfi_script.proofs.TextLemmas.{Grown}
+use Rattle.std.proofs.Common.{◌≡◌, ◌++◌, take}
+use Rattle.std.specs.Prelude.{string_bytes}
+use Rattle.onfi_script.specs.Text.{joined}
 use Rattle.onfi_script.proofs.text.put_joined.Given as goal
 
 abbrev pub invariant-loop-want : goal.invariant-loop-want
-invariant-loop-want l = Grown (λ w. codes "+" ++ decimal w.id) l.wants l.want-index (string_bytes l.fn.text) (string_bytes l.text)
+invariant-loop-want l = string_bytes l.text ≡ string_bytes l.fn.text ++ joined (take l.want-index l.wants)

@@ -1,11 +1,14 @@
 use Rattle.std.proofs.Common.{sym, refl, subst}
+use Rattle.std.specs.Prelude.{IfSome}
+use Rattle.onfi_core.specs.Queues.{ChannelView}
 use Rattle.onfi_core.specs.Refusals.{planned_outcome}
 use Rattle.onfi_core.specs.State.{ChannelState}
 use Rattle.onfi_core.specs.declared.event.Event.TheVariants as event
 use Rattle.onfi_core.specs.declared.outcome.Outcome.{Outcome}
-use Rattle.onfi_core.specs.Steps.{Step}
+use Rattle.onfi_core.specs.Steps.{IsPromised, Step}
 use Rattle.onfi_core.proofs.Queueing.{outside, queues_same}
 use Rattle.onfi_core.proofs.Reaching.{step_reaches}
+use Rattle.onfi_core.proofs.Promised.{planned_last}
 use Rattle.onfi_core.proofs.Running.{after_planning, nothing_posted, refused_alone}
 use Rattle.onfi_core.proofs.channel.Channel.plan.Goals as goal
 
@@ -34,3 +37,12 @@ returns-clause-step g c channel =
     let step = after_planning f.half.setup now channel f.half c.plan-planned.result c.plan-planned.new.self e.planned refused in
     let P : Outcome → Type 0 = λ o. Step f.half.setup now (event.Plan channel) o after in
     outside g.C.Chip.state _ _ (event.Plan channel) c.planned_outcome.result after c.self.view_is (subst P (sym c.planned_outcome.ensures) step)
+
+pub returns-clause-promised : goal.returns-clause-promised
+returns-clause-promised g c old =
+    let such = IsPromised g.P.Planner.exact g.P.Planner.certifies in
+    let f = c.self.inside in
+    let e = c.plan-planned.ensures in
+    let refused = refused_alone f.half.setup f.half.state c.plan-planned.result c.plan-planned.new.self f.half e.refused in
+    let before = subst (λ (v : ChannelView g.row.C.Denot). IfSome v.0.half.last such) (sym c.self.view_is) old in
+    planned_last such f.half.setup f.half.state c.plan-planned.result c.plan-planned.new.self.state e.promised refused before

@@ -1,8 +1,10 @@
-use Rattle.std.proofs.Common.{◌≡◌, ◌+◌, ◌-◌, ◌≤◌, [], ◌∷◌, ◌++◌, ◌⊎◌, drop, length, Some, sym, ap, ◌∙◌, subst, length-drop, arith}
+use Rattle.std.proofs.Common.{◌≡◌, ◌+◌, ◌-◌, ◌≤◌, [], ◌∷◌, ◌++◌, ◌⊎◌, List, drop, take, length, Some, sym, ap, ◌∙◌, subst, length-drop, arith}
 use Rattle.std.specs.Prelude.{slice_get}
 use Rattle.onfi_core.specs.State.{wants_from}
 use Rattle.onfi_core.specs.Steps.{taken_next}
 use Rattle.onfi_core.specs.View.{HalfView}
+use Rattle.onfi_request.specs.declared.want.Want.{Want}
+use Rattle.onfi_core.specs.declared.setup.Choice.TheVariants.{InOrder}
 use Rattle.onfi_core.proofs.Next.{unplanned_slot, takes_one, takes_all}
 use Rattle.onfi_core.proofs.Numbered.{length_wants}
 use Rattle.onfi_core.proofs.half.Half.next_wants.Goals as goal
@@ -24,6 +26,8 @@ loop-at-preserved c =
 pub returns : goal.returns
 returns c =
     let i = c.self.invariant in
+    let is = subst (λ (v : HalfView). v.setup.choice ≡ InOrder) (sym c.self.view_is) c.requires.in_order in
+    let empty = i.sound.in_order is in
     let U = wants_from c.self.inside.setup.geometry c.self.inside.planned (drop c.self.inside.planned c.self.inside.history.accepted) in
     let l = length_wants c.self.inside.setup.geometry c.self.inside.planned (drop c.self.inside.planned c.self.inside.history.accepted) in
     let d = length-drop c.self.inside.planned c.self.inside.history.accepted in
@@ -32,4 +36,4 @@ returns c =
     let low : c.loop-at.at ≤ room = grind arith in
     let either : (c.loop-at.at ≡ room) ⊎ (length U ≤ c.loop-at.at) = grind arith in
     let P = λ (h : HalfView). c.loop-at.wants.items ≡ h.state.now.wants ++ taken_next h.setup h.state in
-    subst P c.self.view_is (c.loop-at.invariant ∙ ap (λ zs. c.self.inside.wants.items ++ zs) (takes_all c.loop-at.at room U low either))
+    subst P c.self.view_is (c.loop-at.invariant ∙ ap (λ zs. c.self.inside.wants.items ++ zs) (takes_all c.loop-at.at room U low either ∙ ap (λ (xs : List Want). take room (xs ++ U)) (sym empty)))

@@ -1,12 +1,13 @@
 use Rattle.std.proofs.Common.{ap, ◌∙◌, arith}
+use Rattle.std.proofs.Math.Seq.{map-set_same}
 use Rattle.onfi_run.specs.Keys.{port_key}
-use Rattle.onfi_run.proofs.Ports.{set_port}
 use Rattle.onfi_run.proofs.Sends.{none_there, one_more}
 use Rattle.onfi_run.proofs.station.Station.leave_out.Goals as goal
 
 pub returns-then-channel-len-clause-same : goal.returns-then-channel-len-clause-same
 returns-then-channel-len-clause-same c =
-    set_port c.args.self.now.ports.items c.args.channel c.index_mut.result.now c.leave_out.new.self (omega (arith, c.if-channel-len.true, c.len.ensures)) (c.leave_out.ensures.same ∙ ap port_key c.index_mut.ensures.value)
+    map-set_same port_key c.args.self.now.ports.items c.args.channel c.leave_out.new.self c.index_mut.result.now
+    (c.leave_out.ensures.same ∙ ap port_key c.index_mut.ensures.value)
 
 pub returns-then-channel-len-clause-left : goal.returns-then-channel-len-clause-left
 returns-then-channel-len-clause-left c requests request sending =

@@ -1,16 +1,17 @@
 use Rattle.std.proofs.Common.{ap, ◌≡◌, ◌∙◌, List, [], ◌∷◌, ◌++◌, subst, arith}
 use Rattle.std.specs.Prelude.{IfSome, IfNone}
+use Rattle.std.proofs.Math.Seq.{map-set_same}
 use Rattle.onfi_request.specs.declared.request.Request.{Request}
 use Rattle.onfi_run.specs.declared.port.Port.{Port}
 use Rattle.onfi_run.specs.Keys.{port_key, port_state}
 use Rattle.onfi_run.specs.Sending.{IsSending}
-use Rattle.onfi_run.proofs.Ports.{set_port}
 use Rattle.onfi_run.proofs.Sends.{none_there, tried_one}
 use Rattle.onfi_run.proofs.station.Station.submit_once.Goals as goal
 
 pub returns-then-channel-len-clause-same : goal.returns-then-channel-len-clause-same
 returns-then-channel-len-clause-same g c =
-    set_port c.args.self.now.ports.items c.args.channel c.index_mut.result.now c.submit.new.self (omega (arith, c.if-channel-len.true, c.len.ensures)) (c.submit.ensures.same ∙ ap port_key c.index_mut.ensures.value)
+    map-set_same port_key c.args.self.now.ports.items c.args.channel c.submit.new.self c.index_mut.result.now
+    (c.submit.ensures.same ∙ ap port_key c.index_mut.ensures.value)
 
 pub returns-then-channel-len-clause-tried : goal.returns-then-channel-len-clause-tried
 returns-then-channel-len-clause-tried g c =

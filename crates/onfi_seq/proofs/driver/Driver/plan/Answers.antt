@@ -2,7 +2,7 @@ use Rattle.onfi_chip.specs.Chip.{Chip}
 use Rattle.onfi_core.specs.declared.event.Event.TheVariants as event
 use Rattle.onfi_core.specs.Refusals.{planned_outcome}
 use Rattle.onfi_core.specs.State.{quiet}
-use Rattle.onfi_core.specs.Steps.{Step}
+use Rattle.onfi_core.specs.Steps.{IsPromised, Step}
 use Rattle.onfi_seq.specs.Driver.{DriverFields}
 use Rattle.onfi_seq.proofs.Driving.{driven_planned, outside, planning_step}
 use Rattle.onfi_seq.proofs.driver.Driver.plan.Goals as goal
@@ -11,7 +11,7 @@ pub invariant_of-self : goal.invariant_of-self
 invariant_of-self g c =
     let f = c.self.inside in
     let e = c.plan.ensures in
-    driven_planned f.half c.plan.new.self (g.C.Chip.state f.chip) f.lanes c.plan.result c.self.invariant e.planned e.refused e.settled e.setup
+    driven_planned (IsPromised g.P.Planner.exact g.P.Planner.certifies) f.half c.plan.new.self (g.C.Chip.state f.chip) f.lanes c.plan.result c.self.invariant e.planned e.promised e.refused e.settled e.setup
 
 pub returns-clause-step : goal.returns-clause-step
 returns-clause-step g c channel =

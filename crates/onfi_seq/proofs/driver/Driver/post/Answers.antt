@@ -1,6 +1,7 @@
 use Rattle.std.proofs.Common.{◌≡◌, ap, ◌∙◌}
 use Rattle.std.specs.List.{filter}
 use Rattle.onfi_core.specs.State.{is_to}
+use Rattle.onfi_core.specs.Steps.{IsPromised}
 use Rattle.onfi_core.specs.View.{HalfView}
 use Rattle.onfi_seq.specs.Driver.{DriverFields}
 use Rattle.onfi_seq.proofs.Driving.{driven_posted, may_post, within}
@@ -21,4 +22,4 @@ invariant_of-self-in-Ok g c =
     let lent = c.in-Some.ensures.lent in
     let goes = rw lent at c.posted.ensures.posted in
     let setup = c.posted.ensures.setup ∙ ap (λ (v : HalfView). v.setup) lent in
-    rw setup (driven_posted f.half.setup f.half.state (g.C.Chip.state f.chip) i.reached c.args.host c.in-Some.reply c.posted.new.self.lent c.posted.new.self.state f.lanes goes c.posted.ensures.settled i.lanes_are)
+    rw setup (driven_posted f.half.setup f.half.state (g.C.Chip.state f.chip) i.reached c.args.host c.in-Some.reply (IsPromised g.P.Planner.exact g.P.Planner.certifies) c.posted.new.self.lent c.posted.new.self.state f.lanes goes c.posted.ensures.settled i.lanes_are i.last)

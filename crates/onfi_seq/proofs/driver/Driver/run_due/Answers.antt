@@ -6,7 +6,7 @@ use Rattle.onfi_core.specs.declared.setup.Setup.{Setup}
 use Rattle.onfi_core.specs.Drive.{HasRun}
 use Rattle.onfi_core.specs.Dues.{IsDue}
 use Rattle.onfi_core.specs.State.{quiet}
-use Rattle.onfi_core.specs.Steps.{Step, bus_refusal}
+use Rattle.onfi_core.specs.Steps.{IsPromised, Step, bus_refusal}
 use Rattle.onfi_core.specs.View.{HalfView}
 use Rattle.onfi_seq.specs.Driver.{DriverFields}
 use Rattle.onfi_seq.proofs.Driving.{driven_ran, driven_stopped, may_run_here, outside, ran_phase, stopped_phase, within}
@@ -32,7 +32,7 @@ invariant_of-self g c =
     let after = ap (λ (v : HalfView). v.state) c.done.ensures.done in
     let lent = ap (λ (v : HalfView). v.lent) c.done.ensures.done ∙ i.settled in
     let setup = ap (λ (v : HalfView). v.setup) c.done.ensures.done in
-    rw setup (driven_ran f.half.setup f.half.state chip i.reached c.args.due is open' c.member-item.result.now c.member-item.ensures c.done.new.self.lent (g.C.Chip.state c.run_due.new.chip) c.run_due.new.self c.in-Ok.ran c.done.new.self.state ran after lent c.in-Ok.ensures.agree)
+    rw setup (driven_ran f.half.setup f.half.state chip i.reached c.args.due is open' c.member-item.result.now c.member-item.ensures (IsPromised g.P.Planner.exact g.P.Planner.certifies) c.done.new.self.lent (g.C.Chip.state c.run_due.new.chip) c.run_due.new.self c.in-Ok.ran c.done.new.self.state ran after lent c.in-Ok.ensures.agree i.last)
 
 pub returns-in-Ok-clause-ran : goal.returns-in-Ok-clause-ran
 returns-in-Ok-clause-ran g c channel =
@@ -57,7 +57,7 @@ invariant_of-self-in-Some g c =
     let after = ap (λ (v : HalfView). v.state) c.stop.ensures in
     let lent = ap (λ (v : HalfView). v.lent) c.stop.ensures ∙ i.settled in
     let setup = ap (λ (v : HalfView). v.setup) c.stop.ensures in
-    rw setup (driven_stopped f.half.setup f.half.state chip i.reached c.args.due is open' c.member-item.result.now c.member-item.ensures c.stop.new.self.lent (g.C.Chip.state c.run_due.new.chip) c.run_due.new.self c.in-Err.fault c.in-Some.cause c.stop.new.self.state stops c.in-Err.ensures.not_ready c.in-Err.ensures.err after lent)
+    rw setup (driven_stopped f.half.setup f.half.state chip i.reached c.args.due is open' c.member-item.result.now c.member-item.ensures (IsPromised g.P.Planner.exact g.P.Planner.certifies) c.stop.new.self.lent (g.C.Chip.state c.run_due.new.chip) c.run_due.new.self c.in-Err.fault c.in-Some.cause c.stop.new.self.state stops c.in-Err.ensures.not_ready c.in-Err.ensures.err after lent i.last)
 
 pub returns-in-Some-clause-ran : goal.returns-in-Some-clause-ran
 returns-in-Some-clause-ran g c channel =

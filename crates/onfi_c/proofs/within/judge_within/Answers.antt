@@ -1,0 +1,13 @@
+use Rattle.std.proofs.Common.{subst}
+use Rattle.onfi_known.specs.Within.{IsWithinTextFault}
+use Rattle.onfi_c.proofs.Recalled.{is_shown}
+use Rattle.onfi_c.proofs.within.judge_within.Goals as goal
+
+pub returns-in-Ok-clause-shown : goal.returns-in-Ok-clause-shown
+returns-in-Ok-clause-shown c =
+    let e = c.in-Ok.ensures in
+    (is_shown c.args.problem.now c.args.schedule.now c.args.below c.in-Ok.finish c.args.certificate.now c.requires.begun e.legal e.finish e.below e.least e.accepted, e.finish)
+
+pub returns-in-Err-clause-refused : goal.returns-in-Err-clause-refused
+returns-in-Err-clause-refused c =
+    (c.in-Err.fault, subst (λ all. IsWithinTextFault all c.args.problem.now.problem c.args.schedule.now c.args.below c.args.certificate.now c.in-Err.fault) c.requires.begun c.in-Err.ensures.fault, c.of_within.ensures)

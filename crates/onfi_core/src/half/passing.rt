@@ -1,0 +1,153 @@
+//! Time that passes.
+
+ghost use Rattle.std.specs.Prelude.{◌≡◌, ◌+◌, ◌<◌, ◌^◌, max, nat_lt, true, if◌then◌else◌, None, Some, IfOk, IfErr, MatchOption, OnErr};
+ghost use Rattle.onfi_core.specs.Steps.{is_current, is_in_array, readied, ready_of, ready_refusal, wait_lag, wait_refusal, waited};
+ghost use Rattle.onfi_core.specs.Times.{all_starts, latest_start};
+ghost use Rattle.onfi_core.specs.Refusals.{ready_outcome, wait_outcome};
+
+use crate::half::Half;
+use crate::lag::lag_of;
+use crate::later::{delay_groups, delay_rest};
+use crate::outcome::Cause;
+use onfi_problem::LunState;
+use std::alloc::Global;
+
+/// All moments of a channel are before this one, in ns.
+const END: u64 = 1 << 62;
+
+/// Why the bus doesn't wait, in the order in which it is told.
+#[derive(Clone, Copy, Debug, PartialEq, Eq)]
+pub enum WaitRefusal {
+    /// The channel stopped.
+    Stopped(Cause),
+    /// The moment, or the last start of what would be left of the plan, is at 2^62 ns or behind.
+    TooLate,
+}
+
+/// Why a LUN isn't found ready, in the order in which it is told.
+#[derive(Clone, Copy, Debug, PartialEq, Eq)]
+pub enum ReadyRefusal {
+    /// There is no such LUN.
+    NoSuchLun,
+    /// The channel stopped.
+    Stopped(Cause),
+    /// No array of the LUN works: it is free, or its group is in its commands or in its posts.
+    NotInArray,
+}
+
+impl Half {
+    /// The bus was idle until that moment, in ns of the channel's clock: no phase starts sooner. What is left of the plan
+    /// starts later, all of it by as much as its first phase would start too soon; it stays legal. It isn't optimal for the
+    /// bus as it is now, so from then on there is something to plan while a phase is left. From when on the bus is free is
+    /// answered. A moment that has passed changes nothing. This takes no memory.
+    ///
+    /// # Errors
+    /// `Stopped` where the channel stopped; `TooLate` where the moment, or the last start of what would be left of the plan,
+    /// is at 2^62 ns or behind. Then nothing changes.
+    pub fn wait(&mut self, alloc: Global, moment: u64) -> Result<u64, WaitRefusal>
+        requires settled { self.old.lent ≡ None }
+        ensures waited { IfOk result (λ bus_free. (wait_refusal moment self.old.state ≡ None) × (bus_free ≡ max self.old.state.now.bus_free moment)
+            × (self.new ≡ record self.old { state = waited moment self.old.state })) }
+        ensures refused { IfErr result (λ refusal. wait_refusal moment self.old.state ≡ Some (wait_outcome refusal)) }
+        ensures unchanged { OnErr result (self.new ≡ self.old) }
+        ensures settled { self.new.lent ≡ None }
+        ensures setup { self.new.setup ≡ self.old.setup }
+    {
+        if let Some(cause) = self.stopped {
+            return Err(WaitRefusal::Stopped(cause));
+        }
+        let lag = lag_of(moment, self.rest.as_slice(), self.groups.as_slice());
+        if moment.max(lag.latest.saturating_add(lag.by)) >= END {
+            return Err(WaitRefusal::TooLate);
+        }
+        Ok(self.start_later(alloc, moment, lag.by))
+    }
+
+    // The bus isn't free before that moment, and what is left of the plan starts later by so much.
+    fn start_later(&mut self, alloc: Global, moment: u64, by: u64) -> u64
+        requires lag { by ≡ wait_lag moment self.old.state }
+        requires in_time { latest_start (all_starts self.old.state.left) + by < 2 ^ 62 }
+        ensures waited { self.new ≡ record self.old { state = waited moment self.old.state } }
+        ensures bus_free { result ≡ max self.old.state.now.bus_free moment }
+    {
+        let bus_free = self.bus_free.max(moment);
+        self.outdated = is_outdated(self.outdated, self.bus_free, moment);
+        self.bus_free = bus_free;
+        delay_rest(alloc, &mut self.rest, by);
+        delay_groups(alloc, &mut self.groups, by);
+        bus_free
+    }
+
+    /// Why no LUN is found ready, if so: told before the chip is asked.
+    pub fn refuses_ready(&self, lun: u8) -> Option<ReadyRefusal>
+        ensures { MatchOption result (ready_refusal lun self.now.state ≡ None) (λ refusal. ready_refusal lun self.now.state ≡ Some (ready_outcome refusal)) }
+    {
+        let at = usize::from(lun);
+        if at >= self.luns.len() {
+            return Some(ReadyRefusal::NoSuchLun);
+        }
+        if let Some(cause) = self.stopped {
+            return Some(ReadyRefusal::Stopped(cause));
+        }
+        if is_in_array(&self.luns[at]) {
+            None
+        } else {
+            Some(ReadyRefusal::NotInArray)
+        }
+    }
+
+    /// The chip says that the array of that LUN is done: its first post may start as the bus is free, or as it might
+    /// before. From when on is answered, in ns. What is left of the plan stays as it is, and legal; where the LUN is ready
+    /// sooner there is something to plan while a phase is left. This takes no memory.
+    ///
+    /// Where the LUN isn't ready the chip's next post breaks what the chip asks for.
+    pub fn ready(&mut self, lun: u8) -> u64
+        requires settled { self.old.lent ≡ None }
+        requires in_array { ready_refusal lun self.old.state ≡ None }
+        ensures readied { self.new ≡ record self.old { state = readied lun self.old.state } }
+        ensures ready { result ≡ ready_of lun self.old.state }
+    {
+        let at = usize::from(lun);
+        let LunState::Running { group, next, ready } = &self.luns[at] else {
+            unreachable!();
+        };
+        let sooner = (*ready).min(self.bus_free);
+        let outdated = is_outdated(self.outdated, self.bus_free, *ready);
+        let state = LunState::Running {
+            group: group.copy(),
+            next: *next,
+            ready: sooner,
+        };
+        self.luns[at] = state;
+        self.outdated = outdated;
+        sooner
+    }
+
+    /// Whether the plan is that of the bus and the LUNs as they stand, or nothing of it is left.
+    pub(crate) fn is_current(&self) -> bool
+        ensures { result ≡ is_current self.now.state }
+    {
+        if self.outdated {
+            !self.has_phase()
+        } else {
+            true
+        }
+    }
+}
+
+// Whether the array of a LUN works: its group's next phase is the first post.
+fn is_in_array(lun: &LunState) -> bool
+    ensures { result ≡ is_in_array (Some lun.now) }
+{
+    match lun {
+        LunState::Running { group, next, .. } => usize::from(*next) == group.len(),
+        LunState::Free { .. } => false,
+    }
+}
+
+// Whether the plan was outdated, or is where the bus is free from that moment on at the soonest.
+fn is_outdated(outdated: bool, bus_free: u64, moment: u64) -> bool
+    ensures { result ≡ (if outdated then true else nat_lt bus_free moment) }
+{
+    outdated || bus_free < moment
+}

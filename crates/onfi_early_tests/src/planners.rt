@@ -1,0 +1,156 @@
+use crate::early::{timing, with_status_due};
+use onfi_early::{Weights, cost_of, slack_of};
+use onfi_group::Rules;
+use onfi_plan::{Planner, PlannerFault};
+use onfi_planners::{
+    BestSoFarPlanner, ChosenEarly, ChosenPlanner, EarlyPlanner, PlainPlanner, RememberingPlanner,
+    SlackPlanner, Weighing,
+};
+use onfi_problem::{LunState, Problem};
+use onfi_request::Want;
+use onfi_timing::Kind;
+use std::alloc::Global;
+use std::test::Fail;
+
+// What a plan by a planner costs where all requests count alike, when it ends, and before what nothing ends.
+fn told(
+    alloc: Global,
+    planner: &impl Planner,
+    problem: &Problem,
+) -> Result<(u128, u64, u64), PlannerFault> {
+    let plan = planner.plan(alloc, problem, 1000)?;
+    let equal = Weights {
+        wants: [1; 8],
+        running: [[1; 4]; 8],
+    };
+    let cost = cost_of(problem, &plan.schedule, &equal);
+    Ok((cost, plan.finish, plan.below))
+}
+
+// All three requests count alike: 908 + 8 + 461.
+#[test]
+fn a_plan_of_each_planner_is_made_better(rt: HostRuntime) -> Result<(), Fail> {
+    let alloc = rt.alloc();
+    let problem = with_status_due(alloc)?;
+    let weighing = Weighing::Equal;
+    let plain = EarlyPlanner {
+        planner: PlainPlanner,
+        weighing,
+    };
+    assert!(rt; told(alloc, &plain, &problem) == Ok((1377, 908, 908)));
+    let remembering = EarlyPlanner {
+        planner: RememberingPlanner,
+        weighing,
+    };
+    assert!(rt; told(alloc, &remembering, &problem) == Ok((1377, 908, 908)));
+    let best = EarlyPlanner {
+        planner: BestSoFarPlanner,
+        weighing,
+    };
+    assert!(rt; told(alloc, &best, &problem) == Ok((1377, 908, 908)));
+    Ok(())
+}
+
+// Four thousandths of 908 are 3 whole ns, which let the status go first: 3 + 911 + 461.
+#[test]
+fn a_plan_ends_later_by_a_slack(rt: HostRuntime) -> Result<(), Fail> {
+    let alloc = rt.alloc();
+    let problem = with_status_due(alloc)?;
+    let slack = SlackPlanner {
+        planner: RememberingPlanner,
+        weighing: Weighing::Equal,
+        per_mille: 4,
+    };
+    assert!(rt; told(alloc, &slack, &problem) == Ok((1375, 911, 908)));
+    let less = SlackPlanner {
+        planner: RememberingPlanner,
+        weighing: Weighing::Equal,
+        per_mille: 3,
+    };
+    assert!(rt; told(alloc, &less, &problem) == Ok((1377, 908, 908)));
+    Ok(())
+}
+
+#[test]
+fn a_slack_is_of_the_time_between(rt: HostRuntime) {
+    assert_eq!(rt; slack_of(4, 0, 908), 3);
+    assert_eq!(rt; slack_of(20, 1_000, 101_000), 2_000);
+    assert_eq!(rt; slack_of(1_000, 7, 9), 2);
+    assert_eq!(rt; slack_of(60_000, 7, 9), 2);
+    assert_eq!(rt; slack_of(20, 9, 7), 0);
+}
+
+// By age the status and the erase count 48 each, the program 16.
+#[test]
+fn a_planner_and_a_slack_are_chosen(rt: HostRuntime) -> Result<(), Fail> {
+    let alloc = rt.alloc();
+    let problem = with_status_due(alloc)?;
+    let planners = [
+        ChosenPlanner::Plain,
+        ChosenPlanner::Remembering,
+        ChosenPlanner::BestSoFar,
+    ];
+    for planner in planners {
+        let none = ChosenEarly {
+            planner,
+            slack: None,
+        };
+        assert!(rt; told(alloc, &none, &problem) == told(alloc, &planner, &problem));
+        let zero = ChosenEarly {
+            planner,
+            slack: Some(0),
+        };
+        assert!(rt; told(alloc, &zero, &problem) == Ok((1377, 908, 908)));
+        let more = ChosenEarly {
+            planner,
+            slack: Some(4),
+        };
+        assert!(rt; told(alloc, &more, &problem) == Ok((1375, 911, 908)));
+    }
+    Ok(())
+}
+
+// Two reads of two LUNs; the older one, accepted at place 5, is that of LUN 1.
+fn with_an_older_read(alloc: Global) -> Result<Problem, Fail> {
+    let luns = [LunState::Free { since: 0 }, LunState::Free { since: 0 }];
+    let (kind, plane, block, page) = (Kind::Read, 0, 0, 0);
+    let wants = [
+        Want {
+            id: 5,
+            kind,
+            lun: 1,
+            plane,
+            block,
+            page,
+        },
+        Want {
+            id: 9,
+            kind,
+            lun: 0,
+            plane,
+            block,
+            page,
+        },
+    ];
+    let rules = Rules::new(true, true, false, 1);
+    Ok(Problem::new(alloc, timing()?, rules, 0, &luns, &wants)?)
+}
+
+// The first data end at 10 + 100 + 20, the others 20 later.
+#[test]
+fn the_older_of_two_reads_ends_first(rt: HostRuntime) -> Result<(), Fail> {
+    let alloc = rt.alloc();
+    let problem = with_an_older_read(alloc)?;
+    let by_age = EarlyPlanner {
+        planner: PlainPlanner,
+        weighing: Weighing::default(),
+    };
+    let plan = by_age.plan(alloc, &problem, 1000)?;
+    let first = Weights {
+        wants: [1, 0, 0, 0, 0, 0, 0, 0],
+        running: [[1; 4]; 8],
+    };
+    assert_eq!(rt; plan.finish, 150);
+    assert_eq!(rt; cost_of(&problem, &plan.schedule, &first), 130);
+    Ok(())
+}

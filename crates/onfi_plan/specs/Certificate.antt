@@ -1,0 +1,31 @@
+-- Certificates, and what they show.
+use Rattle.std.specs.Prelude.{◌≡◌, ℕ, List}
+use Rattle.onfi_request.specs.declared.want.Want.{Want}
+use Rattle.onfi_cert.specs.declared.token.Token.{Token}
+use Rattle.onfi_problem.specs.Problem.{Problem}
+use Rattle.onfi_check.specs.Tree.{AcceptsTokens}
+use Rattle.onfi_known.specs.declared.token.Token.{Token as KnownToken}
+use Rattle.onfi_known.specs.Proves.{ProvesTokens}
+use Rattle.onfi_known.specs.Text.{IsCertificate}
+use Rattle.onfi_plan.specs.declared.certificate.Certificate.{Certificate as Kept}
+use Rattle.onfi_plan.specs.declared.certificate.Certificate.TheVariants as kept
+
+-- tokens, or the text of tokens that remember states
+pub data Certificate : Type 0 where
+  Plain : List Token → Certificate
+  Remembering : List ℕ → Certificate
+
+abbrev pub certificate_in : Kept → Certificate
+certificate_in (kept.Plain tokens) = Plain tokens.items
+certificate_in (kept.Remembering text) = Remembering text.items
+
+abbrev pub IsPlain : Certificate → Type 0
+IsPlain cert = (tokens : List Token) × (cert ≡ Plain tokens)
+
+abbrev pub IsRemembering : Certificate → Type 0
+IsRemembering cert = (text : List ℕ) × (cert ≡ Remembering text)
+
+-- it is accepted for that number, under the problem's option; `all` are the wants that the problem began with
+abbrev pub ShowsBelow : Certificate → List Want → Problem → ℕ → Type 0
+ShowsBelow (Plain tokens) all p below = AcceptsTokens tokens p below
+ShowsBelow (Remembering text) all p below = (tokens : List KnownToken) × IsCertificate text p.rules.strict tokens × ProvesTokens all tokens p below

@@ -1,0 +1,66 @@
+//! The search that remembers states and answers within its limit, as a planner.
+
+ghost use Rattle.std.specs.Prelude.{◌≡◌, ◌≤◌, ◌<◌, ℕ, IsTrue, IfOk, IfErr};
+ghost use Rattle.onfi_schedule.specs.Schedule.{Legal, finish};
+ghost use Rattle.onfi_check.specs.Nodes.{HasMoreNodes};
+ghost use Rattle.onfi_known.specs.Laws.{NoneBefore};
+ghost use Rattle.onfi_plan.specs.Certificate.{IsRemembering, Remembering, ShowsBelow, certificate_in};
+
+use onfi_plan::{Certificate, Plan, Planner, PlannerFault, none_ends_before};
+use onfi_problem::Problem;
+use onfi_recall::{PlannedWithin, plan_within};
+use std::alloc::Global;
+
+/// Plans by [`plan_within`](onfi_recall::plan_within): the best plan that was found within the limit, with before what
+/// none ends, as its certificate shows. It isn't exact, and refuses for memory alone.
+#[derive(Clone, Copy, Debug, Default)]
+pub struct BestSoFarPlanner;
+
+impl Planner for BestSoFarPlanner {
+    ghost use Rattle.std.specs.Prelude.{false};
+    ghost use Rattle.onfi_plan.specs.Certificate.{IsRemembering};
+
+    ghost exact = { false };
+
+    ghost certifies = { IsRemembering };
+
+    fn plan(&self, alloc: Global, problem: &Problem, limit: u32) -> Result<Plan, PlannerFault>
+        requires some { 1 ≤ limit }
+        requires few { limit ≤ 1048576 }
+        ensures legal { IfOk result (λ plan. Legal problem.now.problem plan.schedule) }
+        ensures finish { IfOk result (λ plan. finish problem.now.problem plan.schedule ≡ plan.finish) }
+        ensures below { IfOk result (λ plan. plan.below ≤ plan.finish) }
+        ensures none_before { IfOk result (λ plan. NoneBefore problem.now.problem plan.below) }
+        ensures shown { IfOk result (λ plan. ShowsBelow (certificate_in plan.cert) problem.now.all problem.now.problem plan.below) }
+        ensures kind { IfOk result (λ plan. IsRemembering (certificate_in plan.cert)) }
+        ensures opened { IfOk result (λ plan. plan.opened ≤ limit) }
+        ensures reopened { IfOk result (λ plan. plan.reopened ≤ limit) }
+        ensures short { IfOk result (λ plan. plan.below < plan.finish → HasMoreNodes problem.now.problem limit) }
+        ensures memory { IfErr result (λ fault. fault ≡ PlannerFault.Memory) }
+    {
+        none_ends_before(problem);
+        match plan_within(alloc, problem, limit) {
+            Ok(planned) => Ok(plan_of(planned)),
+            Err(_) => Err(PlannerFault::Memory),
+        }
+    }
+}
+
+// The plan of a search.
+fn plan_of(planned: PlannedWithin) -> Plan
+    ensures schedule { result.schedule ≡ planned.schedule }
+    ensures finish { result.finish ≡ planned.finish }
+    ensures below { result.below ≡ planned.below }
+    ensures cert { certificate_in result.cert ≡ Remembering planned.cert.items }
+    ensures opened { result.opened ≡ planned.opened }
+    ensures reopened { result.reopened ≡ planned.reopened }
+{
+    Plan {
+        schedule: planned.schedule,
+        finish: planned.finish,
+        below: planned.below,
+        cert: Certificate::Remembering(planned.cert),
+        opened: planned.opened,
+        reopened: planned.reopened,
+    }
+}

@@ -1,0 +1,8 @@
+/// By what a batch is chosen of all accepted items that aren't started.
+#[derive(Clone, Copy)]
+pub enum Choosing {
+    /// The LUN that comes free first gives first.
+    ByLun,
+    /// .. and each LUN its reads first.
+    ReadsFirst,
+}

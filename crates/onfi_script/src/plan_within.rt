@@ -1,0 +1,92 @@
+//! Plan texts with a line that says before which time nothing ends.
+ghost use Rattle.std.specs.Prelude.{◌≡◌, MatchOption, MatchResult, Ok, Err, Some, None};
+ghost use Rattle.onfi_script.specs.Parts.{parts};
+ghost use Rattle.onfi_script.specs.PlanText as spec;
+ghost use Rattle.onfi_script.specs.Stop.{Gives};
+ghost use Rattle.onfi_script.specs.Wrong.{IfWrong};
+
+use crate::parts::cut;
+use crate::plan_line::below_of;
+use crate::plan_text::{Plan, PlanStop, opening, read_lines};
+use onfi_request::Want;
+use std::alloc::Global;
+
+/// What a plan text says, and the text of its certificate.
+#[derive(Drop)]
+pub struct PlanWithin<'a> {
+    pub plan: Plan,
+    /// Nothing ends before this time, in ns, as the text says; the finish where no line says so.
+    pub below: u64,
+    pub certificate: &'a [u8],
+}
+
+/// The number of a line `below` in front of a text, and what stands behind it.
+#[tactic(auto, using(crate::proofs::PlanLemmas::below_taken, crate::proofs::PartsLemmas::some_parts))]
+fn below_first(text: &[u8]) -> Option<(u64, &[u8])>
+    ensures { MatchOption result (spec.below_first (parts 10 text.now) ≡ None) (λ r. spec.below_first (parts 10 text.now) ≡ Some (r.0, parts 10 r.1.now)) }
+{
+    let (line, behind) = cut(text, b'\n')?;
+    let below = below_of(line)?;
+    Some((below, behind))
+}
+
+/// The plan of that finish, in ns, with the lines behind a line `below`.
+fn read_below<'a>(
+    alloc: Global,
+    wants: &[Want],
+    finish: u64,
+    below: u64,
+    text: &'a [u8],
+) -> Result<PlanWithin<'a>, PlanStop>
+    ensures { Gives IfWrong (λ r. (r.plan, r.below, r.certificate.now)) result (spec.behind_below below (spec.lines_of wants.now finish (parts 10 text.now))) }
+{
+    match read_lines(alloc, wants, finish, text) {
+        Ok((plan, certificate)) => Ok(PlanWithin {
+            plan,
+            below,
+            certificate,
+        }),
+        Err(PlanStop::Wrong(number)) => Err(PlanStop::Wrong(number + 1)),
+        Err(PlanStop::Memory) => Err(PlanStop::Memory),
+    }
+}
+
+/// .. with the lines of a text in which no line `below` stands.
+fn read_optimal<'a>(
+    alloc: Global,
+    wants: &[Want],
+    finish: u64,
+    text: &'a [u8],
+) -> Result<PlanWithin<'a>, PlanStop>
+    ensures { Gives IfWrong (λ r. (r.plan, r.below, r.certificate.now)) result (spec.without_below finish (spec.lines_of wants.now finish (parts 10 text.now))) }
+{
+    let (plan, certificate) = read_lines(alloc, wants, finish, text)?;
+    Ok(PlanWithin {
+        plan,
+        below: finish,
+        certificate,
+    })
+}
+
+/// What a plan text says of these wants, before which time nothing ends, and the text of its certificate: a line
+/// `below N` may stand behind the finish.
+///
+/// # Errors
+/// `Wrong` with the first line that is wrong, as [`read_plan`](crate::read_plan) tells it; `Memory` where a growth was
+/// refused.
+pub fn read_plan_within<'a>(
+    alloc: Global,
+    wants: &[Want],
+    text: &'a [u8],
+) -> Result<PlanWithin<'a>, PlanStop>
+    ensures { MatchResult result (λ r. spec.plan_within_of wants.now text.now ≡ Ok (r.plan, r.below, r.certificate.now)) (λ stop. IfWrong stop (λ number. spec.plan_within_of wants.now text.now ≡ Err number)) }
+{
+    let (finish, behind) = match opening(text) {
+        Ok(opened) => opened,
+        Err(number) => return Err(PlanStop::Wrong(number)),
+    };
+    match below_first(behind) {
+        Some((below, rest)) => read_below(alloc, wants, finish, below, rest),
+        None => read_optimal(alloc, wants, finish, behind),
+    }
+}

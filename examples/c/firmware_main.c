@@ -1,0 +1,516 @@
+/*
+ * The driver of firmware.c on a mock of a board, and a greedy way in its place; it prints what came of both.
+ *
+ *     cc -std=c99 -O2 firmware*.c $(pkg-config --cflags --libs onfi) -lm -o firmware
+ *     ./firmware [NAME VALUE]..
+ *
+ *   device    tlc, slc, qlc                              tlc
+ *   workload  mixed, reads, sequential, erases           mixed
+ *   byte      ns a byte on the bus, 0.001 to 1000        2
+ *   luns      1 to 8                                     8
+ *   depth     requests outstanding, 1 to 256             64
+ *   load      share of the bus that arrivals ask for     0: a new request comes with each answer
+ *   array     real array times, in shares of the stated  1-1
+ *   told      yes: R/B# tells when a LUN is ready; no    yes
+ *   late      ns by which phases start later at most     0
+ *   slow      ns by which they take longer at most       0
+ *   requests  answered before it ends                    2000
+ *   seconds   of simulated time, in place of requests    0: as many as are asked for
+ *   seed      of all that is random                      1
+ *   way       both, plans, greedy                        both
+ *   choice    by-lun, in-order, reads-first              by-lun
+ *   plan      early: requests end early; within: no      early
+ *   weights   age, equal                                 age
+ *   limit     nodes that a search may open               2000
+ *   slack     thousandths that an early plan ends later  20
+ *   ends      yes prints when each request ends; no      no
+ *
+ * The first tenth isn't measured. The exit status is 0, 1 where a call refuses or the board is misused, 2 where a word can't be
+ * read. Devices, workloads and the greedy way are those of tools/onfi_tools/rolling.
+ */
+#include "firmware.h"
+
+#include <inttypes.h>
+#include <math.h>
+#include <stdio.h>
+#include <stdlib.h>
+#include <string.h>
+#include <time.h>
+
+enum { LATENCIES = 1 << 17 }; /* latencies in us; longer ones count as the greatest */
+
+typedef struct {
+    const char *name;
+    bool (*next)(driver *d, uint64_t now, onfi_phase *phase);
+    bool (*run)(driver *d, const onfi_phase *phase, uint64_t start, uint8_t *page);
+} way;
+
+static const way WAYS[] = {{"plans", driver_next, driver_run}, {"greedy", greedy_next, greedy_run}};
+
+/* A request that the host has sent and that isn't answered. */
+typedef struct {
+    onfi_want want;
+    uint64_t arrived;
+} sent;
+
+typedef struct {
+    size_t answered;
+    double sum;
+    uint32_t count[LATENCIES];
+} latencies;
+
+typedef struct {
+    const setup *of;
+    way has;
+    driver firmware;
+    board mock;
+    host sender;
+    struct onfi_bus bus;
+    uint64_t now;
+    uint64_t delays; /* a state of random numbers */
+    size_t outstanding;
+    sent owed[QUEUE]; /* in order of acceptance */
+    uint64_t answered;
+    latencies latency[KINDS];
+    uint64_t from, to; /* what is measured */
+    uint64_t busy;     /* how long the bus was busy before */
+    double planning, longest; /* processor time of all turns in which was planned, and of the longest, in s */
+    const char *wrong;
+} run;
+
+/* Of pool.c, with which -DPOOL_BYTES=N says that this is linked. */
+#ifdef POOL_BYTES
+#ifdef __cplusplus
+extern "C" {
+#endif
+size_t pool_peak(void);
+void stack_paint(void);
+void stack_note(void);
+size_t stack_peak(void);
+#ifdef __cplusplus
+}
+#endif
+
+static void print_costs(const run *r)
+{
+    double plans = r->firmware.planned ? (double)r->firmware.planned : 1;
+    printf("  memory %zu bytes, stack %zu bytes, a plan %.0f us in the mean, %.0f us at most\n", pool_peak(), stack_peak(), r->planning / plans * 1e6,
+           r->longest * 1e6);
+}
+#else
+static void stack_paint(void)
+{
+}
+
+static void stack_note(void)
+{
+}
+
+static void print_costs(const run *r)
+{
+    (void)r;
+}
+#endif
+
+/* What is stated of the device, in ns. */
+
+enum { SHORT_BUSY = 600, BEGINS_BUSY = 100, COLUMN_CHANGE = 500, ADDRESS_TO_DATA = 400, STATUS = 80, TURN = 100 };
+
+static onfi_spans spans_of(uint64_t command, uint64_t array, uint64_t post)
+{
+    onfi_spans spans;
+    spans.cmd = command;
+    spans.gap = SHORT_BUSY;
+    spans.array = BEGINS_BUSY + array;
+    spans.post = post;
+    return spans;
+}
+
+static onfi_channel channel_of(const setup *of)
+{
+    uint64_t cycle = of->byte >= 20 ? 20 : 25, page = (uint64_t)(of->made_of.bytes * of->byte + 0.5); /* of commands and addresses */
+    uint64_t status = 4 * cycle + STATUS + cycle + TURN;
+    onfi_channel channel;
+    memset(&channel, 0, sizeof channel);
+    channel.timing.read = spans_of(7 * cycle, of->made_of.array[ONFI_READ], 7 * cycle + COLUMN_CHANGE + page + TURN);
+    channel.timing.program = spans_of(7 * cycle + ADDRESS_TO_DATA + page, of->made_of.array[ONFI_PROGRAM], status);
+    channel.timing.erase = spans_of(5 * cycle, of->made_of.array[ONFI_ERASE], status);
+    channel.rules.read = channel.rules.write = true;
+    channel.rules.plane_bits = of->made_of.plane_bits;
+    return channel;
+}
+
+static onfi_geometry geometry_of(const setup *of)
+{
+    onfi_geometry geometry;
+    memset(&geometry, 0, sizeof geometry);
+    geometry.blocks_per_lun = BLOCKS;
+    geometry.block_bits = BLOCK_BITS;
+    geometry.pages_per_block = PAGES;
+    geometry.page_bits = PAGE_BITS;
+    geometry.lun_count = (uint8_t)of->luns;
+    geometry.lun_bits = of->luns > 4 ? 3 : of->luns > 2 ? 2 : of->luns > 1 ? 1 : 0;
+    geometry.data_bytes = (uint16_t)of->made_of.bytes;
+    geometry.plane_address_bits = of->made_of.plane_bits;
+    geometry.column_address_cycles = 2;
+    geometry.row_address_cycles = ROW_CYCLES;
+    geometry.multi_plane_reads = geometry.multi_plane_writes = true;
+    return geometry;
+}
+
+static void open_run(run *r, const setup *of, const way *has)
+{
+    memset(r, 0, sizeof *r);
+    r->of = of;
+    r->has = *has;
+    board_open(&r->mock, of);
+    r->bus = board_bus(&r->mock);
+    r->firmware.bus = &r->bus;
+    r->firmware.plans = of->plans;
+    r->firmware.luns = of->luns;
+    r->firmware.channel = channel_of(of);
+    r->firmware.geometry = geometry_of(of);
+    host_open(&r->sender, of, &r->firmware.channel.timing);
+}
+
+/* What comes in. */
+
+static void accept_next(run *r, uint64_t arrived)
+{
+    sent *owed = &r->owed[r->outstanding++];
+    owed->want = driver_accept(&r->firmware, host_want(&r->sender), arrived);
+    owed->arrived = arrived;
+}
+
+static bool has_room(const run *r)
+{
+    return r->outstanding < r->of->outstanding;
+}
+
+/* In a closed loop a request comes with each answer, and with an erase those of the other planes. */
+static void accept_closed(run *r)
+{
+    while (has_room(r) || r->sender.mates)
+        accept_next(r, r->now);
+}
+
+static void accept_open(run *r)
+{
+    while (has_room(r) && r->sender.next_arrival <= r->now) {
+        accept_next(r, r->sender.next_arrival);
+        host_arrival(&r->sender);
+    }
+}
+
+/* The interrupts of R/B# so far. */
+static void tell_ready(run *r)
+{
+    for (unsigned lun = 0; lun < r->of->luns; lun++)
+        if (r->mock.lun[lun].rises <= r->now) {
+            driver_ready(&r->firmware, lun, r->mock.lun[lun].rises);
+            r->mock.lun[lun].rises = NEVER;
+        }
+}
+
+/* When the next interrupt comes. */
+static uint64_t next_event(const run *r)
+{
+    uint64_t rises = board_next_rise(&r->mock);
+    bool comes = r->of->load > 0 && has_room(r) && r->sender.next_arrival < rises;
+    return comes ? r->sender.next_arrival : rises;
+}
+
+/* What goes out. */
+
+static bool is_measured(const run *r)
+{
+    return r->of->seconds > 0 ? (double)r->now > r->of->seconds * 1e8 : r->answered > r->of->requests / 10;
+}
+
+static void count_answer(run *r, const sent *owed)
+{
+    latencies *of_kind = &r->latency[owed->want.kind];
+    uint64_t latency = r->now - owed->arrived;
+    r->to = r->now;
+    if (!is_measured(r)) {
+        r->from = r->now;
+        r->busy = r->mock.busy;
+        return;
+    }
+    of_kind->answered++;
+    of_kind->sum += (double)latency;
+    of_kind->count[latency / 1000 < LATENCIES ? latency / 1000 : LATENCIES - 1]++;
+}
+
+/* The place of the request that a post answers, if it is one that is owed, and no earlier one on its block is; else how many are owed. */
+static size_t place_of(const run *r, const onfi_phase *phase)
+{
+    for (size_t at = 0; at < r->outstanding; at++) {
+        const onfi_want *want = &r->owed[at].want;
+        bool is_block = want->lun == phase->lun && want->block == phase->block;
+        if (want->id == phase->want && is_block && want->page == phase->page && want->kind == phase->kind)
+            return at;
+        if (is_block)
+            break;
+    }
+    return r->outstanding;
+}
+
+static const char *take_answer(run *r, const onfi_phase *phase, const uint8_t *page)
+{
+    uint8_t wanted[SHOWN];
+    size_t at = place_of(r, phase);
+    put_page(wanted, phase->lun, phase->block, phase->page);
+    if (at == r->outstanding)
+        return "an answer to no request, or before an earlier one on its block";
+    if (phase->kind == ONFI_READ ? memcmp(page, wanted, SHOWN) != 0 : r->firmware.status != 0xE0)
+        return "the data of another page, or a bad status";
+    r->answered++;
+    count_answer(r, &r->owed[at]);
+    if (r->of->ends)
+        printf("%s %" PRIu64 " %" PRIu64 "\n", r->has.name, phase->want, r->now);
+    r->outstanding--;
+    memmove(r->owed + at, r->owed + at + 1, (r->outstanding - at) * sizeof *r->owed);
+    return NULL;
+}
+
+static void run_phase(run *r, const onfi_phase *phase)
+{
+    uint8_t page[SHOWN];
+    uint64_t start = later_of(phase->start, r->now) + (uint64_t)(next_share(&r->delays) * r->of->late);
+    put_page(page, phase->lun, phase->block, phase->page);
+    if (phase->is_post)
+        memset(page, 0, sizeof page);
+    bool went = r->has.run(&r->firmware, phase, start, page);
+    r->now = r->mock.bus_free;
+    if (r->mock.wrong)
+        r->wrong = r->mock.wrong;
+    else if (!went)
+        r->wrong = "a call refuses what has run";
+    else if ((double)(r->now - start - (phase->end - phase->start)) > r->of->slow)
+        r->wrong = "a phase ends at another time than was told";
+    else if (phase->is_post)
+        r->wrong = take_answer(r, phase, page);
+}
+
+/* Asks what is due, and notes what that cost. */
+static bool ask_next(run *r, onfi_phase *phase)
+{
+    uint64_t planned = r->firmware.planned;
+    stack_paint();
+    clock_t begun = clock();
+    bool any = r->has.next(&r->firmware, r->now, phase);
+    double seconds = (double)(clock() - begun) / CLOCKS_PER_SEC;
+    stack_note();
+    if (r->firmware.planned > planned) {
+        r->planning += seconds;
+        r->longest = seconds > r->longest ? seconds : r->longest;
+    }
+    return any;
+}
+
+/* Runs what is due, or waits for an interrupt that comes before it. */
+static void turn(run *r)
+{
+    onfi_phase phase;
+    (r->of->load > 0 ? accept_open : accept_closed)(r);
+    tell_ready(r);
+    bool any = ask_next(r, &phase);
+    uint64_t event = next_event(r);
+    if (r->firmware.refused)
+        r->wrong = "a call refuses what is asked";
+    else if (any && phase.start <= event)
+        run_phase(r, &phase);
+    else if (event < NEVER)
+        r->now = later_of(event, r->now);
+    else
+        r->wrong = "requests are left, and nothing is due";
+}
+
+static bool is_over(const run *r)
+{
+    return r->of->seconds > 0 ? (double)r->now >= r->of->seconds * 1e9 : r->answered >= r->of->requests;
+}
+
+/* What came of it. */
+
+/* The least whole number of us that 99 of 100 requests don't reach. */
+static size_t not_reached(const latencies *of_kind)
+{
+    size_t us = 0, left = (of_kind->answered * 990 + 999) / 1000;
+    while (left > of_kind->count[us])
+        left -= of_kind->count[us++];
+    return us + 1;
+}
+
+static void print_run(const run *r)
+{
+    static const char *const NAMES[KINDS] = {"reads", "programs", "erases"};
+    double span = (double)(r->to - r->from), busy = (double)(r->mock.busy - r->busy);
+    size_t answered = r->latency[0].answered + r->latency[1].answered + r->latency[2].answered;
+    printf("%s: %.3f requests a second, bus busy %.3f %%, %" PRIu64 " plans\n", r->has.name, (double)answered * 1e9 / span, 100 * busy / span,
+           r->firmware.planned);
+    for (unsigned kind = 0; kind < KINDS; kind++) {
+        const latencies *of_kind = &r->latency[kind];
+        if (of_kind->answered)
+            printf("  %zu %s: %.3f us in the mean, 99 %% within %zu us\n", of_kind->answered, NAMES[kind],
+                   of_kind->sum / (double)of_kind->answered / 1000, not_reached(of_kind));
+    }
+    print_costs(r);
+}
+
+/* Whether all went well by a way. */
+static bool run_way(run *r, const setup *of, const way *has)
+{
+    open_run(r, of, has);
+    while (!r->wrong && !is_over(r))
+        turn(r);
+    if (r->wrong)
+        fprintf(stderr, "firmware: %s: %s (%" PRIu32 ")\n", has->name, r->wrong, r->firmware.refused);
+    else if (!of->ends)
+        print_run(r);
+    return !r->wrong;
+}
+
+/* The words. */
+
+enum { BYTE, LUNS, DEPTH, LOAD, LATE, SLOW, REQUESTS, SECONDS, SEED, LIMIT, SLACK, NUMBERS };
+enum { DEVICE, WORKLOAD, TOLD, WAY, CHOICE, PLAN, WEIGHTS, ENDS, CHOICES };
+
+static const struct {
+    const char *name;
+    double least, most, usual;
+    bool is_whole;
+} NUMBER[NUMBERS] = {
+    {"byte", 0.001, 1000, 2, false}, {"luns", 1, ONFI_LUNS, 8, true},     {"depth", 1, MOST_OUTSTANDING, 64, true},
+    {"load", 0, 100, 0, false},      {"late", 0, 1e9, 0, false},          {"slow", 0, 1e9, 0, false},
+    {"requests", 1, 1e9, 2000, true}, {"seconds", 0, 1000, 0, false},     {"seed", 1, 1e15, 1, true},
+    {"limit", 1, ONFI_NODES, 2000, true}, {"slack", 0, 1000, 20, true},
+};
+
+/* The first value is the usual one. */
+static const struct {
+    const char *name, *value[4];
+} CHOSEN[CHOICES] = {
+    {"device", {"tlc", "slc", "qlc", ""}},    {"workload", {"mixed", "reads", "sequential", "erases"}},
+    {"told", {"yes", "no", "", ""}},          {"way", {"both", "plans", "greedy", ""}},
+    {"choice", {"by-lun", "in-order", "reads-first", ""}}, {"plan", {"early", "within", "", ""}},
+    {"weights", {"age", "equal", "", ""}},    {"ends", {"no", "yes", "", ""}},
+};
+
+static const device DEVICES[] = {
+    {"tlc", 16384 + 2048, 2, {75000, 800000, 10000000}},
+    {"slc", 4096 + 224, 1, {25000, 250000, 2000000}},
+    {"qlc", 16384 + 2048, 2, {140000, 2500000, 15000000}},
+};
+
+typedef struct {
+    double number[NUMBERS];
+    unsigned chosen[CHOICES];
+    double least_array, most_array;
+} words;
+
+/* Two shares with a dash between them. */
+static bool put_array(const char *text, words *w)
+{
+    char *end;
+    w->least_array = strtod(text, &end);
+    if (end == text || *end != '-')
+        return false;
+    const char *other = end + 1;
+    w->most_array = strtod(other, &end);
+    return end != other && !*end && w->least_array >= 0 && w->least_array <= w->most_array && w->most_array <= 1;
+}
+
+static bool put_number(const char *name, const char *text, words *w)
+{
+    char *end;
+    double number = strtod(text, &end);
+    for (unsigned at = 0; at < NUMBERS; at++)
+        if (!strcmp(NUMBER[at].name, name)) {
+            w->number[at] = number;
+            bool is_in_range = number >= NUMBER[at].least && number <= NUMBER[at].most;
+            return end != text && !*end && is_in_range && (!NUMBER[at].is_whole || floor(number) == number);
+        }
+    return false;
+}
+
+static bool put_choice(const char *name, const char *text, words *w)
+{
+    for (unsigned at = 0; at < 4 * CHOICES && *text; at++)
+        if (!strcmp(CHOSEN[at / 4].name, name) && !strcmp(CHOSEN[at / 4].value[at % 4], text)) {
+            w->chosen[at / 4] = at % 4;
+            return true;
+        }
+    return false;
+}
+
+static void put_usual(words *w)
+{
+    memset(w, 0, sizeof *w);
+    w->least_array = w->most_array = 1;
+    for (unsigned at = 0; at < NUMBERS; at++)
+        w->number[at] = NUMBER[at].usual;
+}
+
+static bool put_words(int count, char **texts, words *w)
+{
+    put_usual(w);
+    for (int at = 1; at < count; at += 2) {
+        const char *name = texts[at], *text = at + 1 < count ? texts[at + 1] : "";
+        bool is_read = strcmp(name, "array") ? put_number(name, text, w) || put_choice(name, text, w) : put_array(text, w);
+        if (!is_read) {
+            fprintf(stderr, "firmware: can't read %s %s\n", name, text);
+            return false;
+        }
+    }
+    return true;
+}
+
+static planning planning_of(const words *w)
+{
+    static const uint8_t CHOICE_OF[] = {ONFI_BY_LUN, ONFI_IN_ORDER, ONFI_READS_FIRST};
+    planning made;
+    made.choice = CHOICE_OF[w->chosen[CHOICE]];
+    made.early = w->chosen[PLAN] == 0;
+    made.by_age = w->chosen[WEIGHTS] == 0;
+    made.slack = (uint16_t)w->number[SLACK];
+    made.limit = (uint32_t)w->number[LIMIT];
+    return made;
+}
+
+static setup setup_of(const words *w)
+{
+    setup made;
+    made.made_of = DEVICES[w->chosen[DEVICE]];
+    made.byte = w->number[BYTE];
+    made.luns = (unsigned)w->number[LUNS];
+    made.workload = w->chosen[WORKLOAD];
+    made.outstanding = (size_t)w->number[DEPTH];
+    made.load = w->number[LOAD];
+    made.late = w->number[LATE];
+    made.slow = w->number[SLOW];
+    made.least_array = w->least_array;
+    made.most_array = w->most_array;
+    made.told = w->chosen[TOLD] == 0;
+    made.ends = w->chosen[ENDS] == 1;
+    made.requests = (size_t)w->number[REQUESTS];
+    made.seconds = w->number[SECONDS];
+    made.seed = (uint64_t)w->number[SEED];
+    made.plans = planning_of(w);
+    return made;
+}
+
+int main(int count, char **texts)
+{
+    static run r;
+    words w;
+    if (!put_words(count, texts, &w))
+        return 2;
+    setup of = setup_of(&w);
+    bool is_well = true;
+    for (unsigned at = 0; at < 2 && is_well; at++)
+        if (w.chosen[WAY] == 0 || w.chosen[WAY] == at + 1)
+            is_well = run_way(&r, &of, &WAYS[at]);
+    return is_well ? EXIT_SUCCESS : EXIT_FAILURE;
+}

@@ -1,0 +1,273 @@
+"""A drive of two channels of eight LUNs in SimPy: each channel plans in rolling use, and asks which phase is due.
+
+    ONFI_LIBRARY=lib/libonfi.so PYTHONPATH=python python3 examples/python/ssd.py [--requests N] [--seed N] [--load SHARE] [--ends] ..
+
+A channel has 64 requests outstanding: a new one comes with each answer, or with --load by itself. It does what the driver of
+examples/c/firmware.c does: channel 0 answers each request when `firmware way plans` with the same seed does, channel 1 when it
+does with the next seed. With --ends it prints when: channel, number, end.
+
+SimPy 3 or later is wanted (Debian's python3-simpy3, or pip's simpy). Without it nothing is simulated. Times are ns.
+"""
+
+from __future__ import annotations
+
+import argparse
+import dataclasses
+import importlib
+import math
+from typing import Any, Dict, Iterator, List, Optional, Tuple
+
+from onfi import Channel, Geometry, Kind, Lun, NothingDue, Phase, Rules, Schedule, Spans, Timing, Want, choose, due, plan_early, ran
+
+CHANNELS, LUNS, PLANES, DEPTH = 2, 8, 4, 64
+PAGE_BYTES, PAGES, BLOCKS = 16_384 + 2_048, 1_152, 16_384
+READ_BLOCKS, PROGRAM_BLOCKS, FIRST_PROGRAMMED = 512 * PLANES, 400, 1_000
+ARRAYS = {Kind.READ: 75_100, Kind.PROGRAM: 800_100, Kind.ERASE: 10_000_100}
+GEOMETRY = Geometry(BLOCKS, 11, 14, 3, PAGES, PAGE_BYTES - 2_048, 2_048, LUNS, 2, 2, 4, False, True, True)
+WORD = (1 << 64) - 1
+
+
+@dataclasses.dataclass(frozen=True)
+class Setup:
+    """How long a byte has the bus, what is simulated, and how it is planned."""
+
+    byte: float
+    requests: int
+    load: float
+    array: Tuple[float, float]
+    limit: int
+    slack: int
+    ends: bool
+
+
+def channel_of(byte: float) -> Channel:
+    """A channel by its stated times, in ns."""
+    cycle, page = 20 if byte >= 20 else 25, int(PAGE_BYTES * byte + 0.5)
+    status = 5 * cycle + 180
+    read = Spans(7 * cycle, 600, ARRAYS[Kind.READ], 7 * cycle + 600 + page)
+    program = Spans(7 * cycle + 400 + page, 600, ARRAYS[Kind.PROGRAM], status)
+    return Channel(Timing(read, program, Spans(5 * cycle, 600, ARRAYS[Kind.ERASE], status)), Rules(True, True, False, 2))
+
+
+class Numbers:
+    """A row of random numbers (splitmix64), the same as in C."""
+
+    def __init__(self, state: int) -> None:
+        self.state = state & WORD
+
+    def number(self) -> int:
+        self.state = (self.state + 0x9E3779B97F4A7C15) & WORD
+        mixed = ((self.state ^ self.state >> 30) * 0xBF58476D1CE4E5B9) & WORD
+        mixed = ((mixed ^ mixed >> 27) * 0x94D049BB133111EB) & WORD
+        return mixed ^ mixed >> 31
+
+    def share(self) -> float:
+        """From 0 to below 1."""
+        return (self.number() >> 11) / 9007199254740992.0
+
+    def below(self, bound: int) -> int:
+        return (self.number() >> 32) * bound >> 32
+
+
+class Host:
+    """Seven of ten requests are reads of any page, the others programs of a run over planes, LUNs, pages."""
+
+    def __init__(self, seed: int) -> None:
+        self.wants, self.arrivals, self.programs = Numbers(2 * seed), Numbers(2 * seed + 1), 0
+
+    def want(self, number: int) -> Want:
+        if self.wants.share() < 0.7:
+            lun, block = self.wants.below(LUNS), self.wants.below(READ_BLOCKS)
+            return Want(number, Kind.READ, lun, block, self.wants.below(PAGES))
+        row, place = divmod(self.programs, PLANES * LUNS)
+        self.programs += 1
+        block = (FIRST_PROGRAMMED + row // PAGES % PROGRAM_BLOCKS) * PLANES + place % PLANES
+        return Want(number, Kind.PROGRAM, place // PLANES, block, row % PAGES)
+
+    def pause(self, mean: float) -> int:
+        """How long until the next one comes by itself."""
+        return 1 + int(-math.log(1 - self.arrivals.share()) * mean)
+
+
+class Controller:
+    """One channel: what waits, what is planned, and what is on its bus."""
+
+    def __init__(self, simpy: Any, env: Any, number: int, seed: int, setup: Setup) -> None:
+        self.simpy, self.env, self.number, self.seed, self.setup = simpy, env, number, seed, setup
+        self.host = Host(seed)
+        self.channel = channel_of(setup.byte)
+        self.luns: List[Lun] = [Lun()] * LUNS
+        self.queue: List[Want] = []
+        self.batch: List[Want] = []
+        self.schedule: Optional[Schedule] = None
+        self.arrived: Dict[int, int] = {}
+        self.accepted = self.outstanding = self.plans = self.busy = 0
+        self.latencies: List[int] = []
+        self.until = 0
+        self.is_told = False
+        self.news = env.event()
+        self.room = env.event()
+        env.process(self.open_loop() if setup.load else self.closed_loop())
+        self.ended = env.process(self.loop())
+
+    def tell(self) -> None:
+        """Wakes the loop where it waits."""
+        if not self.news.triggered:
+            self.news.succeed()
+
+    def accept(self, arrived: int) -> None:
+        want = self.host.want(self.accepted)
+        self.accepted += 1
+        self.outstanding += 1
+        self.queue.append(want)
+        self.arrived[want.id] = arrived
+
+    def closed_loop(self) -> Iterator[Any]:
+        """The first requests; each answer brings the next one."""
+        for _ in range(DEPTH):
+            self.accept(self.env.now)
+        self.tell()
+        yield self.env.timeout(0)
+
+    def open_loop(self) -> Iterator[Any]:
+        """Requests come one by one, and wait where there is no room."""
+        read, program = self.channel.timing.read, self.channel.timing.program
+        mean = 0.7 * (read.cmd + read.post)
+        mean = (mean + 0.3 * (program.cmd + program.post)) / self.setup.load
+        arrival = 0
+        while True:
+            arrival += self.host.pause(mean)
+            yield self.env.timeout(max(arrival - self.env.now, 0))
+            while self.outstanding == DEPTH:
+                self.room = self.env.event()
+                yield self.room
+            self.accept(arrival)
+            self.tell()
+
+    def array(self, lun: int, time: int) -> Iterator[Any]:
+        """R/B# of a LUN rises before the stated time."""
+        running = self.luns[lun]
+        yield self.env.timeout(time)
+        if self.luns[lun] == running:
+            self.luns[lun] = dataclasses.replace(running, since=self.env.now)
+            self.is_told = True
+            self.tell()
+
+    def weights(self) -> Tuple[List[int], List[List[int]]]:
+        """Of what is planned, and of what runs: the older a request the more it counts."""
+        now = self.env.now
+        ages = [now - self.arrived[want.id] for want in self.batch]
+        running = [[now - self.arrived[want.id] for want in lun.members] for lun in self.luns]
+        count = len(ages) + sum(map(len, running))
+        mean = max((sum(ages) + sum(map(sum, running))) / max(count, 1), 1)
+
+        def weight(age: int) -> int:
+            return min(int(8 + 32 * (age / mean) * (age / mean)), 65_535)
+
+        return [weight(age) for age in ages], [[weight(age) for age in of] for of in running]
+
+    def next_phase(self) -> Optional[Phase]:
+        """Which phase is due. What is new is planned first, from now on."""
+        from_now = dataclasses.replace(self.channel, bus_free=max(self.channel.bus_free, self.env.now))
+        chosen = [self.queue[place] for place in choose(from_now, self.luns, self.queue, self.accepted)]
+        if self.is_told or any(want not in self.batch for want in chosen):
+            self.channel, self.batch, self.is_told = from_now, chosen, False
+            weights, running = self.weights()
+            self.schedule = plan_early(self.channel, self.luns, self.batch, weights, self.setup.slack, self.setup.limit, running).schedule
+            self.plans += 1
+        try:
+            return due(self.channel, self.luns, self.batch, GEOMETRY, self.schedule) if self.schedule else None
+        except NothingDue:
+            return None
+
+    def run_phase(self, phase: Phase) -> Iterator[Any]:
+        """Has it on the bus, and tells the library that it ran."""
+        assert self.schedule is not None
+        started = self.env.now
+        yield self.env.timeout(phase.end - phase.start)
+        members = self.luns[phase.lun].members
+        stand = ran(self.channel, self.luns, self.batch, self.schedule, phase.lun, phase.number, started)
+        self.channel, self.luns, self.batch, self.schedule = stand.channel, list(stand.luns), list(stand.wants), stand.schedule
+        self.busy += phase.end - phase.start
+        if phase.number == 0:
+            begun = {want.id for want in self.luns[phase.lun].members}
+            self.queue = [want for want in self.queue if want.id not in begun]
+        if phase.number + 1 == phase.members:
+            self.begin_array(phase)
+        if phase.is_post:
+            self.answer(phase)
+        if phase.number + 1 == 2 * phase.members:
+            for want in members:
+                del self.arrived[want.id]
+
+    def begin_array(self, phase: Phase) -> None:
+        """The array of a LUN works from now on, mostly for less than is stated."""
+        first, stated = self.luns[phase.lun].members[0].id, ARRAYS[phase.kind]
+        least, most = self.setup.array
+        share = least + (most - least) * Numbers(self.seed * 0x2545F4914F6CDD1D & WORD ^ first << 20).share()
+        if int(stated * share) < stated:
+            self.env.process(self.array(phase.lun, int(stated * share)))
+
+    def answer(self, phase: Phase) -> None:
+        self.outstanding -= 1
+        self.until = self.env.now
+        self.latencies.append(self.env.now - self.arrived[phase.want])
+        if self.setup.ends:
+            print(self.number, phase.want, self.env.now)
+        if not self.setup.load:
+            self.accept(self.env.now)
+        elif not self.room.triggered:
+            self.room.succeed()
+
+    def loop(self) -> Iterator[Any]:
+        """Runs what is due, or waits until it is, or until there is news before."""
+        while len(self.latencies) < self.setup.requests:
+            self.news = self.env.event()
+            phase = self.next_phase()
+            if phase is None:
+                yield self.news
+                continue
+            if phase.start > self.env.now:
+                yield self.env.timeout(phase.start - self.env.now) | self.news
+            if phase.start <= self.env.now:
+                yield from self.run_phase(phase)
+
+    def print_figures(self) -> None:
+        latencies, seconds = sorted(self.latencies), self.until / 1e9
+        mean, most = sum(latencies) / len(latencies) / 1e3, latencies[len(latencies) * 99 // 100 - 1] / 1e3
+        print(f"channel {self.number}: {len(latencies) / seconds:.0f} requests a second, bus busy {self.busy / 1e9 / seconds:.1%}, "
+              f"{self.plans} plans; {mean:.1f} us in the mean, 99 % within {most:.1f} us")
+
+
+def simulate(simpy: Any, seed: int, setup: Setup) -> None:
+    env = simpy.Environment()
+    channels = [Controller(simpy, env, number, seed + number, setup) for number in range(CHANNELS)]
+    for channel in channels:
+        env.run(channel.ended)
+    if not setup.ends:
+        for channel in channels:
+            channel.print_figures()
+
+
+def main() -> None:
+    parser = argparse.ArgumentParser(description=__doc__, formatter_class=argparse.RawDescriptionHelpFormatter)
+    parser.add_argument("--requests", type=int, default=500, metavar="N", help="answered on each channel")
+    parser.add_argument("--seed", type=int, default=1, metavar="N")
+    parser.add_argument("--byte", type=float, default=2, metavar="NS", help="how long a byte has the bus")
+    parser.add_argument("--load", type=float, default=0, metavar="SHARE", help="of the bus that arrivals ask for; 0: a new one comes with each answer")
+    parser.add_argument("--array", type=float, nargs=2, default=(1, 1), metavar="SHARE", help="real array times, in shares of the stated ones")
+    parser.add_argument("--limit", type=int, default=2_000, metavar="N", help="nodes that a search may open")
+    parser.add_argument("--slack", type=int, default=20, metavar="N", help="thousandths that a plan may end later")
+    parser.add_argument("--ends", action="store_true")
+    asked = parser.parse_args()
+    try:
+        simpy = importlib.import_module("simpy")
+    except ImportError:
+        print("nothing is simulated: SimPy is not installed (Debian's python3-simpy3, or pip's simpy)")
+        return
+    least, most = asked.array
+    simulate(simpy, asked.seed, Setup(asked.byte, asked.requests, asked.load, (least, most), asked.limit, asked.slack, asked.ends))
+
+
+if __name__ == "__main__":
+    main()

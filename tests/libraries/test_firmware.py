@@ -1,0 +1,255 @@
+"""The driver of examples/c: under sanitizers and valgrind, over a static pool, beside the simulator of rolling use, and the drive in SimPy."""
+
+from __future__ import annotations
+
+import os
+import re
+import shutil
+import subprocess
+import sys
+import tempfile
+import unittest
+from pathlib import Path
+from typing import Dict, List, Optional, Sequence, Tuple
+
+ROOT = Path(__file__).resolve().parent.parent.parent
+sys.dont_write_bytecode = True
+sys.path[:0] = [str(ROOT / "tools")]
+
+from onfi_tools import rolling_use  # noqa: E402
+
+LIBRARY = Path(os.environ.get("ONFI_LIBRARIES", ROOT / "lib")).resolve()
+EXAMPLES, TRIALS = ROOT / "examples/c", ROOT / "tests/libraries"
+STRICT = ["-Wall", "-Wextra", "-Werror", "-Wpedantic", "-Wconversion"]
+SANE = ["-fsanitize=address,undefined", "-fno-sanitize-recover=all", "-g"]
+C99, CXX = ("cc", "-std=c99", "-xc"), ("c++", "-std=c++17", "-xc++")
+FIRMWARE = ["firmware.c", "firmware_board.c", "firmware_greedy.c", "firmware_host.c", "firmware_main.c"]
+SSD = ROOT / "examples/python/ssd.py"
+# Runs whose plans are more than 10,000 together: what a loop, a device, a choice and a planner can be.
+RUNS = [
+    "requests 500",
+    "requests 800 byte 0.833 slack 0 workload erases choice reads-first weights equal",
+    "requests 1000 device slc load 0.7 array 0.4-0.7",
+    "requests 800 device slc late 700 slow 90 array 0.4-0.7 depth 256 workload sequential",
+    "requests 2000 plan within",
+    "requests 1500 plan within load 0.5 array 0.7-0.9 told no workload erases luns 2 byte 0.833",
+    "requests 1500 plan within device slc workload reads luns 4 depth 16 choice in-order",
+    "requests 1000 plan within device qlc byte 20 limit 200 load 0.8",
+    "requests 1500 plan within load 0.9 array 0.4-0.9 choice reads-first",
+]
+PLANS = 10_000
+# Runs by which the greedy way, and plans in order, are what the simulator has.
+SIMULATED = [
+    "device tlc byte 2 workload mixed",
+    "device slc byte 0.833 workload erases array 0.4-0.7",
+    "device qlc byte 20 workload reads luns 4 depth 16",
+    "device tlc byte 2 workload mixed load 0.6 array 0.7-0.9",
+]
+BOARD = """\
+nothing: legal
+the bus 1 ns sooner: the bus isn't free
+the gap 1 ns sooner: the LUN isn't ready
+an array of reads 1 ns sooner: the LUN isn't ready
+an array of programs 1 ns sooner: the LUN isn't ready
+a LUN that isn't there: a row that no page has
+a page that isn't there: a row that no page has
+a closer of a program: a closer that its opener doesn't have
+no command: no command begins so
+an erase among reads: a group of several kinds
+the same plane twice: the planes of a group don't rise
+another page in a group: a group of several pages
+a command while data are owed: a command while its LUN owes answers
+data before the group is closed: a post before its group is closed
+data in another order: a post of another page than comes next
+data for a status: the bytes of no post
+data without their last byte: the bytes of no post
+no program: no program begins so
+programs out of order: pages of a block aren't programmed in order
+a status of another page: a post of another page than comes next
+data of another page: the data of another page
+a row cycle too few: another count of row cycles than the device has
+"""
+
+ROOM = tempfile.TemporaryDirectory(prefix="onfi-firmware-")
+
+
+def tearDownModule() -> None:
+    ROOM.cleanup()
+
+
+def run(*words: str, **how: str) -> "subprocess.CompletedProcess[str]":
+    return subprocess.run(list(words), capture_output=True, text=True, env={**os.environ, **how}, timeout=600)
+
+
+def compiled(name: str, compiler: Sequence[str], options: Sequence[str], sources: Sequence[Path], pool: int = 0) -> str:
+    """A program; with a pool of so many bytes in place of the C library's allocator."""
+    made = Path(ROOM.name) / name
+    if made.is_file():
+        return str(made)
+    line = [*compiler, *STRICT, *options, f"-I{ROOT / 'include'}", f"-I{EXAMPLES}", *map(str, sources), "-xnone"]
+    if pool:
+        part = Path(ROOM.name) / f"{name}-pool.o"
+        told = run("cc", "-std=c99", "-O2", *STRICT, f"-DPOOL_BYTES={pool}", "-c", str(EXAMPLES / "pool.c"), "-o", str(part))
+        line += [str(part), f"-DPOOL_BYTES={pool}"]
+        if told.returncode:
+            raise AssertionError(told.stderr)
+    told = run(*line, str(LIBRARY / "libonfi.a"), "-lm", "-o", str(made))
+    if told.returncode or told.stderr:
+        raise AssertionError(told.stderr)
+    return str(made)
+
+
+def firmware(name: str, compiler: Sequence[str] = C99, options: Sequence[str] = ("-O2", "-g"), pool: int = 0) -> str:
+    return compiled(name, compiler, options, [EXAMPLES / source for source in FIRMWARE], pool)
+
+
+def sane() -> str:
+    return firmware("sane", options=["-O1", *SANE])
+
+
+def ends_of(text: str) -> Dict[int, int]:
+    """When each request ends, of lines whose last two words are its number and its end."""
+    rows = (line.split() for line in text.splitlines())
+    return {int(row[-2]): int(row[-1]) for row in rows}
+
+
+def simulated_ends(program: Path, words: Sequence[str]) -> Dict[int, int]:
+    told = run(str(program), *words, "trace", "yes")
+    if told.returncode:
+        raise AssertionError(told.stderr)
+    rows = (line.split() for line in told.stdout.splitlines())
+    return {int(row[4]): int(row[1]) for row in rows if row[3] == "post"}
+
+
+class Driver(unittest.TestCase):
+    def told(self, program: str, words: str, status: int = 0) -> str:
+        ran = run(program, *words.split())
+        self.assertEqual((ran.returncode, ran.stderr), (status, ""), words)
+        return ran.stdout
+
+    def test_ten_thousand_plans_under_sanitizers(self) -> None:
+        plans = 0
+        for words in RUNS:
+            told = self.told(sane(), words)
+            found = re.findall(r"^(plans|greedy): ([\d.]+) requests a second, bus busy ([\d.]+) %, (\d+) plans$", told, re.MULTILINE)
+            self.assertEqual([row[0] for row in found], ["plans", "greedy"], words)
+            self.assertEqual(found[1][3], "0", words)
+            self.assertTrue(all(0 < float(row[2]) <= 100 for row in found), words)
+            plans += int(found[0][3])
+        self.assertGreaterEqual(plans, PLANS)
+
+    def test_is_cxx_too(self) -> None:
+        words = "requests 400 device slc load 0.7 array 0.4-0.7 ends yes"
+        by_cxx = self.told(firmware("cxx", CXX, ["-O1", *SANE]), words)
+        self.assertEqual(by_cxx, self.told(sane(), words))
+        self.assertEqual(by_cxx.count("\n"), 800)
+
+    def test_has_no_fault_of_memory(self) -> None:
+        if shutil.which("valgrind") is None:
+            print("the driver under valgrind: left out, since Debian's valgrind is not installed")
+            return
+        program, words = firmware("plain"), "requests 200 device slc load 0.7 array 0.4-0.7".split()
+        ran = run("valgrind", "--quiet", "--error-exitcode=9", "--leak-check=full", "--show-leak-kinds=all", program, *words)
+        self.assertEqual((ran.returncode, ran.stderr), (0, ""), ran.stdout)
+
+    def test_its_figures_are_those_of_its_ends(self) -> None:
+        """Of the greedy way, by hand: all reads of one LUN, one at a time."""
+        told = self.told(sane(), "way greedy workload reads luns 1 depth 1 requests 200")
+        mean, bus = (175 + 75_100 + 37_639) / 1_000, (175 + 37_639) / (175 + 75_100 + 37_639)
+        self.assertEqual(told.splitlines(), [f"greedy: {1e6 / mean:.3f} requests a second, bus busy {100 * bus:.3f} %, 0 plans",
+                                             f"  180 reads: {mean:.3f} us in the mean, 99 % within 113 us"])
+
+    def test_so_much_time_in_place_of_so_many_requests(self) -> None:
+        ends = ends_of(self.told(sane(), "way greedy seconds 0.05 ends yes"))
+        self.assertAlmostEqual(max(ends.values()), 50_000_000, delta=1_000_000)
+        self.assertEqual(self.told(sane(), "way greedy seconds 0.05").count("requests a second"), 1)
+
+    def test_words_that_cant_be_read(self) -> None:
+        for words in ("way best", "device mlc", "luns 9", "luns 1.5", "depth", "array 0.9-0.4", "size 3", "byte 2x", "seed 0", "told"):
+            ran = run(sane(), *words.split())
+            self.assertEqual((ran.returncode, ran.stdout), (2, ""), words)
+            self.assertEqual(ran.stderr, f"firmware: can't read {words}{'' if ' ' in words else ' '}\n")
+
+
+class Simulated(unittest.TestCase):
+    """The driver and the simulator of tools/onfi_tools/rolling end each request at the same time."""
+
+    def test_the_greedy_way(self) -> None:
+        simulator = rolling_use.build(Path(ROOM.name) / "greedy", None)
+        for words in SIMULATED:
+            found = ends_of(run(sane(), *words.split(), "way", "greedy", "ends", "yes").stdout)
+            self.assertEqual(found, simulated_ends(simulator, [*words.split(), "way", "rfirst:all"]), words)
+            self.assertEqual(len(found), 2_000, words)
+
+    def test_plans_in_order(self) -> None:
+        simulator = rolling_use.build(Path(ROOM.name) / "planned", LIBRARY)
+        for words in SIMULATED:
+            both = [*words.split(), "requests", "200", "limit", "2000", "slack", "20"]
+            found = ends_of(run(sane(), *both, "way", "plans", "choice", "in-order", "ends", "yes").stdout)
+            self.assertEqual(found, simulated_ends(simulator, [*both, "way", "plan-early"]), words)
+            self.assertEqual(len(found), 200, words)
+
+
+class Board(unittest.TestCase):
+    def test_a_phase_that_is_spoilt_is_found(self) -> None:
+        sources = [TRIALS / "board_trials.c", EXAMPLES / "firmware_board.c", EXAMPLES / "firmware_host.c"]
+        ran = run(compiled("board", C99, ["-O1", *SANE], sources))
+        self.assertEqual((ran.stdout, ran.stderr), (BOARD, ""))
+
+
+class Pool(unittest.TestCase):
+    def test_random_blocks(self) -> None:
+        names = [f"-D{name}=pool_{name}" for name in ("malloc", "realloc", "free")]
+        made = compiled("pool-trials", C99, ["-O1", *SANE, *names, "-DPOOL_BYTES=8192"], [TRIALS / "pool_trials.c", EXAMPLES / "pool.c"])
+        ran = run(made)
+        self.assertEqual((ran.stdout, ran.stderr), ("wrong 0, some refused 1, too much refused 1, all at once 1, peak 1\n", ""))
+
+    def test_the_driver_over_a_pool(self) -> None:
+        """It does the same, and tells how much it took; with less a plan is refused. What is printed has 4 KB of the pool."""
+        words = "requests 100 way plans limit 2000".split()
+        ample = firmware("ample", pool=1 << 20)
+        ends = run(ample, *words, "ends", "yes")
+        self.assertEqual((ends.stdout, ends.stderr), (run(sane(), *words, "ends", "yes").stdout, ""))
+        memory = re.search(r"^  memory (\d+) bytes, stack (\d+) bytes,", run(ample, *words).stdout, re.MULTILINE)
+        assert memory is not None
+        self.assertTrue(1_000 < int(memory[1]) <= 1 << 20 and 1_000 < int(memory[2]) < 1 << 18, memory[0])
+        enough = firmware("enough", pool=int(memory[1]) + 8_192)
+        self.assertEqual(run(enough, *words, "ends", "yes").stdout, ends.stdout)
+        little = run(firmware("little", pool=int(memory[1]) // 2), *words, "ends", "yes")
+        self.assertEqual((little.returncode, little.stderr), (1, "firmware: plans: a call refuses what is asked (4)\n"))
+
+
+def python_with_simpy() -> Optional[str]:
+    """A Python that has SimPy; None where none has."""
+    for python in (sys.executable, "/usr/bin/python3"):
+        if shutil.which(python) and run(python, "-c", "import simpy").returncode == 0:
+            return python
+    return None
+
+
+class Drive(unittest.TestCase):
+    """Two channels in SimPy: channel 0 is the driver by a seed, channel 1 by the next one."""
+
+    def by_python(self, python: str, words: str) -> str:
+        path = os.pathsep.join([str(ROOT / "python"), os.environ.get("PYTHONPATH", "")])
+        ran = run(python, "-B", str(SSD), *words.split(), PYTHONPATH=path, ONFI_LIBRARY=str(LIBRARY / "libonfi.so"))
+        self.assertEqual((ran.returncode, ran.stderr), (0, ""), words)
+        return ran.stdout
+
+    def test_each_request_ends_when_it_does_in_c(self) -> None:
+        python = python_with_simpy()
+        if python is None:
+            print("the drive in SimPy: left out, since Debian's python3-simpy3 is not installed")
+            self.assertRegex(self.by_python(sys.executable, "--requests 10"), "^nothing is simulated: SimPy is not installed")
+            return
+        both: List[Tuple[str, str]] = [("--requests 150", ""), ("--requests 150 --load 0.7 --array 0.4 0.7", "load 0.7 array 0.4-0.7")]
+        for words, in_c in both:
+            told = self.by_python(python, f"--ends {words}")
+            for channel in (0, 1):
+                found = ends_of("\n".join(line for line in told.splitlines() if line.startswith(f"{channel} ")))
+                wanted = ends_of(run(sane(), *in_c.split(), *f"way plans ends yes requests 150 seed {channel + 1}".split()).stdout)
+                self.assertEqual({at: found.get(at) for at in wanted}, wanted, (words, channel))
+
+
+if __name__ == "__main__":
+    unittest.main()
