@@ -3,6 +3,7 @@ use Rattle.std.proofs.Common.{◌≡◌, ℕ, zero, suc, ◌+◌, ◌<◌, List,
 use Rattle.std.proofs.Math.ListN.{set}
 use Rattle.std.specs.Prelude.{map, slice_get}
 use Rattle.std.specs.List.{AllByRecursion as Each}
+use Rattle.std.proofs.lemmas.List.{length-map}
 use Rattle.onfi_addr.specs.declared.geometry.Geometry.{Geometry}
 use Rattle.onfi_addr.specs.declared.place.Place.{Place}
 use Rattle.onfi_addr.specs.Rows.{page_bytes_of}
@@ -63,22 +64,18 @@ open_below [] i h = absurd h
 open_below (y ∷ ys) zero h = omega arith
 open_below (y ∷ ys) (suc i) h = let l = open_below ys i h in omega arith
 
-length_map : {A B : Type 0} (f : A → B) (xs : List A) → length (map f xs) ≡ length xs
-length_map f [] = refl
-length_map f (x ∷ xs) = let e = length_map f xs in omega (arith, e)
-
 -- a LUN that may take a command is there
 pub lane_open : (lanes : List Lane) (luns : List Lun) (i j : ℕ) → map lun_of lanes ≡ luns → i ≡ j → IsOpenAt (slice_get luns j) → i < length lanes
 lane_open lanes luns i j e k h =
     let l = open_below luns j h in
-    let n : length luns ≡ length lanes = ap length (sym e) ∙ length_map lun_of lanes in
+    let n : length luns ≡ length lanes = ap length (sym e) ∙ length-map lanes lun_of in
     omega (arith, l, n, k)
 
 -- so is one that has posts left
 pub lane_posts : (lanes : List Lane) (luns : List Lun) (i j : ℕ) (lun : Lun) → map lun_of lanes ≡ luns → i ≡ j → slice_get luns j ≡ Some lun → i < length lanes
 lane_posts lanes luns i j lun e k h =
     let l = get_below luns j lun h in
-    let n : length luns ≡ length lanes = ap length (sym e) ∙ length_map lun_of lanes in
+    let n : length luns ≡ length lanes = ap length (sym e) ∙ length-map lanes lun_of in
     omega (arith, l, n, k)
 
 Each-set : {A : Type 0} (P : A → Type 0) (xs : List A) (i : ℕ) (x : A) → Each P xs → P x → Each P (set xs i x)

@@ -3,6 +3,7 @@ use Rattle.std.proofs.Common.{◌≡◌, ◌≢◌, ℕ, zero, suc, ◌+◌, ◌
 use Rattle.std.specs.Prelude.{nat_lt}
 use Rattle.std.specs.List.{list_any, AllByRecursion as All}
 use Rattle.std.proofs.lemmas.Bool.{cases_Bool, eq-eqb, ne_eqb, false≢true}
+use Rattle.std.proofs.lemmas.List.{take_all}
 use Rattle.onfi_request.specs.declared.want.Want.{Want}
 use Rattle.onfi_group.specs.declared.rules.Rules.{Rules}
 use Rattle.onfi_group.specs.Words.{Has, Pairs, total}
@@ -12,7 +13,7 @@ use Rattle.onfi_group.specs.Listing.{AreStartable, first_place, first_mask}
 use Rattle.onfi_group.proofs.Lists.{All-weaker, All-both, All-has, All-each, Has-get, Has-taken_more, Has-taken_last, Has-taken_cases}
 use Rattle.onfi_group.proofs.Growing.{Listed, Adds, SameSort, listed_grown, listed_same, listed_none}
 use Rattle.onfi_group.proofs.Counting.{IsCounted, counted_grown, counted_more, counted_none}
-use Rattle.onfi_group.proofs.Masks.{power, take_all, mask_none}
+use Rattle.onfi_group.proofs.Masks.{power, mask_none}
 use Rattle.onfi_group.proofs.Rising.{PlanesRise}
 
 on_own_block : (w : Want) → on_block w w ≡ true
@@ -89,9 +90,6 @@ pub record Opened (rules : Rules) (wants : List Want) (at i : ℕ) (groups : Lis
   pub listed : Listed rules (Opens wants at i) (first_mask wants) (2 ^ i) groups
   pub counted : IsCounted i groups
 
-pub opened_none : (rules : Rules) (wants : List Want) (lun : ℕ) → Opened rules wants lun 0 []
-opened_none rules wants lun = record { listed = listed_none rules (Opens wants lun 0) (first_mask wants) 1 (λ x s. s.0) (omega arith); counted = counted_none }
-
 pub opened_grown : (rules : Rules) (wants : List Want) (lun i : ℕ) (d : Want) (groups new : List (List Want)) → All (λ w. w.plane ≤ 3) wants → i < length wants
     → (get_or wants i d).lun ≡ lun → list_any (on_block (get_or wants i d)) (take i wants) ≡ false → Opened rules wants lun i groups → HasGrown rules (get_or wants i d) groups new → Opened rules wants lun (i + 1) new
 opened_grown rules wants lun i d groups new planes h same none_before o g =
@@ -121,7 +119,7 @@ lun_of_opens wants lun i (x ∷ xs) some h = h.0.2
 
 pub opened_all : (rules : Rules) (wants : List Want) (lun i : ℕ) (groups : List (List Want)) → length wants ≤ i → Opened rules wants lun i groups → AreStartable rules wants lun groups
 opened_all rules wants lun i groups whole o =
-    let e = take_all wants i whole in
+    let e = take_all i wants whole in
     record {
       only = All-weaker _ (λ g. IsStartable rules wants g × (lun_of g ≡ lun)) (λ g h. (record { group = h.0; first = All-weaker (Opens wants lun i) (IsFirst wants) (λ x s. s.1) g h.1 }, lun_of_opens wants lun i g h.0.some h.1)) groups o.listed.only;
       each = λ g s at. o.listed.each g s.group (All-each (Opens wants lun i) g (λ x k.

@@ -3,6 +3,7 @@ use Rattle.std.proofs.Common.{◌≡◌, ◌≢◌, ℕ, zero, suc, ◌+◌, ◌
 use Rattle.std.specs.Prelude.{◌==◌, nat_lt}
 use Rattle.std.specs.List.{list_any, AllByRecursion as All}
 use Rattle.std.proofs.lemmas.Bool.{cases_Bool, eq-eqb, ne_eqb}
+use Rattle.std.proofs.lemmas.List.{take_all}
 use Rattle.onfi_request.specs.declared.want.Want.{Want}
 use Rattle.onfi_group.specs.declared.rules.Rules.{Rules}
 use Rattle.onfi_group.specs.Words.{Has, Pairs}
@@ -111,19 +112,13 @@ found_same rules wants lun i d groups h other f = record {
   counted = counted_more i groups f.counted;
 }
 
-pub take_all : {A : Type 0} (xs : List A) (i : ℕ) → length xs ≤ i → take i xs ≡ xs
-take_all [] zero h = refl
-take_all [] (suc i) h = refl
-take_all (x ∷ xs) zero h = absurd (omega arith)
-take_all (x ∷ xs) (suc i) h = ap (λ ys. x ∷ ys) (take_all xs i (omega arith))
-
 lun_of_seen : (wants : List Want) (lun i : ℕ) (g : List Want) → 1 ≤ length g → All (Seen wants lun i) g → lun_of g ≡ lun
 lun_of_seen wants lun i [] some h = absurd (omega arith)
 lun_of_seen wants lun i (x ∷ xs) some h = h.0.1
 
 pub found_all : (rules : Rules) (wants : List Want) (lun i : ℕ) (groups : List (List Want)) → length wants ≤ i → Found rules wants lun i groups → AreCandidates rules wants lun groups
 found_all rules wants lun i groups whole f =
-    let e = take_all wants i whole in
+    let e = take_all i wants whole in
     record {
       only = All-weaker _ (IsCandidate rules wants lun) (λ g h. record {
         group = h.0;

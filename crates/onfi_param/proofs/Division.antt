@@ -84,9 +84,6 @@ step r b = reduced (r * 2 + b)
 step_xor : (r s b c : ℕ) → r < 65536 → s < 65536 → b < 2 → c < 2 → step (bit_xor r s) (bit_xor b c) ≡ bit_xor (step r b) (step s c)
 step_xor r s b c hr hs hb hc = ap reduced (sym (xor_block 1 r s b c hb hc)) ∙ reduced_xor (r * 2 + b) (s * 2 + c) (omega arith) (omega arith)
 
-shift : ℕ → ℕ
-shift r = reduced (r * 2)
-
 pub double_xor : (r s : ℕ) → bit_xor r s * 2 ≡ bit_xor (r * 2) (s * 2)
 double_xor r s = sym (
     ap (λ x. bit_xor x (s * 2)) (sym (add-zero (r * 2)))
@@ -182,17 +179,6 @@ behind_zeros (b ∷ s) r hr h =
     ∙ sym (xor_assoc (idle (reduced (r * 2)) (length s)) (idle (reduced (b * 32768 * 2)) (length s)) rest)
     ∙ ap (λ x. bit_xor x rest) (sym (idle_xor (length s) (reduced (r * 2)) (reduced (b * 32768 * 2)) (shift_lt r hr) (shift_lt (b * 32768) top)) ∙ ap (λ x. idle x (length s)) (sym (shift_xor r (b * 32768) hr top)))
     ∙ behind_zeros s (reduced (bit_xor r (b * 32768) * 2)) (shift_lt (bit_xor r (b * 32768)) (xor_lt 16 r (b * 32768) hr top)) h.1
-
--- the highest bit of the 16 is shifted out, and the others go up
-one_up : (r b w v x : ℕ) → r < 65536 → b < 2 → w < 32768 → v ≡ b * 32768 + w → x ≡ w * 2
-    → bit_xor (reduced (bit_xor r (b * 32768) * 2)) x ≡ reduced (bit_xor r v * 2)
-one_up r b w v x hr hb hw ev ex =
-    let top : b * 32768 < 65536 = omega arith in
-    let low : w < 65536 = omega arith in
-    let joined : bit_xor (b * 32768) w ≡ v = xor_shifted b 15 w hw ∙ sym ev in
-    ap (bit_xor (reduced (bit_xor r (b * 32768) * 2))) (ex ∙ sym (reduced_low (w * 2) (omega arith)))
-    ∙ sym (shift_xor (bit_xor r (b * 32768)) w (xor_lt 16 r (b * 32768) hr top) low)
-    ∙ ap (λ n. reduced (n * 2)) (xor_assoc r (b * 32768) w ∙ ap (bit_xor r) joined)
 
 -- the same, as a step of `fed`: r is what is kept once v is laid over it
 fed_one : (q b w v x : ℕ) (s : List ℕ) → q < 65536 → v < 65536 → b < 2 → w < 32768 → v ≡ b * 32768 + w → x ≡ w * 2

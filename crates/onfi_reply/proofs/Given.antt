@@ -34,9 +34,6 @@ front_whole seat x waiting old whole is =
     (λ before r behind at. subst (λ (l : List Reply). IsNext seat.opened l r) (sym (append_assoc (given_of seat.popped old) (x ∷ []) before))
     (whole.next (x ∷ before) r behind (is ∙ ap (λ (l : List Reply). x ∷ l) at)))
 
-pub front_given : (seat : InboxSeatView) (x : Reply) (waiting old : List Reply) → IsWhole seat old → old ≡ x ∷ waiting → given_of seat.popped waiting ≡ given_of seat.popped old ++ x ∷ []
-front_given seat x waiting old whole is = given_is seat.popped (given_of seat.popped old ++ x ∷ []) waiting (front_split seat x waiting old whole is)
-
 pub front_next : (seat : InboxSeatView) (x : Reply) (waiting old : List Reply) → IsWhole seat old → old ≡ x ∷ waiting → IsNext seat.opened (given_of seat.popped old) x
 front_next seat x waiting old whole is =
     subst (λ (l : List Reply). IsNext seat.opened l x) (append-nil (given_of seat.popped old)) (whole.next [] x waiting is)
@@ -56,13 +53,6 @@ pub taken_whole : (seat after : InboxSeatView) (x : Reply) (waiting old : List R
 taken_whole seat after x waiting old whole is longer next =
     subst (λ (y : InboxSeatView × List Reply). IsWhole y.0 y.1) (λ i. (sym is i, sym longer i))
     (whole_by (with_popped seat x) (given_of seat.popped old) (old ++ x ∷ []) (taken_split seat x old whole) (taken_next seat x old whole next))
-
-pub taken_given : (seat : InboxSeatView) (x : Reply) (old : List Reply) → IsWhole seat old → given_of (seat.popped ++ x ∷ []) (old ++ x ∷ []) ≡ given_of seat.popped old
-taken_given seat x old whole = given_is (seat.popped ++ x ∷ []) (given_of seat.popped old) (old ++ x ∷ []) (taken_split seat x old whole)
-
--- ---- one more is popped, and given, where none waits
-pub all_given : (popped : List Reply) → given_of popped [] ≡ popped
-all_given popped = given_is popped popped [] (sym (append-nil popped))
 
 alone_whole : (seat : InboxSeatView) → IsWhole seat []
 alone_whole seat = whole_by seat seat.popped [] (sym (append-nil seat.popped)) (λ before r behind at. absurd (not_nil before r behind at))

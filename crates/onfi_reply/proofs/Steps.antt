@@ -17,9 +17,6 @@ opened_at : (items : List Reply) (views : List View) (port : ℕ) (v : View) →
 opened_at items views port v n at (inl x) = absurd (n (sym (only Unopened port v (ap (λ (l : List View). get_elem? l port) (sym x.1) ∙ at)).1))
 opened_at items views port v n at (inr k) = k
 
-pub vacant : IsRuled [] (Unopened ∷ [])
-vacant = inl (refl, refl)
-
 abbrev first_history : OpenedFor → History
 first_history opened = record { opened = opened; posted = []; popped = []; poster = 0; inbox = 0; made = false; gone = false }
 

@@ -1,5 +1,5 @@
 -- The value of digits, as far as 64 bits hold it.
-use Rattle.std.proofs.Common.{◌≡◌, ◌<◌, ◌≤◌, ℕ, ◌+◌, ◌-◌, ◌*◌, ◌^◌, min, List, take, length, get_or, Bool, true, false, refl, sym, ap, ◌∙◌, arith, cond}
+use Rattle.std.proofs.Common.{◌≡◌, ◌<◌, ℕ, ◌+◌, ◌-◌, ◌*◌, ◌^◌, min, List, take, length, get_or, true, sym, ap, ◌∙◌, arith}
 use Rattle.std.specs.Char.{is_ascii_digit, digit_value}
 use Rattle.std.specs.List.{list_all}
 use Rattle.std.specs.Str.Parse.{digits_value}
@@ -7,13 +7,11 @@ use Rattle.std.proofs.lemmas.Int.Digits.{digits_value_more}
 use Rattle.std.proofs.lemmas.List.Folds.{list_all_at}
 use Rattle.std.proofs.lemmas.Bool.Decides.{nat_tests}
 use Rattle.std.specs.Prelude.{IsTrue}
-
-not_false : (b : Bool) → (b ≡ false → ⊥) → b ≡ true
-not_false b never = elim b as (λ x. (x ≡ false → ⊥) → x ≡ true) [ true ↦ λ n. refl | false ↦ λ n. absurd (n refl) ] never
+use Rattle.std.proofs.lemmas.Bool.{true_from_ne_false}
 
 -- each byte of digits is one
 pub digit_at : (text : List ℕ) (at : ℕ) → at < length text → IsTrue (list_all is_ascii_digit text) → is_ascii_digit (get_or text at 0) ≡ true
-digit_at text at h all = not_false _ (λ other. let e = list_all_at is_ascii_digit text at 0 h other in absurd (grind (arith, e, all)))
+digit_at text at h all = true_from_ne_false _ (λ other. let e = list_all_at is_ascii_digit text at 0 h other in absurd (grind (arith, e, all)))
 
 digit_is : (c : ℕ) → is_ascii_digit c ≡ true → digit_value c ≡ c - 48
 digit_is c h = grind (arith, nat_tests)

@@ -1,5 +1,5 @@
 -- A walk over the rows of a sheet.
-use Rattle.std.proofs.Common.{◌≡◌, ◌<◌, ◌≤◌, ℕ, suc, ◌+◌, List, [], ◌∷◌, map, length, drop, get_or, Ok, Err, refl, sym, ap, ◌∙◌, add-one, drop-cons}
+use Rattle.std.proofs.Common.{◌≡◌, ◌<◌, ◌≤◌, ℕ, ◌+◌, List, map, length, drop, get_or, Ok, Err, sym, ap, ◌∙◌, add-one, drop-cons}
 use Rattle.std.proofs.Math.ListN.{drop_of_length-le}
 use Rattle.onfi_timing.specs.declared.sheet.Sheet.{Sheet}
 use Rattle.onfi_timing.specs.declared.fault.SheetFault.{SheetFault}

@@ -1,6 +1,4 @@
-use Rattle.std.proofs.Common.{◌≡◌, ◌<◌, length, arith, ◌∙◌}
-use Rattle.std.specs.List.{list_all}
-use Rattle.std.specs.Char.{is_ascii_digit}
+use Rattle.std.proofs.Common.{◌∙◌}
 use Rattle.onfi_timing.proofs.Digits.{digit_at, value_step}
 use Rattle.onfi_timing.proofs.decimal.value.Goals as goal
 

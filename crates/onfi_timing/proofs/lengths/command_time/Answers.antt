@@ -1,4 +1,4 @@
-use Rattle.std.proofs.Common.{◌≡◌, ◌≤◌, ◌+◌, ◌*◌, ◌^◌, arith}
+use Rattle.std.proofs.Common.{◌≤◌, ◌+◌, ◌^◌, arith}
 use Rattle.std.proofs.Math.Nat.{mul-le-mul_left, mul-le-mul_right}
 use Rattle.onfi_timing.proofs.lengths.command_time.Goals as goal
 

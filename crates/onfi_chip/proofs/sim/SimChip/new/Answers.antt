@@ -1,4 +1,4 @@
-use Rattle.std.proofs.Common.{◌≡◌, ℕ, refl, ap, ◌∙◌}
+use Rattle.std.proofs.Common.{◌≡◌, refl, ap, ◌∙◌}
 use Rattle.onfi_chip.specs.Chip.{Chip, Failures, no_failures}
 use Rattle.onfi_chip.specs.Numbers.{failed}
 use Rattle.onfi_chip.specs.Sim.{chip_of}

@@ -1,6 +1,6 @@
-use Rattle.std.proofs.Common.{◌≡◌, ◌≤◌, ◌∙◌, ◌+◌, length, map, sym, ap, arith}
+use Rattle.std.proofs.Common.{◌≤◌, ◌∙◌, ◌+◌, length, map, sym, ap, arith}
 use Rattle.csv.specs.Records.{fields_of}
-use Rattle.onfi_timing.specs.Sheet.{with_record, with_records, nothing}
+use Rattle.onfi_timing.specs.Sheet.{with_record, with_records}
 use Rattle.onfi_timing.proofs.Walk.{walk_on, walk_stopped, walk_ended}
 use Rattle.onfi_timing.proofs.sheet.Sheet.of_records.Goals as goal
 
