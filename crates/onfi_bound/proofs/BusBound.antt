@@ -19,7 +19,7 @@ use Rattle.onfi_problem.proofs.Work.{one_phase, commands_after, posts_after}
 use Rattle.onfi_problem.proofs.Kept.{kept}
 
 -- behind a move all that was left stands behind its start
-bus_placed : (p : Problem) (m : Move) (t : ℕ) → IsProblem p → IsMove p m → bus (placed p m t) ≡ t + work p
+pub bus_placed : (p : Problem) (m : Move) (t : ℕ) → IsProblem p → IsMove p m → bus (placed p m t) ≡ t + work p
 bus_placed p (Next l) t ip (g, n, r, at) =
     let i = ip.running l g n r at in
     let some = i.group.some in

@@ -11,36 +11,16 @@ use Rattle.onfi_problem.proofs.Perm.{All-weaker}
 use Rattle.onfi_problem.proofs.Totals.{total_set, total_same, startable_total}
 use Rattle.onfi_problem.proofs.Work.{one_phase, commands_after, posts_after}
 use Rattle.onfi_schedule.proofs.Chains.{long}
+use Rattle.onfi_bound.proofs.BusBound.{bus_placed}
 
 pub work_placed : (p : Problem) (m : Move) (t : ℕ) → IsProblem p → IsMove p m → work (placed p m t) + 1 ≤ work p
 work_placed p (Next l) t ip (g, n, r, at) =
-    let i = ip.running l g n r at in
-    let some = i.group.some in
-    let c = t + phase_length (group_spans p.timing g) (length g) n in
-    let one = one_phase (group_spans p.timing g) (length g) n i.unfinished in
-    let takes = long (group_spans p.timing g) (length g) n in
-    let a = total_set (command_time p.timing) p.luns l _ (lun_after p.timing g n c) at in
-    let b = total_set (post_time p.timing) p.luns l _ (lun_after p.timing g n c) at in
-    let a' = commands_after p.timing g n c some in
-    let b' = posts_after p.timing g n c some in
-    rw at (omega arith)
-work_placed p (Start ms) t ip (since, at, st) =
-    let some = st.group.some in
-    let k = length ms in
-    let spans = group_spans p.timing ms in
-    let c = t + phase_length spans k 0 in
-    let z : k - 0 ≡ k = omega arith in
-    let y : 2 * k - max 0 k ≡ k = omega arith in
-    let one = rw (z, y) at (one_phase spans k 0 (omega arith)) in
-    let takes = long spans k 0 in
-    let a = total_set (command_time p.timing) p.luns (lun_of ms) _ (lun_after p.timing ms 0 c) at in
-    let b = total_set (post_time p.timing) p.luns (lun_of ms) _ (lun_after p.timing ms 0 c) at in
-    let a' = commands_after p.timing ms 0 c some in
-    let b' = posts_after p.timing ms 0 c some in
-    let wc = startable_total (want_command p.timing) p ms ip st in
-    let wp = startable_total (want_post p.timing) p ms ip st in
-    let mc = total_same (want_command p.timing) spans.cmd ms (All-weaker _ _ (λ m e. ap (λ kind. (spans_of p.timing kind).cmd) e) ms st.group.kind) in
-    let mp = total_same (want_post p.timing) spans.post ms (All-weaker _ _ (λ m e. ap (λ kind. (spans_of p.timing kind).post) e) ms st.group.kind) in
+    let one = long (group_spans p.timing g) (length g) n in
+    let all = bus_placed p (Next l) t ip (g, n, r, at) in
+    rw at (let behind = rw at at all in omega arith)
+work_placed p (Start ms) t ip im =
+    let one = long (group_spans p.timing ms) (length ms) 0 in
+    let all = bus_placed p (Start ms) t ip im in
     omega arith
 
 pub work_after : (p : Problem) (m : Move) → IsProblem p → IsMove p m → work (after p m) + 1 ≤ work p

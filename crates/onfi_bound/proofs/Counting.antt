@@ -28,14 +28,7 @@ use Rattle.onfi_bound.specs.declared.commands.Commands.{Commands}
 use Rattle.onfi_bound.specs.Commands.{commands_on, one_of, commands_of, AreCommands}
 use Rattle.onfi_bound.specs.Parts.{has_kind}
 use Rattle.onfi_bound.proofs.Steps.{waiting_yes, summed}
-
-pub one_at_most : (b : Bool) → (if b then 1 else 0) ≤ 1
-one_at_most true = omega arith
-one_at_most false = omega arith
-
-pub at_most : (b : Bool) (n : ℕ) → (if b then n else 0) ≤ n
-at_most true n = omega arith
-at_most false n = omega arith
+use Rattle.onfi_bound.proofs.Classes.{same_kind_self}
 
 -- one more want
 pub want_counted : (kind : Kind) (marks : List Bool) (ws : List Want) (i : ℕ) (d : Want) → i < length ws → get_or marks i false ≡ true → total (one_of kind) (waiting_of marks (take (i + 1) ws)) ≡ total (one_of kind) (waiting_of marks (take i ws)) + one_of kind (get_or ws i d)
@@ -182,15 +175,10 @@ counts_long p timing counts t h =
     let e : counts.erase ≡ commands_of p Erase = h Erase in
     rw (t, r, w, e) (commands_long p)
 
-same_itself : (kind : Kind) → same_kind kind kind ≡ true
-same_itself Read = refl
-same_itself Program = refl
-same_itself Erase = refl
-
 -- where one of a kind is taken, there is one
 pub some_there : (k own : Kind) (a c : ℕ) → k ≡ own → a + (if same_kind k own then 1 else 0) ≡ c → 1 ≤ c
 some_there k own a c e h =
-    let s : same_kind k own ≡ true = ap (same_kind k) (sym e) ∙ same_itself k in
+    let s : same_kind k own ≡ true = ap (same_kind k) (sym e) ∙ same_kind_self k in
     let h' : a + 1 ≡ c = rw s at h in
     omega arith
 

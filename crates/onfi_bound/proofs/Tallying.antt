@@ -3,6 +3,7 @@ use Rattle.std.proofs.Common.{◌≡◌, ℕ, zero, suc, ◌+◌, ◌^◌, ◌�
 use Rattle.std.specs.Prelude.{slice_get, max}
 use Rattle.std.specs.List.{list_any}
 use Rattle.std.proofs.lemmas.Bool.{cases_lt}
+use Rattle.std.proofs.lemmas.List.{drop_all}
 use Rattle.onfi_timing.specs.declared.kind.Kind.{Kind}
 use Rattle.onfi_timing.specs.declared.timing.Timing.{Timing}
 use Rattle.onfi_timing.specs.Kinds.{spans_of}
@@ -30,16 +31,6 @@ use Rattle.onfi_bound.proofs.Parts.{next_kind}
 use Rattle.onfi_bound.proofs.Whole.{die_working, die_idle}
 use Rattle.onfi_bound.proofs.Ends.{bus_small, die_small}
 use Rattle.onfi_bound.proofs.Counting.{any_cons}
-
-drop_all : {A : Type 0} (xs : List A) → drop (length xs) xs ≡ []
-drop_all [] = refl
-drop_all (x ∷ xs) = drop_all xs
-
-or_swap : (a b : Bool) → (if a then true else b) ≡ (if b then true else a)
-or_swap true true = refl
-or_swap true false = refl
-or_swap false true = refl
-or_swap false false = refl
 
 or_more : (a b c : Bool) → (if (if a then true else b) then true else c) ≡ (if a then true else (if b then true else c))
 or_more true b c = refl
@@ -78,16 +69,6 @@ earlier_more (Some a) v (Some b) = ap Some (omega arith)
 earlier_none : (f : Option ℕ) → earlier f None ≡ f
 earlier_none None = refl
 earlier_none (Some a) = refl
-
--- the walk begins
-pub tally_begun : (p : Problem) (load : Load) → IsLoad p.timing p.rules p.wants load → IsTally p 0 (record { sums = load.sums; first = None; done = 0 })
-tally_begun p load h = record {
-  commands = let a = h.commands in omega arith;
-  posts = let a = h.posts in omega arith;
-  kinds = λ kind. rw (h.kinds kind) (or_swap _ (list_any (commands_next kind) p.luns));
-  first = refl;
-  done = λ l k. absurd (omega arith);
-}
 
 -- one LUN more is done by the greatest
 pub done_more : (p : Problem) (lun before done : ℕ) → ((l : ℕ) → l < lun → die p l ≤ max before p.bus_free) → die p lun ≤ max done p.bus_free → before ≤ done → (l : ℕ) → l < lun + 1 → die p l ≤ max done p.bus_free
@@ -160,7 +141,6 @@ idle_done p lun load chain h (x, at, q) small idle z =
 pub tally_idle : (p : Problem) (lun : ℕ) (load : Load) (chain : Chain) (t t' : Tally) → IsLoad p.timing p.rules p.wants load → IsChainAt p lun chain → lun < 8 → chain.running ≡ false → get_or load.work lun 0 ≡ 0 → IsTally p lun t → t'.sums ≡ t.sums → t'.first ≡ t.first → ((l : ℕ) → l < lun + 1 → die p l ≤ max t'.done p.bus_free) → IsTally p (lun + 1) t'
 tally_idle p lun load chain t t' h (x, at, q) small idle z so sums first done =
     let d = drop_next p.luns lun x at in
-    let rest = drop (lun + 1) p.luns in
     let i : (chain_of p.timing x).running ≡ false = sym (ap (λ (c : Chain). c.running) q) ∙ idle in
     let w : wants_work p.timing p.rules (on_lun lun p.wants) ≡ 0 = sym (h.work lun small) ∙ z in
     go x at d i w
@@ -184,7 +164,7 @@ tally_idle p lun load chain t t' h (x, at, q) small idle z so sums first done =
 -- the walk is over
 pub tally_sums : (p : Problem) (t : Tally) → IsTally p (length p.luns) t → AreSums p t.sums
 tally_sums p t h =
-    let d = drop_all p.luns in
+    let d = drop_all (length p.luns) p.luns (omega arith) in
     let a : t.sums.commands + 0 ≡ all_commands p = rw d at h.commands in
     let b : t.sums.posts + 0 ≡ all_posts p = rw d at h.posts in
     record {
@@ -198,7 +178,7 @@ tally_sums p t h =
     last false b e = e
 
 pub tally_first : (p : Problem) (t : Tally) → IsTally p (length p.luns) t → t.first ≡ least (post_starts p 0 p.luns)
-tally_first p t h = let a : earlier t.first None ≡ least (post_starts p 0 p.luns) = rw (drop_all p.luns) at h.first in sym (earlier_none t.first) ∙ a
+tally_first p t h = let a : earlier t.first None ≡ least (post_starts p 0 p.luns) = rw (drop_all (length p.luns) p.luns (omega arith)) at h.first in sym (earlier_none t.first) ∙ a
 
 pub at_small : (p : Problem) (lun : ℕ) (chain : Chain) → InLimits p → IsChainAt p lun chain → max p.bus_free chain.from < 2 ^ 62
 at_small p lun chain lim (x, at, q) =

@@ -1,5 +1,5 @@
 -- The bounds from what is read.
-use Rattle.std.proofs.Common.{◌≡◌, ℕ, suc, ◌+◌, ◌≤◌, ◌<◌, ◌⊎◌, inl, inr, true, false, List, [], ◌∷◌, length, map, get_or, Option, Some, None, refl, sym, ap, ◌∙◌, subst, arith}
+use Rattle.std.proofs.Common.{◌≡◌, ℕ, suc, ◌+◌, ◌≤◌, ◌<◌, ◌⊎◌, inl, inr, true, false, List, [], ◌∷◌, length, map, get_or, Option, Some, refl, sym, ap, ◌∙◌, subst, arith}
 use Rattle.std.specs.Prelude.{slice_get, max}
 use Rattle.onfi_timing.specs.declared.timing.Timing.{Timing}
 use Rattle.onfi_timing.specs.Kinds.{spans_of}
@@ -8,16 +8,15 @@ use Rattle.onfi_group.specs.declared.rules.Rules.{Rules}
 use Rattle.onfi_problem.specs.declared.lun_state.LunState.{LunState}
 use Rattle.onfi_problem.specs.declared.lun_state.LunState.TheVariants.{Free, Running}
 use Rattle.onfi_problem.specs.Problem.{Problem}
-use Rattle.onfi_problem.specs.Left.{all_posts, InLimits}
+use Rattle.onfi_problem.specs.Left.{all_posts}
 use Rattle.onfi_problem.specs.declared.moves.Lun.{Lun}
 use Rattle.onfi_problem.specs.Position.{state_of}
 use Rattle.onfi_problem.proofs.Places.{get_within}
 use Rattle.onfi_problem.proofs.Lists.{map_found}
 use Rattle.onfi_bound.specs.declared.chain.Chain.{Chain}
 use Rattle.onfi_bound.specs.Bounds.{on_lun, post_starts, least, lead, wants_work, die_at, die}
-use Rattle.onfi_bound.specs.Parts.{chain_of, chain_starts, IsShort}
+use Rattle.onfi_bound.specs.Parts.{chain_of, chain_starts}
 use Rattle.onfi_bound.specs.Loads.{IsChainAt}
-use Rattle.onfi_bound.proofs.Parts.{short_at}
 use Rattle.onfi_bound.proofs.DieBound.{no_work}
 
 -- the first posts
@@ -62,15 +61,9 @@ chain_at p timing groups gs luns lun d c e h t g q =
     let s = map_found (state_of groups) luns lun d x.0 (subst (λ z. slice_get z lun ≡ Some x.0) (sym e) x.1) in
     (x.0, x.1, q ∙ rw (t, g, s) refl)
 
-pub short_chain : (p : Problem) (lun : ℕ) (c : Chain) → InLimits p → IsChainAt p lun c → IsShort c
-short_chain p lun c lim (x, at, q) = rw q (short_at p lim lun x at)
-
 -- and of its first post
 pub lead_some : (p : Problem) (start posts : ℕ) (o : Option ℕ) → o ≡ least (post_starts p 0 p.luns) → Some start ≡ o → posts ≡ all_posts p → start + posts ≡ lead p
 lead_some p start posts o a b c = let e : least (post_starts p 0 p.luns) ≡ Some start = sym (b ∙ a) in rw (e, c) refl
-
-pub lead_none : (p : Problem) (o : Option ℕ) → o ≡ least (post_starts p 0 p.luns) → None ≡ o → p.bus_free ≡ lead p
-lead_none p o a b = let e : least (post_starts p 0 p.luns) ≡ None = sym (b ∙ a) in rw e refl
 
 pub work_is : (p : Problem) (lun : ℕ) (timing : Timing) (rules : Rules) (wants ws : List Want) (work : ℕ) → timing ≡ p.timing → rules ≡ p.rules → wants ≡ p.wants → ws ≡ wants → work ≡ wants_work timing rules (on_lun lun ws) → work ≡ wants_work p.timing p.rules (on_lun lun p.wants)
 work_is p lun timing rules wants ws work t r a b w = w ∙ rw (b, a, t, r) refl

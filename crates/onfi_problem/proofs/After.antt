@@ -13,6 +13,7 @@ use Rattle.onfi_problem.specs.declared.lun_state.LunState.TheVariants.{Free, Run
 use Rattle.onfi_problem.specs.declared.moves.Lun.{Lun}
 use Rattle.onfi_problem.specs.declared.moves.Move.{Move as KeptMove}
 use Rattle.onfi_problem.specs.declared.moves.Move.TheVariants.{Next as KeptNext, Start as KeptStart}
+use Rattle.onfi_problem.specs.declared.moves.Undo.{Undo}
 use Rattle.onfi_problem.specs.Problem.{Problem}
 use Rattle.onfi_problem.specs.Moves.{Move, Next, Start, IsMove, move_lun, after, lun_after, without, free_from}
 use Rattle.onfi_problem.specs.Left.{InLimits}
@@ -83,6 +84,12 @@ pub record FindsNext (timing : Timing) (rules : Rules) (bus_free : ℕ) (groups 
 pub record FindsStart (bus_free : ℕ) (luns : List Lun) (l : ℕ) (x : Lun) : Type 0 where
   pub start : max bus_free x.time < 2 ^ 62
   pub lun : l < length luns
+
+-- an undo gives a position back from the one that its move left
+pub record IsUndo (x new : Position) (undo : Undo) : Type 0 where
+  pub undone : restored new undo ≡ x
+  pub within : undo.lun < length new.problem.luns
+  pub limits : InLimits (restored new undo).problem
 
 module _ (timing : Timing) (rules : Rules) (bus_free : ℕ) (luns : List Lun) (all : List Want) (marks : List Bool) (groups : List (List Want)) (k : IsKept (position_of timing rules bus_free luns all marks groups)) where
   abbrev pub now : Position
@@ -157,16 +164,22 @@ module _ (timing : Timing) (rules : Rules) (bus_free : ℕ) (luns : List Lun) (a
   start_within l place (since, at, st) i = let w = within_get now.problem.luns (lun_of (slice_index_or groups place [])) _ at in rw length_set (rw i at w)
 
   -- what a move changed, put back, is what there was
-  pub undone : (m : KeptMove) (new : Position) (read : List Lun) (l : ℕ) (d : Lun) → IsMove now.problem (move_of groups m) → move_lun (move_of groups m) ≡ lun_named m → new ≡ moved now m → l ≡ lun_named m → read ≡ luns → restored new (record { lun = l; state = get_or read l d; bus_free = bus_free; waiting = marks }) ≡ now
-  undone (KeptNext lun) new read l d im i e q r = rw (e, q, r) (next_undone lun d im)
-  undone (KeptStart lun place) new read l d im i e q r = rw (e, q, r) (start_undone lun place d im i)
+  undone : (m : KeptMove) (d : Lun) → IsMove now.problem (move_of groups m) → move_lun (move_of groups m) ≡ lun_named m → restored (moved now m) (record { lun = lun_named m; state = get_or luns (lun_named m) d; bus_free = bus_free; waiting = marks }) ≡ now
+  undone (KeptNext lun) d im i = next_undone lun d im
+  undone (KeptStart lun place) d im i = start_undone lun place d im i
 
-  pub lun_within : (m : KeptMove) (new : Position) (l : ℕ) → IsMove now.problem (move_of groups m) → move_lun (move_of groups m) ≡ lun_named m → new ≡ moved now m → l ≡ lun_named m → l < length new.problem.luns
-  lun_within (KeptNext lun) new l im i e q = rw (e, q) (next_within lun im)
-  lun_within (KeptStart lun place) new l im i e q = rw (e, q) (start_within lun place im i)
+  lun_within : (m : KeptMove) → IsMove now.problem (move_of groups m) → move_lun (move_of groups m) ≡ lun_named m → lun_named m < length (moved now m).problem.luns
+  lun_within (KeptNext lun) im i = next_within lun im
+  lun_within (KeptStart lun place) im i = start_within lun place im i
 
-  pub undone_limits : (y : Position) → y ≡ now → InLimits y.problem
-  undone_limits y e = rw e k.limits
+  -- a move of the position that is kept so, made
+  pub made : (x new : Position) (m n : KeptMove) (read : List Lun) (l : ℕ) (d : Lun) → now ≡ x → IsMove x.problem (move_of x.groups m) → move_lun (move_of x.groups m) ≡ lun_named m → m ≡ n → new ≡ moved x n → l ≡ lun_named m → read ≡ luns → IsUndo x new (record { lun = l; state = get_or read l d; bus_free = bus_free; waiting = marks })
+  made x new m n read l d v step lun is e q r =
+      let im = subst (λ (z : Position). IsMove z.problem (move_of z.groups m)) (sym v) step in
+      let i = subst (λ (z : Position). move_lun (move_of z.groups m) ≡ lun_named m) (sym v) lun in
+      let e' : new ≡ moved now m = e ∙ (ap (λ (z : Position). moved z n) (sym v) ∙ ap (λ (z : KeptMove). moved now z) (sym is)) in
+      let u = undone m d im i in
+      rw (e', q, r) (record { undone = u ∙ v; within = lun_within m im i; limits = subst (λ (z : Position). InLimits z.problem) (sym u) k.limits })
 
   pub lun_here : (m : KeptMove) (l : ℕ) → IsMove now.problem (move_of groups m) → move_lun (move_of groups m) ≡ lun_named m → l ≡ lun_named m → l < length luns
   lun_here (KeptNext lun) l (g, n, r, at) i q = rw q (kept_lun lun _ at)

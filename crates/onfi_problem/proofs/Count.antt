@@ -92,10 +92,6 @@ planes_sum (w ∷ ws) =
       ]
     ]
 
--- a product is at most the square of half the sum
-two_apart : (x d : ℕ) → 4 * (x * (x + d)) ≤ (x + (x + d)) * (x + (x + d))
-two_apart x d = omega arith
-
 le_times : (a b c d : ℕ) → a ≤ b → c ≤ d → a * c ≤ b * d
 le_times a b c d h k = let p = times_le a c d k in let q = times_le d a b h in omega arith
 

@@ -6,18 +6,17 @@ use Rattle.onfi_timing.specs.declared.spans.Spans.{Spans}
 use Rattle.onfi_request.specs.declared.want.Want.{Want}
 use Rattle.onfi_problem.specs.declared.lun_state.LunState.{LunState}
 use Rattle.onfi_problem.specs.declared.lun_state.LunState.TheVariants.{Free, Running}
-use Rattle.onfi_problem.specs.Moves.{Move, Next, Start, IsMove, earliest, free_from, lun_after, after, ran_with, without}
+use Rattle.onfi_problem.specs.Moves.{Move, Next, Start, IsMove, earliest, free_from, lun_after, after, ran_with}
 use Rattle.onfi_problem.specs.Problem.{Problem, IsProblem}
 use Rattle.onfi_timing.specs.Kinds.{spans_of}
 use Rattle.onfi_group.specs.Group.{group_spans, lun_of}
-use Rattle.onfi_timing.specs.Phases.{phase_length, wait_before}
+use Rattle.onfi_timing.specs.Phases.{phase_length}
 use Rattle.onfi_problem.specs.Left.{waits_left, chain_time, want_time, latest_wait, horizon, InLimits}
 use Rattle.onfi_problem.proofs.Perm.{All-weaker}
 use Rattle.onfi_problem.proofs.Totals.{total_set, total_same, startable_total}
 use Rattle.onfi_problem.proofs.Work.{one_phase}
 use Rattle.onfi_problem.proofs.Waits.{one_wait, chain_after, free_after}
 use Rattle.onfi_problem.proofs.Kept.{kept, kept_small}
-use Rattle.onfi_problem.proofs.Places.{get_within, get_set_same, within_get}
 use Rattle.std.proofs.lemmas.Option.{get_or_from_slice_get}
 
 bus_in : (b : ℕ) (luns : List LunState) → b ≤ latest_wait b luns
@@ -104,15 +103,6 @@ bus_in_limits p lim = let h = lim.horizon in let b = bus_in p.bus_free p.luns in
 pub lun_in_limits : (p : Problem) (l : ℕ) (x : LunState) → InLimits p → slice_get p.luns l ≡ Some x → free_from (Some x) < 2 ^ 62
 lun_in_limits p l x lim at = let h = lim.horizon in let b = lun_in p.bus_free p.luns l x at in omega arith
 
--- what a phase whose outcome is in the limits takes
-pub ran_ready : (p : Problem) (l : ℕ) (g : List Want) (n t : ℕ) (ws : List Want) → InLimits (ran_with p l g n t ws) → l < length p.luns → 1 ≤ length g → n < 2 * length g → t + phase_length (group_spans p.timing g) (length g) n + wait_before (group_spans p.timing g) (length g) (n + 1) < 2 ^ 62
-ran_ready p l g n t ws lim within some h =
-    let c = t + phase_length (group_spans p.timing g) (length g) n in
-    let x = get_within p.luns l within in
-    let q = lun_in_limits (ran_with p l g n t ws) l (lun_after p.timing g n c) lim (get_set_same p.luns l x.0 (lun_after p.timing g n c) x.1) in
-    let f = free_after p.timing g n c some h in
-    omega arith
-
 -- what the code finds at a move
 pub next_found : (p : Problem) (step : Move) (l : ℕ) (x : LunState) → IsMove p step → step ≡ Next l → x ≡ get_or p.luns l x → slice_get p.luns l ≡ Some x
 next_found p step l x im e q =
@@ -124,16 +114,3 @@ pub next_is : (p : Problem) (step : Move) (l : ℕ) (x : LunState) (g : List Wan
 next_is p step l x g n r t ws im e q k a b =
     let at : slice_get p.luns l ≡ Some (Running g n r) = next_found p step l x im e q ∙ ap Some k in
     rw (e, a, b) (rw at refl)
-
-pub never_free : (p : Problem) (step : Move) (l : ℕ) (x : LunState) (since : ℕ) → IsMove p step → step ≡ Next l → x ≡ get_or p.luns l x → x ≡ Free since → ⊥
-never_free p step l x since im e q k =
-    let mv : IsMove p (Next l) = subst (IsMove p) e im in
-    let at = next_found p step l x im e q in
-    let at' = mv.3 in
-    cc
-
-pub start_is : (p : Problem) (step : Move) (g : List Want) (l t : ℕ) (ws : List Want) → step ≡ Start g → l ≡ lun_of g → t ≡ earliest p step → ws ≡ without g p.wants → after p step ≡ ran_with p l g 0 t ws
-start_is p step g l t ws e q a b = rw (a, b, q) (rw e refl)
-
-pub start_lun : (p : Problem) (step : Move) (g : List Want) (l : ℕ) → IsMove p step → step ≡ Start g → l ≡ lun_of g → l < length p.luns
-start_lun p step g l im e q = let mv : IsMove p (Start g) = subst (IsMove p) e im in rw q (within_get p.luns (lun_of g) _ mv.1)

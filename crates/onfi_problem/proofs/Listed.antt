@@ -1,24 +1,15 @@
 -- The table of groups while it is made.
 use Rattle.std.proofs.Common.{◌≡◌, ◌≢◌, ℕ, ◌+◌, ◌-◌, ◌<◌, ◌≤◌, inl, inr, List, [], ◌∷◌, ◌++◌, length, get_or, map, take, drop, refl, sym, ap, ◌∙◌, subst, arith, append_assoc, get_or-set_same, get_or-set_other}
 use Rattle.std.specs.Prelude.{slice_index, slice_range, slice_set}
-use Rattle.std.proofs.lemmas.Bool.{ne_eqb, cases_lt}
-use Rattle.std.proofs.lemmas.List.{get_or_at, map_push, take_more, drop_at, take_all, take-append-le, drop-append-le, length-append, length-drop}
+use Rattle.std.proofs.lemmas.Bool.{cases_lt}
+use Rattle.std.proofs.lemmas.List.{map_push, take_more, drop_at, take_all, take-append-le, drop-append-le, length-append, length-drop}
 use Rattle.onfi_request.specs.declared.want.Want.{Want}
 use Rattle.onfi_group.specs.declared.rules.Rules.{Rules}
 use Rattle.onfi_group.specs.Listing.{AreCandidates}
 use Rattle.onfi_problem.specs.declared.lun_state.LunState.{LunState}
-use Rattle.onfi_problem.specs.declared.lun_state.LunState.TheVariants.{Running}
 use Rattle.onfi_problem.specs.declared.moves.Lun.{Lun}
 use Rattle.onfi_problem.specs.Position.{state_of}
 use Rattle.onfi_problem.specs.Kept.{IsOwn}
-
--- a group that was put behind the others is found at its place, whatever comes behind it
-pub last_state : (groups more : List (List Want)) (g : List Want) (n r place : ℕ) → 1 ≤ n → place ≡ length groups → state_of (groups ++ g ∷ [] ++ more) (record { next = n; place = place; time = r }) ≡ Running g n r
-last_state groups more g n r place some p =
-    let d : n ≢ 0 = λ e. omega arith in
-    let e : groups ++ g ∷ [] ++ more ≡ groups ++ (g ∷ more) = append_assoc groups (g ∷ []) more in
-    let q = get_or_at groups g more [] place (sym p) in
-    rw (ne_eqb n 0 d, e, q) refl
 
 -- the part of a table stays as it is when more is put behind
 range_stays : (groups more : List (List Want)) (a b : ℕ) → a ≤ b → b ≤ length groups → slice_range (groups ++ more) a b ≡ slice_range groups a b

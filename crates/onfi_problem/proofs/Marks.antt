@@ -1,6 +1,6 @@
 -- Marks of waiting wants.
 use Rattle.std.proofs.Common.{◌≡◌, ℕ, zero, suc, ◌+◌, ◌≤◌, ◌<◌, inl, inr, Bool, true, false, List, [], ◌∷◌, length, take, drop, get_or, replicate, refl, ap, subst, arith}
-use Rattle.std.specs.Prelude.{slice_set, if◌then◌else◌, ◌==◌}
+use Rattle.std.specs.Prelude.{slice_set, if◌then◌else◌}
 use Rattle.std.proofs.lemmas.Bool.{cases_Bool}
 use Rattle.std.proofs.lemmas.List.{take_all, drop_more}
 use Rattle.onfi_request.specs.declared.want.Want.{Want}
@@ -75,10 +75,3 @@ skip_other bs ws m i b d h k o = elim (cases_Bool (get_or bs i b)) [
   | inl e ↦ rw (drop_more bs i b h, drop_more ws i d k, e) (rw o refl)
   | inr e ↦ skip_unmarked bs ws m i b d h k e
 ]
-
--- .. and the first on its block tells
-pub tell_first : (bs : List Bool) (ws : List Want) (m : Want) (i : ℕ) (b : Bool) (d : Want) → i < length bs → i < length ws → get_or bs i b ≡ true → on_block m (get_or ws i d) ≡ true → waits_first (waiting_of (drop i bs) (drop i ws)) m ≡ ((get_or ws i d).id == m.id)
-tell_first bs ws m i b d h k e o =
-    let p = drop_more bs i b h in
-    let q = drop_more ws i d k in
-    rw (p, q, e) (rw o refl)

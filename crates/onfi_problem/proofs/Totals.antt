@@ -1,5 +1,5 @@
 -- Sums over what is left.
-use Rattle.std.proofs.Common.{◌≡◌, ◌≢◌, ℕ, zero, suc, ◌+◌, ◌*◌, ◌<◌, inl, inr, Bool, true, List, [], ◌∷◌, length, Some, refl, sym, ap, arith}
+use Rattle.std.proofs.Common.{◌≡◌, ◌≢◌, ℕ, zero, suc, ◌+◌, ◌*◌, ◌<◌, inl, inr, true, List, [], ◌∷◌, length, Some, refl, sym, ap, arith}
 use Rattle.std.specs.Prelude.{slice_get, slice_set, not, ◌==◌}
 use Rattle.std.specs.List.{AllByRecursion as All, filter}
 use Rattle.std.proofs.lemmas.Bool.{cases_Bool, eqb-true, eq-eqb}
@@ -19,9 +19,6 @@ total_set f (z ∷ xs) (suc i) x y h = let e = total_set f xs i x y h in omega a
 pub total_same : {A : Type 0} (f : A → ℕ) (c : ℕ) (xs : List A) → All (λ x. f x ≡ c) xs → total f xs ≡ length xs * c
 total_same f c [] h = omega arith
 total_same f c (x ∷ xs) h = let e = total_same f c xs h.1 in let a = h.0 in omega arith
-
-other_id : ℕ → Want → Bool
-other_id id w = not (id == w.id)
 
 -- without one want
 one_without : (f : Want → ℕ) (ws : List Want) (m : Want) → Rising ws → Has ws m → total f ws ≡ f m + total f (filter (λ w. not (m.id == w.id)) ws)

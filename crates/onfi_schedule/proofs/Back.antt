@@ -22,9 +22,6 @@ use Rattle.onfi_problem.proofs.Wants.{first_has, total-append, Rising, Has-filte
 use Rattle.onfi_problem.proofs.Totals.{startable_total}
 use Rattle.onfi_schedule.proofs.Least.{latest-perm, latest-behind}
 
-all_behind : (b : ℕ) (x : Phase) (ys : List Phase) → end_of x ≡ b → All (λ y. b ≤ y.start) ys → All (λ y. end_of x ≤ y.start) ys
-all_behind b x ys e h = rw e h
-
 all_apart : (x : Phase) (ys : List Phase) → All (λ y. end_of x ≤ y.start) ys → All (Apart x) ys
 all_apart x ys h = All-weaker _ _ (λ y k. inl k) ys h
 
@@ -136,9 +133,6 @@ module _ (p : Problem) (s' : Schedule) (ip : IsProblem p) (l : ℕ) (g : List Wa
 
   abbrev back_next : Schedule
   back_next = with_first (Next l) t s'
-
-  abbrev Own : (ws : List Want) → Type 0
-  Own ws = Legal (ran_with p l g n t ws) s'
 
   next_perm : Perm (phases p back_next) (first p p.wants s' l g n t (Running g n r) us some unfinished at lg ∷ phases (ran p l g n t) s')
   next_perm =

@@ -91,9 +91,6 @@ starts_from b lun spans k n (t ∷ ts) h = h.0
 
 -- the next phase of a running group comes first
 module _ (p : Problem) (s : Schedule) (ip : IsProblem p) (lg : Legal p s) (l : ℕ) (g : List Want) (n r t : ℕ) (ts : List ℕ) (at : slice_get p.luns l ≡ Some (Running g n r)) (starts_at : slice_get s.rest l ≡ Some (t ∷ ts)) where
-  ended_at : ℕ
-  ended_at = t + phase_length (group_spans p.timing g) (length g) n
-
   abbrev pub next_schedule : Schedule
   next_schedule = record { rest = slice_set s.rest l ts; groups = s.groups }
 

@@ -153,11 +153,39 @@ module _ (p : Problem) (s : Schedule) (ip : IsProblem p) (lg : Legal p s) where
         ends = rw at refl;
       }
 
-  begun_at : (ms : List Want) (t : ℕ) (ts us : List ℕ) (gs : List Placed) → Perm s.groups (record { members = ms; starts = t ∷ ts } ∷ gs) → All (λ x. t ≤ x.start) (phases p s) → Has s.groups (record { members = ms; starts = t ∷ ts }) → IsGroup p.rules ms → All (IsFirst p.wants) ms → (x : LunState) → slice_get p.luns (lun_of ms) ≡ Some x → slice_get s.rest (lun_of ms) ≡ Some us → FirstMove p s
-  begun_at ms t ts us gs perm least here group first (Free since) at starts_at =
+  -- the LUN of a group whose first phase is the least is free
+  abbrev StartsFree : List Want → ℕ → Type 0
+  StartsFree ms t = (since : ℕ) × (us : List ℕ) × (slice_get p.luns (lun_of ms) ≡ Some (Free since)) × (slice_get s.rest (lun_of ms) ≡ Some us) × IsGroup p.rules ms × All (IsFirst p.wants) ms × (since ≤ t)
+
+  free_at : (ms : List Want) (t : ℕ) (ts us : List ℕ) → All (λ x. t ≤ x.start) (phases p s) → Has s.groups (record { members = ms; starts = t ∷ ts }) → IsGroup p.rules ms → All (IsFirst p.wants) ms → (x : LunState) → slice_get p.luns (lun_of ms) ≡ Some x → slice_get s.rest (lun_of ms) ≡ Some us → StartsFree ms t
+  free_at ms t ts us least here group first (Free since) at starts_at = (since, us, at, starts_at, group, first, All-has _ s.groups (record { members = ms; starts = t ∷ ts }) lg.from_since here since at)
+  free_at ms t ts us least here group first (Running g n r) at starts_at =
+      let before = All-has _ s.groups (record { members = ms; starts = t ∷ ts }) lg.running_first here g n r us at starts_at in
+      let c = lg.shape.rest (lun_of ms) g n r us at starts_at in
+      let i = (ip.running (lun_of ms) g n r at).unfinished in
+      let k = phases_number (lun_of ms) (group_spans p.timing g) (length g) n us in
+      absurd (not_before t (record { lun = lun_of ms; start = t; length = phase_length (group_spans p.timing ms) (length ms) 0 }) _ (phases_from (lun_of ms) (group_spans p.timing g) (length g) n us)
+      (of_rest (λ x. t ≤ x.start) (lun_of ms) _ us at starts_at least) (of_rest (λ x. 1 ≤ x.length) (lun_of ms) _ us at starts_at (phases_long p s)) (omega arith) refl before)
+
+  starts_free : (ms : List Want) (t : ℕ) (ts : List ℕ) (gs : List Placed) → Perm s.groups (record { members = ms; starts = t ∷ ts } ∷ gs) → All (λ x. t ≤ x.start) (phases p s) → StartsFree ms t
+  starts_free ms t ts gs perm least =
+      let g : Placed = record { members = ms; starts = t ∷ ts } in
+      let here : Has s.groups g = Has-perm g (back perm) (inl refl) in
+      let group : IsGroup p.rules ms = All-has _ s.groups g lg.group here in
+      let below : lun_of ms < length p.luns = lun_below ms (length p.luns) group.some (λ m i. All-has _ p.wants m ip.in_range (wanted g m here i)) in
+      let x = get_within p.luns (lun_of ms) below in
+      let us = rest_at (lun_of ms) x.0 x.1 in
+      let first : All (IsFirst p.wants) ms = All-each (IsFirst p.wants) ms (λ m i. ⊎_elim (λ q. q) (λ (w, hw, el, eb, r).
+      let h = group_of w hw in
+      let before = r el eb h.0 g h.1 here h.2 i in
+      absurd (not_before t (record { lun = lun_of ms; start = t; length = phase_length (group_spans p.timing ms) (length ms) 0 }) _ (group_phases p.timing h.0) (of_group (λ x. t ≤ x.start) h.0 h.1 least) (of_group (λ x. 1 ≤ x.length) h.0 h.1 (phases_long p s)) (group_number h.0 h.1) refl before)) (first_or_earlier (KeepsBlockOrder p.timing s.groups) p.wants m lg.block_order (wanted g m here i))) in
+      free_at ms t ts us.0 least here group first x.0 x.1 us.1
+
+  begun_first : (ms : List Want) (t : ℕ) (ts : List ℕ) (gs : List Placed) → Perm s.groups (record { members = ms; starts = t ∷ ts } ∷ gs) → All (λ x. t ≤ x.start) (phases p s) → FirstMove p s
+  begun_first ms t ts gs perm least =
+      let (since, us, at, starts_at, group, first, from) = starts_free ms t ts gs perm least in
       let order = begun_phases p s ip lg ms t ts gs perm since us at starts_at in
       let bus = All-perm (λ x. p.bus_free ≤ x.start) order lg.from_bus_free in
-      let from : since ≤ t = All-has _ s.groups (record { members = ms; starts = t ∷ ts }) lg.from_since here since at in
       record {
         move = Start ms;
         start = t;
@@ -169,58 +197,16 @@ module _ (p : Problem) (s : Schedule) (ip : IsProblem p) (lg : Legal p s) where
         others = order;
         ends = refl;
       }
-  begun_at ms t ts us gs perm least here group first (Running g n r) at starts_at =
-      let before = All-has _ s.groups (record { members = ms; starts = t ∷ ts }) lg.running_first here g n r us at starts_at in
-      let c = lg.shape.rest (lun_of ms) g n r us at starts_at in
-      let i = (ip.running (lun_of ms) g n r at).unfinished in
-      let k = phases_number (lun_of ms) (group_spans p.timing g) (length g) n us in
-      absurd (not_before t (record { lun = lun_of ms; start = t; length = phase_length (group_spans p.timing ms) (length ms) 0 }) _ (phases_from (lun_of ms) (group_spans p.timing g) (length g) n us)
-      (of_rest (λ x. t ≤ x.start) (lun_of ms) _ us at starts_at least) (of_rest (λ x. 1 ≤ x.length) (lun_of ms) _ us at starts_at (phases_long p s)) (omega arith) refl before)
-
-  begun_first : (ms : List Want) (t : ℕ) (ts : List ℕ) (gs : List Placed) → Perm s.groups (record { members = ms; starts = t ∷ ts } ∷ gs) → All (λ x. t ≤ x.start) (phases p s) → FirstMove p s
-  begun_first ms t ts gs perm least =
-      let g : Placed = record { members = ms; starts = t ∷ ts } in
-      let here : Has s.groups g = Has-perm g (back perm) (inl refl) in
-      let group : IsGroup p.rules ms = All-has _ s.groups g lg.group here in
-      let below : lun_of ms < length p.luns = lun_below ms (length p.luns) group.some (λ m i. All-has _ p.wants m ip.in_range (wanted g m here i)) in
-      let x = get_within p.luns (lun_of ms) below in
-      let us = rest_at (lun_of ms) x.0 x.1 in
-      let first : All (IsFirst p.wants) ms = All-each (IsFirst p.wants) ms (λ m i. ⊎_elim (λ q. q) (λ (w, hw, el, eb, r).
-      let h = group_of w hw in
-      let before = r el eb h.0 g h.1 here h.2 i in
-      absurd (not_before t (record { lun = lun_of ms; start = t; length = phase_length (group_spans p.timing ms) (length ms) 0 }) _ (group_phases p.timing h.0) (of_group (λ x. t ≤ x.start) h.0 h.1 least) (of_group (λ x. 1 ≤ x.length) h.0 h.1 (phases_long p s)) (group_number h.0 h.1) refl before)) (first_or_earlier (KeepsBlockOrder p.timing s.groups) p.wants m lg.block_order (wanted g m here i))) in
-      begun_at ms t ts us.0 gs perm least here group first x.0 x.1 us.1
 
   abbrev pub Left : List Want → ℕ → List ℕ → List Placed → Type 0
   Left ms t ts gs = IsMove p (Start ms) × (earliest p (Start ms) ≤ t) × Legal (placed p (Start ms) t) (record { rest = slice_set s.rest (lun_of ms) ts; groups = gs }) × (finish (placed p (Start ms) t) (record { rest = slice_set s.rest (lun_of ms) ts; groups = gs }) ≡ finish p s)
 
-  law_at : (ms : List Want) (t : ℕ) (ts us : List ℕ) (gs : List Placed) → Perm s.groups (record { members = ms; starts = t ∷ ts } ∷ gs) → All (λ x. t ≤ x.start) (phases p s) → Has s.groups (record { members = ms; starts = t ∷ ts }) → IsGroup p.rules ms → All (IsFirst p.wants) ms → (x : LunState) → slice_get p.luns (lun_of ms) ≡ Some x → slice_get s.rest (lun_of ms) ≡ Some us → Left ms t ts gs
-  law_at ms t ts us gs perm least here group first (Free since) at starts_at =
-      let order = begun_phases p s ip lg ms t ts gs perm since us at starts_at in
-      let bus = All-perm (λ x. p.bus_free ≤ x.start) order lg.from_bus_free in
-      let from : since ≤ t = All-has _ s.groups (record { members = ms; starts = t ∷ ts }) lg.from_since here since at in
-      ((since, at, record { group = group; first = first }), rw at (omega (arith, bus.0)), begun_legal p s ip lg ms t ts gs perm since us at starts_at least, latest_without p.bus_free _ (begun_phase p s ip lg ms t ts gs perm since us at starts_at) (phases p s) _ order bus.0 refl)
-  law_at ms t ts us gs perm least here group first (Running g n r) at starts_at =
-      let before = All-has _ s.groups (record { members = ms; starts = t ∷ ts }) lg.running_first here g n r us at starts_at in
-      let c = lg.shape.rest (lun_of ms) g n r us at starts_at in
-      let i = (ip.running (lun_of ms) g n r at).unfinished in
-      let k = phases_number (lun_of ms) (group_spans p.timing g) (length g) n us in
-      absurd (not_before t (record { lun = lun_of ms; start = t; length = phase_length (group_spans p.timing ms) (length ms) 0 }) _ (phases_from (lun_of ms) (group_spans p.timing g) (length g) n us)
-      (of_rest (λ x. t ≤ x.start) (lun_of ms) _ us at starts_at least) (of_rest (λ x. 1 ≤ x.length) (lun_of ms) _ us at starts_at (phases_long p s)) (omega arith) refl before)
-
   pub law_first : (ms : List Want) (t : ℕ) (ts : List ℕ) (gs : List Placed) → Perm s.groups (record { members = ms; starts = t ∷ ts } ∷ gs) → All (λ x. t ≤ x.start) (phases p s) → Left ms t ts gs
   law_first ms t ts gs perm least =
-      let g : Placed = record { members = ms; starts = t ∷ ts } in
-      let here : Has s.groups g = Has-perm g (back perm) (inl refl) in
-      let group : IsGroup p.rules ms = All-has _ s.groups g lg.group here in
-      let below : lun_of ms < length p.luns = lun_below ms (length p.luns) group.some (λ m i. All-has _ p.wants m ip.in_range (wanted g m here i)) in
-      let x = get_within p.luns (lun_of ms) below in
-      let us = rest_at (lun_of ms) x.0 x.1 in
-      let first : All (IsFirst p.wants) ms = All-each (IsFirst p.wants) ms (λ m i. ⊎_elim (λ q. q) (λ (w, hw, el, eb, r).
-      let h = group_of w hw in
-      let before = r el eb h.0 g h.1 here h.2 i in
-      absurd (not_before t (record { lun = lun_of ms; start = t; length = phase_length (group_spans p.timing ms) (length ms) 0 }) _ (group_phases p.timing h.0) (of_group (λ x. t ≤ x.start) h.0 h.1 least) (of_group (λ x. 1 ≤ x.length) h.0 h.1 (phases_long p s)) (group_number h.0 h.1) refl before)) (first_or_earlier (KeepsBlockOrder p.timing s.groups) p.wants m lg.block_order (wanted g m here i))) in
-      law_at ms t ts us.0 gs perm least here group first x.0 x.1 us.1
+      let (since, us, at, starts_at, group, first, from) = starts_free ms t ts gs perm least in
+      let order = begun_phases p s ip lg ms t ts gs perm since us at starts_at in
+      let bus = All-perm (λ x. p.bus_free ≤ x.start) order lg.from_bus_free in
+      ((since, at, record { group = group; first = first }), rw at (omega (arith, bus.0)), begun_legal p s ip lg ms t ts gs perm since us at starts_at least, latest_without p.bus_free _ (begun_phase p s ip lg ms t ts gs perm since us at starts_at) (phases p s) _ order bus.0 refl)
 
   pub law_next : (l t : ℕ) (ts : List ℕ) → slice_get s.rest l ≡ Some (t ∷ ts) → All (λ x. t ≤ x.start) (phases p s) → IsMove p (Next l) × (earliest p (Next l) ≤ t) × Legal (placed p (Next l) t) (record { rest = slice_set s.rest l ts; groups = s.groups }) × (finish (placed p (Next l) t) (record { rest = slice_set s.rest l ts; groups = s.groups }) ≡ finish p s)
   law_next l t ts starts_at least =

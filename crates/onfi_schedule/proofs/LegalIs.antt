@@ -1,7 +1,6 @@
 -- The words of the functions that test the conditions say that a schedule is legal.
 use Rattle.std.proofs.Common.{◌≡◌, ℕ, zero, suc, ◌≤◌, ◌↔◌, ◌⊎◌, List, [], ◌∷◌, Some, inl, inr, refl, sym, ◌∙◌, subst, arith}
 use Rattle.std.specs.Prelude.{slice_get}
-use Rattle.std.specs.List.{AllByRecursion as All, flat_map}
 use Rattle.onfi_timing.specs.declared.timing.Timing.{Timing}
 use Rattle.onfi_request.specs.declared.want.Want.{Want}
 use Rattle.onfi_group.specs.declared.rules.Rules.{Rules}
@@ -11,7 +10,7 @@ use Rattle.onfi_problem.specs.Problem.{Problem, IsProblem, has_id}
 use Rattle.onfi_problem.specs.Left.{InLimits}
 use Rattle.onfi_problem.specs.declared.lun_state.LunState.{LunState}
 use Rattle.onfi_problem.specs.declared.lun_state.LunState.TheVariants.{Free, Running}
-use Rattle.onfi_problem.proofs.Perm.{All-append, All-has, All-each, All-weaker, All-flat_map}
+use Rattle.onfi_problem.proofs.Perm.{All-has, All-each, All-weaker, All-flat_map}
 use Rattle.onfi_problem.proofs.Wants.{Pairs-weaker, number_has, some_with_id, one_with_id}
 use Rattle.onfi_schedule.specs.Schedule.{Placed, Schedule, IsSchedule, Legal, all_members, rest_of, phases_left, group_phases, Before, StartsFrom, KeepsBlockOrder}
 use Rattle.onfi_schedule.specs.Conditions.{HasShape, KeepsBus, KeepsWaits, KeepsTurns, KeepsGroups, EachRest, StateFits, StateWaits, LeftFirst, FromSince, HoldsOnce, InBlockOrder, start_count}
@@ -31,10 +30,6 @@ each_from : (P : LunState → List ℕ → Type 0) (luns : List LunState) (rest 
 each_from P [] rest h = tt
 each_from P (x ∷ luns) [] h = tt
 each_from P (x ∷ luns) (us ∷ rest) h = (h 0 x us refl refl, each_from P luns rest (λ i. h (suc i)))
-
-all_flat : {A B : Type 0} (P : B → Type 0) (f : A → List B) (xs : List A) → All (λ x. All P (f x)) xs → All P (flat_map f xs)
-all_flat P f [] h = tt
-all_flat P f (x ∷ xs) h = All-append P (f x) (flat_map f xs) h.0 (all_flat P f xs h.1)
 
 none_or_some : (n : ℕ) → (n ≡ 0) ⊎ (1 ≤ n)
 none_or_some n = grind arith

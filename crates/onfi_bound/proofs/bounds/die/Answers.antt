@@ -38,7 +38,6 @@ done_by-requires c =
       | else-not-chain-via-else-not-chain v ↦ inl v.if-not-chain.false
     ]) in
     let s = die_small x.problem c.args.lun c.bus_free-bus_free.ensures.limits c.requires in
-    let v = c.bus_free-bus_free.ensures.value in
     omega arith
 
 pub returns-clause-value : goal.returns-clause-value

@@ -6,9 +6,6 @@ use Rattle.onfi_bound.proofs.bounds.trail_by.Goals as goal
 pub overflow_add-result : goal.overflow_add-result
 overflow_add-result c = let r = c.requires.bus_free in let s = c.requires.commands in omega arith
 
-pub overflow_add-result-2 : goal.overflow_add-result-2
-overflow_add-result-2 c = let r = c.in_ok-rest.ensures.short in let b = c.requires.bus_free in let s = c.requires.commands in omega arith
-
 pub returns : goal.returns
 returns c = λ p timing bus commands kinds.
     let r = kinds Read in

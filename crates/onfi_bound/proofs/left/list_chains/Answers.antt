@@ -9,9 +9,6 @@ use Rattle.onfi_bound.proofs.left.list_chains.Goals as goal
 abbrev none : Lun
 none = record { next = 0; place = 0; time = 0 }
 
-pub loop-lun-init : goal.loop-lun-init
-loop-lun-init c = c.requires.empty
-
 pub of-requires : goal.of-requires
 of-requires c = all_at (λ (lun : Lun). 1 ≤ lun.next → lun.place < length c.args.groups.now) c.args.luns.now c.loop-lun.lun-index none c.loop-lun-test.true c.requires.placed
 

@@ -1,4 +1,4 @@
-use Rattle.std.proofs.Common.{◌≡◌, ℕ, ◌+◌, ◌-◌, ◌*◌, ◌^◌, ◌<◌, ◌≤◌, max, arith, refl}
+use Rattle.std.proofs.Common.{◌≡◌, ℕ, ◌+◌, ◌-◌, ◌*◌, ◌^◌, ◌<◌, ◌≤◌, max, arith}
 use Rattle.std.proofs.Math.Nat.{mul-le-mul_right}
 use Rattle.onfi_problem.proofs.horizon.chain_time.Goals as goal
 
@@ -10,19 +10,6 @@ phases_small next {members} {greater} {commands} {posts} {cmd} {post} few comman
     let few_posts : posts ≤ 4 = omega (arith, few, most, post_count) in
     omega (arith, mul-le-mul_right cmd few_commands, mul-le-mul_right post few_posts, short_command, short_post)
 
-pub overflow_mul-members : goal.overflow_mul-members
-overflow_mul-members c = omega (arith, c.len-members.ensures.few)
-
-pub overflow_mul-result : goal.overflow_mul-result
-overflow_mul-result c =
-    let few : c.saturating_sub-commands.result ≤ 4 = omega (arith, c.saturating_sub-commands.ensures, c.len-members.ensures.few) in
-    omega (arith, mul-le-mul_right c.spans-spans.result.cmd few, c.spans-spans.result.in_range.cmd_short)
-
-pub overflow_mul-result-in-Running : goal.overflow_mul-result-in-Running
-overflow_mul-result-in-Running c =
-    let few : c.saturating_sub-posts.result ≤ 4 = omega (arith, c.saturating_sub-posts.ensures, c.max.ensures, c.len-members.ensures.few) in
-    omega (arith, mul-le-mul_right c.spans-spans.result.post few, c.spans-spans.result.in_range.post_short)
-
 pub overflow_add-result : goal.overflow_add-result
 overflow_add-result c =
     let spans = c.spans-spans.result.in_range in
@@ -32,10 +19,6 @@ pub overflow_add-result-in-Running : goal.overflow_add-result-in-Running
 overflow_add-result-in-Running c =
     let spans = c.spans-spans.result.in_range in
     omega (arith, phases_small _ c.len-members.ensures.few c.saturating_sub-commands.ensures c.max.ensures c.saturating_sub-posts.ensures spans.cmd_short spans.post_short, c.waits_left.ensures.small)
-
-pub returns-in-Running-clause-value : goal.returns-in-Running-clause-value
-returns-in-Running-clause-value c =
-    rw (c.in-Running.is, c.saturating_sub-commands.ensures, c.saturating_sub-posts.ensures, c.max.ensures, c.waits_left.ensures.value, c.spans-spans.ensures, c.kind.ensures, c.len-members.ensures.value) refl
 
 pub returns-in-Running-clause-small : goal.returns-in-Running-clause-small
 returns-in-Running-clause-small c =

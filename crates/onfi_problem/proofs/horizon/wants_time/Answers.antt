@@ -8,7 +8,6 @@ use Rattle.onfi_problem.proofs.horizon.wants_time.Goals as goal
 pub loop-want-preserved : goal.loop-want-preserved
 loop-want-preserved c =
     let blank : Want = record { id = 0; kind = Read; lun = 0; plane = 0; block = 0; page = 0 } in
-    let s = c.want_time-total.ensures.small in
     record {
       value = one_more (want_time c.args.timing.now) c.args.wants.now c.loop-want.want-index blank c.loop-want.total c.want_time-total.result c.loop-want-test.true c.loop-want.invariant.value c.want_time-total.ensures.value;
       small = omega arith;

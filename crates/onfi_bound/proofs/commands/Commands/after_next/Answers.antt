@@ -20,8 +20,6 @@ less_one-requires c =
     let here = next_place x.problem x.groups c.luns.result.now c.luns.ensures.states c.args.lun blank lim c.requires.step in
     let group = c.index-groups-state.result in
     let same = read_group x.groups _ group here (rw c.groups.ensures.value at c.index-groups-state.is) in
-    let long = c.len.ensures.value in
-    let lt = c.if-state-len.true in
     let one = next_command x.problem x.groups c.luns.result.now c.luns.ensures.states c.args.lun blank group lim c.requires.step same (omega arith) c.kind.result in
     let some = some_there c.kind.result _ _ (commands_of x.problem c.kind.result) c.kind.ensures one in
     let counts = c.requires.counts c.kind.result in
@@ -35,8 +33,6 @@ returns-then-state-len c = λ kind.
     let here = next_place x.problem x.groups c.luns.result.now c.luns.ensures.states c.args.lun blank lim c.requires.step in
     let group = c.index-groups-state.result in
     let same = read_group x.groups _ group here (rw c.groups.ensures.value at c.index-groups-state.is) in
-    let long = c.len.ensures.value in
-    let lt = c.if-state-len.true in
     one_left kind c.kind.result _ _ _ _ _ c.kind.ensures (c.less_one.ensures kind) (c.requires.counts kind) (next_command x.problem x.groups c.luns.result.now c.luns.ensures.states c.args.lun blank group lim c.requires.step same (omega arith) kind)
 
 pub returns-else-state-len : goal.returns-else-state-len
@@ -47,6 +43,4 @@ returns-else-state-len c = λ kind.
     let here = next_place x.problem x.groups c.luns.result.now c.luns.ensures.states c.args.lun blank lim c.requires.step in
     let group = c.index-groups-state.result in
     let same = read_group x.groups _ group here (rw c.groups.ensures.value at c.index-groups-state.is) in
-    let long = c.len.ensures.value in
-    let le = c.if-state-len.false in
     c.requires.counts kind ∙ sym (next_post x.problem x.groups c.luns.result.now c.luns.ensures.states c.args.lun blank group lim c.requires.step same (omega arith) kind)

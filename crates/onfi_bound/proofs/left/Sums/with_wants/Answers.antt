@@ -7,7 +7,6 @@ use Rattle.onfi_bound.proofs.left.Sums.with_wants.Goals as goal
 pub loop-want-preserved : goal.loop-want-preserved
 loop-want-preserved c =
     let at = c.loop-want.invariant in
-    let r = c.spans.result.in_range in
     let more = c.with_want-sums.ensures in
     let commands = more.commands ∙ ap (λ s. c.loop-want.sums.commands + s.cmd) c.spans.ensures in
     let posts = more.posts ∙ ap (λ s. c.loop-want.sums.posts + s.post) c.spans.ensures in

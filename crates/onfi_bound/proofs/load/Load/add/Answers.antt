@@ -12,15 +12,11 @@ use Rattle.onfi_bound.proofs.load.Load.add.Goals.{then-self-lun-eq0, else-self-l
 pub with_want-self-requires-clause-commands : goal.with_want-self-requires-clause-commands
 with_want-self-requires-clause-commands c =
     let few = total_few (want_command c.args.timing.now) c.args.before.now (λ w. let r = (spans_of c.args.timing.now w.kind).in_range in omega arith) in
-    let is = c.requires.load.takes.commands in
-    let r = c.spans-spans.result.in_range in
     omega arith
 
 pub with_want-self-requires-clause-posts : goal.with_want-self-requires-clause-posts
 with_want-self-requires-clause-posts c =
     let few = total_few (want_post c.args.timing.now) c.args.before.now (λ w. let r = (spans_of c.args.timing.now w.kind).in_range in omega arith) in
-    let is = c.requires.load.takes.posts in
-    let r = c.spans-spans.result.in_range in
     omega arith
 
 pub returns-clause-load : goal.returns-clause-load

@@ -19,7 +19,6 @@ add-requires-clause-lun c =
     let long = ap length c.wants-wants.ensures.value in
     let waits = ap (waiting_of c.waiting.result.now) c.wants-wants.ensures.value ∙ c.waiting.ensures.value in
     let there = subst (All (λ w. w.lun < length p.luns)) (sym waits) c.bus_free-limits.ensures.limits.problem.in_range in
-    let few = c.bus_free-limits.ensures.limits.small.few_luns in
     let h = waits_at (λ w. w.lun < length p.luns) c.waiting.result.now c.wants-wants.result.now c.args.number no_want (omega arith) c.if-not-waits.false there in
     omega arith
 

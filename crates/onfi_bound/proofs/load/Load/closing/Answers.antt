@@ -1,5 +1,5 @@
 use Rattle.std.proofs.lemmas.Bool.{false≢true}
-use Rattle.std.proofs.Common.{◌+◌, ◌≤◌, ◌<◌, sym, ◌∙◌, arith}
+use Rattle.std.proofs.Common.{sym, ◌∙◌, arith}
 use Rattle.onfi_bound.proofs.Tallying.{tally_sums, tally_first, all_below, bus_free_first}
 use Rattle.onfi_bound.proofs.FirstBound.{first_bus, first_lead, first_trail, first_die, none_reaches, below}
 use Rattle.onfi_bound.proofs.load.Load.closing.Goals as goal

@@ -1,9 +1,4 @@
-use Rattle.std.proofs.Common.{◌≡◌, ◌+◌, ◌≤◌, ◌<◌, ◌∙◌, ◌⊎◌, inl, inr, true, get_or, ap, sym, refl, arith}
-use Rattle.onfi_problem.specs.Position.{state_of}
-use Rattle.onfi_problem.proofs.Places.{within_get}
-use Rattle.onfi_bound.specs.Bounds.{die}
-use Rattle.onfi_bound.specs.Loads.{IsChainAt}
-use Rattle.onfi_bound.specs.Parts.{chain_of}
+use Rattle.std.proofs.Common.{◌≡◌, ◌≤◌, ◌∙◌, ◌⊎◌, inl, inr, true, get_or, arith}
 use Rattle.onfi_bound.proofs.Tallying.{done_is, done_small, idle_done, chain_here}
 use Rattle.onfi_bound.proofs.load.Load.die.Goals as goal
 use Rattle.onfi_bound.proofs.load.Load.die.Goals.{else-not-chain-via-then-not-chain+else-work-eq0, else-not-chain-via-else-not-chain}
@@ -23,7 +18,6 @@ done_by-requires c =
       | else-not-chain-via-else-not-chain v ↦ inl v.if-not-chain.false
     ] in
     let s = done_small x.problem c.args.lun c.args.self.now c.of-chain.result c.bus_free-bus_free.ensures.limits c.requires.load at c.requires.small b in
-    let v = c.bus_free-bus_free.ensures.value in
     omega arith
 
 pub returns : goal.returns

@@ -13,9 +13,6 @@ overflow_add-result c =
     let limits = c.bus_free.ensures.limits in
     let behind = bus_after p m limits.problem c.requires.step in
     let small = bus_small (after p m) (after_limits p m limits c.requires.step) in
-    let start = c.earliest.ensures in
-    let free = c.bus_free.ensures.value in
-    let before = c.requires.bus in
     omega arith
 
 pub returns : goal.returns
@@ -23,7 +20,4 @@ returns c =
     let p = c.args.problem.now.problem in
     let m = move_of c.args.problem.now.groups c.args.m in
     let behind = bus_after p m c.bus_free.ensures.limits.problem c.requires.step in
-    let start = c.earliest.ensures in
-    let free = c.bus_free.ensures.value in
-    let before = c.requires.bus in
     omega arith

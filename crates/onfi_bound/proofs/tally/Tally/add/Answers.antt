@@ -1,4 +1,4 @@
-use Rattle.std.proofs.Common.{◌≡◌, ◌+◌, ◌≤◌, ◌<◌, ◌⊎◌, inl, inr, true, get_or, Some, refl, sym, ◌∙◌, ap, arith, if◌then◌else◌}
+use Rattle.std.proofs.Common.{◌≡◌, ◌+◌, ◌≤◌, ◌⊎◌, inl, inr, true, get_or, Some, refl, ◌∙◌, ap, arith, if◌then◌else◌}
 use Rattle.std.specs.Prelude.{max}
 use Rattle.onfi_bound.specs.Bounds.{least_with, die}
 use Rattle.onfi_bound.proofs.Tallying.{done_is, done_small, tally_room, tally_more, tally_idle, idle_done, done_more, at_small}
@@ -26,7 +26,6 @@ done_by-done-requires c =
       | else-not-chain-via-else-not-chain v ↦ inl v.if-not-chain.false
     ] in
     let s = done_small c.args.problem.now.problem c.args.lun c.args.load.now c.args.chain c.bus_free-bus_free.ensures.limits c.requires.load c.requires.chain c.requires.small b in
-    let v = c.bus_free-bus_free.ensures.value in
     omega arith
 
 pub with_chain-self-requires-clause-commands : goal.with_chain-self-requires-clause-commands
@@ -48,8 +47,6 @@ overflow_add-max c =
       | else-not-chain-via-else-not-chain v ↦ inl v.if-not-chain.false
     ] in
     let s = done_small c.args.problem.now.problem c.args.lun c.args.load.now c.args.chain c.bus_free-bus_free.ensures.limits c.requires.load c.requires.chain c.requires.small b in
-    let m = c.max.ensures in
-    let v = c.bus_free-bus_free.ensures.value in
     let f = c.requires.load.short c.args.lun in
     let a = at_small c.args.problem.now.problem c.args.lun c.args.chain c.bus_free-bus_free.ensures.limits c.requires.chain in
     elim c.if-chain.branch [
@@ -73,7 +70,6 @@ returns c =
       | else-chain w ↦ rw w.if-chain.false w.to_post-is
     ] in
     let d : c.done_by-done.result ≡ die p c.args.lun = c.done_by-done.ensures ∙ rw c.bus_free-bus_free.ensures.value (done_is p c.args.lun load chain c.requires.load c.requires.chain c.requires.small b) in
-    let g : c.max-self.result ≡ max t.done c.done_by-done.result = c.max-self.ensures in
     let s = c.with_chain-self.ensures in
     tally_more p c.args.lun c.if-chain.to_post load chain t _ c.requires.load c.requires.chain c.requires.small b c.requires.so_far s.commands s.posts s.kinds is
     (ap Some (c.least_of.ensures ∙ ap (λ z. least_with (z + c.if-chain.to_post) t.first) m))

@@ -16,20 +16,8 @@ add_lun-requires-clause-place c =
     let x = c.args.problem.now in
     all_at (λ (lun : Lun). 1 ≤ lun.next → lun.place < length x.groups) c.luns-state-items.result.now c.loop-lun.lun _ c.loop-lun-test.true (placed x.problem x.groups c.luns-state-items.result.now c.bus_free-limits.ensures.limits c.luns-state-items.ensures.states)
 
-pub add_lun-requires-clause-load : goal.add_lun-requires-clause-load
-add_lun-requires-clause-load c = c.requires
-
 pub add_lun-requires-clause-state : goal.add_lun-requires-clause-state
 add_lun-requires-clause-state c = state_at c.args.problem.now.groups c.luns-state-items.result.now c.args.problem.now.problem.luns c.loop-lun.lun none c.luns-state-items.ensures.states c.loop-lun-test.true
-
-pub add_lun-requires-clause-small : goal.add_lun-requires-clause-small
-add_lun-requires-clause-small c = omega (arith, c.loop-lun-test.true, c.luns-state-items.ensures.few)
-
-pub add_lun-requires-clause-so_far : goal.add_lun-requires-clause-so_far
-add_lun-requires-clause-so_far c = c.loop-lun.invariant
-
-pub loop-lun-preserved : goal.loop-lun-preserved
-loop-lun-preserved c = c.add_lun.ensures
 
 pub returns : goal.returns
 returns c =

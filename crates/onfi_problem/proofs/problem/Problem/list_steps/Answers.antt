@@ -9,9 +9,7 @@ use Rattle.onfi_problem.proofs.problem.Problem.list_steps.Goals.{then-state-eq0,
 pub starts-requires-clause-places : goal.starts-requires-clause-places
 starts-requires-clause-places c =
     let t = c.self.inside in
-    let v = c.self.view_is in
     let at = c.loop-at.at in
-    let blank : Lun = record { next = 0; place = 0; time = 0 } in
     let h = rw c.deref-state-items.ensures.0 at c.loop-at-test.true in
     let p = places_few t.timing t.rules t.bus_free t.luns.items t.wants.items t.waiting t.groups.items t.first c.self.invariant.0 c.self.invariant.1 (at + 1) (omega arith) in
     omega arith
@@ -21,7 +19,6 @@ starts-requires-clause-luns c =
     let t = c.self.inside in
     let v = c.self.view_is in
     let at = c.loop-at.at in
-    let blank : Lun = record { next = 0; place = 0; time = 0 } in
     let h = rw c.deref-state-items.ensures.0 at c.loop-at-test.true in
     rw (← v) (luns_of_own t.timing t.rules t.bus_free t.luns.items t.wants.items t.waiting t.groups.items t.first c.self.invariant.0 c.self.invariant.1 at h)
 
@@ -65,7 +62,6 @@ loop-at-preserved c =
           }))
       | else-state-eq0 w ↦ (
           let e = rw c.deref-state-items.ensures.0 at w.if-state-eq0.false in
-          let few = c.self.invariant.0.limits.small.few_luns in
           let l = length-map t.luns.items (state_of t.groups.items) in
           rw (w.moves-is, w.push.ensures) (record {
             moves = rw (← v) (run_more t.timing t.rules t.bus_free t.luns.items t.wants.items t.waiting t.groups.items t.first c.self.invariant.0 c.self.invariant.1 at blank h c.loop-at.moves so_far e);
