@@ -224,11 +224,6 @@ whole strict tokens = record { strict = strict; tokens = tokens; fault = None }
 pub certificate_holds : (text : List ℕ) (strict : Bool) (tokens : List Token) → IsCertificate text strict tokens → Holds text (whole strict tokens)
 certificate_holds text strict tokens c = record { in_range = c.in_range; few = c.few; bytes = line tokens; spelled = c.spelled; ends = refl }
 
-pub holds_certificate : (text : List ℕ) (a : Ahead) → Holds text a → a.fault ≡ None → IsCertificate text a.strict a.tokens
-holds_certificate text a h e =
-    let ends : h.bytes ≡ line a.tokens = subst (EndsBy a.tokens h.bytes) e h.ends in
-    record { in_range = h.in_range; few = h.few; spelled = h.spelled ∙ ap (λ x. header a.strict ++ x) ends }
-
 pub one_certificate : (text : List ℕ) (s r : Bool) (ts us : List Token) → IsCertificate text s ts → IsCertificate text r us → (s ≡ r) × (ts ≡ us)
 one_certificate text s r ts us c d =
     let same = holds_once text (whole s ts) (whole r us) (certificate_holds text s ts c) (certificate_holds text r us d) in

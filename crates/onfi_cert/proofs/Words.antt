@@ -1,19 +1,11 @@
 -- Cutting a text at its words.
-use Rattle.std.proofs.Common.{◌≡◌, ◌⊎◌, inl, inr, ℕ, ◌+◌, List, [], ◌∷◌, ◌++◌, Bool, true, false, not, cond, length, take, drop, refl, ap, ◌∙◌, arith, one-add, unwrap_or}
-use Rattle.std.specs.Prelude.{⊤, position}
+use Rattle.std.proofs.Common.{◌≡◌, ◌⊎◌, inl, inr, ℕ, ◌+◌, List, [], ◌∷◌, ◌++◌, Bool, true, false, not, cond, length, take, drop, refl, ap, ◌∙◌, one-add}
+use Rattle.std.specs.Prelude.{⊤}
 use Rattle.std.specs.List.{position_or_len}
-use Rattle.std.proofs.lemmas.Bool.{cases_eq, cases_lt, eqb-true, lt-ltb, le-ltb, ne_eqb}
+use Rattle.std.proofs.lemmas.Bool.{cases_eq, eqb-true, ne_eqb}
 use Rattle.std.proofs.lemmas.List.{take-append-drop}
-use Rattle.std.proofs.lemmas.List.Sums.{prefix_len-le-length}
 use Rattle.std.proofs.Math.Seq.{take-append_seam, drop-append_seam}
 use Rattle.onfi_cert.specs.Word.{behind_word, is_separator, word}
-
-pub unwrap_or-position : (p : ℕ → Bool) (xs : List ℕ) → unwrap_or (position p xs) (length xs) ≡ position_or_len p xs
-unwrap_or-position p xs =
-    elim (cases_lt (position_or_len p xs) (length xs)) [
-      | inl h ↦ rw (lt-ltb (position_or_len p xs) (length xs) h)
-      | inr h ↦ let most = prefix_len-le-length (λ x. not (p x)) xs in rw (le-ltb (position_or_len p xs) (length xs) h) (omega arith)
-    ]
 
 -- what a word is cut at: the end of the text, a space or LF
 abbrev pub Ends : List ℕ → Type 0

@@ -2,7 +2,7 @@
 use Rattle.std.proofs.Common.{◌≡◌, ℕ, ◌≤◌, List, [], ◌∷◌, ◌++◌, length, refl, sym, ap, ◌∙◌, subst, arith}
 use Rattle.onfi_problem.specs.Moves.{Move, AreMoves}
 use Rattle.onfi_cert.specs.declared.token.Token.{Token}
-use Rattle.onfi_cert.specs.declared.token.Token.TheVariants.{Branch, Yield}
+use Rattle.onfi_cert.specs.declared.token.Token.TheVariants.{Branch}
 use Rattle.onfi_problem.specs.Problem.{Problem}
 use Rattle.onfi_check.specs.Tree.{Forest, Closing, Closes, token_of, width, preorders, AcceptsEach, Closed, Opened, NoMore, Child, Yields, AtEnd, ByBus, ByLead, ByTrail, ByDie}
 use Rattle.onfi_problem.specs.declared.moves.Move.{Move as KeptMove}
@@ -55,11 +55,3 @@ not_closed p e t ts rest nb nc (Opened f, q, a) = let k : t ≡ Branch (width f)
 pub nothing_begins : (p : Problem) (e : ℕ) (rest : List Token) → Begins p e [] rest → ⊥
 nothing_begins p e rest (Closed c, q, a) = cc
 nothing_begins p e rest (Opened f, q, a) = cc
-
-pub no_yield_begins : (p : Problem) (e l : ℕ) (ts rest : List Token) → Begins p e (Yield l ∷ ts) rest → ⊥
-no_yield_begins p e l ts rest (Closed AtEnd, q, a) = cc
-no_yield_begins p e l ts rest (Closed ByBus, q, a) = cc
-no_yield_begins p e l ts rest (Closed ByLead, q, a) = cc
-no_yield_begins p e l ts rest (Closed ByTrail, q, a) = cc
-no_yield_begins p e l ts rest (Closed (ByDie k), q, a) = cc
-no_yield_begins p e l ts rest (Opened f, q, a) = cc

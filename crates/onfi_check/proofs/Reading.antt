@@ -1,5 +1,5 @@
 -- Reading the children of a node one by one.
-use Rattle.std.proofs.Common.{◌≡◌, ◌≢◌, ℕ, zero, suc, ◌+◌, ◌≤◌, ◌<◌, ◌⊎◌, ◌↔◌, inl, inr, ⊎_elim, Bool, true, false, List, [], ◌∷◌, ◌++◌, length, drop, get_or, refl, sym, ap, ◌∙◌, subst, arith, append_assoc}
+use Rattle.std.proofs.Common.{◌≡◌, ◌≢◌, ℕ, zero, suc, ◌+◌, ◌<◌, ◌↔◌, inl, inr, Bool, true, false, List, [], ◌∷◌, ◌++◌, length, drop, get_or, refl, sym, ap, ◌∙◌, subst, arith, append_assoc}
 use Rattle.std.specs.Prelude.{slice_set}
 use Rattle.std.specs.List.{AllByRecursion as All}
 use Rattle.std.proofs.lemmas.Bool.{false≢true, cases_Bool}
@@ -13,13 +13,8 @@ use Rattle.onfi_check.proofs.Spelled.{one_tree}
 use Rattle.onfi_problem.specs.declared.moves.Move.{Move as KeptMove}
 use Rattle.onfi_problem.specs.Position.{Position, move_of}
 use Rattle.onfi_problem.specs.Position.{moves_of}
+use Rattle.onfi_problem.proofs.Places.{same_place}
 use Rattle.onfi_check.specs.Reading.{Begins, BeginsEach, marked, IsYield, Rest, BeginsRest}
-
-same_or : (i j : ℕ) → (i ≡ j) ⊎ (i ≢ j)
-same_or zero zero = inl refl
-same_or zero (suc j) = inr (λ e. let a : 0 ≡ j + 1 = omega arith in omega arith)
-same_or (suc i) zero = inr (λ e. omega arith)
-same_or (suc i) (suc j) = ⊎_elim (λ e. inl (ap suc e)) (λ n. inr (λ e. n (omega arith))) (same_or i j)
 
 set_marked : (xs : List Bool) (i : ℕ) → i < length xs → marked (slice_set xs i true) i ≡ true
 set_marked [] i h = absurd (omega arith)
@@ -66,7 +61,7 @@ to_each (Yields l f) p e n (m ∷ ms) all whole ys ls small own a b g r =
     let none : NoneYields l ms f = later_none f p e ms all (slice_set ys l true) (slice_set ls (move_lun m) true) l (set_marked ys l (omega arith)) r.1 in (
       record { other = r.0.other; move = mv.0; has_move = mv.1; of_lun = mv.2; fits = r.0.fits.1; none_back = g l r.0.stays ((λ q. r.0.other (sym q)), none) },
       to_each f p e n ms all whole (slice_set ys l true) (slice_set ls (move_lun m) true) small own.1 (set_long ys l ∙ a) (set_long ls (move_lun m) ∙ b)
-          (λ k h q. g k (elim (same_or (move_lun m) k) [
+          (λ k h q. g k (elim (same_place (move_lun m) k) [
             | inl s ↦ absurd (false≢true (sym h ∙ subst (λ z. marked (slice_set ls (move_lun m) true) z ≡ true) s (set_marked ls (move_lun m) (omega arith))))
             | inr s ↦ sym (set_other ls (move_lun m) k s) ∙ h
           ]) ((λ s. false≢true (sym h ∙ subst (λ z. marked (slice_set ls (move_lun m) true) z ≡ true) s (set_marked ls (move_lun m) (omega arith)))), q))
@@ -87,8 +82,8 @@ from_each (Yields l f) p e (m ∷ ms) all whole ys ls h1 h2 h3 a =
         stays = h1 l y.none_back;
       },
       from_each f p e ms all whole (slice_set ys l true) (slice_set ls (move_lun m) true)
-          (λ k q. elim (same_or (move_lun m) k) [ inl s ↦ absurd ((h3 k q).0 s) | inr s ↦ set_other ls (move_lun m) k s ∙ h1 k q ])
-          (λ i q. elim (same_or l i) [ inl s ↦ subst (λ z. NoneYields z all whole) s y.none_back | inr s ↦ h2 i (sym (set_other ys l i s) ∙ q) ])
+          (λ k q. elim (same_place (move_lun m) k) [ inl s ↦ absurd ((h3 k q).0 s) | inr s ↦ set_other ls (move_lun m) k s ∙ h1 k q ])
+          (λ i q. elim (same_place l i) [ inl s ↦ subst (λ z. NoneYields z all whole) s y.none_back | inr s ↦ h2 i (sym (set_other ys l i s) ∙ q) ])
           (λ j q. (h3 j q).1)
           a.1,
     )
@@ -165,12 +160,6 @@ drop_step x items i d h = let e : suc i ≡ i + 1 = omega arith in ap (moves_of 
     go (s ∷ items) zero h = refl
     go (s ∷ items) (suc i) h = go items i (omega arith)
 
-pub drop_all : {A : Type 0} (xs : List A) (i : ℕ) → length xs ≤ i → drop i xs ≡ []
-drop_all [] zero h = refl
-drop_all [] (suc i) h = refl
-drop_all (x ∷ xs) zero h = absurd (omega arith)
-drop_all (x ∷ xs) (suc i) h = drop_all xs i (omega arith)
-
 drop_suc : {A : Type 0} (xs : List A) (i : ℕ) (d x : A) → i < length xs → get_or xs i d ≡ x → drop i xs ≡ x ∷ drop (suc i) xs
 drop_suc [] i d x h q = absurd (omega arith)
 drop_suc (y ∷ xs) zero d x h q = ap (λ z. z ∷ xs) q
@@ -190,8 +179,5 @@ none_marked (suc (suc (suc (suc (suc (suc zero)))))) = refl
 none_marked (suc (suc (suc (suc (suc (suc (suc zero))))))) = refl
 none_marked (suc (suc (suc (suc (suc (suc (suc (suc i)))))))) = refl
 
-both : {A B C : Type 0} → A ↔ B → B ↔ C → A ↔ C
-both f g = ((λ a. g.0 (f.0 a)), (λ c. f.1 (g.1 c)))
-
 pub trans_same : {A B C : Type 0} → A ↔ B → B ↔ C → A ↔ C
-trans_same f g = both f g
+trans_same f g = ((λ a. g.0 (f.0 a)), (λ c. f.1 (g.1 c)))

@@ -1,5 +1,5 @@
 -- The tokens of one tree, with nothing behind them.
-use Rattle.std.proofs.Common.{◌≡◌, ℕ, List, [], ◌∷◌, ◌++◌, sym, ap, ◌∙◌, subst, append-nil}
+use Rattle.std.proofs.Common.{◌≡◌, ℕ, List, [], ◌∷◌, sym, ◌∙◌, subst, append-nil}
 use Rattle.onfi_problem.specs.Problem.{Problem}
 use Rattle.onfi_cert.specs.declared.token.Token.{Token}
 use Rattle.onfi_check.specs.Tree.{preorder, AcceptsTokens}
@@ -9,9 +9,6 @@ use Rattle.onfi_check.proofs.OneList.{nothing_begins}
 
 pub begins_with_all : (p : Problem) (e : ℕ) (tokens : List Token) → AcceptsTokens tokens p e → Begins p e tokens []
 begins_with_all p e tokens (tree, t, a) = (tree, sym t ∙ sym (append-nil (preorder tree)), a)
-
-pub all_begin : (p : Problem) (e : ℕ) (tokens rest : List Token) → rest ≡ [] → Begins p e tokens rest → AcceptsTokens tokens p e
-all_begin p e tokens rest n (tree, t, a) = (tree, sym (append-nil (preorder tree)) ∙ sym (t ∙ ap (λ z. preorder tree ++ z) n), a)
 
 pub none_accepted : (p : Problem) (e : ℕ) (tokens : List Token) → tokens ≡ [] → AcceptsTokens tokens p e → ⊥
 none_accepted p e tokens n a = nothing_begins p e [] (subst (λ z. Begins p e z []) n (begins_with_all p e tokens a))

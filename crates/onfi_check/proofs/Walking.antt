@@ -2,6 +2,7 @@
 use Rattle.std.proofs.Common.{◌≡◌, ℕ, ◌+◌, ◌≤◌, ◌<◌, ◌↔◌, Bool, true, false, List, [], ◌∷◌, length, drop, get_or, refl, sym, ap, ◌∙◌, subst, arith}
 use Rattle.std.specs.Prelude.{Result, Ok, Err, OnOk, IfErr, slice_set}
 use Rattle.std.specs.List.{AllByRecursion as All}
+use Rattle.std.proofs.lemmas.List.{drop_all}
 use Rattle.onfi_request.specs.declared.want.Want.{Want}
 use Rattle.onfi_problem.specs.Problem.{Problem}
 use Rattle.onfi_problem.specs.Moves.{Move, AreMoves, move_lun, after}
@@ -15,7 +16,7 @@ use Rattle.onfi_check.specs.declared.yields.Standing.{Standing}
 use Rattle.onfi_check.specs.Tree.{Closing, Closes, token_of}
 use Rattle.onfi_check.specs.Reading.{Begins, BeginsEach, BeginsRest, IsYield, ReadsChild, RefusesChild}
 use Rattle.onfi_check.proofs.OneList.{branch_each, each_branch, closed_begins, not_closed, map_length}
-use Rattle.onfi_check.proofs.Reading.{rest_each, read_yield, yield_kept, read_child, no_child, no_token, read_all, none_marked, drop_step, drop_all, trans_same}
+use Rattle.onfi_check.proofs.Reading.{rest_each, read_yield, yield_kept, read_child, no_child, no_token, read_all, none_marked, drop_step, trans_same}
 pub use Rattle.onfi_problem.proofs.Kept.{lun_there}
 
 small_named : (groups : List (List Want)) (items : List KeptMove) → All (IsNamed groups) items → All (λ m. move_lun m < 8) (moves_of groups items)
@@ -83,7 +84,7 @@ refused_child x e items i d before tokens begun rest lt refuses same b =
 -- behind the last child
 pub all_children : (x : Position) (e : ℕ) (items : List KeptMove) (i : ℕ) (ys ls : List Bool) (left begun : List Token) → length items ≤ i → BeginsRest x.problem e (moves_of x.groups (drop i items)) (moves_of x.groups items) ys ls left left ↔ BeginsEach x.problem e (moves_of x.groups items) begun left → BeginsEach x.problem e (moves_of x.groups items) begun left
 all_children x e items i ys ls left begun le same =
-    let none : moves_of x.groups (drop i items) ≡ [] = ap (moves_of x.groups) (drop_all items i le) in
+    let none : moves_of x.groups (drop i items) ≡ [] = ap (moves_of x.groups) (drop_all i items le) in
     same.0 (subst (λ z. BeginsRest x.problem e z (moves_of x.groups items) ys ls left left) (sym none) (read_all x.problem e (moves_of x.groups items) ys ls left))
 
 -- a token that closes, or doesn't

@@ -1,24 +1,25 @@
 -- What has the same left has the same moves, which leave the same.
-use Rattle.std.proofs.Common.{◌≡◌, ◌≢◌, ℕ, zero, suc, ◌+◌, ◌*◌, ◌≤◌, ◌<◌, inl, inr, Bool, List, [], ◌∷◌, length, map, Option, Some, None, refl, sym, ap, ◌∙◌, subst, arith}
-use Rattle.std.specs.Prelude.{slice_get, slice_set, true, max}
+use Rattle.std.proofs.Common.{◌≡◌, ◌≢◌, ℕ, zero, suc, ◌+◌, ◌*◌, ◌≤◌, ◌<◌, inl, inr, List, [], ◌∷◌, length, map, Option, Some, None, refl, sym, ap, ◌∙◌, subst, arith}
+use Rattle.std.specs.Prelude.{slice_get, slice_set}
 use Rattle.std.specs.Option.{option_map}
 use Rattle.std.proofs.lemmas.Bool.{cases_lt}
+use Rattle.std.proofs.lemmas.List.{length-map}
 use Rattle.onfi_timing.specs.declared.timing.Timing.{Timing}
-use Rattle.onfi_timing.specs.Phases.{phase_length, wait_before}
+use Rattle.onfi_timing.specs.Phases.{phase_length}
 use Rattle.onfi_request.specs.declared.want.Want.{Want}
 use Rattle.onfi_group.specs.declared.rules.Rules.{Rules}
-use Rattle.onfi_group.specs.Words.{Has}
 use Rattle.onfi_group.specs.Group.{kind_of, group_spans, lun_of}
 use Rattle.onfi_problem.specs.declared.lun_state.LunState.{LunState}
 use Rattle.onfi_problem.specs.declared.lun_state.LunState.TheVariants.{Free, Running}
 use Rattle.onfi_problem.specs.Problem.{Problem, IsProblem}
-use Rattle.onfi_problem.specs.Moves.{Move, Next, Start, IsMove, IsDone, earliest, placed, move_lun, lun_after, without, may_go, free_from}
+use Rattle.onfi_problem.specs.Moves.{Move, Next, Start, IsMove, placed, move_lun, lun_after, without, free_from}
 use Rattle.onfi_problem.proofs.LunAfter.{lun_after_running, lun_after_free}
-use Rattle.onfi_problem.proofs.Places.{get_set_same, get_set_other, same_place}
-use Rattle.onfi_schedule.proofs.Exchange.{not_member, left_by}
+use Rattle.onfi_problem.proofs.Places.{get_set_same, get_set_other}
+use Rattle.onfi_problem.proofs.Lists.{map_set}
+use Rattle.onfi_schedule.proofs.Exchange.{not_member}
 use Rattle.onfi_bound.specs.Bounds.{on_lun}
 use Rattle.onfi_bound.proofs.DieBound.{on_lun_other}
-use Rattle.onfi_demand.specs.Left.{LunLeft, Idle, Rest, left_on, SameLeft, has_left_at, has_left}
+use Rattle.onfi_demand.specs.Left.{Idle, Rest, left_on, SameLeft, has_left_at, has_left}
 
 pub at_map : {A B : Type 0} (f : A → B) (xs : List A) (l : ℕ) → slice_get (map f xs) l ≡ option_map f (slice_get xs l)
 at_map f [] l = refl
@@ -81,11 +82,6 @@ waits_alike timing g g' n kind size =
       | inl k ↦ (let k' : n + 1 < 2 * length g' = omega arith in rw (lun_after_running timing g n 0 k, lun_after_running timing g' n 0 k') (rw (kind, size) refl))
       | inr k ↦ (let k' : 2 * length g' ≤ n + 1 = omega arith in rw (lun_after_free timing g n 0 k, lun_after_free timing g' n 0 k') refl)
     ]
-
-map_set : {A B : Type 0} (f : A → B) (xs : List A) (l : ℕ) (x : A) → map f (slice_set xs l x) ≡ slice_set (map f xs) l (f x)
-map_set f [] l x = refl
-map_set f (y ∷ xs) zero x = refl
-map_set f (y ∷ xs) (suc l) x = ap (λ ys. f y ∷ ys) (map_set f xs l x)
 
 pub set_alike : (xs ys : List LunState) (l : ℕ) (x y : LunState) → Alike xs ys → left_on x ≡ left_on y → Alike (slice_set xs l x) (slice_set ys l y)
 set_alike xs ys l x y h k = map_set left_on xs l x ∙ (ap (λ zs. slice_set zs l (left_on x)) h ∙ (ap (λ z. slice_set (map left_on ys) l z) k ∙ sym (map_set left_on ys l y)))
@@ -197,3 +193,7 @@ other_has p (Start ms) t l ip (since, at, st) d =
     let same = get_set_other p.luns (lun_of ms) l (lun_after p.timing ms 0 c) d in
     let wants = on_lun_other ms p.wants l (λ w h k. not_member p ip ms st w h (λ q. d (sym k ∙ q))) in
     rw (wants, same) refl
+
+-- .. and as many LUNs
+pub same_luns : (p q : Problem) → SameLeft p q → length p.luns ≡ length q.luns
+same_luns p q s = sym (length-map p.luns left_on) ∙ (ap length s.luns ∙ length-map q.luns left_on)

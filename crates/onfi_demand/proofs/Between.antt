@@ -1,6 +1,6 @@
 -- The window bound is at most the finish of each run.
-use Rattle.std.proofs.Common.{◌≡◌, ◌≢◌, ℕ, zero, suc, ◌+◌, ◌*◌, ◌-◌, ◌≤◌, ◌<◌, inl, inr, Bool, true, false, List, [], ◌∷◌, ◌++◌, length, Option, Some, None, refl, sym, ap, ◌∙◌, subst, arith}
-use Rattle.std.specs.Prelude.{slice_get, slice_set, max, nat_le, if◌then◌else◌, ◌==◌}
+use Rattle.std.proofs.Common.{◌≡◌, ◌≢◌, ℕ, zero, suc, ◌+◌, ◌*◌, ◌-◌, ◌≤◌, ◌<◌, inl, inr, true, false, List, [], ◌∷◌, ◌++◌, length, Option, Some, None, refl, sym, ap, ◌∙◌, arith}
+use Rattle.std.specs.Prelude.{slice_get, max, nat_le, if◌then◌else◌, ◌==◌}
 use Rattle.std.specs.List.{AllByRecursion as All}
 use Rattle.std.proofs.lemmas.Bool.{cases_Bool, cases_lt, lt-ltb, le-ltb, eq-eqb, ne_eqb, leb-true, le-leb}
 use Rattle.onfi_timing.specs.declared.spans.Spans.{Spans}
@@ -15,7 +15,6 @@ use Rattle.onfi_problem.specs.declared.lun_state.LunState.{LunState}
 use Rattle.onfi_problem.specs.declared.lun_state.LunState.TheVariants.{Free, Running}
 use Rattle.onfi_problem.specs.Problem.{Problem, IsProblem}
 use Rattle.onfi_problem.specs.Moves.{Move, Next, Start, IsMove, IsDone, earliest, placed, move_lun, lun_after, ran_with, without, may_go, free_from}
-use Rattle.onfi_problem.specs.Left.{commands_left, posts_left, waits_left, chain_time}
 use Rattle.onfi_problem.proofs.Kept.{kept}
 use Rattle.onfi_problem.proofs.LunAfter.{lun_after_running, lun_after_free}
 use Rattle.onfi_problem.proofs.Perm.{All-has, All-each, All-weaker}
@@ -24,12 +23,10 @@ use Rattle.onfi_problem.proofs.Totals.{total_same, split_total, startable_wanted
 use Rattle.onfi_problem.proofs.Waits.{one_wait}
 use Rattle.onfi_problem.proofs.Wants.{Pairs-filter, Has-filter}
 use Rattle.onfi_problem.proofs.Work.{one_phase}
-use Rattle.onfi_schedule.specs.Runs.{Step, Run}
 use Rattle.onfi_schedule.proofs.Exchange.{not_member}
 use Rattle.onfi_bound.specs.Bounds.{on_lun, wants_work, die, die_at}
 use Rattle.onfi_bound.proofs.Classes.{times_left}
 use Rattle.onfi_bound.proofs.DieBound.{die_bound, on_lun_other, no_work}
-use Rattle.onfi_demand.specs.Left.{has_left}
 use Rattle.onfi_demand.proofs.Opened.{left_there}
 use Rattle.onfi_demand.proofs.Sooner.{move_has}
 use Rattle.onfi_demand.specs.Window.{PhaseLeft, chain_from, group_phase, group_left, wants_left, phases_left_at, phases_left_on, is_within, within, sum_of, window, WindowLaw}

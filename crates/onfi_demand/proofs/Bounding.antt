@@ -1,6 +1,6 @@
 -- The demands of the bounds.
-use Rattle.std.proofs.Common.{◌≡◌, ℕ, zero, suc, ◌+◌, ◌-◌, ◌≤◌, ◌<◌, inl, inr, true, false, List, [], ◌∷◌, ◌++◌, length, map, Option, Some, None, refl, sym, ap, ◌∙◌, subst, arith}
-use Rattle.std.specs.Prelude.{slice_get, min, max, ◌==◌}
+use Rattle.std.proofs.Common.{◌≡◌, ℕ, zero, suc, ◌+◌, ◌-◌, ◌≤◌, ◌<◌, inl, inr, true, List, [], ◌∷◌, ◌++◌, length, Option, Some, None, refl, sym, ap, ◌∙◌, subst, arith}
+use Rattle.std.specs.Prelude.{slice_get}
 use Rattle.std.specs.List.{AllByRecursion as All}
 use Rattle.std.specs.Option.{option_map}
 use Rattle.std.proofs.lemmas.Bool.{cases_Bool, eq-eqb, ne_eqb}
@@ -9,20 +9,19 @@ use Rattle.onfi_request.specs.declared.want.Want.{Want}
 use Rattle.onfi_problem.specs.declared.lun_state.LunState.{LunState}
 use Rattle.onfi_problem.specs.declared.lun_state.LunState.TheVariants.{Free, Running}
 use Rattle.onfi_problem.specs.Problem.{Problem, IsProblem}
-use Rattle.onfi_problem.specs.Moves.{IsDone, may_go}
+use Rattle.onfi_problem.specs.Moves.{may_go}
 use Rattle.onfi_problem.specs.Left.{all_posts}
 use Rattle.onfi_problem.proofs.Perm.{All-back, All-append}
 use Rattle.onfi_problem.proofs.Places.{same_place}
-use Rattle.onfi_schedule.specs.Runs.{Step, Run}
-use Rattle.onfi_bound.specs.Bounds.{bus, lead, trail, die, least, least_with, plus_each, to_post, post_starts, on_lun}
+use Rattle.onfi_bound.specs.Bounds.{lead, die, least, least_with, plus_each, to_post, post_starts, on_lun}
 use Rattle.onfi_bound.proofs.BusBound.{bus_bound}
 use Rattle.onfi_bound.proofs.LeadBound.{lead_bound, least_all}
 use Rattle.onfi_bound.proofs.TrailBound.{trail_bound}
 use Rattle.onfi_bound.proofs.DieBound.{die_bound}
 use Rattle.onfi_demand.specs.Left.{left_on, SameLeft, has_left_at, has_left}
-use Rattle.onfi_demand.specs.Demand.{Demand, Meets, Bounded, Holds, of_bus, of_one, of_luns, bus_demand, trail_demand, die_demand, before_post, lead_at, lead_by_first, lead_demand}
+use Rattle.onfi_demand.specs.Demand.{Meets, Bounded, Holds, of_bus, of_one, of_luns, before_post, lead_at, lead_demand}
 use Rattle.onfi_demand.specs.Laws.{Asks, BusLaw, LeadLaw, TrailLaw, DieLaw, EndLaw}
-use Rattle.onfi_demand.proofs.Alike.{Alike, alike_at, of_same, with_times, back_same, same_has}
+use Rattle.onfi_demand.proofs.Alike.{Alike, alike_at, of_same, with_times, same_has, same_luns}
 use Rattle.onfi_demand.proofs.Sums.{same_commands, same_posts, trail_alike, post_alike, die_is, die_idle, work_at, work_alike}
 
 bus_holds : (p : Problem) (e : ℕ) → Holds e p (of_bus e)
@@ -62,7 +61,7 @@ one_here l n = rw (eq-eqb l l refl) refl
 die_left : (p : Problem) (e lun : ℕ) → lun < length p.luns → e ≤ die p lun → has_left p lun ≡ true → Asks e p (of_one lun (e - (die p lun - may_go p lun)))
 die_left p e lun within le has = record {
   holds = λ q s iq m steps f run.
-      let long : length q.luns ≡ length p.luns = sym (length_alike p q s) in
+      let long : length q.luns ≡ length p.luns = sym (same_luns p q s) in
       let a = die_bound steps q f lun iq (omega arith) run in
       let h = sym (same_has p q lun s) ∙ has in
       let b : e - (die p lun - may_go p lun) ≤ may_go q lun = subst (λ n. n ≤ may_go q lun) (one_here lun (e - (die p lun - may_go p lun))) (m.luns lun h) in
@@ -73,13 +72,6 @@ die_left p e lun within le has = record {
   meets = record { bus = omega arith; luns = met };
 }
   where
-    length_map : {A B : Type 0} (f : A → B) (xs : List A) → length (map f xs) ≡ length xs
-    length_map f [] = refl
-    length_map f (x ∷ xs) = ap suc (length_map f xs)
-
-    length_alike : (p q : Problem) → SameLeft p q → length p.luns ≡ length q.luns
-    length_alike p q s = sym (length_map left_on p.luns) ∙ (ap length s.luns ∙ length_map left_on q.luns)
-
     same_work : (p q : Problem) (l : ℕ) → SameLeft p q → work_at p.timing p.rules (on_lun l p.wants) (slice_get p.luns l) ≡ work_at q.timing q.rules (on_lun l q.wants) (slice_get q.luns l)
     same_work p q l s = of_same (λ z. work_at p.timing p.rules (on_lun l p.wants) (slice_get p.luns l) ≡ work_at z.timing z.rules (on_lun l z.wants) (slice_get z.luns l)) p q s (work_alike p.timing p.rules (on_lun l p.wants) (slice_get p.luns l) (slice_get q.luns l) (alike_at p.luns q.luns l s.luns))
 

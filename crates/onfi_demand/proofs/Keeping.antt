@@ -1,18 +1,11 @@
 -- What holds of a demand holds of its numbers.
-use Rattle.std.proofs.Common.{◌≡◌, ℕ, ◌≤◌, ◌<◌, length, map, List, [], ◌∷◌, refl, sym, ap, suc, ◌∙◌, arith}
+use Rattle.std.proofs.Common.{◌≡◌, ℕ, ◌<◌, length, ap, arith}
 use Rattle.std.specs.Prelude.{true}
 use Rattle.onfi_problem.specs.Problem.{Problem, IsProblem, IsSmall}
-use Rattle.onfi_demand.specs.Left.{left_on, SameLeft, has_left}
-use Rattle.onfi_demand.specs.Demand.{Demand, Meets}
+use Rattle.onfi_demand.specs.Left.{SameLeft, has_left}
 use Rattle.onfi_demand.specs.Kept.{KeptLaw}
 use Rattle.onfi_demand.proofs.Opened.{left_there}
-
-length_map : {A B : Type 0} (f : A → B) (xs : List A) → length (map f xs) ≡ length xs
-length_map f [] = refl
-length_map f (x ∷ xs) = ap suc (length_map f xs)
-
-pub same_luns : (p q : Problem) → SameLeft p q → length p.luns ≡ length q.luns
-same_luns p q s = sym (length_map left_on p.luns) ∙ (ap length s.luns ∙ length_map left_on q.luns)
+use Rattle.onfi_demand.proofs.Alike.{same_luns}
 
 pub small_same : (p q : Problem) → SameLeft p q → IsSmall p → IsSmall q
 small_same p q s small =

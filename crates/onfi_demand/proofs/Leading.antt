@@ -1,29 +1,29 @@
 -- The demand of the lead bound, as it is worked out.
-use Rattle.std.proofs.Common.{◌≡◌, ℕ, zero, suc, ◌+◌, ◌-◌, ◌*◌, ◌^◌, ◌≤◌, ◌<◌, inl, inr, Bool, true, false, List, [], ◌∷◌, ◌++◌, length, map, get_or, take, Option, Some, None, refl, sym, ap, ◌∙◌, subst, arith}
+use Rattle.std.proofs.Common.{◌≡◌, ℕ, zero, suc, ◌+◌, ◌-◌, ◌≤◌, ◌<◌, inl, inr, Bool, true, false, List, [], ◌∷◌, ◌++◌, length, map, get_or, take, Option, Some, None, refl, sym, ap, ◌∙◌, subst, arith}
 use Rattle.std.specs.Prelude.{slice_get}
 use Rattle.std.specs.Option.{option_map}
 use Rattle.std.proofs.lemmas.Bool.{cases_lt}
-use Rattle.onfi_timing.specs.declared.kind.Kind.{Kind}
+use Rattle.std.proofs.lemmas.Option.{get_or_from_slice_get, slice_get_past}
 use Rattle.onfi_timing.specs.declared.timing.Timing.{Timing}
 use Rattle.onfi_timing.specs.Kinds.{spans_of}
 use Rattle.onfi_request.specs.declared.want.Want.{Want}
 use Rattle.onfi_group.specs.Words.{total}
 use Rattle.onfi_problem.specs.declared.lun_state.LunState.{LunState}
 use Rattle.onfi_problem.specs.declared.lun_state.LunState.TheVariants.{Free, Running}
-use Rattle.onfi_problem.specs.Left.{commands_left, waits_left, post_time, want_post, all_posts}
+use Rattle.onfi_problem.specs.Left.{post_time, want_post, all_posts}
 use Rattle.onfi_problem.specs.Position.{waiting_of}
 use Rattle.onfi_problem.specs.Problem.{Problem}
 use Rattle.onfi_problem.specs.Moves.{may_go}
 use Rattle.onfi_problem.proofs.Places.{get_within, within_get}
 use Rattle.onfi_bound.specs.Bounds.{on_lun, least, least_with, plus_each, to_post, post_starts}
 use Rattle.onfi_bound.proofs.Steps.{waiting_yes, waiting_no, summed}
-use Rattle.onfi_demand.specs.Left.{LunLeft, Idle, Rest, left_on, has_left, has_left_at}
+use Rattle.onfi_demand.specs.Left.{LunLeft, Idle, left_on, has_left, has_left_at}
 use Rattle.onfi_demand.specs.Demand.{before_post, lead_at, lead_demand, of_bus}
 use Rattle.onfi_demand.specs.Kept.{IsKept}
 use Rattle.onfi_demand.specs.Work.{left_of, IsWork}
 use Rattle.onfi_demand.specs.declared.demand.Demand.{Demand as Kept}
 use Rattle.onfi_demand.specs.declared.left.LunLeft.{LunLeft as KeptLeft}
-use Rattle.onfi_demand.specs.declared.left.LunLeft.TheVariants.{Idle as KeptIdle, Rest as KeptRest}
+use Rattle.onfi_demand.specs.declared.left.LunLeft.TheVariants.{Idle as KeptIdle}
 use Rattle.onfi_demand.specs.declared.left.LunWork.{LunWork}
 
 total_append : {A : Type 0} (f : A → ℕ) (xs : List A) (x : A) → total f (xs ++ x ∷ []) ≡ total f xs + f x
@@ -36,21 +36,16 @@ posts_yes timing marks ws i d sum h m e = rw (waiting_yes marks ws i d h m) (let
 pub posts_no : (timing : Timing) (marks : List Bool) (ws : List Want) (i sum : ℕ) → get_or marks i false ≡ false → sum ≡ total (want_post timing) (waiting_of marks (take i ws)) → sum ≡ total (want_post timing) (waiting_of marks (take (i + 1) ws))
 posts_no timing marks ws i sum m e = e ∙ sym (ap (total (want_post timing)) (waiting_no marks ws i m))
 
-some_state : (o : Option LunState) (l : LunLeft) → option_map left_on o ≡ Some l → (x : LunState) × (o ≡ Some x) × (left_on x ≡ l)
+pub some_state : (o : Option LunState) (l : LunLeft) → option_map left_on o ≡ Some l → (x : LunState) × (o ≡ Some x) × (left_on x ≡ l)
 some_state None l h = cc
 some_state (Some x) l h = (x, refl, cc)
-
-get_at : {A : Type 0} (xs : List A) (i : ℕ) (x d : A) → slice_get xs i ≡ Some x → get_or xs i d ≡ x
-get_at [] i x d h = cc
-get_at (y ∷ xs) zero x d h = cc
-get_at (y ∷ xs) (suc i) x d h = get_at xs i x d h
 
 -- one running group more
 pub rest_more : (p : Problem) (timing : Timing) (i sum next : ℕ) (left : KeptLeft) → timing ≡ p.timing → i < length p.luns → option_map left_on (slice_get p.luns i) ≡ Some (left_of left) → ((x : LunState) → left_on x ≡ left_of left → next ≡ post_time timing x) → sum ≡ total (post_time p.timing) (take i p.luns) → sum + next ≡ total (post_time p.timing) (take (i + 1) p.luns)
 rest_more p timing i sum next left t h l is e =
     let x = some_state (slice_get p.luns i) (left_of left) l in
     let v = is x.0 x.2 in
-    let g = get_at p.luns i x.0 (Free 0) x.1 in
+    let g = get_or_from_slice_get p.luns i x.0 (Free 0) x.1 in
     let q : next ≡ post_time p.timing (get_or p.luns i (Free 0)) = v ∙ rw (t, g) refl in
     summed (post_time p.timing) p.luns i (Free 0) 0 sum (sum + next) h (omega arith) (omega arith) ∙ (omega arith)
 
@@ -62,19 +57,6 @@ idle_time p lun e left n timing work o ws w idle t l v f is =
     go : (y : LunState) → slice_get p.luns lun ≡ Some y → left_on y ≡ Idle → n ≡ lead_at p e (on_lun lun p.wants) (slice_get p.luns lun)
     go (Free a) at q = rw at (is ∙ rw (l, f, v, w.wants, t) refl)
     go (Running g k r) at q = cc
-
-pub rest_time : (p : Problem) (lun e left n k i : ℕ) (kind : Kind) (timing : Timing) (work : LunWork) → IsWork p lun work → work.left ≡ KeptRest kind k i → timing ≡ p.timing → left ≡ e - all_posts p → n ≡ left - (commands_left k i * (spans_of timing kind).cmd + waits_left (spans_of timing kind) k i) → n ≡ lead_at p e (on_lun lun p.wants) (slice_get p.luns lun)
-rest_time p lun e left n k i kind timing work w rest t l is =
-    let x = some_state (slice_get p.luns lun) (left_of work.left) w.left in
-    go x.0 x.1 (x.2 ∙ ap left_of rest)
-  where
-    rest_of : Timing → LunLeft → ℕ
-    rest_of timing Idle = 0
-    rest_of timing (Rest kind k i) = commands_left k i * (spans_of timing kind).cmd + waits_left (spans_of timing kind) k i
-
-    go : (y : LunState) → slice_get p.luns lun ≡ Some y → left_on y ≡ Rest kind k i → n ≡ lead_at p e (on_lun lun p.wants) (slice_get p.luns lun)
-    go (Free a) at q = cc
-    go (Running g j r) at q = rw at (is ∙ rw (l, t) (ap (λ z. e - all_posts p - rest_of p.timing z) (sym q)))
 
 -- a first post is there exactly where something is left
 post_left : (timing : Timing) (ws : List Want) (x : LunState) → has_left_at ws (Some x) ≡ true → (b : ℕ) × (to_post timing ws x ≡ Some b)
@@ -115,11 +97,6 @@ least_some : (xs : List ℕ) → 1 ≤ length xs → (v : ℕ) × (least xs ≡ 
 least_some [] h = absurd (omega arith)
 least_some (x ∷ xs) h = (least_with x (least xs), refl)
 
-get_behind : {A : Type 0} (xs : List A) (i : ℕ) → length xs ≤ i → slice_get xs i ≡ None
-get_behind [] i h = refl
-get_behind (x ∷ xs) zero h = absurd (omega arith)
-get_behind (x ∷ xs) (suc i) h = get_behind xs i (omega arith)
-
 -- the numbers of the LUNs, where something is left on some
 pub lead_kept : (p : Problem) (e k : ℕ) (d : Kept) (luns : List ℕ) → k < length p.luns → has_left p k ≡ true → d.bus ≡ 0 → d.luns ≡ luns → ((l : ℕ) → l < length p.luns → get_or luns l 0 ≡ lead_at p e (on_lun l p.wants) (slice_get p.luns l)) → ((l : ℕ) → length p.luns ≤ l → get_or luns l 0 ≡ 0) → IsKept d (lead_demand p e)
 lead_kept p e k d luns within h bus same value rest =
@@ -130,7 +107,7 @@ lead_kept p e k d luns within h bus same value rest =
     rw v.1 (record { bus = bus; luns = λ l small. rw same (at l) })
   where
     at : (l : ℕ) → get_or luns l 0 ≡ lead_at p e (on_lun l p.wants) (slice_get p.luns l)
-    at l = elim (cases_lt l (length p.luns)) [ inl h ↦ value l h | inr h ↦ rest l h ∙ rw (get_behind p.luns l h) refl ]
+    at l = elim (cases_lt l (length p.luns)) [ inl h ↦ value l h | inr h ↦ rest l h ∙ rw (slice_get_past p.luns l h) refl ]
 
 pub lead_idle : (p : Problem) (e : ℕ) (d : Kept) → IsKept d (of_bus e) → ((l : ℕ) → l < length p.luns → has_left p l ≡ false) → IsKept d (lead_demand p e)
 lead_idle p e d kept h =

@@ -1,9 +1,10 @@
 -- An open node shows its demand, from those behind its moves.
-use Rattle.std.proofs.Common.{◌≡◌, ◌≢◌, ℕ, zero, suc, ◌+◌, ◌-◌, ◌≤◌, ◌<◌, ◌⊎◌, inl, inr, true, false, List, [], ◌∷◌, length, map, Option, Some, None, refl, sym, ap, ◌∙◌, subst, arith}
+use Rattle.std.proofs.Common.{◌≡◌, ◌≢◌, ℕ, zero, suc, ◌+◌, ◌-◌, ◌≤◌, ◌<◌, ◌⊎◌, inl, inr, true, List, [], ◌∷◌, length, map, Option, Some, None, refl, sym, ap, ◌∙◌, subst, arith}
 use Rattle.std.specs.Prelude.{slice_get, max, nat_le, if◌then◌else◌, ◌==◌}
 use Rattle.std.specs.List.{AllByRecursion as All}
-use Rattle.std.proofs.lemmas.Bool.{cases_Bool, eq-eqb, ne_eqb, eqb-true, leb-true, le-leb}
+use Rattle.std.proofs.lemmas.Bool.{cases_Bool, eq-eqb, ne_eqb, eqb-true, leb-true}
 use Rattle.onfi_request.specs.declared.want.Want.{Want}
+use Rattle.onfi_request.proofs.Faults.{below}
 use Rattle.onfi_group.specs.Words.{Has}
 use Rattle.onfi_problem.specs.declared.lun_state.LunState.{LunState}
 use Rattle.onfi_problem.specs.declared.lun_state.LunState.TheVariants.{Free, Running}
@@ -17,7 +18,7 @@ use Rattle.onfi_schedule.proofs.Exchange.{yielding, not_done}
 use Rattle.onfi_bound.specs.Bounds.{on_lun}
 use Rattle.onfi_demand.specs.Left.{left_on, SameLeft, has_left_at, has_left}
 use Rattle.onfi_demand.specs.Demand.{Demand, Meets, Bounded, Holds, of_luns, greatest, length_of, wait_of, through_bus, of_own, asked}
-use Rattle.onfi_demand.specs.Laws.{Asks, Shows, GivesWay, OpenLaw, AskedLaw}
+use Rattle.onfi_demand.specs.Laws.{Shows, GivesWay, OpenLaw, AskedLaw}
 use Rattle.onfi_demand.proofs.Alike.{BothMove, both_move, back_same, same_has, other_has}
 use Rattle.onfi_demand.proofs.Sooner.{move_has, done_alike, run_sooner, sooner_runs}
 
@@ -108,9 +109,6 @@ asked_own p m d = rw (eq-eqb (move_lun m) (move_lun m) refl) refl
 asked_other : (p : Problem) (m : Move) (d : Demand) (l : ℕ) → l ≢ move_lun m → asked p m d l ≡ (if nat_le (d.lun l) (after p m).bus_free then 0 else d.lun l)
 asked_other p m d l h = rw (ne_eqb l (move_lun m) h) refl
 
-late : (a b : ℕ) → nat_le a b ≡ false → b < a
-late a b h = grind (arith, le-leb, h)
-
 -- how long the move lasts and its LUN waits, on both
 record Spans (p q : Problem) (m : Move) (long wait : ℕ) : Type 0 where
   lasts : length_of p m ≡ long
@@ -194,7 +192,7 @@ asked_is_met p m d l ip mv meets h =
                 let v : asked p m d l ≡ d.lun l = rw (ne_eqb l (move_lun m) n, t) refl in
                 let le = meets.luns l (other_has p m (earliest p m) l ip mv n ∙ h) in
                 let y = ap free_from ((b.there (earliest p m)).others l n) in
-                let more = late (d.lun l) (after p m).bus_free t in
+                let more = below (d.lun l) (after p m).bus_free t in
                 omega arith)
           ])
     ]

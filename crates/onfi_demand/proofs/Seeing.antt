@@ -1,8 +1,7 @@
 -- What is seen of phases within a window, one by one.
-use Rattle.std.proofs.Common.{◌≡◌, ℕ, zero, suc, ◌+◌, ◌*◌, ◌-◌, ◌≤◌, ◌<◌, inl, inr, true, false, List, [], ◌∷◌, ◌++◌, length, get_or, drop, Option, Some, None, refl, sym, ap, ◌∙◌, subst, arith}
-use Rattle.std.specs.Prelude.{max, nat_le, slice_get}
-use Rattle.std.specs.Option.{option_map}
-use Rattle.std.proofs.lemmas.Bool.{cases_Bool, cases_lt, leb-true, le-leb}
+use Rattle.std.proofs.Common.{◌≡◌, ℕ, zero, suc, ◌+◌, ◌*◌, ◌-◌, ◌≤◌, ◌<◌, inl, inr, List, [], ◌∷◌, ◌++◌, length, get_or, drop, Some, refl, sym, ap, ◌∙◌, subst, arith}
+use Rattle.std.specs.Prelude.{max, slice_get}
+use Rattle.std.proofs.lemmas.Bool.{cases_Bool, cases_lt}
 use Rattle.onfi_timing.specs.declared.kind.Kind.{Kind}
 use Rattle.onfi_timing.specs.declared.spans.Spans.{Spans}
 use Rattle.onfi_timing.specs.declared.timing.Timing.{Timing}
@@ -16,46 +15,22 @@ use Rattle.onfi_problem.specs.Problem.{Problem, IsProblem}
 use Rattle.onfi_problem.specs.Moves.{may_go}
 use Rattle.onfi_problem.specs.Left.{chain_time}
 use Rattle.onfi_bound.specs.Bounds.{on_lun, wants_work, die, die_at}
-use Rattle.onfi_demand.specs.Left.{LunLeft, Idle, Rest, left_on, has_left, has_left_at}
+use Rattle.onfi_demand.specs.Left.{LunLeft, Idle, Rest, left_on, has_left}
 use Rattle.onfi_demand.specs.Work.{left_of, IsWork}
-use Rattle.onfi_demand.specs.declared.left.LunLeft.TheVariants.{Idle as KeptIdle, Rest as KeptRest}
+use Rattle.onfi_demand.specs.declared.left.LunLeft.TheVariants.{Rest as KeptRest}
 use Rattle.onfi_demand.specs.declared.left.LunWork.{LunWork}
 use Rattle.onfi_demand.proofs.Sums.{die_is}
 use Rattle.onfi_demand.proofs.Opened.{left_there}
 use Rattle.onfi_demand.proofs.WindowAsks.{rest_left, phases_by, idle_phases}
 use Rattle.onfi_demand.specs.Kept.{IsKept}
 use Rattle.onfi_demand.specs.declared.demand.Demand.{Demand as Kept}
-use Rattle.onfi_demand.specs.Look.{phase_at, within_look, needed_look, Sees}
-use Rattle.onfi_demand.specs.Window.{PhaseLeft, chain_from, group_phase, group_left, wants_left, phases_left_on, is_within, within, needed, window, window_demand}
+use Rattle.onfi_demand.specs.Look.{phase_at, Sees}
+use Rattle.onfi_demand.specs.Window.{PhaseLeft, chain_from, group_phase, group_left, wants_left, phases_left_on, needed, window, window_demand}
 use Rattle.onfi_demand.specs.declared.look.Look.{Look}
 use Rattle.onfi_demand.specs.declared.look.Seen.{Seen}
 use Rattle.onfi_demand.proofs.Between.{chain_step, within_append}
-
-within_true : (go r q : ℕ) (x : PhaseLeft) → r ≤ go + x.from → q ≤ x.tail → is_within go r q x ≡ true
-within_true go r q x h k = rw (le-leb r (go + x.from) h, le-leb q x.tail k) refl
-
-pub sees_in : (look : Look) (before behind : Seen) (from long tail : ℕ) → look.window.start ≤ look.go + from → look.window.tail ≤ tail → behind.length ≡ before.length + long → behind.time ≡ max before.time (look.time - from) → Sees look before (phase_at from long tail ∷ []) behind
-sees_in look before behind from long tail h k l t =
-    let w = within_true look.go look.window.start look.window.tail (phase_at from long tail) h k in
-    record { length = rw w (omega arith); time = rw w (omega arith) }
-
-sees_out : (look : Look) (before : Seen) (from long tail : ℕ) → is_within look.go look.window.start look.window.tail (phase_at from long tail) ≡ false → Sees look before (phase_at from long tail ∷ []) before
-sees_out look before from long tail w = record { length = rw w (omega arith); time = rw w (omega arith) }
-
-pub sees_early : (look : Look) (before : Seen) (from long tail : ℕ) → look.go + from < look.window.start → Sees look before (phase_at from long tail ∷ []) before
-sees_early look before from long tail h = elim (cases_Bool (nat_le look.window.start (look.go + from))) [
-  | inl k ↦ (let le = leb-true look.window.start (look.go + from) k in absurd (omega arith))
-  | inr k ↦ sees_out look before from long tail (rw k refl)
-]
-
-pub sees_short : (look : Look) (before : Seen) (from long tail : ℕ) → tail < look.window.tail → Sees look before (phase_at from long tail ∷ []) before
-sees_short look before from long tail h = elim (cases_Bool (nat_le look.window.start (look.go + from))) [
-  | inr k ↦ sees_out look before from long tail (rw k refl)
-  | inl k ↦ elim (cases_Bool (nat_le look.window.tail tail)) [
-    | inl j ↦ (let le = leb-true look.window.tail tail j in absurd (omega arith))
-    | inr j ↦ sees_out look before from long tail (rw (k, j) refl)
-  ]
-]
+use Rattle.onfi_demand.proofs.Leading.{some_state}
+use Rattle.onfi_demand.proofs.Sooner.{has_running}
 
 pub sees_none : (look : Look) (seen : Seen) → Sees look seen [] seen
 sees_none look seen = record { length = omega arith; time = omega arith }
@@ -100,30 +75,9 @@ drop_one xs i d h = let e : suc i ≡ i + 1 = omega arith in subst (λ n. drop i
     go (y ∷ ys) zero h d = refl
     go (y ∷ ys) (suc j) h d = go ys j (omega arith) d
 
-pub drop_all : {A : Type 0} (xs : List A) (i : ℕ) → length xs ≤ i → drop i xs ≡ []
-drop_all [] zero h = refl
-drop_all [] (suc i) h = refl
-drop_all (x ∷ xs) zero h = absurd (omega arith)
-drop_all (x ∷ xs) (suc i) h = drop_all xs i (omega arith)
-
-some_state : (o : Option LunState) (l : LunLeft) → option_map left_on o ≡ Some l → (x : LunState) × (o ≡ Some x) × (left_on x ≡ l)
-some_state None l h = cc
-some_state (Some x) l h = (x, refl, cc)
-
--- all that is left to a LUN without a group
-pub idle_sees : (p : Problem) (lun : ℕ) (timing : Timing) (work : LunWork) (look : Look) (ws : List Want) (before behind : Seen) → IsWork p lun work → work.left ≡ KeptIdle → timing ≡ p.timing → ws ≡ work.wants.items → Sees look before (wants_left timing 0 ws) behind → Sees look before (phases_left_on p lun) behind
-idle_sees p lun timing work look ws before behind w idle t e s =
-    let q = phases_by p.timing p.rules (on_lun lun p.wants) (slice_get p.luns lun) (left_of work.left) w.left ∙ ap (λ z. rest_left p.timing p.rules (on_lun lun p.wants) (left_of z)) idle in
-    let s' = subst (λ z. Sees look before (wants_left timing 0 z) behind) (e ∙ w.wants) s in
-    rw q (subst (λ z. Sees look before (wants_left z 0 (on_lun lun p.wants)) behind) t s')
-
 abbrev chain_of : Timing → LunLeft → ℕ
 chain_of timing Idle = 0
 chain_of timing (Rest kind k i) = chain_from (spans_of timing kind) k i
-
-has_running : (ws : List Want) (g : List Want) (n r : ℕ) → has_left_at ws (Some (Running g n r)) ≡ true
-has_running [] g n r = refl
-has_running (w ∷ ws) g n r = refl
 
 -- what the wants of a LUN with a group take, by its die bound
 pub rest_is : (p : Problem) (lun k n go chain d : ℕ) (kind : Kind) (spans : Spans) (work : LunWork) → IsWork p lun work → work.left ≡ KeptRest kind k n → spans ≡ spans_of p.timing kind → chain ≡ chain_from spans k n → go ≡ work.go → d ≡ die p lun → d - (go + chain) ≡ wants_work p.timing p.rules (on_lun lun p.wants)

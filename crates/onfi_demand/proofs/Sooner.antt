@@ -1,6 +1,6 @@
 -- What may go on sooner ends no later.
-use Rattle.std.proofs.Common.{◌≡◌, ◌≢◌, ℕ, ◌+◌, ◌≤◌, ◌<◌, inl, inr, List, [], ◌∷◌, length, Option, Some, refl, sym, ap, ◌∙◌, subst, arith}
-use Rattle.std.specs.Prelude.{slice_get, true, max, ◌==◌}
+use Rattle.std.proofs.Common.{◌≡◌, ℕ, ◌≤◌, inl, inr, List, [], ◌∷◌, Option, Some, refl, sym, ap, ◌∙◌, arith}
+use Rattle.std.specs.Prelude.{slice_get, true, ◌==◌}
 use Rattle.std.proofs.lemmas.Bool.{eq-eqb}
 use Rattle.onfi_request.specs.declared.want.Want.{Want}
 use Rattle.onfi_group.specs.Words.{Has}
@@ -17,9 +17,9 @@ use Rattle.onfi_schedule.specs.Runs.{Step, Run}
 use Rattle.onfi_bound.specs.Bounds.{on_lun}
 use Rattle.onfi_bound.proofs.LeadBound.{some_member}
 use Rattle.onfi_demand.specs.Left.{SameLeft, has_left_at, has_left}
-use Rattle.onfi_demand.proofs.Alike.{running_alike, both_move, BothMove, back_same, other_has}
+use Rattle.onfi_demand.proofs.Alike.{running_alike, both_move, BothMove, other_has}
 
-has_running : (ws : List Want) (g : List Want) (n r : ℕ) → has_left_at ws (Some (Running g n r)) ≡ true
+pub has_running : (ws : List Want) (g : List Want) (n r : ℕ) → has_left_at ws (Some (Running g n r)) ≡ true
 has_running [] g n r = refl
 has_running (w ∷ ws) g n r = refl
 

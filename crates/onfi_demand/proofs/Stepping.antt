@@ -1,12 +1,11 @@
 -- The numbers of a move say what is asked before it.
-use Rattle.std.proofs.Common.{◌≡◌, ℕ, zero, suc, ◌+◌, ◌-◌, ◌≤◌, ◌<◌, inl, inr, true, false, List, length, take, get_or, Option, Some, None, refl, sym, ap, ◌∙◌, subst, arith}
-use Rattle.std.specs.Prelude.{max, nat_le, if◌then◌else◌, ◌==◌, slice_get}
+use Rattle.std.proofs.Common.{◌≡◌, ℕ, zero, suc, ◌-◌, inl, inr, true, false, length, Option, Some, None, refl, subst, arith}
+use Rattle.std.specs.Prelude.{◌==◌}
 use Rattle.std.proofs.lemmas.Bool.{cases_Bool}
 use Rattle.onfi_problem.specs.Problem.{Problem}
-use Rattle.onfi_problem.specs.Moves.{Move, earliest, move_lun, after, free_from}
-use Rattle.onfi_demand.specs.Left.{has_left}
-use Rattle.onfi_demand.specs.Demand.{Demand, greatest, length_of, wait_of, through_bus, of_own, asked}
-use Rattle.onfi_demand.specs.Asked.{through_by, own_by, asked_by, GoesOn, IsStep, StepLaw}
+use Rattle.onfi_problem.specs.Moves.{Move, move_lun, after}
+use Rattle.onfi_demand.specs.Demand.{Demand, greatest, length_of, wait_of, through_bus, of_own}
+use Rattle.onfi_demand.specs.Asked.{through_by, own_by, GoesOn, IsStep, StepLaw}
 use Rattle.onfi_demand.specs.declared.asked.Step.{Step}
 
 greatest_same : (n : ℕ) (f g : ℕ → ℕ) → ((i : ℕ) → f i ≡ g i) → greatest n f ≡ greatest n g

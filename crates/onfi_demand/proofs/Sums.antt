@@ -1,6 +1,6 @@
 -- What has the same left has the same sums.
-use Rattle.std.proofs.Common.{◌≡◌, ℕ, zero, suc, ◌+◌, ◌*◌, ◌-◌, ◌≤◌, ◌<◌, Bool, true, false, if◌then◌else◌, List, [], ◌∷◌, ◌++◌, length, map, Option, Some, None, refl, sym, ap, ◌∙◌, subst, arith}
-use Rattle.std.specs.Prelude.{slice_get, nat_lt, max}
+use Rattle.std.proofs.Common.{◌≡◌, ℕ, ◌+◌, ◌*◌, Bool, true, false, if◌then◌else◌, List, [], ◌∷◌, ◌++◌, length, map, Option, Some, None, refl, sym, ap, ◌∙◌, arith}
+use Rattle.std.specs.Prelude.{nat_lt}
 use Rattle.std.specs.List.{list_any}
 use Rattle.std.specs.Option.{option_map}
 use Rattle.onfi_timing.specs.declared.kind.Kind.{Kind}
@@ -16,9 +16,9 @@ use Rattle.onfi_problem.specs.declared.lun_state.LunState.TheVariants.{Free, Run
 use Rattle.onfi_problem.specs.Problem.{Problem}
 use Rattle.onfi_problem.specs.Moves.{may_go}
 use Rattle.onfi_problem.specs.Left.{commands_left, posts_left, waits_left, command_time, post_time, chain_time, want_command, want_post, all_commands, all_posts}
-use Rattle.onfi_bound.specs.Bounds.{on_lun, least, to_post, post_starts, plus_each, commands_next, same_kind, has_command, behind_commands, trail, trail_from, wants_work, die_at}
+use Rattle.onfi_bound.specs.Bounds.{least, to_post, commands_next, same_kind, has_command, behind_commands, trail, trail_from, wants_work, die_at}
 use Rattle.onfi_demand.specs.Left.{LunLeft, Idle, Rest, left_on, SameLeft, has_left_at}
-use Rattle.onfi_demand.proofs.Alike.{Alike, of_same, with_times}
+use Rattle.onfi_demand.proofs.Alike.{Alike, of_same}
 
 total_by : (f : LunState → ℕ) (g : LunLeft → ℕ) → ((x : LunState) → f x ≡ g (left_on x)) → (xs : List LunState) → total f xs ≡ total g (map left_on xs)
 total_by f g h [] = refl

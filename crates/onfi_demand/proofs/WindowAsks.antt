@@ -1,5 +1,5 @@
 -- The demand of the window bound.
-use Rattle.std.proofs.Common.{◌≡◌, ℕ, zero, suc, ◌+◌, ◌*◌, ◌-◌, ◌≤◌, inl, inr, true, false, List, [], ◌∷◌, ◌++◌, length, map, Option, Some, None, refl, sym, ap, ◌∙◌, subst, arith}
+use Rattle.std.proofs.Common.{◌≡◌, ℕ, ◌+◌, ◌*◌, ◌-◌, ◌≤◌, inl, inr, true, false, List, [], ◌∷◌, ◌++◌, length, Option, Some, None, refl, sym, ap, ◌∙◌, subst, arith}
 use Rattle.std.specs.Prelude.{slice_get, max}
 use Rattle.std.specs.Option.{option_map}
 use Rattle.std.proofs.lemmas.Bool.{cases_Bool}
@@ -15,8 +15,8 @@ use Rattle.onfi_problem.specs.Moves.{may_go}
 use Rattle.onfi_bound.specs.Bounds.{on_lun, wants_work}
 use Rattle.onfi_demand.specs.Left.{LunLeft, Idle, Rest, left_on, SameLeft, has_left_at, has_left}
 use Rattle.onfi_demand.specs.Window.{PhaseLeft, chain_from, group_left, wants_left, phases_left_at, phases_left_on, is_within, within, sum_of, window, needed, WindowAsksLaw}
-use Rattle.onfi_demand.proofs.Alike.{alike_at, of_same, same_has}
-use Rattle.onfi_demand.proofs.Between.{one, one_in, one_out, within_head, within_cons, sum_below, window_below}
+use Rattle.onfi_demand.proofs.Alike.{alike_at, of_same, same_luns}
+use Rattle.onfi_demand.proofs.Between.{one_in, one_out, within_head, within_cons, sum_below, window_below}
 
 abbrev pub rest_left : Timing → Rules → List Want → LunLeft → List PhaseLeft
 rest_left timing rules ws Idle = wants_left timing 0 ws
@@ -69,15 +69,11 @@ needed_below go r q n (x ∷ xs) le =
       | inr k ↦ rw k (omega arith)
     ]
 
-length_map : {A B : Type 0} (f : A → B) (xs : List A) → length (map f xs) ≡ length xs
-length_map f [] = refl
-length_map f (x ∷ xs) = ap suc (length_map f xs)
-
 pub window_asks : WindowAsksLaw
 window_asks p e r q ip w = record {
   holds = λ z s iz meets steps f run.
       let n = e - (window p r q + q) in
-      let luns : length p.luns ≡ length z.luns = sym (length_map left_on p.luns) ∙ (ap length s.luns ∙ length_map left_on z.luns) in
+      let luns : length p.luns ≡ length z.luns = same_luns p z s in
       let more : window p r q ≤ window z n q = subst (λ i. window p r q ≤ sum_of i (λ l. within (may_go z l) (e - (window p r q + q)) q (phases_left_on z l))) luns (sum_below (length p.luns) _ _ (λ l. on_lun_more z s l (λ h. meets.luns l h))) in
       let some = w.some in
       let reaches = w.reaches in

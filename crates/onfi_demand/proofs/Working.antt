@@ -1,9 +1,10 @@
 -- What is left to a LUN, as it is read.
-use Rattle.std.proofs.Common.{◌≡◌, ℕ, zero, suc, ◌+◌, ◌*◌, ◌≤◌, ◌<◌, inl, inr, Bool, true, false, List, [], ◌∷◌, ◌++◌, length, map, get_or, take, Option, Some, None, refl, sym, ap, ◌∙◌, subst, arith}
+use Rattle.std.proofs.Common.{◌≡◌, ℕ, ◌+◌, ◌≤◌, ◌<◌, inl, inr, Bool, true, false, List, [], ◌∷◌, ◌++◌, length, map, get_or, take, Option, Some, None, refl, sym, ap, ◌∙◌, subst, arith}
 use Rattle.std.specs.Prelude.{slice_get, ◌==◌}
-use Rattle.std.specs.List.{AllByRecursion as All, filter}
+use Rattle.std.specs.List.{filter}
 use Rattle.std.specs.Option.{option_map}
 use Rattle.std.proofs.lemmas.Bool.{cases_Bool, eq-eqb, ne_eqb}
+use Rattle.std.proofs.lemmas.List.{length-map}
 use Rattle.onfi_request.specs.declared.want.Want.{Want}
 use Rattle.onfi_problem.specs.declared.lun_state.LunState.{LunState}
 use Rattle.onfi_problem.specs.declared.lun_state.LunState.TheVariants.{Free, Running}
@@ -17,21 +18,16 @@ use Rattle.onfi_problem.proofs.Perm.{append_nil}
 use Rattle.onfi_bound.specs.Bounds.{on_lun}
 use Rattle.onfi_bound.proofs.Parts.{placed}
 use Rattle.onfi_bound.proofs.Steps.{all_at, waiting_yes, waiting_no}
-use Rattle.onfi_demand.specs.Left.{LunLeft, Idle, Rest, left_on, has_left, has_left_at}
-use Rattle.onfi_demand.specs.Work.{left_of, IsShape, IsWork}
+use Rattle.onfi_demand.specs.Left.{Rest, left_on}
+use Rattle.onfi_demand.specs.Work.{left_of, IsShape}
 use Rattle.onfi_demand.specs.declared.left.LunLeft.{LunLeft as KeptLeft}
 use Rattle.onfi_demand.specs.declared.left.LunLeft.TheVariants.{Idle as KeptIdle, Rest as KeptRest}
-use Rattle.onfi_demand.specs.declared.left.LunWork.{LunWork}
 
 abbrev pub no_lun : Lun
 no_lun = record { next = 0; place = 0; time = 0 }
 
 pub lun_within : (p : Problem) (groups : List (List Want)) (luns : List Lun) (lun : ℕ) → map (state_of groups) luns ≡ p.luns → lun < length p.luns → lun < length luns
-lun_within p groups luns lun e h = let a = ap length e in let b = length_map (state_of groups) luns in omega arith
-  where
-    length_map : {A B : Type 0} (f : A → B) (xs : List A) → length (map f xs) ≡ length xs
-    length_map f [] = refl
-    length_map f (x ∷ xs) = ap suc (length_map f xs)
+lun_within p groups luns lun e h = let a = ap length e in let b = length-map luns (state_of groups) in omega arith
 
 pub place_there : (p : Problem) (groups gs : List (List Want)) (luns : List Lun) (lun : ℕ) → InLimits p → map (state_of groups) luns ≡ p.luns → gs ≡ groups → lun < length p.luns → 1 ≤ (get_or luns lun no_lun).next → (get_or luns lun no_lun).place < length gs
 place_there p groups gs luns lun limits e g h = rw g (all_at (λ (x : Lun). 1 ≤ x.next → x.place < length groups) luns lun no_lun (lun_within p groups luns lun e h) (placed p groups luns limits e))

@@ -1,5 +1,5 @@
 -- What a demand behind a move asks for, in the numbers of the move.
-use Rattle.std.specs.Prelude.{◌≡◌, ℕ, zero, suc, ◌+◌, ◌-◌, ◌==◌, ◌<◌, max, nat_le, if◌then◌else◌, true, false, List, Option, Some, None, length, slice_get, slice_index}
+use Rattle.std.specs.Prelude.{◌≡◌, ℕ, ◌+◌, ◌-◌, ◌==◌, ◌<◌, max, nat_le, if◌then◌else◌, true, false, List, Option, Some, None, length, slice_index}
 use Rattle.onfi_problem.specs.Problem.{Problem}
 use Rattle.onfi_problem.specs.Moves.{Move, earliest, move_lun, after, may_go}
 use Rattle.onfi_demand.specs.Left.{has_left}

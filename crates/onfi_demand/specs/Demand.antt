@@ -1,6 +1,5 @@
 -- Demands: how late a problem must go on, so that it doesn't end before a finish.
 use Rattle.std.specs.Prelude.{◌≡◌, ℕ, zero, suc, ◌+◌, ◌-◌, ◌≤◌, ◌==◌, max, nat_le, if◌then◌else◌, true, List, Option, Some, None, length, slice_get}
-use Rattle.onfi_timing.specs.declared.timing.Timing.{Timing}
 use Rattle.onfi_request.specs.declared.want.Want.{Want}
 use Rattle.onfi_problem.specs.declared.lun_state.LunState.{LunState}
 use Rattle.onfi_problem.specs.Problem.{Problem, IsProblem}

@@ -2,7 +2,7 @@
 use Rattle.std.specs.Prelude.{◌≡◌, ◌≢◌, ℕ, ◌+◌, ◌≤◌, ◌<◌, ◌⊎◌, true, List, length, Some}
 use Rattle.onfi_group.specs.Words.{Has}
 use Rattle.onfi_problem.specs.Problem.{Problem, IsProblem}
-use Rattle.onfi_problem.specs.Moves.{Move, IsMove, IsDone, AreMoves, move_lun, may_go, earliest, after}
+use Rattle.onfi_problem.specs.Moves.{Move, IsMove, IsDone, AreMoves, move_lun, may_go, after}
 use Rattle.onfi_schedule.specs.Runs.{Step, Run}
 use Rattle.onfi_bound.specs.Bounds.{bus, lead, trail, die}
 use Rattle.onfi_demand.specs.Left.{SameLeft, has_left}

@@ -1,8 +1,8 @@
 -- What is seen of phases within a window.
-use Rattle.std.specs.Prelude.{◌≡◌, ℕ, ◌+◌, ◌-◌, max, if◌then◌else◌, List}
+use Rattle.std.specs.Prelude.{◌≡◌, ℕ, ◌+◌, max, List}
 use Rattle.onfi_problem.specs.Problem.{Problem}
 use Rattle.onfi_problem.specs.Moves.{may_go}
-use Rattle.onfi_demand.specs.Window.{PhaseLeft, is_within, within, needed}
+use Rattle.onfi_demand.specs.Window.{PhaseLeft, within, needed}
 use Rattle.onfi_demand.specs.declared.look.Look.{Look}
 use Rattle.onfi_demand.specs.declared.look.Window.{Window}
 use Rattle.onfi_demand.specs.declared.look.Seen.{Seen}

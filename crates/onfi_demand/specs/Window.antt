@@ -1,5 +1,5 @@
 -- The window bound: phases that don't start before a time and don't end near the finish stand in between, one after another.
-use Rattle.std.specs.Prelude.{◌≡◌, ℕ, zero, suc, ◌+◌, ◌*◌, ◌-◌, ◌≤◌, max, nat_le, if◌then◌else◌, Bool, false, List, [], ◌∷◌, ◌++◌, length, Option, Some, slice_get}
+use Rattle.std.specs.Prelude.{ℕ, zero, suc, ◌+◌, ◌*◌, ◌-◌, ◌≤◌, max, nat_le, if◌then◌else◌, Bool, false, List, [], ◌∷◌, ◌++◌, length, Option, Some, slice_get}
 use Rattle.onfi_timing.specs.declared.spans.Spans.{Spans}
 use Rattle.onfi_timing.specs.declared.timing.Timing.{Timing}
 use Rattle.onfi_timing.specs.Kinds.{spans_of}
@@ -12,7 +12,7 @@ use Rattle.onfi_problem.specs.declared.lun_state.LunState.{LunState}
 use Rattle.onfi_problem.specs.declared.lun_state.LunState.TheVariants.{Running}
 use Rattle.onfi_problem.specs.Problem.{Problem, IsProblem}
 use Rattle.onfi_problem.specs.Moves.{may_go}
-use Rattle.onfi_problem.specs.Left.{commands_left, posts_left, waits_left, chain_time}
+use Rattle.onfi_problem.specs.Left.{commands_left, posts_left, waits_left}
 use Rattle.onfi_schedule.specs.Runs.{Step, Run}
 use Rattle.onfi_bound.specs.Bounds.{on_lun, wants_work}
 use Rattle.onfi_demand.specs.Demand.{Demand, of_luns}

@@ -172,10 +172,6 @@ module _ (e : ℕ) (all : List Want) where
       let more = o.more in
       omega arith
 
-  -- a child that is neither a yield nor a tree
-  pub short_child : (p : Problem) (moves : List Move) (m : Move) (given : List Given) (known : List Known) (tokens : List Token) → tokens ≡ [] → RefusesChild e all p moves m given known tokens
-  short_child p moves m given known tokens t = record { tree = subst (Refuses e all (after p m) known) (sym t) (none_refuses (after p m) known); yields = λ y rest q may. let bad = sym t ∙ q in cc }
-
   pub yield_child : (p : Problem) (moves : List Move) (m : Move) (given : List Given) (known : List Known) (tokens left : List Token) (token : Token) (lun : ℕ) → tokens ≡ token ∷ left → token ≡ Yield lun → ((y : Given) → y.lun ≡ lun → MayYield p moves given m y → ⊥) → RefusesChild e all p moves m given known tokens
   yield_child p moves m given known tokens left token lun ts t none = record {
     tree = λ others d behind rest a proves few. no_yield e all (after p m) others lun left rest d behind (subst (λ z. Proves e all (after p m) others z d behind rest) (ts ∙ ap (λ z. z ∷ left) t) proves);
@@ -234,10 +230,6 @@ module _ (e : ℕ) (all : List Want) where
           let u = unique_children e all p moves xs known others tokens asks part.asks given t.before middle part.behind left (Yield t.yield.lun ∷ part.rest) read (subst (λ z. Children e all p moves z others tokens part.asks t.before part.behind (Yield t.yield.lun ∷ part.rest)) (sym same.0) t.children) s are within a in
           let may = subst (λ z. MayYield p moves z m t.yield) (sym u.given) (subst (λ z. MayYield p moves t.before z t.yield) (sym same.1) t.may) in
           none.yields t.yield part.rest u.left may
-
-  -- the whole
-  pub whole_refused : (p : Problem) (tokens : List Token) → Refuses e all p [] tokens → ProvesTokens all tokens p e → ⊥
-  whole_refused p tokens none (d, behind, proves, few) = none [] d behind [] (alike_self all []) proves few
 
   pub trailing : (p : Problem) (tokens left more : List Token) (token : Token) (d : Kept) (behind : List Known) → Stands p → Proves e all p [] tokens d behind left → left ≡ token ∷ more → ProvesTokens all tokens p e → ⊥
   trailing p tokens left more token d behind s proves t (d', behind', proves', few) =

@@ -1,8 +1,8 @@
 -- How the token, the child or the tree that was read tells of the whole.
-use Rattle.std.proofs.Common.{◌≡◌, ◌≢◌, ℕ, zero, suc, ◌+◌, ◌≤◌, ◌<◌, List, [], ◌∷◌, ◌++◌, length, take, get_or, Some, refl, sym, ap, ◌∙◌, subst, arith}
+use Rattle.std.proofs.Common.{◌≡◌, ◌≢◌, ℕ, ◌+◌, ◌≤◌, ◌<◌, List, [], ◌∷◌, ◌++◌, length, take, get_or, Some, refl, sym, ap, ◌∙◌, subst, arith}
 use Rattle.std.specs.Prelude.{Option, Result, Ok, Err, OnOk, IfOk, slice_index, max}
 use Rattle.std.specs.List.{AllByRecursion as All}
-use Rattle.std.proofs.lemmas.List.{map-append, take_more, take_all}
+use Rattle.std.proofs.lemmas.List.{map-append, take_more}
 use Rattle.onfi_request.specs.declared.want.Want.{Want}
 use Rattle.onfi_problem.specs.Problem.{Problem}
 use Rattle.onfi_problem.specs.Moves.{Move, AreMoves, move_lun, may_go, after, earliest}
@@ -17,18 +17,11 @@ use Rattle.onfi_demand.specs.declared.asked.Step.{Step}
 use Rattle.onfi_demand.specs.declared.demand.Demand.{Demand as Kept}
 use Rattle.onfi_demand.proofs.Stepping.{step_asks}
 use Rattle.onfi_known.specs.declared.fault.KnownFault.{KnownFault}
-use Rattle.onfi_known.specs.declared.given.Given.{Given}
 use Rattle.onfi_known.specs.declared.known.Known.{Known}
 use Rattle.onfi_known.specs.declared.standing.Standing.{Standing}
 use Rattle.onfi_known.specs.declared.token.Token.{Token}
 use Rattle.onfi_known.specs.declared.token.Token.TheVariants.{Branch, Yield, Again}
 use Rattle.onfi_known.specs.Proves.{FitTimes, IsAgain, times_of, MayYield, with_yields, Proves, Children, Remembers, Yielded, Below, Grows, again, opened, tree, yielded}
-
--- what all have, that at a place has
-pub at_place : {A : Type 0} (P : A → Type 0) (xs : List A) (i : ℕ) (d : A) → i < length xs → All P xs → P (get_or xs i d)
-at_place P [] i d h all = absurd (omega arith)
-at_place P (x ∷ xs) zero d h all = all.0
-at_place P (x ∷ xs) (suc i) d h all = at_place P xs i d (omega arith) all.1
 
 -- a yield was read
 pub yield_grows : (e : ℕ) (all : List Want) (p : Problem) (moves : List Move) (m : Move) (before behind : Standing) (known : List Known) (ends : List (Option ℕ)) (own lun n : ℕ) (token : Token) (tokens left : List Token) → token ≡ Yield lun → n ≡ lun → n < 8 → own ≡ move_lun m → tokens ≡ token ∷ left → AreLastEnds p moves ends → behind.asked ≡ before.asked → Yielded p ends before.given.items own n behind.given.items → Grows e all p moves m before known tokens behind known left
@@ -72,9 +65,6 @@ moves_more x items i d h = ap (moves_of x.groups) (take_more items i d h) ∙ ma
 
 pub children_more : (e : ℕ) (x : Position) (items : List KeptMove) (i : ℕ) (d : KeptMove) (before behind : Standing) (first known known' : List Known) (begun tokens left : List Token) → i < length items → Grows e x.all x.problem (moves_of x.groups items) (move_of x.groups (get_or items i d)) before known tokens behind known' left → Children e x.all x.problem (moves_of x.groups items) (moves_of x.groups (take i items)) first begun before.asked before.given.items known tokens → Children e x.all x.problem (moves_of x.groups items) (moves_of x.groups (take (i + 1) items)) first begun behind.asked behind.given.items known' left
 children_more e x items i d before behind first known known' begun tokens left h grows children = rw (moves_more x items i d h) (grows (moves_of x.groups (take i items)) first begun children)
-
-pub children_all : (e : ℕ) (x : Position) (items : List KeptMove) (i : ℕ) (asks : List ℕ) (given : List Given) (first known : List Known) (begun left : List Token) → length items ≤ i → Children e x.all x.problem (moves_of x.groups items) (moves_of x.groups (take i items)) first begun asks given known left → Children e x.all x.problem (moves_of x.groups items) (moves_of x.groups items) first begun asks given known left
-children_all e x items i asks given first known begun left h children = subst (λ z. Children e x.all x.problem (moves_of x.groups items) (moves_of x.groups z) first begun asks given known left) (take_all i items h) children
 
 -- a branch was read
 pub branch_proves : (e : ℕ) (x : Position) (items : List KeptMove) (width : ℕ) (s : Standing) (times : List ℕ) (first known known' : List Known) (tokens left : List Token) (d : Kept) → AreMoves x.problem (moves_of x.groups items) → length items ≡ width → 1 ≤ width → Children e x.all x.problem (moves_of x.groups items) (moves_of x.groups items) first tokens s.asked s.given.items known left → ((lun : ℕ) → lun < 8 → slice_index times lun ≡ with_yields s.asked s.given.items lun) → FitTimes s.asked s.given.items → Remembers x.all x.problem times known known' d → Proves e x.all x.problem first (Branch width ∷ tokens) d known' left

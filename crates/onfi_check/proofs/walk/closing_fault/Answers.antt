@@ -1,5 +1,4 @@
 use Rattle.onfi_check.specs.Faults.{IsBound, IsToYield}
-use Rattle.onfi_cert.specs.declared.token.Token.TheVariants.{End}
 use Rattle.onfi_check.proofs.Placing.{bound_of, here}
 use Rattle.onfi_check.proofs.walk.closing_fault.Goals as goal
 

@@ -1,4 +1,4 @@
-use Rattle.std.proofs.Common.{[], sym, ap, ◌∙◌, subst, arith}
+use Rattle.std.proofs.Common.{[], sym, ◌∙◌, subst, arith}
 use Rattle.std.proofs.lemmas.Result.{err_from_is_err_and}
 use Rattle.onfi_check.specs.Reading.{Begins}
 use Rattle.onfi_check.proofs.Tokens.{begins_with_all, none_accepted, none_behind}

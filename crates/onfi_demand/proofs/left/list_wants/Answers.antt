@@ -1,4 +1,4 @@
-use Rattle.std.proofs.Common.{sym, arith}
+use Rattle.std.proofs.Common.{arith}
 use Rattle.onfi_demand.proofs.Working.{wants_yes, wants_other, wants_no}
 use Rattle.onfi_demand.proofs.left.list_wants.Goals as goal
 use Rattle.onfi_demand.proofs.left.list_wants.Goals.{then-marks-i+then-want-lun, else-marks-i, else-marks-i-via-then-marks-i+else-want-lun, else-marks-i-via-else-marks-i}

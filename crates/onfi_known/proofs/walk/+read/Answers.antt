@@ -17,8 +17,9 @@ use Rattle.std.specs.Prelude.{IfErr, ◌⊎◌}
 use Rattle.onfi_known.proofs.Placing.{err_branch, err_each, err_here, err_name, err_yield, few_on, fits_behind, here, read_end, read_more, read_none, read_one}
 use Rattle.onfi_known.specs.Refused.{RefusesChild, RefusesChildren}
 use Rattle.onfi_check.proofs.OneList.{map_length}
-use Rattle.onfi_known.proofs.Walking.{at_place, on_ok, ok_so, each_ok, fewer_left, again_proves, yield_grows, below_grows, raised_by, step_is, children_more, branch_proves}
+use Rattle.onfi_known.proofs.Walking.{on_ok, ok_so, each_ok, fewer_left, again_proves, yield_grows, below_grows, raised_by, step_is, children_more, branch_proves}
 use Rattle.onfi_known.proofs.walk.+read.Goals as goal
+use Rattle.onfi_bound.proofs.Steps.{all_at}
 
 pub read_below-returns-clause-ok : goal.read_below-returns-clause-ok
 read_below-returns-clause-ok g t c =
@@ -109,7 +110,7 @@ read_children-read_child-requires g t c κs within =
           (
             subst (λ (z : Position). IsMove z.problem (move_of z.groups (get_or items i (Next 0)))) same (move_at x.problem x.groups items i (Next 0) c.loop-m-test.true are.moves_only),
             (
-              subst (λ (z : Position). IsNamed z.groups (get_or items i (Next 0))) same (at_place (IsNamed x.groups) items i (Next 0) c.loop-m-test.true named),
+              subst (λ (z : Position). IsNamed z.groups (get_or items i (Next 0))) same (all_at (IsNamed x.groups) items i (Next 0) c.loop-m-test.true named),
               (
                 subst (λ (z : Position). All (IsMove z.problem) (moves_of z.groups items)) same are.moves_only,
                 (

@@ -1,4 +1,4 @@
-use Rattle.std.proofs.Common.{◌≡◌, ◌≤◌, ◌<◌, ℕ, length, refl, arith}
+use Rattle.std.proofs.Common.{refl, arith}
 use Rattle.onfi_demand.proofs.Leading.{lead_kept, lead_idle}
 use Rattle.onfi_demand.proofs.demand.Demand.of_lead.Goals as goal
 

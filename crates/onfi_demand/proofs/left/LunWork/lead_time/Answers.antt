@@ -1,5 +1,5 @@
-use Rattle.std.proofs.Common.{Some, None, refl, sym, ◌∙◌, arith}
-use Rattle.onfi_demand.proofs.Leading.{idle_time, rest_time}
+use Rattle.std.proofs.Common.{Some, None, refl, sym, ◌∙◌}
+use Rattle.onfi_demand.proofs.Leading.{idle_time}
 use Rattle.onfi_demand.proofs.left.LunWork.lead_time.Goals as goal
 
 pub returns-in-Some : goal.returns-in-Some

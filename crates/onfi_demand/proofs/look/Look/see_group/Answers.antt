@@ -1,4 +1,4 @@
-use Rattle.std.proofs.Common.{◌≡◌, ◌+◌, ◌*◌, ◌-◌, ◌<◌, ap, sym, subst, arith}
+use Rattle.std.proofs.Common.{◌≡◌, ◌+◌, ◌*◌, ◌-◌, ◌<◌, subst, arith}
 use Rattle.onfi_timing.specs.Phases.{phase_length, wait_before}
 use Rattle.onfi_demand.specs.Look.{Sees}
 use Rattle.onfi_demand.specs.Window.{group_left}

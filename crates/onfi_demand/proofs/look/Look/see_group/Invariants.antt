@@ -1,4 +1,4 @@
-use Rattle.std.proofs.Common.{◌≡◌, ◌+◌, ◌*◌, ◌-◌, ◌^◌, ◌≤◌}
+use Rattle.std.proofs.Common.{◌≡◌, ◌*◌, ◌-◌, ◌^◌, ◌≤◌}
 use Rattle.onfi_demand.specs.Look.{Sees}
 use Rattle.onfi_demand.specs.Window.{chain_from, group_left}
 use Rattle.onfi_demand.specs.declared.look.Seen.{Seen}

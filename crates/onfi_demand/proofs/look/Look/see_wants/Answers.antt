@@ -1,8 +1,9 @@
 use Rattle.std.proofs.Common.{◌+◌, get_or, drop, sym, subst, arith}
+use Rattle.std.proofs.lemmas.List.{drop_all}
 use Rattle.onfi_bound.proofs.Steps.{no_want}
 use Rattle.onfi_demand.specs.Look.{Sees}
 use Rattle.onfi_demand.specs.Window.{wants_left}
-use Rattle.onfi_demand.proofs.Seeing.{want_more, sees_none, drop_one, drop_all}
+use Rattle.onfi_demand.proofs.Seeing.{want_more, sees_none, drop_one}
 use Rattle.onfi_demand.proofs.look.Look.see_wants.Goals as goal
 
 pub loop-want-preserved : goal.loop-want-preserved
@@ -23,4 +24,4 @@ loop-want-preserved c =
 pub returns-clause-sees : goal.returns-clause-sees
 returns-clause-sees c =
     let look = c.args.self.now in
-    c.loop-want.invariant.sees c.loop-want.seen (subst (λ z. Sees look c.loop-want.seen (wants_left c.args.timing.now c.args.from z) c.loop-want.seen) (sym (drop_all c.args.wants.now c.loop-want.want-index c.loop-want-test.false)) (sees_none look c.loop-want.seen))
+    c.loop-want.invariant.sees c.loop-want.seen (subst (λ z. Sees look c.loop-want.seen (wants_left c.args.timing.now c.args.from z) c.loop-want.seen) (sym (drop_all c.loop-want.want-index c.args.wants.now c.loop-want-test.false)) (sees_none look c.loop-want.seen))

@@ -1,4 +1,4 @@
-use Rattle.std.proofs.Common.{◌≡◌, ◌+◌, ◌*◌, ◌^◌, ◌≤◌, drop}
+use Rattle.std.proofs.Common.{◌+◌, ◌*◌, ◌^◌, ◌≤◌, drop}
 use Rattle.onfi_demand.specs.Look.{Sees}
 use Rattle.onfi_demand.specs.Window.{wants_left}
 use Rattle.onfi_demand.specs.declared.look.Seen.{Seen}
