@@ -1,7 +1,7 @@
 -- Choosing the move that goes first among those of a list.
 use Rattle.std.proofs.Common.{◌≡◌, ℕ, zero, suc, ◌+◌, ◌≤◌, ◌<◌, ◌⊎◌, inl, inr, true, false, List, [], ◌∷◌, ◌++◌, length, map, take, drop, get_or, refl, sym, ap, ◌∙◌, subst, arith}
 use Rattle.std.specs.List.{AllByRecursion as All}
-use Rattle.std.proofs.lemmas.List.{take_more, map-append}
+use Rattle.std.proofs.lemmas.List.{take_more, map-append, take_all}
 use Rattle.std.proofs.lemmas.Bool.{cases_eq, cases_lt, eq-eqb, ne_eqb, lt-ltb, le-ltb, false≢true}
 use Rattle.onfi_request.specs.declared.want.Want.{Want}
 use Rattle.onfi_group.specs.Words.{Has, Pairs}
@@ -13,7 +13,6 @@ use Rattle.onfi_problem.specs.Starts.{IsNamed}
 use Rattle.onfi_problem.proofs.Perm.{All-append, All-has, All-weaker}
 use Rattle.onfi_check.proofs.Reading.{drop_one}
 use Rattle.onfi_check.specs.First.{wants_started, starts_before, GoesFirst, IsFirstChoice}
-use Rattle.onfi_planner.proofs.Taking.{take_all}
 use Rattle.onfi_group.proofs.Lists.{Has-get}
 
 -- what a comparison says
@@ -136,7 +135,7 @@ chosen_named p groups moves i choice named c = All-has (IsNamed groups) moves ch
 
 pub chosen_all : (p : Problem) (groups : List (List Want)) (moves : List KeptMove) (i : ℕ) (choice : KeptMove) → length moves ≤ i → AreMoves p (moves_of groups moves) → Chosen p groups moves i choice → IsFirstChoice p (move_of groups choice)
 chosen_all p groups moves i choice h are c =
-    let all = subst (λ z. All (OrFirst p (move_of groups choice)) (moves_of groups z)) (take_all moves i h) c.first in
+    let all = subst (λ z. All (OrFirst p (move_of groups choice)) (moves_of groups z)) (take_all i moves h) c.first in
     record {
       is_move = chosen_move p groups moves i choice are c;
       first = λ n im. All-has _ (moves_of groups moves) n all (are.each n im);

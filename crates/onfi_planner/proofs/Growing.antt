@@ -1,6 +1,7 @@
 -- A certificate between two children of a node.
 use Rattle.std.proofs.Common.{◌≡◌, ℕ, ◌+◌, ◌≤◌, ◌<◌, List, [], ◌∷◌, ◌++◌, length, take, get_or, Option, Some, refl, sym, ap, ◌∙◌, subst, arith, append_assoc}
-use Rattle.onfi_problem.specs.Moves.{Move, Next as NextPhase, Start as StartGroup, IsMove, earliest, move_lun, after, AreMoves}
+use Rattle.std.proofs.lemmas.List.{take_all}
+use Rattle.onfi_problem.specs.Moves.{Move, IsMove, earliest, move_lun, after, AreMoves}
 use Rattle.onfi_cert.specs.declared.token.Token.{Token}
 use Rattle.onfi_cert.specs.declared.token.Token.TheVariants.{Branch, Yield}
 use Rattle.onfi_problem.specs.Problem.{Problem, IsProblem}
@@ -11,10 +12,8 @@ use Rattle.onfi_planner.specs.Opening.{yield_at, AreYields}
 use Rattle.onfi_check.specs.Nodes.{IsOpen}
 use Rattle.onfi_planner.specs.Planning.{Bounded, Written}
 use Rattle.onfi_problem.proofs.Perm.{All-has, append_nil}
-use Rattle.onfi_problem.proofs.Places.{within_get}
 use Rattle.onfi_planner.proofs.Grown.{Grown, joined, preorders_joined, grown_joined, grown_width, grown_accepts}
 use Rattle.onfi_planner.proofs.Halfway.{no_moves, one_more}
-use Rattle.onfi_planner.proofs.Taking.{take_all}
 use Rattle.onfi_problem.proofs.Kept.{lun_there}
 pub use Rattle.onfi_check.proofs.OneList.{map_length}
 
@@ -47,7 +46,7 @@ with_yield x items ys e i l old new new' s q h y k (f, t, g) =
 
 pub grown_up : (x : Position) (items : List KeptMove) (ys : List (Option ℕ)) (e i : ℕ) (old new : List Token) → AreMoves x.problem (moves_of x.groups items) → 1 ≤ length items → AreYields x.problem (moves_of x.groups items) ys → length items ≤ i → Growing x items ys e i old new → Written x.problem e old new
 grown_up x items ys e i old new are some ay h (f, t, g) =
-    let g' = subst (λ z. Grown x.problem ys e (moves_of x.groups z) f) (take_all items i h) g in
+    let g' = subst (λ z. Grown x.problem ys e (moves_of x.groups z) f) (take_all i items h) g in
     let l = map_length x items in
     let w : length items ≡ width f = sym (grown_width x.problem ys e (moves_of x.groups items) f g' ∙ l) in
     (Opened f, t ∙ ap (λ z. old ++ (Branch z ∷ preorders f)) w, grown_accepts x.problem ys e (moves_of x.groups items) f are (omega arith) ay g')

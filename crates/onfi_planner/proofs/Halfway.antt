@@ -1,25 +1,21 @@
 -- A search between two children of a node.
 use Rattle.std.proofs.Common.{◌≡◌, ℕ, ◌+◌, ◌-◌, ◌≤◌, ◌<◌, inl, inr, Bool, true, false, List, [], ◌∷◌, ◌++◌, length, take, get_or, Option, Some, None, refl, sym, ap, ◌∙◌, subst, arith}
-use Rattle.std.specs.Prelude.{slice_get, ◌==◌, MatchOption}
+use Rattle.std.specs.Prelude.{◌==◌, MatchOption}
 use Rattle.std.specs.Option.{is_some}
 use Rattle.std.specs.List.{AllByRecursion as All}
-use Rattle.std.proofs.lemmas.List.{take_more}
+use Rattle.std.proofs.lemmas.List.{take_more, take_all}
 use Rattle.std.proofs.lemmas.List.{map-append}
 use Rattle.std.proofs.lemmas.List.Elements.{All-from_recursion}
 use Rattle.std.proofs.lemmas.Bool.{eq-eqb, false≢true}
 use Rattle.onfi_request.specs.declared.want.Want.{Want}
-use Rattle.onfi_problem.specs.Moves.{Move, Next as NextPhase, Start as StartGroup, IsMove, IsDone, move_lun, AreMoves, ComesBefore}
-use Rattle.onfi_problem.specs.declared.lun_state.LunState.{LunState}
-use Rattle.onfi_problem.specs.declared.lun_state.LunState.TheVariants.{Free, Running}
+use Rattle.onfi_problem.specs.Moves.{Move, IsMove, move_lun, AreMoves, ComesBefore}
 use Rattle.onfi_group.specs.Words.{Has, Pairs}
 use Rattle.onfi_problem.specs.Problem.{Problem, IsProblem}
-use Rattle.onfi_group.specs.Group.{on_block}
 use Rattle.onfi_schedule.specs.Runs.{Run}
 use Rattle.onfi_cert.specs.declared.token.Token.{Token}
 use Rattle.onfi_check.specs.Tree.{Closing, Closes, token_of, AtEnd, Forest, Closed, Opened, NoMore, Child, Yields}
 use Rattle.onfi_problem.specs.Starts.{IsNamed}
 use Rattle.onfi_problem.proofs.Perm.{All-append, All-has, All-weaker, Has-append_right}
-use Rattle.onfi_problem.proofs.Places.{get_within}
 use Rattle.onfi_check.proofs.Sound.{sound}
 use Rattle.onfi_problem.specs.declared.moves.Move.{Move as KeptMove}
 use Rattle.onfi_planner.specs.declared.search.Best.{Best}
@@ -30,7 +26,7 @@ use Rattle.onfi_planner.specs.Planning.{Bounded, run_of, Searched, HasOpened, Is
 use Rattle.onfi_planner.proofs.Paths.{Among, node_one, among_none, among_more, among_skip, among_all}
 use Rattle.onfi_planner.proofs.Opening.{Done, done_sooner, opened}
 use Rattle.onfi_planner.proofs.Grown.{Grown, joined, grown_joined, grown_sooner, grown_accepts, nodes_joined}
-use Rattle.onfi_planner.proofs.Taking.{take_all, split_at}
+use Rattle.onfi_planner.proofs.Taking.{split_at}
 pub use Rattle.onfi_check.proofs.Nothing.{no_moves}
 
 pub record Halfway (x : Position) (items : List KeptMove) (yields : List (Option ℕ)) (i : ℕ) (old best : Best) (improved : Bool) (began count limit : ℕ) : Type 0 where
@@ -179,7 +175,7 @@ ended x items yields i old best improved began count limit ip are ay some h w =
     let m = some_step x items are some in
     record {
       sooner = w.sooner;
-      least = opened x.problem (moves_of x.groups items) yields best.finish m.0 ip are m.1 ay (subst (λ z. Done x.problem yields best.finish (moves_of x.groups z)) (take_all items i h) w.done);
+      least = opened x.problem (moves_of x.groups items) yields best.finish m.0 ip are m.1 ay (subst (λ z. Done x.problem yields best.finish (moves_of x.groups z)) (take_all i items h) w.done);
       run = w.run;
       kept = w.kept;
     }
@@ -193,7 +189,7 @@ ended_count x items yields i old best improved began count limit are ay some h w
     let mo = w.more in
     let sum : 1 + (count - (began + 1)) ≡ count - began = omega arith in
     let (front, g, k) = w.grown in
-    let all = subst (λ z. Grown x.problem yields best.finish (moves_of x.groups z) front) (take_all items i h) g in
+    let all = subst (λ z. Grown x.problem yields best.finish (moves_of x.groups z) front) (take_all i items h) g in
     record {
       more = omega arith;
       nodes = λ f k. subst (HasNodes f x.problem) sum (among_all f x.problem _ _ (w.nodes f k));
@@ -209,9 +205,6 @@ one_over p finish began limit h = let e : 1 ≡ limit - began + 1 = omega arith 
 
 pub closed_below : (p : Problem) (e : ℕ) (c : Closing) → IsProblem p → Closes p e c → Bounded p e
 closed_below p e c ip h = sound (Closed c) p e ip h
-
-pub done_run : (x : Position) (finish : ℕ) → IsDone x.problem → x.problem.bus_free ≡ finish → Run x.problem [] finish
-done_run x finish d e = (d, e)
 
 -- what closes a node that was told as closed
 pub closed_by : (p : Problem) (f : ℕ) (o : Option Token) → true ≡ is_some o → MatchOption o (IsOpen f p) (λ t. (c : Closing) × (token_of c ≡ t) × Closes p f c) → (c : Closing) × Closes p f c

@@ -1,5 +1,5 @@
 -- What the children say of an opened node.
-use Rattle.std.proofs.Common.{◌≡◌, ℕ, ◌≤◌, ◌⊎◌, inl, inr, List, [], ◌∷◌, length, Option, Some, None, refl, sym, subst, arith}
+use Rattle.std.proofs.Common.{◌≡◌, ℕ, ◌≤◌, ◌⊎◌, inl, inr, List, [], ◌∷◌, Option, Some, None, refl, sym, subst, arith}
 use Rattle.std.specs.List.{AllByRecursion as All}
 use Rattle.onfi_problem.specs.Moves.{Move, IsMove, move_lun, after, AreMoves}
 use Rattle.onfi_problem.specs.Problem.{Problem, IsProblem}
@@ -20,10 +20,6 @@ done_sooner p yields e e' (m ∷ moves) le d = ((λ y steps f run. let h = d.0 y
 some_or_none : (o : Option ℕ) → (o ≡ None) ⊎ ((l : ℕ) × (o ≡ Some l))
 some_or_none None = inl refl
 some_or_none (Some l) = inr (l, refl)
-
-none_done : (p : Problem) (moves : List Move) → AreMoves p moves → length moves ≡ 0 → (m : Move) → IsMove p m → ⊥
-none_done p [] are e m im = are.each m im
-none_done p (n ∷ moves) are e m im = absurd (omega arith)
 
 pub opened : (p : Problem) (moves : List Move) (yields : List (Option ℕ)) (e : ℕ) (m : Move) → IsProblem p → AreMoves p moves → IsMove p m → AreYields p moves yields → Done p yields e moves → Bounded p e
 opened p moves yields e m ip are im ay d [] f (done, q) = absurd (not_done p m done im)

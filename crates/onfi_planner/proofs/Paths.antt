@@ -32,10 +32,6 @@ below_more f p moves more (m ∷ path) h = (Has-append_left moves more m h.0, h.
 pub among_skip : (f : ℕ) (p : Problem) (moves more : List Move) (n : ℕ) → Among f p moves n → Among f p (moves ++ more) n
 among_skip f p moves more n (paths, e, all, apart) = (paths, e, All-weaker _ _ (below_more f p moves more) paths all, apart)
 
-tail_of : List Move → List Move
-tail_of [] = []
-tail_of (m ∷ path) = path
-
 -- all paths with the move in front
 with_move : (f : ℕ) (p : Problem) (moves : List Move) (m : Move) (paths : List (List Move)) → IsOpen f p → IsMove p m → Has moves m → All (IsNode f (after p m)) paths → All (Below f p moves) (map (λ path. m ∷ path) paths)
 with_move f p moves m [] o im h a = tt

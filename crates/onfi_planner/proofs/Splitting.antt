@@ -33,7 +33,6 @@ use Rattle.onfi_planner.proofs.Growing.{map_length}
 use Rattle.onfi_planner.proofs.Halfway.{Pairs-cross, none_some, no_moves, not_before_itself, closed_below, steps_same, luns_of}
 use Rattle.onfi_planner.proofs.Opening.{Done, opened}
 use Rattle.onfi_planner.proofs.Paths.{Among, among_all, among_more, among_none, among_skip, node_one}
-use Rattle.onfi_planner.proofs.Taking.{take_all}
 
 -- what holds of all moves holds of those that don't yield
 pub parts_all : (P : KeptMove → Type 0) (yields : List (Option ℕ)) (steps : List KeptMove) → All P steps → All P (parts_of yields steps)
@@ -248,9 +247,6 @@ pub parts_passed : (yields : List (Option ℕ)) (moves items : List KeptMove) (i
 parts_passed yields moves items i lun s d lt e n q =
     let t : take (i + 1) moves ≡ take i moves ++ s ∷ [] = take_more moves i d lt ∙ ap (λ z. take i moves ++ z ∷ []) (sym e) in
     q ∙ (sym (parts_skip yields (take i moves) s lun n) ∙ ap (parts_of yields) (sym t))
-
-pub parts_whole : (yields : List (Option ℕ)) (moves items : List KeptMove) (i : ℕ) → length moves ≤ i → items ≡ parts_of yields (take i moves) → items ≡ parts_of yields moves
-parts_whole yields moves items i le q = q ∙ ap (parts_of yields) (take_all moves i le)
 
 -- what each call gives, of all
 pub found_given : {F : Type 0} (g : Shared F (ℕ × Unit {0}) (Result Part Stop)) (f : F) (x : Position) (first limit : ℕ) (steps : List KeptMove) (i : ℕ) (found : List Part) → GivesFrom g f i found → length found ≡ length steps → ((k : ℕ) (d : KeptMove) (part : Part) → k < length steps → Gives g f (i + k) part → IsPart x first limit (get_or steps k d) part) → AreFound x first limit steps found

@@ -2,7 +2,7 @@
 use Rattle.std.proofs.Common.{◌≡◌, ℕ, zero, suc, ◌+◌, ◌*◌, ◌≤◌, ◌<◌, inl, inr, List, [], ◌∷◌, ◌++◌, length, map, take, get_or, reverse, replicate, Some, refl, sym, ap, ◌∙◌, subst, arith, append_assoc, get_or-set_same, ◌^◌}
 use Rattle.std.specs.Prelude.{slice_get, slice_set, slice_index_or}
 use Rattle.std.proofs.lemmas.Bool.{cases_lt}
-use Rattle.std.proofs.lemmas.List.{map-append, reverse-append, take_more}
+use Rattle.std.proofs.lemmas.List.{map-append, reverse-append, take_more, take_all}
 use Rattle.std.proofs.lemmas.Option.{get_or_from_slice_get}
 use Rattle.onfi_timing.specs.Phases.{phase_length}
 use Rattle.onfi_request.specs.declared.want.Want.{Want}
@@ -11,17 +11,17 @@ use Rattle.onfi_problem.specs.Problem.{Problem, IsProblem}
 use Rattle.onfi_problem.specs.Moves.{Move, Next, Start, IsMove, earliest, move_lun, placed, lun_after}
 use Rattle.onfi_problem.specs.declared.lun_state.LunState.{LunState}
 use Rattle.onfi_problem.proofs.Kept.{kept, placed_luns, lun_there}
-use Rattle.onfi_problem.proofs.Places.{get_within, get_set_same, length_set, within_get}
+use Rattle.onfi_problem.proofs.Places.{get_within, get_set_same, within_get}
 use Rattle.onfi_problem.proofs.LunAfter.{lun_after_running, lun_after_free}
 use Rattle.onfi_problem.specs.declared.moves.Move.TheVariants.{Next as KeptNext, Start as KeptStart}
-use Rattle.onfi_problem.specs.Position.{move_of}
+use Rattle.onfi_problem.specs.Position.{Position, move_of}
 use Rattle.onfi_schedule.specs.Schedule.{Placed as PlacedGroup, Schedule, IsSchedule, starts_at, with_first}
 use Rattle.onfi_schedule.specs.Runs.{Step, Run, empty, schedule_of}
 use Rattle.onfi_schedule.proofs.RunLegal.{run_legal}
 use Rattle.onfi_schedule.proofs.Exchange.{bus_after}
 use Rattle.onfi_planner.specs.declared.search.Begun.{Begun}
 use Rattle.onfi_planner.specs.Planning.{run_of, taken}
-use Rattle.onfi_planner.proofs.Taking.{take_all, split_at}
+use Rattle.onfi_planner.proofs.Taking.{split_at}
 
 -- these steps in front of a schedule
 abbrev pub stacked : Schedule → List Step → Schedule
@@ -138,21 +138,27 @@ pub record Fits (rest : List (List ℕ)) (lun start : ℕ) : Type 0 where
   pub room : length (slice_index_or rest lun []) < 8
   pub small : start < 2 ^ 63
 
-fits_of : (m : Move) (start lun : ℕ) (s : Schedule) (f : ℕ) → move_lun m ≡ lun → f < 2 ^ 63 → Room (record { move = m; start = start }) s f → Fits s.rest lun start
-fits_of m start lun s f e h r =
-    let a = r.room in
-    let b = r.ends in
-    let k = r.lun in
-    subst (λ l. Fits s.rest l start) e (record { there = k; room = omega arith; small = omega arith })
+module _ (x : Position) (steps : List Begun) (i : ℕ) (d : Begun) (problem : IsProblem x.problem) (run : (f : ℕ) × (f < 2 ^ 63) × Run x.problem (run_of x.groups steps) f) (within : i < length steps) where
+  room : Room (taken x.groups (get_or steps i d)) (stacked (empty x.problem) (run_of x.groups (take i steps))) run.0
+  room = room_of_step x.problem x.groups steps i d run.0 problem run.2 within
 
-pub next_fits : (groups : List (List Want)) (b : Begun) (lun : ℕ) (s s' : Schedule) (f : ℕ) → b.step ≡ KeptNext lun → f < 2 ^ 63 → s ≡ s' → Room (taken groups b) s' f → Fits s.rest lun b.start
-next_fits groups b lun s s' f e h q r = fits_of (move_of groups b.step) b.start lun s f (ap (λ m. move_lun (move_of groups m)) e) h (subst (λ z. Room (taken groups b) z f) (sym q) r)
+  fits : (lun : ℕ) (s : Schedule) → move_lun (move_of x.groups (get_or steps i d).step) ≡ lun → s ≡ stacked (empty x.problem) (run_of x.groups (take i steps)) → Fits s.rest lun (get_or steps i d).start
+  fits lun s e q =
+      let r = room in
+      let a = r.room in
+      let b = r.ends in
+      let k = r.lun in
+      let h = run.1 in
+      subst (λ (z : Schedule). Fits z.rest lun (get_or steps i d).start) (sym q) (subst (λ l. Fits (stacked (empty x.problem) (run_of x.groups (take i steps))).rest l (get_or steps i d).start) e (record { there = k; room = omega arith; small = omega arith }))
 
-pub start_fits : (groups : List (List Want)) (b : Begun) (l place lun : ℕ) (s s' : Schedule) (f : ℕ) → b.step ≡ KeptStart l place → lun ≡ lun_of (slice_index_or groups place []) → f < 2 ^ 63 → s ≡ s' → Room (taken groups b) s' f → Fits s.rest lun b.start
-start_fits groups b l place lun s s' f e k h q r = fits_of (move_of groups b.step) b.start lun s f (ap (λ m. move_lun (move_of groups m)) e ∙ sym k) h (subst (λ z. Room (taken groups b) z f) (sym q) r)
+  pub next_fits : (lun : ℕ) (s : Schedule) → (get_or steps i d).step ≡ KeptNext lun → s ≡ stacked (empty x.problem) (run_of x.groups (take i steps)) → Fits s.rest lun (get_or steps i d).start
+  next_fits lun s e q = fits lun s (ap (λ m. move_lun (move_of x.groups m)) e) q
 
-pub start_some : (groups : List (List Want)) (b : Begun) (l place : ℕ) (s : Schedule) (f : ℕ) → b.step ≡ KeptStart l place → Room (taken groups b) s f → 1 ≤ length (slice_index_or groups place [])
-start_some groups b l place s f e r = r.some (slice_index_or groups place []) (ap (move_of groups) e)
+  pub start_fits : (l place lun : ℕ) (s : Schedule) → (get_or steps i d).step ≡ KeptStart l place → lun ≡ lun_of (slice_index_or x.groups place []) → s ≡ stacked (empty x.problem) (run_of x.groups (take i steps)) → Fits s.rest lun (get_or steps i d).start
+  start_fits l place lun s e k q = fits lun s (ap (λ m. move_lun (move_of x.groups m)) e ∙ sym k) q
+
+  pub start_some : (l place : ℕ) → (get_or steps i d).step ≡ KeptStart l place → 1 ≤ length (slice_index_or x.groups place [])
+  start_some l place e = room.some (slice_index_or x.groups place []) (ap (move_of x.groups) e)
 
 set_again : {A : Type 0} (xs : List A) (i : ℕ) (a b : A) → slice_set (slice_set xs i a) i b ≡ slice_set xs i b
 set_again [] i a b = refl
@@ -183,5 +189,5 @@ start_stacked groups steps i d e s l place lun put rest starts placed' all h q k
 pub stacked_all : (p : Problem) (groups : List (List Want)) (steps : List Begun) (i f : ℕ) (s s' : Schedule) → Run p (run_of groups steps) f → length steps ≤ i → s ≡ stacked (empty p) (run_of groups (take i steps)) → s'.rest ≡ s.rest → s'.groups ≡ s.groups → s' ≡ schedule_of p (run_of groups steps)
 stacked_all p groups steps i f s s' run h q r g =
     let same : s' ≡ s = rw (← r, ← g) refl in
-    let all : s ≡ stacked (empty p) (run_of groups steps) = q ∙ ap (λ z. stacked (empty p) (run_of groups z)) (take_all steps i h) in
+    let all : s ≡ stacked (empty p) (run_of groups steps) = q ∙ ap (λ z. stacked (empty p) (run_of groups z)) (take_all i steps h) in
     same ∙ (all ∙ sym (schedule_stacked (run_of groups steps) p f run))

@@ -1,11 +1,5 @@
 -- How a list begins, and what follows.
-use Rattle.std.proofs.Common.{◌≡◌, ◌<◌, ◌≤◌, ℕ, zero, suc, List, [], ◌∷◌, ◌++◌, take, length, get_or, refl, ap, arith}
-
-pub take_all : {A : Type 0} (xs : List A) (n : ℕ) → length xs ≤ n → take n xs ≡ xs
-take_all [] zero h = refl
-take_all [] (suc n) h = refl
-take_all (x ∷ xs) zero h = absurd (omega arith)
-take_all (x ∷ xs) (suc n) h = ap (λ z. x ∷ z) (take_all xs n (omega arith))
+use Rattle.std.proofs.Common.{◌≡◌, ◌<◌, ℕ, zero, suc, List, [], ◌∷◌, ◌++◌, take, length, get_or, refl, ap, arith}
 
 pub split_at : {A : Type 0} (xs : List A) (i : ℕ) (d : A) → i < length xs → (ys : List A) × (xs ≡ take i xs ++ get_or xs i d ∷ ys)
 split_at [] i d h = absurd (omega arith)

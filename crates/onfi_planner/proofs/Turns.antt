@@ -1,8 +1,8 @@
 -- Calls that are dealt to workers, and their answers.
-use Rattle.std.proofs.Common.{◌≡◌, ◌≢◌, ℕ, zero, suc, ◌+◌, ◌≤◌, ◌<◌, ◌%◌, ◌⊎◌, inl, inr, true, false, List, [], ◌∷◌, ◌++◌, length, map, get_or, Result, Ok, Err, Option, None, Some, Vec, Global, refl, sym, ap, ◌∙◌, subst, arith, get_or-set_same, get_or-set_other, length-set}
+use Rattle.std.proofs.Common.{◌≡◌, ◌≢◌, ℕ, zero, suc, ◌+◌, ◌≤◌, ◌<◌, ◌%◌, ◌⊎◌, inl, inr, true, false, List, [], ◌∷◌, ◌++◌, length, map, get_or, Result, Ok, Err, Option, None, Some, Vec, Global, refl, sym, ap, ◌∙◌, subst, arith, get_or-set_same, get_or-set_other, length-set, add-one}
 use Rattle.std.specs.Prelude.{slice_set, IfOk, IfErr}
 use Rattle.std.specs.Option.{is_some}
-use Rattle.std.proofs.lemmas.List.{map-append}
+use Rattle.std.proofs.lemmas.List.{map-append, length-map}
 use Rattle.std.proofs.lemmas.Bool.{cases_eq, eq-eqb, ne_eqb, false≢true}
 use denote.Param.Members.{Shared}
 use Rattle.onfi_group.specs.Words.{Has}
@@ -15,9 +15,6 @@ dealt_here workers worker n e = rw (eq-eqb (n % workers) worker e) refl
 pub dealt_elsewhere : (workers worker n : ℕ) → n % workers ≢ worker → dealt workers worker (suc n) ≡ dealt workers worker n
 dealt_elsewhere workers worker n d = rw (ne_eqb (n % workers) worker d) refl
 
-one_suc : (n : ℕ) → n + 1 ≡ suc n
-one_suc n = omega arith
-
 module _ {F X : Type 0} (g : Shared F (ℕ × Unit {0}) (Result X Stop)) (f : F) where
   gives_more : (calls : List ℕ) (xs : List X) (i : ℕ) (x : X) → GivesAll g f calls xs → Gives g f i x → GivesAll g f (calls ++ i ∷ []) (xs ++ x ∷ [])
   gives_more [] [] i x a b = (b, tt)
@@ -29,12 +26,7 @@ module _ {F X : Type 0} (g : Shared F (ℕ × Unit {0}) (Result X Stop)) (f : F)
   pub given : (workers worker i : ℕ) (xs ys : List X) (x : X) → i % workers ≡ worker → ys ≡ xs ++ x ∷ [] → GivesAll g f (dealt workers worker i) xs → Gives g f i x → GivesAll g f (dealt workers worker (i + 1)) ys
   given workers worker i xs ys x e q a b =
       let c = dealt_here workers worker i e in
-      subst (λ z. GivesAll g f (dealt workers worker z) ys) (sym (one_suc i)) (subst (λ z. GivesAll g f z ys) (sym c) (subst (GivesAll g f (dealt workers worker i ++ i ∷ [])) (sym q) (gives_more (dealt workers worker i) xs i x a b)))
-
-  -- and one that another makes
-  pub passed : (workers worker i : ℕ) (xs : List X) → i % workers ≢ worker → GivesAll g f (dealt workers worker i) xs → GivesAll g f (dealt workers worker (i + 1)) xs
-  passed workers worker i xs d a =
-      subst (λ z. GivesAll g f (dealt workers worker z) xs) (sym (one_suc i)) (subst (λ z. GivesAll g f z xs) (sym (dealt_elsewhere workers worker i d)) a)
+      subst (λ z. GivesAll g f (dealt workers worker z) ys) (sym (add-one i)) (subst (λ z. GivesAll g f z ys) (sym c) (subst (GivesAll g f (dealt workers worker i ++ i ∷ [])) (sym q) (gives_more (dealt workers worker i) xs i x a b)))
 
   split_last : (calls : List ℕ) (xs : List X) (i : ℕ) (x : X) → GivesAll g f (calls ++ i ∷ []) (xs ++ x ∷ []) → GivesAll g f calls xs × Gives g f i x
   split_last [] [] i x a = (tt, a.0)
@@ -118,15 +110,11 @@ still_done xs x ys zs y e q h = ap (λ z. z ++ x ∷ []) h ∙ (ap (λ z. map Ok
 -- what the workers hold once all are done
 pub all_held : {F X S : Type 0} (g : Shared F (ℕ × Unit {0}) (Result X Stop)) (f : F) (workers n : ℕ) (shares : List (Result (Vec X Global) S)) (lists : List (Vec X Global)) → length shares ≡ workers → shares ≡ map Ok lists → ((worker : ℕ) (d v : Vec X Global) → worker < workers → get_or shares worker (Ok d) ≡ Ok v → GivesAll g f (dealt workers worker n) v.items) → Held g f workers n lists
 all_held g f workers n shares lists l e h =
-    let long : length lists ≡ workers = sym (length_map Ok lists) ∙ (ap length (sym e) ∙ l) in
+    let long : length lists ≡ workers = sym (length-map lists Ok) ∙ (ap length (sym e) ∙ l) in
     record {
       long = long;
       each = λ worker d below. h worker d (get_or lists worker d) below (ap (λ z. get_or z worker (Ok d)) e ∙ map_place Ok lists worker d (Ok d) (omega arith));
     }
-  where
-    length_map : {A B : Type 0} (h : A → B) (xs : List A) → length (map h xs) ≡ length xs
-    length_map h [] = refl
-    length_map h (x ∷ xs) = let k = length_map h xs in omega arith
 
 pub if_ok : {A E : Type 0} (r : Result A E) {P : A → Type 0} → ((a : A) → r ≡ Ok a → P a) → IfOk r P
 if_ok (Ok a) h = h a refl

@@ -1,21 +1,20 @@
 -- A search and what it is written as make an optimal plan.
-use Rattle.std.proofs.Common.{◌≡◌, ℕ, ◌+◌, ◌-◌, Bool, List, [], ◌++◌, inl, inr, sym, ap, ◌∙◌, subst, arith, ◌<◌, ◌≤◌, ◌^◌}
+use Rattle.std.proofs.Common.{◌≡◌, ℕ, ◌-◌, Bool, List, inl, inr, sym, ap, ◌∙◌, subst, arith, ◌<◌, ◌≤◌, ◌^◌}
 use Rattle.std.proofs.lemmas.Bool.{cases_Bool}
 use Rattle.onfi_cert.specs.declared.token.Token.{Token}
 use Rattle.onfi_problem.specs.Problem.{Problem, IsProblem}
 use Rattle.onfi_schedule.specs.Schedule.{Schedule, Optimal, finish}
 use Rattle.onfi_schedule.specs.Runs.{Run, schedule_of}
-use Rattle.onfi_check.specs.Tree.{Accepts, AcceptsTokens, preorder}
+use Rattle.onfi_check.specs.Tree.{Accepts, AcceptsTokens}
 use Rattle.onfi_schedule.proofs.RunLegal.{run_legal}
 use Rattle.onfi_check.proofs.Sound.{certified}
 use Rattle.onfi_planner.specs.declared.search.Best.{Best}
 use Rattle.onfi_planner.specs.declared.root.Root.{Root}
 use Rattle.onfi_problem.specs.Position.{Position}
 use Rattle.onfi_problem.specs.Left.{InLimits}
-use Rattle.onfi_planner.specs.declared.fault.PlanFault.TheVariants.{Over}
 use Rattle.onfi_check.specs.First.{IsFirstRun}
-use Rattle.onfi_check.specs.Nodes.{HasNodes, HasMoreNodes, HasTreeOf, OpensNodes}
-use Rattle.onfi_planner.specs.Planning.{Searched, HasOpened, Written, IsOver, Found, IsRoot, run_of, AreRising}
+use Rattle.onfi_check.specs.Nodes.{HasNodes, HasTreeOf, OpensNodes}
+use Rattle.onfi_planner.specs.Planning.{Searched, HasOpened, Found, IsRoot, run_of, AreRising}
 use Rattle.onfi_planner.proofs.Rising.{run_rises}
 use Rattle.onfi_planner.proofs.Beginning.{first_is_run}
 use Rattle.onfi_planner.proofs.Grown.{some_nodes}
@@ -56,14 +55,6 @@ found x now first best improved r s =
       small = omega arith;
     }
 
-pub more_nodes : (x now : Position) (first : Best) (n limit opened : ℕ) → Ready x now first → IsOver now.problem first.finish 0 n limit → Over n ≡ Over opened → (opened ≡ limit) × HasMoreNodes x.problem limit
-more_nodes x now first n limit opened r over e =
-    let o = subst (λ (z : Position). IsOver z.problem first.finish 0 n limit) r.same over in
-    let l = o.limit in
-    let q : n ≡ opened = cc in
-    let z : limit - 0 + 1 ≡ limit + 1 = omega arith in
-    (omega arith, (first.finish, (run_of x.groups first.steps.items, r.first_run), subst (HasNodes first.finish x.problem) z (o.nodes first.finish (omega arith))))
-
 pub nodes_opened : (x now : Position) (first : Best) (e n : ℕ) → Ready x now first → HasOpened now.problem first.finish e 0 n → OpensNodes x.problem e n
 nodes_opened x now first e n r opened =
     let o = subst (λ (z : Position). HasOpened z.problem first.finish e 0 n) r.same opened in
@@ -80,11 +71,6 @@ some_opened p finish e n o =
     let (tree, a, k) = o.accepted in
     let some = some_nodes tree in
     omega arith
-
-pub written_tokens : (x now found : Position) (first : Best) (e : ℕ) (old new : List Token) → Ready x now first → found ≡ now → old ≡ [] → Written found.problem e old new → AcceptsTokens new x.problem e
-written_tokens x now found first e old new r q n w =
-    let (tree, t, a) = subst (λ (z : Position). Written z.problem e old new) (q ∙ r.same) w in
-    (tree, sym (t ∙ ap (λ z. z ++ preorder tree) n), a)
 
 pub best_plan : (x : Position) (best : Best) (s : Schedule) (tokens : List Token) → IsProblem x.problem → Found x best → AcceptsTokens tokens x.problem best.finish → s ≡ schedule_of x.problem (run_of x.groups best.steps.items) → Optimal x.problem s × (finish x.problem s ≡ best.finish) × AreRising s.groups
 best_plan x best s tokens ip f (tree, t, a) e =

@@ -1,19 +1,16 @@
 -- A gap behind a walk for its middle.
-use Rattle.std.proofs.Common.{◌≡◌, ℕ, ◌+◌, ◌≤◌, ◌<◌, inl, inr, Bool, true, false, List, refl, sym, ap, ◌∙◌, subst, arith}
+use Rattle.std.proofs.Common.{◌≡◌, ℕ, ◌+◌, ◌≤◌, ◌<◌, inl, inr, true, false, List, refl, sym, ap, subst, arith}
 use Rattle.std.proofs.lemmas.Bool.{cases_Bool, cases_lt}
 use Rattle.onfi_problem.specs.Left.{InLimits}
 use Rattle.onfi_problem.specs.Position.{Position}
-use Rattle.onfi_schedule.specs.Schedule.{finish}
 use Rattle.onfi_schedule.specs.Runs.{schedule_of}
 use Rattle.onfi_known.specs.declared.token.Token.{Token}
 use Rattle.onfi_known.proofs.Sound.{proved_is_below}
 use Rattle.onfi_planner.specs.Planning.{run_of}
-use Rattle.onfi_planner.specs.declared.root.Root.{Root}
 use Rattle.onfi_planner.specs.declared.search.Best.{Best}
 use Rattle.onfi_planner.proofs.Halfway.{open_later}
-use Rattle.onfi_check.specs.Nodes.{HasMoreNodes, IsOpen}
 use Rattle.onfi_recall.specs.Searched.{IsSearched}
-use Rattle.onfi_recall.specs.Walks.{AreMore, HasSoMany, IsBegun, IsBetter, IsProved, IsRunOf}
+use Rattle.onfi_recall.specs.Walks.{AreMore, HasSoMany, IsBetter, IsProved, IsRunOf}
 use Rattle.onfi_recall.specs.Within.{IsGap, IsShownBefore}
 use Rattle.onfi_recall.specs.declared.gap.Gap.{Gap}
 use Rattle.onfi_recall.specs.declared.planning.Searched.{Searched}

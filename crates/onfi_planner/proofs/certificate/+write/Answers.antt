@@ -3,13 +3,12 @@ use Rattle.std.specs.Prelude.{◌==◌}
 use Rattle.std.specs.List.{AllByRecursion as All}
 use Rattle.std.proofs.lemmas.List.{get_or_default}
 use Rattle.std.proofs.lemmas.Bool.{eqb-true}
-use Rattle.std.proofs.lemmas.Result.{err_from_is_err_and}
 use Rattle.onfi_problem.specs.Moves.{IsMove, move_lun, after}
 use Rattle.onfi_problem.specs.Left.{InLimits}
 use Rattle.onfi_problem.proofs.Limits.{after_limits}
 use Rattle.onfi_cert.specs.declared.token.Token.TheVariants.{Yield}
 use Rattle.onfi_problem.specs.declared.moves.Move.TheVariants.{Next}
-use Rattle.onfi_problem.specs.Position.{Position, move_of, moves_of, moved, lun_named, restored}
+use Rattle.onfi_problem.specs.Position.{Position, move_of, moves_of, moved, lun_named}
 use Rattle.onfi_bound.specs.Loads.{AreLoads}
 use Rattle.onfi_bound.proofs.Loading.{loads_after}
 use Rattle.onfi_planner.specs.Opening.{yield_at}
@@ -111,15 +110,6 @@ write_below-write-requires t c =
       ),
     )
 
-pub write-returns-in_err-push-clause-problem : goal.write-returns-in_err-push-clause-problem
-write-returns-in_err-push-clause-problem t c = rw (err_from_is_err_and c.from_residual.result c.from_residual.ensures.1).1 tt
-
-pub write-returns-in_err-push-clause-written : goal.write-returns-in_err-push-clause-written
-write-returns-in_err-push-clause-written t c = rw (err_from_is_err_and c.from_residual.result c.from_residual.ensures.1).1 tt
-
-pub write-returns-in-Some-clause-problem : goal.write-returns-in-Some-clause-problem
-write-returns-in-Some-clause-problem t c = refl
-
 pub write-last_ends-ends-requires-clause-moves : goal.write-last_ends-ends-requires-clause-moves
 write-last_ends-ends-requires-clause-moves t c = (steps_same c.args.problem.now c.as_slice-steps.result.now _ c.as_slice-steps.ensures.value c.list_steps.ensures.moves).moves_only
 
@@ -129,20 +119,8 @@ write-last_ends-ends-requires-clause-luns t c = subst (λ z. All (λ s. move_lun
 pub write-last_ends-ends-requires-clause-few : goal.write-last_ends-ends-requires-clause-few
 write-last_ends-ends-requires-clause-few t c = subst (λ z. All (λ s. lun_named s < 8) z) (sym c.as_slice-steps.ensures.value) (luns_small c.args.problem.now.groups c.list_steps.new.moves c.list_steps.ensures.named)
 
-pub write-yields_of-yields-requires : goal.write-yields_of-yields-requires
-write-yields_of-yields-requires t c = record { ends = c.last_ends-ends.ensures.ends }
-
 pub write-of-requires-clause-low : goal.write-of-requires-clause-low
 write-of-requires-clause-low t c = some_items c.as_slice-steps.result.now (c.if-is_empty.ensures ∙ ap (λ z. length z == 0) (sym c.as_slice-steps.ensures.value))
-
-pub write-of-requires-clause-high : goal.write-of-requires-clause-high
-write-of-requires-clause-high t c = omega (arith, c.as_slice-steps.ensures.few)
-
-pub write-returns-in_err-push-2-clause-problem : goal.write-returns-in_err-push-2-clause-problem
-write-returns-in_err-push-2-clause-problem t c = rw (err_from_is_err_and c.from_residual-in_err-push-2.result c.from_residual-in_err-push-2.ensures.1).1 tt
-
-pub write-returns-in_err-push-2-clause-written : goal.write-returns-in_err-push-2-clause-written
-write-returns-in_err-push-2-clause-written t c = rw (err_from_is_err_and c.from_residual-in_err-push-2.result c.from_residual-in_err-push-2.ensures.1).1 tt
 
 pub write-bounds : goal.write-bounds
 write-bounds t c = lun_in c.args.problem.now.groups c.list_steps.new.moves c.as_slice-steps.result.now c.loop-step.step-index (Next 0) c.lun.result c.as_slice-steps.ensures.value c.list_steps.ensures.named c.lun.ensures c.loop-step-test.true
@@ -150,35 +128,5 @@ write-bounds t c = lun_in c.args.problem.now.groups c.list_steps.new.moves c.as_
 pub write-bounds-yields-lun : goal.write-bounds-yields-lun
 write-bounds-yields-lun t c = lun_in c.args.problem.now.groups c.list_steps.new.moves c.as_slice-steps.result.now c.loop-step.step-index (Next 0) c.lun.result c.as_slice-steps.ensures.value c.list_steps.ensures.named c.lun.ensures c.loop-step-test.true
 
-pub write-returns-in_err-push-in-Some-yields-clause-problem : goal.write-returns-in_err-push-in-Some-yields-clause-problem
-write-returns-in_err-push-in-Some-yields-clause-problem t c = rw (err_from_is_err_and c.from_residual-in_err-push-in-Some-yields.result c.from_residual-in_err-push-in-Some-yields.ensures.1).1 tt
-
-pub write-returns-in_err-push-in-Some-yields-clause-written : goal.write-returns-in_err-push-in-Some-yields-clause-written
-write-returns-in_err-push-in-Some-yields-clause-written t c = rw (err_from_is_err_and c.from_residual-in_err-push-in-Some-yields.result c.from_residual-in_err-push-in-Some-yields.ensures.1).1 tt
-
-pub write-returns-in_err-write_below-in-None-clause-problem : goal.write-returns-in_err-write_below-in-None-clause-problem
-write-returns-in_err-write_below-in-None-clause-problem t c = rw (err_from_is_err_and c.from_residual-in_err-write_below-in-None.result c.from_residual-in_err-write_below-in-None.ensures.1).1 tt
-
-pub write-returns-in_err-write_below-in-None-clause-written : goal.write-returns-in_err-write_below-in-None-clause-written
-write-returns-in_err-write_below-in-None-clause-written t c = rw (err_from_is_err_and c.from_residual-in_err-write_below-in-None.result c.from_residual-in_err-write_below-in-None.ensures.1).1 tt
-
-pub write-returns-clause-problem : goal.write-returns-clause-problem
-write-returns-clause-problem t c = c.loop-step.invariant.problem
-
-pub write_below-returns-in_err-write-clause-problem : goal.write_below-returns-in_err-write-clause-problem
-write_below-returns-in_err-write-clause-problem t c = rw (err_from_is_err_and c.from_residual.result c.from_residual.ensures.1).1 tt
-
-pub write_below-returns-in_err-write-clause-written : goal.write_below-returns-in_err-write-clause-written
-write_below-returns-in_err-write-clause-written t c = rw (err_from_is_err_and c.from_residual.result c.from_residual.ensures.1).1 tt
-
-pub write_below-undo-requires-clause-limits : goal.write_below-undo-requires-clause-limits
-write_below-undo-requires-clause-limits t c = subst (λ (z : Position). InLimits (restored z c.advance-undo.result).problem) (sym c.in_ok-write.ensures.problem) c.advance-undo.ensures.limits
-
-pub write_below-undo-requires-clause-lun : goal.write_below-undo-requires-clause-lun
-write_below-undo-requires-clause-lun t c = subst (λ (z : Position). c.advance-undo.result.lun < length z.problem.luns) (sym c.in_ok-write.ensures.problem) c.advance-undo.ensures.within
-
 pub write_below-returns-clause-problem : goal.write_below-returns-clause-problem
 write_below-returns-clause-problem t c = handed_back c.args.problem.now _ c.write.new.problem _ c.advance-undo.result c.in_ok-write.ensures.problem c.advance-undo.ensures.undo c.undo.ensures
-
-pub write_below-returns-clause-written : goal.write_below-returns-clause-written
-write_below-returns-clause-written t c = subst (λ (z : Position). Written z.problem c.args.e c.args.tokens.now.items c.write.new.tokens.items) c.advance-undo.ensures.moved c.in_ok-write.ensures.written

@@ -34,7 +34,6 @@ pub take_last-answer-requires-clause-some : goal.take_last-answer-requires-claus
 take_last-answer-requires-clause-some g c =
     let n = c.args.n - c.loop-behind.behind in
     let call = c.args.n - 1 - c.loop-behind.behind in
-    let before = c.loop-behind-test.true in
     let next : suc call ≡ n = omega arith in
     last_there g.F.Fn c.args.f.now c.args.workers n call c.loop-behind.shares.items next (mod_below call c.args.workers c.requires.some) c.loop-behind.invariant.held
 
@@ -42,7 +41,6 @@ pub loop-behind-preserved : goal.loop-behind-preserved
 loop-behind-preserved g c =
     let n = c.args.n - c.loop-behind.behind in
     let call = c.args.n - 1 - c.loop-behind.behind in
-    let before = c.loop-behind-test.true in
     let next : suc call ≡ n = omega arith in
     let same : call ≡ c.args.n - (c.loop-behind.behind + 1) = omega arith in
     let (rest, new, took) = c.take_last-answer.ensures in

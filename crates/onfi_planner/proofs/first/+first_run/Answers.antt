@@ -1,12 +1,8 @@
-use Rattle.std.proofs.Common.{◌≡◌, ◌<◌, ap, sym, ◌∙◌, arith, subst, refl, length}
+use Rattle.std.proofs.Common.{◌≡◌, ap, sym, ◌∙◌, arith, subst, length}
 use Rattle.std.specs.Prelude.{◌==◌}
-use Rattle.std.specs.List.{AllByRecursion as All}
-use Rattle.std.proofs.lemmas.Result.{err_from_is_err_and}
 use Rattle.std.proofs.lemmas.Bool.{eqb-true}
 use Rattle.onfi_problem.specs.Moves.{after}
-use Rattle.onfi_problem.specs.Position.{Position, move_of, restored}
-use Rattle.onfi_problem.specs.Left.{InLimits}
-use Rattle.onfi_problem.specs.Starts.{IsNamed}
+use Rattle.onfi_problem.specs.Position.{Position, move_of}
 use Rattle.onfi_check.specs.First.{IsFirstRun}
 use Rattle.onfi_planner.specs.Planning.{work, run_of}
 use Rattle.onfi_bound.proofs.BusWork.{work_after}
@@ -26,62 +22,11 @@ first_run-requires t c =
     let w : work c.advance-undo.new.self.problem ≡ work (after x.problem m) = ap (λ (z : Position). work z.problem) c.advance-undo.ensures.moved in
     (omega (arith, c.decreases, w, less), c.requires.none)
 
-pub returns-then-is_empty-clause-problem : goal.returns-then-is_empty-clause-problem
-returns-then-is_empty-clause-problem t c = refl
-
-pub returns-then-is_empty-clause-small : goal.returns-then-is_empty-clause-small
-returns-then-is_empty-clause-small t c = c.bus_free-bus_free.ensures.small
-
 pub first_choice-step-requires-clause-some : goal.first_choice-step-requires-clause-some
 first_choice-step-requires-clause-some t c = some_items c.as_slice.result.now (c.if-is_empty.ensures ∙ ap (λ z. length z == 0) (sym c.as_slice.ensures.value))
 
 pub first_choice-step-requires-clause-moves : goal.first_choice-step-requires-clause-moves
 first_choice-step-requires-clause-moves t c = steps_same c.args.problem.now c.as_slice.result.now _ c.as_slice.ensures.value c.steps-moves.ensures.moves
-
-pub first_choice-step-requires-clause-named : goal.first_choice-step-requires-clause-named
-first_choice-step-requires-clause-named t c = subst (λ z. All (IsNamed c.args.problem.now.groups) z) (sym c.as_slice.ensures.value) c.steps-moves.ensures.named
-
-pub earliest-start-requires-clause-step : goal.earliest-start-requires-clause-step
-earliest-start-requires-clause-step t c = c.first_choice-step.ensures.choice.is_move
-
-pub earliest-start-requires-clause-lun : goal.earliest-start-requires-clause-lun
-earliest-start-requires-clause-lun t c = c.first_choice-step.ensures.named.lun
-
-pub advance-undo-requires-clause-step : goal.advance-undo-requires-clause-step
-advance-undo-requires-clause-step t c = c.first_choice-step.ensures.choice.is_move
-
-pub advance-undo-requires-clause-lun : goal.advance-undo-requires-clause-lun
-advance-undo-requires-clause-lun t c = c.first_choice-step.ensures.named.lun
-
-pub returns-in_err-finish-clause-problem : goal.returns-in_err-finish-clause-problem
-returns-in_err-finish-clause-problem t c = rw (err_from_is_err_and c.from_residual.result c.from_residual.ensures.1).1 tt
-
-pub returns-in_err-finish-clause-run : goal.returns-in_err-finish-clause-run
-returns-in_err-finish-clause-run t c = rw (err_from_is_err_and c.from_residual.result c.from_residual.ensures.1).1 tt
-
-pub returns-in_err-finish-clause-small : goal.returns-in_err-finish-clause-small
-returns-in_err-finish-clause-small t c = rw (err_from_is_err_and c.from_residual.result c.from_residual.ensures.1).1 tt
-
-pub returns-in_err-finish-clause-limits : goal.returns-in_err-finish-clause-limits
-returns-in_err-finish-clause-limits t c = rw (err_from_is_err_and c.from_residual.result c.from_residual.ensures.1).1 tt
-
-pub returns-in_err-push-clause-problem : goal.returns-in_err-push-clause-problem
-returns-in_err-push-clause-problem t c = rw (err_from_is_err_and c.from_residual-in_err-push.result c.from_residual-in_err-push.ensures.1).1 tt
-
-pub returns-in_err-push-clause-run : goal.returns-in_err-push-clause-run
-returns-in_err-push-clause-run t c = rw (err_from_is_err_and c.from_residual-in_err-push.result c.from_residual-in_err-push.ensures.1).1 tt
-
-pub returns-in_err-push-clause-small : goal.returns-in_err-push-clause-small
-returns-in_err-push-clause-small t c = rw (err_from_is_err_and c.from_residual-in_err-push.result c.from_residual-in_err-push.ensures.1).1 tt
-
-pub returns-in_err-push-clause-limits : goal.returns-in_err-push-clause-limits
-returns-in_err-push-clause-limits t c = rw (err_from_is_err_and c.from_residual-in_err-push.result c.from_residual-in_err-push.ensures.1).1 tt
-
-pub undo-requires-clause-limits : goal.undo-requires-clause-limits
-undo-requires-clause-limits t c = subst (λ (z : Position). InLimits (restored z c.advance-undo.result).problem) (sym c.in_ok-finish.ensures.problem) c.advance-undo.ensures.limits
-
-pub undo-requires-clause-lun : goal.undo-requires-clause-lun
-undo-requires-clause-lun t c = subst (λ (z : Position). c.advance-undo.result.lun < length z.problem.luns) (sym c.in_ok-finish.ensures.problem) c.advance-undo.ensures.within
 
 pub returns-clause-problem : goal.returns-clause-problem
 returns-clause-problem t c = handed_back c.args.problem.now _ c.first_run.new.problem _ c.advance-undo.result c.in_ok-finish.ensures.problem c.advance-undo.ensures.undo c.undo.ensures

@@ -8,8 +8,6 @@ pub overflow_add-opened : goal.overflow_add-opened
 overflow_add-opened c =
     let i = c.loop-part.invariant in
     let whole = i.rest ∙ ap (λ z. c.loop-part.yielded ++ z) c.in-Some.ensures.steps.0 in
-    let few = c.requires.few in
-    let same = c.args.found.ok.0 in
     let small = opened_small c.args.found.items c.loop-part.yielded c.in-Some.part c.next.new.self.rest.items c.loop-part.opened whole c.requires.small (omega arith) i.opened in
     omega arith
 

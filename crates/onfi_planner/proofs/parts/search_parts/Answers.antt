@@ -1,4 +1,4 @@
-use Rattle.std.proofs.Common.{◌≡◌, ◌-◌, inl, inr, length, sym, ap, ◌∙◌, subst, arith}
+use Rattle.std.proofs.Common.{◌≡◌, ◌-◌, ℕ, List, Option, inl, inr, length, sym, ap, ◌∙◌, subst, arith}
 use Rattle.std.specs.List.{AllByRecursion as All}
 use Rattle.onfi_problem.specs.Moves.{IsMove}
 use Rattle.onfi_problem.specs.Position.{move_of}
@@ -6,23 +6,19 @@ use Rattle.onfi_problem.specs.Starts.{IsNamed}
 use Rattle.onfi_problem.proofs.Perm.{All-has}
 use Rattle.onfi_planner.specs.Planning.{run_of}
 use Rattle.onfi_planner.proofs.Halfway.{closed_by, open_node, steps_same}
-use Rattle.onfi_planner.proofs.Splitting.{closed_found, closed_opens, closed_parts, moves_each, parts_all, parts_few, found_length, found_within, part_over, split_made, split_found, split_opens, split_over, split_parts}
+use Rattle.onfi_planner.proofs.Splitting.{closed_found, closed_opens, closed_parts, moves_each, parts_all, parts_few, found_length, found_within, part_over, Split, split_made, split_found, split_opens, split_over, split_parts}
+use Rattle.onfi_planner.proofs.parts.search_parts.Given.{Over}
+use Rattle.onfi_planner.proofs.parts.search_parts.Goals.{In-Ok-search_each}
 use Rattle.onfi_planner.proofs.parts.search_parts.Goals as goal
 
 pub returns-then-is_some-clause-found : goal.returns-then-is_some-clause-found
-returns-then-is_some-clause-found g c =
-    let x = c.args.root.now.problem in
-    closed_found x c.args.root.now c.requires.root (closed_by x.problem c.args.root.now.best.finish c.closing_token.result c.if-is_some.ensures c.closing_token.ensures)
+returns-then-is_some-clause-found g c = closed_found c.args.root.now.problem c.args.root.now c.requires.root (closed_by c.args.root.now.problem.problem c.args.root.now.best.finish c.closing_token.result c.if-is_some.ensures c.closing_token.ensures)
 
 pub returns-then-is_some-clause-opened : goal.returns-then-is_some-clause-opened
-returns-then-is_some-clause-opened g c =
-    let x = c.args.root.now.problem in
-    closed_opens x c.args.root.now c.requires.root (closed_by x.problem c.args.root.now.best.finish c.closing_token.result c.if-is_some.ensures c.closing_token.ensures)
+returns-then-is_some-clause-opened g c = closed_opens c.args.root.now.problem c.args.root.now c.requires.root (closed_by c.args.root.now.problem.problem c.args.root.now.best.finish c.closing_token.result c.if-is_some.ensures c.closing_token.ensures)
 
 pub returns-then-is_some-clause-parts : goal.returns-then-is_some-clause-parts
-returns-then-is_some-clause-parts g c =
-    let x = c.args.root.now.problem in
-    closed_parts x c.args.root.now c.args.limit (closed_by x.problem c.args.root.now.best.finish c.closing_token.result c.if-is_some.ensures c.closing_token.ensures)
+returns-then-is_some-clause-parts g c = closed_parts c.args.root.now.problem c.args.root.now c.args.limit (closed_by c.args.root.now.problem.problem c.args.root.now.best.finish c.closing_token.result c.if-is_some.ensures c.closing_token.ensures)
 
 pub search_each-requires-clause-moves : goal.search_each-requires-clause-moves
 search_each-requires-clause-moves g c = λ _ _.
@@ -62,7 +58,6 @@ first_best-opened-requires-clause-few g c =
     let same = ap length (c.as_slice-2.ensures.value ∙ parts) in
     let few = parts_few yields c.as_slice.result.now in
     let all = ap length c.as_slice.ensures.value in
-    let most = c.steps-moves.ensures.few in
     let kept = found.ok.0 in
     omega arith
 
@@ -70,51 +65,34 @@ pub first_best-opened-requires-clause-small : goal.first_best-opened-requires-cl
 first_best-opened-requires-clause-small g c =
     found_within c.args.root.now.problem c.args.root.now.best.finish c.args.limit 1048576 c.as_slice-2.result.now c.in-Ok-search_each.found.items c.requires.few c.in-Ok-search_each.ensures.found
 
-pub returns-then-opened-gt-MOST_OPENED-clause-over : goal.returns-then-opened-gt-MOST_OPENED-clause-over
-returns-then-opened-gt-MOST_OPENED-clause-over g c = λ n e.
+-- the root, split into the parts that were searched
+split : (g : Over) (c : In-Ok-search_each g) → (yields : List (Option ℕ)) × Split c.args.root.now.problem c.as_slice.result.now yields c.args.root.now.best.finish c.args.limit (run_of c.args.root.now.problem.groups c.args.root.now.best.steps.items) c.in-Ok-search_each.found.items
+split g c =
     let x = c.args.root.now.problem in
     let items = c.as_slice.result.now in
     let (yields, ay, parts) = c.in-Ok.ensures in
-    let first = c.args.root.now.best in
-    let found = c.in-Ok-search_each.found.items in
-    let opens = open_node x first.finish c.closing_token.result _ (sym c.if-is_some.ensures) c.closing_token.ensures in
-    let split = split_made x c.args.root.now items c.steps-moves.result c.as_slice-2.result.now c.in-Ok.parts.items yields c.args.limit found c.requires.root c.as_slice.ensures.value c.steps-moves.ensures.moves c.steps-moves.ensures.named ay opens c.as_slice-2.ensures.value parts c.in-Ok-search_each.ensures.found in
+    let opens = open_node x c.args.root.now.best.finish c.closing_token.result _ (sym c.if-is_some.ensures) c.closing_token.ensures in
+    (yields, split_made x c.args.root.now items c.steps-moves.result c.as_slice-2.result.now c.in-Ok.parts.items yields c.args.limit c.in-Ok-search_each.found.items c.requires.root c.as_slice.ensures.value c.steps-moves.ensures.moves c.steps-moves.ensures.named ay opens c.as_slice-2.ensures.value parts c.in-Ok-search_each.ensures.found)
+
+pub returns-then-opened-gt-MOST_OPENED-clause-over : goal.returns-then-opened-gt-MOST_OPENED-clause-over
+returns-then-opened-gt-MOST_OPENED-clause-over g c = λ n e.
+    let (yields, split) = split g (goal.at.returns-then-opened-gt-MOST_OPENED-clause-over g c).In-Ok-search_each in
     let told : c.first_best-opened.result - 1 ≡ n = cc in
     let more = c.if-opened-gt-MOST_OPENED.true in
-    inr (omega arith, split_over x items yields first.finish c.args.limit n c.first_best-opened.result (run_of x.groups first.steps.items) found split c.first_best-opened.ensures.opened (omega arith))
+    inr (omega arith, split_over c.args.root.now.problem c.as_slice.result.now yields c.args.root.now.best.finish c.args.limit n c.first_best-opened.result _ c.in-Ok-search_each.found.items split c.first_best-opened.ensures.opened (omega arith))
 
 pub returns-clause-found : goal.returns-clause-found
 returns-clause-found g c =
-    let x = c.args.root.now.problem in
-    let items = c.as_slice.result.now in
-    let (yields, ay, parts) = c.in-Ok.ensures in
-    let first = c.args.root.now.best in
-    let found = c.in-Ok-search_each.found.items in
-    let opens = open_node x first.finish c.closing_token.result _ (sym c.if-is_some.ensures) c.closing_token.ensures in
-    let split = split_made x c.args.root.now items c.steps-moves.result c.as_slice-2.result.now c.in-Ok.parts.items yields c.args.limit found c.requires.root c.as_slice.ensures.value c.steps-moves.ensures.moves c.steps-moves.ensures.named ay opens c.as_slice-2.ensures.value parts c.in-Ok-search_each.ensures.found in
+    let (yields, split) = split g (goal.at.returns-clause-found g c).In-Ok-search_each in
     let best = c.first_best-opened.ensures in
-    split_found x items yields c.args.limit found first c.first_best-opened.new.best split c.requires.root.small best.sooner best.least best.one
+    split_found c.args.root.now.problem c.as_slice.result.now yields c.args.limit c.in-Ok-search_each.found.items c.args.root.now.best c.first_best-opened.new.best split c.requires.root.small best.sooner best.least best.one
 
 pub returns-clause-opened : goal.returns-clause-opened
 returns-clause-opened g c =
-    let x = c.args.root.now.problem in
-    let items = c.as_slice.result.now in
-    let (yields, ay, parts) = c.in-Ok.ensures in
-    let first = c.args.root.now.best in
-    let found = c.in-Ok-search_each.found.items in
-    let opens = open_node x first.finish c.closing_token.result _ (sym c.if-is_some.ensures) c.closing_token.ensures in
-    let split = split_made x c.args.root.now items c.steps-moves.result c.as_slice-2.result.now c.in-Ok.parts.items yields c.args.limit found c.requires.root c.as_slice.ensures.value c.steps-moves.ensures.moves c.steps-moves.ensures.named ay opens c.as_slice-2.ensures.value parts c.in-Ok-search_each.ensures.found in
-    let best = c.first_best-opened.ensures in
-    split_opens x items yields first.finish c.args.limit c.first_best-opened.new.best.finish c.first_best-opened.result (run_of x.groups first.steps.items) found split best.least best.opened
+    let (yields, split) = split g (goal.at.returns-clause-opened g c).In-Ok-search_each in
+    split_opens c.args.root.now.problem c.as_slice.result.now yields c.args.root.now.best.finish c.args.limit c.first_best-opened.new.best.finish c.first_best-opened.result _ c.in-Ok-search_each.found.items split c.first_best-opened.ensures.least c.first_best-opened.ensures.opened
 
 pub returns-clause-parts : goal.returns-clause-parts
 returns-clause-parts g c =
-    let x = c.args.root.now.problem in
-    let items = c.as_slice.result.now in
-    let (yields, ay, parts) = c.in-Ok.ensures in
-    let first = c.args.root.now.best in
-    let found = c.in-Ok-search_each.found.items in
-    let opens = open_node x first.finish c.closing_token.result _ (sym c.if-is_some.ensures) c.closing_token.ensures in
-    let split = split_made x c.args.root.now items c.steps-moves.result c.as_slice-2.result.now c.in-Ok.parts.items yields c.args.limit found c.requires.root c.as_slice.ensures.value c.steps-moves.ensures.moves c.steps-moves.ensures.named ay opens c.as_slice-2.ensures.value parts c.in-Ok-search_each.ensures.found in
-    let best = c.first_best-opened.ensures in
-    split_parts x items yields first.finish c.args.limit c.first_best-opened.new.best.finish c.first_best-opened.result (run_of x.groups first.steps.items) found split best.least best.opened
+    let (yields, split) = split g (goal.at.returns-clause-parts g c).In-Ok-search_each in
+    split_parts c.args.root.now.problem c.as_slice.result.now yields c.args.root.now.best.finish c.args.limit c.first_best-opened.new.best.finish c.first_best-opened.result _ c.in-Ok-search_each.found.items split c.first_best-opened.ensures.least c.first_best-opened.ensures.opened

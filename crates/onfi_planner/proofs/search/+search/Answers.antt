@@ -7,7 +7,7 @@ use Rattle.std.proofs.lemmas.Result.{err_from_is_err_and}
 use Rattle.onfi_problem.specs.Moves.{IsMove, move_lun, after}
 use Rattle.onfi_problem.specs.Left.{InLimits}
 use Rattle.onfi_problem.specs.declared.moves.Move.TheVariants.{Next}
-use Rattle.onfi_problem.specs.Position.{Position, move_of, moved, lun_named, restored}
+use Rattle.onfi_problem.specs.Position.{Position, move_of, moved, lun_named}
 use Rattle.onfi_schedule.specs.Runs.{Run}
 use Rattle.onfi_bound.specs.Loads.{AreLoads}
 use Rattle.onfi_bound.proofs.Loading.{loads_after}
@@ -158,76 +158,8 @@ visit-search-requires t c =
 pub visit-returns-else-improved-clause-problem : goal.visit-returns-else-improved-clause-problem
 visit-returns-else-improved-clause-problem t c = handed_back c.args.problem.now _ c.search.new.problem _ c.advance-undo.result c.in_ok-improved.ensures.problem c.advance-undo.ensures.undo c.undo.ensures
 
-pub visit-returns-else-improved-clause-sooner : goal.visit-returns-else-improved-clause-sooner
-visit-returns-else-improved-clause-sooner t c = c.in_ok-improved.ensures.found.sooner
-
-pub visit-returns-else-improved-clause-least : goal.visit-returns-else-improved-clause-least
-visit-returns-else-improved-clause-least t c = subst (λ (z : Position). Bounded z.problem c.search.new.best.finish) c.advance-undo.ensures.moved c.in_ok-improved.ensures.found.least
-
-pub visit-returns-else-improved-clause-kept : goal.visit-returns-else-improved-clause-kept
-visit-returns-else-improved-clause-kept t c = λ q. c.in_ok-improved.ensures.found.kept q
-
-pub visit-returns-else-improved-clause-opened : goal.visit-returns-else-improved-clause-opened
-visit-returns-else-improved-clause-opened t c = subst (λ (z : Position). HasOpened z.problem c.args.best.now.finish c.search.new.best.finish c.args.opened.now c.search.new.opened) c.advance-undo.ensures.moved c.in_ok-improved.ensures.opened
-
 pub visit-returns-in-Ok-clause-problem : goal.visit-returns-in-Ok-clause-problem
 visit-returns-in-Ok-clause-problem t c = handed_back c.args.problem.now _ c.search.new.problem _ c.advance-undo.result c.in_ok-improved.ensures.problem c.advance-undo.ensures.undo c.undo.ensures
-
-pub visit-returns-in-Ok-clause-sooner : goal.visit-returns-in-Ok-clause-sooner
-visit-returns-in-Ok-clause-sooner t c = c.in_ok-improved.ensures.found.sooner
-
-pub visit-returns-in-Ok-clause-least : goal.visit-returns-in-Ok-clause-least
-visit-returns-in-Ok-clause-least t c = subst (λ (z : Position). Bounded z.problem c.search.new.best.finish) c.advance-undo.ensures.moved c.in_ok-improved.ensures.found.least
-
-pub visit-returns-in-Ok-clause-opened : goal.visit-returns-in-Ok-clause-opened
-visit-returns-in-Ok-clause-opened t c = subst (λ (z : Position). HasOpened z.problem c.args.best.now.finish c.search.new.best.finish c.args.opened.now c.search.new.opened) c.advance-undo.ensures.moved c.in_ok-improved.ensures.opened
-
-pub visit-undo-requires-clause-limits : goal.visit-undo-requires-clause-limits
-visit-undo-requires-clause-limits t c = subst (λ (z : Position). InLimits (restored z c.advance-undo.result).problem) (sym c.in_ok-improved.ensures.problem) c.advance-undo.ensures.limits
-
-pub visit-undo-requires-clause-lun : goal.visit-undo-requires-clause-lun
-visit-undo-requires-clause-lun t c = subst (λ (z : Position). c.advance-undo.result.lun < length z.problem.luns) (sym c.in_ok-improved.ensures.problem) c.advance-undo.ensures.within
-
-pub visit-returns-in_err-improved-clause-problem : goal.visit-returns-in_err-improved-clause-problem
-visit-returns-in_err-improved-clause-problem t c = rw (err_from_is_err_and c.from_residual.result c.from_residual.ensures.1).1 tt
-
-pub visit-returns-in_err-improved-clause-sooner : goal.visit-returns-in_err-improved-clause-sooner
-visit-returns-in_err-improved-clause-sooner t c = rw (err_from_is_err_and c.from_residual.result c.from_residual.ensures.1).1 tt
-
-pub visit-returns-in_err-improved-clause-least : goal.visit-returns-in_err-improved-clause-least
-visit-returns-in_err-improved-clause-least t c = rw (err_from_is_err_and c.from_residual.result c.from_residual.ensures.1).1 tt
-
-pub visit-returns-in_err-improved-clause-run : goal.visit-returns-in_err-improved-clause-run
-visit-returns-in_err-improved-clause-run t c = rw (err_from_is_err_and c.from_residual.result c.from_residual.ensures.1).1 tt
-
-pub visit-returns-in_err-improved-clause-kept : goal.visit-returns-in_err-improved-clause-kept
-visit-returns-in_err-improved-clause-kept t c = rw (err_from_is_err_and c.from_residual.result c.from_residual.ensures.1).1 tt
-
-pub visit-returns-in_err-improved-clause-opened : goal.visit-returns-in_err-improved-clause-opened
-visit-returns-in_err-improved-clause-opened t c = rw (err_from_is_err_and c.from_residual.result c.from_residual.ensures.1).1 tt
-
-pub visit-returns-in_err-improved-clause-over : goal.visit-returns-in_err-improved-clause-over
-visit-returns-in_err-improved-clause-over t c =
-    let p = err_from_is_err_and c.from_residual.result c.from_residual.ensures.1 in
-    rw (p.1, p.2) (λ q. subst (λ (z : Position). IsOver z.problem c.args.best.now.finish c.args.opened.now c.search.new.opened c.args.limit) c.advance-undo.ensures.moved (c.in_err-improved.ensures.over q))
-
-pub search-returns-in_err-visit-clause-problem : goal.search-returns-in_err-visit-clause-problem
-search-returns-in_err-visit-clause-problem t c = rw (err_from_is_err_and c.from_residual.result c.from_residual.ensures.1).1 tt
-
-pub search-returns-in_err-visit-clause-found : goal.search-returns-in_err-visit-clause-found
-search-returns-in_err-visit-clause-found t c = rw (err_from_is_err_and c.from_residual.result c.from_residual.ensures.1).1 tt
-
-pub search-returns-in_err-visit-clause-opened : goal.search-returns-in_err-visit-clause-opened
-search-returns-in_err-visit-clause-opened t c = rw (err_from_is_err_and c.from_residual.result c.from_residual.ensures.1).1 tt
-
-pub search-returns-clause-problem : goal.search-returns-clause-problem
-search-returns-clause-problem t c = c.loop-step.invariant.problem
-
-pub search-returns-then-is_empty-clause-problem : goal.search-returns-then-is_empty-clause-problem
-search-returns-then-is_empty-clause-problem t c = refl
-
-pub search-returns-then-is_some-clause-problem : goal.search-returns-then-is_some-clause-problem
-search-returns-then-is_some-clause-problem t c = refl
 
 pub search-loop-step-init : goal.search-loop-step-init
 search-loop-step-init t c = record { problem = refl; half = started c.args.problem.now c.as_slice-steps.result.now c.yields_of-yields.result c.args.best.now c.args.opened.now c.args.limit (omega (arith, c.if-opened-limit.false)) }
@@ -240,9 +172,6 @@ search-last_ends-ends-requires-clause-luns t c = subst (λ z. All (λ s. move_lu
 
 pub search-last_ends-ends-requires-clause-few : goal.search-last_ends-ends-requires-clause-few
 search-last_ends-ends-requires-clause-few t c = subst (λ z. All (λ s. lun_named s < 8) z) (sym c.as_slice-steps.ensures.value) (luns_small c.args.problem.now.groups c.list_steps.new.moves c.list_steps.ensures.named)
-
-pub search-yields_of-yields-requires : goal.search-yields_of-yields-requires
-search-yields_of-yields-requires t c = record { ends = c.last_ends-ends.ensures.ends }
 
 pub search-bounds-yields-lun : goal.search-bounds-yields-lun
 search-bounds-yields-lun t c = lun_in c.args.problem.now.groups c.list_steps.new.moves c.as_slice-steps.result.now c.loop-step.step-index (Next 0) c.lun.result c.as_slice-steps.ensures.value c.list_steps.ensures.named c.lun.ensures c.loop-step-test.true

@@ -1,4 +1,4 @@
-use Rattle.std.proofs.Common.{refl, sym, subst}
+use Rattle.std.proofs.Common.{refl, subst}
 use Rattle.onfi_problem.specs.Position.{Position}
 use Rattle.onfi_planner.specs.declared.search.Best.{Best}
 use Rattle.onfi_recall.specs.Walks.{AreMore, IsBetter, IsProved}

@@ -1,10 +1,7 @@
 use Rattle.std.proofs.Common.{◌≤◌, sym, subst, arith}
-use Rattle.onfi_recall.specs.Walks.{EndsSooner, HasSoMany, IsProved}
+use Rattle.onfi_recall.specs.Walks.{EndsSooner, HasSoMany}
 use Rattle.onfi_recall.proofs.Tree.{over_limit}
 use Rattle.onfi_recall.proofs.planning.plan_known.Goals as goal
-
-pub found_plan-requires-clause-proved : goal.found_plan-requires-clause-proved
-found_plan-requires-clause-proved c = subst (λ tokens. IsProved c.args.problem.now tokens c.in-Ok.searched.best.finish) (sym c.as_slice-tokens.ensures.value) (c.in-Ok.ensures.proved c.if-searched.false)
 
 pub returns-then-searched-clause-over : goal.returns-then-searched-clause-over
 returns-then-searched-clause-over c = λ opened q. over_limit c.args.problem.now.problem c.args.limit _ opened q (grind arith) (c.in-Ok.ensures.over c.if-searched.true)

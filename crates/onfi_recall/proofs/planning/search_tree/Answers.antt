@@ -11,9 +11,6 @@ walk-requires-clause-root c = tree_at c.args.problem.now c.in_ok-root.root.probl
 pub walk_again-requires-clause-root : goal.walk_again-requires-clause-root
 walk_again-requires-clause-root c = tree_at c.args.problem.now c.walk.new.at c.in_ok-root.root c.in_ok-root.ensures c.in_ok-found.ensures.problem
 
-pub walk_again-requires-clause-proved : goal.walk_again-requires-clause-proved
-walk_again-requires-clause-proved c = λ q. subst (λ (z : Position). IsProved z c.in_ok-found.found.tokens.items c.walk.new.best.finish) (sym c.in_ok-found.ensures.problem) (c.in_ok-found.ensures.proved c.if-found.false q)
-
 pub returns-then-found : goal.returns-then-found
 returns-then-found c =
     let root = c.in_ok-root.root in

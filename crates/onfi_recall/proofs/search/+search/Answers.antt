@@ -127,12 +127,6 @@ search_children-returns-then-notes-clause-shown t c =
     let half = subst (λ ms. Halfway x moves (moves_of x.groups ms) c.of-soonest.result c.args.best.now c.loop-step.best c.args.notes.now c.loop-step.notes c.loop-step.standing) (take_all c.loop-step.step-index items c.loop-step-test.false) c.loop-step.invariant.half in
     cut_shown x moves c.of-soonest.result c.args.best.now c.loop-step.best c.args.notes.now c.loop-step.notes c.loop-step.standing c.given_up.result c.requires.at.tree.limits half c.if-notes.true c.given_up.ensures.demand c.given_up.ensures.improved
 
-pub search_children-returns-then-notes-clause-forgotten : goal.search_children-returns-then-notes-clause-forgotten
-search_children-returns-then-notes-clause-forgotten t c = λ q. c.loop-step.invariant.half.few
-
-pub search_children-returns-clause-forgotten : goal.search_children-returns-clause-forgotten
-search_children-returns-clause-forgotten t c = λ q. absurd (false≢true (sym c.if-notes.false ∙ q))
-
 pub search_open-returns-then-is_empty-clause-shown : goal.search_open-returns-then-is_empty-clause-shown
 search_open-returns-then-is_empty-clause-shown t c = done_shown c.args.problem.now c.list_steps.new.moves c.args.best.now _ c.args.notes.now c.of_bus-demand.result c.requires.at.tree.limits c.list_steps.ensures.moves (eqb-true _ _ (sym c.if-is_empty.ensures)) c.bus_free-best.ensures.value c.clear.ensures.items c.requires.is_open c.requires.at.finish c.requires.counted c.requires.at.within c.requires.uncut c.of_bus-demand.ensures
 
