@@ -1,15 +1,9 @@
 -- A move takes from the work that is left.
-use Rattle.std.proofs.Common.{◌≡◌, ℕ, ◌+◌, ◌*◌, ◌-◌, ◌≤◌, length, ap, arith}
-use Rattle.std.specs.Prelude.{max}
-use Rattle.onfi_problem.specs.Moves.{Move, Next, Start, IsMove, earliest, placed, after, lun_after}
+use Rattle.std.proofs.Common.{ℕ, ◌+◌, ◌≤◌, length, arith}
+use Rattle.onfi_problem.specs.Moves.{Move, Next, Start, IsMove, earliest, placed, after}
 use Rattle.onfi_problem.specs.Problem.{Problem, IsProblem}
-use Rattle.onfi_timing.specs.Kinds.{spans_of}
-use Rattle.onfi_group.specs.Group.{group_spans, lun_of}
-use Rattle.onfi_timing.specs.Phases.{phase_length}
-use Rattle.onfi_problem.specs.Left.{command_time, post_time, want_command, want_post, work}
-use Rattle.onfi_problem.proofs.Perm.{All-weaker}
-use Rattle.onfi_problem.proofs.Totals.{total_set, total_same, startable_total}
-use Rattle.onfi_problem.proofs.Work.{one_phase, commands_after, posts_after}
+use Rattle.onfi_group.specs.Group.{group_spans}
+use Rattle.onfi_problem.specs.Left.{work}
 use Rattle.onfi_schedule.proofs.Chains.{long}
 use Rattle.onfi_bound.proofs.BusBound.{bus_placed}
 

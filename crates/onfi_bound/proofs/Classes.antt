@@ -1,5 +1,5 @@
 -- What a started group takes from the waits that are counted for its class.
-use Rattle.std.proofs.Common.{◌≡◌, ◌≢◌, ℕ, zero, suc, ◌+◌, ◌*◌, ◌-◌, ◌≤◌, ◌<◌, ◌⊎◌, inl, inr, Bool, true, false, List, [], ◌∷◌, length, refl, sym, ap, ◌∙◌, arith}
+use Rattle.std.proofs.Common.{◌≡◌, ◌≢◌, ℕ, zero, suc, ◌+◌, ◌*◌, ◌-◌, ◌≤◌, ◌<◌, ◌⊎◌, inl, inr, Bool, true, false, List, [], ◌∷◌, length, refl, sym, ap, ◌∙◌, arith, mul-le-mul_right}
 use Rattle.std.specs.Prelude.{min, ◌==◌, ◌^◌, if◌then◌else◌}
 use Rattle.std.specs.List.{AllByRecursion as All}
 use Rattle.std.proofs.lemmas.Bool.{cases_Bool, cases_eq, false≢true, eqb-true, eq-eqb, ne_eqb, lt-ltb}
@@ -150,9 +150,7 @@ class_form spans n g h = go (min spans.gap spans.array) (spans.array - min spans
     go m d j e q = rw (e, q) (omega arith)
 
 pub times_left : (a b d : ℕ) → a ≤ b → a * d ≤ b * d
-times_left zero b d h = omega arith
-times_left (suc a) zero d h = absurd (omega arith)
-times_left (suc a) (suc b) d h = let e = times_left a b d (omega arith) in omega arith
+times_left a b d h = mul-le-mul_right d h
 
 class_step : (spans : Spans) (k n n' g g' : ℕ) → 1 ≤ k → n ≡ k + n' → g ≤ 1 + g' → g ≤ n → g' ≤ n' → class_waits spans n g ≤ waits_left spans k 0 + class_waits spans n' g'
 class_step spans zero n n' g g' h q a b c = absurd (omega arith)

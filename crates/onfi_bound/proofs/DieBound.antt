@@ -55,7 +55,7 @@ on_lun_other ms (w ∷ ws) lun h =
       | inr k ↦ elim (cases_Bool (is_member ms w)) [ inl n ↦ simp (k, n) r | inr n ↦ simp (k, n) r ]
     ]
 
-on_lun_own : (ms ws : List Want) (lun : ℕ) → on_lun lun (without ms ws) ≡ without ms (on_lun lun ws)
+pub on_lun_own : (ms ws : List Want) (lun : ℕ) → on_lun lun (without ms ws) ≡ without ms (on_lun lun ws)
 on_lun_own ms [] lun = refl
 on_lun_own ms (w ∷ ws) lun =
     let r = on_lun_own ms ws lun in

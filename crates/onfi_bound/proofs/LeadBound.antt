@@ -51,7 +51,7 @@ least_has (x ∷ xs) v h = let a = least_all (x ∷ xs) (least_with x (least xs)
 Starts : Problem → ℕ → Type 0
 Starts p e = (lun : ℕ) (x : LunState) (b : ℕ) → slice_get p.luns lun ≡ Some x → to_post p.timing (on_lun lun p.wants) x ≡ Some b → e ≤ may_go p lun + b
 
-starts_all : (p : Problem) (e first : ℕ) (luns : List LunState) → All (λ v. e ≤ v) (post_starts p first luns) → (lun : ℕ) (x : LunState) (b : ℕ) → slice_get luns lun ≡ Some x → to_post p.timing (on_lun (first + lun) p.wants) x ≡ Some b → e ≤ may_go p (first + lun) + b
+pub starts_all : (p : Problem) (e first : ℕ) (luns : List LunState) → All (λ v. e ≤ v) (post_starts p first luns) → (lun : ℕ) (x : LunState) (b : ℕ) → slice_get luns lun ≡ Some x → to_post p.timing (on_lun (first + lun) p.wants) x ≡ Some b → e ≤ may_go p (first + lun) + b
 starts_all p e first [] a lun x b h k = cc
 starts_all p e first (y ∷ luns) a zero x b h k =
     let z : first + 0 ≡ first = omega arith in

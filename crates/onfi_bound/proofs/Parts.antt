@@ -1,5 +1,5 @@
 -- What is read from the parts of a problem.
-use Rattle.std.proofs.Common.{◌≡◌, ℕ, zero, suc, ◌+◌, ◌*◌, ◌-◌, ◌^◌, ◌≤◌, ◌<◌, inl, inr, Bool, true, false, if◌then◌else◌, List, [], ◌∷◌, length, map, get_or, Some, refl, ◌∙◌, subst, arith}
+use Rattle.std.proofs.Common.{◌≡◌, ℕ, suc, ◌+◌, ◌*◌, ◌-◌, ◌^◌, ◌≤◌, ◌<◌, inl, inr, Bool, true, false, if◌then◌else◌, List, [], ◌∷◌, length, map, Some, refl, ◌∙◌, subst, arith}
 use Rattle.std.specs.Prelude.{slice_get, ◌==◌, nat_lt, max}
 use Rattle.std.specs.List.{AllByRecursion as All, list_any}
 use Rattle.std.proofs.lemmas.Bool.{cases_Bool, cases_lt, ne_eqb, lt-ltb, le-ltb}
@@ -20,16 +20,11 @@ use Rattle.onfi_bound.specs.declared.chain.Chain.{Chain}
 use Rattle.onfi_bound.specs.Bounds.{same_kind, commands_next, has_command}
 use Rattle.onfi_bound.specs.Parts.{chain_of, IsShort, is_kind}
 use Rattle.onfi_bound.proofs.Classes.{times_left}
-
--- a group with members stands in the table
-group_there : (groups : List (List Want)) (place : ℕ) → 1 ≤ length (get_or groups place []) → place < length groups
-group_there [] place h = absurd (omega arith)
-group_there (g ∷ groups) zero h = omega arith
-group_there (g ∷ groups) (suc place) h = let e = group_there groups place h in omega arith
+use Rattle.onfi_problem.proofs.After.{in_table}
 
 placed_from : (groups : List (List Want)) (luns : List Lun) → ((l : ℕ) (g : List Want) (n r : ℕ) → slice_get (map (state_of groups) luns) l ≡ Some (Running g n r) → 1 ≤ length g) → All (λ lun. 1 ≤ lun.next → lun.place < length groups) luns
 placed_from groups [] h = tt
-placed_from groups (x ∷ luns) h = (λ some. let e : (x.next == 0) ≡ false = ne_eqb x.next 0 (λ e. omega arith) in group_there groups x.place (h 0 _ x.next x.time (rw e refl)), placed_from groups luns (λ l. h (suc l)))
+placed_from groups (x ∷ luns) h = (λ some. let e : (x.next == 0) ≡ false = ne_eqb x.next 0 (λ e. omega arith) in in_table groups x.place (h 0 _ x.next x.time (rw e refl)), placed_from groups luns (λ l. h (suc l)))
 
 -- running LUNs name groups of the table
 pub placed : (p : Problem) (groups : List (List Want)) (luns : List Lun) → InLimits p → map (state_of groups) luns ≡ p.luns → All (λ lun. 1 ≤ lun.next → lun.place < length groups) luns

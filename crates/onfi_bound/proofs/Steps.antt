@@ -1,6 +1,6 @@
 -- One more element of the list that a loop goes over.
 use Rattle.std.proofs.Common.{◌≡◌, ℕ, zero, suc, ◌+◌, ◌<◌, Bool, true, false, if◌then◌else◌, List, [], ◌∷◌, ◌++◌, length, None, map, get_or, take, refl, sym, ap, ◌∙◌, add-one, arith}
-use Rattle.std.specs.List.{AllByRecursion as All, list_any}
+use Rattle.std.specs.List.{list_any}
 use Rattle.std.proofs.lemmas.List.{map-append, take_more}
 use Rattle.std.proofs.lemmas.List.Folds.{list_any_more}
 use Rattle.onfi_timing.specs.declared.kind.Kind.TheVariants.{Read, Program, Erase}
@@ -11,6 +11,7 @@ use Rattle.onfi_bound.specs.declared.chain.Chain.{Chain}
 use Rattle.onfi_problem.proofs.Sums.{total_more}
 use Rattle.onfi_timing.specs.declared.kind.Kind.{Kind}
 use Rattle.onfi_bound.specs.Bounds.{same_kind}
+pub use Rattle.onfi_problem.proofs.Lists.{all_at}
 
 -- what a list gives behind its end
 abbrev pub no_chain : Chain
@@ -35,12 +36,6 @@ tested p xs i d so_far next h a b = go so_far a b
 pub tested_too : {A : Type 0} (first : Bool) (p : A → Bool) (xs : List A) (i : ℕ) (d : A) (so_far next : Bool) → i < length xs → so_far ≡ (if first then true else list_any p (take i xs)) → next ≡ (if so_far then true else p (get_or xs i d)) → next ≡ (if first then true else list_any p (take (i + 1) xs))
 tested_too true p xs i d so_far next h a b = rw a at b
 tested_too false p xs i d so_far next h a b = tested p xs i d so_far next h a b
-
--- what holds of all holds of each
-pub all_at : {A : Type 0} (P : A → Type 0) (xs : List A) (i : ℕ) (d : A) → i < length xs → All P xs → P (get_or xs i d)
-all_at P [] i d h a = absurd (omega arith)
-all_at P (x ∷ xs) zero d h a = a.0
-all_at P (x ∷ xs) (suc i) d h a = all_at P xs i d (omega arith) a.1
 
 -- the waiting wants with one more
 yes_at : (marks : List Bool) (ws : List Want) (i : ℕ) (d : Want) → i < length ws → get_or marks i false ≡ true → waiting_of marks (take (suc i) ws) ≡ waiting_of marks (take i ws) ++ get_or ws i d ∷ []

@@ -1,9 +1,10 @@
 -- A walk over the LUNs that tallies what is left.
-use Rattle.std.proofs.Common.{◌≡◌, ℕ, zero, suc, ◌+◌, ◌^◌, ◌≤◌, ◌<◌, ◌⊎◌, inl, inr, Bool, true, false, if◌then◌else◌, List, [], ◌∷◌, length, map, drop, get_or, Option, Some, None, refl, sym, ap, ◌∙◌, subst, arith}
+use Rattle.std.proofs.Common.{◌≡◌, ℕ, ◌+◌, ◌^◌, ◌≤◌, ◌<◌, ◌⊎◌, inl, inr, Bool, true, false, if◌then◌else◌, List, [], ◌∷◌, length, map, drop, get_or, Option, Some, None, refl, sym, ap, ◌∙◌, subst, arith}
 use Rattle.std.specs.Prelude.{slice_get, max}
 use Rattle.std.specs.List.{list_any}
 use Rattle.std.proofs.lemmas.Bool.{cases_lt}
 use Rattle.std.proofs.lemmas.List.{drop_all}
+use Rattle.std.proofs.lemmas.Option.{slice_get-get_or}
 use Rattle.onfi_timing.specs.declared.kind.Kind.{Kind}
 use Rattle.onfi_timing.specs.declared.timing.Timing.{Timing}
 use Rattle.onfi_timing.specs.Kinds.{spans_of}
@@ -193,9 +194,4 @@ chain_here p groups lun state timing gs chain at t g is = (state_of groups state
 
 -- what the LUN of a place does
 pub state_at : (groups : List (List Want)) (luns : List Lun) (states : List LunState) (i : ℕ) (d : Lun) → map (state_of groups) luns ≡ states → i < length luns → slice_get states i ≡ Some (state_of groups (get_or luns i d))
-state_at groups luns states i d e h = subst (λ xs. slice_get xs i ≡ Some (state_of groups (get_or luns i d))) e (map_get (state_of groups) luns i (get_or luns i d) (read luns i h))
-  where
-    read : (xs : List Lun) (j : ℕ) → j < length xs → slice_get xs j ≡ Some (get_or xs j d)
-    read [] j k = absurd (omega arith)
-    read (x ∷ xs) zero k = refl
-    read (x ∷ xs) (suc j) k = read xs j (omega arith)
+state_at groups luns states i d e h = subst (λ xs. slice_get xs i ≡ Some (state_of groups (get_or luns i d))) e (map_get (state_of groups) luns i (get_or luns i d) (slice_get-get_or luns i d h))

@@ -3,7 +3,10 @@ use Rattle.std.proofs.Common.{◌≡◌, ℕ, zero, suc, ◌+◌, ◌<◌, List,
 use Rattle.std.proofs.Math.ListN.{set}
 use Rattle.std.specs.Prelude.{map, slice_get}
 use Rattle.std.specs.List.{AllByRecursion as Each}
-use Rattle.std.proofs.lemmas.List.{length-map}
+use Rattle.std.proofs.lemmas.List.{length-map, map-set}
+use Rattle.std.proofs.lemmas.Option.{slice_get_within, slice_get-map, slice_get_read}
+use Rattle.std.proofs.Math.Seq.{map-set_same}
+use Rattle.std.specs.Option.{option_map}
 use Rattle.onfi_addr.specs.declared.geometry.Geometry.{Geometry}
 use Rattle.onfi_addr.specs.declared.place.Place.{Place}
 use Rattle.onfi_addr.specs.Rows.{page_bytes_of}
@@ -35,29 +38,9 @@ use Rattle.onfi_chip.specs.Hold.{hold}
 use Rattle.onfi_chip.specs.Sim.{Sim, IsSim, IsLane, IsPost, IsOpenAt, lun_of, chip_of, added}
 use Rattle.onfi_chip.proofs.GroupRun.{all_ready}
 
-get_map : {A B : Type 0} (f : A → B) (xs : List A) (i : ℕ) (x : A) → i < length xs → x ≡ get_or xs i x → slice_get (map f xs) i ≡ Some (f x)
-get_map f [] i x l e = absurd (omega arith)
-get_map f (y ∷ ys) zero x l e = ap (λ z. Some (f z)) (sym e)
-get_map f (y ∷ ys) (suc i) x l e = get_map f ys i x (omega arith) e
-
-set_map : {A B : Type 0} (f : A → B) (xs : List A) (i : ℕ) (x : A) → map f (set xs i x) ≡ set (map f xs) i (f x)
-set_map f [] i x = refl
-set_map f (y ∷ ys) zero x = refl
-set_map f (y ∷ ys) (suc i) x = ap (λ zs. f y ∷ zs) (set_map f ys i x)
-
-set_same : {A B : Type 0} (f : A → B) (xs : List A) (i : ℕ) (x z : A) → x ≡ get_or xs i x → f z ≡ f x → map f (set xs i z) ≡ map f xs
-set_same f [] i x z e h = refl
-set_same f (y ∷ ys) zero x z e h = ap (λ w. w ∷ map f ys) (h ∙ ap f e)
-set_same f (y ∷ ys) (suc i) x z e h = ap (λ zs. f y ∷ zs) (set_same f ys i x z e h)
-
 map_replicate : (n : ℕ) → map lun_of (replicate n lane.Idle) ≡ replicate n Idle
 map_replicate zero = refl
 map_replicate (suc n) = ap (λ ls. Idle ∷ ls) (map_replicate n)
-
-get_below : {A : Type 0} (xs : List A) (i : ℕ) (x : A) → slice_get xs i ≡ Some x → i < length xs
-get_below [] i x h = cc
-get_below (y ∷ ys) zero x h = omega arith
-get_below (y ∷ ys) (suc i) x h = let l = get_below ys i x h in omega arith
 
 open_below : (luns : List Lun) (i : ℕ) → IsOpenAt (slice_get luns i) → i < length luns
 open_below [] i h = absurd h
@@ -74,7 +57,7 @@ lane_open lanes luns i j e k h =
 -- so is one that has posts left
 pub lane_posts : (lanes : List Lane) (luns : List Lun) (i j : ℕ) (lun : Lun) → map lun_of lanes ≡ luns → i ≡ j → slice_get luns j ≡ Some lun → i < length lanes
 lane_posts lanes luns i j lun e k h =
-    let l = get_below luns j lun h in
+    let l = slice_get_within luns j lun h in
     let n : length luns ≡ length lanes = ap length (sym e) ∙ length-map lanes lun_of in
     omega (arith, l, n, k)
 
@@ -131,14 +114,14 @@ chip_same g t s u lanes now v d b =
 
 pub chip_back : (g : Geometry) (t : Timing) (s u : Stored) (lanes : List Lane) (i : ℕ) (x z : Lane) (now : Sim) → view g t s lanes ≡ now → x ≡ get_or lanes i x → lun_of z ≡ lun_of x → u ≡ s → chip_of (view g t u (set lanes i z)) ≡ chip_of now
 chip_back g t s u lanes i x z now v e h q =
-    same_parts g t u.device.faults s.device.faults (blocks_of u) (blocks_of s) (map lun_of (set lanes i z)) (map lun_of lanes) (ap (λ (y : Stored). y.device.faults) q) (ap blocks_of q) (set_same lun_of lanes i x z e h) ∙ ap chip_of v
+    same_parts g t u.device.faults s.device.faults (blocks_of u) (blocks_of s) (map lun_of (set lanes i z)) (map lun_of lanes) (ap (λ (y : Stored). y.device.faults) q) (ap blocks_of q) (map-set_same lun_of lanes i z x (h ∙ ap lun_of e)) ∙ ap chip_of v
 
 -- one LUN has changed
 lun_set : (lanes : List Lane) (i j : ℕ) (z : Lane) (to : Lun) → i ≡ j → lun_of z ≡ to → map lun_of (set lanes i z) ≡ set (map lun_of lanes) j to
-lun_set lanes i j z to k h = set_map lun_of lanes i z ∙ ap (λ w. set (map lun_of lanes) i w) h ∙ ap (λ m. set (map lun_of lanes) m to) k
+lun_set lanes i j z to k h = map-set lun_of lanes i z ∙ ap (λ w. set (map lun_of lanes) i w) h ∙ ap (λ m. set (map lun_of lanes) m to) k
 
 lun_at : (lanes : List Lane) (i j : ℕ) (x : Lane) → i < length lanes → x ≡ get_or lanes i x → i ≡ j → slice_get (map lun_of lanes) j ≡ Some (lun_of x)
-lun_at lanes i j x l e k = subst (λ m. slice_get (map lun_of lanes) m ≡ Some (lun_of x)) k (get_map lun_of lanes i x l e)
+lun_at lanes i j x l e k = subst (λ m. slice_get (map lun_of lanes) m ≡ Some (lun_of x)) k (slice_get-map lun_of lanes i ∙ ap (option_map lun_of) (slice_get_read lanes (length lanes) i x refl l e))
 
 pub more_added :
     (g : Geometry) (t : Timing) (s : Stored) (lanes : List Lane) (now : Sim) (i : ℕ) (x z : Lane) (r : Request) (ready : ℕ) (closer : Closer) →

@@ -11,7 +11,7 @@ use Rattle.onfi_die.specs.Shapes.{Device}
 use Rattle.onfi_die.specs.Blocks.{Blocks, is_on, block_of, changed, happen, answers}
 use Rattle.onfi_die.specs.Apart.{OnOthers, AreApart, answer_now}
 
-is_on_true : (lun block : ℕ) (r : Request) → is_on lun block r ≡ true → (r.place.lun ≡ lun) × (r.place.block ≡ block)
+pub is_on_true : (lun block : ℕ) (r : Request) → is_on lun block r ≡ true → (r.place.lun ≡ lun) × (r.place.block ≡ block)
 is_on_true lun block r h = grind (arith, nat_tests)
 
 is_on_false : (lun block : ℕ) (r : Request) → (r.place.lun ≢ lun) ⊎ (r.place.block ≢ block) → is_on lun block r ≡ false

@@ -22,9 +22,7 @@ use Rattle.onfi_die.specs.Contents.{Contents, fresh, contents_after, answer_of}
 use Rattle.onfi_die.specs.Blocks.{Blocks, is_on, block_of, changed}
 use Rattle.onfi_die.specs.Prepared.{kind_of}
 use Rattle.onfi_die.specs.Store.{Stored, Named, contents_of, is_same, kept_of, blocks_of, IsKept, HaveShape}
-
-on_true : (lun block : ℕ) (r : Request) → is_on lun block r ≡ true → (r.place.lun ≡ lun) × (r.place.block ≡ block)
-on_true lun block r h = grind (arith, nat_tests)
+use Rattle.onfi_die.proofs.Apart.{is_on_true}
 
 -- the map has the block's name as its key
 same_on : (lun block : ℕ) (r : Request) → is_same (r.place.lun, r.place.block) (lun, block) ≡ is_on lun block r
@@ -52,7 +50,7 @@ put_changed device r old new c n e =
     fun_ext (λ lun. fun_ext (λ block.
     elim (cases_Bool (is_on lun block r)) [
       | inl t ↦
-          let v = on_true lun block r t in
+          let v = is_on_true lun block r t in
           let here : unwrap_or (kept_of new lun block) (fresh device) ≡ c = ap (λ o. unwrap_or o (fresh device)) (n lun block) ∙ ap (λ (b : Bool). unwrap_or (if b then Some c else kept_of old lun block) (fresh device)) (same_on lun block r ∙ t) in
           let there : c ≡ contents_after device r (unwrap_or (kept_of old lun block) (fresh device)) =
           e ∙ ap (λ l. contents_after device r (unwrap_or (kept_of old l r.place.block) (fresh device))) v.0 ∙ ap (λ b. contents_after device r (unwrap_or (kept_of old lun b) (fresh device))) v.1 in

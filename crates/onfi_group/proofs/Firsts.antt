@@ -16,7 +16,7 @@ use Rattle.onfi_group.proofs.Counting.{IsCounted, counted_grown, counted_more, c
 use Rattle.onfi_group.proofs.Masks.{power, mask_none}
 use Rattle.onfi_group.proofs.Rising.{PlanesRise}
 
-on_own_block : (w : Want) → on_block w w ≡ true
+pub on_own_block : (w : Want) → on_block w w ≡ true
 on_own_block w = rw (eq-eqb w.lun w.lun refl, eq-eqb w.block w.block refl) refl
 
 -- the first want on its block, and its place

@@ -4,4 +4,4 @@ pub mod Placing
 mod Growing
 pub mod Counting
 mod Masks
-mod Firsts
+pub mod Firsts

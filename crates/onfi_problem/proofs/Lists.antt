@@ -1,13 +1,9 @@
 -- Lists and their maps.
-use Rattle.std.proofs.Common.{◌≡◌, ℕ, zero, suc, List, [], ◌∷◌, length, get_or, map, Some, refl, ap, length-set, drop}
+use Rattle.std.proofs.Common.{◌≡◌, ℕ, zero, suc, ◌<◌, arith, List, [], ◌∷◌, length, get_or, map, Some, refl, ap, length-set, drop}
 use Rattle.std.specs.Prelude.{slice_get, slice_set, IfSome}
 use Rattle.std.specs.List.{refill, AllByRecursion as All}
 use Rattle.std.proofs.lemmas.List.{take_at}
-
-pub map_set : {A B : Type 0} (f : A → B) (xs : List A) (i : ℕ) (v : A) → map f (slice_set xs i v) ≡ slice_set (map f xs) i (f v)
-map_set f [] i v = refl
-map_set f (x ∷ xs) zero v = refl
-map_set f (x ∷ xs) (suc i) v = ap (λ z. f x ∷ z) (map_set f xs i v)
+pub use Rattle.std.proofs.lemmas.List.{map-set as map_set}
 
 pub map_get : {A B : Type 0} (f : A → B) (xs : List A) (i : ℕ) (x : A) → slice_get xs i ≡ Some x → slice_get (map f xs) i ≡ Some (f x)
 map_get f [] i x h = cc
@@ -34,3 +30,8 @@ some_of_all P (x ∷ xs) (suc i) h = some_of_all P xs i h.1
 pub All-map : {A B : Type 0} (f : A → B) (P : B → Type 0) (xs : List A) → All P (map f xs) → All (λ x. P (f x)) xs
 All-map f P [] h = tt
 All-map f P (x ∷ xs) h = (h.0, All-map f P xs h.1)
+
+pub all_at : {A : Type 0} (P : A → Type 0) (xs : List A) (i : ℕ) (d : A) → i < length xs → All P xs → P (get_or xs i d)
+all_at P [] i d h a = absurd (omega arith)
+all_at P (x ∷ xs) zero d h a = a.0
+all_at P (x ∷ xs) (suc i) d h a = all_at P xs i d (omega arith) a.1

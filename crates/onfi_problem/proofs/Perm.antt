@@ -1,6 +1,7 @@
 -- Lists in another order, by cases.
 use Rattle.std.proofs.Common.{◌≡◌, ℕ, ◌+◌, inl, inr, List, [], ◌∷◌, ◌++◌, refl, sym, ap, ◌∙◌, subst, arith, append_assoc, length, map, suc}
 use Rattle.std.specs.List.{AllByRecursion as All, flat_map}
+pub use Rattle.std.proofs.Common.{append-nil as append_nil}
 use Rattle.onfi_group.specs.Words.{Has, Pairs, total}
 pub use Rattle.onfi_group.proofs.Lists.{All-append, All-weaker, All-has, All-each, Has-append_left, Has-append_right, Has-append_cases, All-both}
 
@@ -33,10 +34,6 @@ on_left zs (trans p q) = trans (on_left zs p) (on_left zs q)
 pub on_right : {A : Type 0} (zs : List A) {xs ys : List A} → Perm xs ys → Perm (zs ++ xs) (zs ++ ys)
 on_right [] p = p
 on_right (z ∷ zs) p = skip z (on_right zs p)
-
-pub append_nil : {A : Type 0} (xs : List A) → xs ++ [] ≡ xs
-append_nil [] = refl
-append_nil (x ∷ xs) = ap (λ ys. x ∷ ys) (append_nil xs)
 
 pub turned : {A : Type 0} (xs ys : List A) → Perm (xs ++ ys) (ys ++ xs)
 turned [] ys = rw (append_nil ys) (same ys)

@@ -12,6 +12,7 @@ use Rattle.onfi_problem.specs.Moves.{Start}
 use Rattle.onfi_problem.specs.Position.{move_of, moves_of}
 use Rattle.onfi_problem.specs.Starts.{can_start, starts, IsNamed}
 use Rattle.onfi_problem.proofs.Perm.{All-append}
+use Rattle.onfi_problem.proofs.Lists.{all_at}
 
 range_more : {A : Type 0} (xs : List A) (from place : ℕ) (d : A) → from ≤ place → place < length xs → slice_range xs from (place + 1) ≡ slice_range xs from place ++ get_or xs place d ∷ []
 range_more xs from place d h k =
@@ -36,11 +37,6 @@ filter_part test [] (suc a) zero h = omega arith
 filter_part test [] (suc a) (suc b) h = omega arith
 filter_part test (x ∷ xs) (suc a) zero h = absurd (omega arith)
 filter_part test (x ∷ xs) (suc a) (suc b) h = let e = filter_part test xs a b (omega arith) in elim (cases_Bool (test x)) [ inl k ↦ rw k (omega arith) | inr k ↦ rw k (omega arith) ]
-
-All_get : {A : Type 0} (P : A → Type 0) (xs : List A) (i : ℕ) (d : A) → All P xs → i < length xs → P (get_or xs i d)
-All_get P [] i d a h = absurd (omega arith)
-All_get P (x ∷ xs) zero d a h = a.0
-All_get P (x ∷ xs) (suc i) d a h = All_get P xs i d a.1 (omega arith)
 
 module _ (wants : List Want) (groups : List (List Want)) (from : ℕ) where
   pub starts_yes : (place : ℕ) → from ≤ place → place < length groups → can_start wants (slice_index_or groups place []) ≡ true → starts wants groups from (place + 1) ≡ starts wants groups from place ++ Start (slice_index_or groups place []) ∷ []
@@ -70,7 +66,7 @@ module _ (wants : List Want) (groups : List (List Want)) (from : ℕ) where
       let n : i < to - from = omega arith in
       let d = length-drop from groups in
       let t = length-take (to - from) (drop from groups) in
-      let p = All_get (λ (g : List Want). lun_of g ≡ lun) (slice_range groups from to) i [] a (omega arith) in
+      let p = all_at (λ (g : List Want). lun_of g ≡ lun) (slice_range groups from to) i [] (omega arith) a in
       let e : from + i ≡ place = omega arith in
       let q : get_or (slice_range groups from to) i [] ≡ get_or groups place [] = get_or-take (to - from) (drop from groups) i [] n ∙ (get_or-drop from groups i [] ∙ ap (λ z. get_or groups z []) e) in
       subst (λ (g : List Want). lun_of g ≡ lun) q p

@@ -16,18 +16,7 @@ use Rattle.onfi_problem.proofs.Perm.{All-weaker}
 use Rattle.onfi_schedule.specs.Schedule.{Placed, Schedule, Phase, rest_phases, group_phases, phases_left, phases, latest, finish, rest_of, Apart, Before, StartsFrom, Legal}
 use Rattle.onfi_schedule.specs.Laws.{EarlierLaw}
 use Rattle.onfi_schedule.proofs.Chains.{lower_floor}
-use Rattle.onfi_schedule.proofs.Sooner.{SoonerState, SoonerLuns, luns_self, set_sooner, after_sooner, at_times}
-
-state_below : (xs ys : List LunState) (l : ℕ) (x : LunState) → SoonerLuns xs ys → slice_get xs l ≡ Some x → (y : LunState) × (slice_get ys l ≡ Some y) × SoonerState x y
-state_below [] [] l x h k = cc
-state_below [] (y ∷ ys) l x h k = absurd h
-state_below (z ∷ xs) [] l x h k = absurd h
-state_below (z ∷ xs) (y ∷ ys) zero x h k = let e : z ≡ x = cc in (y, refl, subst (λ (w : LunState). SoonerState w y) e h.0)
-state_below (z ∷ xs) (y ∷ ys) (suc l) x h k = state_below xs ys l x h.1 k
-
-as_running : (g : List Want) (n r : ℕ) (y : LunState) → SoonerState (Running g n r) y → (r' : ℕ) × (y ≡ Running g n r') × (r ≤ r')
-as_running g n r (Free b) h = absurd h
-as_running g n r (Running g' n' r') h = let eg = h.0 in let en = h.1 in (r', cc, h.2)
+use Rattle.onfi_schedule.proofs.Sooner.{SoonerState, SoonerLuns, luns_self, set_sooner, after_sooner, at_times, state_below, as_running}
 
 as_free : (a : ℕ) (y : LunState) → SoonerState (Free a) y → (b : ℕ) × (y ≡ Free b) × (a ≤ b)
 as_free a (Free b) h = (b, refl, h)

@@ -2,6 +2,7 @@
 use Rattle.std.proofs.Common.{◌≡◌, ◌≢◌, ℕ, suc, ◌+◌, ◌*◌, ◌≤◌, inl, inr, ⊎_elim, List, [], ◌∷◌, length, Some, refl, sym, ◌∙◌, subst, arith}
 use Rattle.std.specs.Prelude.{slice_get, slice_set}
 use Rattle.std.specs.List.{AllByRecursion as All, flat_map}
+use Rattle.std.proofs.lemmas.List.{nil_from_length}
 use Rattle.onfi_timing.specs.declared.timing.Timing.{Timing}
 use Rattle.onfi_timing.specs.declared.spans.Spans.{Spans}
 use Rattle.onfi_request.specs.declared.want.Want.{Want}
@@ -61,13 +62,9 @@ module _ (p : Problem) (s : Schedule) (lg : Legal p s) (l : ℕ) (g : List Want)
   pub new_no_rest : (j since : ℕ) (vs : List ℕ) → slice_get (slice_set p.luns l (lun_after p.timing g n ended)) j ≡ Some (Free since) → slice_get (slice_set s.rest l ts) j ≡ Some vs → vs ≡ []
   new_no_rest j since vs h k =
       elim (same_place l j) [
-        | inl e ↦ (let q = free_is p.timing g n ended since (state_same j _ e h) in let w = starts_same j vs e k in sym w ∙ no_more ts (omega (arith, q.1)))
+        | inl e ↦ (let q = free_is p.timing g n ended since (state_same j _ e h) in let w = starts_same j vs e k in sym w ∙ nil_from_length ts (omega (arith, q.1)))
         | inr d ↦ lg.shape.no_rest j since vs (state_other j _ d h) (starts_other j vs d k)
       ]
-    where
-      no_more : (xs : List ℕ) → length xs ≡ 0 → xs ≡ []
-      no_more [] e = refl
-      no_more (x ∷ xs) e = absurd (omega arith)
 
   pub new_rest_waits : InOrder (group_spans p.timing g) (length g) (n + 1) (ended + wait_before (group_spans p.timing g) (length g) (n + 1)) ts → (j : ℕ) (g' : List Want) (n' r' : ℕ) (vs : List ℕ) → slice_get (slice_set p.luns l (lun_after p.timing g n ended)) j ≡ Some (Running g' n' r') → slice_get (slice_set s.rest l ts) j ≡ Some vs → InOrder (group_spans p.timing g') (length g') n' r' vs
   new_rest_waits order j g' n' r' vs h k =

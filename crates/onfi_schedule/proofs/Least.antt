@@ -3,6 +3,7 @@ use Rattle.std.proofs.Common.{◌≡◌, ℕ, zero, suc, ◌+◌, ◌≤◌, ◌
 use Rattle.std.specs.Prelude.{slice_get, slice_set, true, max, ◌==◌}
 use Rattle.std.specs.List.{AllByRecursion as All}
 use Rattle.std.proofs.lemmas.Bool.{cases_lt, cases_Bool, eqb-true, eq-eqb, false≢true}
+use Rattle.std.proofs.lemmas.List.{nil_from_length}
 use Rattle.onfi_timing.specs.declared.spans.Spans.{Spans}
 use Rattle.onfi_request.specs.declared.want.Want.{Want}
 use Rattle.onfi_problem.specs.declared.lun_state.LunState.{LunState}
@@ -22,6 +23,7 @@ use Rattle.onfi_schedule.proofs.First.{phases_long, next_schedule, next_phase, n
 use Rattle.onfi_schedule.proofs.Begin.{begun_schedule, begun_phase, begun_phases, begun_legal, not_before, phases_number}
 use Rattle.onfi_problem.proofs.Kept.{kept}
 use Rattle.onfi_problem.proofs.Wants.{number_has, some_with_id, same_by_id}
+use Rattle.onfi_group.proofs.Firsts.{on_own_block}
 
 pub least_phase : (ps : List Phase) → 1 ≤ length ps → (x : Phase) × Has ps x × All (λ y. x.start ≤ y.start) ps
 least_phase [] h = absurd (omega arith)
@@ -39,16 +41,13 @@ on_block_is m w h = elim (cases_Bool (w.lun == m.lun)) [
   | inr k ↦ absurd (false≢true (rw k at h))
 ]
 
-on_block_self : (m : Want) → on_block m m ≡ true
-on_block_self m = rw (eq-eqb m.lun m.lun refl) (eq-eqb m.block m.block refl)
-
 -- of the wants of a block, this one is the first, or one before it is so related to it
 first_or_earlier : (R : Want → Want → Type 0) (ws : List Want) (m : Want) → Pairs R ws → Has ws m → IsFirst ws m ⊎ ((w : Want) × Has ws w × (w.lun ≡ m.lun) × (w.block ≡ m.block) × R w m)
 first_or_earlier R [] m r h = absurd h
 first_or_earlier R (v ∷ ws) m r h =
     elim (cases_Bool (on_block m v)) [
       | inl k ↦ (let b = on_block_is m v k in ⊎_elim (λ e. inl (rw k (ap Some e))) (λ i. inr (v, inl refl, b.0, b.1, All-has (R v) ws m r.0 i)) h)
-      | inr k ↦ ⊎_elim (λ e. absurd (false≢true (sym k ∙ (ap (on_block m) e ∙ on_block_self m)))) (λ i. ⊎_elim (λ q. inl (rw k q)) (λ (w, a, b, c, d). inr (w, inr a, b, c, d)) (first_or_earlier R ws m r.1 i)) h
+      | inr k ↦ ⊎_elim (λ e. absurd (false≢true (sym k ∙ (ap (on_block m) e ∙ on_own_block m)))) (λ i. ⊎_elim (λ q. inl (rw k q)) (λ (w, a, b, c, d). inr (w, inr a, b, c, d)) (first_or_earlier R ws m r.1 i)) h
     ]
 
 -- what a first move is
@@ -253,13 +252,9 @@ module _ (p : Problem) (s : Schedule) (ip : IsProblem p) (lg : Legal p s) where
         | inr h ↦ (let a = Has-flat_map (group_phases p.timing) s.groups y.0 h in in_group a.0 a.0.starts y.0 refl a.1 a.2 y.2)
       ]
 
-no_element : {A : Type 0} (xs : List A) → length xs ≡ 0 → xs ≡ []
-no_element [] e = refl
-no_element (x ∷ xs) e = absurd (omega arith)
-
 run_of : (n : ℕ) (p : Problem) (s : Schedule) → IsProblem p → Legal p s → length (phases p s) ≡ n → (steps : List Step) × Run p steps (finish p s)
 run_of zero p s ip lg e =
-    let none = no_element (phases p s) e in
+    let none = nil_from_length (phases p s) e in
     ([], (none_left p s ip lg (rw none tt), rw none refl))
 run_of (suc n) p s ip lg e =
     let f = first_move p s ip lg (omega arith) in

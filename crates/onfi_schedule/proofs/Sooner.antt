@@ -1,5 +1,5 @@
 -- What may go on sooner ends no later.
-use Rattle.std.proofs.Common.{◌≡◌, ℕ, zero, suc, ◌+◌, ◌*◌, ◌≤◌, inl, inr, List, [], ◌∷◌, length, Some, refl, sym, subst, arith}
+use Rattle.std.proofs.Common.{◌≡◌, ℕ, zero, suc, ◌+◌, ◌*◌, ◌≤◌, inl, inr, List, [], ◌∷◌, length, Some, refl, sym, ap, ◌∙◌, subst, arith}
 use Rattle.std.specs.Prelude.{slice_get, slice_set}
 use Rattle.std.proofs.lemmas.Bool.{cases_lt}
 use Rattle.onfi_timing.specs.declared.timing.Timing.{Timing}
@@ -48,38 +48,38 @@ after_sooner timing g n a b h =
       | inr k ↦ rw (lun_after_free timing g n a k, lun_after_free timing g n b k) h
     ]
 
+state_above : (xs ys : List LunState) (l : ℕ) (y : LunState) → SoonerLuns xs ys → slice_get ys l ≡ Some y → (x : LunState) × (slice_get xs l ≡ Some x) × SoonerState x y
+state_above [] [] l y h k = cc
+state_above [] (z ∷ ys) l y h k = absurd h
+state_above (x ∷ xs) [] l y h k = absurd h
+state_above (x ∷ xs) (z ∷ ys) zero y h k = let e : z ≡ y = cc in (x, refl, subst (λ (w : LunState). SoonerState x w) e h.0)
+state_above (x ∷ xs) (z ∷ ys) (suc l) y h k = state_above xs ys l y h.1 k
+
 running_at : (xs ys : List LunState) (l : ℕ) (g : List Want) (n r : ℕ) → SoonerLuns xs ys → slice_get ys l ≡ Some (Running g n r) → (r' : ℕ) × (slice_get xs l ≡ Some (Running g n r')) × (r' ≤ r)
-running_at [] [] l g n r h k = cc
-running_at [] (y ∷ ys) l g n r h k = absurd h
-running_at (x ∷ xs) [] l g n r h k = absurd h
-running_at (Free a ∷ xs) (Free b ∷ ys) zero g n r h k = cc
-running_at (Free a ∷ xs) (Running g' n' r' ∷ ys) zero g n r h k = absurd h.0
-running_at (Running g' n' r' ∷ xs) (Free b ∷ ys) zero g n r h k = absurd h.0
-running_at (Running g' n' r' ∷ xs) (Running g'' n'' r'' ∷ ys) zero g n r h k =
-    let hg = h.0.0 in let hn = h.0.1 in let hr = h.0.2 in let e : r'' ≡ r = cc in (r', cc, omega arith)
-running_at (x ∷ xs) (y ∷ ys) (suc l) g n r h k = running_at xs ys l g n r h.1 k
+running_at xs ys l g n r h k = let x = state_above xs ys l (Running g n r) h k in go x.0 x.1 x.2
+  where
+    go : (x : LunState) → slice_get xs l ≡ Some x → SoonerState x (Running g n r) → (r' : ℕ) × (slice_get xs l ≡ Some (Running g n r')) × (r' ≤ r)
+    go (Free a) at s = absurd s
+    go (Running g' n' r') at s = let eg = s.0 in let en = s.1 in (r', cc, s.2)
 
 free_at : (xs ys : List LunState) (l : ℕ) (b : ℕ) → SoonerLuns xs ys → slice_get ys l ≡ Some (Free b) → (a : ℕ) × (slice_get xs l ≡ Some (Free a)) × (a ≤ b)
-free_at [] [] l b h k = cc
-free_at [] (y ∷ ys) l b h k = absurd h
-free_at (x ∷ xs) [] l b h k = absurd h
-free_at (Free a ∷ xs) (Free c ∷ ys) zero b h k = let e : c ≡ b = cc in (a, refl, omega (arith, h.0))
-free_at (Free a ∷ xs) (Running g' n' r' ∷ ys) zero b h k = absurd h.0
-free_at (Running g' n' r' ∷ xs) (Free c ∷ ys) zero b h k = absurd h.0
-free_at (Running g' n' r' ∷ xs) (Running g'' n'' r'' ∷ ys) zero b h k = cc
-free_at (x ∷ xs) (y ∷ ys) (suc l) b h k = free_at xs ys l b h.1 k
+free_at xs ys l b h k = let x = state_above xs ys l (Free b) h k in go x.0 x.1 x.2
+  where
+    go : (x : LunState) → slice_get xs l ≡ Some x → SoonerState x (Free b) → (a : ℕ) × (slice_get xs l ≡ Some (Free a)) × (a ≤ b)
+    go (Free a) at s = (a, at, s)
+    go (Running g n r) at s = absurd s
 
 -- and the other way
-running_below : (xs ys : List LunState) (l : ℕ) (g : List Want) (n r : ℕ) → SoonerLuns xs ys → slice_get xs l ≡ Some (Running g n r) → (r' : ℕ) × (slice_get ys l ≡ Some (Running g n r'))
-running_below [] [] l g n r h k = cc
-running_below [] (y ∷ ys) l g n r h k = absurd h
-running_below (x ∷ xs) [] l g n r h k = absurd h
-running_below (Free a ∷ xs) (Free b ∷ ys) zero g n r h k = cc
-running_below (Free a ∷ xs) (Running g' n' r' ∷ ys) zero g n r h k = absurd h.0
-running_below (Running g' n' r' ∷ xs) (Free b ∷ ys) zero g n r h k = absurd h.0
-running_below (Running g' n' r' ∷ xs) (Running g'' n'' r'' ∷ ys) zero g n r h k =
-    let hg = h.0.0 in let hn = h.0.1 in (r'', cc)
-running_below (x ∷ xs) (y ∷ ys) (suc l) g n r h k = running_below xs ys l g n r h.1 k
+pub state_below : (xs ys : List LunState) (l : ℕ) (x : LunState) → SoonerLuns xs ys → slice_get xs l ≡ Some x → (y : LunState) × (slice_get ys l ≡ Some y) × SoonerState x y
+state_below [] [] l x h k = cc
+state_below [] (y ∷ ys) l x h k = absurd h
+state_below (z ∷ xs) [] l x h k = absurd h
+state_below (z ∷ xs) (y ∷ ys) zero x h k = let e : z ≡ x = cc in (y, refl, subst (λ (w : LunState). SoonerState w y) e h.0)
+state_below (z ∷ xs) (y ∷ ys) (suc l) x h k = state_below xs ys l x h.1 k
+
+pub as_running : (g : List Want) (n r : ℕ) (y : LunState) → SoonerState (Running g n r) y → (r' : ℕ) × (y ≡ Running g n r') × (r ≤ r')
+as_running g n r (Free b) h = absurd h
+as_running g n r (Running g' n' r') h = let eg = h.0 in let en = h.1 in (r', cc, h.2)
 
 module _ (timing : Timing) (rules : Rules) where
   abbrev pub at_times : List Want → ℕ → List LunState → Problem
@@ -131,7 +131,7 @@ module _ (timing : Timing) (rules : Rules) where
 
   pub sooner_run : (steps : List Step) (wants : List Want) (b b' : ℕ) (luns luns' : List LunState) (f : ℕ) → b ≤ b' → SoonerLuns luns luns' → Run (at_times wants b' luns') steps f → (f' : ℕ) × (f' ≤ f) × Run (at_times wants b luns) steps f'
   sooner_run [] wants b b' luns luns' f le h (done, e) =
-      (b, omega arith, (record { wants = done.wants; free = λ l g n r at. let q = running_below luns luns' l g n r h at in done.free l g n q.0 q.1 }, refl))
+      (b, omega arith, (record { wants = done.wants; free = λ l g n r at. let y = state_below luns luns' l (Running g n r) h at in let z = as_running g n r y.0 y.2 in done.free l g n z.0 (y.1 ∙ ap (λ (w : LunState). Some w) z.1) }, refl))
   sooner_run (s ∷ steps) wants b b' luns luns' f le h (mv, on_time, run) =
       let m = both_move s.move s.start wants b b' luns luns' le h mv in
       let r = sooner_run steps m.wants m.bus_free m.bus_free m.luns m.luns' f (omega arith) m.kept (subst (λ q. Run q steps f) m.there run) in
