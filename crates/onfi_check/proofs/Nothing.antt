@@ -1,10 +1,9 @@
 -- A problem has no move exactly where nothing is left.
-use Rattle.std.proofs.Common.{◌≡◌, ℕ, ◌≤◌, ◌<◌, ◌↔◌, Bool, true, IsTrue, List, [], ◌∷◌, length, Some, refl, sym, ◌∙◌, subst, arith}
+use Rattle.std.proofs.Common.{◌≡◌, ℕ, ◌≤◌, ◌<◌, ◌↔◌, Bool, IsTrue, List, [], ◌∷◌, length, Some, refl, sym, ◌∙◌, subst, arith}
 use Rattle.std.specs.Prelude.{slice_get, ◌==◌}
 use Rattle.std.specs.List.{AllByRecursion as All}
-use Rattle.std.proofs.lemmas.Bool.{eq-eqb, eqb-true}
+use Rattle.std.proofs.lemmas.Bool.{eqb-true}
 use Rattle.onfi_request.specs.declared.want.Want.{Want}
-use Rattle.onfi_group.specs.Group.{on_block}
 use Rattle.onfi_problem.specs.Moves.{Next as NextPhase, Start as StartGroup, IsDone, AreMoves}
 use Rattle.onfi_problem.specs.declared.lun_state.LunState.{LunState}
 use Rattle.onfi_problem.specs.declared.lun_state.LunState.TheVariants.{Free, Running}
@@ -13,9 +12,7 @@ use Rattle.onfi_problem.specs.declared.moves.Move.{Move as KeptMove}
 use Rattle.onfi_problem.specs.Position.{Position, moves_of}
 use Rattle.onfi_problem.proofs.Places.{get_within}
 use Rattle.onfi_schedule.proofs.Exchange.{not_done}
-
-on_own_block : (w : Want) → on_block w w ≡ true
-on_own_block w = rw (eq-eqb w.lun w.lun refl) (eq-eqb w.block w.block refl)
+use Rattle.onfi_group.proofs.Firsts.{on_own_block}
 
 -- where there is no move nothing is left
 pub no_moves : (p : Problem) → IsProblem p → AreMoves p [] → IsDone p

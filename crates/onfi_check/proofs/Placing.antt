@@ -13,15 +13,15 @@ use Rattle.onfi_check.proofs.OneList.{nothing_begins}
 use Rattle.onfi_check.specs.Faults.{FaultFits, IsAt, IsBound, IsTokenFault, IsToYield, IsTrailing, IsYieldFault, NoTree}
 
 -- no token was read
-pub read_none : (first : ℕ) (tokens : List Token) → ReadOn first first tokens tokens
+pub read_none : {T : Type 0} (first : ℕ) (tokens : List T) → ReadOn first first tokens tokens
 read_none first tokens = record { taken = []; tokens_are = refl; next_is = omega arith }
 
 -- .. and one
-pub read_one : (first next : ℕ) (tokens left : List Token) (token : Token) → tokens ≡ token ∷ left → next ≡ first + 1 → ReadOn first next tokens left
+pub read_one : {T : Type 0} (first next : ℕ) (tokens left : List T) (token : T) → tokens ≡ token ∷ left → next ≡ first + 1 → ReadOn first next tokens left
 read_one first next tokens left token t n = record { taken = token ∷ []; tokens_are = t; next_is = n }
 
 -- .. and some behind these
-pub read_more : (first next last : ℕ) (tokens left rest : List Token) → ReadOn first next tokens left → ReadOn next last left rest → ReadOn first last tokens rest
+pub read_more : {T : Type 0} (first next last : ℕ) (tokens left rest : List T) → ReadOn first next tokens left → ReadOn next last left rest → ReadOn first last tokens rest
 read_more first next last tokens left rest a b =
     let long = length-append a.taken b.taken in
     let m = a.next_is in
@@ -29,13 +29,13 @@ read_more first next last tokens left rest a b =
     record { taken = a.taken ++ b.taken; tokens_are = a.tokens_are ∙ (ap (λ z. a.taken ++ z) b.tokens_are ∙ sym (append_assoc a.taken b.taken rest)); next_is = omega arith }
 
 -- places stay small
-pub few_on : (first next limit : ℕ) (tokens left : List Token) → ReadOn first next tokens left → first + length tokens < limit → next + length left < limit
+pub few_on : {T : Type 0} (first next limit : ℕ) (tokens left : List T) → ReadOn first next tokens left → first + length tokens < limit → next + length left < limit
 few_on first next limit tokens left r few =
     let long = ap length r.tokens_are ∙ length-append r.taken left in
     let n = r.next_is in
     omega arith
 
-pub here : (place : ℕ) (token : Token) (behind : List Token) (Such : Token → Type 0) → Such token → IsAt place place (token ∷ behind) Such
+pub here : {T : Type 0} (place : ℕ) (token : T) (behind : List T) (Such : T → Type 0) → Such token → IsAt place place (token ∷ behind) Such
 here place token behind Such such = record { before = []; token = token; behind = behind; tokens_are = refl; place_is = omega arith; such = such }
 
 -- no other tokens are left but those of bounds
@@ -52,7 +52,7 @@ pub ok_more : {A : Type 0} (result : Result A CertFault) (first next last : ℕ)
 ok_more (Ok x) first next last tokens left rest a b = read_more first next last tokens left rest a b
 ok_more (Err f) first next last tokens left rest a b = tt
 
-at_behind : (first next place : ℕ) (tokens left : List Token) (Such : Token → Type 0) → ReadOn first next tokens left → IsAt next place left Such → IsAt first place tokens Such
+pub at_behind : {T : Type 0} (first next place : ℕ) (tokens left : List T) (Such : T → Type 0) → ReadOn first next tokens left → IsAt next place left Such → IsAt first place tokens Such
 at_behind first next place tokens left Such r a =
     let long = length-append r.taken a.before in
     let n = r.next_is in

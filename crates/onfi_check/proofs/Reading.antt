@@ -3,13 +3,14 @@ use Rattle.std.proofs.Common.{◌≡◌, ◌≢◌, ℕ, zero, suc, ◌+◌, ◌
 use Rattle.std.specs.Prelude.{slice_set}
 use Rattle.std.specs.List.{AllByRecursion as All}
 use Rattle.std.proofs.lemmas.Bool.{false≢true, cases_Bool}
+use Rattle.std.proofs.lemmas.List.{drop_more}
 use Rattle.onfi_problem.specs.Moves.{Move, move_lun, after}
 use Rattle.onfi_cert.specs.declared.token.Token.{Token}
 use Rattle.onfi_cert.specs.declared.token.Token.TheVariants.{Yield}
 use Rattle.onfi_problem.specs.Problem.{Problem}
-use Rattle.onfi_check.specs.Tree.{Tree, Forest, preorder, preorders, NoneYields, AcceptsEach, Closed, Opened, NoMore, Child, Yields, AtEnd, ByBus, ByLead, ByTrail, ByDie}
+use Rattle.onfi_check.specs.Tree.{Forest, preorder, preorders, NoneYields, AcceptsEach, Closed, Opened, NoMore, Child, Yields}
 use Rattle.onfi_problem.proofs.Perm.{All-has}
-use Rattle.onfi_check.proofs.Spelled.{one_tree}
+use Rattle.onfi_check.proofs.Spelled.{one_tree, not_yield}
 use Rattle.onfi_problem.specs.declared.moves.Move.{Move as KeptMove}
 use Rattle.onfi_problem.specs.Position.{Position, move_of}
 use Rattle.onfi_problem.specs.Position.{moves_of}
@@ -95,14 +96,6 @@ rest_each p e n moves ys ls tokens rest small a b y l = (
   (λ (f, t, r). (f, t, from_each f p e moves moves f ys ls (λ k q. l k) (λ i q. absurd (false≢true (sym (y i) ∙ q))) (λ j q. q) r)),
 )
 
-not_yield : (t : Tree) (l : ℕ) (s s' : List Token) → preorder t ++ s ≡ Yield l ∷ s' → ⊥
-not_yield (Closed AtEnd) l s s' e = cc
-not_yield (Closed ByBus) l s s' e = cc
-not_yield (Closed ByLead) l s s' e = cc
-not_yield (Closed ByTrail) l s s' e = cc
-not_yield (Closed (ByDie k)) l s s' e = cc
-not_yield (Opened f) l s s' e = cc
-
 -- a tree was read
 pub read_child : (p : Problem) (e : ℕ) (m : Move) (ms all : List Move) (ys ls : List Bool) (tokens next rest : List Token) → Begins (after p m) e tokens next → BeginsRest p e ms all ys ls next rest ↔ BeginsRest p e (m ∷ ms) all ys ls tokens rest
 read_child p e m ms all ys ls tokens next rest (tree, t, a) = (
@@ -153,20 +146,7 @@ pub read_all : (p : Problem) (e : ℕ) (all : List Move) (ys ls : List Bool) (to
 read_all p e all ys ls tokens = (NoMore, refl, refl)
 
 pub drop_step : (x : Position) (items : List KeptMove) (i : ℕ) (d : KeptMove) → i < length items → moves_of x.groups (drop i items) ≡ move_of x.groups (get_or items i d) ∷ moves_of x.groups (drop (i + 1) items)
-drop_step x items i d h = let e : suc i ≡ i + 1 = omega arith in ap (moves_of x.groups) (go items i h) ∙ ap (λ n. move_of x.groups (get_or items i d) ∷ moves_of x.groups (drop n items)) e
-  where
-    go : (items : List KeptMove) (i : ℕ) → i < length items → drop i items ≡ get_or items i d ∷ drop (suc i) items
-    go [] i h = absurd (omega arith)
-    go (s ∷ items) zero h = refl
-    go (s ∷ items) (suc i) h = go items i (omega arith)
-
-drop_suc : {A : Type 0} (xs : List A) (i : ℕ) (d x : A) → i < length xs → get_or xs i d ≡ x → drop i xs ≡ x ∷ drop (suc i) xs
-drop_suc [] i d x h q = absurd (omega arith)
-drop_suc (y ∷ xs) zero d x h q = ap (λ z. z ∷ xs) q
-drop_suc (y ∷ xs) (suc i) d x h q = drop_suc xs i d x (omega arith) q
-
-pub drop_one : {A : Type 0} (xs : List A) (i : ℕ) (d x : A) → i < length xs → get_or xs i d ≡ x → drop i xs ≡ x ∷ drop (i + 1) xs
-drop_one xs i d x h q = let e : suc i ≡ i + 1 = omega arith in subst (λ n. drop i xs ≡ x ∷ drop n xs) e (drop_suc xs i d x h q)
+drop_step x items i d h = ap (moves_of x.groups) (drop_more items i d h)
 
 pub none_marked : (i : ℕ) → marked (false ∷ false ∷ false ∷ false ∷ false ∷ false ∷ false ∷ false ∷ []) i ≡ false
 none_marked zero = refl

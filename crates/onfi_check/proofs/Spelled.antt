@@ -26,7 +26,7 @@ not_branch : (c : Closing) (n : ℕ) → token_of c ≡ Branch n → ⊥
 unfolding closing_of
 not_branch c n e = let a = closing_back c in let b : closing_of (token_of c) ≡ None = ap closing_of e in cc
 
-not_yield : (t : Tree) (lun : ℕ) (s s' : List Token) → preorder t ++ s ≡ Yield lun ∷ s' → ⊥
+pub not_yield : (t : Tree) (lun : ℕ) (s s' : List Token) → preorder t ++ s ≡ Yield lun ∷ s' → ⊥
 unfolding closing_of
 not_yield (Closed c) lun s s' e = let h : token_of c ≡ Yield lun = cc in let a = closing_back c in let b : closing_of (token_of c) ≡ None = ap closing_of h in cc
 not_yield (Opened f) lun s s' e = cc

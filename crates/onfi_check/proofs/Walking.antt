@@ -23,7 +23,7 @@ small_named : (groups : List (List Want)) (items : List KeptMove) → All (IsNam
 small_named groups [] a = tt
 small_named groups (s ∷ items) a = (subst (λ z. z < 8) (sym a.0.lun) a.0.few, small_named groups items a.1)
 
-pub on_ok : {A P : Type 0} (r : Result A CertFault) → P → OnOk r P
+pub on_ok : {A E P : Type 0} (r : Result A E) → P → OnOk r P
 on_ok (Ok x) h = h
 on_ok (Err f) h = tt
 
@@ -58,7 +58,7 @@ child_refused p e moves m standing tokens left token (Err f) s ny h = λ later r
 pub none_left : (p : Problem) (e : ℕ) (moves : List Move) (m : Move) (standing : Standing) (tokens : List Token) → tokens ≡ [] → RefusesChild p e moves m standing tokens
 none_left p e moves m standing tokens s = λ later rest b. no_token p e m later moves standing.awaited standing.leaving rest (subst (λ z. BeginsRest p e (m ∷ later) moves standing.awaited standing.leaving z rest) s b)
 
-pub fewer_left : {A : Type 0} (tokens left next : List Token) (token : Token) (r : Result A CertFault) → tokens ≡ token ∷ left → OnOk r (length next ≤ length left) → OnOk r (length next ≤ length tokens)
+pub fewer_left : {A E T : Type 0} (tokens left next : List T) (token : T) (r : Result A E) → tokens ≡ token ∷ left → OnOk r (length next ≤ length left) → OnOk r (length next ≤ length tokens)
 fewer_left tokens left next token (Err f) s h = tt
 fewer_left tokens left next token (Ok x) s h = let q = ap length s in omega arith
 

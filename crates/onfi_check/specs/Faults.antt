@@ -24,10 +24,10 @@ abbrev pub IsToYield : Token → Type 0
 IsToYield token = (lun : ℕ) × (token ≡ Yield lun)
 
 -- such a token stands at this place, where the first of the tokens has the place `first`
-pub record IsAt (first place : ℕ) (tokens : List Token) (Such : Token → Type 0) : Type 0 where
-  pub before : List Token
-  pub token : Token
-  pub behind : List Token
+pub record IsAt {T : Type 0} (first place : ℕ) (tokens : List T) (Such : T → Type 0) : Type 0 where
+  pub before : List T
+  pub token : T
+  pub behind : List T
   pub tokens_are : tokens ≡ before ++ token ∷ behind
   pub place_is : place ≡ first + length before
   pub such : Such token

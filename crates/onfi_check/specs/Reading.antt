@@ -17,8 +17,8 @@ abbrev pub BeginsEach : Problem → ℕ → List Move → List Token → List To
 BeginsEach p e moves tokens rest = (forest : Forest) × (tokens ≡ preorders forest ++ rest) × AcceptsEach forest p e moves forest moves
 
 -- these tokens but those left were read: the first had one place, the first left has the next
-pub record ReadOn (first next : ℕ) (tokens left : List Token) : Type 0 where
-  pub taken : List Token
+pub record ReadOn {T : Type 0} (first next : ℕ) (tokens left : List T) : Type 0 where
+  pub taken : List T
   pub tokens_are : tokens ≡ taken ++ left
   pub next_is : next ≡ first + length taken
 

@@ -1,9 +1,10 @@
 -- What has the same left has the same moves, which leave the same.
-use Rattle.std.proofs.Common.{◌≡◌, ◌≢◌, ℕ, zero, suc, ◌+◌, ◌*◌, ◌≤◌, ◌<◌, inl, inr, List, [], ◌∷◌, length, map, Option, Some, None, refl, sym, ap, ◌∙◌, subst, arith}
+use Rattle.std.proofs.Common.{◌≡◌, ◌≢◌, ℕ, ◌+◌, ◌*◌, ◌≤◌, ◌<◌, inl, inr, List, [], ◌∷◌, length, map, Option, Some, None, refl, sym, ap, ◌∙◌, subst, arith}
 use Rattle.std.specs.Prelude.{slice_get, slice_set}
 use Rattle.std.specs.Option.{option_map}
 use Rattle.std.proofs.lemmas.Bool.{cases_lt}
 use Rattle.std.proofs.lemmas.List.{length-map}
+use Rattle.std.proofs.lemmas.Option.{slice_get-map}
 use Rattle.onfi_timing.specs.declared.timing.Timing.{Timing}
 use Rattle.onfi_timing.specs.Phases.{phase_length}
 use Rattle.onfi_request.specs.declared.want.Want.{Want}
@@ -21,16 +22,11 @@ use Rattle.onfi_bound.specs.Bounds.{on_lun}
 use Rattle.onfi_bound.proofs.DieBound.{on_lun_other}
 use Rattle.onfi_demand.specs.Left.{Idle, Rest, left_on, SameLeft, has_left_at, has_left}
 
-pub at_map : {A B : Type 0} (f : A → B) (xs : List A) (l : ℕ) → slice_get (map f xs) l ≡ option_map f (slice_get xs l)
-at_map f [] l = refl
-at_map f (x ∷ xs) zero = refl
-at_map f (x ∷ xs) (suc l) = at_map f xs l
-
 abbrev pub Alike : List LunState → List LunState → Type 0
 Alike xs ys = map left_on xs ≡ map left_on ys
 
 pub alike_at : (xs ys : List LunState) (l : ℕ) → Alike xs ys → option_map left_on (slice_get xs l) ≡ option_map left_on (slice_get ys l)
-alike_at xs ys l h = sym (at_map left_on xs l) ∙ (ap (λ zs. slice_get zs l) h ∙ at_map left_on ys l)
+alike_at xs ys l h = sym (slice_get-map left_on xs l) ∙ (ap (λ zs. slice_get zs l) h ∙ slice_get-map left_on ys l)
 
 pub record AlikeRunning (xs : List LunState) (l : ℕ) (g : List Want) (n : ℕ) : Type 0 where
   pub group : List Want

@@ -10,7 +10,7 @@ use Rattle.onfi_timing.specs.Phases.{phase_length, wait_before}
 use Rattle.onfi_request.specs.declared.want.Want.{Want}
 use Rattle.onfi_group.specs.declared.rules.Rules.{Rules}
 use Rattle.onfi_group.specs.Words.{Has, total}
-use Rattle.onfi_group.specs.Group.{kind_of, group_spans, lun_of, is_member, IsStartable}
+use Rattle.onfi_group.specs.Group.{kind_of, group_spans, lun_of, IsStartable}
 use Rattle.onfi_problem.specs.declared.lun_state.LunState.{LunState}
 use Rattle.onfi_problem.specs.declared.lun_state.LunState.TheVariants.{Free, Running}
 use Rattle.onfi_problem.specs.Problem.{Problem, IsProblem}
@@ -26,7 +26,7 @@ use Rattle.onfi_problem.proofs.Work.{one_phase}
 use Rattle.onfi_schedule.proofs.Exchange.{not_member}
 use Rattle.onfi_bound.specs.Bounds.{on_lun, wants_work, die, die_at}
 use Rattle.onfi_bound.proofs.Classes.{times_left}
-use Rattle.onfi_bound.proofs.DieBound.{die_bound, on_lun_other, no_work}
+use Rattle.onfi_bound.proofs.DieBound.{die_bound, on_lun_other, no_work, on_lun_own}
 use Rattle.onfi_demand.proofs.Opened.{left_there}
 use Rattle.onfi_demand.proofs.Sooner.{move_has}
 use Rattle.onfi_demand.specs.Window.{PhaseLeft, chain_from, group_phase, group_left, wants_left, phases_left_at, phases_left_on, is_within, within, sum_of, window, WindowLaw}
@@ -224,15 +224,6 @@ group_within spans k rest (suc count) n from go go' r q x y e xf xl xt yf yl yt 
           let b : 2 * k - max n k ≡ suc (2 * k - max (n + 1) k) = omega arith in
           let ih' : 0 * one go r q x + (2 * k - max (n + 1) k) * one go r q y ≤ within go' r q (group_left spans k rest count (n + 1) next) = rw a' at ih in
           rw (a, b) (omega arith))
-    ]
-
-on_lun_own : (ms ws : List Want) (lun : ℕ) → on_lun lun (without ms ws) ≡ without ms (on_lun lun ws)
-on_lun_own ms [] lun = refl
-on_lun_own ms (w ∷ ws) lun =
-    let r = on_lun_own ms ws lun in
-    elim (cases_Bool (w.lun == lun)) [
-      | inl k ↦ elim (cases_Bool (is_member ms w)) [ inl n ↦ simp (k, n) r | inr n ↦ simp (k, n) (ap (λ vs. w ∷ vs) r) ]
-      | inr k ↦ elim (cases_Bool (is_member ms w)) [ inl n ↦ simp (k, n) r | inr n ↦ simp (k, n) r ]
     ]
 
 member_within : (timing : Timing) (ms : List Want) (go r q : ℕ) (m : Want) → m.kind ≡ kind_of ms → of_want timing go r q m ≡ one go r q (record { from = 0; length = (group_spans timing ms).cmd; tail = (group_spans timing ms).array + (group_spans timing ms).post }) + one go r q (record { from = 0 + (group_spans timing ms).cmd + (group_spans timing ms).array; length = (group_spans timing ms).post; tail = 0 })

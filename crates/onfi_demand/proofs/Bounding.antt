@@ -1,5 +1,5 @@
 -- The demands of the bounds.
-use Rattle.std.proofs.Common.{◌≡◌, ℕ, zero, suc, ◌+◌, ◌-◌, ◌≤◌, ◌<◌, inl, inr, true, List, [], ◌∷◌, ◌++◌, length, Option, Some, None, refl, sym, ap, ◌∙◌, subst, arith}
+use Rattle.std.proofs.Common.{◌≡◌, ℕ, suc, ◌+◌, ◌-◌, ◌≤◌, ◌<◌, inl, inr, true, List, [], ◌∷◌, ◌++◌, length, Option, Some, None, refl, sym, ap, ◌∙◌, subst, arith}
 use Rattle.std.specs.Prelude.{slice_get}
 use Rattle.std.specs.List.{AllByRecursion as All}
 use Rattle.std.specs.Option.{option_map}
@@ -11,11 +11,11 @@ use Rattle.onfi_problem.specs.declared.lun_state.LunState.TheVariants.{Free, Run
 use Rattle.onfi_problem.specs.Problem.{Problem, IsProblem}
 use Rattle.onfi_problem.specs.Moves.{may_go}
 use Rattle.onfi_problem.specs.Left.{all_posts}
-use Rattle.onfi_problem.proofs.Perm.{All-back, All-append}
+use Rattle.onfi_problem.proofs.Perm.{All-append}
 use Rattle.onfi_problem.proofs.Places.{same_place}
 use Rattle.onfi_bound.specs.Bounds.{lead, die, least, least_with, plus_each, to_post, post_starts, on_lun}
 use Rattle.onfi_bound.proofs.BusBound.{bus_bound}
-use Rattle.onfi_bound.proofs.LeadBound.{lead_bound, least_all}
+use Rattle.onfi_bound.proofs.LeadBound.{lead_bound, least_all, starts_all}
 use Rattle.onfi_bound.proofs.TrailBound.{trail_bound}
 use Rattle.onfi_bound.proofs.DieBound.{die_bound}
 use Rattle.onfi_demand.specs.Left.{left_on, SameLeft, has_left_at, has_left}
@@ -88,20 +88,6 @@ die_asks p e lun within le = elim (cases_Bool (has_left p lun)) [
 ]
 
 -- the first posts, by LUN
-starts_all : (p : Problem) (e i : ℕ) (luns : List LunState) → All (λ v. e ≤ v) (post_starts p i luns) → (l : ℕ) (x : LunState) (b : ℕ) → slice_get luns l ≡ Some x → to_post p.timing (on_lun (i + l) p.wants) x ≡ Some b → e ≤ may_go p (i + l) + b
-starts_all p e i [] a l x b h k = cc
-starts_all p e i (y ∷ luns) a zero x b h k =
-    let z : i + 0 ≡ i = omega arith in
-    let q : y ≡ x = cc in
-    let k' : to_post p.timing (on_lun i p.wants) y ≡ Some b = rw (q, ← z) k in
-    let a' : All (λ v. e ≤ v) (plus_each (may_go p i) (Some b) ++ post_starts p (i + 1) luns) = rw k' at a in
-    rw z a'.0
-starts_all p e i (y ∷ luns) a (suc l) x b h k =
-    let z : i + 1 + l ≡ i + suc l = omega arith in
-    let rest = All-back (λ v. e ≤ v) (plus_each (may_go p i) (to_post p.timing (on_lun i p.wants) y)) (post_starts p (i + 1) luns) a in
-    subst (λ j. e ≤ may_go p j + b) z (starts_all p e (i + 1) luns rest l x b h (subst (λ j. to_post p.timing (on_lun j p.wants) x ≡ Some b) (sym z) k))
-
--- .. and back
 all_starts : (p : Problem) (e i : ℕ) (luns : List LunState) → ((l : ℕ) (x : LunState) (b : ℕ) → slice_get luns l ≡ Some x → to_post p.timing (on_lun (i + l) p.wants) x ≡ Some b → e ≤ may_go p (i + l) + b) → All (λ v. e ≤ v) (post_starts p i luns)
 all_starts p e i [] h = tt
 all_starts p e i (x ∷ luns) h = All-append (λ v. e ≤ v) (plus_each (may_go p i) (to_post p.timing (on_lun i p.wants) x)) (post_starts p (i + 1) luns) (one (to_post p.timing (on_lun i p.wants) x) refl) (all_starts p e (i + 1) luns later)

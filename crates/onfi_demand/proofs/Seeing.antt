@@ -1,5 +1,5 @@
 -- What is seen of phases within a window, one by one.
-use Rattle.std.proofs.Common.{◌≡◌, ℕ, zero, suc, ◌+◌, ◌*◌, ◌-◌, ◌≤◌, ◌<◌, inl, inr, List, [], ◌∷◌, ◌++◌, length, get_or, drop, Some, refl, sym, ap, ◌∙◌, subst, arith}
+use Rattle.std.proofs.Common.{◌≡◌, ℕ, suc, ◌+◌, ◌*◌, ◌-◌, ◌≤◌, ◌<◌, inl, inr, List, [], ◌∷◌, ◌++◌, length, get_or, Some, sym, ap, ◌∙◌, subst, arith}
 use Rattle.std.specs.Prelude.{max, slice_get}
 use Rattle.std.proofs.lemmas.Bool.{cases_Bool, cases_lt}
 use Rattle.onfi_timing.specs.declared.kind.Kind.{Kind}
@@ -66,14 +66,6 @@ want_more look timing from w ws spans before middle next behind is a b rest =
     let a' = subst (λ (z : Spans). Sees look before (phase_at from z.cmd (z.array + z.post) ∷ []) middle) is a in
     let b' = subst (λ (z : Spans). Sees look middle (phase_at (from + z.cmd + z.array) z.post 0 ∷ []) next) is b in
     sees_append look before middle behind (phase_at from spans'.cmd (spans'.array + spans'.post) ∷ []) (phase_at (from + spans'.cmd + spans'.array) spans'.post 0 ∷ wants_left timing from ws) a' (sees_append look middle next behind (phase_at (from + spans'.cmd + spans'.array) spans'.post 0 ∷ []) (wants_left timing from ws) b' rest)
-
-pub drop_one : {A : Type 0} (xs : List A) (i : ℕ) (d : A) → i < length xs → drop i xs ≡ get_or xs i d ∷ drop (i + 1) xs
-drop_one xs i d h = let e : suc i ≡ i + 1 = omega arith in subst (λ n. drop i xs ≡ get_or xs i d ∷ drop n xs) e (go xs i h d)
-  where
-    go : {A : Type 0} (ys : List A) (j : ℕ) → j < length ys → (d : A) → drop j ys ≡ get_or ys j d ∷ drop (suc j) ys
-    go [] j h d = absurd (omega arith)
-    go (y ∷ ys) zero h d = refl
-    go (y ∷ ys) (suc j) h d = go ys j (omega arith) d
 
 abbrev chain_of : Timing → LunLeft → ℕ
 chain_of timing Idle = 0

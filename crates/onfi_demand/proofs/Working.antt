@@ -1,10 +1,11 @@
 -- What is left to a LUN, as it is read.
-use Rattle.std.proofs.Common.{◌≡◌, ℕ, ◌+◌, ◌≤◌, ◌<◌, inl, inr, Bool, true, false, List, [], ◌∷◌, ◌++◌, length, map, get_or, take, Option, Some, None, refl, sym, ap, ◌∙◌, subst, arith}
+use Rattle.std.proofs.Common.{◌≡◌, ℕ, ◌+◌, ◌≤◌, ◌<◌, Bool, true, false, List, [], ◌∷◌, ◌++◌, length, map, get_or, take, Option, Some, None, refl, sym, ap, ◌∙◌, subst, arith}
 use Rattle.std.specs.Prelude.{slice_get, ◌==◌}
 use Rattle.std.specs.List.{filter}
 use Rattle.std.specs.Option.{option_map}
-use Rattle.std.proofs.lemmas.Bool.{cases_Bool, eq-eqb, ne_eqb}
+use Rattle.std.proofs.lemmas.Bool.{eq-eqb, ne_eqb}
 use Rattle.std.proofs.lemmas.List.{length-map}
+use Rattle.std.proofs.lemmas.List.Elements.{filter-append}
 use Rattle.onfi_request.specs.declared.want.Want.{Want}
 use Rattle.onfi_problem.specs.declared.lun_state.LunState.{LunState}
 use Rattle.onfi_problem.specs.declared.lun_state.LunState.TheVariants.{Free, Running}
@@ -55,25 +56,19 @@ shape_of p lun (KeptRest kind k n) limits h = go (slice_get p.luns lun) refl h
         let same_next : n' ≡ n = cc in
         (omega arith, omega arith, omega arith, omega arith)
 
-filter_append : (f : Want → Bool) (xs ys : List Want) → filter f (xs ++ ys) ≡ filter f xs ++ filter f ys
-filter_append f [] ys = refl
-filter_append f (x ∷ xs) ys =
-    let e = filter_append f xs ys in
-    elim (cases_Bool (f x)) [ inl k ↦ simp k (ap (λ zs. x ∷ zs) e) | inr k ↦ simp k e ]
-
 pub wants_yes : (lun : ℕ) (marks : List Bool) (ws : List Want) (i : ℕ) (d : Want) (before now : List Want) → i < length ws → get_or marks i false ≡ true → (get_or ws i d).lun ≡ lun → before ≡ on_lun lun (waiting_of marks (take i ws)) → now ≡ before ++ get_or ws i d ∷ [] → now ≡ on_lun lun (waiting_of marks (take (i + 1) ws))
 wants_yes lun marks ws i d before now h m at b n =
     let e = waiting_yes marks ws i d h m in
     let t : ((get_or ws i d).lun == lun) ≡ true = eq-eqb (get_or ws i d).lun lun at in
     let one : filter (λ w. w.lun == lun) (get_or ws i d ∷ []) ≡ get_or ws i d ∷ [] = rw t refl in
-    n ∙ (ap (λ z. z ++ get_or ws i d ∷ []) b ∙ sym (ap (on_lun lun) e ∙ (filter_append (λ w. w.lun == lun) (waiting_of marks (take i ws)) (get_or ws i d ∷ []) ∙ ap (λ z. on_lun lun (waiting_of marks (take i ws)) ++ z) one)))
+    n ∙ (ap (λ z. z ++ get_or ws i d ∷ []) b ∙ sym (ap (on_lun lun) e ∙ (filter-append (λ w. w.lun == lun) (waiting_of marks (take i ws)) (get_or ws i d ∷ []) ∙ ap (λ z. on_lun lun (waiting_of marks (take i ws)) ++ z) one)))
 
 pub wants_other : (lun : ℕ) (marks : List Bool) (ws : List Want) (i : ℕ) (d : Want) (before : List Want) → i < length ws → get_or marks i false ≡ true → ((get_or ws i d).lun ≡ lun → ⊥) → before ≡ on_lun lun (waiting_of marks (take i ws)) → before ≡ on_lun lun (waiting_of marks (take (i + 1) ws))
 wants_other lun marks ws i d before h m at b =
     let e = waiting_yes marks ws i d h m in
     let t : ((get_or ws i d).lun == lun) ≡ false = ne_eqb (get_or ws i d).lun lun at in
     let one : filter (λ w. w.lun == lun) (get_or ws i d ∷ []) ≡ [] = rw t refl in
-    b ∙ sym (ap (on_lun lun) e ∙ (filter_append (λ w. w.lun == lun) (waiting_of marks (take i ws)) (get_or ws i d ∷ []) ∙ (ap (λ z. on_lun lun (waiting_of marks (take i ws)) ++ z) one ∙ append_nil (on_lun lun (waiting_of marks (take i ws))))))
+    b ∙ sym (ap (on_lun lun) e ∙ (filter-append (λ w. w.lun == lun) (waiting_of marks (take i ws)) (get_or ws i d ∷ []) ∙ (ap (λ z. on_lun lun (waiting_of marks (take i ws)) ++ z) one ∙ append_nil (on_lun lun (waiting_of marks (take i ws))))))
 
 pub wants_no : (lun : ℕ) (marks : List Bool) (ws : List Want) (i : ℕ) (before : List Want) → get_or marks i false ≡ false → before ≡ on_lun lun (waiting_of marks (take i ws)) → before ≡ on_lun lun (waiting_of marks (take (i + 1) ws))
 wants_no lun marks ws i before m b = b ∙ sym (ap (on_lun lun) (waiting_no marks ws i m))

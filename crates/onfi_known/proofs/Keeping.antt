@@ -1,18 +1,15 @@
 -- What is remembered of nodes, as it is read.
-use Rattle.std.proofs.Common.{◌≡◌, ℕ, ◌+◌, ◌<◌, List, [], ◌∷◌, ◌++◌, length, map, get_or, take, Option, Some, None, refl, sym, ap, ◌∙◌}
+use Rattle.std.proofs.Common.{◌≡◌, ℕ, ◌+◌, ◌<◌, List, [], ◌∷◌, ◌++◌, length, map, get_or, take, Some, sym, ap, ◌∙◌}
 use Rattle.std.specs.Prelude.{slice_get}
 use Rattle.std.specs.Option.{option_map}
 use Rattle.std.proofs.lemmas.List.{map-append, take_more}
 use Rattle.std.proofs.lemmas.Option.{get_or_from_slice_get}
 use Rattle.onfi_problem.specs.declared.lun_state.LunState.{LunState}
 use Rattle.onfi_problem.specs.declared.lun_state.LunState.TheVariants.{Free}
-use Rattle.onfi_demand.specs.Left.{LunLeft, left_on}
+use Rattle.onfi_demand.specs.Left.{left_on}
 use Rattle.onfi_demand.specs.Work.{left_of}
 use Rattle.onfi_demand.specs.declared.left.LunLeft.{LunLeft as KeptLeft}
-
-some_state : (o : Option LunState) (l : LunLeft) → option_map left_on o ≡ Some l → (x : LunState) × (o ≡ Some x) × (left_on x ≡ l)
-some_state None l h = cc
-some_state (Some x) l h = (x, refl, cc)
+use Rattle.onfi_demand.proofs.Leading.{some_state}
 
 -- one LUN more
 pub left_more : (luns : List LunState) (i : ℕ) (left : KeptLeft) (before now : List KeptLeft) → i < length luns → option_map left_on (slice_get luns i) ≡ Some (left_of left) → map left_of before ≡ map left_on (take i luns) → now ≡ before ++ left ∷ [] → map left_of now ≡ map left_on (take (i + 1) luns)

@@ -1,5 +1,5 @@
 -- Where the tokens stand of which a fault tells.
-use Rattle.std.proofs.Common.{◌≡◌, ◌≢◌, ℕ, ◌+◌, ◌<◌, ◌⊎◌, inl, inr, List, [], ◌∷◌, ◌++◌, length, refl, sym, ap, ◌∙◌, subst, arith, append_assoc, length-append}
+use Rattle.std.proofs.Common.{◌≡◌, ◌≢◌, ℕ, ◌+◌, ◌⊎◌, inl, inr, List, [], ◌∷◌, length, refl, sym, ap, ◌∙◌, subst, arith, length-append}
 use Rattle.std.specs.Prelude.{Result, Ok, Err, IfErr}
 use Rattle.onfi_request.specs.declared.want.Want.{Want}
 use Rattle.onfi_problem.specs.Problem.{Problem}
@@ -14,33 +14,11 @@ use Rattle.onfi_known.specs.Proves.{Proves}
 use Rattle.onfi_known.specs.Refused.{Refuses}
 use Rattle.onfi_known.specs.Faults.{FaultFits, IsAt, IsBound, IsBranch, IsNameFault, IsTokenFault, NamesNode, IsToYield, IsTrailing, IsYieldFault, NoTree, OfTokens, ReadOn}
 use Rattle.onfi_known.proofs.Refusing.{none_refuses}
+pub use Rattle.onfi_check.proofs.Placing.{read_none, read_one, read_more, few_on, here, at_behind}
 
--- no token was read
-pub read_none : (first : ℕ) (tokens : List Token) → ReadOn first first tokens tokens
-read_none first tokens = record { taken = []; tokens_are = refl; next_is = omega arith }
-
--- .. none, where none is left
+-- no token was read, where none is left
 pub read_end : (first next : ℕ) (tokens left : List Token) → next ≡ first → tokens ≡ [] → left ≡ [] → ReadOn first next tokens left
 read_end first next tokens left n t l = record { taken = []; tokens_are = t ∙ sym l; next_is = omega arith }
-
--- .. and one
-pub read_one : (first next : ℕ) (tokens left : List Token) (token : Token) → tokens ≡ token ∷ left → next ≡ first + 1 → ReadOn first next tokens left
-read_one first next tokens left token t n = record { taken = token ∷ []; tokens_are = t; next_is = n }
-
--- .. and some behind these
-pub read_more : (first next last : ℕ) (tokens left rest : List Token) → ReadOn first next tokens left → ReadOn next last left rest → ReadOn first last tokens rest
-read_more first next last tokens left rest a b =
-    let long = length-append a.taken b.taken in
-    let m = a.next_is in
-    let n = b.next_is in
-    record { taken = a.taken ++ b.taken; tokens_are = a.tokens_are ∙ (ap (λ z. a.taken ++ z) b.tokens_are ∙ sym (append_assoc a.taken b.taken rest)); next_is = omega arith }
-
--- places stay small
-pub few_on : (first next limit : ℕ) (tokens left : List Token) → ReadOn first next tokens left → first + length tokens < limit → next + length left < limit
-few_on first next limit tokens left r few =
-    let long = ap length r.tokens_are ∙ length-append r.taken left in
-    let n = r.next_is in
-    omega arith
 
 -- the tokens read and those left are all
 pub counted : (first next : ℕ) (tokens left : List Token) → ReadOn first next tokens left → next + length left ≡ first + length tokens
@@ -48,9 +26,6 @@ counted first next tokens left r =
     let long = ap length r.tokens_are ∙ length-append r.taken left in
     let n = r.next_is in
     omega arith
-
-pub here : (place : ℕ) (token : Token) (behind : List Token) (Such : Token → Type 0) → Such token → IsAt place place (token ∷ behind) Such
-here place token behind Such such = record { before = []; token = token; behind = behind; tokens_are = refl; place_is = omega arith; such = such }
 
 -- no other tokens are left but those of bounds
 pub bound_of : (token : Token) → ((width : ℕ) → token ≢ Branch width) → ((lun : ℕ) → token ≢ Yield lun) → ((number : ℕ) → token ≢ Again number) → token ≢ End → IsBound token
@@ -63,20 +38,6 @@ bound_of (Yield lun) nb ny na ne = absurd (ny lun refl)
 bound_of End nb ny na ne = absurd (ne refl)
 bound_of (Window start tail) nb ny na ne = inr (inr (inr (inr (start, tail, refl))))
 bound_of (Again number) nb ny na ne = absurd (na number refl)
-
-at_behind : (first next place : ℕ) (tokens left : List Token) (Such : Token → Type 0) → ReadOn first next tokens left → IsAt next place left Such → IsAt first place tokens Such
-at_behind first next place tokens left Such r a =
-    let long = length-append r.taken a.before in
-    let n = r.next_is in
-    let m = a.place_is in
-    record {
-      before = r.taken ++ a.before;
-      token = a.token;
-      behind = a.behind;
-      tokens_are = r.tokens_are ∙ (ap (λ z. r.taken ++ z) a.tokens_are ∙ sym (append_assoc r.taken a.before (a.token ∷ a.behind)));
-      place_is = omega arith;
-      such = a.such;
-    }
 
 -- what fits the tokens behind some fits the whole
 pub fits_behind : (first next : ℕ) (tokens left rest : List Token) (f : KnownFault) → ReadOn first next tokens left → FaultFits next left rest f → FaultFits first tokens rest f

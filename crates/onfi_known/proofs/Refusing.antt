@@ -1,6 +1,7 @@
 -- When a tree isn't accepted.
 use Rattle.std.proofs.Common.{◌≡◌, ◌≢◌, ℕ, zero, suc, ◌+◌, ◌≤◌, ◌<◌, List, [], ◌∷◌, ◌++◌, length, take, drop, get_or, inl, inr, refl, sym, ap, ◌∙◌, subst, arith, append_assoc, append-nil, length-append}
 use Rattle.std.specs.Prelude.{Result, Ok, Err, IfErr, slice_get}
+use Rattle.std.proofs.lemmas.List.{same_from_push}
 use Rattle.onfi_request.specs.declared.want.Want.{Want}
 use Rattle.onfi_group.specs.Words.{Has}
 use Rattle.onfi_problem.specs.Problem.{Problem}
@@ -22,7 +23,7 @@ use Rattle.onfi_known.specs.Closing.{Closes}
 use Rattle.onfi_known.specs.Faults.{IsNameFault, OfTokens}
 use Rattle.onfi_known.specs.Proves.{Children, FitTimes, IsAgain, MayYield, Proves, ProvesTokens, with_yields}
 use Rattle.onfi_known.specs.Refused.{AreAlike, Refuses, RefusesChild, RefusesChildren}
-use Rattle.onfi_known.proofs.Unique.{Stands, alike_length, alike_self, alike_there, given_few, grows, no_yield, same_left, same_token, same_yields, snoc_front, snoc_some, unique, unique_children}
+use Rattle.onfi_known.proofs.Unique.{Stands, alike_length, alike_self, alike_there, given_few, grows, no_yield, same_left, same_token, same_yields, snoc_some, unique, unique_children}
 use Rattle.onfi_known.proofs.Views.{Begin, Last, begin_of, by_closing, by_again, by_opening, last_of, last_tree, last_yield, no_child}
 
 pub of_so : (f : KnownFault) (P Q : Type 0) → (P → Q) → OfTokens f P → OfTokens f Q
@@ -196,12 +197,12 @@ module _ (e : ℕ) (all : List Want) where
       by_last : Last e all p moves (xs ++ x ∷ []) known tokens part.asks part.given part.behind part.rest → Part p moves xs known tokens size
       by_last (no_child q z g b r) = absurd (snoc_some xs x q)
       by_last (last_tree t) =
-          let same = snoc_front xs t.firsts x t.move t.is in
+          let same = same_from_push xs t.firsts x t.move t.is in
           let more = grows e all (after p t.move) t.middle t.left t.demand part.behind part.rest t.proves in
           let small = part.small in
           record { asks = t.before; given = part.given; behind = t.middle; rest = t.left; children = subst (λ z. Children e all p moves z known tokens t.before part.given t.middle t.left) (sym same.0) t.children; small = omega arith }
       by_last (last_yield t) =
-          let same = snoc_front xs t.firsts x t.move t.is in
+          let same = same_from_push xs t.firsts x t.move t.is in
           record { asks = part.asks; given = t.before; behind = part.behind; rest = Yield t.yield.lun ∷ part.rest; children = subst (λ z. Children e all p moves z known tokens part.asks t.before part.behind (Yield t.yield.lun ∷ part.rest)) (sym same.0) t.children; small = part.small }
 
   parts : (p : Problem) (moves xs ys : List Move) (known : List Known) (tokens : List Token) (size : ℕ) → Part p moves (xs ++ ys) known tokens size → Part p moves xs known tokens size
@@ -220,13 +221,13 @@ module _ (e : ℕ) (all : List Want) where
       by_last : (part : Part p moves (xs ++ m ∷ []) others tokens (length behind)) → Last e all p moves (xs ++ m ∷ []) others tokens part.asks part.given part.behind part.rest → ⊥
       by_last part (no_child q z g b r) = snoc_some xs m q
       by_last part (last_tree t) =
-          let same = snoc_front xs t.firsts m t.move t.is in
+          let same = same_from_push xs t.firsts m t.move t.is in
           let u = unique_children e all p moves xs known others tokens asks t.before given part.given middle t.middle left t.left read (subst (λ z. Children e all p moves z others tokens t.before part.given t.middle t.left) (sym same.0) t.children) s are within a in
           let proves = subst (λ z. Proves e all (after p z) t.middle left t.demand part.behind part.rest) (sym same.1) (subst (λ z. Proves e all (after p t.move) t.middle z t.demand part.behind part.rest) (sym u.left) t.proves) in
           let small = part.small in
           none.tree t.middle t.demand part.behind part.rest u.known proves (omega arith)
       by_last part (last_yield t) =
-          let same = snoc_front xs t.firsts m t.move t.is in
+          let same = same_from_push xs t.firsts m t.move t.is in
           let u = unique_children e all p moves xs known others tokens asks part.asks given t.before middle part.behind left (Yield t.yield.lun ∷ part.rest) read (subst (λ z. Children e all p moves z others tokens part.asks t.before part.behind (Yield t.yield.lun ∷ part.rest)) (sym same.0) t.children) s are within a in
           let may = subst (λ z. MayYield p moves z m t.yield) (sym u.given) (subst (λ z. MayYield p moves t.before z t.yield) (sym same.1) t.may) in
           none.yields t.yield part.rest u.left may

@@ -2,6 +2,7 @@
 use Rattle.std.proofs.Common.{◌≡◌, ◌≢◌, ℕ, zero, suc, ◌+◌, ◌-◌, ◌≤◌, ◌<◌, inl, List, [], ◌∷◌, ◌++◌, length, Some, refl, sym, ap, ◌∙◌, subst, arith, length-append}
 use Rattle.std.specs.Prelude.{slice_get, slice_index, max, nat_le, ◌==◌, if◌then◌else◌}
 use Rattle.std.specs.List.{AllByRecursion as All}
+use Rattle.std.proofs.lemmas.List.{same_from_push}
 use Rattle.onfi_request.specs.declared.want.Want.{Want}
 use Rattle.onfi_group.specs.Words.{Has}
 use Rattle.onfi_problem.specs.Problem.{Problem, IsProblem, IsSmall}
@@ -150,17 +151,6 @@ mutual
       omega arith
   children_grow e all _ _ _ _ _ _ _ _ _ (yielded p moves firsts ms m known tokens asks before y behind rest is firsts_are may) = children_grow e all p moves firsts known tokens asks before behind (Yield y.lun ∷ rest) firsts_are
 
--- lists that end alike
-pub snoc_front : (xs ys : List Move) (x y : Move) → xs ++ x ∷ [] ≡ ys ++ y ∷ [] → (xs ≡ ys) × (x ≡ y)
-snoc_front [] [] x y e = (refl, cc)
-snoc_front [] (b ∷ ys) x y e = absurd (let l : length (x ∷ []) ≡ length (b ∷ (ys ++ y ∷ [])) = ap length e in let k = length-append ys (y ∷ []) in omega arith)
-snoc_front (a ∷ xs) [] x y e = absurd (let l : length (a ∷ (xs ++ x ∷ [])) ≡ length (y ∷ []) = ap length e in let k = length-append xs (x ∷ []) in omega arith)
-snoc_front (a ∷ xs) (b ∷ ys) x y e =
-    let h : a ≡ b = cc in
-    let t : xs ++ x ∷ [] ≡ ys ++ y ∷ [] = cc in
-    let f = snoc_front xs ys x y t in
-    (ap (λ z. z ∷ xs) h ∙ ap (λ z. b ∷ z) f.0, f.1)
-
 pub snoc_some : (xs : List Move) (x : Move) → xs ++ x ∷ [] ≢ []
 snoc_some [] x e = cc
 snoc_some (a ∷ xs) x e = cc
@@ -261,13 +251,13 @@ module _ (e : ℕ) (all : List Want) where
             → ((middle' : List Known) (d' : Kept) → Proves e all (after p m) middle' left d' b2 r2 → AreAlike all middle middle' → SameRead all d d' behind b2 rest r2) → SameChildren all asks a2 given g2 behind b2 rest r2
         by_last (no_child q z g b r) firsts_of tree_of = absurd (snoc_some firsts m (sym is ∙ q))
         by_last (last_tree t) firsts_of tree_of =
-            let same = snoc_front t.firsts firsts t.move m (sym t.is ∙ is) in
+            let same = same_from_push t.firsts firsts t.move m (sym t.is ∙ is) in
             let f = firsts_of t.before g2 t.middle t.left (subst (λ z. Children e all p moves z k2 tokens t.before g2 t.middle t.left) same.0 t.children) in
             let proves = subst (λ z. Proves e all (after p z) t.middle left t.demand b2 r2) same.1 (subst (λ z. Proves e all (after p t.move) t.middle z t.demand b2 r2) (sym f.left) t.proves) in
             let r = tree_of t.middle t.demand proves f.known in
             record { asks = raised_same p m d t.demand before t.before asks a2 s mv r.demand f.asks raised (subst (λ z. AreRaised p z t.demand t.before a2) same.1 t.raised); given = f.given; known = r.known; left = r.left }
         by_last (last_yield t) firsts_of tree_of =
-            let same = snoc_front t.firsts firsts t.move m (sym t.is ∙ is) in
+            let same = same_from_push t.firsts firsts t.move m (sym t.is ∙ is) in
             let f = firsts_of a2 t.before b2 (Yield t.yield.lun ∷ r2) (subst (λ z. Children e all p moves z k2 tokens a2 t.before b2 (Yield t.yield.lun ∷ r2)) same.0 t.children) in
             absurd (no_yield e all (after p m) middle t.yield.lun r2 rest d behind (subst (λ z. Proves e all (after p m) middle z d behind rest) f.left child))
     unique_children _ _ _ _ k2 _ _ a2 _ g2 _ b2 _ r2 (yielded p moves firsts ms m known tokens asks before y behind rest is firsts_are may) other s are within a =
@@ -277,11 +267,11 @@ module _ (e : ℕ) (all : List Want) where
         by_last : Last e all p moves ms k2 tokens a2 g2 b2 r2 → ((asks' : List ℕ) (given' : List Given) (middle' : List Known) (left' : List Token) → Children e all p moves firsts k2 tokens asks' given' middle' left' → SameChildren all asks asks' before given' behind middle' (Yield y.lun ∷ rest) left') → SameChildren all asks a2 (before ++ y ∷ []) g2 behind b2 rest r2
         by_last (no_child q z g b r) firsts_of = absurd (snoc_some firsts m (sym is ∙ q))
         by_last (last_tree t) firsts_of =
-            let same = snoc_front t.firsts firsts t.move m (sym t.is ∙ is) in
+            let same = same_from_push t.firsts firsts t.move m (sym t.is ∙ is) in
             let f = firsts_of t.before g2 t.middle t.left (subst (λ z. Children e all p moves z k2 tokens t.before g2 t.middle t.left) same.0 t.children) in
             absurd (no_yield e all (after p t.move) t.middle y.lun rest r2 t.demand b2 (subst (λ z. Proves e all (after p t.move) t.middle z t.demand b2 r2) (sym f.left) t.proves))
         by_last (last_yield t) firsts_of =
-            let same = snoc_front t.firsts firsts t.move m (sym t.is ∙ is) in
+            let same = same_from_push t.firsts firsts t.move m (sym t.is ∙ is) in
             let f = firsts_of a2 t.before b2 (Yield t.yield.lun ∷ r2) (subst (λ z. Children e all p moves z k2 tokens a2 t.before b2 (Yield t.yield.lun ∷ r2)) same.0 t.children) in
             let token = same_token (Yield y.lun) (Yield t.yield.lun) rest r2 f.left in
             let lun : y.lun ≡ t.yield.lun = cc in

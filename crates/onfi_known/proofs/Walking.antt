@@ -1,6 +1,6 @@
 -- How the token, the child or the tree that was read tells of the whole.
 use Rattle.std.proofs.Common.{◌≡◌, ◌≢◌, ℕ, ◌+◌, ◌≤◌, ◌<◌, List, [], ◌∷◌, ◌++◌, length, take, get_or, Some, refl, sym, ap, ◌∙◌, subst, arith}
-use Rattle.std.specs.Prelude.{Option, Result, Ok, Err, OnOk, IfOk, slice_index, max}
+use Rattle.std.specs.Prelude.{Option, slice_index, max}
 use Rattle.std.specs.List.{AllByRecursion as All}
 use Rattle.std.proofs.lemmas.List.{map-append, take_more}
 use Rattle.onfi_request.specs.declared.want.Want.{Want}
@@ -16,12 +16,12 @@ use Rattle.onfi_demand.specs.Kept.{demand_of, IsKept}
 use Rattle.onfi_demand.specs.declared.asked.Step.{Step}
 use Rattle.onfi_demand.specs.declared.demand.Demand.{Demand as Kept}
 use Rattle.onfi_demand.proofs.Stepping.{step_asks}
-use Rattle.onfi_known.specs.declared.fault.KnownFault.{KnownFault}
 use Rattle.onfi_known.specs.declared.known.Known.{Known}
 use Rattle.onfi_known.specs.declared.standing.Standing.{Standing}
 use Rattle.onfi_known.specs.declared.token.Token.{Token}
 use Rattle.onfi_known.specs.declared.token.Token.TheVariants.{Branch, Yield, Again}
 use Rattle.onfi_known.specs.Proves.{FitTimes, IsAgain, times_of, MayYield, with_yields, Proves, Children, Remembers, Yielded, Below, Grows, again, opened, tree, yielded}
+pub use Rattle.onfi_check.proofs.Walking.{on_ok, fewer_left}
 
 -- a yield was read
 pub yield_grows : (e : ℕ) (all : List Want) (p : Problem) (moves : List Move) (m : Move) (before behind : Standing) (known : List Known) (ends : List (Option ℕ)) (own lun n : ℕ) (token : Token) (tokens left : List Token) → token ≡ Yield lun → n ≡ lun → n < 8 → own ≡ move_lun m → tokens ≡ token ∷ left → AreLastEnds p moves ends → behind.asked ≡ before.asked → Yielded p ends before.given.items own n behind.given.items → Grows e all p moves m before known tokens behind known left
@@ -74,22 +74,6 @@ branch_proves e x items width s times first known known' tokens left d are wide 
     let k' : IsKept d (times_of r.node) = record { bus = r.bus; luns = λ l h. ap (λ z. slice_index z l) (r.luns ∙ sym r.times_are) } in
     let proves = opened x.problem first width tokens (moves_of x.groups items) s.asked s.given.items r.node d known left are (omega arith) (omega arith) children fit r.describes k k' in
     subst (λ z. Proves e x.all x.problem first (Branch width ∷ tokens) d z left) (sym r.grown) proves
-
-pub on_ok : {A P : Type 0} (r : Result A KnownFault) → P → OnOk r P
-on_ok (Ok x) h = h
-on_ok (Err f) h = tt
-
-pub ok_so : {A P Q : Type 0} (r : Result A KnownFault) → (P → Q) → OnOk r P → OnOk r Q
-ok_so (Ok x) f h = f h
-ok_so (Err e) f h = tt
-
-pub each_ok : {A : Type 0} (P Q : A → Type 0) (r : Result A KnownFault) → ((x : A) → P x → Q x) → IfOk r P → IfOk r Q
-each_ok P Q (Ok x) f h = f x h
-each_ok P Q (Err e) f h = tt
-
-pub fewer_left : {A : Type 0} (tokens left next : List Token) (token : Token) (r : Result A KnownFault) → tokens ≡ token ∷ left → OnOk r (length next ≤ length left) → OnOk r (length next ≤ length tokens)
-fewer_left tokens left next token (Err f) s h = tt
-fewer_left tokens left next token (Ok x) s h = let q = ap length s in omega arith
 
 pub again_proves : (e : ℕ) (all : List Want) (p : Problem) (known : List Known) (number : ℕ) (token : Token) (left : List Token) (d : Kept) → token ≡ Again number → IsAgain all p known number d → Proves e all p known (token ∷ left) d known left
 again_proves e all p known number token left d t h = subst (λ z. Proves e all p known (z ∷ left) d known left) (sym t) (again p known number d left h)

@@ -17,6 +17,8 @@ use Rattle.onfi_known.specs.declared.token.TheConstants.{MOST_KNOWN}
 use Rattle.onfi_known.specs.Proves.{Proves, ProvesTokens}
 use Rattle.onfi_known.specs.Text.{IsCertificate, header}
 use Rattle.onfi_known.specs.Word.{ahead_of}
+pub use Rattle.onfi_check.specs.Reading.{ReadOn}
+pub use Rattle.onfi_check.specs.Faults.{IsAt}
 
 -- the text begins with neither header
 abbrev pub NoHeader : List ℕ → Type 0
@@ -40,21 +42,6 @@ IsToYield token = (lun : ℕ) × (token ≡ tk.Yield lun)
 -- it names a node that was read
 abbrev pub NamesNode : Token → Type 0
 NamesNode token = (number : ℕ) × (token ≡ tk.Again number)
-
--- such a token stands at this place, where the first of the tokens has the place `first`
-pub record IsAt (first place : ℕ) (tokens : List Token) (Such : Token → Type 0) : Type 0 where
-  pub before : List Token
-  pub token : Token
-  pub behind : List Token
-  pub tokens_are : tokens ≡ before ++ token ∷ behind
-  pub place_is : place ≡ first + length before
-  pub such : Such token
-
--- these tokens but those left were read: the first had one place, the first left has the next
-pub record ReadOn (first next : ℕ) (tokens left : List Token) : Type 0 where
-  pub taken : List Token
-  pub tokens_are : tokens ≡ taken ++ left
-  pub next_is : next ≡ first + length taken
 
 -- the first fault of a tree is of the kind of the token at its place; tokens end too soon only where none is left. A
 -- branch may be told for its yields, whose times are too great, or as one node too many.

@@ -1,7 +1,7 @@
 -- Choosing the move that goes first among those of a list.
 use Rattle.std.proofs.Common.{◌≡◌, ℕ, zero, suc, ◌+◌, ◌≤◌, ◌<◌, ◌⊎◌, inl, inr, true, false, List, [], ◌∷◌, ◌++◌, length, map, take, drop, get_or, refl, sym, ap, ◌∙◌, subst, arith}
 use Rattle.std.specs.List.{AllByRecursion as All}
-use Rattle.std.proofs.lemmas.List.{take_more, map-append, take_all}
+use Rattle.std.proofs.lemmas.List.{take_more, map-append, take_all, drop_more}
 use Rattle.std.proofs.lemmas.Bool.{cases_eq, cases_lt, eq-eqb, ne_eqb, lt-ltb, le-ltb, false≢true}
 use Rattle.onfi_request.specs.declared.want.Want.{Want}
 use Rattle.onfi_group.specs.Words.{Has, Pairs}
@@ -11,7 +11,6 @@ use Rattle.onfi_problem.specs.declared.moves.Move.{Move as KeptMove}
 use Rattle.onfi_problem.specs.Position.{move_of, moves_of}
 use Rattle.onfi_problem.specs.Starts.{IsNamed}
 use Rattle.onfi_problem.proofs.Perm.{All-append, All-has, All-weaker}
-use Rattle.onfi_check.proofs.Reading.{drop_one}
 use Rattle.onfi_check.specs.First.{wants_started, starts_before, GoesFirst, IsFirstChoice}
 use Rattle.onfi_group.proofs.Lists.{Has-get}
 
@@ -72,7 +71,7 @@ one_more groups moves i s d e h =
     ap (moves_of groups) (take_more moves i d h) ∙ (map-append (move_of groups) (take i moves) (get_or moves i d ∷ []) ∙ ap (λ z. moves_of groups (take i moves) ++ move_of groups z ∷ []) e)
 
 next_is : (groups : List (List Want)) (moves : List KeptMove) (i : ℕ) (s d : KeptMove) → get_or moves i d ≡ s → i < length moves → moves_of groups (drop i moves) ≡ move_of groups s ∷ moves_of groups (drop (i + 1) moves)
-next_is groups moves i s d e h = ap (moves_of groups) (drop_one moves i d s h e)
+next_is groups moves i s d e h = ap (moves_of groups) (drop_more moves i d h ∙ ap (λ z. z ∷ drop (i + 1) moves) e)
 
 pairs_behind : {A : Type 0} (R : A → A → Type 0) (groups : List (List Want)) (f : KeptMove → A) (moves : List KeptMove) (i : ℕ) (d : KeptMove) → i < length moves → Pairs R (map f moves) → All (R (f (get_or moves i d))) (map f (drop (suc i) moves))
 pairs_behind R groups f [] i d h k = absurd (omega arith)

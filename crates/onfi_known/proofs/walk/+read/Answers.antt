@@ -10,14 +10,14 @@ use Rattle.onfi_demand.specs.Asked.{GoesOn}
 use Rattle.onfi_known.specs.Proves.{Proves, Children, Remembers, Grows, IsAgain, closed, none}
 use Rattle.onfi_known.proofs.Refusing.{again_refuses, child_at, children_refuse, closing_refuses, err_of, err_so, many_refuse, name_of_tokens, of_so, times_refuse, tree_child, width_refuses, yield_child}
 use Rattle.onfi_group.specs.Words.{Pairs}
-use Rattle.std.proofs.lemmas.Result.{err_from_is_err_and}
+use Rattle.std.proofs.lemmas.Result.{err_from_is_err_and, IfOk-weaker, on_ok_weaker}
 use Rattle.onfi_known.specs.Faults.{FaultFits, IsBranch, IsToYield, OfTokens}
 use Rattle.onfi_known.specs.declared.token.Token.TheVariants.{Branch}
 use Rattle.std.specs.Prelude.{IfErr, ◌⊎◌}
 use Rattle.onfi_known.proofs.Placing.{err_branch, err_each, err_here, err_name, err_yield, few_on, fits_behind, here, read_end, read_more, read_none, read_one}
 use Rattle.onfi_known.specs.Refused.{RefusesChild, RefusesChildren}
 use Rattle.onfi_check.proofs.OneList.{map_length}
-use Rattle.onfi_known.proofs.Walking.{on_ok, ok_so, each_ok, fewer_left, again_proves, yield_grows, below_grows, raised_by, step_is, children_more, branch_proves}
+use Rattle.onfi_known.proofs.Walking.{on_ok, fewer_left, again_proves, yield_grows, below_grows, raised_by, step_is, children_more, branch_proves}
 use Rattle.onfi_known.proofs.walk.+read.Goals as goal
 use Rattle.onfi_bound.proofs.Steps.{all_at}
 
@@ -45,14 +45,14 @@ read_branch-returns-clause-ok g t c =
     let long = c.len.ensures.value in
     let wide = c.get.ensures.value in
     let some = c.get.ensures.low in
-    each_ok _ _ c.remember.result
+    IfOk-weaker c.remember.result _ _
     (λ d r. branch_proves c.args.e x items c.args.width s c.in-Some.times c.args.known.now.items c.read_children.new.known.items c.remember.new.known.items (g.S.TokenSource.left c.args.tokens.now.source) left d c.list_steps.ensures.moves (omega (arith, c.if-len-get.false)) (omega arith) c.in_ok-standing.ensures.ok c.in-Some.ensures.value c.in-Some.ensures.fits
     (subst (λ (z : Position). Remembers z.all z.problem c.in-Some.times c.read_children.new.known.items c.remember.new.known.items d) c.in_ok-standing.ensures.problem r)) c.remember.ensures.ok
 
 pub read_child-returns-in-Yield-clause-ok : goal.read_child-returns-in-Yield-clause-ok
 read_child-returns-in-Yield-clause-ok g t c =
     let x = c.args.problem.now in
-    ok_so c.take_yield.result (yield_grows c.args.e x.all x.problem (moves_of x.groups c.args.moves.now) (move_of x.groups c.args.m) c.args.standing.now c.take_yield.new.standing c.args.known.now.items c.args.ends.now c.lun.result c.in-Yield.lun c.get.result c.in-Some.token (g.S.TokenSource.left c.args.tokens.now.source) (g.S.TokenSource.left c.take.new.self.source) c.in-Yield.is c.get.ensures.value c.get.ensures.below (c.lun.ensures ∙ sym c.requires.named.lun) c.in-Some.ensures.token c.requires.ends c.take_yield.ensures.asked) c.take_yield.ensures.ok
+    on_ok_weaker c.take_yield.result (yield_grows c.args.e x.all x.problem (moves_of x.groups c.args.moves.now) (move_of x.groups c.args.m) c.args.standing.now c.take_yield.new.standing c.args.known.now.items c.args.ends.now c.lun.result c.in-Yield.lun c.get.result c.in-Some.token (g.S.TokenSource.left c.args.tokens.now.source) (g.S.TokenSource.left c.take.new.self.source) c.in-Yield.is c.get.ensures.value c.get.ensures.below (c.lun.ensures ∙ sym c.requires.named.lun) c.in-Some.ensures.token c.requires.ends c.take_yield.ensures.asked) c.take_yield.ensures.ok
 
 pub read_child-returns-in_default-token : goal.read_child-returns-in_default-token
 read_child-returns-in_default-token g t c =
@@ -70,7 +70,7 @@ read_child-returns-in_default-token g t c =
       few = c.read_below.ensures.few;
       more = on_ok c.read_below.result (omega arith);
       err = err_so c.read_below.result _ _ (tree_child c.args.e x.all x.problem (moves_of x.groups c.args.moves.now) (move_of x.groups c.args.m) c.args.standing.now.given.items c.args.known.now.items tokens left c.in-Some.token c.in-Some.ensures.token c.in_default-token.not-Yield) c.read_below.ensures.err;
-      ok = ok_so c.read_below.result (below_grows c.args.e x.all x.problem (moves_of x.groups c.args.moves.now) (move_of x.groups c.args.m) c.args.standing.now c.read_below.new.standing c.args.known.now.items c.read_below.new.known.items c.in-Some.token tokens left next c.in-Some.ensures.token c.read_below.ensures.given) c.read_below.ensures.ok;
+      ok = on_ok_weaker c.read_below.result (below_grows c.args.e x.all x.problem (moves_of x.groups c.args.moves.now) (move_of x.groups c.args.m) c.args.standing.now c.read_below.new.standing c.args.known.now.items c.read_below.new.known.items c.in-Some.token tokens left next c.in-Some.ensures.token c.read_below.ensures.given) c.read_below.ensures.ok;
     }
 
 pub read_children-loop-m-init : goal.read_children-loop-m-init
@@ -155,7 +155,7 @@ read_tree-returns-in-Again-clause-ok g t c =
     let x = c.args.problem.now in
     let left = g.S.TokenSource.left c.args.tokens.now.source in
     let e : c.deref.result.now ≡ c.args.known.now.items = cc in
-    each_ok _ _ c.read_again.result (λ d h. again_proves c.args.e x.all x.problem c.args.known.now.items c.in-Again.number c.args.token left d c.in-Again.is (subst (λ z. IsAgain x.all x.problem z c.in-Again.number d) e h)) c.read_again.ensures.ok
+    IfOk-weaker c.read_again.result _ _ (λ d h. again_proves c.args.e x.all x.problem c.args.known.now.items c.in-Again.number c.args.token left d c.in-Again.is (subst (λ z. IsAgain x.all x.problem z c.in-Again.number d) e h)) c.read_again.ensures.ok
 
 pub read_tree-returns-in_default : goal.read_tree-returns-in_default
 read_tree-returns-in_default g t c =
@@ -167,7 +167,7 @@ read_tree-returns-in_default g t c =
       read = read_none c.args.tokens.now.place left;
       kind = err_each c.read_closing.result c.args.place c.args.token left left c.read_closing.ensures.kind;
       behind = refl;
-      ok = each_ok _ _ c.read_closing.result (λ d h. closed x.problem c.args.known.now.items c.args.token d left h.0 h.1) c.read_closing.ensures.ok;
+      ok = IfOk-weaker c.read_closing.result _ _ (λ d h. closed x.problem c.args.known.now.items c.args.token d left h.0 h.1) c.read_closing.ensures.ok;
       few = on_ok c.read_closing.result (λ h. h);
       err = err_of c.read_closing.result _ _ _ (closing_refuses c.args.e x.all x.problem c.args.known.now.items c.args.token left c.in_default.not-Branch c.in_default.not-Again) (λ k. k [] []) c.read_closing.ensures.err c.read_closing.ensures.kind;
     }
