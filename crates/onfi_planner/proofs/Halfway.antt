@@ -203,9 +203,6 @@ one_opened p finish found began (c, h) = let e : 1 ≡ began + 1 - began = omega
 pub one_over : (p : Problem) (finish began limit : ℕ) → began ≡ limit → IsOver p finish began began limit
 one_over p finish began limit h = let e : 1 ≡ limit - began + 1 = omega arith in record { limit = h; nodes = λ f k. subst (HasNodes f p) e (node_one f p) }
 
-pub closed_below : (p : Problem) (e : ℕ) (c : Closing) → IsProblem p → Closes p e c → Bounded p e
-closed_below p e c ip h = sound (Closed c) p e ip h
-
 -- what closes a node that was told as closed
 pub closed_by : (p : Problem) (f : ℕ) (o : Option Token) → true ≡ is_some o → MatchOption o (IsOpen f p) (λ t. (c : Closing) × (token_of c ≡ t) × Closes p f c) → (c : Closing) × Closes p f c
 closed_by p f None s h = absurd (false≢true (sym s))
@@ -221,7 +218,7 @@ pub closed_node : (x : Position) (best : Best) (o : Option Token) → IsProblem 
 closed_node x best None ip s h = absurd (false≢true (sym s))
 closed_node x best (Some t) ip s h = record {
   sooner = omega arith;
-  least = closed_below x.problem best.finish h.0 ip h.2;
+  least = sound (Closed h.0) x.problem best.finish ip h.2;
   run = λ e. absurd (false≢true e);
   kept = λ e. refl;
 }

@@ -30,9 +30,10 @@ use Rattle.onfi_planner.specs.Planning.{Found, IsOver, IsRoot, run_of}
 use Rattle.onfi_planner.proofs.Beginning.{first_is_run}
 use Rattle.onfi_planner.proofs.Grown.{Grown, accepts_sooner, grown_accepts, grown_width}
 use Rattle.onfi_planner.proofs.Growing.{map_length}
-use Rattle.onfi_planner.proofs.Halfway.{Pairs-cross, none_some, no_moves, not_before_itself, closed_below, steps_same, luns_of}
+use Rattle.onfi_planner.proofs.Halfway.{Pairs-cross, none_some, no_moves, not_before_itself, steps_same, luns_of}
 use Rattle.onfi_planner.proofs.Opening.{Done, opened}
 use Rattle.onfi_planner.proofs.Paths.{Among, among_all, among_more, among_none, among_skip, node_one}
+use Rattle.onfi_check.proofs.Sound.{sound}
 
 -- what holds of all moves holds of those that don't yield
 pub parts_all : (P : KeptMove → Type 0) (yields : List (Option ℕ)) (steps : List KeptMove) → All P steps → All P (parts_of yields steps)
@@ -249,25 +250,15 @@ parts_passed yields moves items i lun s d lt e n q =
     q ∙ (sym (parts_skip yields (take i moves) s lun n) ∙ ap (parts_of yields) (sym t))
 
 -- what each call gives, of all
-pub found_given : {F : Type 0} (g : Shared F (ℕ × Unit {0}) (Result Part Stop)) (f : F) (x : Position) (first limit : ℕ) (steps : List KeptMove) (i : ℕ) (found : List Part) → GivesFrom g f i found → length found ≡ length steps → ((k : ℕ) (d : KeptMove) (part : Part) → k < length steps → Gives g f (i + k) part → IsPart x first limit (get_or steps k d) part) → AreFound x first limit steps found
-found_given g f x first limit [] i [] a l h = tt
-found_given g f x first limit [] i (part ∷ found) a l h = absurd (omega arith)
-found_given g f x first limit (s ∷ steps) i [] a l h = absurd (omega arith)
-found_given g f x first limit (s ∷ steps) i (part ∷ found) a l h =
-    let z : i ≡ i + 0 = omega arith in (
-      h 0 s part (omega arith) (subst (λ k. Gives g f k part) z a.0),
-      found_given g f x first limit steps (suc i) found a.1 (omega arith) (λ k d p lt b. let e : suc i + k ≡ i + suc k = omega arith in h (suc k) d p (omega arith) (subst (λ k. Gives g f k p) e b)),
-    )
-
-pub branches_given : {F : Type 0} (g : Shared F (ℕ × Unit {0}) (Result (Vec Token Global) Stop)) (f : F) (x : Position) (e : ℕ) (yields : List (Option ℕ)) (steps : List KeptMove) (i : ℕ) (branches : List (Vec Token Global)) → GivesFrom g f i branches → length branches ≡ length steps → ((k : ℕ) (d : KeptMove) (v : Vec Token Global) → k < length steps → Gives g f (i + k) v → IsBranch x e (get_or steps k d) (yield_at yields (lun_named (get_or steps k d))) v.items) → AreBranches x e yields steps (map (λ v. v.items) branches)
-branches_given g f x e yields [] i [] a l h = tt
-branches_given g f x e yields [] i (v ∷ branches) a l h = absurd (omega arith)
-branches_given g f x e yields (s ∷ steps) i [] a l h = absurd (omega arith)
-branches_given g f x e yields (s ∷ steps) i (v ∷ branches) a l h =
-    let z : i ≡ i + 0 = omega arith in (
-      h 0 s v (omega arith) (subst (λ k. Gives g f k v) z a.0),
-      branches_given g f x e yields steps (suc i) branches a.1 (omega arith) (λ k d w lt b. let e : suc i + k ≡ i + suc k = omega arith in h (suc k) d w (omega arith) (subst (λ k. Gives g f k w) e b)),
-    )
+all_given : {F X : Type 0} (g : Shared F (ℕ × Unit {0}) (Result X Stop)) (f : F) (Is : KeptMove → X → Type 0) (Are : List KeptMove → List X → Type 0) → Are [] [] → ((s : KeptMove) (steps : List KeptMove) (x : X) (given : List X) → Is s x → Are steps given → Are (s ∷ steps) (x ∷ given))
+    → (steps : List KeptMove) (i : ℕ) (given : List X) → GivesFrom g f i given → length given ≡ length steps → ((k : ℕ) (d : KeptMove) (x : X) → k < length steps → Gives g f (i + k) x → Is (get_or steps k d) x) → Are steps given
+all_given g f Is Are none one [] i [] a l h = none
+all_given g f Is Are none one [] i (x ∷ given) a l h = absurd (omega arith)
+all_given g f Is Are none one (s ∷ steps) i [] a l h = absurd (omega arith)
+all_given g f Is Are none one (s ∷ steps) i (x ∷ given) a l h =
+    let z : i ≡ i + 0 = omega arith in
+    one s steps x given (h 0 s x (omega arith) (subst (λ k. Gives g f k x) z a.0))
+    (all_given g f Is Are none one steps (suc i) given a.1 (omega arith) (λ k d y lt b. let e : suc i + k ≡ i + suc k = omega arith in h (suc k) d y (omega arith) (subst (λ k. Gives g f k y) e b)))
 
 pub branches_length : (x : Position) (e : ℕ) (yields : List (Option ℕ)) (steps : List KeptMove) (branches : List (Vec Token Global)) → AreBranches x e yields steps (map (λ v. v.items) branches) → length branches ≡ length steps
 branches_length x e yields [] [] a = refl
@@ -293,10 +284,10 @@ opened_few most (part ∷ found) a =
 
 -- the same, from the first on
 pub found_all : {F : Type 0} (g : Shared F (ℕ × Unit {0}) (Result Part Stop)) (f : F) (x : Position) (first limit : ℕ) (steps : List KeptMove) (found : List Part) → GivesFrom g f 0 found → length found ≡ length steps → ((k : ℕ) (d : KeptMove) (part : Part) → k < length steps → Gives g f k part → IsPart x first limit (get_or steps k d) part) → AreFound x first limit steps found
-found_all g f x first limit steps found a l h = found_given g f x first limit steps 0 found a l (λ k d p lt b. let z : 0 + k ≡ k = omega arith in h k d p lt (subst (λ k. Gives g f k p) z b))
+found_all g f x first limit steps found a l h = all_given g f (IsPart x first limit) (AreFound x first limit) tt (λ s steps part found is are. (is, are)) steps 0 found a l (λ k d p lt b. let z : 0 + k ≡ k = omega arith in h k d p lt (subst (λ k. Gives g f k p) z b))
 
 pub branches_all : {F : Type 0} (g : Shared F (ℕ × Unit {0}) (Result (Vec Token Global) Stop)) (f : F) (x : Position) (e : ℕ) (yields : List (Option ℕ)) (steps : List KeptMove) (branches : List (Vec Token Global)) → GivesFrom g f 0 branches → length branches ≡ length steps → ((k : ℕ) (d : KeptMove) (v : Vec Token Global) → k < length steps → Gives g f k v → IsBranch x e (get_or steps k d) (yield_at yields (lun_named (get_or steps k d))) v.items) → AreBranches x e yields steps (map (λ v. v.items) branches)
-branches_all g f x e yields steps branches a l h = branches_given g f x e yields steps 0 branches a l (λ k d v lt b. let z : 0 + k ≡ k = omega arith in h k d v lt (subst (λ k. Gives g f k v) z b))
+branches_all g f x e yields steps branches a l h = all_given g f (λ s v. IsBranch x e s (yield_at yields (lun_named s)) v.items) (λ steps branches. AreBranches x e yields steps (map (λ v. v.items) branches)) tt (λ s steps v branches is are. (is, are)) steps 0 branches a l (λ k d v lt b. let z : 0 + k ≡ k = omega arith in h k d v lt (subst (λ k. Gives g f k v) z b))
 
 opened_append : (front : List Part) (part : Part) (behind : List Part) → opened_by (front ++ part ∷ behind) ≡ opened_by front + part.opened + opened_by behind
 opened_append [] part behind = omega arith
@@ -322,7 +313,7 @@ closed_found x root r (c, h) =
     let s = r.small in
     record {
       run = first_is_run (run_of x.groups root.best.steps.items) x.problem root.best.finish r.first_run;
-      least = closed_below x.problem root.best.finish c r.limits.problem h;
+      least = sound (Closed c) x.problem root.best.finish r.limits.problem h;
       small = omega arith;
     }
 

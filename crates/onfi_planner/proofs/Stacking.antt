@@ -2,7 +2,7 @@
 use Rattle.std.proofs.Common.{◌≡◌, ℕ, zero, suc, ◌+◌, ◌*◌, ◌≤◌, ◌<◌, inl, inr, List, [], ◌∷◌, ◌++◌, length, map, take, get_or, reverse, replicate, Some, refl, sym, ap, ◌∙◌, subst, arith, append_assoc, get_or-set_same, ◌^◌}
 use Rattle.std.specs.Prelude.{slice_get, slice_set, slice_index_or}
 use Rattle.std.proofs.lemmas.Bool.{cases_lt}
-use Rattle.std.proofs.lemmas.List.{map-append, reverse-append, take_more, take_all}
+use Rattle.std.proofs.lemmas.List.{map-append, reverse-append, take_more, take_all, set-set}
 use Rattle.std.proofs.lemmas.Option.{get_or_from_slice_get}
 use Rattle.onfi_timing.specs.Phases.{phase_length}
 use Rattle.onfi_request.specs.declared.want.Want.{Want}
@@ -160,11 +160,6 @@ module _ (x : Position) (steps : List Begun) (i : ℕ) (d : Begun) (problem : Is
   pub start_some : (l place : ℕ) → (get_or steps i d).step ≡ KeptStart l place → 1 ≤ length (slice_index_or x.groups place [])
   start_some l place e = room.some (slice_index_or x.groups place []) (ap (move_of x.groups) e)
 
-set_again : {A : Type 0} (xs : List A) (i : ℕ) (a b : A) → slice_set (slice_set xs i a) i b ≡ slice_set xs i b
-set_again [] i a b = refl
-set_again (x ∷ xs) zero a b = refl
-set_again (x ∷ xs) (suc i) a b = ap (λ z. x ∷ z) (set_again xs i a b)
-
 more : (groups : List (List Want)) (steps : List Begun) (i : ℕ) (d : Begun) (e s : Schedule) (m : Move) → i < length steps → s ≡ stacked e (run_of groups (take i steps)) → move_of groups (get_or steps i d).step ≡ m → with_first m (get_or steps i d).start s ≡ stacked e (run_of groups (take (i + 1) steps))
 more groups steps i d e s m h q k =
     let b = get_or steps i d in
@@ -180,7 +175,7 @@ start_stacked groups steps i d e s l place lun put rest starts placed' all h q k
     let b = get_or steps i d in
     let g = slice_index_or groups place [] in
     let x = b.start ∷ slice_index_or s.rest lun [] in
-    let rest' : rest ≡ slice_set s.rest lun [] = r ∙ (ap (λ z. slice_set z lun []) p ∙ set_again s.rest lun x []) in
+    let rest' : rest ≡ slice_set s.rest lun [] = r ∙ (ap (λ z. slice_set z lun []) p ∙ set-set s.rest lun x []) in
     let starts' : placed'.starts ≡ x = ts ∙ (t ∙ (ap (λ z. slice_index_or z lun []) p ∙ get_or-set_same s.rest lun x [] there)) in
     let group : placed' ≡ record { members = g; starts = x } = rw (← ms, ← starts') refl in
     let whole : record { rest = rest; groups = all } ≡ with_first (Start g) b.start s = rw (rest', a, group, ← ln) refl in

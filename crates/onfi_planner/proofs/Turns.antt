@@ -1,13 +1,14 @@
 -- Calls that are dealt to workers, and their answers.
-use Rattle.std.proofs.Common.{◌≡◌, ◌≢◌, ℕ, zero, suc, ◌+◌, ◌≤◌, ◌<◌, ◌%◌, ◌⊎◌, inl, inr, true, false, List, [], ◌∷◌, ◌++◌, length, map, get_or, Result, Ok, Err, Option, None, Some, Vec, Global, refl, sym, ap, ◌∙◌, subst, arith, get_or-set_same, get_or-set_other, length-set, add-one}
+use Rattle.std.proofs.Common.{◌≡◌, ◌≢◌, ℕ, suc, ◌+◌, ◌≤◌, ◌<◌, ◌%◌, ◌⊎◌, inl, inr, true, false, List, [], ◌∷◌, ◌++◌, length, map, get_or, Result, Ok, Err, Option, None, Some, Vec, Global, refl, sym, ap, ◌∙◌, subst, arith, get_or-set_same, get_or-set_other, length-set, add-one}
 use Rattle.std.specs.Prelude.{slice_set, IfOk, IfErr}
 use Rattle.std.specs.Option.{is_some}
-use Rattle.std.proofs.lemmas.List.{map-append, length-map}
+use Rattle.std.proofs.lemmas.List.{map-append, length-map, get_or-map}
 use Rattle.std.proofs.lemmas.Bool.{cases_eq, eq-eqb, ne_eqb, false≢true}
 use denote.Param.Members.{Shared}
 use Rattle.onfi_group.specs.Words.{Has}
 use Rattle.onfi_planner.specs.declared.search.Stop.{Stop}
 use Rattle.onfi_planner.specs.Dealing.{dealt, Gives, GivesAll, GivesFrom}
+use Rattle.onfi_group.proofs.Lists.{Has-append_left}
 
 pub dealt_here : (workers worker n : ℕ) → n % workers ≡ worker → dealt workers worker (suc n) ≡ dealt workers worker n ++ n ∷ []
 dealt_here workers worker n e = rw (eq-eqb (n % workers) worker e) refl
@@ -83,25 +84,15 @@ pub has_last : {A : Type 0} (xs : List A) (x : A) → Has (xs ++ x ∷ []) x
 has_last [] x = inl refl
 has_last (y ∷ xs) x = inr (has_last xs x)
 
-pub has_before : {A : Type 0} (xs : List A) (y x : A) → Has xs x → Has (xs ++ y ∷ []) x
-has_before [] y x h = absurd h
-has_before (z ∷ xs) y x (inl e) = inl e
-has_before (z ∷ xs) y x (inr h) = inr (has_before xs y x h)
-
 pub has_place : {A : Type 0} (xs : List A) (x d : A) → Has xs x → (i : ℕ) × (i < length xs) × (get_or xs i d ≡ x)
 has_place [] x d h = absurd h
 has_place (y ∷ xs) x d (inl e) = (0, omega arith, e)
 has_place (y ∷ xs) x d (inr h) = let r = has_place xs x d h in (suc r.0, (let k = r.1 in omega arith), r.2)
 
-pub map_place : {A B : Type 0} (h : A → B) (xs : List A) (i : ℕ) (d : A) (e : B) → i < length xs → get_or (map h xs) i e ≡ h (get_or xs i d)
-map_place h [] i d e lt = absurd (omega arith)
-map_place h (x ∷ xs) zero d e lt = refl
-map_place h (x ∷ xs) (suc i) d e lt = map_place h xs i d e (omega arith)
-
 -- one more that was refused
 pub still_refused : {A S : Type 0} (xs : List (Result A S)) (x : Result A S) (first : Option S) (refusal chosen r : S) → x ≡ Err refusal → (chosen ≡ refusal) ⊎ (first ≡ Some chosen) → Some chosen ≡ Some r → ((s : S) → first ≡ Some s → Has xs (Err s)) → Has (xs ++ x ∷ []) (Err r)
 still_refused xs x first refusal chosen r e (inl q) s h = let k : x ≡ Err r = cc in subst (Has (xs ++ x ∷ [])) k (has_last xs x)
-still_refused xs x first refusal chosen r e (inr q) s h = has_before xs x (Err r) (h r (q ∙ s))
+still_refused xs x first refusal chosen r e (inr q) s h = Has-append_left xs (x ∷ []) (Err r) (h r (q ∙ s))
 
 -- and one that was done
 pub still_done : {A S : Type 0} (xs : List (Result A S)) (x : Result A S) (ys zs : List A) (y : A) → x ≡ Ok y → zs ≡ ys ++ y ∷ [] → xs ≡ map Ok ys → xs ++ x ∷ [] ≡ map Ok zs
@@ -113,7 +104,7 @@ all_held g f workers n shares lists l e h =
     let long : length lists ≡ workers = sym (length-map lists Ok) ∙ (ap length (sym e) ∙ l) in
     record {
       long = long;
-      each = λ worker d below. h worker d (get_or lists worker d) below (ap (λ z. get_or z worker (Ok d)) e ∙ map_place Ok lists worker d (Ok d) (omega arith));
+      each = λ worker d below. h worker d (get_or lists worker d) below (ap (λ z. get_or z worker (Ok d)) e ∙ get_or-map Ok lists worker d (Ok d) (omega arith));
     }
 
 pub if_ok : {A E : Type 0} (r : Result A E) {P : A → Type 0} → ((a : A) → r ≡ Ok a → P a) → IfOk r P
@@ -123,14 +114,6 @@ if_ok (Err e) h = tt
 pub if_err : {A E : Type 0} (r : Result A E) {P : E → Type 0} → ((e : E) → r ≡ Err e → P e) → IfErr r P
 if_err (Ok a) h = tt
 if_err (Err e) h = h e refl
-
-pub ok_of : {A E : Type 0} (P : A → Type 0) (r : Result A E) (a : A) → r ≡ Ok a → IfOk r P → P a
-ok_of P (Ok b) a e h = let k : b ≡ a = cc in subst P k h
-ok_of P (Err b) a e h = cc
-
-pub err_of : {A E : Type 0} (P : E → Type 0) (r : Result A E) (a : E) → r ≡ Err a → IfErr r P → P a
-err_of P (Ok b) a e h = cc
-err_of P (Err b) a e h = let k : b ≡ a = cc in subst P k h
 
 pub none_of : {A : Type 0} (o : Option A) → is_some o ≡ false → o ≡ None
 none_of None e = refl

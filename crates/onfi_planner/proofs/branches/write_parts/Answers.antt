@@ -2,13 +2,14 @@ use Rattle.std.proofs.Common.{◌≡◌, ◌++◌, ◌∷◌, [], length, sym, a
 use Rattle.std.specs.Prelude.{◌==◌}
 use Rattle.std.specs.List.{AllByRecursion as All, flat_map}
 use Rattle.std.proofs.lemmas.Bool.{eqb-true}
+use Rattle.std.proofs.lemmas.Result.{IfOk-at_ok}
 use Rattle.onfi_cert.specs.declared.token.Token.TheVariants.{Branch}
 use Rattle.onfi_problem.specs.Moves.{move_lun}
 use Rattle.onfi_problem.specs.Position.{move_of, lun_named}
 use Rattle.onfi_planner.proofs.Growing.{no_end}
 use Rattle.onfi_planner.proofs.Halfway.{steps_same, luns_of, some_items}
 use Rattle.onfi_planner.proofs.Splitting.{closed_accepted, branches_length, joined_accepted}
-use Rattle.onfi_planner.proofs.Turns.{if_ok, ok_of}
+use Rattle.onfi_planner.proofs.Turns.{if_ok}
 use Rattle.onfi_planner.proofs.branches.write_parts.Goals as goal
 
 pub returns-in-Some : goal.returns-in-Some
@@ -34,5 +35,5 @@ returns g c =
     let some = some_items items (c.if-is_empty.ensures ∙ ap (λ z. length z == 0) (sym c.as_slice-steps.ensures.value)) in
     let (yields, ay, branches) = c.in_ok-branches.ensures in
     if_ok c.join.result (λ tokens e.
-    let t = ok_of _ c.join.result tokens e c.join.ensures in
+    let t = IfOk-at_ok _ e c.join.ensures in
     joined_accepted x yields c.args.root.now.best.finish c.of-width.result items c.in_ok-branches.branches.items tokens.items are luns some ay branches c.of-width.ensures (t ∙ ap (λ z. Branch c.of-width.result ∷ flat_map (λ v. v.items) z) c.as_slice.ensures.value))

@@ -1,6 +1,7 @@
-use Rattle.std.proofs.Common.{Err}
-use Rattle.onfi_planner.proofs.Turns.{has_before, still_done, still_refused}
+use Rattle.std.proofs.Common.{Err, [], ◌∷◌}
+use Rattle.onfi_planner.proofs.Turns.{still_done, still_refused}
 use Rattle.onfi_planner.proofs.dealing.all_done.Goals as goal
+use Rattle.onfi_group.proofs.Lists.{Has-append_left}
 
 pub loop-share-preserved : goal.loop-share-preserved
 loop-share-preserved g c = record {
@@ -11,5 +12,5 @@ loop-share-preserved g c = record {
 pub loop-share-preserved-in-Ok-push : goal.loop-share-preserved-in-Ok-push
 loop-share-preserved-in-Ok-push g c = record {
   done = λ n. still_done c.loop-share.yielded c.in-Some.share c.loop-share.all.items c.push.new.self.items c.in-Ok.answers c.in-Ok.is c.in-Ok-push.ensures.items (c.loop-share.invariant.done n);
-  refused = λ r e. has_before c.loop-share.yielded c.in-Some.share (Err r) (c.loop-share.invariant.refused r e);
+  refused = λ r e. Has-append_left c.loop-share.yielded (c.in-Some.share ∷ []) (Err r) (c.loop-share.invariant.refused r e);
 }
