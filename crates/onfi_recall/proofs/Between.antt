@@ -1,7 +1,6 @@
 -- A walk between two children of a node.
 use Rattle.std.proofs.Common.{◌≡◌, ◌≢◌, ℕ, zero, suc, ◌+◌, ◌-◌, ◌≤◌, ◌<◌, inl, inr, Bool, true, false, List, [], ◌∷◌, ◌++◌, length, map, take, get_or, refl, sym, ap, ◌∙◌, subst, arith, append_assoc}
 use Rattle.std.specs.Prelude.{slice_index, slice_index_or}
-use Rattle.std.specs.List.{AllByRecursion as All}
 use Rattle.std.proofs.lemmas.Bool.{cases_eq, cases_Bool, false≢true}
 use Rattle.onfi_group.specs.Words.{Has, Pairs}
 use Rattle.onfi_problem.specs.Problem.{IsProblem}
@@ -30,16 +29,12 @@ use Rattle.onfi_recall.specs.declared.yields.Soonest.{Soonest}
 use Rattle.onfi_recall.specs.Text.{nodes_in}
 use Rattle.onfi_recall.specs.Walks.{Awaits, Growing, Halfway, HasWritten, IsAt, IsRunOf, IsSoonest, Visited}
 use Rattle.onfi_recall.proofs.Waiting.{yields_here, yields_same}
-
-all_at : {A B : Type 0} (P : B → Type 0) (f : A → B) (xs : List A) (i : ℕ) (d : A) → i < length xs → All P (map f xs) → P (f (get_or xs i d))
-all_at P f [] i d h all = absurd (omega arith)
-all_at P f (x ∷ xs) zero d h all = all.0
-all_at P f (x ∷ xs) (suc i) d h all = all_at P f xs i d (omega arith) all.1
+use Rattle.onfi_problem.proofs.Lists.{All-map, all_at}
 
 fresh : {A B : Type 0} (R : B → B → Type 0) (f : A → B) (xs : List A) (i : ℕ) (d : A) → ((m : B) → R m m → ⊥) → i < length xs → Pairs R (map f xs) → Has (map f (take i xs)) (f (get_or xs i d)) → ⊥
 fresh R f [] i d irr h p k = absurd (omega arith)
 fresh R f (x ∷ xs) zero d irr h p k = absurd k
-fresh R f (x ∷ xs) (suc i) d irr h p (inl e) = irr (f (get_or xs i d)) (subst (λ z. R z (f (get_or xs i d))) e (all_at (R (f x)) f xs i d (omega arith) p.0))
+fresh R f (x ∷ xs) (suc i) d irr h p (inl e) = irr (f (get_or xs i d)) (subst (λ z. R z (f (get_or xs i d))) e (all_at (λ y. R (f x) (f y)) xs i d (omega arith) (All-map f (R (f x)) xs p.0)))
 fresh R f (x ∷ xs) (suc i) d irr h p (inr k) = fresh R f xs i d irr (omega arith) p.1 k
 
 -- no move is listed twice

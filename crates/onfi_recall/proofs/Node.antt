@@ -1,7 +1,8 @@
 -- What a walk shows of a node.
 use Rattle.std.proofs.Common.{◌≡◌, ℕ, ◌+◌, ◌-◌, ◌≤◌, ◌<◌, ◌^◌, true, false, List, [], ◌∷◌, ◌++◌, length, refl, sym, ap, ◌∙◌, subst, arith, length-append}
-use Rattle.std.specs.Prelude.{Result, Ok, Err, IfOk, slice_index, slice_index_or, max}
+use Rattle.std.specs.Prelude.{slice_index, slice_index_or, max}
 use Rattle.std.proofs.lemmas.Bool.{false≢true}
+use Rattle.std.proofs.lemmas.List.{nil_from_length}
 use Rattle.onfi_problem.specs.Problem.{Problem, IsProblem}
 use Rattle.onfi_problem.specs.Moves.{Move, IsMove, AreMoves, earliest}
 use Rattle.onfi_problem.specs.Left.{InLimits}
@@ -30,11 +31,6 @@ use Rattle.onfi_recall.specs.declared.standing.Standing.{Standing}
 use Rattle.onfi_recall.specs.declared.yields.Soonest.{Soonest}
 use Rattle.onfi_recall.specs.Walks.{AreMore, Halfway, IsClosing, IsFound, IsShown, Visited, wait_for}
 use Rattle.onfi_recall.proofs.Waiting.{raised_needs, raised_met}
-
--- what a call gives, said otherwise
-pub each_ok : {A E : Type 0} (P Q : A → Type 0) (r : Result A E) → ((x : A) → P x → Q x) → IfOk r P → IfOk r Q
-each_ok P Q (Ok x) f h = f x h
-each_ok P Q (Err e) f h = tt
 
 -- a step and a run behind it
 pub step_run : (x : Position) (b : Begun) (steps items : List Begun) (f : ℕ) → IsMove x.problem (move_of x.groups b.step) → b.start ≡ earliest x.problem (move_of x.groups b.step) → items ≡ steps ++ b ∷ [] → Run (moved x b.step).problem (run_of x.groups steps) f → Run x.problem (run_of x.groups items) f
@@ -74,20 +70,16 @@ closed_shown x best before behind closing c room count limit known finish tokens
       };
     }
 
-no_items : (x : Position) (items : List KeptMove) → length items ≡ 0 → items ≡ []
-no_items x [] e = refl
-no_items x (s ∷ items) e = absurd (omega arith)
-
 -- nothing is left, and no step was taken
 pub done_run : (x : Position) (items : List KeptMove) (steps : List Begun) (f : ℕ) → IsProblem x.problem → AreMoves x.problem (moves_of x.groups items) → length items ≡ 0 → steps ≡ [] → f ≡ x.problem.bus_free → Run x.problem (run_of x.groups steps) f
-done_run x items steps f ip are none s e = rw s (no_moves x.problem ip (subst (λ z. AreMoves x.problem (moves_of x.groups z)) (no_items x items none) are), sym e)
+done_run x items steps f ip are none s e = rw s (no_moves x.problem ip (subst (λ z. AreMoves x.problem (moves_of x.groups z)) (nil_from_length items none) are), sym e)
 
 -- a node with nothing left
 pub done_shown : (x : Position) (items : List KeptMove) (old new : Best) (notes : Notes) (demand : Kept) → InLimits x.problem → AreMoves x.problem (moves_of x.groups items) → length items ≡ 0
     → new.finish ≡ x.problem.bus_free → new.steps.items ≡ [] → IsOpen old.finish x.problem → old.finish ≤ notes.cert.finish → 1 ≤ notes.opened → notes.opened ≤ notes.limit → notes.cut ≡ false → IsKept demand (of_bus new.finish)
     → IsShown x old new (notes.opened - 1) notes notes (record { demand = demand; improved = true })
 done_shown x items old new notes demand limits are none end steps is_open begun counted within uncut kept =
-    let d = no_moves x.problem limits.problem (subst (λ z. AreMoves x.problem (moves_of x.groups z)) (no_items x items none) are) in
+    let d = no_moves x.problem limits.problem (subst (λ z. AreMoves x.problem (moves_of x.groups z)) (nil_from_length items none) are) in
     let u = is_open.bus in
     let b = kept.bus in
     record {

@@ -1,19 +1,15 @@
 -- What an inbox gave, and what waits there, are what was popped.
 use Rattle.std.proofs.Common.{◌≡◌, ◌-◌, List, [], ◌∷◌, ◌++◌, length, take, sym, refl, ap, ◌∙◌, subst, ⊎_elim, append_assoc, length-append, arith}
-use Rattle.std.proofs.lemmas.List.{append-nil}
+use Rattle.std.proofs.lemmas.List.{append-nil, nil_from_length, take_at}
 use Rattle.onfi_request.specs.declared.reply.Reply.{Reply}
 use Rattle.onfi_reply.specs.Replies.{IsNext}
 use Rattle.onfi_reply.specs.Ends.{InboxSeatView, with_popped, given_of, IsWhole}
 use Rattle.onfi_reply.proofs.Proper.{split_last, not_nil}
 
-take_front : (given waiting : List Reply) → take (length given) (given ++ waiting) ≡ given
-take_front [] waiting = refl
-take_front (x ∷ given) waiting = ap (λ (l : List Reply). x ∷ l) (take_front given waiting)
-
 pub given_is : (popped given waiting : List Reply) → popped ≡ given ++ waiting → given_of popped waiting ≡ given
 given_is popped given waiting e =
     let n : length popped - length waiting ≡ length given = omega (arith, ap length e, length-append given waiting) in
-    (λ i. take (n i) (e i)) ∙ take_front given waiting
+    (λ i. take (n i) (e i)) ∙ take_at given waiting (length given) refl
 
 -- however what was popped is split before what waits, it is whole
 whole_by : (seat : InboxSeatView) (given waiting : List Reply) → seat.popped ≡ given ++ waiting
@@ -57,9 +53,5 @@ taken_whole seat after x waiting old whole is longer next =
 alone_whole : (seat : InboxSeatView) → IsWhole seat []
 alone_whole seat = whole_by seat seat.popped [] (sym (append-nil seat.popped)) (λ before r behind at. absurd (not_nil before r behind at))
 
-nil_of : (xs : List Reply) → length xs ≡ 0 → xs ≡ []
-nil_of [] e = refl
-nil_of (x ∷ xs) e = absurd (omega arith)
-
 pub popped_whole : (seat : InboxSeatView) (waiting : List Reply) → length waiting ≡ 0 → IsWhole seat waiting
-popped_whole seat waiting none = subst (λ (l : List Reply). IsWhole seat l) (sym (nil_of waiting none)) (alone_whole seat)
+popped_whole seat waiting none = subst (λ (l : List Reply). IsWhole seat l) (sym (nil_from_length waiting none)) (alone_whole seat)

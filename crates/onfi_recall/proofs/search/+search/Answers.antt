@@ -2,6 +2,7 @@ use Rattle.std.proofs.Common.{◌≡◌, ◌<◌, ◌+◌, ℕ, true, false, [],
 use Rattle.std.specs.Prelude.{IfNone, IfSome, max, slice_index, slice_index_or}
 use Rattle.std.proofs.lemmas.Bool.{eqb-true, false≢true}
 use Rattle.std.proofs.lemmas.List.{take_all}
+use Rattle.std.proofs.lemmas.Result.{IfOk-weaker}
 use Rattle.onfi_group.specs.Words.{Has}
 use Rattle.onfi_problem.specs.Moves.{AreMoves, after}
 use Rattle.onfi_problem.specs.declared.moves.Move.TheVariants.{Next}
@@ -18,7 +19,7 @@ use Rattle.onfi_recall.specs.Steps.{IsStep}
 use Rattle.onfi_recall.specs.Walks.{Halfway, IsAt, IsClosing, IsShown, IsSoonest, wait_for}
 use Rattle.onfi_recall.proofs.Steps.{step_at, there_behind}
 use Rattle.onfi_recall.proofs.Between.{at_counted, at_moved, at_start, new_move, still_at, with_child, with_yield}
-use Rattle.onfi_recall.proofs.Node.{closed_shown, counted_shown, cut_shown, done_shown, each_ok, full_shown, node_shown, step_visited}
+use Rattle.onfi_recall.proofs.Node.{closed_shown, counted_shown, cut_shown, done_shown, full_shown, node_shown, step_visited}
 use Rattle.onfi_recall.proofs.search.+search.Goals as goal
 
 pub search-returns-then-notes-clause-shown : goal.search-returns-then-notes-clause-shown
@@ -39,7 +40,7 @@ search-returns-in-Some-clause-shown t c =
     closed_shown x c.args.best.now notes _ c.in-Some.closing closes (omega (arith, c.requires.within, c.if-notes.false)) refl refl refl c.write.ensures.finish c.in_ok-write.ensures.tokens at.0 refl
 
 pub search-returns-clause-shown : goal.search-returns-clause-shown
-search-returns-clause-shown t c = each_ok _ _ c.search_open.result (λ shown s. counted_shown c.args.problem.now c.args.best.now c.search_open.new.best c.args.notes.now c.search_open.new.notes _ shown s) c.search_open.ensures.shown
+search-returns-clause-shown t c = IfOk-weaker c.search_open.result _ _ (λ shown s. counted_shown c.args.problem.now c.args.best.now c.search_open.new.best c.args.notes.now c.search_open.new.notes _ shown s) c.search_open.ensures.shown
 
 pub search_child-returns-then-is_awaited-clause-more : goal.search_child-returns-then-is_awaited-clause-more
 search_child-returns-then-is_awaited-clause-more t c = λ moves firsts first before new h.
