@@ -31,7 +31,7 @@ use Rattle.onfi_chip.specs.declared.closer.Closer.TheVariants.{More, Last}
 use Rattle.onfi_chip.specs.declared.lane.Lane.{Lane}
 use Rattle.onfi_chip.specs.declared.lane.Lane.TheVariants as lane
 use Rattle.onfi_chip.specs.declared.post.Post.{Post}
-use Rattle.onfi_chip.specs.Chip.{Chip, Lun, no_failures, opened, taken, posts_of, queued, happened}
+use Rattle.onfi_chip.specs.Chip.{Chip, Lun, found_ready, luns_ready_by, no_failures, opened, ready_by, taken, posts_of, queued, happened}
 use Rattle.onfi_chip.specs.Chip.Lun.{Idle, Commanding, Posting}
 use Rattle.onfi_chip.specs.Calls.{command_of}
 use Rattle.onfi_chip.specs.Hold.{hold}
@@ -173,6 +173,17 @@ pub lun_changed :
 lun_changed g t s lanes now i j z to v k h =
     subst (λ (y : Sim). chip_of (view g t s (set lanes i z)) ≡ record (chip_of y) { luns = set y.luns j to }) v
     (ap (λ ls. with_parts g t s.device.faults (blocks_of s) ls) (lun_set lanes i j z to k h))
+
+-- a LUN was found ready, and nothing else has changed
+pub lun_ready :
+    (g : Geometry) (t : Timing) (s : Stored) (lanes : List Lane) (now : Sim) (i j : ℕ) (x z : Lane) (moment : ℕ) →
+    view g t s lanes ≡ now → i < length lanes → x ≡ get_or lanes i x → i ≡ j → lun_of z ≡ ready_by moment (lun_of x) →
+    chip_of (view g t s (set lanes i z)) ≡ found_ready (chip_of now) j moment
+lun_ready g t s lanes now i j x z moment v l e k h =
+    let here = lun_at lanes i j x l e k in
+    subst (λ (y : Sim). chip_of (view g t s (set lanes i z)) ≡ found_ready (chip_of y) j moment) v
+    (ap (λ ls. with_parts g t s.device.faults (blocks_of s) ls)
+    (lun_set lanes i j z (ready_by moment (lun_of x)) k h ∙ ap (λ o. luns_ready_by moment j o (map lun_of lanes)) (sym here)))
 
 pub form_of :
     (g : Geometry) (t : Timing) (s : Stored) (lanes : List Lane) (now : Sim) (post : Post) → view g t s lanes ≡ now → IsSim g s lanes →

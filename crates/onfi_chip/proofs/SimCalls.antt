@@ -1,6 +1,6 @@
 -- The calls of a simulated chip.
-use Rattle.std.proofs.Common.{◌≡◌, ◌≢◌, ℕ, zero, suc, ◌+◌, ◌<◌, ◌≤◌, true, false, List, [], ◌∷◌, Result, Ok, Err, OnOk, OnErr, refl, sym, ap, subst, ◌∙◌, arith}
-use Rattle.std.specs.Prelude.{Option, Some, None, min, slice_get, slice_set}
+use Rattle.std.proofs.Common.{◌≡◌, ◌≢◌, ℕ, ◌+◌, ◌<◌, true, false, List, ◌∷◌, Result, Ok, Err, OnOk, OnErr, refl, sym, ap, subst, ◌∙◌, arith}
+use Rattle.std.specs.Prelude.{Some, slice_get, slice_set}
 use Rattle.std.specs.Result.{is_err}
 use Rattle.onfi_addr.specs.declared.geometry.Geometry.{Geometry}
 use Rattle.onfi_addr.specs.declared.place.Place.{Place}
@@ -17,8 +17,8 @@ use Rattle.onfi_chip.specs.declared.closer.Closer.{Closer}
 use Rattle.onfi_chip.specs.declared.closer.Closer.TheVariants.{More, Last}
 use Rattle.onfi_chip.specs.declared.post.Post.{Post}
 use Rattle.onfi_chip.specs.declared.sim.SimChip.{SimChip}
-use Rattle.onfi_chip.specs.Chip.{Chip, Failures, Lun, after_post, found_ready, luns_ready_by, posted}
-use Rattle.onfi_chip.specs.Chip.Lun.{Idle, Commanding, Posting}
+use Rattle.onfi_chip.specs.Chip.{Chip, Failures, after_post, posted}
+use Rattle.onfi_chip.specs.Chip.Lun.{Posting}
 use Rattle.onfi_chip.specs.Calls.{AreNoFewer, command_of, HasDone, IsNextPost, IsStatus}
 use Rattle.onfi_chip.specs.Sim.{chip_of}
 use Rattle.onfi_chip.specs.SimChip.{chip_in, failures_of}
@@ -94,23 +94,3 @@ is_status bytes kind.Program Failed n h = tt
 is_status bytes kind.Erase (Read content) n h = h
 is_status bytes kind.Erase Done n h = tt
 is_status bytes kind.Erase Failed n h = tt
-
--- Whether a LUN is ready
-
-set_self : {A : Type 0} (xs : List A) (i : ℕ) (x : A) → slice_get xs i ≡ Some x → slice_set xs i x ≡ xs
-set_self [] i x h = refl
-set_self (y ∷ xs) zero x h = let e : x ≡ y = cc in ap (λ z. z ∷ xs) e
-set_self (y ∷ xs) (suc i) x h = ap (λ zs. y ∷ zs) (set_self xs i x h)
-
-luns_same : (now lun : ℕ) (luns : List Lun) (x : Option Lun) → slice_get luns lun ≡ x → ((posts : List Post) (ready : ℕ) → x ≡ Some (Posting posts ready) → ready ≤ now) → luns_ready_by now lun x luns ≡ luns
-luns_same now lun luns None at over = refl
-luns_same now lun luns (Some Idle) at over = set_self luns lun Idle at
-luns_same now lun luns (Some (Commanding requests ready)) at over = set_self luns lun (Commanding requests ready) at
-luns_same now lun luns (Some (Posting posts ready)) at over =
-    let low = over posts ready refl in
-    let e : min ready now ≡ ready = omega arith in
-    rw e (set_self luns lun (Posting posts ready) at)
-
--- where the stated time is over nothing changes
-pub found_same : (chip : Chip) (lun now : ℕ) → ((posts : List Post) (ready : ℕ) → slice_get chip.luns lun ≡ Some (Posting posts ready) → ready ≤ now) → chip ≡ found_ready chip lun now
-found_same chip lun now over = sym (ap (λ (ls : List Lun). let c : Chip = record chip { luns = ls } in c) (luns_same now lun chip.luns (slice_get chip.luns lun) refl over))

@@ -5,6 +5,7 @@ pub mod Hold
 pub mod Alone
 pub mod Sim
 pub mod Numbers
+pub mod Arrays
 pub mod SimChip
 pub use Rattle.onfi_addr.specs.Rows
 pub use Rattle.onfi_timing.specs.Kinds

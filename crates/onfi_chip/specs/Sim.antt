@@ -1,5 +1,5 @@
 -- The dies of a simulated chip: how their fields stand for a chip.
-use Rattle.std.specs.Prelude.{◌≡◌, ◌≢◌, ℕ, ◌+◌, ◌<◌, List, Option, Some, None, map}
+use Rattle.std.specs.Prelude.{◌≡◌, ◌≢◌, ℕ, ◌+◌, ◌<◌, nat_le, Bool, true, false, List, Option, Some, None, map}
 use Rattle.std.specs.List.{AllByRecursion as Each}
 use Rattle.onfi_addr.specs.declared.geometry.Geometry.{Geometry}
 use Rattle.onfi_timing.specs.declared.timing.Timing.{Timing}
@@ -47,6 +47,16 @@ abbrev pub lun_of : Lane → Lun
 lun_of lane.Idle = Idle
 lun_of (lane.Commanding members wait) = Commanding (map request_in members.items) (over_at wait)
 lun_of (lane.Posting posts wait) = Posting posts.items (over_at wait)
+
+-- what a LUN waits for, if anything, is over by then
+abbrev pub is_over : ℕ → Lun → Bool
+is_over now Idle = true
+is_over now (Commanding requests ready) = nat_le ready now
+is_over now (Posting posts ready) = nat_le ready now
+
+abbrev pub is_over_at : ℕ → Option Lun → Bool
+is_over_at now None = false
+is_over_at now (Some lun) = is_over now lun
 
 -- a LUN that may take a command
 abbrev pub IsOpen : Lun → Type 0

@@ -1,4 +1,4 @@
-ghost use Rattle.std.specs.Prelude.{◌≡◌, ℕ, ◌+◌, ◌≤◌, IsTrue, List, ◌∷◌, Some, IfOk, OnOk, OnErr, slice_get, slice_set};
+ghost use Rattle.std.specs.Prelude.{◌≡◌, ℕ, ◌+◌, List, ◌∷◌, Some, IfOk, OnOk, OnErr, slice_get, slice_set};
 
 use crate::closer::Closer;
 use crate::lane::{Lane, idle_lanes};
@@ -8,7 +8,7 @@ use crate::post::Post;
 use crate::wait::Wait;
 use onfi_addr::{Geometry, Place};
 use onfi_die::{Fault, Prepared, Store};
-use onfi_timing::{Kind, Timing};
+use onfi_timing::{Kind, Spans, Timing};
 use std::alloc::{AllocError, Global};
 use std::marker::Model;
 
@@ -42,10 +42,10 @@ impl Dies {
     ghost use Rattle.onfi_request.specs.Range.{Fits};
     ghost use Rattle.onfi_die.specs.Prepared.{IsAnswerTo};
     ghost use Rattle.onfi_chip.specs.declared.post.Post.{Post as APost};
-    ghost use Rattle.onfi_chip.specs.Chip.{opened, no_failures, after_post};
+    ghost use Rattle.onfi_chip.specs.Chip.{opened, no_failures, after_post, found_ready};
     ghost use Rattle.onfi_chip.specs.Chip.Lun.{Posting as InPosts};
     ghost use Rattle.onfi_chip.specs.Calls.{command_of};
-    ghost use Rattle.onfi_chip.specs.Sim.{chip_of, request_in, over_at, added, IsOpenAt, IsReady};
+    ghost use Rattle.onfi_chip.specs.Sim.{chip_of, request_in, over_at, added, is_over_at, IsOpenAt, IsReady};
 
     /// The dies of a device as they open: all blocks erased, all LUNs idle.
     ///
@@ -78,6 +78,13 @@ impl Dies {
             unreachable!();
         };
         place
+    }
+
+    /// The lengths of a kind.
+    pub(crate) fn spans(&self, kind: Kind) -> Spans
+        ensures { result ≡ spans_of self.now.timing kind }
+    {
+        self.timing.spans(kind)
     }
 
     fn add(
@@ -126,13 +133,23 @@ impl Dies {
 
     /// Whether the wait of that LUN is over at `now`; of one that isn't there it is not.
     pub(crate) fn is_ready(&self, lun: u8, now: u64) -> bool
-        ensures { IsTrue result → (posts : List APost) (ready : ℕ) → slice_get self.now.luns lun ≡ Some (InPosts posts ready) → ready ≤ now }
+        ensures { result ≡ is_over_at now (slice_get self.now.luns lun) }
     {
         let at = usize::from(lun);
         if at >= self.lanes.len() {
             return false;
         }
         self.lanes[at].is_ready(now)
+    }
+
+    /// The array of that LUN was found done at `now`.
+    pub(crate) fn find_ready(&mut self, lun: u8, now: u64)
+        ensures { chip_of self.new ≡ found_ready (chip_of self.old) lun now }
+    {
+        let at = usize::from(lun);
+        if at < self.lanes.len() {
+            self.lanes[at].find_ready(now);
+        }
     }
 
     /// Gives up the next post of a LUN, which starts at `now`.

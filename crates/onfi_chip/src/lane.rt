@@ -1,11 +1,11 @@
-ghost use Rattle.std.specs.Prelude.{◌≡◌, ℕ, ◌+◌, ◌≤◌, IsTrue, List, [], ◌∷◌, ◌++◌, length, replicate, Some, IfOk, OnOk, OnErr};
+ghost use Rattle.std.specs.Prelude.{◌≡◌, ℕ, ◌+◌, List, [], ◌∷◌, ◌++◌, length, replicate, Some, IfOk, OnOk, OnErr};
 ghost use Rattle.onfi_timing.specs.Kinds.{spans_of};
 ghost use Rattle.onfi_die.specs.Store.{Stored};
-ghost use Rattle.onfi_chip.specs.Chip.{taken, after_post};
+ghost use Rattle.onfi_chip.specs.Chip.{taken, after_post, ready_by};
 ghost use Rattle.onfi_chip.specs.Chip.Lun.{Commanding as InCommands, Posting as InPosts};
 ghost use Rattle.onfi_chip.specs.declared.lane.Lane.TheVariants.{Idle};
 ghost use Rattle.onfi_chip.specs.declared.post.Post.{Post as APost};
-ghost use Rattle.onfi_chip.specs.Sim.{lun_of, request_in, over_at, IsOpen, IsLane, IsPost, IsReady};
+ghost use Rattle.onfi_chip.specs.Sim.{lun_of, request_in, over_at, is_over, IsOpen, IsLane, IsPost, IsReady};
 
 use crate::member::Member;
 use crate::post::Post;
@@ -38,12 +38,22 @@ impl Lane {
 
     /// Whether its wait, if it has one, is over at `now`.
     pub(crate) fn is_ready(&self, now: u64) -> bool
-        ensures { IsTrue result → (posts : List APost) (ready : ℕ) → lun_of self.now ≡ InPosts posts ready → ready ≤ now }
+        ensures { result ≡ is_over now (lun_of self.now) }
     {
         match self {
             Lane::Idle => true,
             Lane::Commanding(_, wait) => wait.is_over(now),
             Lane::Posting(_, wait) => wait.is_over(now),
+        }
+    }
+
+    /// Its array was found done at `now`.
+    pub(crate) fn find_ready(&mut self, now: u64)
+        ensures ready { lun_of self.new ≡ ready_by now (lun_of self.old) }
+        ensures kept { (store : Stored) → IsLane store self.old → IsLane store self.new }
+    {
+        if let Lane::Posting(_, wait) = self {
+            *wait = wait.over_by(now);
         }
     }
 

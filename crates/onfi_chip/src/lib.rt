@@ -2,6 +2,8 @@
 //! blocks. Alone, it gives a simulated chip with failing dies and a failing bus.
 #![tactic(auto)]
 
+mod array_time;
+mod arrays;
 mod chip;
 mod closer;
 mod dies;
@@ -18,6 +20,7 @@ mod sim;
 mod status;
 mod wait;
 
+pub use array_time::ArrayTime;
 pub use chip::Chip;
 pub use closer::Closer;
 pub use fault::{ChipFault, PostFault};

@@ -1,4 +1,4 @@
-ghost use Rattle.std.specs.Prelude.{◌≡◌, ◌≢◌, List, length, false, IfOk, OnOk, IfErr, IsBitSet, IsTrue};
+ghost use Rattle.std.specs.Prelude.{◌≡◌, ◌≢◌, List, [], length, false, replicate, IfOk, OnOk, OnErr, IfErr, IsBitSet, IsTrue};
 ghost use Rattle.onfi_addr.specs.Rows.{page_bytes_of};
 ghost use Rattle.onfi_timing.specs.declared.kind.Kind.TheVariants as kind;
 ghost use Rattle.onfi_request.specs.declared.answer.Answer.TheVariants as answer;
@@ -8,6 +8,8 @@ ghost use Rattle.onfi_chip.specs.declared.post.Post.{Post as APost};
 ghost use Rattle.onfi_chip.specs.Chip.{found_ready, posted};
 ghost use Rattle.onfi_chip.specs.Calls.{IsNextCommand, IsNextPost, command_of, HasDone, IsLost, AfterFault, TellsAnswer};
 
+use crate::array_time::ArrayTime;
+use crate::arrays::Arrays;
 use crate::chip::Chip;
 use crate::closer::Closer;
 use crate::dies::Dies;
@@ -20,25 +22,28 @@ use onfi_request::Answer;
 use onfi_timing::{Kind, Timing};
 use std::alloc::{AllocError, Global};
 
-/// A simulated chip: its dies, and which of its calls fail.
+/// A simulated chip: its dies, which of its calls fail, and how long its arrays really take.
 ///
 /// Calls are numbered from 0 in the order in which they are made, one refused for memory not counted; status calls have
-/// numbers of their own, one whose bus failed not counted. Its calls check no time: that a wait is over is what they ask for. Asked whether a LUN is
-/// ready it says so once the stated time is over, and not before.
+/// numbers of their own, one whose bus failed not counted. The operations of a LUN's array are numbered from 0 as they
+/// start, each at the last command of a group. Its calls check no time: that a wait is over is what they ask for. Asked
+/// whether a LUN is ready it says so once the real time of its array is over, else the stated one, and never before.
 #[derive(Debug, Drop)]
 pub struct SimChip {
     dies: Dies,
     calls: Numbered,
     statuses: Numbered,
+    arrays: Arrays,
 }
 
 impl SimChip {
     ghost use Rattle.onfi_chip.specs.Chip.{opened, no_failures};
-    ghost use Rattle.onfi_chip.specs.SimChip.{chip_in, failing_calls, failing_statuses, calls_made, statuses_made};
+    ghost use Rattle.onfi_chip.specs.Arrays.{unused};
+    ghost use Rattle.onfi_chip.specs.SimChip.{chip_in, failing_calls, failing_statuses, calls_made, statuses_made, array_times, arrays_of, KeepsCalls};
 
     /// A chip of this geometry and timing as it opens: all blocks erased, all LUNs idle. `faults` are the programs and
     /// erases that fail, `calls` the numbers, from 0, of the calls whose bus fails, `statuses` the numbers of the status
-    /// calls that tell that their LUN isn't ready.
+    /// calls that tell that their LUN isn't ready. Its arrays take the stated times.
     ///
     /// # Errors
     /// Want of memory.
@@ -55,17 +60,37 @@ impl SimChip {
         ensures statuses { IfOk result (λ chip. failing_statuses chip ≡ statuses.items) }
         ensures no_call { IfOk result (λ chip. calls_made chip ≡ 0) }
         ensures no_status { IfOk result (λ chip. statuses_made chip ≡ 0) }
+        ensures no_time { IfOk result (λ chip. array_times chip ≡ []) }
+        ensures no_array { IfOk result (λ chip. arrays_of chip ≡ replicate geometry.lun_count unused) }
     {
+        let arrays = Arrays::new(alloc, geometry.lun_count)?;
+        let dies = Dies::new(alloc, geometry, timing, faults)?;
         Ok(SimChip {
-            dies: Dies::new(alloc, geometry, timing, faults)?,
+            dies,
             calls: Numbered::new(calls),
             statuses: Numbered::new(statuses),
+            arrays,
         })
+    }
+
+    /// The same chip, whose arrays really take that long from now on; an operation that isn't listed takes the stated
+    /// time. Of two times for one operation the first counts.
+    pub fn with_array_times(self, times: Vec<ArrayTime>) -> SimChip
+        ensures chip { chip_in result ≡ chip_in self }
+        ensures times { array_times result ≡ times.items }
+        ensures arrays { arrays_of result ≡ arrays_of self }
+        ensures calls { KeepsCalls self result }
+    {
+        SimChip {
+            arrays: self.arrays.with_times(times),
+            ..self
+        }
     }
 }
 
 impl Chip for SimChip {
     ghost use Rattle.onfi_chip.specs.SimChip.{chip_in, statuses_made, KeepsLists, FailsAsListed, IsCounted, IsCountedStatus, IsReadyAsListed};
+    ghost use Rattle.onfi_chip.specs.SimChip.{array_times, arrays_of, arrays_behind, arrays_posted, says_ready, KeepsCalls};
 
     ghost state = { chip_in };
 
@@ -86,6 +111,9 @@ impl Chip for SimChip {
         ensures lists { KeepsLists self.old self.new }
         ensures counted { IsCounted self.old result self.new }
         ensures no_status { statuses_made self.new ≡ statuses_made self.old }
+        ensures array { OnOk result ((r : ARequest) → IsNextCommand (chip_in self.old) now row opener bytes.now r
+            → arrays_of self.new ≡ arrays_behind closer self.old r now) }
+        ensures no_array { OnErr result (arrays_of self.new ≡ arrays_of self.old) }
     {
         if self.calls.fails() {
             self.calls.step();
@@ -100,6 +128,8 @@ impl Chip for SimChip {
             return Err(ChipFault::Memory);
         }
         self.calls.step();
+        let spans = self.dies.spans(opener);
+        self.arrays.command(closer, place.lun, now, spans);
         Ok(())
     }
 
@@ -113,12 +143,16 @@ impl Chip for SimChip {
         ensures lists { KeepsLists self.old self.new }
         ensures counted { IsCounted self.old result self.new }
         ensures no_status { statuses_made self.new ≡ statuses_made self.old }
+        ensures array { OnOk result ((post : APost) (left : List APost) → IsNextPost (chip_in self.old) now row post left
+            → arrays_of self.new ≡ arrays_posted self.old post.place.lun) }
+        ensures no_array { OnErr result (arrays_of self.new ≡ arrays_of self.old) }
     {
         if self.calls.count() {
             return Err(ChipFault::Bus);
         }
         let place = self.dies.place(row);
         let post = self.dies.post(place, now);
+        self.arrays.end(place.lun);
         let Answer::Read(bytes) = post.answer else {
             unreachable!();
         };
@@ -137,6 +171,10 @@ impl Chip for SimChip {
         ensures lists { KeepsLists self.old self.new }
         ensures counted { IsCounted self.old result self.new }
         ensures counted_status { IsCountedStatus self.old result self.new }
+        ensures array { IfOk result (λ byte. IsBitSet byte 6 → (post : APost) (left : List APost) → IsNextPost (chip_in self.old) now row post left
+            → arrays_of self.new ≡ arrays_posted self.old post.place.lun) }
+        ensures array_runs { IfOk result (λ byte. ¬ IsBitSet byte 6 → arrays_of self.new ≡ arrays_of self.old) }
+        ensures no_array { OnErr result (arrays_of self.new ≡ arrays_of self.old) }
     {
         let bus_fails = self.calls.count();
         if bus_fails {
@@ -146,6 +184,7 @@ impl Chip for SimChip {
         } else {
             let place = self.dies.place(row);
             let post = self.dies.post(place, now);
+            self.arrays.end(place.lun);
             Ok(encode_status(&post.answer))
         }
     }
@@ -153,8 +192,15 @@ impl Chip for SimChip {
     fn poll(&mut self, now: u64, lun: u8) -> bool
         ensures ready { IsTrue result → chip_in self.new ≡ found_ready (chip_in self.old) lun now }
         ensures busy { result ≡ false → chip_in self.new ≡ chip_in self.old }
-        ensures unchanged { self.new ≡ self.old }
+        ensures says { result ≡ says_ready self.old lun now }
+        ensures times { array_times self.new ≡ array_times self.old }
+        ensures arrays { arrays_of self.new ≡ arrays_of self.old }
+        ensures calls { KeepsCalls self.old self.new }
     {
-        self.dies.is_ready(lun, now)
+        let ready = self.dies.is_ready(lun, now) || self.arrays.is_done(lun, now);
+        if ready {
+            self.dies.find_ready(lun, now);
+        }
+        ready
     }
 }

@@ -1,4 +1,4 @@
-ghost use Rattle.std.specs.Prelude.{◌≤◌, IsTrue};
+ghost use Rattle.std.specs.Prelude.{◌≡◌, min, nat_le};
 ghost use Rattle.onfi_chip.specs.Sim.{over_at};
 
 /// A wait: it is over `length` ns behind the moment `from`.
@@ -11,8 +11,22 @@ pub struct Wait {
 impl Wait {
     /// Whether it is over at `now`.
     pub(crate) fn is_over(&self, now: u64) -> bool
-        ensures { IsTrue result → over_at self.now ≤ now }
+        ensures { result ≡ nat_le (over_at self.now) now }
     {
         now >= self.from && now - self.from >= self.length
+    }
+
+    /// The same, but over at `now` at the latest.
+    pub(crate) fn over_by(self, now: u64) -> Wait
+        ensures { over_at result ≡ min (over_at self) now }
+    {
+        if self.is_over(now) {
+            self
+        } else {
+            Wait {
+                from: now,
+                length: 0,
+            }
+        }
     }
 }

@@ -17,7 +17,7 @@ use Rattle.onfi_chip.specs.Calls.{HasDone, IsNextPost, IsNextCommand, MayTake, c
 use Rattle.onfi_chip.specs.declared.closer.Closer.TheVariants.{Last}
 use Rattle.onfi_chip.proofs.SimCalls.{in_range}
 
-get_set : {A : Type 0} (xs : List A) (i : ℕ) (y z : A) → slice_get xs i ≡ Some y → slice_get (set xs i z) i ≡ Some z
+pub get_set : {A : Type 0} (xs : List A) (i : ℕ) (y z : A) → slice_get xs i ≡ Some y → slice_get (set xs i z) i ≡ Some z
 get_set [] i y z h = cc
 get_set (x ∷ xs) zero y z h = refl
 get_set (x ∷ xs) (suc i) y z h = get_set xs i y z h

@@ -3,7 +3,9 @@ ghost use Rattle.onfi_request.specs.Range.{Fits};
 ghost use Rattle.onfi_chip.specs.Chip.Lun.{Idle};
 
 use onfi_addr::{Geometry, Place};
-use onfi_chip::{Chip, ChipFault, Closer, Fetch, PostFault, SimChip, decode_status, read_post};
+use onfi_chip::{
+    ArrayTime, Chip, ChipFault, Closer, Fetch, PostFault, SimChip, decode_status, read_post,
+};
 use onfi_request::{Answer, Bytes, Request, check};
 use onfi_samples::{sample_geometry, sample_timing};
 use onfi_timing::Kind;
@@ -33,6 +35,7 @@ fn answer<C: Chip>(
     ensures geometry { IfOk result (λ _. (C.state chip.new).geometry ≡ geometry.now) }
     ensures others { IfOk result (λ _. (other : ℕ) → other ≢ request.now.place.lun
         → slice_get (C.state chip.new).luns other ≡ slice_get (C.state chip.old).luns other) }
+    ensures idle { IfOk result (λ _. slice_get (C.state chip.new).luns request.now.place.lun ≡ Some Idle) }
 {
     let Ok(fetch) = Fetch::of(alloc, geometry, request.kind, request.place) else {
         return Err(Failure::Command(ChipFault::Memory));
@@ -148,5 +151,99 @@ fn a_fetch_names_its_member(rt: HostRuntime) -> Result<(), AllocError> {
     let fetch = Fetch::of(rt.alloc(), &sample_geometry(), Kind::Read, place)?;
     assert_eq!(rt; fetch.kind(), Kind::Read);
     assert_eq!(rt; fetch.place(), place);
+    Ok(())
+}
+
+/// A LUN, the number of an operation of its array, and how long that really takes.
+type Listed = (u8, u32, u64);
+
+/// What is listed, which LUN is asked, when, and whether it says that it is ready. The command of a read of LUN 0 starts
+/// at 0 and takes 140 ns, and its array 25,100 by what is stated.
+type Asked = (&'static [Listed], u8, u64, bool);
+
+const ASKED: [Asked; 12] = [
+    (&[], 0, 25_239, false),
+    (&[], 0, 25_240, true),
+    (&[(0, 0, 20_000)], 0, 20_139, false),
+    (&[(0, 0, 20_000)], 0, 20_140, true),
+    (&[(0, 0, 30_000)], 0, 25_239, false),
+    (&[(0, 0, 30_000)], 0, 25_240, true),
+    (&[(0, 1, 20_000)], 0, 25_239, false),
+    (&[(1, 0, 20_000)], 0, 25_239, false),
+    (&[(1, 0, 9), (0, 0, 0)], 0, 140, true),
+    (&[(0, 0, 8), (0, 0, 7)], 0, 147, false),
+    (&[(1, 0, 20_000)], 1, 0, true),
+    (&[(2, 0, 20_000)], 2, 25_240, false),
+];
+
+fn times_of(alloc: Global, listed: &[Listed]) -> Result<Vec<ArrayTime>, AllocError> {
+    listed
+        .iter()
+        .map(|(lun, number, length)| ArrayTime {
+            lun: *lun,
+            number: *number,
+            length: *length,
+        })
+        .collect(alloc)
+}
+
+// Whether that LUN says at `now` that it is ready, behind the only command of a group on an idle LUN, at 0.
+fn says_ready<C: Chip>(
+    alloc: Global,
+    chip: &mut C,
+    geometry: &Geometry,
+    request: &Request,
+    lun: u8,
+    now: u64,
+) -> Result<bool, ChipFault>
+    requires geometry { (C.state chip.old).geometry ≡ geometry.now }
+    requires idle { slice_get (C.state chip.old).luns request.now.place.lun ≡ Some Idle }
+    requires fits { Fits geometry.now request.now }
+{
+    let row = geometry.row(&request.place);
+    let bytes = request.bytes.as_slice();
+    chip.command(alloc, 0, row, request.kind, Closer::Last, bytes)?;
+    Ok(chip.poll(now, lun))
+}
+
+// What the LUN says behind the first read of LUN 0, or behind the second, where the first has its answer.
+fn says_behind_read(
+    rt: &impl Abort,
+    alloc: Global,
+    listed: &[Listed],
+    is_second: bool,
+    lun: u8,
+    now: u64,
+) -> Result<bool, AllocError> {
+    let geometry = sample_geometry();
+    let read = request_on(alloc, 0, Kind::Read);
+    assert!(rt; check(&geometry, &read).is_ok());
+    let none = Vec::new(alloc);
+    let (calls, statuses) = (Vec::new(alloc), Vec::new(alloc));
+    let chip = SimChip::new(alloc, geometry, sample_timing(), none, calls, statuses)?;
+    let mut chip = chip.with_array_times(times_of(alloc, listed)?);
+    if is_second {
+        assert!(rt; answer(alloc, &mut chip, &geometry, &read).is_ok());
+    }
+    let says = says_ready(alloc, &mut chip, &geometry, &read, lun, now);
+    Ok(says.expect(rt, "the bus"))
+}
+
+#[test]
+fn arrays_take_their_real_times(rt: HostRuntime) -> Result<(), AllocError> {
+    for (listed, lun, now, ready) in &ASKED {
+        let says = says_behind_read(&rt, rt.alloc(), listed, false, *lun, *now)?;
+        assert_eq!(rt; says, *ready, "{lun} {now}");
+    }
+    Ok(())
+}
+
+#[test]
+fn arrays_are_numbered_as_they_start(rt: HostRuntime) -> Result<(), AllocError> {
+    let second = [(0, 1, 20_000)];
+    assert!(rt; !says_behind_read(&rt, rt.alloc(), &second, true, 0, 20_139)?);
+    assert!(rt; says_behind_read(&rt, rt.alloc(), &second, true, 0, 20_140)?);
+    let first = [(0, 0, 20_000)];
+    assert!(rt; !says_behind_read(&rt, rt.alloc(), &first, true, 0, 25_239)?);
     Ok(())
 }

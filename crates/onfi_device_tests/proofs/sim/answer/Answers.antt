@@ -18,7 +18,7 @@ use Rattle.onfi_chip.specs.Calls.{HasDone, IsNextPost, IsNextCommand, MayTake, c
 use Rattle.onfi_chip.specs.declared.closer.Closer.TheVariants.{Last}
 use Rattle.onfi_chip.proofs.SimCalls.{in_range}
 use Rattle.onfi_device_tests.proofs.sim.answer.Goals as goal
-use Rattle.onfi_device_tests.proofs.OneMember.{post_of, done_command, after_command, post_kind, post_place}
+use Rattle.onfi_device_tests.proofs.OneMember.{get_set, post_of, done_command, after_command, post_kind, post_place}
 
 get_set_other : {A : Type 0} (xs : List A) (i j : ℕ) (z : A) → (j ≡ i → ⊥) → slice_get (set xs i z) j ≡ slice_get xs j
 get_set_other [] i j z n = refl
@@ -65,3 +65,16 @@ returns-in-Ok-read_post-clause-others g c other n =
     ∙ get_set_other mid.luns (post_of old r).place.lun other _ (λ e. n (e ∙ ap (λ (q : Place). q.lun) (post_place old r)))
     ∙ ap (λ (x : Chip). slice_get x.luns other) done.state
     ∙ get_set_other old.luns r.place.lun other _ n
+
+pub returns-in-Ok-read_post-clause-idle : goal.returns-in-Ok-read_post-clause-idle
+returns-in-Ok-read_post-clause-idle g c =
+    let r = c.args.request.now in
+    let old = g.C.Chip.state c.args.chip.now in
+    let mid = g.C.Chip.state c.command.new.self in
+    let post = post_of old r in
+    let next = next_fetch old mid c.args.geometry.now r c.row-row.result c.as_slice-bytes.result.now c.in-Ok.fetch c.requires.geometry c.requires.idle
+    c.requires.fits c.row-row.ensures.value c.as_slice-bytes.ensures c.in-Ok-command.ensures.ok c.in-Ok.ensures.kind c.in-Ok.ensures.place in
+    let at : r.place.lun ≡ post.place.lun = ap (λ (q : Place). q.lun) (sym (post_place old r)) in
+    ap (λ (x : Chip). slice_get x.luns r.place.lun) (c.in-Ok-read_post.ensures.done post [] next.next).state
+    ∙ ap (λ n. slice_get (set mid.luns post.place.lun Idle) n) at
+    ∙ get_set mid.luns post.place.lun _ Idle next.next.there

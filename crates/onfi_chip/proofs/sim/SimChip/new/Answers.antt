@@ -6,6 +6,10 @@ use Rattle.onfi_chip.proofs.sim.SimChip.new.Goals as goal
 
 pub returns-clause-opened : goal.returns-clause-opened
 returns-clause-opened c =
-    let told : Failures = record { bus = failed c.new-2.result.failing.items c.new-2.result.made; unready = failed c.new-3.result.failing.items c.new-3.result.made } in
-    let none : told ≡ no_failures = rw (c.new-2.ensures.none, c.new-3.ensures.none) refl in
-    ap (λ (f : Failures). record (chip_of c.in_ok-new.field-0) { failures = f }) none ∙ ap (λ (chip : Chip). record chip { failures = no_failures }) c.in_ok-new.ensures
+    let told : Failures = record {
+      bus = failed c.new-3.result.failing.items c.new-3.result.made;
+      unready = failed c.new-4.result.failing.items c.new-4.result.made;
+    } in
+    let none : told ≡ no_failures = rw (c.new-3.ensures.none, c.new-4.ensures.none) refl in
+    ap (λ (f : Failures). record (chip_of c.in_ok-dies.dies) { failures = f }) none
+    ∙ ap (λ (chip : Chip). record chip { failures = no_failures }) c.in_ok-dies.ensures

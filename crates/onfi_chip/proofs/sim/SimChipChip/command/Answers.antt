@@ -19,6 +19,6 @@ returns-clause-ok c r h =
     let carried = request_is r c.args.opener c.place-place.result c.args.bytes.now h.carried.kind_is place h.carried.bytes_are in
     let took = if_ok c.take.result (sym c.is_err.ensures.value ∙ c.if-is_err.false) c.take.ensures.ok ∙ ap (λ (q : Request). command_of c.args.closer (chip_of old.dies) q c.args.now) carried in
     let fine = c.step-2.ensures.fine (sym c.fails.ensures.value ∙ c.if-fails.false) in
-    let new : SimChip = record { dies = c.take.new.self; calls = c.step-2.new.self; statuses = old.statuses } in
+    let new : SimChip = record { dies = c.take.new.self; calls = c.step-2.new.self; statuses = old.statuses; arrays = old.arrays } in
     has_done old new (command_of c.args.closer (chip_of old.dies) r c.args.now) _ took (by_closer c.args.closer (chip_of old.dies) (failures_of old) r c.args.now)
     (as_many old new fine refl)

@@ -21,7 +21,7 @@ returns-clause-ok c post left h =
     let place = c.place-place.ensures post.place h.in_range h.row_is in
     let told = c.post-post.ensures.taken post left h.ready (posts_there old c.args.now c.args.row post left c.place-place.result place h) in
     let fine = c.count.ensures.fine c.if-count.false in
-    let new : SimChip = record { dies = c.post-post.new.self; calls = c.count.new.self; statuses = old.statuses } in (
+    let new : SimChip = record { dies = c.post-post.new.self; calls = c.count.new.self; statuses = old.statuses; arrays = old.arrays } in (
       ap (λ (q : Post). q.answer) (sym told.0) ∙ c.in-Read.is ∙ ap Read (sym c.in-Read.bytes-is ∙ sym (c.copy_from_slice.ensures.after ∙ c.as_slice.ensures)),
       post_done old new c.args.now post left c.place-place.result place told.1 (as_many old new fine refl),
     )

@@ -16,7 +16,7 @@ returns-else-count-clause-ready c ready post left h =
     let calls = c.count-bus_fails.ensures.fine c.if-bus_fails.false in
     let statuses = c.count.ensures.fine c.if-count.false in
     let status = is_status _ c.post-post.result.kind c.post-post.result.answer (λ e. c.requires.3 (ap (λ (q : Post). q.kind) (sym told_first.0) ∙ e)) c.post-post.ensures.form in
-    let new : SimChip = record { dies = c.post-post.new.self; calls = c.count-bus_fails.new.self; statuses = c.count.new.self } in (
+    let new : SimChip = record { dies = c.post-post.new.self; calls = c.count-bus_fails.new.self; statuses = c.count.new.self; arrays = old.arrays } in (
       subst (λ (q : Post). TellsAnswer c.encode_status.result q.answer) told.0 (c.encode_status.ensures.told status),
       post_done old new c.args.now post left c.place-place.result place told.1 (as_many old new calls statuses),
     )
