@@ -3,7 +3,7 @@ use std::alloc::{AllocError, Global};
 use strsim::levenshtein;
 
 /// The names of rows, those that `plan` and `check` take first.
-const NAMES: [&str; 20] = [
+const NAMES: [&str; 21] = [
     "shape",
     "spans",
     "page",
@@ -24,6 +24,7 @@ const NAMES: [&str; 20] = [
     "fault",
     "chipfail",
     "notready",
+    "array",
 ];
 
 /// The form of a row of this name.
@@ -83,6 +84,9 @@ fn run_form(name: &str) -> Option<&'static str> {
         ),
         "notready" => Some(
             "notready,CHANNEL,N: the status, counted from 0, that comes before its LUN is ready",
+        ),
+        "array" => Some(
+            "array,CHANNEL,LUN,NUMBER,NS: operation NUMBER of the LUN's array, counted from 0, really takes NS ns, below 2^50",
         ),
         _ => None,
     }

@@ -7,7 +7,7 @@ use Rattle.onfi_script.specs.declared.purpose.Purpose.TheVariants.{Problem, Run}
 use Rattle.onfi_script.specs.declared.row_name.Form.{Form}
 use Rattle.onfi_script.specs.declared.row_name.Form.TheVariants.{First, Second}
 use Rattle.onfi_script.specs.declared.row_name.RowName.{RowName}
-use Rattle.onfi_script.specs.declared.row_name.RowName.TheVariants.{Shape, Spans, Page, Sheet, Bus, Free, Running, Want, Weight, Strict, Channels, Hosts, Batch, SubmitCap, PostCap, Choice, Op, Fault, ChipFail, NotReady}
+use Rattle.onfi_script.specs.declared.row_name.RowName.TheVariants.{Shape, Spans, Page, Sheet, Bus, Free, Running, Want, Weight, Strict, Channels, Hosts, Batch, SubmitCap, PostCap, Choice, Op, Fault, ChipFail, NotReady, Array}
 
 -- the rows that are taken for a run alone
 abbrev pub run_name_of : List ℕ → Option RowName
@@ -22,7 +22,8 @@ run_name_of text =
     else (if bytes_eq text (codes "fault") then Some Fault
     else (if bytes_eq text (codes "chipfail") then Some ChipFail
     else (if bytes_eq text (codes "notready") then Some NotReady
-    else None)))))))))
+    else (if bytes_eq text (codes "array") then Some Array
+    else None))))))))))
 
 abbrev pub name_of : List ℕ → Option RowName
 name_of text =
@@ -104,4 +105,5 @@ has_fields PostCap row = length row == 2
 has_fields ChipFail row = length row == 3
 has_fields NotReady row = length row == 3
 has_fields Fault row = length row == 5
+has_fields Array row = length row == 5
 has_fields Op row = length row == op_fields row

@@ -7,10 +7,10 @@ use Rattle.onfi_script.specs.declared.operation.Aim.{Aim}
 use Rattle.onfi_script.specs.declared.operation.Content.{Content}
 use Rattle.onfi_script.specs.declared.operation.Content.TheVariants.{Given, Filled}
 use Rattle.onfi_script.specs.declared.row.Row.{Row}
-use Rattle.onfi_script.specs.declared.row.Row.TheVariants.{Channels, Hosts, Batch, SubmitCap, PostCap, Op, Fault, ChipFail, NotReady, Choice}
+use Rattle.onfi_script.specs.declared.row.Row.TheVariants.{Channels, Hosts, Batch, SubmitCap, PostCap, Op, Fault, ChipFail, NotReady, Array, Choice}
 use Rattle.onfi_script.specs.declared.choosing.Choosing.{Choosing}
 use Rattle.onfi_script.specs.declared.choosing.Choosing.TheVariants.{ByLun, ReadsFirst}
-use Rattle.onfi_script.specs.Field.{given, field, hex_bytes, number, kind, lun, block, page}
+use Rattle.onfi_script.specs.Field.{given, field, hex_bytes, number, kind, lun, block, page, span}
 use Rattle.onfi_script.specs.Row.{Record}
 
 -- how many places a queue has
@@ -67,6 +67,14 @@ fault_row row =
     given (block (field row 3)) (λ block.
     given (call_number (field row 4)) (λ number.
     Ok (Fault channel (record { lun = lun; block = block; number = number }))))))
+
+abbrev pub array_row : Record → Result Row ScriptFault
+array_row row =
+    given (end_number (field row 1)) (λ channel.
+    given (lun (field row 2)) (λ lun.
+    given (call_number (field row 3)) (λ number.
+    given (span 0 (field row 4)) (λ length.
+    Ok (Array channel lun number length)))))
 
 -- the only one of the bytes
 abbrev pub only : List ℕ → Result ℕ ScriptFault

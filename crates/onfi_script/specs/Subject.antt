@@ -1,9 +1,9 @@
 -- What a row settles for a script.
-use Rattle.std.specs.Prelude.{◌==◌, Bool, true, false, List, Option, Some, None, find}
+use Rattle.std.specs.Prelude.{◌==◌, ◌&&◌, Bool, true, false, List, Option, Some, None, find}
 use Rattle.onfi_timing.specs.declared.kind.Kind.{Kind}
 use Rattle.onfi_timing.specs.declared.kind.Kind.TheVariants.{Read, Program, Erase}
 use Rattle.onfi_script.specs.declared.row.Row.{Row}
-use Rattle.onfi_script.specs.declared.row.Row.TheVariants.{Shape, Spans, Page, Sheet, Bus, Free, Running, Want, Weight, Strict, Channels, Hosts, Batch, SubmitCap, PostCap, Choice, Op, Fault, ChipFail, NotReady}
+use Rattle.onfi_script.specs.declared.row.Row.TheVariants.{Shape, Spans, Page, Sheet, Bus, Free, Running, Want, Weight, Strict, Channels, Hosts, Batch, SubmitCap, PostCap, Choice, Op, Fault, ChipFail, NotReady, Array}
 use Rattle.onfi_script.specs.declared.row.Subject.{Subject}
 use Rattle.onfi_script.specs.declared.row.Subject.TheVariants as on
 
@@ -28,6 +28,7 @@ subject_of (Op op) = None
 subject_of (Fault channel fault) = None
 subject_of (ChipFail channel number) = None
 subject_of (NotReady channel number) = None
+subject_of (Array channel lun number length) = Some (on.Array channel lun number)
 
 -- an operation of a host
 abbrev pub is_op : Row → Bool
@@ -53,6 +54,7 @@ is_subject on.Batch on.Batch = true
 is_subject on.Choice on.Choice = true
 is_subject on.SubmitCap on.SubmitCap = true
 is_subject on.PostCap on.PostCap = true
+is_subject (on.Array channel lun number) (on.Array on at other) = (channel == on) && (lun == at) && (number == other)
 is_subject subject other = false
 
 -- the row settles that

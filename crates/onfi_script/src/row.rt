@@ -204,6 +204,13 @@ pub enum Row {
         channel: u8,
         number: u32,
     },
+    /// How long the array of a LUN of the channel's chip really takes at its operation of that number, from 0.
+    Array {
+        channel: u8,
+        lun: u8,
+        number: u32,
+        length: u64,
+    },
 }
 
 /// What a row settles for a script; two rows that settle the same don't go together.
@@ -222,6 +229,8 @@ pub enum Subject {
     Choice,
     SubmitCap,
     PostCap,
+    /// An operation of an array.
+    Array { channel: u8, lun: u8, number: u32 },
 }
 
 impl Row {
@@ -246,6 +255,16 @@ impl Row {
             Row::SubmitCap { .. } => Some(Subject::SubmitCap),
             Row::PostCap { .. } => Some(Subject::PostCap),
             Row::Op(_) | Row::Fault { .. } | Row::ChipFail { .. } | Row::NotReady { .. } => None,
+            Row::Array {
+                channel,
+                lun,
+                number,
+                ..
+            } => Some(Subject::Array {
+                channel: *channel,
+                lun: *lun,
+                number: *number,
+            }),
         }
     }
 
@@ -357,6 +376,18 @@ impl Subject {
             (Subject::Spans(kind), Subject::Spans(other)) => is_kind(kind, other),
             (Subject::Lun(lun), Subject::Lun(other)) => lun == other,
             (Subject::Weight(request), Subject::Weight(other)) => request == other,
+            (
+                Subject::Array {
+                    channel,
+                    lun,
+                    number,
+                },
+                Subject::Array {
+                    channel: on,
+                    lun: at,
+                    number: other,
+                },
+            ) => channel == on && lun == at && number == other,
             _ => false,
         }
     }

@@ -29,6 +29,7 @@ pub enum RowName {
     Fault,
     ChipFail,
     NotReady,
+    Array,
 }
 
 /// The two forms of a script.
@@ -106,6 +107,8 @@ impl RowName {
             Some(RowName::ChipFail)
         } else if is_word(text, "notready") {
             Some(RowName::NotReady)
+        } else if is_word(text, "array") {
+            Some(RowName::Array)
         } else {
             None
         }
@@ -185,7 +188,7 @@ impl RowName {
             | RowName::Weight
             | RowName::ChipFail
             | RowName::NotReady => count == 3,
-            RowName::Shape | RowName::Want | RowName::Fault => count == 5,
+            RowName::Shape | RowName::Want | RowName::Fault | RowName::Array => count == 5,
             RowName::Spans => count == 6,
             RowName::Running => 7 <= count && count <= 10,
             RowName::Op => count == op_fields(row),

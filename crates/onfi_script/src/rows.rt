@@ -16,8 +16,8 @@ use crate::row::{
 };
 use crate::row_name::RowName;
 use crate::run_row::{
-    batch_row, channels_row, chip_fail_row, choice_row, fault_row, hosts_row, not_ready_row,
-    op_row, post_cap_row, submit_cap_row,
+    array_row, batch_row, channels_row, chip_fail_row, choice_row, fault_row, hosts_row,
+    not_ready_row, op_row, post_cap_row, submit_cap_row,
 };
 use crate::seen::Seen;
 use csv::ByteRecord;
@@ -55,6 +55,7 @@ fn said(
         RowName::Fault => Ok(fault_row(fields)?),
         RowName::ChipFail => Ok(chip_fail_row(fields)?),
         RowName::NotReady => Ok(not_ready_row(fields)?),
+        RowName::Array => Ok(array_row(fields)?),
     }
 }
 

@@ -7,7 +7,7 @@ ghost use Rattle.onfi_script.specs.Stop.{Gives, IfFault};
 use crate::choosing::Choosing;
 use crate::count::{Batch, Capacity, Few};
 use crate::fault::{RowStop, ScriptFault};
-use crate::field::{block, field, hex_bytes, is_word, kind, lun, number, page, small};
+use crate::field::{block, field, hex_bytes, is_word, kind, lun, number, page, small, span};
 use crate::operation::{Aim, Content, Operation};
 use crate::row::Row;
 use csv::ByteRecord;
@@ -136,6 +136,22 @@ pub fn fault_row(row: &ByteRecord) -> Result<Row, ScriptFault>
     Ok(Row::Fault {
         channel,
         fault: Fault { lun, block, number },
+    })
+}
+
+/// `array,CHANNEL,LUN,NUMBER,NS`
+pub fn array_row(row: &ByteRecord) -> Result<Row, ScriptFault>
+    ensures { result ≡ spec.array_row (fields_of row.now) }
+{
+    let channel = end_number(field(row, 1))?;
+    let lun = lun(field(row, 2))?;
+    let number = call_number(field(row, 3))?;
+    let length = span(field(row, 4), 0)?;
+    Ok(Row::Array {
+        channel,
+        lun,
+        number,
+        length,
     })
 }
 
