@@ -4,13 +4,13 @@ use Rattle.std.specs.List.{AllByRecursion as Each}
 use Rattle.onfi_core.specs.declared.setup.Setup.{Setup}
 use Rattle.onfi_core.specs.Kept.{first_half}
 use Rattle.onfi_core.specs.Queues.{IsFresh}
-use Rattle.onfi_chip.specs.SimChip.{chip_in, failing_calls, failing_statuses}
+use Rattle.onfi_chip.specs.SimChip.{array_times, chip_in, failing_calls, failing_statuses}
 use Rattle.onfi_seq.specs.Drained.{poster_queues}
 use Rattle.onfi_script.specs.declared.device.PageDevice.{PageDevice}
 use Rattle.onfi_script.specs.declared.row.Row.{Row}
 use Rattle.onfi_run.specs.declared.gated.Gated.{Gated}
 use Rattle.onfi_run.specs.declared.lane.Lane.{Lane}
-use Rattle.onfi_run.specs.Chips.{all_on, fault_on, failing_on, unready_on}
+use Rattle.onfi_run.specs.Chips.{all_on, array_time_on, fault_on, failing_on, unready_on}
 use Rattle.onfi_run.specs.declared.port.Port.{Port}
 use Rattle.onfi_run.specs.declared.station.Station.{Station}
 use Rattle.onfi_run.specs.ByHost.{host_numbers}
@@ -32,6 +32,7 @@ pub record IsOpened {P G : Type 0} (setup : Setup) (rows : List Row) (number : �
   pub faults : (chip_in lane.channel.sequencer.1).faults ≡ all_on (fault_on number) rows
   pub calls : failing_calls lane.channel.sequencer.1 ≡ all_on (failing_on number) rows
   pub statuses : failing_statuses lane.channel.sequencer.1 ≡ all_on (unready_on number) rows
+  pub arrays : array_times lane.channel.sequencer.1 ≡ all_on (array_time_on number) rows
 
 -- the channels from that number on, each with its gate
 abbrev pub AreOpened : {P G : Type 0} → Setup → List Row → ℕ → List G → List (Lane (Gated P G)) → Type 0

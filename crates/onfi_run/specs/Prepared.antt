@@ -8,7 +8,7 @@ use Rattle.onfi_script.specs.declared.fault.ScriptFault.{ScriptFault}
 use Rattle.onfi_script.specs.declared.fault.ScriptFault.TheVariants.{OutOfRange, Request}
 use Rattle.onfi_script.specs.declared.operation.Operation.{Operation}
 use Rattle.onfi_script.specs.declared.row.Row.{Row}
-use Rattle.onfi_script.specs.declared.row.Row.TheVariants.{Op, Fault, ChipFail, NotReady}
+use Rattle.onfi_script.specs.declared.row.Row.TheVariants.{Op, Fault, ChipFail, NotReady, Array}
 use Rattle.onfi_request.specs.declared.fault.Fault.{Fault as FaultOf}
 use Rattle.onfi_run.specs.Requests.{request_of}
 
@@ -36,6 +36,7 @@ row_fault channels hosts geometry (Op op) = op_fault channels hosts geometry op
 row_fault channels hosts geometry (Fault channel fault) = unless_there (nat_lt channel channels && is_block geometry fault)
 row_fault channels hosts geometry (ChipFail channel number) = unless_there (nat_lt channel channels)
 row_fault channels hosts geometry (NotReady channel number) = unless_there (nat_lt channel channels)
+row_fault channels hosts geometry (Array channel lun number length) = unless_there (nat_lt channel channels && nat_lt lun geometry.lun_count)
 row_fault channels hosts geometry _ = None
 
 -- the fault told of this row, or else what is wrong with the later ones

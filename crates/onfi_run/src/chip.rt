@@ -1,10 +1,10 @@
 //! The simulated chip of a channel.
 ghost use Rattle.std.specs.Prelude.{◌≡◌, IfOk};
 ghost use Rattle.onfi_core.specs.Queues.{IsFresh};
-ghost use Rattle.onfi_chip.specs.SimChip.{chip_in, failing_calls, failing_statuses};
+ghost use Rattle.onfi_chip.specs.SimChip.{array_times as times_of, chip_in, failing_calls, failing_statuses};
 ghost use Rattle.onfi_run.specs.Chips as spec;
 
-use onfi_chip::SimChip;
+use onfi_chip::{ArrayTime, SimChip};
 use onfi_core::Setup;
 use onfi_request::Fault;
 use onfi_script::Row;
@@ -46,6 +46,25 @@ fn unready_on(row: &Row, channel: u8) -> Option<u32>
     }
 }
 
+/// How long an operation of an array of the channel's chip really takes, as a row tells.
+fn array_time_on(row: &Row, channel: u8) -> Option<ArrayTime>
+    ensures { result ≡ spec.array_time_on channel row.now }
+{
+    match row {
+        Row::Array {
+            channel: on,
+            lun,
+            number,
+            length,
+        } if *on == channel => Some(ArrayTime {
+            lun: *lun,
+            number: *number,
+            length: *length,
+        }),
+        _ => None,
+    }
+}
+
 /// All faults of the channel's chip.
 fn faults(alloc: Global, rows: &[Row], channel: u8) -> Result<Vec<Fault>, AllocError>
     ensures { IfOk result (λ v. v.items ≡ spec.all_on (spec.fault_on channel) rows.now) }
@@ -73,7 +92,16 @@ fn unready(alloc: Global, rows: &[Row], channel: u8) -> Result<Vec<u32>, AllocEr
         .collect(alloc)
 }
 
-/// The chip of a channel as it opens, with the faults and failing calls that the rows tell of it.
+/// How long the arrays of the channel's chip really take.
+fn array_times(alloc: Global, rows: &[Row], channel: u8) -> Result<Vec<ArrayTime>, AllocError>
+    ensures { IfOk result (λ v. v.items ≡ spec.all_on (spec.array_time_on channel) rows.now) }
+{
+    rows.iter()
+        .filter_map(|row| array_time_on(row, channel))
+        .collect(alloc)
+}
+
+/// The chip of a channel as it opens, with the faults, failing calls and real array times that the rows tell of it.
 ///
 /// # Errors
 /// Want of memory.
@@ -87,13 +115,15 @@ pub fn chip_of(
     ensures faults { IfOk result (λ chip. (chip_in chip).faults ≡ spec.all_on (spec.fault_on channel) rows.now) }
     ensures calls { IfOk result (λ chip. failing_calls chip ≡ spec.all_on (spec.failing_on channel) rows.now) }
     ensures statuses { IfOk result (λ chip. failing_statuses chip ≡ spec.all_on (spec.unready_on channel) rows.now) }
+    ensures arrays { IfOk result (λ chip. times_of chip ≡ spec.all_on (spec.array_time_on channel) rows.now) }
 {
-    SimChip::new(
+    let chip = SimChip::new(
         alloc,
         setup.geometry,
         setup.timing,
         faults(alloc, rows, channel)?,
         failing(alloc, rows, channel)?,
         unready(alloc, rows, channel)?,
-    )
+    )?;
+    Ok(chip.with_array_times(array_times(alloc, rows, channel)?))
 }

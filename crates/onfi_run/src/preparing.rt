@@ -72,6 +72,9 @@ fn row_fault(alloc: Global, bounds: &Bounds, row: &Row) -> Result<Option<ScriptF
         Row::ChipFail { channel, .. } | Row::NotReady { channel, .. } => {
             Ok(unless_there(*channel < bounds.channels))
         }
+        Row::Array { channel, lun, .. } => Ok(unless_there(
+            *channel < bounds.channels && *lun < bounds.geometry.lun_count,
+        )),
         _ => Ok(None),
     }
 }
