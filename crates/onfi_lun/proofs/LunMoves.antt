@@ -1,5 +1,5 @@
 -- The moves of the LUNs of a channel.
-use Rattle.std.proofs.Common.{◌≡◌, ◌≢◌, ℕ, zero, suc, ◌+◌, ◌<◌, ◌≤◌, ◌⊎◌, inl, inr, List, [], ◌∷◌, ◌++◌, length, replicate, Some, None, Result, Ok, Err, IfOk, IfErr, refl, sym, ap, subst, ◌∙◌, length-append, arith}
+use Rattle.std.proofs.Common.{◌≡◌, ◌≢◌, ℕ, zero, suc, ◌+◌, ◌<◌, ◌≤◌, ◌⊎◌, inl, inr, Bool, true, false, IsTrue, List, [], ◌∷◌, ◌++◌, length, replicate, Option, Some, None, Result, Ok, Err, IfOk, IfErr, refl, sym, ap, subst, ◌∙◌, length-append, arith}
 use Rattle.std.specs.Prelude.{slice_get, slice_set, All as Every}
 use Rattle.std.proofs.lemmas.List.{length-replicate}
 use Rattle.onfi_addr.specs.declared.geometry.Geometry.{Geometry}
@@ -14,7 +14,7 @@ use Rattle.onfi_chip.specs.declared.closer.Closer.{Closer}
 use Rattle.onfi_chip.specs.declared.closer.Closer.TheVariants as closer
 use Rattle.onfi_chip.specs.declared.fetch.Fetch.{Fetch}
 use Rattle.onfi_chip.specs.declared.post.Post.{Post}
-use Rattle.onfi_chip.specs.Chip.{Chip, Lun, after_post, posted, taken}
+use Rattle.onfi_chip.specs.Chip.{Chip, Lun, after_post, found_ready, luns_ready_by, posted, ready_by, taken}
 use Rattle.onfi_chip.specs.Chip.Lun.{Idle as DoesNothing, Commanding, Posting as HasPosts}
 use Rattle.onfi_chip.specs.Calls.{command_of, HasDone, IsNextPost, MayJoin, MayTake}
 use Rattle.onfi_chip.proofs.SimCalls.{in_range}
@@ -251,3 +251,31 @@ post_of target chip due item fetch may le kind place =
         place = here ∙ sym place;
       },
     )
+
+-- Polls
+
+-- a LUN that is found ready leaves the others, and their number
+found_others : (chip : Chip) (lun now other : ℕ) → other ≢ lun → slice_get (found_ready chip lun now).luns other ≡ slice_get chip.luns other
+found_others chip lun now other d = elim-state (slice_get chip.luns lun)
+  where
+    elim-state : (state : Option Lun) → slice_get (luns_ready_by now lun state chip.luns) other ≡ slice_get chip.luns other
+    elim-state None = refl
+    elim-state (Some x) = get_set_other chip.luns lun other (ready_by now x) d
+
+found_size : (now lun : ℕ) (state : Option Lun) (luns : List Lun) → length (luns_ready_by now lun state luns) ≡ length luns
+found_size now lun None luns = refl
+found_size now lun (Some x) luns = length_set luns lun (ready_by now x)
+
+pub poll_agrees : (ready : Bool) (old new : Chip) (now : ℕ) (lanes : List AnyLun) (at : ℕ) (before moving after : AnyLun) → LanesAgree old lanes → slice_get lanes at ≡ Some before → number_in after ≡ number_in before
+    → (IsTrue ready → new ≡ found_ready old (number_in before) now) → (ready ≡ false → new ≡ old) → IsThere new after → LanesAgree new (slice_set (slice_set lanes at moving) at after)
+poll_agrees ready old new now lanes at before moving after agree there same found busy is =
+    let n = agree.number at before there in
+    let (size, others) = changed ready found busy in
+    subst (LanesAgree new) (sym (set_twice lanes at moving after)) (agree_on old new lanes at before after agree there size (subst (λ i. OthersStay i old new) n others) (same ∙ n) is)
+  where
+    changed : (b : Bool) → (IsTrue b → new ≡ found_ready old (number_in before) now) → (b ≡ false → new ≡ old) → (length new.luns ≡ length old.luns) × OthersStay (number_in before) old new
+    changed true found busy = (
+      ap (λ (x : Chip). length x.luns) (found refl) ∙ found_size now (number_in before) (slice_get old.luns (number_in before)) old.luns,
+      λ other d. ap (λ (x : Chip). slice_get x.luns other) (found refl) ∙ found_others old (number_in before) now other d,
+    )
+    changed false found busy = (ap (λ (x : Chip). length x.luns) (busy refl), λ other d. ap (λ (x : Chip). slice_get x.luns other) (busy refl))

@@ -86,6 +86,14 @@ IsRipe now (Working lun) = lun.state.ready ≤ now
 IsRipe now (Posting lun) = Unit {0}
 IsRipe now Moving = ⊥
 
+-- its array works at that moment, by what is stated
+abbrev pub Works : ℕ → AnyLun → Type 0
+Works now (Idle lun) = ⊥
+Works now (Queuing lun) = ⊥
+Works now (Working lun) = now < lun.state.ready
+Works now (Posting lun) = ⊥
+Works now Moving = ⊥
+
 -- how many posts are left, and from when on the next may start
 abbrev pub left_in : AnyLun → ℕ
 left_in (Idle lun) = 0

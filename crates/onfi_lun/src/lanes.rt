@@ -1,16 +1,16 @@
 //! The LUNs of a channel.
 
-ghost use Rattle.std.specs.Prelude.{◌≡◌, ◌≢◌, ℕ, ◌+◌, ◌<◌, ◌^◌, List, length, replicate, slice_get, IfOk, IfErr};
+ghost use Rattle.std.specs.Prelude.{◌≡◌, ◌≢◌, ℕ, ◌+◌, ◌<◌, ◌^◌, List, false, length, replicate, slice_get, IfOk, IfErr, IfSome, IsTrue};
 ghost use Rattle.onfi_addr.specs.Rows.{row_of};
 ghost use Rattle.onfi_request.specs.Range.{Fits};
 ghost use Rattle.onfi_chip.specs.declared.post.Post.{Post as APost};
-ghost use Rattle.onfi_chip.specs.Chip.{Chip as ChipState, posted, taken};
+ghost use Rattle.onfi_chip.specs.Chip.{Chip as ChipState, found_ready, posted, taken};
 ghost use Rattle.onfi_chip.specs.Chip.Lun.{Idle as DoesNothing};
 ghost use Rattle.onfi_chip.specs.Calls.{AfterFault, HasDone, IsLost, IsNextPost, MayTake, command_of};
 ghost use Rattle.onfi_chip.specs.Fetching.{HasRoom};
 ghost use Rattle.onfi_core.specs.Drive.{HasRun, AfterDrive, IsStatus, closer_of, fault_of_post};
 ghost use Rattle.onfi_lun.specs.Phases.{IsOf};
-ghost use Rattle.onfi_lun.specs.Lanes.{LanesAgree, MayRunDue, AreIdle, IsPostOf, OthersKept, fault_of_command};
+ghost use Rattle.onfi_lun.specs.Lanes.{LanesAgree, MayRunDue, AreIdle, IsPostOf, OthersKept, Works, fault_of_command};
 
 mod any_lun;
 
@@ -94,6 +94,26 @@ impl Lanes {
             Ok(answer) => Ok(PhaseResult::Post(answer)),
             Err(fault) => Err(fault_of_post(fault)),
         }
+    }
+
+    /// Whether the LUN says at `now`, in ns, that it is ready, asked of the chip without the bus. A LUN whose array doesn't
+    /// work then by what is stated isn't asked.
+    pub fn poll<C: Chip>(&mut self, chip: &mut C, now: u64, lun: u8) -> bool
+        requires agree { LanesAgree (C.state chip.old) self.old }
+        ensures ready { IsTrue result → C.state chip.new ≡ found_ready (C.state chip.old) lun now }
+        ensures busy { result ≡ false → C.state chip.new ≡ C.state chip.old }
+        ensures agree { LanesAgree (C.state chip.new) self.new }
+        ensures works { IsTrue result → IfSome (slice_get self.old lun) (Works now) }
+        ensures others { OthersKept lun self.old self.new }
+    {
+        let at = usize::from(lun);
+        if at >= self.luns.len() || !self.luns[at].works(now) {
+            return false;
+        }
+        let lun = mem::replace(&mut self.luns[at], AnyLun::Moving);
+        let (lun, ready) = lun.poll(chip, now);
+        self.luns[at] = lun;
+        ready
     }
 
     // The command of a member.

@@ -1,4 +1,4 @@
-ghost use Rattle.std.specs.Prelude.{◌≡◌, ◌≤◌};
+ghost use Rattle.std.specs.Prelude.{◌≡◌, ◌≤◌, min};
 
 use crate::states::{Idle, Posting, Queuing, Working};
 
@@ -77,6 +77,23 @@ impl Lun<Working> {
             Posting {
                 left: state.members,
                 ready: state.ready,
+            },
+        )
+    }
+
+    /// The chip said at `now`, in ns, that the array is done: the posts may come from then on, or from when they might before.
+    pub(crate) fn sooner(self, now: u64) -> Lun<Working>
+        ensures number { result.number ≡ self.number }
+        ensures members { result.state.members ≡ self.state.members }
+        ensures ready { result.state.ready ≡ min self.state.ready now }
+    {
+        let Lun { number, state } = self;
+        let Working { members, ready } = state;
+        Lun::at(
+            number,
+            Working {
+                members,
+                ready: ready.min(now),
             },
         )
     }

@@ -62,8 +62,9 @@ impl Half {
         }
     }
 
-    // Whether no item is taken, and the plan is current.
-    pub(crate) fn nothing_to_plan(&self) -> bool
+    /// Whether nothing is to be planned, stopped or not: no item is unplanned, or the wants not started fill the batch, and
+    /// the plan is that of the bus and the LUNs as they stand, or nothing of it is left.
+    pub fn nothing_to_plan(&self) -> bool
         ensures { result ≡ nothing_to_plan self.now.setup self.now.state }
     {
         !self.takes_more() && self.is_current()

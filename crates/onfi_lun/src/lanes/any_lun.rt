@@ -1,12 +1,12 @@
-ghost use Rattle.std.specs.Prelude.{◌≡◌, ◌≢◌, ◌+◌, ◌<◌, ◌≤◌, ◌^◌, List, length, slice_get, IfOk, IfErr};
+ghost use Rattle.std.specs.Prelude.{◌≡◌, ◌≢◌, ◌↔◌, ◌+◌, ◌<◌, ◌≤◌, ◌^◌, List, false, length, slice_get, IfOk, IfErr, IsTrue};
 ghost use Rattle.onfi_addr.specs.Rows.{row_of};
 ghost use Rattle.onfi_request.specs.Range.{Fits};
 ghost use Rattle.onfi_chip.specs.declared.post.Post.{Post as APost};
-ghost use Rattle.onfi_chip.specs.Chip.{posted, taken};
+ghost use Rattle.onfi_chip.specs.Chip.{found_ready, posted, taken};
 ghost use Rattle.onfi_chip.specs.Calls.{AfterFault, HasDone, IsLost, IsNextPost, MayTake, command_of};
 ghost use Rattle.onfi_chip.specs.Fetching.{HasRoom};
 ghost use Rattle.onfi_lun.specs.Phases.{IsOf, OthersStay};
-ghost use Rattle.onfi_lun.specs.Lanes.{IsThere, IsRipe, IsPostOf, number_in, left_in, ready_in, behind_command, behind_post};
+ghost use Rattle.onfi_lun.specs.Lanes.{IsThere, IsRipe, Works, IsPostOf, number_in, left_in, ready_in, behind_command, behind_post};
 
 use crate::lun::{Commanded, Lun, Posted};
 use crate::states::{Idle, Posting, Queuing, Working};
@@ -94,6 +94,35 @@ impl AnyLun {
         match posting.post(chip, target, now, fetch) {
             Ok((posted, answer)) => (behind_post(posted), Ok(answer)),
             Err(refused) => (AnyLun::Posting(refused.lun), Err(refused.fault)),
+        }
+    }
+
+    /// Whether its array works at `now`, in ns, by what is stated.
+    pub(crate) fn works(&self, now: u64) -> bool
+        ensures { IsTrue result ↔ Works now self.now }
+    {
+        match self {
+            AnyLun::Working(lun) => lun.state().ready > now,
+            _ => false,
+        }
+    }
+
+    /// Whether the chip says at `now`, in ns, that the LUN is ready, whose array works then by what is stated.
+    pub(crate) fn poll<C: Chip>(self, chip: &mut C, now: u64) -> (AnyLun, bool)
+        requires there { IsThere (C.state chip.old) self }
+        requires works { Works now self }
+        ensures ready { IsTrue result.1 → C.state chip.new ≡ found_ready (C.state chip.old) (number_in self) now }
+        ensures busy { result.1 ≡ false → C.state chip.new ≡ C.state chip.old }
+        ensures there { IsThere (C.state chip.new) result.0 }
+        ensures number { number_in result.0 ≡ number_in self }
+    {
+        let AnyLun::Working(lun) = self else {
+            unreachable!();
+        };
+        if chip.poll(now, lun.number()) {
+            (AnyLun::Working(lun.sooner(now)), true)
+        } else {
+            (AnyLun::Working(lun), false)
         }
     }
 
