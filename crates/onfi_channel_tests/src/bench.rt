@@ -16,6 +16,9 @@ use std::marker::Model;
 use std::process::Abort;
 use std::sync::Wait;
 
+/// The moment of who has no clock.
+const NO_CLOCK: u64 = u64::MAX;
+
 /// Counts the turns that begin, and sees that each is told once, by its number.
 #[derive(Drop)]
 struct Watch {
@@ -119,10 +122,15 @@ impl Bench {
         submit_by(rt, end, request)
     }
 
-    /// A turn, which its gate is told of once.
+    /// A turn without a clock.
     fn turn<R: Wait + Abort>(&mut self, rt: &R) -> Turn {
+        self.turn_at(rt, NO_CLOCK)
+    }
+
+    /// A turn at that moment, which its gate is told of once.
+    fn turn_at<R: Wait + Abort>(&mut self, rt: &R, now: u64) -> Turn {
         let begun = self.gate.begun;
-        let turn = self.sequencer.turn(rt, self.alloc, &mut self.gate);
+        let turn = self.sequencer.turn(rt, self.alloc, &mut self.gate, now);
         assert_eq!(rt; self.gate.begun, begun.wrapping_add(1));
         assert_eq!(rt; self.gate.missed, 0);
         turn
@@ -136,9 +144,22 @@ impl Bench {
         }
     }
 
+    /// Turns at these moments come to these.
+    pub(crate) fn turns_at<R: Wait + Abort>(&mut self, rt: &R, turns: &[(u64, Turn)]) {
+        for (now, want) in turns {
+            let turn = self.turn_at(rt, *now);
+            assert_eq!(rt; turn, *want, "at {now}");
+        }
+    }
+
     /// The next turn plans, and its plan ends then, in ns of the channel's clock.
     pub(crate) fn plans<R: Wait + Abort>(&mut self, rt: &R, finish: u64) {
-        self.turns(rt, &[Turn::Planned]);
+        self.plans_at(rt, NO_CLOCK, finish);
+    }
+
+    /// The next turn, at that moment, plans, and its plan ends then.
+    pub(crate) fn plans_at<R: Wait + Abort>(&mut self, rt: &R, now: u64, finish: u64) {
+        self.turns_at(rt, &[(now, Turn::Planned)]);
         let Some((_, planned)) = self.sequencer.last() else {
             panic!(rt; "no plan");
         };
@@ -214,12 +235,24 @@ impl Bench {
         }
     }
 
-    /// At most so many turns of draining end like that.
+    /// At most so many turns of draining end like that, without a clock.
     pub(crate) fn drains<R: Wait + Abort>(&mut self, rt: &R, turns: u64, end: Drained) {
+        self.drains_at(rt, NO_CLOCK, turns, end);
+    }
+
+    /// .. at that moment.
+    pub(crate) fn drains_at<R: Wait + Abort>(
+        &mut self,
+        rt: &R,
+        now: u64,
+        turns: u64,
+        end: Drained,
+    ) {
         let drained = self.sequencer.drain(
             rt,
             self.alloc,
             &mut self.gate,
+            now,
             &self.hosts,
             &mut self.inboxes,
             turns,

@@ -67,7 +67,7 @@ fn serve<R: Wait>(
 ) {
     let mut gate = Hold { signals };
     for _ in rt.forever() {
-        let turn = sequencer.turn(rt, alloc, &mut gate);
+        let turn = sequencer.turn(rt, alloc, &mut gate, u64::MAX);
         if turn == Turn::Idle && signals.ended.load(Ordering::SeqCst) {
             break;
         }

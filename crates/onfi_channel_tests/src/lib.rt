@@ -16,6 +16,8 @@ mod last;
 #[cfg(test)]
 mod machine;
 #[cfg(test)]
+mod moments;
+#[cfg(test)]
 mod passing;
 #[cfg(test)]
 mod phases;

@@ -1,5 +1,5 @@
 -- How the threads of channels go on and end, and what is told of a channel.
-use Rattle.std.specs.Prelude.{◌≡◌, ℕ, ◌+◌, ◌||◌, nat_le, Bool, true, false, if◌then◌else◌, List, Option, Some, None}
+use Rattle.std.specs.Prelude.{◌≡◌, ℕ, ◌+◌, ◌-◌, ◌^◌, ◌||◌, nat_le, Bool, true, false, if◌then◌else◌, List, Option, Some, None}
 use Rattle.onfi_core.specs.Steps.{none_left}
 use Rattle.onfi_queue.specs.Ends.{HostView}
 use Rattle.onfi_seq.specs.declared.drained.Drained.{Drained}
@@ -27,13 +27,18 @@ progress_of none turn.Phase = progress.Advanced
 progress_of none turn.Planned = progress.Advanced
 progress_of none turn.Posted = progress.Moved
 progress_of none turn.Accepted = progress.Moved
+progress_of none (turn.Waits until) = progress.Moved
 progress_of none turn.PostFull = progress.Quiet
 progress_of none turn.Idle = progress.Quiet
+
+-- the greatest moment: a run has no clock
+abbrev pub no_clock : ℕ
+no_clock = 2 ^ 64 - 1
 
 -- a turn of a sequencer came to that
 pub record Proceeds (q : Seen) (p : Progress) (q' : Seen) : Type 0 where
   pub answer : Turn
-  pub turned : Turned q answer q'
+  pub turned : Turned no_clock q answer q'
   pub told : p ≡ progress_of (none_left q'.0.half) answer
 
 -- memory was refused
@@ -69,6 +74,7 @@ abbrev pub end_of : Drained → ChannelEnd
 end_of drained.Empty = end.Done
 end_of drained.Memory = end.Done
 end_of drained.TurnsSpent = end.Unfinished
+end_of (drained.Waits until) = end.Unfinished
 end_of (drained.Stopped cause) = end.Stopped cause
 end_of (drained.Over opened) = end.Over opened
 
@@ -79,7 +85,7 @@ is_memory _ = false
 -- a draining of a sequencer came to that: at most 1,000,000 turns; memory was refused to a turn of the sequencer, ever, or to the draining
 pub record DrainsTo (q : Seen) (hosts : List HostView) (d : DrainedAs) (q' : Seen) : Type 0 where
   pub end : Drained
-  pub drained : Drains q hosts 1000000 end q'
+  pub drained : Drains no_clock q hosts 1000000 end q'
   pub told : d.end ≡ end_of end
   pub short : d.short_of_memory ≡ (is_memory end || q'.0.short)
 

@@ -17,6 +17,9 @@ use std::sync::Wait;
 /// The most turns of a drain.
 const MOST_TURNS: u64 = 1_000_000;
 
+/// A run has no clock: at this moment nothing waits.
+const NO_CLOCK: u64 = u64::MAX;
+
 /// The sequencer of a simulated chip, which plans by a planner of this type, with the gate that is called before each of its
 /// turns.
 #[derive(Drop)]
@@ -37,7 +40,7 @@ impl<P: Planner, G: Gate> Gated<P, G> {
             Turn::Memory if self.sequencer.has_phase() => Progress::Refused,
             Turn::Memory => Progress::Starved,
             Turn::Phase | Turn::Planned => Progress::Advanced,
-            Turn::Posted | Turn::Accepted => Progress::Moved,
+            Turn::Posted | Turn::Accepted | Turn::Waits { .. } => Progress::Moved,
             Turn::PostFull | Turn::Idle => Progress::Quiet,
         }
     }
@@ -49,7 +52,7 @@ fn end_of(end: End) -> ChannelEnd
 {
     match end {
         End::Empty | End::Memory => ChannelEnd::Done,
-        End::TurnsSpent => ChannelEnd::Unfinished,
+        End::TurnsSpent | End::Waits { .. } => ChannelEnd::Unfinished,
         End::Stopped(cause) => ChannelEnd::Stopped(cause),
         End::Over { opened } => ChannelEnd::Over { opened },
     }
@@ -77,7 +80,7 @@ impl<P: Planner + Drop, G: Gate + Drop> Channel for Gated<P, G> {
     ghost drains = { λ c hosts d c'. DrainsTo (seen_in chip_in c.sequencer) hosts d (seen_in chip_in c'.sequencer) };
 
     fn turn<R: Wait>(&mut self, rt: &R, alloc: Global) -> Progress {
-        let turn = self.sequencer.turn(rt, alloc, &mut self.gate);
+        let turn = self.sequencer.turn(rt, alloc, &mut self.gate, NO_CLOCK);
         self.progress(turn)
     }
 
@@ -88,9 +91,15 @@ impl<P: Planner + Drop, G: Gate + Drop> Channel for Gated<P, G> {
         hosts: &[Host; 4],
         inboxes: &mut [Inbox; 4],
     ) -> Drained {
-        let end = self
-            .sequencer
-            .drain(rt, alloc, &mut self.gate, hosts, inboxes, MOST_TURNS);
+        let end = self.sequencer.drain(
+            rt,
+            alloc,
+            &mut self.gate,
+            NO_CLOCK,
+            hosts,
+            inboxes,
+            MOST_TURNS,
+        );
         let short = self.sequencer.was_short_of_memory();
         Drained {
             end: end_of(end),

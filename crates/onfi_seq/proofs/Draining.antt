@@ -10,7 +10,7 @@ use Rattle.onfi_seq.specs.declared.drained.Drained.{Drained}
 use Rattle.onfi_seq.specs.declared.drained.Drained.TheVariants as drained
 use Rattle.onfi_seq.specs.declared.turn.Turn.{Turn}
 use Rattle.onfi_seq.specs.Drained.{AreAccepted, AreNextBehind, Drains, EndsBefore, EndsBehind, GoesOn, HasGrown, HaveGrown, Makes, ends_it, left_by}
-use Rattle.onfi_seq.proofs.Same.{short_by_memory}
+use Rattle.onfi_seq.proofs.Same.{same_channel_all, short_by_memory}
 use Rattle.onfi_seq.specs.Sequencer.{AreCounts, IsRight, IsSameChannel, Seen, SequencerFields}
 use Rattle.onfi_seq.specs.Turned.{Turned}
 
@@ -78,29 +78,21 @@ all_grown_one xs ys at i j grown there one = all_grown_all xs ys (slice_set ys a
 same_channel_none : (q : Seen) → IsSameChannel q q
 same_channel_none q = record { setup = refl; faults = refl; intake = refl; posters = refl }
 
-pub same_channel_all : (q q' q'' : Seen) → IsSameChannel q q' → IsSameChannel q' q'' → IsSameChannel q q''
-same_channel_all q q' q'' a b = record {
-  setup = b.setup ∙ a.setup;
-  faults = b.faults ∙ a.faults;
-  intake = b.intake ∙ a.intake;
-  posters = b.posters ∙ a.posters;
-}
-
 -- so many turns were made, on the same channel, and the inboxes took in
-pub record Draining (q : Seen) (inboxes : List InboxView) (made : ℕ) (q' : Seen) (inboxes' : List InboxView) : Type 0 where
+pub record Draining (now : ℕ) (q : Seen) (inboxes : List InboxView) (made : ℕ) (q' : Seen) (inboxes' : List InboxView) : Type 0 where
   pub answers : List Turn
-  pub ran : Makes q answers q'
+  pub ran : Makes now q answers q'
   pub count : length answers ≡ made
   pub on : GoesOn answers q'.0.half
   pub same : IsSameChannel q q'
   pub short : q.0.short ≡ true → q'.0.short ≡ true
   pub grown : HaveGrown inboxes inboxes'
 
-pub draining_first : (q : Seen) (inboxes : List InboxView) → Draining q inboxes 0 q inboxes
-draining_first q inboxes = record { answers = []; ran = refl; count = refl; on = tt; same = same_channel_none q; short = λ short. short; grown = all_grown_none inboxes }
+pub draining_first : (now : ℕ) (q : Seen) (inboxes : List InboxView) → Draining now q inboxes 0 q inboxes
+draining_first now q inboxes = record { answers = []; ran = refl; count = refl; on = tt; same = same_channel_none q; short = λ short. short; grown = all_grown_none inboxes }
 
-pub draining_taken : (q : Seen) (inboxes : List InboxView) (made : ℕ) (q' : Seen) (inboxes' inboxes'' : List InboxView) → Draining q inboxes made q' inboxes' → HaveGrown inboxes' inboxes'' → Draining q inboxes made q' inboxes''
-draining_taken q inboxes made q' inboxes' inboxes'' so_far more = record {
+pub draining_taken : (now : ℕ) (q : Seen) (inboxes : List InboxView) (made : ℕ) (q' : Seen) (inboxes' inboxes'' : List InboxView) → Draining now q inboxes made q' inboxes' → HaveGrown inboxes' inboxes'' → Draining now q inboxes made q' inboxes''
+draining_taken now q inboxes made q' inboxes' inboxes'' so_far more = record {
   answers = so_far.answers;
   ran = so_far.ran;
   count = so_far.count;
@@ -110,9 +102,9 @@ draining_taken q inboxes made q' inboxes' inboxes'' so_far more = record {
   grown = all_grown_all inboxes inboxes' inboxes'' so_far.grown more;
 }
 
-pub draining_turned : (q : Seen) (inboxes : List InboxView) (made : ℕ) (q' : Seen) (inboxes' : List InboxView) (answer : Turn) (q'' : Seen) → Draining q inboxes made q' inboxes' → Turned q' answer q'' → IsSameChannel q' q'' → (q'.0.short ≡ true → q''.0.short ≡ true) → ends_it answer q''.0.half ≡ false
-    → Draining q inboxes (made + 1) q'' inboxes'
-draining_turned q inboxes made q' inboxes' answer q'' so_far turned same still on =
+pub draining_turned : (now : ℕ) (q : Seen) (inboxes : List InboxView) (made : ℕ) (q' : Seen) (inboxes' : List InboxView) (answer : Turn) (q'' : Seen) → Draining now q inboxes made q' inboxes' → Turned now q' answer q'' → IsSameChannel q' q'' → (q'.0.short ≡ true → q''.0.short ≡ true) → ends_it answer q''.0.half ≡ false
+    → Draining now q inboxes (made + 1) q'' inboxes'
+draining_turned now q inboxes made q' inboxes' answer q'' so_far turned same still on =
     let count = so_far.count in
     record {
       answers = answer ∷ so_far.answers;
@@ -125,38 +117,41 @@ draining_turned q inboxes made q' inboxes' answer q'' so_far turned same still o
     }
 
 -- ended before a turn
-pub drains_here : (q : Seen) (inboxes : List InboxView) (made : ℕ) (q' : Seen) (inboxes' : List InboxView) (hosts : List HostView) (turns : ℕ) (end : Drained) → Draining q inboxes made q' inboxes' → made ≤ turns → EndsBefore end q'.0.half hosts turns made
-    → Drains q hosts turns end q'
-drains_here q inboxes made q' inboxes' hosts turns drained.Empty so_far few ends =
+pub drains_here : (now : ℕ) (q : Seen) (inboxes : List InboxView) (made : ℕ) (q' : Seen) (inboxes' : List InboxView) (hosts : List HostView) (turns : ℕ) (end : Drained) → Draining now q inboxes made q' inboxes' → made ≤ turns → EndsBefore end q'.0.half hosts turns made
+    → Drains now q hosts turns end q'
+drains_here now q inboxes made q' inboxes' hosts turns drained.Empty so_far few ends =
     let count = so_far.count in record { answers = so_far.answers; last = q'; ran = so_far.ran; few = omega arith; ends = (so_far.on, ends); after = refl }
-drains_here q inboxes made q' inboxes' hosts turns drained.TurnsSpent so_far few ends =
+drains_here now q inboxes made q' inboxes' hosts turns drained.TurnsSpent so_far few ends =
     let count = so_far.count in record { answers = so_far.answers; last = q'; ran = so_far.ran; few = omega arith; ends = (so_far.on, count ∙ ends.0, ends.1); after = refl }
-drains_here q inboxes made q' inboxes' hosts turns (drained.Stopped cause) so_far few ends = absurd ends
-drains_here q inboxes made q' inboxes' hosts turns (drained.Over opened) so_far few ends = absurd ends
-drains_here q inboxes made q' inboxes' hosts turns drained.Memory so_far few ends = absurd ends
+drains_here now q inboxes made q' inboxes' hosts turns (drained.Stopped cause) so_far few ends = absurd ends
+drains_here now q inboxes made q' inboxes' hosts turns (drained.Over opened) so_far few ends = absurd ends
+drains_here now q inboxes made q' inboxes' hosts turns (drained.Waits until) so_far few ends = absurd ends
+drains_here now q inboxes made q' inboxes' hosts turns drained.Memory so_far few ends = absurd ends
 
 -- ended since a taking in was refused
-pub drains_refused : (q : Seen) (inboxes : List InboxView) (made : ℕ) (q' : Seen) (inboxes' : List InboxView) (hosts : List HostView) (turns : ℕ) (q'' : Seen) → Draining q inboxes made q' inboxes' → made ≤ turns → q'' ≡ left_by drained.Memory q'
-    → Drains q hosts turns drained.Memory q''
-drains_refused q inboxes made q' inboxes' hosts turns q'' so_far few after =
+pub drains_refused : (now : ℕ) (q : Seen) (inboxes : List InboxView) (made : ℕ) (q' : Seen) (inboxes' : List InboxView) (hosts : List HostView) (turns : ℕ) (q'' : Seen) → Draining now q inboxes made q' inboxes' → made ≤ turns → q'' ≡ left_by drained.Memory q'
+    → Drains now q hosts turns drained.Memory q''
+drains_refused now q inboxes made q' inboxes' hosts turns q'' so_far few after =
     let count = so_far.count in record { answers = so_far.answers; last = q'; ran = so_far.ran; few = omega arith; ends = inr so_far.on; after = after }
 
 marked : (q : Seen) → q.0.short ≡ true → q ≡ left_by drained.Memory q
 marked q short = ap (λ (b : Bool). let z : Seen = (record q.0 { short = b }, q.1) in z) short
 
 -- ended behind a turn
-pub drains_behind : (q : Seen) (inboxes : List InboxView) (made : ℕ) (q' : Seen) (inboxes' : List InboxView) (answer : Turn) (q'' : Seen) (hosts : List HostView) (turns : ℕ) (end : Drained) → Draining q inboxes made q' inboxes' → made < turns → Turned q' answer q''
-    → EndsBehind end answer q''.0.half → Drains q hosts turns end q''
-drains_behind q inboxes made q' inboxes' answer q'' hosts turns (drained.Stopped cause) so_far few turned ends =
+pub drains_behind : (now : ℕ) (q : Seen) (inboxes : List InboxView) (made : ℕ) (q' : Seen) (inboxes' : List InboxView) (answer : Turn) (q'' : Seen) (hosts : List HostView) (turns : ℕ) (end : Drained) → Draining now q inboxes made q' inboxes' → made < turns → Turned now q' answer q''
+    → EndsBehind end answer q''.0.half → Drains now q hosts turns end q''
+drains_behind now q inboxes made q' inboxes' answer q'' hosts turns (drained.Stopped cause) so_far few turned ends =
     let count = so_far.count in record { answers = answer ∷ so_far.answers; last = q''; ran = (q', so_far.ran, so_far.on, turned); few = omega arith; ends = ends; after = refl }
-drains_behind q inboxes made q' inboxes' answer q'' hosts turns (drained.Over opened) so_far few turned ends =
+drains_behind now q inboxes made q' inboxes' answer q'' hosts turns (drained.Waits until) so_far few turned ends =
     let count = so_far.count in record { answers = answer ∷ so_far.answers; last = q''; ran = (q', so_far.ran, so_far.on, turned); few = omega arith; ends = ends; after = refl }
-drains_behind q inboxes made q' inboxes' answer q'' hosts turns drained.Memory so_far few turned ends =
+drains_behind now q inboxes made q' inboxes' answer q'' hosts turns (drained.Over opened) so_far few turned ends =
+    let count = so_far.count in record { answers = answer ∷ so_far.answers; last = q''; ran = (q', so_far.ran, so_far.on, turned); few = omega arith; ends = ends; after = refl }
+drains_behind now q inboxes made q' inboxes' answer q'' hosts turns drained.Memory so_far few turned ends =
     let count = so_far.count in
-    let short = short_by_memory q' q'' (subst (λ (x : Turn). Turned q' x q'') ends.0 turned) in
+    let short = short_by_memory now q' q'' (subst (λ (x : Turn). Turned now q' x q'') ends.0 turned) in
     record { answers = answer ∷ so_far.answers; last = q''; ran = (q', so_far.ran, so_far.on, turned); few = omega arith; ends = inl ends; after = marked q'' short }
-drains_behind q inboxes made q' inboxes' answer q'' hosts turns drained.Empty so_far few turned ends = absurd ends
-drains_behind q inboxes made q' inboxes' answer q'' hosts turns drained.TurnsSpent so_far few turned ends = absurd ends
+drains_behind now q inboxes made q' inboxes' answer q'' hosts turns drained.Empty so_far few turned ends = absurd ends
+drains_behind now q inboxes made q' inboxes' answer q'' hosts turns drained.TurnsSpent so_far few turned ends = absurd ends
 
 -- the mark of refused memory changes neither what always holds nor the channel
 pub right_marked : (q q' : Seen) → q' ≡ left_by drained.Memory q → IsRight q → IsRight q'

@@ -1,4 +1,5 @@
 pub mod Driving
+pub mod Passing
 pub mod Keeping
 pub mod Turning
 pub mod Draining

@@ -1,5 +1,5 @@
 -- Why a turn does what it does.
-use Rattle.std.proofs.Common.{◌≡◌, ◌≢◌, ◌⊎◌, ℕ, ◌+◌, ◌<◌, ◌≤◌, inl, inr, Bool, true, false, List, [], length, Option, Some, None, refl, sym, ap, ◌∙◌, subst, arith}
+use Rattle.std.proofs.Common.{◌≡◌, ℕ, ◌+◌, ◌<◌, ◌≤◌, inl, inr, Bool, true, false, List, [], Option, Some, None, refl, sym, ap, ◌∙◌, subst, arith}
 use Rattle.std.specs.Prelude.{nat_le, slice_get, slice_set}
 use Rattle.std.specs.List.{filter}
 use Rattle.std.proofs.lemmas.Bool.Decides.{nat_tests}
@@ -25,7 +25,7 @@ use Rattle.onfi_seq.specs.Sequencer.{Seen, channel_of}
 use Rattle.onfi_seq.proofs.Keeping.{set_same}
 use Rattle.onfi_seq.specs.declared.turn.Turn.{Turn}
 use Rattle.onfi_seq.specs.declared.turn.Turn.TheVariants as turn
-use Rattle.onfi_seq.specs.Turned.{HeldBelow, IsPostRefused, IsRest, MayRunPhase, NothingPosts, OfferedAll, OfferedTo, Rests, Turned}
+use Rattle.onfi_seq.specs.Turned.{Goes, HeldBelow, IsPostRefused, IsRest, MayRunPhase, NothingPosts, OfferedAll, OfferedTo, Rests}
 
 -- Refusals of a half that goes on
 
@@ -79,16 +79,17 @@ planned_seen {C} state intake posters refused short d d' same =
     ap (λ (x : DriverView C). let q : Seen = (record { setup = x.0.setup; half = d'.0.half; intake = intake; posters = posters; refused = refused; short = short }, state x.1) in q) same
 
 -- how a turn ends where nothing is left to do
-pub rest_turned : (q q' : Seen) (rest : Turn) → IsRest q rest → Rests q → q' ≡ q → Turned q rest q'
-rest_turned q q' turn.PostFull is rests same = (rests, is, same)
-rest_turned q q' turn.Idle is rests same = (rests, is, same)
-rest_turned q q' turn.Posted is rests same = absurd is
-rest_turned q q' (turn.Stopped cause) is rests same = absurd is
-rest_turned q q' turn.Accepted is rests same = absurd is
-rest_turned q q' turn.Planned is rests same = absurd is
-rest_turned q q' (turn.Over opened) is rests same = absurd is
-rest_turned q q' turn.Phase is rests same = absurd is
-rest_turned q q' turn.Memory is rests same = absurd is
+pub rest_goes : (now : ℕ) (q q' : Seen) (rest : Turn) → IsRest q rest → Rests q → q' ≡ q → Goes now q rest q'
+rest_goes now q q' turn.PostFull is rests same = (rests, is, same)
+rest_goes now q q' turn.Idle is rests same = (rests, is, same)
+rest_goes now q q' turn.Posted is rests same = absurd is
+rest_goes now q q' (turn.Stopped cause) is rests same = absurd is
+rest_goes now q q' turn.Accepted is rests same = absurd is
+rest_goes now q q' turn.Planned is rests same = absurd is
+rest_goes now q q' (turn.Over opened) is rests same = absurd is
+rest_goes now q q' turn.Phase is rests same = absurd is
+rest_goes now q q' turn.Memory is rests same = absurd is
+rest_goes now q q' (turn.Waits until) is rests same = absurd is
 
 seen_back : (q : Seen) (host : ℕ) (p : PosterView) (h : HalfState) (p' : PosterView) → slice_get q.0.posters host ≡ Some p → h ≡ q.0.half → p' ≡ p → (let y : Seen = (record q.0 { half = h; posters = slice_set q.0.posters host p' }, q.1) in y) ≡ q
 seen_back q host p h p' at same is =

@@ -49,9 +49,10 @@ pub record HaveGrown (old new : List InboxView) : Type 0 where
   pub each : (at : ℕ) (i i' : InboxView) → slice_get old at ≡ Some i → slice_get new at ≡ Some i' → HasGrown i i'
 
 -- ---- draining
--- what ends a draining: Stopped, and Over and Memory where no phase is left
+-- what ends a draining: Stopped and Waits, and Over and Memory where no phase is left
 abbrev pub ends_it : Turn → HalfState → Bool
 ends_it (turn.Stopped cause) h = true
+ends_it (turn.Waits until) h = true
 ends_it (turn.Over opened) h = none_left h
 ends_it turn.Memory h = none_left h
 ends_it turn.Posted h = false
@@ -66,10 +67,10 @@ abbrev pub GoesOn : List Turn → HalfState → Type 0
 GoesOn [] h = Unit {0}
 GoesOn (answer ∷ answers) h = ends_it answer h ≡ false
 
--- the turns gave these answers, the last first, each from where the one before it ended, and none but the last ends a draining
-abbrev pub Makes : Seen → List Turn → Seen → Type 0
-Makes q [] q' = q' ≡ q
-Makes q (answer ∷ answers) q' = (mid : Seen) × Makes q answers mid × GoesOn answers mid.0.half × Turned mid answer q'
+-- the turns at the moment gave these answers, the last first, each from where the one before it ended, and none but the last ends a draining
+abbrev pub Makes : ℕ → Seen → List Turn → Seen → Type 0
+Makes now q [] q' = q' ≡ q
+Makes now q (answer ∷ answers) q' = (mid : Seen) × Makes now q answers mid × GoesOn answers mid.0.half × Turned now mid answer q'
 
 -- the last answer
 abbrev pub IsLast : Turn → List Turn → Type 0
@@ -95,6 +96,7 @@ abbrev pub EndsAs : Drained → HalfState → List HostView → ℕ → List Tur
 EndsAs drained.Empty h hosts turns answers = GoesOn answers h × IsAnswered h hosts
 EndsAs drained.TurnsSpent h hosts turns answers = GoesOn answers h × (length answers ≡ turns) × IsShort h hosts
 EndsAs (drained.Stopped cause) h hosts turns answers = IsLast (turn.Stopped cause) answers
+EndsAs (drained.Waits until) h hosts turns answers = IsLast (turn.Waits until) answers
 EndsAs (drained.Over opened) h hosts turns answers = IsLast (turn.Over opened) answers × (none_left h ≡ true)
 EndsAs drained.Memory h hosts turns answers = (IsLast turn.Memory answers × (none_left h ≡ true)) ⊎ GoesOn answers h
 
@@ -104,13 +106,14 @@ left_by drained.Memory q = (record q.0 { short = true }, q.1)
 left_by drained.Empty q = q
 left_by drained.TurnsSpent q = q
 left_by (drained.Stopped cause) q = q
+left_by (drained.Waits until) q = q
 left_by (drained.Over opened) q = q
 
--- no more turns than those were made, and the end is told as it was
-pub record Drains (q : Seen) (hosts : List HostView) (turns : ℕ) (end : Drained) (q' : Seen) : Type 0 where
+-- no more turns than those were made, all at the moment, and the end is told as it was
+pub record Drains (now : ℕ) (q : Seen) (hosts : List HostView) (turns : ℕ) (end : Drained) (q' : Seen) : Type 0 where
   pub answers : List Turn
   pub last : Seen
-  pub ran : Makes q answers last
+  pub ran : Makes now q answers last
   pub few : length answers ≤ turns
   pub ends : EndsAs end last.0.half hosts turns answers
   pub after : q' ≡ left_by end last
@@ -121,12 +124,14 @@ abbrev pub EndsBefore : Drained → HalfState → List HostView → ℕ → ℕ 
 EndsBefore drained.Empty h hosts turns made = IsAnswered h hosts
 EndsBefore drained.TurnsSpent h hosts turns made = (made ≡ turns) × IsShort h hosts
 EndsBefore (drained.Stopped cause) h hosts turns made = ⊥
+EndsBefore (drained.Waits until) h hosts turns made = ⊥
 EndsBefore (drained.Over opened) h hosts turns made = ⊥
 EndsBefore drained.Memory h hosts turns made = ⊥
 
 -- how it ends behind that answer
 abbrev pub EndsBehind : Drained → Turn → HalfState → Type 0
 EndsBehind (drained.Stopped cause) answer h = answer ≡ turn.Stopped cause
+EndsBehind (drained.Waits until) answer h = answer ≡ turn.Waits until
 EndsBehind (drained.Over opened) answer h = (answer ≡ turn.Over opened) × (none_left h ≡ true)
 EndsBehind drained.Memory answer h = (answer ≡ turn.Memory) × (none_left h ≡ true)
 EndsBehind drained.Empty answer h = ⊥

@@ -1,12 +1,11 @@
 -- What a turn did, and why it did nothing earlier.
-use Rattle.std.specs.Prelude.{◌≡◌, ◌≢◌, ◌⊎◌, ℕ, ◌<◌, ◌≤◌, Bool, true, false, List, [], None, Some, slice_get, slice_set}
+use Rattle.std.specs.Prelude.{◌≡◌, ◌≢◌, ◌⊎◌, ℕ, ◌<◌, ◌≤◌, ◌^◌, Bool, true, false, [], None, Some, slice_get, slice_set}
 use Rattle.onfi_request.specs.declared.reply.Reply.{Reply}
 use Rattle.onfi_request.specs.declared.request.Item.{Item}
 use Rattle.onfi_core.specs.declared.event.Event.TheVariants as event
-use Rattle.onfi_core.specs.declared.outcome.Cause.{Cause}
 use Rattle.onfi_core.specs.declared.outcome.Outcome.{Outcome}
 use Rattle.onfi_core.specs.declared.outcome.Outcome.TheVariants as outcome
-use Rattle.onfi_core.specs.Steps.{GoesOut, Step, accept_refusal, held_for, none_left, taken_next, unanswered, unplanned}
+use Rattle.onfi_core.specs.Steps.{GoesOut, Step, accept_refusal, held_for, none_left, nothing_to_plan, taken_next, unanswered, unplanned}
 use Rattle.onfi_core.specs.View.{IsNext, WantsItem, accepting}
 use Rattle.onfi_queue.specs.Ends.{SawEmpty, after_accepting}
 use Rattle.onfi_reply.specs.Ends.{PosterView, SawFull, after_posting}
@@ -14,6 +13,7 @@ use Rattle.onfi_seq.specs.declared.offer.Offer.{Offer}
 use Rattle.onfi_seq.specs.declared.offer.Offer.TheVariants as offer
 use Rattle.onfi_seq.specs.declared.turn.Turn.{Turn}
 use Rattle.onfi_seq.specs.declared.turn.Turn.TheVariants as turn
+use Rattle.onfi_seq.specs.Driver.{Passes, StartsNext}
 use Rattle.onfi_seq.specs.Sequencer.{Seen, channel_of}
 
 -- ---- why nothing earlier was done
@@ -60,6 +60,27 @@ pub record Rests (q : Seen) : Type 0 where
   pub wants : q.0.half.now.wants ≡ []
   pub items : unplanned q.0.setup q.0.half ≡ []
 
+-- ---- time
+-- nothing is told of a moment: it is none of the channel; or nothing is to be planned, and the next phase starts just then or none is left
+abbrev pub IsUntold : ℕ → Seen → Type 0
+IsUntold now q = (2 ^ 62 ≤ now) ⊎ ((nothing_to_plan q.0.setup q.0.half ≡ true) × (StartsNext q.0.half now ⊎ (none_left q.0.half ≡ true)))
+
+-- time passed up to the moment; half and chip alone changed
+pub record PassesIn (now : ℕ) (q q' : Seen) : Type 0 where
+  pub passes : Passes now q.0.setup (channel_of q) (channel_of q')
+  pub after : q' ≡ (record q.0 { half = q'.0.half }, q'.1)
+
+-- .. or nothing was told
+abbrev pub LetsPass : ℕ → Seen → Seen → Type 0
+LetsPass now q q' = (IsUntold now q × (q' ≡ q)) ⊎ PassesIn now q q'
+
+-- the next phase starts behind the moment
+pub record WaitsFor (now until : ℕ) (q : Seen) : Type 0 where
+  pub may : MayRunPhase q
+  pub due : StartsNext q.0.half until
+  pub behind : now < until
+  pub bounded : until < 2 ^ 63
+
 -- ---- what was done
 -- the oldest reply that is held for a host went out, and nothing goes out to the hosts below
 pub record Posts (q q' : Seen) : Type 0 where
@@ -87,25 +108,45 @@ pub record PlansTo (q : Seen) (o : Outcome) (refused short : Bool) (q' : Seen) :
   pub step : (channel : ℕ) → Step q.0.setup (channel_of q) (event.Plan channel) o (channel_of q')
   pub after : q' ≡ (record q.0 { half = q'.0.half; refused = refused; short = short }, q.1)
 
--- the next phase came to that; half and chip alone changed, and what is said of refusals and of memory
-pub record RunsTo (q : Seen) (o : Outcome) (refused short : Bool) (q' : Seen) : Type 0 where
+-- the next phase, which was due by the moment, came to that; half and chip alone changed, and what is said of refusals and of memory
+pub record RunsTo (now start : ℕ) (q : Seen) (o : Outcome) (refused short : Bool) (q' : Seen) : Type 0 where
   pub may : MayRunPhase q
+  pub due : StartsNext q.0.half start
+  pub by_now : start ≤ now
   pub step : (channel : ℕ) → Step q.0.setup (channel_of q) (event.Bus channel) o (channel_of q')
   pub after : q' ≡ (record q.0 { half = q'.0.half; refused = refused; short = short }, q'.1)
 
--- what each answer of a turn says
-abbrev pub Turned : Seen → Turn → Seen → Type 0
-Turned q turn.Posted q' = Posts q q'
-Turned q (turn.Stopped cause) q' =
-    (NothingPosts q 4 × (q.0.half.stopped ≡ Some cause) × (q' ≡ q))
-    ⊎ PlansTo q (outcome.Stopped cause) q.0.refused q.0.short q' ⊎ RunsTo q (outcome.Stopped cause) q.0.refused q.0.short q'
-Turned q turn.Accepted q' = Takes q q'
-Turned q turn.Planned q' = (finish : ℕ) × PlansTo q (outcome.Planned finish) q.0.refused q.0.short q'
-Turned q (turn.Over opened) q' = PlansTo q (outcome.Over opened) true q.0.short q'
-Turned q turn.Phase q' = (start : ℕ) × RunsTo q (outcome.Phase start) false q.0.short q'
-Turned q turn.Memory q' = PlansTo q (outcome.Memory None) true true q' ⊎ RunsTo q (outcome.Memory None) q.0.refused true q'
-Turned q turn.PostFull q' = Rests q × (q.0.half.held ≢ []) × (q' ≡ q)
-Turned q turn.Idle q' = Rests q × (q.0.half.held ≡ []) × (q' ≡ q)
+-- what a turn does that takes no item in, once time has passed
+abbrev pub Goes : ℕ → Seen → Turn → Seen → Type 0
+Goes now q turn.Posted q' = ⊥
+Goes now q (turn.Stopped cause) q' =
+    PlansTo q (outcome.Stopped cause) q.0.refused q.0.short q'
+    ⊎ ((start : ℕ) × RunsTo now start q (outcome.Stopped cause) q.0.refused q.0.short q')
+Goes now q turn.Accepted q' = ⊥
+Goes now q turn.Planned q' = (finish : ℕ) × PlansTo q (outcome.Planned finish) q.0.refused q.0.short q'
+Goes now q (turn.Over opened) q' = PlansTo q (outcome.Over opened) true q.0.short q'
+Goes now q turn.Phase q' = (start : ℕ) × RunsTo now start q (outcome.Phase start) false q.0.short q'
+Goes now q turn.Memory q' = PlansTo q (outcome.Memory None) true true q' ⊎ ((start : ℕ) × RunsTo now start q (outcome.Memory None) q.0.refused true q')
+Goes now q (turn.Waits until) q' = WaitsFor now until q × (q' ≡ q)
+Goes now q turn.PostFull q' = Rests q × (q.0.half.held ≢ []) × (q' ≡ q)
+Goes now q turn.Idle q' = Rests q × (q.0.half.held ≡ []) × (q' ≡ q)
+
+-- time passes, then that is done
+abbrev pub PassesThenGoes : ℕ → Seen → Turn → Seen → Type 0
+PassesThenGoes now q answer q' = (mid : Seen) × LetsPass now q mid × Goes now mid answer q'
+
+-- what each answer of a turn at the moment says
+abbrev pub Turned : ℕ → Seen → Turn → Seen → Type 0
+Turned now q turn.Posted q' = Posts q q'
+Turned now q (turn.Stopped cause) q' = (NothingPosts q 4 × (q.0.half.stopped ≡ Some cause) × (q' ≡ q)) ⊎ PassesThenGoes now q (turn.Stopped cause) q'
+Turned now q turn.Accepted q' = Takes q q'
+Turned now q turn.Planned q' = PassesThenGoes now q turn.Planned q'
+Turned now q (turn.Over opened) q' = PassesThenGoes now q (turn.Over opened) q'
+Turned now q turn.Phase q' = PassesThenGoes now q turn.Phase q'
+Turned now q turn.Memory q' = PassesThenGoes now q turn.Memory q'
+Turned now q (turn.Waits until) q' = PassesThenGoes now q (turn.Waits until) q'
+Turned now q turn.PostFull q' = PassesThenGoes now q turn.PostFull q'
+Turned now q turn.Idle q' = PassesThenGoes now q turn.Idle q'
 
 -- ---- inside a turn
 -- what came of all held replies
@@ -137,3 +178,4 @@ IsRest q turn.Planned = ⊥
 IsRest q (turn.Over opened) = ⊥
 IsRest q turn.Phase = ⊥
 IsRest q turn.Memory = ⊥
+IsRest q (turn.Waits until) = ⊥

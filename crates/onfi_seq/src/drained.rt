@@ -7,6 +7,8 @@ pub enum Drained {
     Empty,
     /// The turns that it was given were made, and not all is accepted and answered.
     TurnsSpent,
+    /// The next phase starts then, behind the moment of the draining, in ns of the channel's clock.
+    Waits { until: u64 },
     /// The channel stopped.
     Stopped(Cause),
     /// A planning opened as many nodes as it may and wasn't over, and no phase is left.

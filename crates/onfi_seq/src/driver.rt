@@ -11,7 +11,7 @@ ghost use Rattle.onfi_core.specs.Refusals.{planned_outcome};
 ghost use Rattle.onfi_core.specs.State.{is_to};
 ghost use Rattle.onfi_core.specs.Steps.{IsPromised, Step, accept_refusal, bus_refusal, unanswered};
 ghost use Rattle.onfi_core.specs.View.{IsNext, PlanRefused, WantsItem, accepting};
-ghost use Rattle.onfi_seq.specs.Driver.{Offered, RanTo, channel_in};
+ghost use Rattle.onfi_seq.specs.Driver.{IsAt, Offered, RanTo, RunsBy, channel_in};
 
 use crate::offer::Offer;
 use crate::ran::Ran;
@@ -24,6 +24,8 @@ use onfi_request::Item;
 use std::alloc::{AllocError, Global};
 use std::marker::Model;
 use std::sync::Wait;
+
+mod passing;
 
 /// A half with its chip, the chip's LUNs in their typed phases, and what plans its batches.
 #[derive(Drop)]
@@ -137,18 +139,38 @@ impl<P: Planner, C: Chip> Driver<P, C> {
         self.half.plan(alloc, &self.planner)
     }
 
-    /// Runs the undone phase of least start on the chip. Memory is asked for before the chip is called.
-    pub(crate) fn run(&mut self, alloc: Global) -> Ran
+    /// Runs the undone phase of least start on the chip, if it doesn't start behind that moment, in ns. Memory is asked for
+    /// before the chip is called.
+    pub(crate) fn run(&mut self, alloc: Global, now: u64) -> Ran
         ensures ran { RanTo self.old.0.setup (channel_in C.state self.old) result (channel_in C.state self.new) }
+        ensures by_now { RunsBy now self.old.0.half result }
         ensures setup { self.new.0.setup ≡ self.old.0.setup }
         ensures accepted { self.new.0.half.accepted ≡ self.old.0.half.accepted }
         ensures posted { self.new.0.half.posted ≡ self.old.0.half.posted }
     {
         match self.half.due(alloc) {
-            Ok(due) => self.run_due(alloc, due),
+            Ok(due) => self.run_by(alloc, due, now),
             Err(DueRefusal::Stopped(cause)) => Ran::Stopped(cause),
             Err(DueRefusal::NoPlan) => Ran::NoPhase,
         }
+    }
+
+    // Runs the due phase, if it doesn't start behind that moment.
+    fn run_by(&mut self, alloc: Global, due: Due, now: u64) -> Ran
+        requires due { IsDue self.old.0.half due }
+        requires open { bus_refusal self.old.0.half ≡ None }
+        requires time { due.start < 2 ^ 63 }
+        ensures ran { RanTo self.old.0.setup (channel_in C.state self.old) result (channel_in C.state self.new) }
+        ensures by_now { RunsBy now self.old.0.half result }
+        ensures setup { self.new.0.setup ≡ self.old.0.setup }
+        ensures accepted { self.new.0.half.accepted ≡ self.old.0.half.accepted }
+        ensures posted { self.new.0.half.posted ≡ self.old.0.half.posted }
+    {
+        let start = due.start;
+        if start > now {
+            return Ran::NotBefore { start };
+        }
+        self.run_due(alloc, due)
     }
 
     // Runs the due phase on its LUN, or stops the channel.
@@ -157,6 +179,7 @@ impl<P: Planner, C: Chip> Driver<P, C> {
         requires open { bus_refusal self.old.0.half ≡ None }
         requires time { due.start < 2 ^ 63 }
         ensures ran { RanTo self.old.0.setup (channel_in C.state self.old) result (channel_in C.state self.new) }
+        ensures start { IsAt due.start result }
         ensures setup { self.new.0.setup ≡ self.old.0.setup }
         ensures accepted { self.new.0.half.accepted ≡ self.old.0.half.accepted }
         ensures posted { self.new.0.half.posted ≡ self.old.0.half.posted }

@@ -17,6 +17,9 @@ pub enum Turn {
     Phase,
     /// Memory was refused, to a planning or a phase; the old plan stands, and the chip wasn't called.
     Memory,
+    /// The next phase starts then, behind the moment of the turn, in ns of the channel's clock: until then, or until a request
+    /// comes or a LUN is ready, there is nothing to do.
+    Waits { until: u64 },
     /// Nothing is left to do but to post replies to hosts whose completion queues are full.
     PostFull,
     /// Nothing is left to do.

@@ -108,7 +108,7 @@ impl Served {
     }
 
     fn make_turn<R: Wait>(&mut self, rt: &R) -> Turn {
-        self.sequencer.turn(rt, self.alloc, &mut NoGate)
+        self.sequencer.turn(rt, self.alloc, &mut NoGate, u64::MAX)
     }
 
     /// Turns until nothing is left to do but to post to hosts that don't collect.
@@ -155,6 +155,7 @@ impl Served {
             rt,
             self.alloc,
             &mut NoGate,
+            u64::MAX,
             &self.hosts,
             &mut self.inboxes,
             100,

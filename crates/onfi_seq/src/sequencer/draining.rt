@@ -20,8 +20,8 @@ use std::sync::Wait;
 impl<P: Planner, C: Chip> Sequencer<P, C> {
     /// Makes turns, at most so many, until all that the hosts sent is accepted and answered, and takes replies in before each,
     /// so that no queue stays full. Hosts and inboxes are the other ends of the channel's queues, in the order of the hosts'
-    /// numbers. Stopped ends it, and so do Over and Memory of a turn where no phase is left then, and a taking in that is refused
-    /// memory.
+    /// numbers. Stopped ends it, and so do Waits, Over and Memory of a turn where no phase is left then, and a taking in that is
+    /// refused memory. All its turns are made at `now`, as [`Sequencer::turn`] says: at `u64::MAX` none waits.
     ///
     /// Behind the last turn it takes in and looks once more, so turns that just suffice give Empty.
     pub fn drain<R: Wait, G: Gate>(
@@ -29,12 +29,13 @@ impl<P: Planner, C: Chip> Sequencer<P, C> {
         rt: &R,
         alloc: Global,
         gate: &mut G,
+        now: u64,
         hosts: &[Host; 4],
         inboxes: &mut [Inbox; 4],
         turns: u64,
     ) -> Drained
         requires { AreOtherEnds self.old.0 hosts.now inboxes.old }
-        ensures drains { Drains (seen_in C.state self.old) hosts.now turns result (seen_in C.state self.new) }
+        ensures drains { Drains now (seen_in C.state self.old) hosts.now turns result (seen_in C.state self.new) }
         ensures inboxes { HaveGrown inboxes.old inboxes.new }
         ensures right { IsRight (seen_in C.state self.new) }
         ensures same { IsSameChannel (seen_in C.state self.old) (seen_in C.state self.new) }
@@ -50,7 +51,7 @@ impl<P: Planner, C: Chip> Sequencer<P, C> {
             if let Some(end) = self.end_before_turn(hosts, made, turns) {
                 return end;
             }
-            let turn = self.turn(rt, alloc, gate);
+            let turn = self.turn(rt, alloc, gate, now);
             made += 1;
             if let Some(end) = self.end_of(turn) {
                 return end;
@@ -107,6 +108,7 @@ impl<P: Planner, C: Chip> Sequencer<P, C> {
     {
         match turn {
             Turn::Stopped(cause) => Some(Drained::Stopped(cause)),
+            Turn::Waits { until } => Some(Drained::Waits { until }),
             Turn::Over { opened } if !self.has_phase() => Some(Drained::Over { opened }),
             Turn::Memory if !self.has_phase() => Some(Drained::Memory),
             _ => None,

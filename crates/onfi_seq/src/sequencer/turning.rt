@@ -1,9 +1,10 @@
 //! A turn: the first thing that can be done.
 
-ghost use Rattle.std.specs.Prelude.{◌≡◌, ℕ, ◌<◌, ◌≤◌, true, false, length, IfSome, IfNone, IsTrue, None, Some, slice_set};
-ghost use Rattle.onfi_core.specs.Steps.{none_left};
+ghost use Rattle.std.specs.Prelude.{◌≡◌, ◌⊎◌, ℕ, ◌<◌, ◌≤◌, true, false, [], length, IfSome, IfNone, IsTrue, None, Some, slice_set};
+ghost use Rattle.onfi_core.specs.Steps.{none_left, taken_next};
+ghost use Rattle.onfi_seq.specs.Driver.{StartsNext};
 ghost use Rattle.onfi_seq.specs.Sequencer.{IsRight, IsSameChannel, seen_in};
-ghost use Rattle.onfi_seq.specs.Turned.{IsGoing, IsRest, MayRunPhase, NothingPosts, OfferedAll, OfferedTo, TakesNothing, Turned, WhyNoItem, WhyNoPlan};
+ghost use Rattle.onfi_seq.specs.Turned.{Goes, IsGoing, IsRest, LetsPass, MayRunPhase, NothingPosts, OfferedAll, OfferedTo, Takes, TakesNothing, Turned, WhyNoItem, WhyNoPlan};
 
 use crate::gate::Gate;
 use crate::offer::Offer;
@@ -19,17 +20,25 @@ use std::sync::Wait;
 impl<P: Planner, C: Chip> Sequencer<P, C> {
     /// Does the first of these that it can: post the oldest held reply of the lowest host whose queue isn't full; answer
     /// Stopped; accept one item, while fewer than 64 are unanswered and, in order, fewer than the batch unplanned; plan,
-    /// unless a planning was refused as Over or Memory since the last phase and a phase is left; run the next phase. Else it
-    /// answers PostFull where a reply is held, and Idle where none is.
+    /// unless a planning was refused as Over or Memory since the last phase and a phase is left; run the next phase, if it
+    /// starts by `now`; answer Waits, where it starts later. Else it answers PostFull where a reply is held, and Idle where
+    /// none is.
+    ///
+    /// `now` is the moment that the caller's clock tells, in ns of the channel's clock. Before a planning and before a phase,
+    /// but for one that starts just then, the half is told of it: the bus waited until then, where it was free before, so no
+    /// phase starts in the past; then each LUN whose array works, by rising number, is asked whether it is ready as the bus
+    /// is free, and one that says so is planned with from then on, at once. The moment may be any; one that falls is one at
+    /// which less is due. One at 2^62 or behind, as `u64::MAX` is, is none of the channel: the bus never waits, no LUN is
+    /// asked, and what comes next runs. Nothing is said of how much time a call takes.
     ///
     /// The gate is called once, before all that, for this channel. Acceptance and post take no memory, a phase asks for its own
-    /// before the chip is called, so a turn that answers Memory has lost no item and made no event.
+    /// before the chip is called, so a turn that answers Memory has lost no item and made no event but those of time.
     ///
     /// Why a host was passed over, or no item accepted, the contract says as [`Poster::post`](onfi_reply::Poster::post) and
     /// [`Intake::accept`](onfi_queue::Intake::accept) do: that a turn posts where there is room, and accepts what waits, is
     /// tested.
-    pub fn turn<R: Wait, G: Gate>(&mut self, rt: &R, alloc: Global, gate: &mut G) -> Turn
-        ensures turned { Turned (seen_in C.state self.old) result (seen_in C.state self.new) }
+    pub fn turn<R: Wait, G: Gate>(&mut self, rt: &R, alloc: Global, gate: &mut G, now: u64) -> Turn
+        ensures turned { Turned now (seen_in C.state self.old) result (seen_in C.state self.new) }
         ensures right { IsRight (seen_in C.state self.new) }
         ensures same { IsSameChannel (seen_in C.state self.old) (seen_in C.state self.new) }
         ensures short { self.old.0.short ≡ true → self.new.0.short ≡ true }
@@ -37,27 +46,27 @@ impl<P: Planner, C: Chip> Sequencer<P, C> {
     {
         gate.before(self.intake.channel(), self.turns);
         self.turns = self.turns.saturating_add(1);
-        let turn = self.take_turn(rt, alloc);
+        let turn = self.take_turn(rt, alloc, now);
         self.look();
         turn
     }
 
     // The turn behind its gate.
-    fn take_turn<R: Wait>(&mut self, rt: &R, alloc: Global) -> Turn
-        ensures { Turned (seen_in C.state self.old) result (seen_in C.state self.new) }
+    fn take_turn<R: Wait>(&mut self, rt: &R, alloc: Global, now: u64) -> Turn
+        ensures { Turned now (seen_in C.state self.old) result (seen_in C.state self.new) }
     {
         match self.post_one(rt) {
             Offer::Posted => Turn::Posted,
-            Offer::Full => self.serve(rt, alloc, Turn::PostFull),
-            Offer::Nothing => self.serve(rt, alloc, Turn::Idle),
+            Offer::Full => self.serve(rt, alloc, now, Turn::PostFull),
+            Offer::Nothing => self.serve(rt, alloc, now, Turn::Idle),
         }
     }
 
     // What is done where nothing goes out; `rest` is the answer where nothing is left to do.
-    fn serve<R: Wait>(&mut self, rt: &R, alloc: Global, rest: Turn) -> Turn
+    fn serve<R: Wait>(&mut self, rt: &R, alloc: Global, now: u64, rest: Turn) -> Turn
         requires posts { NothingPosts (seen_in C.state self.old) 4 }
         requires rest { IsRest (seen_in C.state self.old) rest }
-        ensures { Turned (seen_in C.state self.old) result (seen_in C.state self.new) }
+        ensures { Turned now (seen_in C.state self.old) result (seen_in C.state self.new) }
     {
         if let Some(cause) = self.driver.cause() {
             return Turn::Stopped(cause);
@@ -65,18 +74,47 @@ impl<P: Planner, C: Chip> Sequencer<P, C> {
         if self.accept_one(rt) {
             return Turn::Accepted;
         }
-        self.plan_or_run(alloc, rest)
+        self.plan_or_run(alloc, now, rest)
     }
 
     // What is done where no item is accepted.
-    fn plan_or_run(&mut self, alloc: Global, rest: Turn) -> Turn
+    fn plan_or_run(&mut self, alloc: Global, now: u64, rest: Turn) -> Turn
         requires before { TakesNothing (seen_in C.state self.old) }
         requires rest { IsRest (seen_in C.state self.old) rest }
-        ensures { Turned (seen_in C.state self.old) result (seen_in C.state self.new) }
+        ensures { Turned now (seen_in C.state self.old) result (seen_in C.state self.new) }
     {
-        match self.plan_once(alloc) {
+        let stale = self.let_pass(alloc, now);
+        match self.plan_once(alloc, stale) {
             Some(turn) => turn,
-            None => self.run_next(alloc, rest),
+            None => self.run_next(alloc, now, rest),
+        }
+    }
+
+    // Time passes up to that moment, unless the plan stands and no phase is left that starts at another. Whether the plan is
+    // stale is answered: something is to be planned, or a LUN is ready that wasn't by what is stated.
+    fn let_pass(&mut self, alloc: Global, now: u64) -> bool
+        requires before { TakesNothing (seen_in C.state self.old) }
+        ensures passes { LetsPass now (seen_in C.state self.old) (seen_in C.state self.new) }
+        ensures before { TakesNothing (seen_in C.state self.new) }
+        ensures held { self.new.0.half.held ≡ self.old.0.half.held }
+        ensures none { result ≡ false → taken_next self.new.0.setup self.new.0.half ≡ [] }
+    {
+        let stale = !self.driver.half().nothing_to_plan();
+        if !stale && self.is_on_time(alloc, now) {
+            return false;
+        }
+        let found = self.driver.pass(alloc, now);
+        found || stale
+    }
+
+    // Whether the next phase starts just then, or none is left.
+    fn is_on_time(&self, alloc: Global, now: u64) -> bool
+        requires { self.now.0.half.stopped ≡ None }
+        ensures { IsTrue result → StartsNext self.now.0.half now ⊎ (none_left self.now.0.half ≡ true) }
+    {
+        match self.driver.next_start(alloc) {
+            Some(start) => start == now,
+            None => true,
         }
     }
 
@@ -108,7 +146,7 @@ impl<P: Planner, C: Chip> Sequencer<P, C> {
     // Accepts the item that has waited longest, where there is room for one.
     fn accept_one<R: Wait>(&mut self, rt: &R) -> bool
         requires { IsGoing (seen_in C.state self.old) }
-        ensures accepted { IsTrue result → Turned (seen_in C.state self.old) Turn.Accepted (seen_in C.state self.new) }
+        ensures accepted { IsTrue result → Takes (seen_in C.state self.old) (seen_in C.state self.new) }
         ensures none { result ≡ false → (seen_in C.state self.new ≡ seen_in C.state self.old) × WhyNoItem (seen_in C.state self.old) }
     {
         if !self.driver.has_room() {
@@ -122,12 +160,16 @@ impl<P: Planner, C: Chip> Sequencer<P, C> {
         true
     }
 
-    // Plans, unless a planning was refused since the last phase and a phase is left.
-    fn plan_once(&mut self, alloc: Global) -> Option<Turn>
-        requires { TakesNothing (seen_in C.state self.old) }
-        ensures some { IfSome result (λ turn. Turned (seen_in C.state self.old) turn (seen_in C.state self.new)) }
+    // Plans a stale plan anew, unless a planning was refused since the last phase and a phase is left.
+    fn plan_once(&mut self, alloc: Global, stale: bool) -> Option<Turn>
+        requires before { TakesNothing (seen_in C.state self.old) }
+        requires stale { stale ≡ false → taken_next self.old.0.setup self.old.0.half ≡ [] }
+        ensures some { IfSome result (λ turn. (now : ℕ) → Goes now (seen_in C.state self.old) turn (seen_in C.state self.new)) }
         ensures none { IfNone result ((seen_in C.state self.new ≡ seen_in C.state self.old) × WhyNoPlan (seen_in C.state self.old)) }
     {
+        if !stale {
+            return None;
+        }
         if self.refused && self.has_phase() {
             return None;
         }
@@ -147,14 +189,14 @@ impl<P: Planner, C: Chip> Sequencer<P, C> {
         }
     }
 
-    // Runs the next phase; `rest` is the answer where none is left.
-    fn run_next(&mut self, alloc: Global, rest: Turn) -> Turn
+    // Runs the next phase, if it starts by that moment; `rest` is the answer where none is left.
+    fn run_next(&mut self, alloc: Global, now: u64, rest: Turn) -> Turn
         requires before { MayRunPhase (seen_in C.state self.old) }
         requires rest { IsRest (seen_in C.state self.old) rest }
-        ensures { Turned (seen_in C.state self.old) result (seen_in C.state self.new) }
+        ensures { Goes now (seen_in C.state self.old) result (seen_in C.state self.new) }
     {
         let _half = self.driver.half();
-        match self.driver.run(alloc) {
+        match self.driver.run(alloc, now) {
             Ran::Phase { start: _ } => {
                 self.refused = false;
                 Turn::Phase
@@ -164,6 +206,7 @@ impl<P: Planner, C: Chip> Sequencer<P, C> {
                 self.short = true;
                 Turn::Memory
             }
+            Ran::NotBefore { start } => Turn::Waits { until: start },
             Ran::NoPhase => rest,
         }
     }

@@ -1,13 +1,14 @@
 use Rattle.std.proofs.Common.{ap, arith}
 use Rattle.onfi_seq.specs.Sequencer.{Seen, seen_in}
-use Rattle.onfi_seq.proofs.Draining.{all_grown_all, draining_first, draining_taken, draining_turned, drains_behind, drains_here, drains_refused, right_marked, same_channel_all, same_marked}
+use Rattle.onfi_seq.proofs.Draining.{all_grown_all, draining_first, draining_taken, draining_turned, drains_behind, drains_here, drains_refused, right_marked, same_marked}
+use Rattle.onfi_seq.proofs.Same.{same_channel_all}
 use Rattle.onfi_seq.proofs.sequencer.Sequencer.drain.Goals as goal
 
 pub loop-alloc-init : goal.loop-alloc-init
 loop-alloc-init g c = record {
   few = omega arith;
   right = c.look.ensures;
-  so_far = draining_first (seen_in g.C.Chip.state c.args.self.now) c.args.inboxes.now;
+  so_far = draining_first c.args.now (seen_in g.C.Chip.state c.args.self.now) c.args.inboxes.now;
 }
 
 pub returns-then-is_err-clause-drains : goal.returns-then-is_err-clause-drains
@@ -15,7 +16,7 @@ returns-then-is_err-clause-drains g c =
     let st = g.C.Chip.state in
     let l = c.loop-alloc in
     let new = seen_in st c.note_want_of_memory.new.self in
-    drains_refused (seen_in st c.args.self.now) c.args.inboxes.now l.made (seen_in st l.self) l.inboxes c.args.hosts.now c.args.turns new l.invariant.so_far l.invariant.few c.note_want_of_memory.ensures
+    drains_refused c.args.now (seen_in st c.args.self.now) c.args.inboxes.now l.made (seen_in st l.self) l.inboxes c.args.hosts.now c.args.turns new l.invariant.so_far l.invariant.few c.note_want_of_memory.ensures
 
 pub returns-then-is_err-clause-inboxes : goal.returns-then-is_err-clause-inboxes
 returns-then-is_err-clause-inboxes g c = all_grown_all c.args.inboxes.now c.loop-alloc.inboxes c.take_in_all.new.inboxes c.loop-alloc.invariant.so_far.grown c.take_in_all.ensures
@@ -35,7 +36,7 @@ pub returns-in-Some-clause-drains : goal.returns-in-Some-clause-drains
 returns-in-Some-clause-drains g c =
     let st = g.C.Chip.state in
     let l = c.loop-alloc in
-    drains_here (seen_in st c.args.self.now) c.args.inboxes.now l.made (seen_in st l.self) l.inboxes c.args.hosts.now c.args.turns c.in-Some.end l.invariant.so_far l.invariant.few c.in-Some.ensures.some
+    drains_here c.args.now (seen_in st c.args.self.now) c.args.inboxes.now l.made (seen_in st l.self) l.inboxes c.args.hosts.now c.args.turns c.in-Some.end l.invariant.so_far l.invariant.few c.in-Some.ensures.some
 
 pub returns-in-Some-clause-inboxes : goal.returns-in-Some-clause-inboxes
 returns-in-Some-clause-inboxes g c = all_grown_all c.args.inboxes.now c.loop-alloc.inboxes c.take_in_all.new.inboxes c.loop-alloc.invariant.so_far.grown c.take_in_all.ensures
@@ -47,7 +48,7 @@ pub returns-in-Some-end_of-clause-drains : goal.returns-in-Some-end_of-clause-dr
 returns-in-Some-end_of-clause-drains g c =
     let st = g.C.Chip.state in
     let l = c.loop-alloc in
-    drains_behind (seen_in st c.args.self.now) c.args.inboxes.now l.made (seen_in st l.self) l.inboxes c.turn-turn.result (seen_in st c.turn-turn.new.self) c.args.hosts.now c.args.turns c.in-Some-end_of.end l.invariant.so_far c.in_default.ensures.none
+    drains_behind c.args.now (seen_in st c.args.self.now) c.args.inboxes.now l.made (seen_in st l.self) l.inboxes c.turn-turn.result (seen_in st c.turn-turn.new.self) c.args.hosts.now c.args.turns c.in-Some-end_of.end l.invariant.so_far c.in_default.ensures.none
     c.turn-turn.ensures.turned c.in-Some-end_of.ensures.some
 
 pub returns-in-Some-end_of-clause-inboxes : goal.returns-in-Some-end_of-clause-inboxes
@@ -72,9 +73,9 @@ loop-alloc-preserved g c =
     let st = g.C.Chip.state in
     let l = c.loop-alloc in
     let q = seen_in st c.args.self.now in
-    let taken = draining_taken q c.args.inboxes.now l.made (seen_in st l.self) l.inboxes c.take_in_all.new.inboxes l.invariant.so_far c.take_in_all.ensures in
+    let taken = draining_taken c.args.now q c.args.inboxes.now l.made (seen_in st l.self) l.inboxes c.take_in_all.new.inboxes l.invariant.so_far c.take_in_all.ensures in
     record {
       few = omega (arith, c.in_default.ensures.none);
       right = c.turn-turn.ensures.right;
-      so_far = draining_turned q c.args.inboxes.now l.made (seen_in st l.self) c.take_in_all.new.inboxes c.turn-turn.result (seen_in st c.turn-turn.new.self) taken c.turn-turn.ensures.turned c.turn-turn.ensures.same c.turn-turn.ensures.short c.in_default-end_of.ensures.none;
+      so_far = draining_turned c.args.now q c.args.inboxes.now l.made (seen_in st l.self) c.take_in_all.new.inboxes c.turn-turn.result (seen_in st c.turn-turn.new.self) taken c.turn-turn.ensures.turned c.turn-turn.ensures.same c.turn-turn.ensures.short c.in_default-end_of.ensures.none;
     }

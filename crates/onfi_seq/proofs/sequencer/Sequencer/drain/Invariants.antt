@@ -7,7 +7,7 @@ abbrev pub invariant-loop-alloc : goal.invariant-loop-alloc
 invariant-loop-alloc g l = record {
   few : l.made ≤ l.fn.turns;
   right : IsRight (seen_in g.C.Chip.state l.self);
-  so_far : Draining (seen_in g.C.Chip.state l.fn.self) l.fn.inboxes l.made (seen_in g.C.Chip.state l.self) l.inboxes;
+  so_far : Draining l.fn.now (seen_in g.C.Chip.state l.fn.self) l.fn.inboxes l.made (seen_in g.C.Chip.state l.self) l.inboxes;
 }
 
 abbrev pub decreases-loop-alloc : goal.decreases-loop-alloc

@@ -1,8 +1,8 @@
 use Rattle.onfi_seq.specs.Driver.{channel_in}
-use Rattle.onfi_seq.specs.Sequencer.{Seen, seen_in}
-use Rattle.onfi_seq.specs.Turned.{IsRest, MayRunPhase, Turned}
+use Rattle.onfi_seq.specs.Sequencer.{Seen}
+use Rattle.onfi_seq.specs.Turned.{Goes, IsRest, MayRunPhase}
 use Rattle.onfi_seq.proofs.Keeping.{seen_outside, seen_within}
-use Rattle.onfi_seq.proofs.Turning.{rest_turned, rests_is, seen_same}
+use Rattle.onfi_seq.proofs.Turning.{rest_goes, rests_is, seen_same}
 use Rattle.onfi_seq.proofs.sequencer.Sequencer.run_next.Goals as goal
 
 pub returns-in-NoPhase : goal.returns-in-NoPhase
@@ -16,4 +16,4 @@ returns-in-NoPhase g c =
     let rest = seen_within state (λ (q : Seen). IsRest q c.args.rest) _ _ c.self.view_is c.requires.rest in
     let same = seen_same f.intake f.posters f.refused f.short f.driver.0.setup d.0.setup (channel_in state f.driver) (channel_in state d) c.run.ensures.setup c.in-NoPhase.ensures.ran.1 in
     let rests = rests_is old c.half-half.ensures.reached may c.in-NoPhase.ensures.ran.0 in
-    seen_outside state (λ (q : Seen). Turned q c.args.rest new) _ _ c.self.view_is (rest_turned old new c.args.rest rest rests same)
+    seen_outside state (λ (q : Seen). Goes c.args.now q c.args.rest new) _ _ c.self.view_is (rest_goes c.args.now old new c.args.rest rest rests same)

@@ -1,7 +1,7 @@
 use Rattle.onfi_chip.specs.SimChip.{chip_in}
 use Rattle.onfi_seq.specs.Sequencer.{seen_in}
 use Rattle.onfi_seq.proofs.OtherEnds.{drained}
-use Rattle.onfi_channel_tests.proofs.bench.Bench.drains.Goals as goal
+use Rattle.onfi_channel_tests.proofs.bench.Bench.drains_at.Goals as goal
 
 pub invariant_of-self : goal.invariant_of-self
 invariant_of-self g c =

@@ -1,0 +1,178 @@
+-- Time that passes: what it comes to, and what it keeps.
+use Rattle.std.proofs.Common.{◌≡◌, ℕ, suc, ◌+◌, ◌^◌, ◌<◌, ◌≤◌, inl, inr, Bool, false, List, Option, Some, None, Result, Ok, Err, IfOk, IfErr, refl, sym, ap, ◌∙◌, subst, arith}
+use Rattle.std.specs.Prelude.{IfSome, MatchOption, OnErr, is_some, max}
+use Rattle.onfi_problem.specs.Problem.{Problem}
+use Rattle.onfi_schedule.specs.Schedule.{Schedule}
+use Rattle.onfi_chip.specs.Chip.{Chip, found_ready}
+use Rattle.onfi_core.specs.declared.event.Event.TheVariants as event
+use Rattle.onfi_core.specs.declared.half.passing.WaitRefusal.{WaitRefusal}
+use Rattle.onfi_core.specs.declared.outcome.Outcome.TheVariants as outcome
+use Rattle.onfi_core.specs.declared.setup.Setup.{Setup}
+use Rattle.onfi_core.specs.declared.setup.Choice.{Choice}
+use Rattle.onfi_core.specs.declared.setup.Choice.TheVariants.{InOrder, ByLun, ReadsFirst}
+use Rattle.onfi_core.specs.Reaching.{Reaches}
+use Rattle.onfi_core.specs.Refusals.{wait_outcome, waited_outcome}
+use Rattle.onfi_core.specs.State.{HalfState, ChannelState, Planning, quiet}
+use Rattle.onfi_core.specs.Steps.{Step, readied, ready_of, ready_refusal, wait_refusal, waited}
+use Rattle.onfi_core.specs.View.{HalfView, WantsBy}
+use Rattle.onfi_core.proofs.Reaching.{step_reaches}
+use Rattle.onfi_core.proofs.Refused.{after_waiting, finds_ready, waiting_posts}
+use Rattle.onfi_lun.specs.declared.lanes.any_lun.AnyLun.{AnyLun}
+use Rattle.onfi_lun.specs.Lanes.{LanesAgree}
+use Rattle.onfi_seq.specs.declared.turn.Turn.{Turn}
+use Rattle.onfi_seq.specs.declared.turn.Turn.TheVariants as turn
+use Rattle.onfi_seq.specs.Driver.{Asks, AsksBelow, IsDriven, PassesTo, WaitsUntil, in_time}
+use Rattle.onfi_seq.specs.Sequencer.{Seen, channel_of}
+use Rattle.onfi_seq.specs.Turned.{Goes, LetsPass, TakesNothing, Turned}
+use Rattle.onfi_seq.proofs.Driving.{quiet_is}
+
+-- What time changes
+
+pub in_time_all : (c c' c'' : ChannelState) → c' ≡ in_time c c' → c'' ≡ in_time c' c'' → c'' ≡ in_time c c''
+in_time_all c c' c'' a b = b ∙ ap (λ (x : ChannelState). in_time x c'') a
+
+-- The bus waits
+
+-- a wait that isn't refused
+abbrev pub WaitedAs : HalfView → HalfView → ℕ → Result ℕ WaitRefusal → Type 0
+WaitedAs old new now result = IfOk result (λ bus_free. (wait_refusal now old.state ≡ None) × (bus_free ≡ max old.state.now.bus_free now)
+    × (new ≡ record old { state = waited now old.state }))
+
+module _ (old new : HalfView) (chip : Chip) (now : ℕ) (result : Result ℕ WaitRefusal) (done : WaitedAs old new now result)
+    (refused : IfErr result (λ refusal. wait_refusal now old.state ≡ Some (wait_outcome refusal))) (unchanged : OnErr result (new ≡ old)) where
+  accepted_still : (r : Result ℕ WaitRefusal) → WaitedAs old new now r → OnErr r (new ≡ old) → new.state.accepted ≡ old.state.accepted
+  accepted_still (Ok bus_free) (open', e, is) left = ap (λ (v : HalfView). v.state.accepted) is
+  accepted_still (Err refusal) was left = ap (λ (v : HalfView). v.state.accepted) left
+
+  pub waiting_step : (channel : ℕ) → Step old.setup (quiet old.state chip) (event.Wait channel now) (waited_outcome result) (quiet new.state chip)
+  waiting_step channel =
+      let step = after_waiting old.setup (quiet old.state chip) channel now old new result refl done refused unchanged in
+      let posted = waiting_posts old.setup (quiet old.state chip) now old new result refl done unchanged in
+      subst (λ (c : ChannelState). Step old.setup (quiet old.state chip) (event.Wait channel now) (waited_outcome result) c)
+      (quiet_is old.state new.state chip chip (accepted_still result done unchanged) posted) step
+
+  going_still : (r : Result ℕ WaitRefusal) → WaitedAs old new now r
+      → OnErr r (new ≡ old) → (new.state.stopped ≡ old.state.stopped) × (new.state.last ≡ old.state.last)
+  going_still (Ok bus_free) (open', e, is) left = (ap (λ (v : HalfView). v.state.stopped) is, ap (λ (v : HalfView). v.state.last) is)
+  going_still (Err refusal) was left = (ap (λ (v : HalfView). v.state.stopped) left, ap (λ (v : HalfView). v.state.last) left)
+
+  pub driven_waited : (Such : Planning → Type 0) (lanes : List AnyLun) → IsDriven Such old.setup old.lent old.state chip lanes
+      → new.lent ≡ None → new.setup ≡ old.setup → IsDriven Such new.setup new.lent new.state chip lanes
+  driven_waited Such lanes driven settled setup =
+      let same = going_still result done unchanged in
+      let reached = step_reaches old.setup (quiet old.state chip) (event.Wait 0 now) (waited_outcome result) (quiet new.state chip)
+      driven.reached (waiting_step 0) in
+      record {
+        settled = settled;
+        reached = subst (λ (s : Setup). Reaches s (quiet new.state chip)) (sym setup) reached;
+        lanes_are = λ going. driven.lanes_are (sym same.0 ∙ going);
+        last = subst (λ x. IfSome x Such) (sym same.1) driven.last;
+      }
+
+  waits_by : (r : Result ℕ WaitRefusal) → WaitedAs old new now r
+      → IfErr r (λ refusal. wait_refusal now old.state ≡ Some (wait_outcome refusal)) → OnErr r (new ≡ old)
+      → ((channel : ℕ) → Step old.setup (quiet old.state chip) (event.Wait channel now) (waited_outcome r) (quiet new.state chip))
+      → old.state.now.bus_free < now → WaitsUntil now old.setup (quiet old.state chip) (quiet new.state chip)
+  waits_by (Ok bus_free) (open', e, is) why left step before =
+      let at : bus_free ≡ now = omega (arith, e, before) in
+      let Waits : ℕ → ℕ → Type 0 = λ channel n. Step old.setup (quiet old.state chip) (event.Wait channel now) (outcome.Waited n) (quiet new.state chip) in
+      inl (before, λ channel. subst (Waits channel) at (step channel))
+  waits_by (Err refusal) was why left step before = inr (inr (wait_outcome refusal, why, ap (λ (v : HalfView). quiet v.state chip) left))
+
+  pub waits_until : old.state.now.bus_free < now → WaitsUntil now old.setup (quiet old.state chip) (quiet new.state chip)
+  waits_until before = waits_by result done refused unchanged waiting_step before
+
+-- A LUN is asked
+
+pub none_refused : {R A : Type 0} (B : R → Type 0) (r : Option R) → MatchOption r A B → is_some r ≡ false → A
+none_refused B None a none = a
+none_refused B (Some x) b none = cc
+
+module _ (old new : HalfView) (chip chip' : Chip) (lun : ℕ) (open' : ready_refusal lun old.state ≡ None)
+    (is : new ≡ record old { state = readied lun old.state }) (found : chip' ≡ found_ready chip lun old.state.now.bus_free) where
+  pub ready_step : (channel : ℕ)
+      → Step old.setup (quiet old.state chip) (event.Ready channel lun) (outcome.ReadyFrom (ready_of lun old.state)) (quiet new.state chip')
+  ready_step channel =
+      let half = ap (λ (v : HalfView). v.state) is in
+      let step = finds_ready old.setup (quiet old.state chip) channel lun (ready_of lun old.state) new.state chip' open' refl half found in
+      subst (λ (c : ChannelState). Step old.setup (quiet old.state chip) (event.Ready channel lun) (outcome.ReadyFrom (ready_of lun old.state)) c)
+      (quiet_is old.state new.state chip chip' (ap (λ (h : HalfState). h.accepted) half) (ap (λ (h : HalfState). h.posted) half)) step
+
+  pub driven_readied : (Such : Planning → Type 0) (lanes lanes' : List AnyLun) → IsDriven Such old.setup old.lent old.state chip lanes → LanesAgree chip' lanes'
+      → IsDriven Such new.setup new.lent new.state chip' lanes'
+  driven_readied Such lanes lanes' driven agree =
+      let reached = step_reaches old.setup (quiet old.state chip) (event.Ready 0 lun) (outcome.ReadyFrom (ready_of lun old.state))
+      (quiet new.state chip') driven.reached (ready_step 0) in
+      record {
+        settled = ap (λ (v : HalfView). v.lent) is ∙ driven.settled;
+        reached = subst (λ (s : Setup). Reaches s (quiet new.state chip')) (sym (ap (λ (v : HalfView). v.setup) is)) reached;
+        lanes_are = λ going. agree;
+        last = subst (λ (v : HalfView). IfSome v.state.last Such) (sym is) driven.last;
+      }
+
+-- LUNs are asked, one after another
+
+pub asks_more : (s s' : Setup) (lun : ℕ) (c mid c' : ChannelState) → s' ≡ s → AsksBelow s lun c mid → Asks s' lun mid c'
+    → AsksBelow s (lun + 1) c c'
+asks_more s s' lun c mid c' same below here =
+    let next : suc lun ≡ lun + 1 = omega arith in
+    subst (λ n. AsksBelow s n c c') next (mid, below, subst (λ (x : Setup). Asks x lun mid c') same here)
+
+-- Time passes
+
+pub passes_waited : (now : ℕ) (s : Setup) (c mid : ChannelState) → now < 2 ^ 62 → WaitsUntil now s c mid → mid.half.now.bus_free < now → mid ≡ in_time c mid
+    → PassesTo now s c mid
+passes_waited now s c mid known waited before kept = inr (record { known = known; mid = mid; waited = waited; asked = inr (before, refl); kept = kept })
+
+pub passes_asked : (now : ℕ) (s s' : Setup) (c mid c' : ChannelState) → now < 2 ^ 62 → WaitsUntil now s c mid → now ≤ mid.half.now.bus_free → s' ≡ s
+    → AsksBelow s' s'.geometry.lun_count mid c' → mid ≡ in_time c mid → c' ≡ in_time mid c' → PassesTo now s c c'
+passes_asked now s s' c mid c' known waited by_then same asked kept still = inr (record {
+  known = known;
+  mid = mid;
+  waited = waited;
+  asked = inl (by_then, subst (λ (x : Setup). AsksBelow x x.geometry.lun_count mid c') same asked);
+  kept = in_time_all c mid c' kept still;
+})
+
+-- Why no item is accepted, once time has passed
+
+wants_still : (choice : Choice) (s : Setup) (h : HalfState) (p : Problem) (left : Schedule) (outdated : Bool)
+    → WantsBy choice s (record h { now = p; left = left; outdated = outdated }) → WantsBy choice s h
+wants_still InOrder s h p left outdated wants = wants
+wants_still ByLun s h p left outdated wants = wants
+wants_still ReadsFirst s h p left outdated wants = wants
+
+takes_still : (q : Seen) (p : Problem) (left : Schedule) (outdated : Bool) (chip : Chip) → TakesNothing q
+    → TakesNothing (record q.0 { half = record q.0.half { now = p; left = left; outdated = outdated } }, chip)
+takes_still q p left outdated chip t = record {
+  before = record { posts = t.before.posts; going = t.before.going };
+  items = elim t.items [
+    | inl full ↦ inl full
+    | inr (inl unwanted) ↦ inr (inl (λ wants. unwanted (wants_still q.0.setup.choice q.0.setup q.0.half p left outdated wants)))
+    | inr (inr empty) ↦ inr (inr empty)
+  ];
+}
+
+module _ (q q' : Seen) (after : q' ≡ (record q.0 { half = q'.0.half }, q'.1)) (kept : channel_of q' ≡ in_time (channel_of q) (channel_of q')) where
+  half_is : q'.0.half ≡ (in_time (channel_of q) (channel_of q')).half
+  half_is = ap (λ (c : ChannelState). c.half) kept
+
+  pub takes_nothing : TakesNothing q → TakesNothing q'
+  takes_nothing t =
+      let k = (in_time (channel_of q) (channel_of q')).half in
+      let is : q' ≡ (record q.0 { half = k }, q'.1) = after ∙ ap (λ (h : HalfState). let x : Seen = (record q.0 { half = h }, q'.1) in x) half_is in
+      subst TakesNothing (sym is) (takes_still q k.now k.left k.outdated q'.1 t)
+
+-- What a turn comes to that takes no item in
+
+pub turned_then : (now : ℕ) (q mid : Seen) (answer : Turn) (q' : Seen) → LetsPass now q mid → Goes now mid answer q' → Turned now q answer q'
+turned_then now q mid turn.Posted q' passes goes = absurd goes
+turned_then now q mid (turn.Stopped cause) q' passes goes = inr (mid, passes, goes)
+turned_then now q mid turn.Accepted q' passes goes = absurd goes
+turned_then now q mid turn.Planned q' passes goes = (mid, passes, goes)
+turned_then now q mid (turn.Over opened) q' passes goes = (mid, passes, goes)
+turned_then now q mid turn.Phase q' passes goes = (mid, passes, goes)
+turned_then now q mid turn.Memory q' passes goes = (mid, passes, goes)
+turned_then now q mid (turn.Waits until) q' passes goes = (mid, passes, goes)
+turned_then now q mid turn.PostFull q' passes goes = (mid, passes, goes)
+turned_then now q mid turn.Idle q' passes goes = (mid, passes, goes)
