@@ -179,9 +179,9 @@ static void print_run(unsigned luns, const way *way)
 
 static void print_runs(void)
 {
-    const way good = {"as it should be", everything, by_rule, &READS_FIRST, NULL};
-    const way bus = {"too soon on the bus", everything, too_soon, &READS_FIRST, NULL};
-    const way idle = {"never", everything, never, NULL, NULL};
+    const way good = {"as it should be", everything, by_rule, &READS_FIRST, NULL, 0};
+    const way bus = {"too soon on the bus", everything, too_soon, &READS_FIRST, NULL, 0};
+    const way idle = {"never", everything, never, NULL, NULL, 0};
     print_run(8, &good);
     print_run(8, &bus);
     print_run(8, &idle);
@@ -228,6 +228,7 @@ static void print_choices(void)
     print_choice("first eight", first_eight, &m);
     print_choice("by LUN", by_lun, &m);
     print_choice("by LUN, reads first", by_lun_reads_first, &m);
+    print_choice("by LUN, one kind", by_lun_one_kind, &m);
 }
 
 /* The same behind a program of LUN 2, whose reads are chosen before it until too many have passed it over. */
@@ -240,6 +241,7 @@ static void print_passed(void)
     print_choice("reads before a program", by_lun_reads_first, &m);
     m.waiting[0].passed = PASSED_AT_MOST;
     print_choice("the program passed over", by_lun_reads_first, &m);
+    print_choice("one kind, the program passed over", by_lun_one_kind, &m);
 }
 
 int main(void)

@@ -11,8 +11,9 @@ from pathlib import Path
 from typing import Dict, List, NamedTuple, Optional
 
 import support
-from onfi_tools.rolling_use import (ALL, GREEDY, PLANNED, PLANS, SOURCES, STRICT, TWELVE, WAYS, Asked, Configuration, Figures, Measured,
-                                    build, csv_rows, gains_table, measure, run_way)
+from onfi_tools.rolling_use import (ALL, BASE, GREEDY, PLANNED, PLANS, QUICK, SETTINGS, SOURCES, STRICT, TWELVE, WAYS, Asked, Configuration,
+                                    Figures, Measured, Rows, Whole, build, furthest_behind, gains_table, key_of, measure, nine_of_ten,
+                                    quick_tables, run_way, spread_table, whole_tables)
 
 KIT_ARCHIVE = "c/liblibc_c.a"
 ASKED = Asked(requests=200, seed=3, limit=2000, jobs=1)
@@ -45,8 +46,37 @@ everything: 0 1 2 3 4 5 6 7 8 9 10 11 12 13 14
 first eight: 0 1 2 3 4 5 6 7
 by LUN: 0 7 8 10 11 12 13 14
 by LUN, reads first: 0 7 9 10 11 12 13 14
+by LUN, one kind: 0 1 9 10 11 12 13 14
 reads before a program: 1 8 10 11 12 13 14 15
 the program passed over: 0 1 8 10 11 12 14 15
+one kind, the program passed over: 1 2 10 11 12 13 14 15
+"""
+# Of equal weights, of weights by age, and of those where reads count twenty times; the greatest is 65,535.
+PLANNERS = """\
+weights 1 1 1 LUN 1: 1
+weights 1 1 1 1 1 1 1 1 LUN 0: 1 LUN 0: 1 LUN 0: 1 LUN 0: 1
+weights 8 40 136 LUN 1: 40
+weights 4616 8 8 8 8 8 8 8 LUN 0: 8 LUN 0: 8 LUN 0: 8 LUN 0: 8
+weights 160 40 2720 LUN 1: 40
+weights 65535 160 160 160 160 160 160 160 LUN 0: 160 LUN 0: 160 LUN 0: 160 LUN 0: 160
+plan: known, 8 wants, limit 7
+the planner refuses a problem
+plan-early: slack 0
+the planner refuses a problem
+plan-early-reads-first: slack 0
+the planner refuses a problem
+plan-near-by-lun: slack 20
+the planner refuses a problem
+plan-near-reads-first: slack 20
+the planner refuses a problem
+plan-near-heavy-reads: slack 50
+the planner refuses a problem
+plan-near-one-kind: slack 50
+the planner refuses a problem
+plan-near-by-lun: slack 0
+the planner refuses a problem
+plan-early: slack 7
+the planner refuses a problem
 """
 
 
@@ -98,15 +128,23 @@ def but_for_time(figures: Figures) -> Figures:
 
 
 class Parts(unittest.TestCase):
-    def test_judge_and_choice(self) -> None:
-        made = Path(ROOM.name) / "parts"
-        sources = [str(source) for source in sorted(SOURCES.glob("*.c")) if source.name not in (PLANNED, "main.c")]
-        line = ["cc", *STRICT, "-fsanitize=address,undefined", "-fno-sanitize-recover=all", "-DWITHOUT_PLANS", f"-I{SOURCES}",
-                f"-I{support.ROOT / 'include'}", str(support.ROOT / "tests/tools/rolling_parts.c"), *sources, "-lm", "-o", str(made)]
+    def printed(self, source: str, without: List[str], *words: str) -> str:
+        """What a program prints that is made of a source here and of the simulator's without some."""
+        made = Path(ROOM.name) / source.replace(".c", "")
+        sources = [str(each) for each in sorted(SOURCES.glob("*.c")) if each.name not in without]
+        line = ["cc", *STRICT, "-fsanitize=address,undefined", "-fno-sanitize-recover=all", *words, f"-I{SOURCES}",
+                f"-I{support.ROOT / 'include'}", str(support.ROOT / "tests/tools" / source), *sources, "-lm", "-o", str(made)]
         told = subprocess.run(line, capture_output=True, text=True)
         self.assertEqual((told.returncode, told.stderr), (0, ""))
         ran = subprocess.run([str(made)], capture_output=True, text=True)
-        self.assertEqual((ran.stdout, ran.stderr), (PARTS, ""))
+        self.assertEqual((ran.returncode, ran.stderr), (0, ""))
+        return ran.stdout
+
+    def test_judge_and_choice(self) -> None:
+        self.assertEqual(self.printed("rolling_parts.c", [PLANNED, "main.c"], "-DWITHOUT_PLANS"), PARTS)
+
+    def test_what_is_asked_of_the_library(self) -> None:
+        self.assertEqual(self.printed("rolling_planner.c", ["main.c"]), PLANNERS)
 
 
 class Answered:
@@ -211,12 +249,16 @@ class Plans(Answered, unittest.TestCase):
             figures = run_way(self.program, Configuration("tlc", "sequential", 2, luns=1), way, ASKED)
             self.assertAlmostEqual(figures["rate"], 4e9 / four, 2, way)
 
-    def test_the_measurement_keeps_its_figures(self) -> None:
-        measured = measure(self.program, [TWELVE[10]], list(WAYS), ASKED._replace(requests=40))
-        rows = csv_rows(measured)
-        self.assertEqual(len(rows), 1 + len(WAYS))
-        self.assertEqual({row.split(",")[8] for row in rows[1:]}, set(WAYS))
-        self.assertEqual(len(gains_table(measured)), 2 + len(GREEDY) * len(PLANS))
+
+def measured_by(rates: Dict[str, List[float]]) -> List[Measured]:
+    """Configurations on which each way has a rate, latencies of 1 us, and what else the tables name."""
+    figures: Figures = {"bus": 0.5, "reads": 1, "programs": 1, "plans": 1, "over": 0, "planning_us": 2, "planning_longest_us": 3000}
+    figures.update({f"{kind}_{which}": 1.0 for kind in ("read", "program") for which in ("mean", "99", "999")})
+    made = []
+    for at in range(max(map(len, rates.values()))):
+        by_way: Dict[str, Figures] = {way: {**figures, "rate": rates[way][at] if way in rates else 100.0} for way in WAYS}
+        made.append(Measured(ALL[at], by_way))
+    return made
 
 
 class Tables(unittest.TestCase):
@@ -224,16 +266,55 @@ class Tables(unittest.TestCase):
         self.assertEqual((len(ALL), len(set(ALL))), (216, 216))
         self.assertEqual(len(TWELVE), 12)
         self.assertLessEqual(set(TWELVE), set(ALL))
+        self.assertLessEqual(set(SETTINGS), set(QUICK))
+        self.assertEqual({of.array for of in Whole(["plan"], "0.7-0.9").configurations()}, {"0.7-0.9"})
 
     def test_gains_by_hand(self) -> None:
-        rates = ({"plan": 150.0}, {"plan": 90.0}, {"plan": 100.5})
-        measured = []
-        for at, own in enumerate(rates):
-            by_way: Dict[str, Figures] = {way: {"rate": own.get(way, 100.0), "reads": 1.0, "read_99": 1.0} for way in WAYS}
-            by_way["plan"]["read_99"] = 2.0
-            measured.append(Measured(TWELVE[at], by_way))
-        row = "| plan in order against first in first out | +0.5 | +13.5 | +50.0 | -10.0 | 1; 1 | 2.00 |"
-        self.assertEqual(gains_table(measured)[2], row)
+        measured = measured_by({"plan": [150, 90, 100.5]})
+        row = "| plan in order against first in first out | +0.5 | +13.5 | +50.0 | -10.0 |"
+        self.assertEqual(gains_table(measured, ["plan"], ["fifo"])[2], row)
+
+    def test_spread_by_hand(self) -> None:
+        """Ten configurations: nine of ten are at least the second least. Reads take twice as long on all but one, which has none."""
+        measured = measured_by({"plan": [150, 90, 100.5, 80, 100, 100, 100, 100, 100, 100]})
+        for one in measured[1:]:
+            one.by_way["plan"]["read_99"] = 2.0
+        for figures in measured[0].by_way.values():
+            figures["read_99"] = 0.0
+        row = "| plan in order | 100.0 | 90.0 | 80.0 | 150.0 | 1; 2 | 1.00 | 2.00 | 1.00 | 1.00 |"
+        self.assertEqual(spread_table("of ten", measured, ["plan"])[2], row)
+        self.assertEqual(nine_of_ten(list(range(216))), 21)
+        last = f"{ALL[3].title()}: 80; {ALL[1].title()}: 90"
+        self.assertEqual(furthest_behind(measured, ["plan"], 2)[2], f"| plan in order | {last} |")
+
+    def test_each_table_has_a_cell_for_each_column(self) -> None:
+        whole = whole_tables([one._replace(configuration=of) for of, one in zip(ALL, measured_by({"plan": [90.0] * 216}))], list(WAYS))
+        quick = quick_tables([measured_by({"plan": [90.0] * size}) for size in (12, 4, 2)])
+        for lines in (whole, quick):
+            tables = [part.splitlines() for part in "\n".join(lines).split("\n\n")]
+            self.assertGreaterEqual(len(tables), 4)
+            for rows in tables:
+                self.assertEqual(len({row.count("|") for row in rows}), 1, rows[0])
+                self.assertGreater(len(rows), 2)
+
+    def test_figures_are_kept_as_they_come(self) -> None:
+        """A run that the file has isn't run again: with no program at all the figures are there, and the file is as it was."""
+        path = Path(ROOM.name) / "rows.csv"
+        of = [TWELVE[10], TWELVE[8]]
+        found = measure(GREEDY_ALONE, of[:1], list(GREEDY), ASKED, Rows(path))
+        lines = path.read_text().splitlines()
+        self.assertEqual(len(lines), 1 + len(GREEDY))
+        self.assertEqual([line.split(",")[8] for line in lines[1:]], list(GREEDY))
+        self.assertEqual(measure(Path("/nowhere"), of[:1], list(GREEDY), ASKED, Rows(path)), found)
+        self.assertEqual(path.read_text().splitlines(), lines)
+        both = measure(GREEDY_ALONE, of, [BASE], ASKED, Rows(path))
+        self.assertEqual(path.read_text().splitlines()[:-1], lines)
+        self.assertEqual(Rows(path).found[key_of(of[1], BASE, ASKED)], both[1].by_way[BASE])
+
+    def test_a_way_that_there_isnt(self) -> None:
+        ran = support.run_tool("worth", "--rolling", "--ways", "plan,best")
+        self.assertEqual((ran.returncode, ran.stdout), (2, ""))
+        self.assertIn("no way best; there are fifo, ", ran.stderr)
 
     def test_a_folder_without_the_library(self) -> None:
         ran = support.run_tool("worth", "--rolling", "--quick", "--library", "/nowhere")

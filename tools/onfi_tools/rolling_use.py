@@ -2,6 +2,7 @@
 
 from __future__ import annotations
 
+import csv
 import itertools
 import os
 import statistics
@@ -9,7 +10,7 @@ import subprocess
 import tempfile
 from concurrent.futures import ThreadPoolExecutor
 from pathlib import Path
-from typing import Callable, Dict, Iterable, List, NamedTuple, Optional, Sequence
+from typing import Callable, Dict, Iterable, Iterator, List, NamedTuple, Optional, Sequence, Tuple
 
 ROOT = Path(__file__).resolve().parent.parent.parent
 SOURCES = Path(__file__).resolve().parent / "rolling"
@@ -24,10 +25,23 @@ GREEDY = {
     "rfirst:8": "reads first, eight",
     "rfirst:all": "reads first, all",
 }
-PLANS = {"plan": "plan in order", "plan-by-lun": "plan by LUN", "plan-reads-first": "plan by LUN, reads first",
-         "plan-early": "plan in order, early", "plan-early-by-lun": "plan by LUN, early", "plan-early-reads-first": "plan by LUN, reads first, early"}
+PLANS = {
+    "plan": "plan in order",
+    "plan-by-lun": "plan by LUN",
+    "plan-reads-first": "plan reads first",
+    "plan-early": "plan in order, early",
+    "plan-early-by-lun": "plan by LUN, early",
+    "plan-early-reads-first": "plan reads first, early",
+    "plan-near-by-lun": "plan by LUN, near",
+    "plan-near-reads-first": "plan reads first, near",
+    "plan-near-heavy-reads": "plan heavy reads, near",
+    "plan-near-one-kind": "plan one kind, near",
+}
 WAYS = {**GREEDY, **PLANS}
 BASE = "rfirst:all"
+# The plans of the short measurement: in order, early, by LUN, both, and each setting.
+SETTINGS = ["plan-near-by-lun", "plan-near-reads-first", "plan-near-heavy-reads", "plan-near-one-kind"]
+QUICK = [*GREEDY, "plan", "plan-early", "plan-by-lun", *SETTINGS]
 WORKLOADS = {"reads": "random reads", "mixed": "70 % reads", "sequential": "sequential programs", "erases": "with erases"}
 
 Figures = Dict[str, float]
@@ -68,6 +82,34 @@ class Asked(NamedTuple):
     seed: int
     limit: int
     jobs: int
+
+
+Key = Tuple[str, ...]
+
+
+def key_of(of: Configuration, way: str, asked: Asked) -> Key:
+    """What a run is, in the columns before its figures."""
+    return tuple(map(str, (*of, way, asked.requests, asked.seed, asked.limit)))
+
+
+class Rows:
+    """All figures in a file, a run a line, written as they come. A run that stands there already isn't run again."""
+
+    def __init__(self, path: Optional[Path]) -> None:
+        self.path = path
+        self.found: Dict[Key, Figures] = {}
+        if path and path.is_file():
+            names, *rows = csv.reader(path.read_text().splitlines())
+            start = names.index("answered")
+            self.found = {tuple(row[:start]): dict(zip(names[start:], map(float, row[start:]))) for row in rows}
+
+    def keep(self, key: Key, figures: Figures) -> None:
+        if not self.path or key in self.found:
+            return
+        head = "" if self.found else ",".join([*Configuration._fields, "way", "requests", "seed", "limit", *figures]) + "\n"
+        self.found[key] = figures
+        with open(self.path, "a") as file:
+            file.write(head + ",".join([*key, *map(str, figures.values())]) + "\n")
 
 
 TWELVE = [
@@ -126,11 +168,22 @@ def run_way(program: Path, of: Configuration, way: str, asked: Asked) -> Figures
     return {name: float(number) for name, number in (line.split() for line in ran.stdout.splitlines())}
 
 
-def measure(program: Path, configurations: Sequence[Configuration], ways: Sequence[str], asked: Asked) -> List[Measured]:
-    """Runs each configuration by each way, so many at a time."""
-    runs = [(of, way) for of in configurations for way in ways]
+def figures_of(program: Path, runs: Sequence[Tuple[Configuration, str]], asked: Asked, rows: Rows) -> Iterator[Figures]:
+    """The figures of all runs in their order, so many made at a time."""
+
+    def one(run: Tuple[Configuration, str]) -> Figures:
+        return rows.found.get(key_of(*run, asked)) or run_way(program, *run, asked)
+
     with ThreadPoolExecutor(asked.jobs) as pool:
-        found = list(pool.map(lambda run: run_way(program, run[0], run[1], asked), runs))
+        for run, figures in zip(runs, pool.map(one, runs)):
+            rows.keep(key_of(*run, asked), figures)
+            yield figures
+
+
+def measure(program: Path, configurations: Sequence[Configuration], ways: Sequence[str], asked: Asked, rows: Rows) -> List[Measured]:
+    """Runs each configuration by each way."""
+    runs = [(of, way) for of in configurations for way in ways]
+    found = list(figures_of(program, runs, asked, rows))
     size = len(ways)
     return [Measured(of, dict(zip(ways, found[at * size : (at + 1) * size]))) for at, of in enumerate(configurations)]
 
@@ -173,27 +226,51 @@ def planning_cell(one: Measured, way: str) -> str:
     return f"{figures['planning_us']:,.0f} / {figures['planning_longest_us'] / 1000:,.0f}; {figures['over']:.0f} of {figures['plans']:,.0f}"
 
 
-def gains(measured: Sequence[Measured], way: str, against: str) -> List[float]:
+def gain_row(measured: Sequence[Measured], way: str, against: str) -> List[str]:
     """How much higher a way's throughput is than another's, in % of the other's."""
-    return [100 * (one.by_way[way]["rate"] / one.by_way[against]["rate"] - 1) for one in measured]
+    found = [100 * (one.by_way[way]["rate"] / one.by_way[against]["rate"] - 1) for one in measured]
+    numbers = (statistics.median(found), statistics.mean(found), max(found), min(found))
+    return [f"{WAYS[way]} against {WAYS[against]}", *(f"{number:+.1f}" for number in numbers)]
 
 
-def read_ratio(measured: Sequence[Measured], way: str, against: str) -> str:
-    ratios = [one.by_way[way]["read_99"] / one.by_way[against]["read_99"] for one in measured if one.by_way[way]["reads"]]
+def gains_table(measured: Sequence[Measured], plans: Sequence[str], others: Sequence[str]) -> List[str]:
+    rows = [gain_row(measured, way, other) for way in plans for other in others]
+    return table("throughput, %", ["median", "mean", "best", "worst"], rows)
+
+
+def nine_of_ten(numbers: Sequence[float]) -> float:
+    """What nine of ten of the numbers are at least."""
+    return sorted(numbers)[len(numbers) // 10]
+
+
+def ratio_cell(measured: Sequence[Measured], way: str, name: str) -> str:
+    """The median of a latency in that of reads first over all, over the configurations that have such requests."""
+    pairs = [(one.by_way[way][name], one.by_way[BASE][name]) for one in measured]
+    ratios = [own / other for own, other in pairs if own and other]
     return f"{statistics.median(ratios):.2f}" if ratios else ""
 
 
-def gain_row(measured: Sequence[Measured], way: str, against: str) -> List[str]:
-    found = gains(measured, way, against)
-    numbers = (statistics.median(found), statistics.mean(found), max(found), min(found))
-    more, less = sum(gain > 1 for gain in found), sum(gain < -1 for gain in found)
-    return [f"{WAYS[way]} against {WAYS[against]}", *(f"{number:+.1f}" for number in numbers), f"{more}; {less}",
-            read_ratio(measured, way, against)]
+def spread_row(measured: Sequence[Measured], way: str) -> List[str]:
+    """How a way's throughput, in % of that of reads first over all, is spread over the configurations; its latencies beside."""
+    found = [share(one, way) for one in measured]
+    ahead, behind = sum(number > 101 for number in found), sum(number < 99 for number in found)
+    numbers = (statistics.median(found), nine_of_ten(found), min(found), max(found))
+    latencies = [ratio_cell(measured, way, name) for name in ("read_mean", "read_99", "program_mean", "program_99")]
+    return [WAYS[way], *(f"{number:.1f}" for number in numbers), f"{ahead}; {behind}", *latencies]
 
 
-def gains_table(measured: Sequence[Measured]) -> List[str]:
-    columns = ["median", "mean", "best", "worst", "1 % more; less", "reads' 99 %"]
-    return table("throughput, %", columns, [gain_row(measured, way, other) for way in PLANS for other in GREEDY])
+def spread_table(first: str, measured: Sequence[Measured], ways: Sequence[str]) -> List[str]:
+    columns = ["median", "nine of ten at least", "worst", "best", "1 % ahead; behind", "reads' mean", "reads' 99 %", "programs' mean", "programs' 99 %"]
+    return table(first, columns, [spread_row(measured, way) for way in ways])
+
+
+def furthest_behind(measured: Sequence[Measured], ways: Sequence[str], most: int) -> List[str]:
+    """The configurations on which each way is furthest behind reads first over all, by what share of its throughput it reaches."""
+    rows = []
+    for way in ways:
+        last = sorted(measured, key=lambda one: share(one, way))[:most]
+        rows.append([WAYS[way], "; ".join(f"{one.configuration.title()}: {share(one, way):.0f}" for one in last)])
+    return table("furthest behind", ["configurations"], rows)
 
 
 def condition_title(of: Configuration) -> str:
@@ -208,58 +285,65 @@ def condition_table(first: str, measured: Sequence[Measured], ways: Sequence[str
     return table(first, [WAYS[way] for way in ways], rows)
 
 
-SOME = ["rfirst:8", BASE, *PLANS]
+SOME = ["rfirst:8", BASE, "plan", *SETTINGS]
 
 
-def measure_quick(program: Path, asked: Asked) -> List[List[Measured]]:
+def measure_quick(program: Path, asked: Asked, rows: Rows) -> List[List[Measured]]:
     """The twelve configurations, early arrays of the first, open loops of the second."""
-    twelve = measure(program, TWELVE, list(WAYS), asked)
-    early = measure(program, readiness(TWELVE[0]), SOME, asked)
-    return [twelve, early, measure(program, open_loops(TWELVE[1]), SOME, asked)]
+    twelve = measure(program, TWELVE, QUICK, asked, rows)
+    early = measure(program, readiness(TWELVE[0]), SOME, asked, rows)
+    return [twelve, early, measure(program, open_loops(TWELVE[1]), SOME, asked, rows)]
 
 
 def quick_tables(parts: Sequence[Sequence[Measured]]) -> List[str]:
     twelve, early, loops = parts
+    plans = [way for way in QUICK if way in PLANS]
     return [
-        *gains_table(twelve), "",
-        *cells_table("throughput, % of reads first, all", twelve, list(WAYS), share_cell), "",
+        *cells_table("throughput, % of reads first, all", twelve, QUICK, share_cell), "",
+        *spread_table("over the twelve", twelve, QUICK), "",
         *cells_table("reads, us: mean / 99 % / 99.9 %", twelve, SOME, latency_cell("read")), "",
         *cells_table("programs, us: mean / 99 % / 99.9 %", twelve, SOME, latency_cell("program")), "",
-        *cells_table("a plan, us in the mean / ms at most; over", twelve, list(PLANS), planning_cell), "",
+        *cells_table("a plan, us in the mean / ms at most; over", twelve, plans, planning_cell), "",
         *condition_table("requests a second", early, SOME, "rate"), "",
         *condition_table("reads' mean, us", loops, SOME, "read_mean"), "",
         *condition_table("reads' 99 %, us", loops, SOME, "read_99"),
     ]
 
 
-def whole_tables(measured: Sequence[Measured]) -> List[str]:
+def whole_tables(measured: Sequence[Measured], ways: Sequence[str]) -> List[str]:
     """All configurations, and what each device, workload, bus and number of LUNs has of it."""
     names = ("device", "workload", "byte", "luns", "depth")
     parts = [(name, part) for name in names for part in dict.fromkeys(getattr(of, name) for of in ALL)]
-    rows = [median_row(name, part, measured) for name, part in parts]
-    return [*gains_table(measured), "", *table("median throughput, % of reads first, all", list(WAYS.values()), rows)]
+    rows = [median_row(name, part, measured, ways) for name, part in parts]
+    plans, others = [way for way in ways if way in PLANS], [way for way in ways if way in GREEDY]
+    return [
+        *spread_table("throughput, % of reads first, all", measured, ways), "",
+        *table("its median", [WAYS[way] for way in ways], rows), "",
+        *gains_table(measured, plans, others), "",
+        *furthest_behind(measured, plans, 8),
+    ]
 
 
-def median_row(name: str, part: object, measured: Sequence[Measured]) -> List[str]:
+def median_row(name: str, part: object, measured: Sequence[Measured], ways: Sequence[str]) -> List[str]:
     own = [one for one in measured if getattr(one.configuration, name) == part]
-    return [f"{name} {part}", *(f"{statistics.median(share(one, way) for one in own):.0f}" for way in WAYS)]
+    return [f"{name} {part}", *(f"{statistics.median(share(one, way) for one in own):.0f}" for way in ways)]
 
 
-def csv_rows(measured: Sequence[Measured]) -> List[str]:
-    """All figures, a run a line."""
-    names = list(next(iter(measured[0].by_way.values())))
-    lines = [",".join([*Configuration._fields, "way", *names])]
-    for one in measured:
-        for way, figures in one.by_way.items():
-            lines.append(",".join(map(str, [*one.configuration, way, *(figures[name] for name in names)])))
-    return lines
+class Whole(NamedTuple):
+    """What of all is measured: by which ways, beside reads first over all, and how long arrays take in shares of the stated."""
+
+    ways: Sequence[str]
+    array: str
+
+    def configurations(self) -> List[Configuration]:
+        return [of._replace(array=self.array) for of in ALL]
 
 
-def report(quick: bool, library: Path, asked: Asked, rows: Optional[Path]) -> List[str]:
-    """Builds, measures, keeps all figures in a file where one is named, and gives the tables."""
+def report(whole: Optional[Whole], library: Path, asked: Asked, rows: Rows) -> List[str]:
+    """Builds, measures, and gives the tables: of all configurations, or where nothing is said the short ones."""
     with tempfile.TemporaryDirectory(prefix="rolling-") as room:
         program = build(Path(room) / "rolling", library)
-        parts = measure_quick(program, asked) if quick else [measure(program, ALL, list(WAYS), asked)]
-    if rows:
-        rows.write_text("\n".join(csv_rows([one for part in parts for one in part])) + "\n")
-    return quick_tables(parts) if quick else whole_tables(parts[0])
+        if whole is None:
+            return quick_tables(measure_quick(program, asked, rows))
+        ways = [BASE, *(way for way in whole.ways if way != BASE)]
+        return whole_tables(measure(program, whole.configurations(), ways, asked, rows), ways)

@@ -15,7 +15,7 @@
  *   requests  answered before it ends, 1 to 10,000,000   2000
  *   seed      of all that is random                      1
  *   limit     nodes that a search may open               100000
- *   slack     thousandths that an early plan ends later  0
+ *   slack     thousandths that an early plan ends later  those of its way
  *   trace     yes prints each phase instead; no          no
  *
  * The exit status is 0, 1 where a phase is illegal or the run can't go on, 2 where a word can't be read.
@@ -140,6 +140,7 @@ int main(int count, char **texts)
     words.setup.requests = 2000;
     words.setup.seed = 1;
     words.setup.limit = 100000;
+    words.setup.slack = OF_THE_WAY;
     if (count == 2 && !strcmp(texts[1], "ways")) {
         print_ways(stdout);
         return EXIT_SUCCESS;

@@ -24,22 +24,22 @@ static double mean_age(const problem *problem)
     return sum > count ? sum / count : 1;
 }
 
-/* Eight times 1 + 4 (age / mean age)^2. */
-static uint16_t weight_by(double age, double mean)
+/* Eight times 1 + 4 (age / mean age)^2, of reads so many times as much. */
+static uint16_t weight_by(double age, double mean, unsigned kind, double reads)
 {
-    double weight = 8 + 32 * (age / mean) * (age / mean);
+    double weight = (8 + 32 * (age / mean) * (age / mean)) * (kind == ONFI_READ ? reads : 1);
     return weight < UINT16_MAX ? (uint16_t)weight : UINT16_MAX;
 }
 
-static onfi_weights weights_by_age(const problem *problem)
+static onfi_weights weights_by_age(const problem *problem, double reads)
 {
     double mean = mean_age(problem);
     onfi_weights made;
     for (size_t at = 0; at < ONFI_WANTS; at++)
-        made.want[at] = weight_by((double)problem->age[at], mean);
+        made.want[at] = weight_by((double)problem->age[at], mean, problem->want[at].kind, reads);
     for (unsigned lun = 0; lun < ONFI_LUNS; lun++)
         for (unsigned at = 0; at < ONFI_MEMBERS; at++)
-            made.running[lun][at] = weight_by((double)problem->member_age[lun][at], mean);
+            made.running[lun][at] = weight_by((double)problem->member_age[lun][at], mean, problem->lun[lun].member[0].kind, reads);
     return made;
 }
 
@@ -75,7 +75,13 @@ uint32_t plan_early(const problem *problem, uint32_t limit, onfi_planned *plan)
 
 uint32_t plan_early_by_age(const problem *problem, uint32_t limit, onfi_planned *plan)
 {
-    onfi_weights weights = weights_by_age(problem);
+    onfi_weights weights = weights_by_age(problem, 1);
+    return plan_by(problem, limit, &weights, plan);
+}
+
+uint32_t plan_early_reads(const problem *problem, uint32_t limit, onfi_planned *plan)
+{
+    onfi_weights weights = weights_by_age(problem, 20);
     return plan_by(problem, limit, &weights, plan);
 }
 
@@ -94,9 +100,9 @@ static void put_ages(const machine *m, unsigned lun, uint64_t *age)
 }
 
 /* The batch as the library takes it, planned from now on. */
-static problem problem_of(const machine *m, const batch *batch)
+static problem problem_of(const machine *m, const batch *batch, uint16_t slack)
 {
-    problem made = {.channel = m->setup->channel, .luns = m->setup->luns, .wants = batch->count, .slack = m->setup->slack};
+    problem made = {.channel = m->setup->channel, .luns = m->setup->luns, .wants = batch->count, .slack = slack};
     made.channel.bus_free = later_of(m->now, m->bus_free);
     for (unsigned lun = 0; lun < m->setup->luns; lun++) {
         made.lun[lun] = lun_of(&m->lun[lun]);
@@ -154,7 +160,7 @@ static void note_plan(planning *planning, clock_t begun, uint32_t status, const 
 
 static bool make_plan(const way *way, mind *mind, const machine *m, const batch *batch)
 {
-    problem problem = problem_of(m, batch);
+    problem problem = problem_of(m, batch, m->setup->slack == OF_THE_WAY ? way->slack : m->setup->slack);
     onfi_planned planned;
     clock_t begun = clock();
     uint32_t status = way->planner(&problem, m->setup->limit, &planned);

@@ -27,6 +27,7 @@ enum {
     MOST_OUTSTANDING = 256,
     MOST_WAITING = MOST_OUTSTANDING + ONFI_MEMBERS, /* erases of several planes come together */
     PASSED_AT_MOST = 64, /* so many later starts, and the oldest request is chosen first */
+    OF_THE_WAY = UINT16_MAX,
     PLAN_STEPS = ONFI_LUNS * ONFI_STARTS + 2 * ONFI_WANTS
 };
 
@@ -45,7 +46,7 @@ typedef struct {
     size_t requests; /* how many are answered before it ends; the first tenth isn't measured */
     uint64_t seed;
     uint32_t limit; /* of nodes in a search */
-    uint16_t slack; /* by how many thousandths plans in which requests end early may end later */
+    uint16_t slack; /* by how many thousandths plans in which requests end early may end later; OF_THE_WAY: as its way says */
 } setup;
 
 /* Puts timing and rules of a device by name, at so many ns a byte; false where there is no such device. */
@@ -169,7 +170,7 @@ typedef struct {
 
 typedef void choice(const machine *m, batch *chosen);
 
-choice everything, first_eight, by_lun, by_lun_reads_first;
+choice everything, first_eight, by_lun, by_lun_reads_first, by_lun_one_kind;
 
 /* Whether it may join the group of the waiting requests at those places. */
 bool joins(const machine *m, const size_t *group, size_t members, size_t place);
@@ -201,7 +202,7 @@ typedef struct {
 /* Plans by at most `limit` nodes; gives an onfi_status. */
 typedef uint32_t planner(const problem *problem, uint32_t limit, onfi_planned *plan);
 
-planner plan_known, plan_early, plan_early_by_age;
+planner plan_known, plan_early, plan_early_by_age, plan_early_reads;
 
 typedef struct {
     step step[PLAN_STEPS]; /* in order of start */
@@ -232,6 +233,7 @@ typedef struct way {
     bool (*decide)(const struct way *way, mind *mind, const machine *m, const batch *batch, step *step);
     const rule *rule; /* of a greedy way, and of a planner that is over */
     planner *planner;
+    uint16_t slack; /* of plans in which requests end early */
 } way;
 
 bool in_order(const way *way, mind *mind, const machine *m, const batch *batch, step *step);

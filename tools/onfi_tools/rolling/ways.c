@@ -5,19 +5,23 @@
 
 /* Without the library (-DWITHOUT_PLANS) there are no plans. */
 static const way WAYS[] = {
-    {"fifo", everything, in_order, NULL, NULL},
-    {"round-robin", first_eight, by_rule, &ROUND_ROBIN, NULL},
-    {"commands-first", first_eight, by_rule, &COMMANDS_FIRST, NULL},
-    {"mqsim", first_eight, by_rule, &MQSIM, NULL},
-    {"rfirst:8", first_eight, by_rule, &READS_FIRST, NULL},
-    {"rfirst:all", everything, by_rule, &READS_FIRST, NULL},
+    {"fifo", everything, in_order, NULL, NULL, 0},
+    {"round-robin", first_eight, by_rule, &ROUND_ROBIN, NULL, 0},
+    {"commands-first", first_eight, by_rule, &COMMANDS_FIRST, NULL, 0},
+    {"mqsim", first_eight, by_rule, &MQSIM, NULL, 0},
+    {"rfirst:8", first_eight, by_rule, &READS_FIRST, NULL, 0},
+    {"rfirst:all", everything, by_rule, &READS_FIRST, NULL, 0},
 #ifndef WITHOUT_PLANS
-    {"plan", first_eight, by_plan, &ROUND_ROBIN, plan_known},
-    {"plan-by-lun", by_lun, by_plan, &ROUND_ROBIN, plan_known},
-    {"plan-reads-first", by_lun_reads_first, by_plan, &ROUND_ROBIN, plan_known},
-    {"plan-early", first_eight, by_plan, &ROUND_ROBIN, plan_early_by_age},
-    {"plan-early-by-lun", by_lun, by_plan, &ROUND_ROBIN, plan_early_by_age},
-    {"plan-early-reads-first", by_lun_reads_first, by_plan, &ROUND_ROBIN, plan_early},
+    {"plan", first_eight, by_plan, &ROUND_ROBIN, plan_known, 0},
+    {"plan-by-lun", by_lun, by_plan, &ROUND_ROBIN, plan_known, 0},
+    {"plan-reads-first", by_lun_reads_first, by_plan, &ROUND_ROBIN, plan_known, 0},
+    {"plan-early", first_eight, by_plan, &ROUND_ROBIN, plan_early_by_age, 0},
+    {"plan-early-by-lun", by_lun, by_plan, &ROUND_ROBIN, plan_early_by_age, 0},
+    {"plan-early-reads-first", by_lun_reads_first, by_plan, &ROUND_ROBIN, plan_early, 0},
+    {"plan-near-by-lun", by_lun, by_plan, &ROUND_ROBIN, plan_early_by_age, 20},
+    {"plan-near-reads-first", by_lun_reads_first, by_plan, &ROUND_ROBIN, plan_early, 20},
+    {"plan-near-heavy-reads", by_lun_reads_first, by_plan, &ROUND_ROBIN, plan_early_reads, 50},
+    {"plan-near-one-kind", by_lun_one_kind, by_plan, &ROUND_ROBIN, plan_early_reads, 50},
 #endif
 };
 
