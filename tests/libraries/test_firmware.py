@@ -189,6 +189,17 @@ class Simulated(unittest.TestCase):
             self.assertEqual(found, simulated_ends(simulator, [*both, "way", "plan-early"]), words)
             self.assertEqual(len(found), 200, words)
 
+    def test_plans_by_choice(self) -> None:
+        """The simulator chooses by code of its own, the driver by the library."""
+        simulator = rolling_use.build(Path(ROOM.name) / "chosen", LIBRARY)
+        settings = {"plan-near-by-lun": "choice by-lun weights age", "plan-near-reads-first": "choice reads-first weights equal"}
+        for way, setting in settings.items():
+            for words in SIMULATED:
+                both = [*words.split(), "requests", "100", "limit", "2000"]
+                found = ends_of(run(sane(), *both, *setting.split(), "slack", "20", "way", "plans", "ends", "yes").stdout)
+                self.assertEqual(found, simulated_ends(simulator, [*both, "way", way]), (way, words))
+                self.assertEqual(len(found), 100, words)
+
 
 class Board(unittest.TestCase):
     def test_a_phase_that_is_spoilt_is_found(self) -> None:

@@ -115,8 +115,8 @@ class Rows:
 TWELVE = [
     Configuration("tlc", "mixed", 0.833),
     Configuration("tlc", "mixed", 2),
-    Configuration("tlc", "mixed", 20),
-    Configuration("tlc", "reads", 2),
+    Configuration("tlc", "mixed", 20, luns=2),
+    Configuration("tlc", "reads", 2, luns=4, depth=16),
     Configuration("tlc", "reads", 0.833),
     Configuration("qlc", "mixed", 0.833),
     Configuration("slc", "mixed", 2),
@@ -226,6 +226,11 @@ def planning_cell(one: Measured, way: str) -> str:
     return f"{figures['planning_us']:,.0f} / {figures['planning_longest_us'] / 1000:,.0f}; {figures['over']:.0f} of {figures['plans']:,.0f}"
 
 
+def erasing_cell(one: Measured, way: str) -> str:
+    """How many LUNs erase in the mean while any does."""
+    return f"{one.by_way[way]['erasing']:.1f}"
+
+
 def gain_row(measured: Sequence[Measured], way: str, against: str) -> List[str]:
     """How much higher a way's throughput is than another's, in % of the other's."""
     found = [100 * (one.by_way[way]["rate"] / one.by_way[against]["rate"] - 1) for one in measured]
@@ -304,6 +309,7 @@ def quick_tables(parts: Sequence[Sequence[Measured]]) -> List[str]:
         *cells_table("reads, us: mean / 99 % / 99.9 %", twelve, SOME, latency_cell("read")), "",
         *cells_table("programs, us: mean / 99 % / 99.9 %", twelve, SOME, latency_cell("program")), "",
         *cells_table("a plan, us in the mean / ms at most; over", twelve, plans, planning_cell), "",
+        *cells_table("LUNs that erase at once", [one for one in twelve if one.by_way[BASE]["erasing"]], QUICK, erasing_cell), "",
         *condition_table("requests a second", early, SOME, "rate"), "",
         *condition_table("reads' mean, us", loops, SOME, "read_mean"), "",
         *condition_table("reads' 99 %, us", loops, SOME, "read_99"),

@@ -60,6 +60,7 @@ void figures_print(const figures *figures, FILE *out)
     fprintf(out, "rate %.3f\n", (double)answered * 1e9 / span);
     fprintf(out, "bus %.5f\n", (double)figures->busy / span);
     fprintf(out, "group %.4f\n", figures->groups ? (double)figures->grouped / (double)figures->groups : 0);
+    fprintf(out, "erasing %.4f\n", figures->erasing ? (double)figures->erases / (double)figures->erasing : 0);
     print_latencies(figures, ONFI_READ, "read", out);
     print_latencies(figures, ONFI_PROGRAM, "program", out);
     print_latencies(figures, ONFI_ERASE, "erase", out);

@@ -252,6 +252,7 @@ typedef struct figures {
     uint64_t from, to; /* what is measured: from the end of a post to that of the last */
     uint64_t busy; /* how long the bus was busy in between */
     uint64_t groups, grouped; /* how many groups began, and of how many requests */
+    uint64_t erases, erasing, erasing_until; /* how long the erases took together, how long any LUN erased, and up to when */
     planning planning;
 } figures;
 

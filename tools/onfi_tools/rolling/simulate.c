@@ -74,6 +74,15 @@ static void print_phase(const run *r, const phase *p)
         fprintf(r->trace, "%" PRIu64 " %" PRIu64 " %u %s %" PRIu64 " %zu\n", p->start, p->end, p->lun, part, p->want.id, p->opens);
 }
 
+/* Counts an erase that has begun: how long it takes, and how much of that no other one does. */
+static void count_erase(figures *f, const phase *p)
+{
+    uint64_t end = p->end + p->array, from = later_of(p->end, f->erasing_until);
+    f->erases += p->array;
+    f->erasing += end > from ? end - from : 0;
+    f->erasing_until = later_of(end, f->erasing_until);
+}
+
 /* What a way keeps of a step that has run. */
 static void note_step(run *r, const step *step)
 {
@@ -95,6 +104,8 @@ static void run_next(run *r, const step *step)
         r->figures->groups++;
         r->figures->grouped += p.opens;
     }
+    if (p.array && p.want.kind == ONFI_ERASE && r->answered >= r->machine.setup->requests / 10)
+        count_erase(r->figures, &p);
     if (p.is_post)
         count_answer(r, &answered, p.end);
 }

@@ -20,8 +20,8 @@ static const way WAYS[] = {
     {"plan-early-reads-first", by_lun_reads_first, by_plan, &ROUND_ROBIN, plan_early, 0},
     {"plan-near-by-lun", by_lun, by_plan, &ROUND_ROBIN, plan_early_by_age, 20},
     {"plan-near-reads-first", by_lun_reads_first, by_plan, &ROUND_ROBIN, plan_early, 20},
-    {"plan-near-heavy-reads", by_lun_reads_first, by_plan, &ROUND_ROBIN, plan_early_reads, 50},
-    {"plan-near-one-kind", by_lun_one_kind, by_plan, &ROUND_ROBIN, plan_early_reads, 50},
+    {"plan-near-heavy-reads", by_lun_reads_first, by_plan, &ROUND_ROBIN, plan_early_reads, 20},
+    {"plan-near-one-kind", by_lun_one_kind, by_plan, &ROUND_ROBIN, plan_early_reads, 20},
 #endif
 };
 
