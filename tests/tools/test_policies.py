@@ -9,10 +9,10 @@ from typing import Dict, List, Tuple
 import support
 from onfi_tools.device import Spans
 from onfi_tools.drawn import USUAL, any_lengths, drawn_wants
-from onfi_tools.policies import (Device, Group, Planned, Policy, Want, first_in_first_out, is_group, round_robin,
-                                 round_robin_commands_first, script_of)
+from onfi_tools.policies import (RANKS, Device, Group, Planned, Policy, Want, best_of_ranks, by_commands, by_posts, by_reads, first_in_first_out,
+                                 is_group, left_of, ranked, round_robin, round_robin_commands_first, script_of)
 
-WAYS: Tuple[Policy, ...] = (first_in_first_out, round_robin, round_robin_commands_first)
+WAYS: Tuple[Policy, ...] = (first_in_first_out, round_robin, round_robin_commands_first, best_of_ranks)
 
 
 def phases_of(group: Group) -> List[Tuple[int, int, int]]:
@@ -85,6 +85,28 @@ class Worked(unittest.TestCase):
         self.assertEqual(self.starts(one), {"0": [0, 20], "1+2": [10, 120, 135, 235]})
         self.assertEqual(self.starts(other), {"0": [0, 30], "1+2": [10, 20, 130, 230]})
 
+    def test_a_rank_says_which_of_what_can_start(self) -> None:
+        """LUN 0 has read and could put out, LUN 1 could begin to read: at 15 both can."""
+        device = Device(2, 1, False, False, {**USUAL, "read": Spans(10, 0, 5, 100)})
+        wants = [Want(0, "read", 0, 0, 0), Want(1, "read", 1, 0, 0), Want(2, "read", 0, 1, 0)]
+        posts, commands = ranked(device, wants, by_posts), ranked(device, wants, by_commands)
+        self.assertEqual(self.starts(posts), {"0": [0, 20], "1": [10, 120], "2": [220, 235]})
+        self.assertEqual(self.starts(commands), {"0": [0, 20], "1": [10, 130], "2": [120, 230]})
+        self.assertEqual(best_of_ranks(device, wants).finish, 330)
+
+    def test_reads_go_before_data_of_programs(self) -> None:
+        device = Device(2, 0, False, False, {**USUAL, "read": Spans(10, 0, 5, 100), "program": Spans(200, 0, 5, 10)})
+        wants = [Want(0, "program", 0, 0, 0), Want(1, "read", 1, 0, 0)]
+        self.assertEqual(self.starts(ranked(device, wants, by_reads)), {"0": [10, 310], "1": [0, 210]})
+
+    def test_what_is_left_of_a_group(self) -> None:
+        group = Group([Want(0, "read", 0, 0, 0), Want(1, "read", 0, 1, 0)], {**USUAL, "read": Spans(10, 3, 5, 100)})
+        left = [left_of(group)]
+        for start in (0, 13, 28, 128):
+            group.place(start)
+            left.append(left_of(group))
+        self.assertEqual(left, [228, 215, 200, 100, 0])
+
     def test_the_text_of_a_plan(self) -> None:
         text = "ONFIPLAN 1\nfinish 58380\ngroup 0+1 0 740 36380 47380\ngroup 2 140 25380\nONFICERT 1\nX\n"
         self.assertEqual(round_robin(self.device, self.wants).text(), text)
@@ -102,6 +124,14 @@ class Legal(unittest.TestCase):
                 self.assertEqual(faults(device, wants, planned), [])
                 self.assertEqual(planned.finish, max(ends, default=0))
 
+    def test_the_best_is_none_of_the_worse(self) -> None:
+        rng = random.Random(8)
+        for _ in range(100):
+            device, wants = drawn(rng)
+            finishes = [ranked(device, wants, rank).finish for rank in RANKS]
+            finishes += [round_robin(device, wants).finish, round_robin_commands_first(device, wants).finish]
+            self.assertEqual(best_of_ranks(device, wants).finish, min(finishes))
+
     def test_the_checker_of_this_file_sees_faults(self) -> None:
         device, wants = Worked.device, Worked.wants
         for at, start, fault in ((1, 700, "waits"), (2, 30000, "no overlap on the bus")):
@@ -115,7 +145,7 @@ class Legal(unittest.TestCase):
     def test_the_measurement(self) -> None:
         ran = support.run_tool("worth", str(support.program()), "--scripts", "20", "--check", "20", "--limit", "20000")
         self.assertEqual((ran.returncode, ran.stderr), (0, ""))
-        self.assertIn("60 schedules of the ways judged legal", ran.stdout)
+        self.assertIn("80 schedules of the ways judged legal", ran.stdout)
 
 
 if __name__ == "__main__":

@@ -144,6 +144,115 @@ def round_robin_commands_first(device: Device, wants: Sequence[Want]) -> Planned
     return round_robin(device, wants, commands_first=True)
 
 
+class Next(NamedTuple):
+    """What a LUN could do next: go on with the group that it runs, or begin one; and how much work it has left, in ns."""
+
+    start: int
+    lun: int
+    group: Group
+    begins: bool
+    left: int
+
+    def size(self) -> int:
+        return len(self.group.members) if self.begins else 0
+
+    def kind(self) -> str:
+        return self.group.members[0].kind
+
+
+Rank = Callable[[Next], float]
+
+
+def by_work(one: Next) -> float:
+    """The LUN that has most left first, then the larger group."""
+    return 8 * one.left + one.size()
+
+
+def by_work_alone(one: Next) -> float:
+    """The LUN that has most left first, then the smaller group."""
+    return 8 * one.left - one.size()
+
+
+def by_commands(one: Next) -> float:
+    """Commands before posts; larger groups first, then erases, programs, reads."""
+    return one.size() + (-10 if one.group.posts() else 10) + KINDS.index(one.kind()) / 10
+
+
+def by_posts(one: Next) -> float:
+    """Posts before commands, then the larger group."""
+    return one.size() + (10 if one.group.posts() else 0)
+
+
+def by_reads(one: Next) -> float:
+    """What goes on with commands, statuses, commands of reads, data outputs, data of programs, erases."""
+    if not one.begins:
+        return 95 if one.group.posts() and one.kind() != "read" else 50 if one.group.posts() else 100
+    return {"read": 94, "program": 40, "erase": 30}[one.kind()] + one.size() / 10
+
+
+RANKS: Tuple[Rank, ...] = (Next.size, by_work, by_commands, by_posts, by_work_alone, by_reads)
+
+
+def left_of(group: Group) -> int:
+    """How long a group takes from its next phase on, if nothing else has the bus."""
+    size, done, spans = len(group.members), len(group.starts), group.spans
+    commands = max(size - done, 0)
+    posts = min(size, 2 * size - done)
+    before = commands * spans.cmd + (commands - 1) * spans.gap + spans.array if commands else 0
+    return before + posts * spans.post
+
+
+def groups_of(device: Device, waiting: List[Want], lun: int) -> List[List[Want]]:
+    """All startable groups of a LUN, by rising bit mask of list positions; planes rise."""
+    firsts = first_wants(waiting, lun)
+    found = []
+    for mask in range(1, 1 << len(firsts)):
+        chosen = [want for at, want in enumerate(firsts) if mask >> at & 1]
+        if is_group(device, chosen):
+            found.append(sorted(chosen, key=lambda want: device.plane(want.block)))
+    return found
+
+
+def all_next(device: Device, waiting: List[Want], running: Mapping[int, Group], since: Mapping[int, int], bus: int) -> List[Next]:
+    """What each LUN could do next, by each group that it could begin."""
+    found = []
+    for lun in range(device.luns):
+        singles = [want for want in waiting if want.lun == lun]
+        left = sum(left_of(Group([want], device.lengths)) for want in singles)
+        if lun in running:
+            group = running[lun]
+            found.append(Next(max(bus, group.ready), lun, group, False, left + left_of(group)))
+        else:
+            groups = groups_of(device, waiting, lun)
+            found += [Next(max(bus, since[lun]), lun, Group(each, device.lengths), True, left) for each in groups]
+    return found
+
+
+def ranked(device: Device, wants: Sequence[Want], rank: Rank) -> Planned:
+    """What can start soonest goes next; of that, what ranks highest."""
+    waiting, groups = list(wants), []  # type: List[Want], List[Group]
+    running: Dict[int, Group] = {}
+    since = dict.fromkeys(range(device.luns), 0)
+    bus = 0
+    while waiting or running:
+        one = min(all_next(device, waiting, running, since, bus), key=lambda each: (each.start, -rank(each)))
+        if one.begins:
+            running[one.lun] = one.group
+            groups.append(one.group)
+            waiting = [want for want in waiting if want not in one.group.members]
+        bus = since[one.lun] = one.group.place(one.start)
+        if one.group.is_over():
+            del running[one.lun]
+    return Planned(bus, groups)
+
+
+def best_of_ranks(device: Device, wants: Sequence[Want]) -> Planned:
+    """For each batch the schedule that ends first of those by all ranks, and by round robin."""
+    plans = [ranked(device, wants, rank) for rank in RANKS]
+    plans += [round_robin(device, wants), round_robin_commands_first(device, wants)]
+    return min(plans, key=lambda planned: planned.finish)
+
+
 def next_turn(
     device: Device,
     waiting: List[Want],
