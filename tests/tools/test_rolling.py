@@ -303,7 +303,7 @@ class Tables(unittest.TestCase):
 
     def test_each_table_has_a_cell_for_each_column(self) -> None:
         whole = whole_tables([one._replace(configuration=of) for of, one in zip(ALL, measured_by({"plan": [90.0] * 216}))], list(WAYS))
-        quick = quick_tables([measured_by({"plan": [90.0] * size}) for size in (12, 4, 2)])
+        quick = quick_tables([measured_by({"plan": [90.0] * size}) for size in (12, 6, 3)])
         for lines in (whole, quick):
             tables = [part.splitlines() for part in "\n".join(lines).split("\n\n")]
             self.assertGreaterEqual(len(tables), 4)

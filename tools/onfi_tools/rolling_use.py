@@ -97,17 +97,19 @@ class Rows:
 
     def __init__(self, path: Optional[Path]) -> None:
         self.path = path
-        self.found: Dict[Key, Figures] = {}
+        self.found: Dict[Key, Figures] = {}  # also where there is no file: what is asked for twice is run once
         if path and path.is_file():
             names, *rows = csv.reader(path.read_text().splitlines())
             start = names.index("answered")
             self.found = {tuple(row[:start]): dict(zip(names[start:], map(float, row[start:]))) for row in rows}
 
     def keep(self, key: Key, figures: Figures) -> None:
-        if not self.path or key in self.found:
+        if key in self.found:
             return
         head = "" if self.found else ",".join([*Configuration._fields, "way", "requests", "seed", "limit", *figures]) + "\n"
         self.found[key] = figures
+        if not self.path:
+            return
         with open(self.path, "a") as file:
             file.write(head + ",".join([*key, *map(str, figures.values())]) + "\n")
 
@@ -131,12 +133,12 @@ ALL = [
     for parts in itertools.product(("slc", "tlc", "qlc"), WORKLOADS, (20, 2, 0.833), (2, 4, 8), (16, 64))
 ]
 ARRAYS = ("0.7-0.9", "0.4-0.7")
-LOADS = (0.04, 0.4)
+LOADS = (0.04, 0.4, 0.7)
 
 
 def readiness(of: Configuration) -> List[Configuration]:
-    """Arrays that end before their stated time, told at once and at the stated time only."""
-    return [of._replace(array=array, told=told) for array in ARRAYS for told in (False, True)]
+    """Arrays that take what is stated, or less, which LUNs tell; where they don't, all is as with the first."""
+    return [of, *(of._replace(array=array) for array in ARRAYS)]
 
 
 def open_loops(of: Configuration) -> List[Configuration]:
@@ -282,21 +284,31 @@ def condition_title(of: Configuration) -> str:
     """What a configuration has beside its twelve-fold title."""
     if of.load:
         return f"{of.title()} at most, {100 * of.load:g} % of the bus"
-    return f"{of.title()}, arrays {of.array}, {'told' if of.told else 'not told'}"
+    return f"{of.title()}, arrays {of.array}"
 
 
-def condition_table(first: str, measured: Sequence[Measured], ways: Sequence[str], name: str) -> List[str]:
-    rows = [[condition_title(one.configuration), *(f"{one.by_way[way][name]:,.0f}" for way in ways)] for one in measured]
+def condition_table(first: str, measured: Sequence[Measured], ways: Sequence[str], cell: Callable[[Measured, str], str]) -> List[str]:
+    rows = [[condition_title(one.configuration), *(cell(one, way) for way in ways)] for one in measured]
     return table(first, [WAYS[way] for way in ways], rows)
+
+
+def rate_cell(one: Measured, way: str) -> str:
+    figures = one.by_way[way]
+    return f"{figures['rate']:,.0f}; {figures['read_99']:,.0f}"
+
+
+def loop_cell(one: Measured, way: str) -> str:
+    figures = one.by_way[way]
+    return "; ".join(f"{figures[f'{kind}_mean']:,.0f} / {figures[f'{kind}_99']:,.0f}" for kind in ("read", "program"))
 
 
 SOME = ["rfirst:8", BASE, "plan", *SETTINGS]
 
 
 def measure_quick(program: Path, asked: Asked, rows: Rows) -> List[List[Measured]]:
-    """The twelve configurations, early arrays of the first, open loops of the second."""
+    """The twelve configurations, early arrays of two, open loops of one."""
     twelve = measure(program, TWELVE, QUICK, asked, rows)
-    early = measure(program, readiness(TWELVE[0]), SOME, asked, rows)
+    early = measure(program, [*readiness(TWELVE[0]), *readiness(TWELVE[10])], SOME, asked, rows)
     return [twelve, early, measure(program, open_loops(TWELVE[1]), SOME, asked, rows)]
 
 
@@ -310,9 +322,8 @@ def quick_tables(parts: Sequence[Sequence[Measured]]) -> List[str]:
         *cells_table("programs, us: mean / 99 % / 99.9 %", twelve, SOME, latency_cell("program")), "",
         *cells_table("a plan, us in the mean / ms at most; over", twelve, plans, planning_cell), "",
         *cells_table("LUNs that erase at once", [one for one in twelve if one.by_way[BASE]["erasing"]], QUICK, erasing_cell), "",
-        *condition_table("requests a second", early, SOME, "rate"), "",
-        *condition_table("reads' mean, us", loops, SOME, "read_mean"), "",
-        *condition_table("reads' 99 %, us", loops, SOME, "read_99"),
+        *condition_table("requests a second; reads' 99 %, us", early, SOME, rate_cell), "",
+        *condition_table("reads' mean / 99 %; programs', us", loops, SOME, loop_cell),
     ]
 
 
