@@ -60,12 +60,20 @@ static bool is_planned(const driver *d, uint64_t id)
     return false;
 }
 
-/* Which of the queue a plan from now on would take, by their places, and whether one of them isn't planned yet. */
-static bool choose_batch(driver *d, uint64_t now, size_t place[ONFI_WANTS], size_t *count, bool *is_new)
+/* Which of the queue a plan from now on takes, by their places. */
+static uint32_t call_choice(const driver *d, uint64_t now, size_t place[ONFI_WANTS], size_t *count)
 {
     onfi_channel channel = d->channel;
     channel.bus_free = later_of(channel.bus_free, now);
-    uint32_t status = onfi_choose(&channel, d->lun, d->luns, d->queue, d->queued, d->accepted, d->plans.choice, ONFI_WANTS, place, count);
+    if (d->plans.choice == ONE_KIND)
+        return choose_one_kind(d, &channel, place, count);
+    return onfi_choose(&channel, d->lun, d->luns, d->queue, d->queued, d->accepted, d->plans.choice, ONFI_WANTS, place, count);
+}
+
+/* The same, and whether one of them isn't planned yet. */
+static bool choose_batch(driver *d, uint64_t now, size_t place[ONFI_WANTS], size_t *count, bool *is_new)
+{
+    uint32_t status = call_choice(d, now, place, count);
     *is_new = false;
     for (size_t at = 0; status == ONFI_DONE && at < *count; at++)
         *is_new = *is_new || !is_planned(d, d->queue[place[at]].id);
@@ -101,10 +109,10 @@ static double mean_age(const driver *d, const size_t *place, uint64_t now)
     return sum > count ? sum / count : 1;
 }
 
-/* 8, and 32 times the square of its age in mean ages: what waits long can't be last in every plan. */
-static uint16_t weight_of(const driver *d, uint64_t age, double mean)
+/* 8, and 32 times the square of its age in mean ages: what waits long can't be last in every plan. Reads may count for more. */
+static uint16_t weight_of(const driver *d, uint64_t age, double mean, uint8_t kind)
 {
-    double share = (double)age / mean, weight = 8 + 32 * share * share;
+    double share = (double)age / mean, weight = (8 + 32 * share * share) * (kind == ONFI_READ ? d->plans.reads : 1);
     if (!d->plans.by_age)
         return 1;
     return weight < UINT16_MAX ? (uint16_t)weight : UINT16_MAX;
@@ -113,13 +121,13 @@ static uint16_t weight_of(const driver *d, uint64_t age, double mean)
 static void weigh_running(const driver *d, unsigned lun, uint64_t now, double mean, onfi_weights *made)
 {
     for (unsigned at = 0; at < d->lun[lun].members; at++)
-        made->running[lun][at] = weight_of(d, now - d->member_arrived[lun][at], mean);
+        made->running[lun][at] = weight_of(d, now - d->member_arrived[lun][at], mean, d->lun[lun].member[at].kind);
 }
 
 static void weigh_waiting(const driver *d, const size_t *place, uint64_t now, double mean, onfi_weights *made)
 {
     for (size_t at = 0; at < d->batched; at++)
-        made->want[at] = weight_of(d, now - d->arrived[place[at]], mean);
+        made->want[at] = weight_of(d, now - d->arrived[place[at]], mean, d->batch[at].kind);
 }
 
 static onfi_weights weights_of(const driver *d, const size_t *place, uint64_t now)

@@ -2,6 +2,7 @@
  * What the files of this driver share; firmware.c says what it is.
  *
  *   firmware.c         the driver: the pattern
+ *   firmware_choice.c  a choice of its own, of one kind a LUN
  *   firmware_greedy.c  a greedy way in its place, to compare with
  *   firmware_board.c   a mock of a board: the bus judged by a table of its own
  *   firmware_host.c    requests by a seed
@@ -42,11 +43,14 @@ struct onfi_bus {
 
 /* The driver. */
 
+enum { ONE_KIND = 255 }; /* a choice of the driver's own, beside those of the library */
+
 /* How it plans. */
 typedef struct {
-    uint8_t choice; /* an onfi_choice */
+    uint8_t choice; /* an onfi_choice, or ONE_KIND */
     bool early;     /* requests end early */
     bool by_age;    /* the older a request, the more it counts */
+    uint8_t reads;  /* how many times as much a read counts then */
     uint16_t slack; /* by how many thousandths a plan may end later for that */
     uint32_t limit; /* of nodes in a search */
 } planning;
@@ -87,6 +91,9 @@ bool driver_run(driver *d, const onfi_phase *phase, uint64_t start, uint8_t *pag
 /* The same two without plans. */
 bool greedy_next(driver *d, uint64_t now, onfi_phase *phase);
 bool greedy_run(driver *d, const onfi_phase *phase, uint64_t start, uint8_t *page);
+
+/* Chooses requests of one kind for each LUN, by their places in the queue; gives a status. */
+uint32_t choose_one_kind(const driver *d, const onfi_channel *channel, size_t chosen[ONFI_WANTS], size_t *count);
 
 /* What both have from firmware.c. */
 uint64_t later_of(uint64_t one, uint64_t other);

@@ -18,9 +18,9 @@
  *   seconds   of simulated time, in place of requests    0: as many as are asked for
  *   seed      of all that is random                      1
  *   way       both, plans, greedy                        both
- *   choice    by-lun, in-order, reads-first              by-lun
+ *   choice    by-lun, in-order, reads-first, one-kind    by-lun
  *   plan      early: requests end early; within: no      early
- *   weights   age, equal                                 age
+ *   weights   age, equal; reads: by age, 20 times theirs age
  *   limit     nodes that a search may open               2000
  *   slack     thousandths that an early plan ends later  20
  *   ends      yes prints when each request ends; no      no
@@ -394,8 +394,8 @@ static const struct {
 } CHOSEN[CHOICES] = {
     {"device", {"tlc", "slc", "qlc", ""}},    {"workload", {"mixed", "reads", "sequential", "erases"}},
     {"told", {"yes", "no", "", ""}},          {"way", {"both", "plans", "greedy", ""}},
-    {"choice", {"by-lun", "in-order", "reads-first", ""}}, {"plan", {"early", "within", "", ""}},
-    {"weights", {"age", "equal", "", ""}},    {"ends", {"no", "yes", "", ""}},
+    {"choice", {"by-lun", "in-order", "reads-first", "one-kind"}}, {"plan", {"early", "within", "", ""}},
+    {"weights", {"age", "equal", "reads", ""}}, {"ends", {"no", "yes", "", ""}},
 };
 
 static const device DEVICES[] = {
@@ -469,11 +469,12 @@ static bool put_words(int count, char **texts, words *w)
 
 static planning planning_of(const words *w)
 {
-    static const uint8_t CHOICE_OF[] = {ONFI_BY_LUN, ONFI_IN_ORDER, ONFI_READS_FIRST};
+    static const uint8_t CHOICE_OF[] = {ONFI_BY_LUN, ONFI_IN_ORDER, ONFI_READS_FIRST, ONE_KIND};
     planning made;
     made.choice = CHOICE_OF[w->chosen[CHOICE]];
     made.early = w->chosen[PLAN] == 0;
-    made.by_age = w->chosen[WEIGHTS] == 0;
+    made.by_age = w->chosen[WEIGHTS] != 1;
+    made.reads = w->chosen[WEIGHTS] == 2 ? 20 : 1;
     made.slack = (uint16_t)w->number[SLACK];
     made.limit = (uint32_t)w->number[LIMIT];
     return made;

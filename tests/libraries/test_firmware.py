@@ -23,13 +23,14 @@ EXAMPLES, TRIALS = ROOT / "examples/c", ROOT / "tests/libraries"
 STRICT = ["-Wall", "-Wextra", "-Werror", "-Wpedantic", "-Wconversion"]
 SANE = ["-fsanitize=address,undefined", "-fno-sanitize-recover=all", "-g"]
 C99, CXX = ("cc", "-std=c99", "-xc"), ("c++", "-std=c++17", "-xc++")
-FIRMWARE = ["firmware.c", "firmware_board.c", "firmware_greedy.c", "firmware_host.c", "firmware_main.c"]
+FIRMWARE = ["firmware.c", "firmware_board.c", "firmware_choice.c", "firmware_greedy.c", "firmware_host.c", "firmware_main.c"]
 SSD = ROOT / "examples/python/ssd.py"
 # Runs whose plans are more than 10,000 together: what a loop, a device, a choice and a planner can be.
 RUNS = [
     "requests 500",
     "requests 800 byte 0.833 slack 0 workload erases choice reads-first weights equal",
     "requests 1000 device slc load 0.7 array 0.4-0.7",
+    "requests 300 byte 0.833 depth 256 workload erases choice one-kind weights reads",
     "requests 800 device slc late 700 slow 90 array 0.4-0.7 depth 256 workload sequential",
     "requests 2000 plan within",
     "requests 1500 plan within load 0.5 array 0.7-0.9 told no workload erases luns 2 byte 0.833",
@@ -192,7 +193,12 @@ class Simulated(unittest.TestCase):
     def test_plans_by_choice(self) -> None:
         """The simulator chooses by code of its own, the driver by the library."""
         simulator = rolling_use.build(Path(ROOM.name) / "chosen", LIBRARY)
-        settings = {"plan-near-by-lun": "choice by-lun weights age", "plan-near-reads-first": "choice reads-first weights equal"}
+        settings = {
+            "plan-near-by-lun": "choice by-lun weights age",
+            "plan-near-reads-first": "choice reads-first weights equal",
+            "plan-near-heavy-reads": "choice reads-first weights reads",
+            "plan-near-one-kind": "choice one-kind weights reads",
+        }
         for way, setting in settings.items():
             for words in SIMULATED:
                 both = [*words.split(), "requests", "100", "limit", "2000"]
