@@ -1,169 +1,227 @@
-//! What is left of a run costs at least.
+//! What a run costs at least behind each move of a node. No sum wraps: all times of a problem are below 2^62 ns.
+
+ghost use Rattle.std.specs.Prelude.{◌<◌, ◌≤◌, ◌^◌};
 
 use crate::aim::Aim;
-use arrayvec::ArrayVec;
-use onfi_problem::{Lun, Problem};
-use onfi_timing::{Kind, Spans, Timing};
+use crate::line::Line;
+use crate::rest::{Posts, Rest, commands_left};
+use onfi_group::Group;
+use onfi_problem::{Move, Problem};
+use onfi_timing::Kind;
 
-/// No run of the problem has its posts cost less.
-pub fn least_cost(problem: &Problem, aim: &Aim) -> u128 {
-    let timing = problem.timing();
-    let reads = least_cost_of(problem, &timing, aim, Kind::Read);
-    let programs = least_cost_of(problem, &timing, aim, Kind::Program);
-    let erases = least_cost_of(problem, &timing, aim, Kind::Erase);
-    reads.saturating_add(programs).saturating_add(erases)
-}
-
-// .. those of a kind, one behind another.
-fn least_cost_of(problem: &Problem, timing: &Timing, aim: &Aim, kind: Kind) -> u128 {
-    let mut line = Line::new(timing.spans(kind));
-    for lun in 0..problem.lun_count() as u8 {
-        line.add_lun(problem, timing, aim, kind, lun);
-    }
-    line.cost()
-}
-
-// The commands and posts of a kind that are left, each as early as its LUN lets it end.
+/// What is left to each LUN at a node, and room for what is left behind a move.
 #[derive(Drop)]
-struct Line {
-    spans: Spans,
-    // When the commands of wants end.
-    commands: ArrayVec<u64, 8>,
-    // When the posts of running groups end.
-    posts: ArrayVec<u64, 32>,
-    // What all posts cost, the sum of their ends, and the least of their weights.
+pub struct Floor {
+    luns: [Rest; 8],
+    /// What all posts cost at least.
     cost: u128,
-    sum: u128,
-    least: u16,
+    reads: Line,
+    programs: Line,
+    erases: Line,
 }
 
-impl Line {
-    fn new(spans: Spans) -> Line {
-        Line {
-            spans,
-            commands: ArrayVec::new(),
-            posts: ArrayVec::new(),
+/// A move of a node, whose phase starts and ends then, in ns.
+#[derive(Clone, Copy)]
+pub struct Phase {
+    pub step: Move,
+    pub start: u64,
+    pub end: u64,
+}
+
+impl Floor {
+    /// What is left at a problem.
+    pub fn new(problem: &Problem, aim: &Aim) -> Floor {
+        let mut luns = [Rest::none(0); 8];
+        for (lun, state) in problem.luns().iter().enumerate() {
+            luns[lun] = Rest::of(problem, aim, lun as u8, *state);
+        }
+        Floor {
+            luns,
             cost: 0,
-            sum: 0,
-            least: u16::MAX,
+            reads: Line::new(aim.timing.read),
+            programs: Line::new(aim.timing.program),
+            erases: Line::new(aim.timing.erase),
         }
     }
 
-    // What is left to a LUN.
-    fn add_lun(&mut self, problem: &Problem, timing: &Timing, aim: &Aim, kind: Kind, lun: u8) {
-        let Some(state) = problem.luns().get(lun as usize).copied() else {
-            return;
+    /// What is left to a LUN.
+    pub fn rest_of(&self, lun: u8) -> Rest {
+        self.luns[(lun % 8) as usize]
+    }
+
+    /// So much is left to a LUN.
+    pub fn put(&mut self, lun: u8, rest: Rest) {
+        self.luns[(lun % 8) as usize] = rest;
+    }
+
+    /// Looks at a node from which a move of that LUN was made.
+    pub fn look_at(&mut self, problem: &Problem, aim: &Aim, lun: u8) {
+        if let Some(state) = problem.luns().get(lun as usize) {
+            self.put(lun, Rest::of(problem, aim, lun, *state));
+        }
+        let bus_free = problem.bus_free();
+        self.cost = 0;
+        for lun in 0..problem.lun_count() {
+            let rest = self.luns[lun];
+            let cost = rest.cost_from(rest.ready.max(bus_free));
+            self.cost = self.cost.wrapping_add(cost);
+        }
+    }
+
+    /// A move of the node as the phase that it runs.
+    pub fn phase_of(&self, problem: &Problem, aim: &Aim, step: Move) -> Phase {
+        let rest = &self.luns[(step.lun() % 8) as usize];
+        let start = rest.ready.max(problem.bus_free());
+        let length = match step {
+            Move::Next { .. } => rest.phase,
+            Move::Start { place, .. } => aim.command(place),
         };
-        let free = self.add_group(problem, timing, aim, kind, state);
-        let waiting = problem.waiting();
-        for (at, want) in problem.wants().iter().enumerate() {
-            if waiting[at % 8] && want.lun == lun && want.kind == kind {
-                self.add_want(free, aim.wants[at % 8]);
+        Phase {
+            step,
+            start,
+            end: start.wrapping_add(length),
+        }
+    }
+
+    /// The weight of the request whose post a move of the node is; 0 where it is a command.
+    pub fn weight_of(&self, aim: &Aim, step: Move) -> u16 {
+        let posts = self.luns[(step.lun() % 8) as usize].posts;
+        match step {
+            Move::Next { .. } if posts.is_next() => aim.weight(posts.place, posts.member as usize),
+            _ => 0,
+        }
+    }
+
+    /// What all posts cost at least where a move of the node goes next: each phase as early as its LUN lets it, those of
+    /// other LUNs behind that phase. What is left to its own LUN ends as it would, but behind a start.
+    pub fn cost_apart(&self, problem: &Problem, aim: &Aim, phase: Phase) -> u128 {
+        let own = phase.step.lun() as usize;
+        let bus_free = problem.bus_free();
+        let mut cost = self.cost_of_start(problem, aim, phase.step);
+        for lun in 0..problem.lun_count() {
+            let from = self.luns[lun].ready.max(bus_free);
+            if phase.end > from && lun != own {
+                let late = (phase.end - from) as u128 * self.luns[lun].weights as u128;
+                cost = cost.wrapping_add(late);
+            }
+        }
+        cost.wrapping_add(self.cost)
+    }
+
+    // By how much the posts of a LUN cost more where a group starts than where each want had the LUN to itself; 0 where the
+    // move starts none.
+    fn cost_of_start(&self, problem: &Problem, aim: &Aim, step: Move) -> u128 {
+        let Move::Start { lun, place } = step else {
+            return 0;
+        };
+        let Some(group) = problem.groups().get(place as usize) else {
+            return 0;
+        };
+        let (spans, members) = (aim.timing.spans(group.kind()), group.len() as u8);
+        let mut late = (members as u64 - 1) * (spans.cmd + spans.gap);
+        let mut others = self.rest_of(lun).weights;
+        let mut more = 0u128;
+        for member in 0..members {
+            let weight = aim.weight(place, member as usize);
+            more = more.wrapping_add(weight as u128 * late as u128);
+            late = late.wrapping_add(spans.post);
+            others = others.saturating_sub(weight as u64);
+        }
+        let takes = commands_left(&spans, members) + spans.post * members as u64;
+        more.wrapping_add(others as u128 * takes as u128)
+    }
+
+    /// By how much the posts cost more behind a move of the node where those of a kind take the bus one after another, and
+    /// so do its commands.
+    pub fn more_in_line(&mut self, problem: &Problem, aim: &Aim, phase: Phase) -> u128 {
+        self.reads.clear();
+        self.programs.clear();
+        self.erases.clear();
+        let mut free = [0; 8];
+        self.line_up_others(problem, phase, &mut free);
+        free[(phase.step.lun() % 8) as usize] = self.line_up_own(problem, aim, phase);
+        let started = match phase.step {
+            Move::Next { .. } => [false; 8],
+            Move::Start { place, .. } => aim.wants_of(place),
+        };
+        self.line_up_wants(problem, aim, &started, &free);
+        self.reads
+            .more_in_line()
+            .wrapping_add(self.programs.more_in_line())
+            .wrapping_add(self.erases.more_in_line())
+    }
+
+    // The posts of the groups that run on other LUNs, and from when on each is free, in ns.
+    fn line_up_others(&mut self, problem: &Problem, phase: Phase, free: &mut [u64; 8]) {
+        let own = phase.step.lun() as usize;
+        for lun in 0..problem.lun_count() {
+            if lun != own {
+                let rest = self.luns[lun];
+                let from = rest.ready.max(phase.end);
+                free[lun] = from.wrapping_add(rest.busy);
+                self.line_up(rest.posts, from);
             }
         }
     }
 
-    // What is left of the group that a LUN runs; answers from when on the LUN is free.
-    fn add_group(
+    // The posts that are left to the move's own LUN; from when on it is free, in ns.
+    fn line_up_own(&mut self, problem: &Problem, aim: &Aim, phase: Phase) -> u64 {
+        let rest = self.rest_of(phase.step.lun());
+        let posts = match phase.step {
+            Move::Next { .. } if rest.posts.is_next() => {
+                let post = aim.timing.spans(rest.posts.kind).post;
+                rest.posts.behind_first(aim, post)
+            }
+            Move::Next { .. } => rest.posts,
+            Move::Start { place, .. } => posts_of(problem, aim, place),
+        };
+        self.line_up(posts, phase.start);
+        let post = aim.timing.spans(posts.kind).post;
+        phase
+            .start
+            .wrapping_add(posts.wait)
+            .wrapping_add(post * posts.left as u64)
+    }
+
+    // The posts of a group whose LUN goes on then.
+    fn line_up(&mut self, posts: Posts, from: u64) {
+        if posts.left > 0 {
+            let start = from.wrapping_add(posts.wait);
+            self.line_of(posts.kind)
+                .add_posts(start, posts.left, posts.least);
+        }
+    }
+
+    // The wants that wait and aren't started.
+    fn line_up_wants(
         &mut self,
         problem: &Problem,
-        timing: &Timing,
         aim: &Aim,
-        kind: Kind,
-        state: Lun,
-    ) -> u64 {
-        let from = problem.bus_free().max(state.time);
-        let Some(group) = problem.groups().get(state.place as usize) else {
-            return from;
-        };
-        if state.next == 0 {
-            return from;
-        }
-        let members = group.len() as u64;
-        let next = state.next as u64;
-        let spans = timing.spans(group.kind());
-        let mut free = from.saturating_add(commands_left(&spans, members, next));
-        for member in next.saturating_sub(members)..members {
-            free = free.saturating_add(spans.post);
-            if group.kind() == kind {
-                self.add_post(free, aim.weight(state.place, member as usize));
+        started: &[bool; 8],
+        free: &[u64; 8],
+    ) {
+        let waiting = problem.waiting();
+        for (at, want) in problem.wants().iter().enumerate() {
+            if waiting[at] && !started[at] {
+                let free = free[(want.lun % 8) as usize];
+                self.line_of(want.kind).add_want(free, aim.wants[at]);
             }
         }
-        free
     }
 
-    fn add_post(&mut self, end: u64, weight: u16) {
-        let _full = self.posts.try_push(end);
-        self.count(end, weight);
-    }
-
-    fn add_want(&mut self, free: u64, weight: u16) {
-        let command = free.saturating_add(self.spans.cmd);
-        let _full = self.commands.try_push(command);
-        let post = self.post_behind(command);
-        self.count(post, weight);
-    }
-
-    // When the post of a command ends that ended then.
-    fn post_behind(&self, command: u64) -> u64 {
-        command
-            .saturating_add(self.spans.array)
-            .saturating_add(self.spans.post)
-    }
-
-    fn count(&mut self, end: u64, weight: u16) {
-        self.cost = self
-            .cost
-            .saturating_add((weight as u128).saturating_mul(end as u128));
-        self.sum = self.sum.saturating_add(end as u128);
-        self.least = self.least.min(weight);
-    }
-
-    // The commands take the bus one after another, and so do the posts.
-    fn cost(mut self) -> u128 {
-        let mut posts = self.posts_in_line();
-        let sum = sum_in_line(&mut posts, self.spans.post);
-        let more = sum.saturating_sub(self.sum);
-        self.cost
-            .saturating_add(more.saturating_mul(self.least as u128))
-    }
-
-    // When all posts end, those of wants behind commands that take the bus one after another.
-    fn posts_in_line(&mut self) -> ArrayVec<u64, 40> {
-        let mut posts = ArrayVec::new();
-        for post in self.posts.as_slice() {
-            let _full = posts.try_push(*post);
+    fn line_of(&mut self, kind: Kind) -> &mut Line {
+        match kind {
+            Kind::Read => &mut self.reads,
+            Kind::Program => &mut self.programs,
+            Kind::Erase => &mut self.erases,
         }
-        self.commands.sort_unstable();
-        let mut end = 0u64;
-        for command in self.commands.as_slice() {
-            end = end.saturating_add(self.spans.cmd).max(*command);
-            let _full = posts.try_push(self.post_behind(end));
-        }
-        posts
     }
 }
 
-// How long a group takes from phase `next` on to its first post, in ns; 0 where a post is next.
-fn commands_left(spans: &Spans, members: u64, next: u64) -> u64 {
-    let commands = members.saturating_sub(next);
-    if commands == 0 {
-        return 0;
+// Those of a group that starts.
+fn posts_of(problem: &Problem, aim: &Aim, place: u8) -> Posts {
+    match problem.groups().get(place as usize) {
+        Some(group) => Posts::of(&aim.timing.spans(group.kind()), aim, group, place, 0),
+        None => Posts::none(),
     }
-    let gaps = commands.saturating_sub(1);
-    let phases = commands.saturating_mul(spans.cmd);
-    let waits = gaps.saturating_mul(spans.gap).saturating_add(spans.array);
-    phases.saturating_add(waits)
-}
-
-// The sum of the ends of posts of that length, one behind another.
-fn sum_in_line(posts: &mut ArrayVec<u64, 40>, length: u64) -> u128 {
-    posts.sort_unstable();
-    let mut end = 0u64;
-    let mut sum = 0u128;
-    for post in posts.as_slice() {
-        end = end.saturating_add(length).max(*post);
-        sum = sum.saturating_add(end as u128);
-    }
-    sum
 }

@@ -9,6 +9,7 @@ ghost use Rattle.onfi_early.specs.Cost.{cost};
 
 use crate::aim::Aim;
 use crate::cost::cost_of;
+use crate::floor::Floor;
 use crate::seen::Seen;
 use crate::walk::{Notes, search};
 use crate::weights::Weights;
@@ -122,6 +123,8 @@ fn walk(
         cost,
         left: limit,
         seen: Seen::new(alloc),
+        floor: Floor::new(&at, aim),
+        lun: 0,
     };
     let improved = search(&mut at, &loads, aim, 0, &mut best, &mut notes)?;
     let opened = limit.saturating_sub(notes.left);

@@ -7,8 +7,11 @@ mod children;
 mod cost;
 mod floor;
 mod improving;
+mod line;
+mod rest;
 mod seen;
 mod slack;
+mod times;
 mod walk;
 mod weights;
 

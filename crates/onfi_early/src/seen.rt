@@ -1,5 +1,7 @@
 //! What a walk has seen, so that it doesn't look again where it can find nothing cheaper.
 
+ghost use Rattle.std.specs.Prelude.{◌<◌};
+
 use onfi_problem::Problem;
 use std::alloc::{AllocError, Global};
 use std::collections::HashMap;
@@ -7,13 +9,27 @@ use std::collections::HashMap;
 /// How many nodes with the same left are looked at.
 const MOST_LOOKS: u32 = 64;
 
-/// From when on each LUN may go on at a node, in ns, and what the posts before it cost.
+/// A node: from when on each LUN may go on, in ns, and what the posts before it cost.
 #[derive(Clone, Copy)]
-struct Node {
+pub struct Node {
+    /// A number that is the same where the same is left, and hardly else.
+    key: u64,
     times: [u64; 8],
     cost: u128,
     /// The node before it with the same left.
     older: Option<u32>,
+}
+
+impl Node {
+    /// The node of a problem as it stands, before which posts cost so much.
+    pub fn of(problem: &Problem, cost: u128) -> Node {
+        Node {
+            key: key_of(problem),
+            times: times_of(problem),
+            cost,
+            older: None,
+        }
+    }
 }
 
 /// The nodes that a walk has opened.
@@ -33,22 +49,9 @@ impl Seen {
         }
     }
 
-    /// Whether a node was seen that no run from here can be better than; where none was, this one is kept.
-    ///
-    /// # Errors
-    /// Only where memory was refused.
-    pub fn meets(&mut self, problem: &Problem, cost: u128) -> Result<bool, AllocError> {
-        let key = key_of(problem);
-        let times = times_of(problem);
-        if self.has_better(key, &times, cost) {
-            return Ok(true);
-        }
-        self.keep(key, times, cost)?;
-        Ok(false)
-    }
-
-    fn has_better(&self, key: u64, times: &[u64; 8], cost: u128) -> bool {
-        let mut next = self.newest.get(&key).copied();
+    /// Whether a node was seen that no run from this one can be better than.
+    pub fn has_better(&self, than: &Node) -> bool {
+        let mut next = self.newest.get(&than.key).copied();
         for _ in 0..MOST_LOOKS {
             let Some(number) = next else {
                 return false;
@@ -56,7 +59,7 @@ impl Seen {
             let Some(node) = self.nodes.get(number as usize) else {
                 return false;
             };
-            if node.cost <= cost && are_no_later(&node.times, times) {
+            if node.cost <= than.cost && are_no_later(&node.times, &than.times) {
                 return true;
             }
             next = node.older;
@@ -64,14 +67,18 @@ impl Seen {
         false
     }
 
-    fn keep(&mut self, key: u64, times: [u64; 8], cost: u128) -> Result<(), AllocError> {
+    /// Keeps a node.
+    ///
+    /// # Errors
+    /// Only where memory was refused.
+    pub fn keep(&mut self, node: Node) -> Result<(), AllocError> {
         let Ok(number) = u32::try_from(self.nodes.len()) else {
             return Err(AllocError);
         };
-        let Ok(older) = self.newest.insert(key, number) else {
+        let Ok(older) = self.newest.insert(node.key, number) else {
             return Err(AllocError);
         };
-        self.nodes.push(Node { times, cost, older })?;
+        self.nodes.push(Node { older, ..node })?;
         Ok(())
     }
 }
@@ -88,30 +95,26 @@ fn are_no_later(times: &[u64; 8], others: &[u64; 8]) -> bool {
 
 // From when on each LUN may go on, in ns; 0 where nothing is left to it.
 fn times_of(problem: &Problem) -> [u64; 8] {
+    let wanted = luns_of_wants(problem);
     let mut times = [0; 8];
-    for lun in 0..problem.lun_count() {
-        if has_left(problem, lun) {
-            times[lun] = problem.may_go(lun as u8);
+    for (lun, state) in problem.luns().iter().enumerate() {
+        if state.next > 0 || wanted[lun] {
+            times[lun] = problem.bus_free().max(state.time);
         }
     }
     times
 }
 
-fn has_left(problem: &Problem, lun: usize) -> bool {
-    match problem.luns().get(lun) {
-        Some(state) => state.next > 0 || has_want(problem, lun),
-        None => false,
-    }
-}
-
-fn has_want(problem: &Problem, lun: usize) -> bool {
+// Which LUNs have a want that waits.
+fn luns_of_wants(problem: &Problem) -> [bool; 8] {
     let waiting = problem.waiting();
+    let mut wanted = [false; 8];
     for (at, want) in problem.wants().iter().enumerate() {
-        if waiting[at % 8] && want.lun as usize == lun {
-            return true;
+        if waiting[at] {
+            wanted[(want.lun % 8) as usize] = true;
         }
     }
-    false
+    wanted
 }
 
 // A number that is the same where the same is left, and hardly else.
@@ -125,10 +128,16 @@ fn key_of(problem: &Problem) -> u64 {
         };
         key = mixed(key, code);
     }
-    for mark in problem.waiting() {
-        key = mixed(key, *mark as u64);
+    mixed(key, marked(problem.waiting()))
+}
+
+// The marks as the bits of a number.
+fn marked(marks: &[bool; 8]) -> u64 {
+    let mut number = 0u64;
+    for mark in marks {
+        number = number.wrapping_mul(2) | *mark as u64;
     }
-    key
+    number
 }
 
 fn mixed(key: u64, code: u64) -> u64 {

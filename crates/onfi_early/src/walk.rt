@@ -10,19 +10,23 @@ ghost use Rattle.onfi_early.specs.Steps.{IsFound, IsWalk};
 
 use crate::aim::Aim;
 use crate::children::Children;
-use crate::floor::least_cost;
-use crate::seen::Seen;
+use crate::floor::Floor;
+use crate::seen::{Node, Seen};
 use onfi_bound::Loads;
 use onfi_planner::{Begun, Best};
 use onfi_problem::{Move, Moves, Problem};
 use std::alloc::AllocError;
 
-/// What a walk keeps beside the best run: what that costs, how many nodes may still be opened, and what was seen.
+/// What a walk keeps beside the best run: what that costs, how many nodes may still be opened, what was seen, and what is
+/// left.
 #[derive(Drop)]
 pub struct Notes {
     pub cost: u128,
     pub left: u32,
     pub seen: Seen,
+    pub floor: Floor,
+    /// The LUN of the last move.
+    pub lun: u8,
 }
 
 /// Looks below a node, before which posts cost so much, for a run that costs less than the best and ends in time; tells
@@ -45,15 +49,12 @@ pub fn search(
     }
     notes.left -= 1;
     let bus_free = problem.bus_free();
-    if loads
-        .closing(problem, aim.latest.saturating_add(1))
-        .is_some()
-    {
+    let node = Node::of(problem, cost);
+    let too_late = aim.latest.saturating_add(1);
+    if notes.seen.has_better(&node) || loads.closing(problem, too_late).is_some() {
         return Ok(false);
     }
-    if notes.seen.meets(problem, cost)? {
-        return Ok(false);
-    }
+    notes.seen.keep(node)?;
     let mut moves = Moves::new();
     problem.list_steps(&mut moves);
     if !moves.is_empty() {
@@ -87,7 +88,8 @@ fn search_children(
     ensures found { IfOk result (IsFound problem.old best.old best.new) }
 {
     let listed = moves.as_slice();
-    let mut children = children_of(problem, aim, cost, listed);
+    let mut children = Children::new();
+    list_children(problem, aim, listed, cost, notes, &mut children);
     let mut improved = false;
     for _ in 0..listed.len() {
         let Some(at) = children.take_least(listed.len(), notes.cost) else {
@@ -117,11 +119,14 @@ fn visit(
     ensures found { IfOk result (IsFound problem.old best.old best.new) }
 {
     let start = problem.earliest(step);
-    let weight = aim.weight_of_move(problem, step);
+    let weight = notes.floor.weight_of(aim, step);
+    let rest = notes.floor.rest_of(step.lun());
     let undo = problem.advance(step);
+    notes.lun = step.lun();
     let cost = with_post(cost, weight, problem.bus_free());
     let improved = search(problem, loads, aim, cost, best, notes)?;
     problem.undo(undo);
+    notes.floor.put(step.lun(), rest);
     if improved {
         best.steps.push(Begun { step, start })?;
     }
@@ -129,42 +134,36 @@ fn visit(
 }
 
 // What a run costs at least behind each of the moves that don't yield: one that may go only once all moves of some LUN
-// are over stands behind them.
-fn children_of(problem: &mut Problem, aim: &Aim, cost: u128, listed: &[Move]) -> Children
-    requires few { length listed.now ≤ 87 }
-    requires steps { Each (IsStep problem.old) listed.now }
-    ensures { problem.new ≡ problem.old }
+// are over stands behind them. Where each phase apart costs no less than the best run, nothing is hoped of the move.
+fn list_children(
+    problem: &Problem,
+    aim: &Aim,
+    listed: &[Move],
+    cost: u128,
+    notes: &mut Notes,
+    children: &mut Children,
+)
+    requires { length listed.now ≤ 87 }
 {
-    let until = soonest_end(problem, listed);
-    let mut children = Children::new();
+    notes.floor.look_at(problem, aim, notes.lun);
+    let until = soonest_end(problem, aim, listed, &notes.floor);
     for (at, step) in listed.iter().enumerate() {
-        if problem.earliest(*step) < until {
-            children.put(at, value_of(problem, aim, cost, *step));
+        let phase = notes.floor.phase_of(problem, aim, *step);
+        if phase.start < until {
+            let least = cost.saturating_add(notes.floor.cost_apart(problem, aim, phase));
+            if least < notes.cost {
+                let more = notes.floor.more_in_line(problem, aim, phase);
+                children.put(at, least.saturating_add(more));
+            }
         }
     }
-    children
-}
-
-// What a run costs at least that goes on with a step.
-fn value_of(problem: &mut Problem, aim: &Aim, cost: u128, step: Move) -> u128
-    requires { IsStep problem.old step }
-    ensures { problem.new ≡ problem.old }
-{
-    let weight = aim.weight_of_move(problem, step);
-    let undo = problem.advance(step);
-    let cost = with_post(cost, weight, problem.bus_free());
-    let rest = least_cost(problem, aim);
-    problem.undo(undo);
-    cost.saturating_add(rest)
 }
 
 // By when all moves of a LUN have ended, for the LUN of which they end first, in ns.
-fn soonest_end(problem: &Problem, listed: &[Move]) -> u64
-    requires { Each (IsStep problem.now) listed.now }
-{
+fn soonest_end(problem: &Problem, aim: &Aim, listed: &[Move], floor: &Floor) -> u64 {
     let mut ends = [0; 8];
     for step in listed {
-        let end = problem.end_of(*step);
+        let end = floor.phase_of(problem, aim, *step).end;
         let lun = (step.lun() % 8) as usize;
         ends[lun] = end.max(ends[lun]);
     }

@@ -15,11 +15,6 @@ pub search-returns-clause-found : goal.search-returns-clause-found
 search-returns-clause-found t c =
     at_end c.args.problem.now c.list_steps.new.moves c.args.best.now _ c.bus_free-bus_free.ensures.limits c.list_steps.ensures.moves (eqb-true _ _ (sym c.if-not-is_empty.ensures)) c.bus_free-bus_free.ensures.value c.bus_free-bus_free.ensures.small c.clear.ensures.items
 
-pub search_children-children_of-children-requires-clause-steps : goal.search_children-children_of-children-requires-clause-steps
-search_children-children_of-children-requires-clause-steps t c =
-    let x = c.args.problem.now in
-    subst (All (IsStep x)) (sym c.as_slice-listed.ensures.value) (are_steps x c.args.moves.now c.requires.moves.moves_only c.requires.named)
-
 pub search_children-visit-requires : goal.search_children-visit-requires
 search_children-visit-requires t c =
     let x = c.args.problem.now in
