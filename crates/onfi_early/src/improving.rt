@@ -9,7 +9,7 @@ ghost use Rattle.onfi_early.specs.Cost.{cost};
 
 use crate::aim::Aim;
 use crate::cost::cost_of;
-use crate::floor::Floor;
+use crate::floor::{Floor, least_cost};
 use crate::seen::Seen;
 use crate::walk::{Notes, search};
 use crate::weights::Weights;
@@ -100,7 +100,7 @@ struct Walked {
     opened: u32,
 }
 
-// Walks over the runs of a problem for one that costs less.
+// Walks over the runs of a problem for one that costs less, where there may be one.
 fn walk(
     alloc: Global,
     problem: &Problem,
@@ -113,12 +113,19 @@ fn walk(
     ensures opened { IfOk result (λ walked. walked.opened ≤ limit) }
 {
     let _limits = problem.bus_free();
-    let mut at = problem.copy(alloc)?;
-    let loads = Loads::new(alloc, &at)?;
     let mut best = Best {
         finish: 0,
         steps: Vec::new(alloc),
     };
+    if least_cost(problem, aim) >= cost {
+        return Ok(Walked {
+            best,
+            improved: false,
+            opened: 0,
+        });
+    }
+    let mut at = problem.copy(alloc)?;
+    let loads = Loads::new(alloc, &at)?;
     let mut notes = Notes {
         cost,
         left: limit,

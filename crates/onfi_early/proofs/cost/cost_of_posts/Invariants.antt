@@ -1,5 +1,4 @@
 use Rattle.std.proofs.Common.{◌≡◌, ◌+◌, ◌*◌, ◌^◌, ◌≤◌, drop}
-use Rattle.std.specs.List.{AllByRecursion as All}
 use Rattle.onfi_early.specs.Cost.{posts_cost}
 use Rattle.onfi_early.proofs.cost.cost_of_posts.Given as goal
 

@@ -7,7 +7,5 @@ loop-lun-preserved c =
     let at = c.loop-lun.lun in
     let ts = c.index-rest-lun.result in
     let next = rest_next c.args.timing.now c.args.weights.now c.args.problem.now.problem.luns c.args.rest.now at at c.cost_left-cost.result ts ts c.loop-lun-test.true c.index-rest-lun.is c.cost_left-cost.ensures.value in
-    let so_far = c.loop-lun.invariant.cost in
     let small = c.loop-lun.invariant.small in
-    let few = c.cost_left-cost.ensures.small in
     record { cost = omega arith; small = omega arith }
