@@ -1,4 +1,5 @@
 pub mod Driver
 pub mod Sequencer
 pub mod Turned
+pub mod NoClock
 pub mod Drained
