@@ -1,4 +1,6 @@
 ghost use Rattle.std.specs.Prelude.{◌≡◌, ◌<◌, ◌≤◌};
+ghost use Rattle.onfi_chip.specs.SimChip.{chip_in};
+ghost use Rattle.onfi_core.specs.Queues.{IsFresh};
 
 use crate::batch::{Op, Told, Trouble, request_for, told_by};
 use crate::held::HostEnds;
@@ -68,6 +70,20 @@ impl Bench {
         requires channel { channel < setup.channels }
     {
         let chip = fresh_chip(alloc, setup, trouble)?;
+        Bench::open_on(alloc, setup, channel, chip)
+    }
+
+    /// The same over that chip, as it opened.
+    pub(crate) fn open_on(
+        alloc: Global,
+        setup: Setup,
+        channel: u8,
+        chip: SimChip,
+    ) -> Result<Bench, AllocError>
+        requires hosts { setup.hosts ≡ 4 }
+        requires channel { channel < setup.channels }
+        requires chip { IsFresh setup (chip_in chip) }
+    {
         let ends = Ends::open(alloc, &setup, channel)?;
         let Ends {
             intake,

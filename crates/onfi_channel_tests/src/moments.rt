@@ -1,6 +1,8 @@
 use crate::batch::{NONE, Op, Told};
 use crate::bench::Bench;
+use crate::play::fresh_chip;
 use crate::setup::two_channels;
+use onfi_chip::ArrayTime;
 use onfi_seq::{Drained, Turn};
 use onfi_timing::Kind;
 use std::alloc::AllocError;
@@ -104,5 +106,36 @@ fn at_the_greatest_moment_nothing_waits(rt: HostRuntime) -> Result<(), AllocErro
         bench.gives(&rt, 0, (0, 0), &[ERASED]);
         bench.closes(&rt, [1, 0, 0, 0], 1, 1);
     }
+    Ok(())
+}
+
+#[test]
+fn a_lun_that_is_ready_early_gets_its_status_early(rt: HostRuntime) -> Result<(), AllocError> {
+    let alloc = rt.alloc();
+    let setup = two_channels(&rt, true, 8, 4, 1_000);
+    let time = ArrayTime {
+        lun: 0,
+        number: 0,
+        length: 50_000,
+    };
+    let times = Vec::from_slice(alloc, &[time])?;
+    let chip = fresh_chip(alloc, setup, NONE)?.with_array_times(times);
+    let mut bench = Bench::open_on(alloc, setup, 0, chip)?;
+    bench.sends(&rt, 0, &[Op(Kind::Program, 0, 0, 0, 0xA5)]);
+    bench.turns_at(&rt, &[(0, Turn::Accepted)]);
+    bench.plans_at(&rt, 0, 211_180);
+    let until = Turn::Waits { until: 210_900 };
+    bench.turns_at(&rt, &[(0, Turn::Phase), (0, until)]);
+    bench.plans_at(&rt, 60_800, 61_080);
+    bench.turns_at(
+        &rt,
+        &[
+            (60_800, Turn::Phase),
+            (60_800, Turn::Posted),
+            (60_800, Turn::Idle),
+        ],
+    );
+    bench.gives(&rt, 0, (0, 0), &[Told::Done]);
+    bench.closes(&rt, [1, 0, 0, 0], 1, 1);
     Ok(())
 }
