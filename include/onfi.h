@@ -17,7 +17,7 @@
  *
  * All memory is the caller's, or is asked of malloc and given back before the call returns. Calls keep nothing, start no
  * thread and take no lock; several threads may call at the same time, each with memory of its own. A call takes some tens
- * of kilobytes of stack.
+ * of kilobytes of stack, onfi_plan_early some 110.
  *
  * The shared library is libonfi.so.MAJOR. Within a MAJOR no call, struct or number changes its meaning or goes, and no call
  * asks its caller for more. What may come or change: further calls and numbers of refusals, the texts of numbers, how many
