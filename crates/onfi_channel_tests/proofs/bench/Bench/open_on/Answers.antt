@@ -1,5 +1,5 @@
 use Rattle.onfi_seq.proofs.OtherEnds.{opened}
-use Rattle.onfi_channel_tests.proofs.bench.Bench.open.Goals as goal
+use Rattle.onfi_channel_tests.proofs.bench.Bench.open_on.Goals as goal
 
 pub invariant_of-result : goal.invariant_of-result
 invariant_of-result c =
