@@ -1,5 +1,5 @@
 -- What is read from the parts of a problem.
-use Rattle.std.proofs.Common.{◌≡◌, ℕ, suc, ◌+◌, ◌*◌, ◌-◌, ◌^◌, ◌≤◌, ◌<◌, inl, inr, Bool, true, false, if◌then◌else◌, List, [], ◌∷◌, length, map, Some, refl, ◌∙◌, subst, arith}
+use Rattle.std.proofs.Common.{◌≡◌, ℕ, suc, ◌+◌, ◌*◌, ◌-◌, ◌^◌, ◌≤◌, ◌<◌, inl, inr, Bool, true, false, if◌then◌else◌, List, [], ◌∷◌, length, map, Some, refl, ◌∙◌, subst, arith, get_or}
 use Rattle.std.specs.Prelude.{slice_get, ◌==◌, nat_lt, max}
 use Rattle.std.specs.List.{AllByRecursion as All, list_any}
 use Rattle.std.proofs.lemmas.Bool.{cases_Bool, cases_lt, ne_eqb, lt-ltb, le-ltb}
@@ -21,6 +21,7 @@ use Rattle.onfi_bound.specs.Bounds.{same_kind, commands_next, has_command}
 use Rattle.onfi_bound.specs.Parts.{chain_of, IsShort, is_kind}
 use Rattle.onfi_bound.proofs.Classes.{times_left}
 use Rattle.onfi_problem.proofs.After.{in_table}
+use Rattle.onfi_problem.proofs.Lists.{all_at}
 
 placed_from : (groups : List (List Want)) (luns : List Lun) → ((l : ℕ) (g : List Want) (n r : ℕ) → slice_get (map (state_of groups) luns) l ≡ Some (Running g n r) → 1 ≤ length g) → All (λ lun. 1 ≤ lun.next → lun.place < length groups) luns
 placed_from groups [] h = tt
@@ -29,6 +30,10 @@ placed_from groups (x ∷ luns) h = (λ some. let e : (x.next == 0) ≡ false = 
 -- running LUNs name groups of the table
 pub placed : (p : Problem) (groups : List (List Want)) (luns : List Lun) → InLimits p → map (state_of groups) luns ≡ p.luns → All (λ lun. 1 ≤ lun.next → lun.place < length groups) luns
 placed p groups luns lim e = placed_from groups luns (λ l g n r at. (lim.problem.running l g n r (subst (λ xs. slice_get xs l ≡ Some (Running g n r)) e at)).group.some)
+
+pub place_at : (p : Problem) (groups : List (List Want)) (luns : List Lun) (lun : ℕ) (d : Lun) → InLimits p → map (state_of groups) luns ≡ p.luns
+    → lun < length luns → 1 ≤ (get_or luns lun d).next → (get_or luns lun d).place < length groups
+place_at p groups luns lun d lim e h = all_at (λ (x : Lun). 1 ≤ x.next → x.place < length groups) luns lun d h (placed p groups luns lim e)
 
 running_short : (spans : Spans) (k n : ℕ) → 1 ≤ k → k ≤ 4 → ((k - n) * spans.cmd ≤ 2 ^ 52) × ((2 * k - max n k) * spans.post ≤ 2 ^ 52) × (waits_left spans k n ≤ 2 ^ 52)
 running_short spans k n some few =

@@ -1,4 +1,4 @@
-ghost use Rattle.std.specs.Prelude.{◌≡◌, ℕ, ◌+◌, ◌^◌, ◌<◌, ◌≤◌, length, Option, Some, None, if◌then◌else◌, IfSome};
+ghost use Rattle.std.specs.Prelude.{◌≡◌, ◌+◌, ◌^◌, ◌<◌, length, Option, Some, None, if◌then◌else◌, IfSome};
 ghost use Rattle.onfi_bound.specs.Bounds.{bus, lead, trail, die, least, least_with, post_starts, has_command};
 ghost use Rattle.onfi_timing.specs.declared.kind.Kind.{Kind as AnyKind};
 ghost use Rattle.onfi_problem.specs.Left.{all_commands};

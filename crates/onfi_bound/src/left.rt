@@ -1,4 +1,4 @@
-ghost use Rattle.std.specs.Prelude.{◌≡◌, ℕ, ◌+◌, ◌*◌, ◌^◌, ◌<◌, ◌≤◌, length, map, take, if◌then◌else◌, true, false, []};
+ghost use Rattle.std.specs.Prelude.{◌≡◌, ◌+◌, ◌*◌, ◌^◌, ◌<◌, ◌≤◌, length, map, if◌then◌else◌, true, false, []};
 ghost use Rattle.std.specs.List.{AllByRecursion as Each, list_any};
 ghost use Rattle.onfi_timing.specs.declared.kind.Kind.{Kind as AnyKind};
 ghost use Rattle.onfi_group.specs.Words.{total};

@@ -1,6 +1,6 @@
 //! What the bounds of a node are read from that take no look at each LUN, kept from node to node of a walk.
 
-ghost use Rattle.std.specs.Prelude.{◌≡◌, ℕ, ◌≤◌, ◌↔◌, IsTrue};
+ghost use Rattle.std.specs.Prelude.{◌≡◌, ◌↔◌, IsTrue};
 ghost use Rattle.onfi_problem.specs.Moves.{IsMove, after, move_lun};
 ghost use Rattle.onfi_problem.specs.Position.{lun_named, move_of};
 ghost use Rattle.onfi_bound.specs.Bounds.{bus};

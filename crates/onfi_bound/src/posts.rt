@@ -1,6 +1,6 @@
 //! When the first post of a problem may start.
 
-ghost use Rattle.std.specs.Prelude.{◌≡◌, ℕ, ◌+◌, ◌*◌, ◌^◌, ◌<◌, ◌≤◌, length, map, IfSome};
+ghost use Rattle.std.specs.Prelude.{◌≡◌, ◌+◌, ◌^◌, ◌<◌, ◌≤◌, length, map, IfSome};
 ghost use Rattle.std.specs.List.{AllByRecursion as Each};
 ghost use Rattle.onfi_timing.specs.Kinds.{spans_of};
 ghost use Rattle.onfi_bound.specs.Bounds.{on_lun, least, least_with};

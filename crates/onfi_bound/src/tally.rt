@@ -1,6 +1,6 @@
 //! One walk over the LUNs, from which all bounds are read.
 
-ghost use Rattle.std.specs.Prelude.{◌≡◌, ℕ, ◌+◌, ◌^◌, ◌<◌, ◌≤◌, Some, MatchOption, length, slice_get};
+ghost use Rattle.std.specs.Prelude.{◌≡◌, ℕ, ◌+◌, ◌<◌, ◌≤◌, Some, MatchOption, length, slice_get};
 ghost use Rattle.onfi_problem.specs.Position.{state_of};
 ghost use Rattle.onfi_bound.specs.Bounds.{die};
 ghost use Rattle.onfi_bound.specs.Loads.{IsLoad, IsTally, IsChainAt};

@@ -1,6 +1,6 @@
 //! The waits that the wants of a LUN take, whatever their groups.
 
-ghost use Rattle.std.specs.Prelude.{◌≡◌, ℕ, ◌+◌, ◌*◌, ◌^◌, ◌<◌, ◌≤◌, length, take, ◌↔◌, IsTrue};
+ghost use Rattle.std.specs.Prelude.{◌≡◌, ◌+◌, ◌^◌, ◌<◌, ◌≤◌, length, take};
 ghost use Rattle.std.specs.List.{AllByRecursion as Each};
 ghost use Rattle.onfi_problem.specs.Problem.{IsWant};
 ghost use Rattle.onfi_bound.specs.Bounds.{on_lun, page_class, above_class, in_class, wants_work};

@@ -10,11 +10,6 @@ use Rattle.onfi_breach.specs.declared.breach.Breach.TheVariants.{ForeignLun, Mis
 use Rattle.onfi_breach.specs.Slots.{phases_in}
 use Rattle.onfi_breach.specs.Tells.{Tells, TellsOf, EitherMeets, AnyPair}
 
-pub has_at : (xs : List Slot) (i : ℕ) (d : Slot) → i < length xs → Has xs (slice_index_or xs i d)
-has_at [] i d h = absurd (omega arith)
-has_at (x ∷ xs) zero d h = inl refl
-has_at (x ∷ xs) (suc i) d h = inr (has_at xs i d (omega arith))
-
 has_phase : (xs : List Slot) (o : Slot) → Has xs o → Has (phases_in xs) o.phase
 has_phase [] o h = h
 has_phase (x ∷ xs) o (inl e) = inl (rw e refl)

@@ -1,6 +1,6 @@
 //! From tokens to text.
-ghost use Rattle.std.specs.Prelude.{◌≡◌, ◌≤◌, ◌<◌, ◌⊎◌, ◌↔◌, ◌++◌, All, length, IfOk, IfErr, OnOk};
-ghost use Rattle.onfi_cert.specs.Text.{InRange, IsCertificate, header, joined, line, number, spelling, text_of};
+ghost use Rattle.std.specs.Prelude.{◌≡◌, ◌<◌, ◌⊎◌, ◌↔◌, ◌++◌, All, length, IfOk, IfErr, OnOk};
+ghost use Rattle.onfi_cert.specs.Text.{InRange, IsCertificate, line, number, spelling, text_of};
 
 use crate::fault::CertTextFault;
 use crate::limits::MOST_TOKENS;

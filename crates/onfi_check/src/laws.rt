@@ -1,6 +1,6 @@
 //! What certificates show, once for all.
 
-ghost use Rattle.std.specs.Prelude.{◌≡◌, ℕ, ◌≤◌, List};
+ghost use Rattle.std.specs.Prelude.{◌≡◌, ℕ, List};
 ghost use Rattle.onfi_cert.specs.declared.token.Token.{Token};
 ghost use Rattle.onfi_cert.specs.Text.{IsCertificate};
 ghost use Rattle.onfi_problem.specs.Problem.{Problem, IsProblem};

@@ -1,4 +1,4 @@
-ghost use Rattle.std.specs.Prelude.{◌≡◌, ◌≢◌, ℕ, ◌+◌, ◌≤◌, List, length, false, IsBitSet, IsTrue, OnOk, IfOk, IfErr};
+ghost use Rattle.std.specs.Prelude.{◌≡◌, ◌≢◌, List, length, false, IsBitSet, IsTrue, OnOk, IfOk, IfErr};
 ghost use Rattle.onfi_addr.specs.Rows.{page_bytes_of};
 ghost use Rattle.onfi_timing.specs.declared.kind.Kind.TheVariants as kind;
 ghost use Rattle.onfi_request.specs.declared.answer.Answer.TheVariants as answer;

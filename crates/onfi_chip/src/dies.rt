@@ -38,7 +38,6 @@ impl Dies {
     ghost use Rattle.onfi_addr.specs.declared.place.Place.{Place as APlace};
     ghost use Rattle.onfi_addr.specs.Rows.{IsInRange, row_of, page_bytes_of};
     ghost use Rattle.onfi_timing.specs.Kinds.{spans_of};
-    ghost use Rattle.onfi_request.specs.declared.request.Request.{Request as ARequest};
     ghost use Rattle.onfi_request.specs.Range.{Fits};
     ghost use Rattle.onfi_die.specs.Prepared.{IsAnswerTo};
     ghost use Rattle.onfi_chip.specs.declared.post.Post.{Post as APost};

@@ -1,15 +1,9 @@
 //! What the bounds ask for that close a node, in ns.
 
-ghost use Rattle.std.specs.Prelude.{◌≡◌, ℕ, ◌+◌, ◌-◌, ◌*◌, ◌^◌, ◌≤◌, ◌<◌, Option, Some, IfSome, length, map, slice_get, slice_index_or, []};
-ghost use Rattle.onfi_timing.specs.Kinds.{spans_of};
-ghost use Rattle.onfi_group.specs.Words.{total};
-ghost use Rattle.onfi_problem.specs.Left.{post_time, want_post, all_posts};
-ghost use Rattle.onfi_problem.specs.Position.{state_of, waiting_of};
-ghost use Rattle.onfi_problem.specs.Problem.{Problem as AnyProblem};
-ghost use Rattle.onfi_bound.specs.Bounds.{on_lun, trail, least, least_with};
-ghost use Rattle.onfi_demand.specs.Demand.{of_bus, of_one, bus_demand, lead_demand, trail_demand, die_demand, lead_at};
+ghost use Rattle.std.specs.Prelude.{◌≡◌, ℕ, ◌-◌, ◌<◌, Some, length};
+ghost use Rattle.onfi_bound.specs.Bounds.{trail};
+ghost use Rattle.onfi_demand.specs.Demand.{of_bus, of_one, bus_demand, trail_demand, die_demand};
 ghost use Rattle.onfi_demand.specs.Kept.{IsKept};
-ghost use Rattle.onfi_demand.specs.Work.{left_of, IsShape, IsWork};
 
 use crate::demand::Demand;
 use crate::left::{LunLeft, LunWork};

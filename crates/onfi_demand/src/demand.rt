@@ -1,5 +1,3 @@
-ghost use Rattle.std.specs.Prelude.{◌≡◌};
-
 /// How late a problem must go on at the least, in ns of the channel's clock; 0 asks for nothing.
 #[derive(Clone, Copy, Debug, PartialEq, Eq)]
 pub struct Demand {

@@ -1,12 +1,10 @@
 //! The window bound: phases that start at a time or later and leave some time behind them stand in between.
 
-ghost use Rattle.std.specs.Prelude.{◌≡◌, ◌↔◌, ℕ, ◌+◌, ◌-◌, ◌*◌, ◌^◌, ◌≤◌, ◌<◌, ◌∷◌, [], max, IsTrue, length};
-ghost use Rattle.onfi_problem.specs.Problem.{Problem as AnyProblem};
-ghost use Rattle.onfi_bound.specs.Bounds.{on_lun, wants_work};
+ghost use Rattle.std.specs.Prelude.{◌≡◌, ◌↔◌, ◌+◌, ◌-◌, ◌*◌, ◌^◌, ◌≤◌, ◌<◌, ◌∷◌, [], max, IsTrue, length};
 ghost use Rattle.onfi_demand.specs.Kept.{IsKept};
 ghost use Rattle.onfi_demand.specs.Look.{look_of, phase_at, Sees};
 ghost use Rattle.onfi_demand.specs.Window.{chain_from, group_left, wants_left, phases_left_on, window, window_demand, IsWindow};
-ghost use Rattle.onfi_demand.specs.Work.{IsWork, IsShape};
+ghost use Rattle.onfi_demand.specs.Work.{IsWork};
 
 use crate::demand::Demand;
 use crate::lead::rest_to_post;

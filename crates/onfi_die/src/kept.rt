@@ -2,7 +2,7 @@
 
 ghost use Rattle.std.specs.Prelude.{◌≡◌, ◌<◌, ◌==◌, ◌&&◌};
 ghost use Rattle.std.specs.List.{list_any};
-ghost use Rattle.onfi_die.specs.Contents.{contents_after, answer_of, counted, fails, is_fault};
+ghost use Rattle.onfi_die.specs.Contents.{contents_after, answer_of, is_fault};
 ghost use Rattle.onfi_die.specs.Prepared.{kind_of, HasRoom, IsAnswerTo};
 ghost use Rattle.onfi_die.specs.Requests.{request_of};
 

@@ -1,4 +1,4 @@
-ghost use Rattle.std.specs.Prelude.{◌≡◌, ℕ, ◌<◌, ◌≤◌, length, List, IsTrue, ◌↔◌};
+ghost use Rattle.std.specs.Prelude.{◌≡◌, ◌<◌, ◌≤◌, length, List, IsTrue, ◌↔◌};
 ghost use Rattle.std.specs.List.{insert};
 ghost use Rattle.onfi_group.specs.Group.{IsGroup, kind_of, lun_of, is_member};
 ghost use Rattle.onfi_group.specs.Joining.{joined};

@@ -1,15 +1,12 @@
 //! Tokens that close a node.
 
-ghost use Rattle.std.specs.Prelude.{◌≡◌, ◌≢◌, ℕ, ◌<◌, ◌↔◌, ◌∷◌, IsTrue, IfOk, IfErr, List, Some, slice_get};
+ghost use Rattle.std.specs.Prelude.{◌≢◌, ℕ, ◌<◌, ◌↔◌, ◌∷◌, IsTrue, IfOk, IfErr, List, Some};
 ghost use Rattle.onfi_group.specs.Words.{Pairs};
-ghost use Rattle.onfi_problem.specs.Moves.{IsDone};
-ghost use Rattle.onfi_demand.specs.Demand.{Meets};
 ghost use Rattle.onfi_demand.specs.Kept.{IsKept};
 ghost use Rattle.onfi_demand.specs.declared.demand.Demand.{Demand as OneDemand};
 ghost use Rattle.onfi_known.specs.Closing.{Closes, closing_demand};
 ghost use Rattle.onfi_known.specs.Faults.{FaultFits, IsNameFault};
-ghost use Rattle.onfi_known.specs.Proves.{Describes, IsAgain, times_of};
-ghost use Rattle.onfi_known.specs.declared.known.Known.{Known as OneKnown};
+ghost use Rattle.onfi_known.specs.Proves.{IsAgain};
 ghost use Rattle.onfi_known.specs.declared.token.Token.{Token as OneToken};
 
 use crate::fault::KnownFault;

@@ -1,6 +1,6 @@
 //! What is remembered of nodes.
 
-ghost use Rattle.std.specs.Prelude.{◌≡◌, ◌≤◌, ◌<◌, ◌↔◌, ℕ, IsTrue, length, map, take, []};
+ghost use Rattle.std.specs.Prelude.{◌≡◌, ◌≤◌, ◌<◌, ◌↔◌, IsTrue, length, map, take, []};
 ghost use Rattle.onfi_group.specs.Words.{Pairs};
 ghost use Rattle.onfi_demand.specs.Demand.{Meets};
 ghost use Rattle.onfi_demand.specs.Left.{has_left, left_on, Rest};

@@ -1,10 +1,9 @@
 //! How the LUNs of a node stand while its children are read.
 
-ghost use Rattle.std.specs.Prelude.{◌≡◌, ◌≢◌, ◌≤◌, ◌<◌, ◌^◌, ◌↔◌, ◌∷◌, ◌++◌, ℕ, [], false, List, IfSome, IfNone, IsTrue, OnOk, IfOk, IfErr, length, slice_index, slice_index_or, None, Some};
+ghost use Rattle.std.specs.Prelude.{◌≡◌, ◌≢◌, ◌≤◌, ◌<◌, ◌^◌, ◌↔◌, ℕ, [], false, List, IfSome, IfNone, OnOk, IfErr, length, slice_index, None, Some};
 ghost use Rattle.std.specs.List.{AllByRecursion as Each};
-ghost use Rattle.onfi_problem.specs.Moves.{Move as OneMove, IsMove, move_lun, may_go, after};
-ghost use Rattle.onfi_problem.specs.Problem.{Problem as AnyProblem};
-ghost use Rattle.onfi_check.specs.Ends.{AreLastEnds, IsLastEnd};
+ghost use Rattle.onfi_problem.specs.Moves.{Move as OneMove, IsMove, move_lun, may_go};
+ghost use Rattle.onfi_check.specs.Ends.{AreLastEnds};
 ghost use Rattle.onfi_demand.specs.Asked.{GoesOn};
 ghost use Rattle.onfi_known.specs.Faults.{IsYieldFault};
 ghost use Rattle.onfi_known.specs.Proves.{FitTimes, MayYield, Yielded, with_yields};

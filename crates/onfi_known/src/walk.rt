@@ -1,12 +1,11 @@
 //! The walk over the tokens of a tree.
 
-ghost use Rattle.std.specs.Prelude.{◌≡◌, ◌⊎◌, ◌≤◌, ◌<◌, ◌^◌, ◌∷◌, ◌+◌, [], List, IfOk, IfErr, OnOk, length};
+ghost use Rattle.std.specs.Prelude.{◌≡◌, ◌⊎◌, ◌≤◌, ◌<◌, ◌^◌, ◌∷◌, ◌+◌, [], IfOk, IfErr, OnOk, length};
 ghost use Rattle.onfi_group.specs.Words.{Pairs};
 ghost use Rattle.std.specs.List.{AllByRecursion as Each};
 ghost use Rattle.onfi_problem.specs.Moves.{AreMoves, IsMove, after};
 ghost use Rattle.onfi_problem.specs.Position.{move_of, moves_of};
 ghost use Rattle.onfi_problem.specs.Starts.{IsNamed};
-ghost use Rattle.onfi_known.specs.declared.token.Token.{Token as OneToken};
 ghost use Rattle.onfi_known.specs.Proves.{Proves, Children, ProvesTokens, Remembers, Grows, Below};
 ghost use Rattle.onfi_known.specs.Faults.{FaultFits, IsTokenFault, OfTokens, ReadOn};
 ghost use Rattle.onfi_known.specs.Refused.{Refuses, RefusesChild, RefusesChildren};

@@ -1,5 +1,4 @@
-ghost use Rattle.std.specs.Prelude.{◌≡◌, List, ℕ, MatchOption};
-ghost use Rattle.onfi_cert.specs.declared.token.Token.{Token as OneToken};
+ghost use Rattle.std.specs.Prelude.{◌≡◌, MatchOption};
 ghost use Rattle.onfi_plan.specs.Certificate.{IsPlain, IsRemembering, Plain, Remembering, certificate_in};
 
 use onfi_cert::Token;

@@ -250,15 +250,18 @@ parts_passed yields moves items i lun s d lt e n q =
     q ∙ (sym (parts_skip yields (take i moves) s lun n) ∙ ap (parts_of yields) (sym t))
 
 -- what each call gives, of all
-all_given : {F X : Type 0} (g : Shared F (ℕ × Unit {0}) (Result X Stop)) (f : F) (Is : KeptMove → X → Type 0) (Are : List KeptMove → List X → Type 0) → Are [] [] → ((s : KeptMove) (steps : List KeptMove) (x : X) (given : List X) → Is s x → Are steps given → Are (s ∷ steps) (x ∷ given))
-    → (steps : List KeptMove) (i : ℕ) (given : List X) → GivesFrom g f i given → length given ≡ length steps → ((k : ℕ) (d : KeptMove) (x : X) → k < length steps → Gives g f (i + k) x → Is (get_or steps k d) x) → Are steps given
+all_given : {F X : Type 0} (g : Shared F (ℕ × Unit {0}) (Result X Stop)) (f : F) (Is : KeptMove → X → Type 0) (Are : List KeptMove → List X → Type 0)
+    → Are [] [] → ((s : KeptMove) (steps : List KeptMove) (x : X) (given : List X) → Is s x → Are steps given → Are (s ∷ steps) (x ∷ given))
+    → (steps : List KeptMove) (i : ℕ) (given : List X) → GivesFrom g f i given → length given ≡ length steps
+    → ((k : ℕ) (d : KeptMove) (x : X) → k < length steps → Gives g f (i + k) x → Is (get_or steps k d) x) → Are steps given
 all_given g f Is Are none one [] i [] a l h = none
 all_given g f Is Are none one [] i (x ∷ given) a l h = absurd (omega arith)
 all_given g f Is Are none one (s ∷ steps) i [] a l h = absurd (omega arith)
 all_given g f Is Are none one (s ∷ steps) i (x ∷ given) a l h =
     let z : i ≡ i + 0 = omega arith in
+    let next : (k : ℕ) → suc i + k ≡ i + suc k = λ k. omega arith in
     one s steps x given (h 0 s x (omega arith) (subst (λ k. Gives g f k x) z a.0))
-    (all_given g f Is Are none one steps (suc i) given a.1 (omega arith) (λ k d y lt b. let e : suc i + k ≡ i + suc k = omega arith in h (suc k) d y (omega arith) (subst (λ k. Gives g f k y) e b)))
+    (all_given g f Is Are none one steps (suc i) given a.1 (omega arith) (λ k d y lt b. h (suc k) d y (omega arith) (subst (λ k. Gives g f k y) (next k) b)))
 
 pub branches_length : (x : Position) (e : ℕ) (yields : List (Option ℕ)) (steps : List KeptMove) (branches : List (Vec Token Global)) → AreBranches x e yields steps (map (λ v. v.items) branches) → length branches ≡ length steps
 branches_length x e yields [] [] a = refl

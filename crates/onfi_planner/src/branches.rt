@@ -1,6 +1,6 @@
 //! The certificate of a split search.
 
-ghost use Rattle.std.specs.Prelude.{◌≡◌, ℕ, ◌≤◌, ◌<◌, IfOk, IfErr, Some, List, Option, [], length, map, slice_index_or};
+ghost use Rattle.std.specs.Prelude.{◌≡◌, ℕ, ◌≤◌, ◌<◌, IfOk, Some, List, Option, length, map, slice_index_or};
 ghost use Rattle.std.specs.List.{AllByRecursion as Each};
 ghost use Rattle.onfi_problem.specs.Moves.{IsMove, AreMoves};
 ghost use Rattle.onfi_problem.specs.Left.{InLimits};

@@ -1,10 +1,10 @@
 //! The schedule that a search begins with.
 
-ghost use Rattle.std.specs.Prelude.{◌≡◌, ℕ, ◌≤◌, ◌<◌, ◌^◌, IfOk, [], length};
+ghost use Rattle.std.specs.Prelude.{◌≡◌, ◌≤◌, ◌<◌, ◌^◌, IfOk, [], length};
 ghost use Rattle.std.specs.List.{AllByRecursion as Each};
-ghost use Rattle.onfi_problem.specs.Moves.{IsMove, AreMoves, move_lun};
+ghost use Rattle.onfi_problem.specs.Moves.{IsMove, AreMoves};
 ghost use Rattle.onfi_problem.specs.Left.{InLimits};
-ghost use Rattle.onfi_problem.specs.Position.{move_of, moves_of, lun_named};
+ghost use Rattle.onfi_problem.specs.Position.{move_of, moves_of};
 ghost use Rattle.onfi_problem.specs.Starts.{IsNamed};
 ghost use Rattle.onfi_check.specs.First.{IsFirstRun, IsFirstChoice, starts_before, wants_started};
 ghost use Rattle.onfi_planner.specs.Planning.{run_of};

@@ -1,6 +1,6 @@
 //! The parts of a problem's tree: what stands below a move of its root that doesn't yield.
 
-ghost use Rattle.std.specs.Prelude.{◌≡◌, ◌≢◌, ◌⊎◌, ℕ, ◌+◌, ◌≤◌, ◌<◌, IfOk, IfErr, List, Option, length, vec_len, slice_index_or};
+ghost use Rattle.std.specs.Prelude.{◌≡◌, ◌⊎◌, ℕ, ◌+◌, ◌≤◌, ◌<◌, IfOk, IfErr, List, Option, length, vec_len, slice_index_or};
 ghost use Rattle.std.specs.List.{AllByRecursion as Each};
 ghost use Rattle.onfi_group.specs.Words.{Has};
 ghost use Rattle.onfi_problem.specs.Moves.{IsMove, AreMoves};

@@ -1,4 +1,4 @@
-ghost use Rattle.std.specs.Prelude.{◌≡◌, ℕ, ◌+◌, ◌≤◌, ◌<◌, IfOk, IfErr, true, false};
+ghost use Rattle.std.specs.Prelude.{◌≡◌, ◌+◌, ◌≤◌, ◌<◌, IfOk, IfErr, true, false};
 ghost use Rattle.onfi_problem.specs.Moves.{IsMove, move_lun};
 ghost use Rattle.onfi_problem.specs.Left.{InLimits};
 ghost use Rattle.onfi_problem.specs.Position.{move_of, moved, lun_named};

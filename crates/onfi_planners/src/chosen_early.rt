@@ -1,6 +1,6 @@
 //! A planner, and whether its plans are made better, that are chosen when a program runs.
 
-ghost use Rattle.std.specs.Prelude.{◌≡◌, ◌≢◌, ◌+◌, ◌≤◌, ◌<◌, ℕ, true, IfOk, IfErr};
+ghost use Rattle.std.specs.Prelude.{◌≡◌, ◌≢◌, ◌+◌, ◌≤◌, ◌<◌, ℕ, IfOk, IfErr};
 ghost use Rattle.onfi_schedule.specs.Schedule.{Legal, finish};
 ghost use Rattle.onfi_check.specs.Nodes.{HasMoreNodes};
 ghost use Rattle.onfi_known.specs.Laws.{NoneBefore};

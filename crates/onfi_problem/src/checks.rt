@@ -1,6 +1,6 @@
 //! Whether what is given is a problem.
 
-ghost use Rattle.std.specs.Prelude.{◌≡◌, ℕ, ◌+◌, ◌<◌, ◌≤◌, ◌↔◌, IsTrue, length};
+ghost use Rattle.std.specs.Prelude.{ℕ, ◌<◌, ◌≤◌, ◌↔◌, IsTrue, length};
 ghost use Rattle.std.specs.List.{AllByRecursion as Each};
 ghost use Rattle.onfi_timing.specs.declared.timing.Timing.{Timing};
 ghost use Rattle.onfi_group.specs.Words.{Pairs};

@@ -1,4 +1,4 @@
-ghost use Rattle.std.specs.Prelude.{◌≡◌, ◌≤◌, ◌<◌, ◌^◌, [], length, slice_index_or};
+ghost use Rattle.std.specs.Prelude.{◌≡◌, ◌<◌, ◌^◌, [], length, slice_index_or};
 ghost use Rattle.onfi_group.specs.Group.{lun_of};
 ghost use Rattle.onfi_problem.specs.Moves.{IsMove, after, may_go, move_lun, Next, Start};
 ghost use Rattle.onfi_problem.specs.Position.{move_of, lun_named};

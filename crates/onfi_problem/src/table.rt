@@ -1,12 +1,11 @@
 //! The groups of a problem, made once.
 
-ghost use Rattle.std.specs.Prelude.{◌≡◌, ◌<◌, ◌≤◌, ◌++◌, List, length, map, slice_index, IfOk};
+ghost use Rattle.std.specs.Prelude.{◌≡◌, ◌<◌, ◌≤◌, ◌++◌, List, length, map, IfOk};
 ghost use Rattle.std.specs.List.{AllByRecursion as Each};
 ghost use Rattle.onfi_request.specs.declared.want.Want.{Want};
 ghost use Rattle.onfi_group.specs.Words.{Pairs};
-ghost use Rattle.onfi_group.specs.Listing.{AreCandidates};
 ghost use Rattle.onfi_problem.specs.Position.{state_of};
-ghost use Rattle.onfi_problem.specs.Kept.{IsTable, IsOwn};
+ghost use Rattle.onfi_problem.specs.Kept.{IsTable};
 ghost use Rattle.onfi_problem.specs.Checks.{AreLuns, IsLun};
 
 use crate::lun_state::LunState;

@@ -1,4 +1,4 @@
-ghost use Rattle.std.specs.Prelude.{◌≡◌, ◌<◌, ℕ, length, IfOk, OnOk, IfSome, IfNone};
+ghost use Rattle.std.specs.Prelude.{◌≡◌, ◌<◌, length, IfOk, OnOk, IfSome, IfNone};
 ghost use Rattle.onfi_queue.specs.Items.{IsNext};
 ghost use Rattle.onfi_queue.specs.Ends.{host_of_seat, with_accepted, with_made, with_returned, fresh_seat, SeatSawEmpty, SeatSettled};
 

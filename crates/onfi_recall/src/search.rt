@@ -1,16 +1,16 @@
 //! The walk that finds the finish, and writes the certificate.
 
-ghost use Rattle.std.specs.Prelude.{◌≡◌, ◌+◌, ◌-◌, ℕ, ◌≤◌, ◌<◌, true, false, [], ◌∷◌, ◌++◌, List, IfOk, OnOk, length, slice_index};
+ghost use Rattle.std.specs.Prelude.{◌≡◌, ◌+◌, ◌-◌, ◌≤◌, ◌<◌, true, false, [], ◌∷◌, ◌++◌, List, IfOk, OnOk, length};
 ghost use Rattle.std.specs.List.{AllByRecursion as Each};
 ghost use Rattle.onfi_group.specs.Words.{Has};
 ghost use Rattle.onfi_problem.specs.Moves.{AreMoves, Move as OneMove};
-ghost use Rattle.onfi_problem.specs.Position.{move_of, moves_of, moved};
+ghost use Rattle.onfi_problem.specs.Position.{move_of, moves_of};
 ghost use Rattle.onfi_problem.specs.Starts.{IsNamed};
 ghost use Rattle.onfi_check.specs.Nodes.{IsOpen};
 ghost use Rattle.onfi_demand.specs.Demand.{of_bus};
 ghost use Rattle.onfi_demand.specs.Kept.{IsKept};
 ghost use Rattle.onfi_recall.specs.Steps.{IsStep};
-ghost use Rattle.onfi_recall.specs.Walks.{Halfway, IsAt, IsFound, IsShown, Visited};
+ghost use Rattle.onfi_recall.specs.Walks.{Halfway, IsAt, IsShown, Visited};
 ghost use Rattle.onfi_recall.specs.declared.notes.Notes.{Notes as AnyNotes};
 ghost use Rattle.onfi_planner.specs.declared.search.Best.{Best as AnyBest};
 

@@ -1,4 +1,4 @@
-ghost use Rattle.std.specs.Prelude.{◌≡◌, ◌++◌, [], ◌∷◌, IfSome, IfNone, IfOk, OnErr};
+ghost use Rattle.std.specs.Prelude.{◌≡◌, ◌++◌, [], IfSome, IfNone, IfOk, OnErr};
 ghost use Rattle.onfi_reply.specs.Ends.{after_collecting, IsFirstOf, SawEmpty, TookIn};
 ghost use Rattle.onfi_reply.specs.Replies.{IsNext};
 

@@ -1,4 +1,4 @@
-ghost use Rattle.std.specs.Prelude.{◌≡◌, ◌++◌, IfErr, OnOk, OnErr};
+ghost use Rattle.std.specs.Prelude.{◌≡◌, IfErr, OnOk, OnErr};
 ghost use Rattle.onfi_reply.specs.Ends.{after_posting, SawFull, Settled, SeatSettled};
 ghost use Rattle.onfi_reply.specs.Replies.{IsNext};
 

@@ -1,4 +1,4 @@
-ghost use Rattle.std.specs.Prelude.{◌≡◌, ◌<◌, ◌++◌, false, true, Some, IfOk, IfErr, OnOk, OnErr, length};
+ghost use Rattle.std.specs.Prelude.{◌≡◌, ◌<◌, false, IfOk, IfErr, OnOk, OnErr};
 ghost use Rattle.onfi_reply.specs.Ends.{fresh_seat, inbox_seat_of, with_posted, with_made, with_returned, SeatSawFull, SeatSettled};
 ghost use Rattle.onfi_reply.specs.Replies.{IsNext};
 

@@ -1,4 +1,4 @@
-ghost use Rattle.std.specs.Prelude.{◌≡◌, ℕ, ◌<◌, ◌≤◌, ◌↔◌, length, IsTrue, IsOk, IsErrOf, MatchResult, Some, None};
+ghost use Rattle.std.specs.Prelude.{◌≡◌, ◌<◌, ◌≤◌, ◌↔◌, length, IsTrue, IsOk, IsErrOf, MatchResult, Some, None};
 ghost use Rattle.onfi_request.specs.Range.{Fits, IsPageFor, IsLengthFor, fault_of};
 
 use crate::request::Request;

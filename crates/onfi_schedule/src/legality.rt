@@ -4,7 +4,7 @@ ghost use Rattle.std.specs.Prelude.{◌≡◌, ◌≤◌, ◌↔◌, IsTrue, len
 ghost use Rattle.std.specs.List.{AllByRecursion as Each};
 ghost use Rattle.onfi_problem.specs.Problem.{IsProblem};
 ghost use Rattle.onfi_schedule.specs.Schedule.{Legal};
-ghost use Rattle.onfi_schedule.specs.Conditions.{Names, HasShape, KeepsBus, KeepsWaits, KeepsTurns, KeepsGroups, states_of, start_count};
+ghost use Rattle.onfi_schedule.specs.Conditions.{Names, KeepsBus, KeepsWaits, KeepsTurns, KeepsGroups, states_of, start_count};
 
 use crate::schedule::Schedule;
 use crate::{chain, groups, phases, shape, since, turns, waits};

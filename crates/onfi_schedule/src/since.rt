@@ -1,6 +1,6 @@
 //! New groups on LUNs that are free.
 
-ghost use Rattle.std.specs.Prelude.{◌≡◌, ◌≤◌, ◌↔◌, IsTrue, List, length};
+ghost use Rattle.std.specs.Prelude.{◌↔◌, IsTrue, List};
 ghost use Rattle.std.specs.List.{AllByRecursion as Each};
 ghost use Rattle.onfi_schedule.specs.Schedule.{StartsFrom};
 ghost use Rattle.onfi_request.specs.declared.want.Want.{Want};

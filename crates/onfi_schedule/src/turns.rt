@@ -1,6 +1,6 @@
 //! The order of groups on one LUN and on one block.
 
-ghost use Rattle.std.specs.Prelude.{◌≡◌, ◌≤◌, ◌↔◌, IsTrue, length};
+ghost use Rattle.std.specs.Prelude.{◌≡◌, ◌↔◌, IsTrue, length};
 ghost use Rattle.std.specs.List.{AllByRecursion as Each};
 ghost use Rattle.onfi_group.specs.Words.{Has, Pairs};
 ghost use Rattle.onfi_schedule.specs.Schedule.{Before, group_phases, TakeTurns};

@@ -2,8 +2,7 @@ use Rattle.std.proofs.Common.{◌≡◌, ◌≤◌, ◌<◌, ◌∙◌, inl, inr
 use Rattle.onfi_problem.specs.declared.moves.Lun.{Lun}
 use Rattle.onfi_problem.specs.Position.{waiting_of}
 use Rattle.onfi_bound.specs.Bounds.{die}
-use Rattle.onfi_bound.proofs.Steps.{all_at}
-use Rattle.onfi_bound.proofs.Parts.{placed}
+use Rattle.onfi_bound.proofs.Parts.{place_at}
 use Rattle.onfi_bound.proofs.Counting.{within_luns}
 use Rattle.onfi_bound.proofs.Ends.{die_small}
 use Rattle.onfi_bound.proofs.Whole.{work_is, die_nothing, die_working, chain_at}
@@ -15,7 +14,7 @@ of-chain-requires c =
     let x = c.args.problem.now in
     let blank : Lun = record { next = 0; place = 0; time = 0 } in
     let within = within_luns x.problem x.groups c.luns.result.now c.luns.ensures.states c.args.lun c.requires in
-    rw c.groups.ensures.value (all_at (λ (lun : Lun). 1 ≤ lun.next → lun.place < length x.groups) c.luns.result.now c.args.lun blank within (placed x.problem x.groups c.luns.result.now c.bus_free-bus_free.ensures.limits c.luns.ensures.states))
+    rw c.groups.ensures.value (place_at x.problem x.groups c.luns.result.now c.args.lun blank c.bus_free-bus_free.ensures.limits c.luns.ensures.states within)
 
 pub returns-then-work-eq0-clause-value : goal.returns-then-work-eq0-clause-value
 returns-then-work-eq0-clause-value c =

@@ -3,8 +3,7 @@ use Rattle.onfi_group.specs.Words.{total}
 use Rattle.onfi_problem.specs.declared.moves.Lun.{Lun}
 use Rattle.onfi_problem.specs.Position.{waiting_of}
 use Rattle.onfi_bound.specs.Commands.{one_of}
-use Rattle.onfi_bound.proofs.Parts.{placed}
-use Rattle.onfi_bound.proofs.Steps.{all_at}
+use Rattle.onfi_bound.proofs.Parts.{place_at}
 use Rattle.onfi_bound.proofs.Counting.{one_lun, all_counted}
 use Rattle.onfi_bound.proofs.commands.Commands.of.Goals as goal
 
@@ -12,7 +11,7 @@ pub with_lun-counts-requires-clause-place : goal.with_lun-counts-requires-clause
 with_lun-counts-requires-clause-place c =
     let x = c.args.problem.now in
     let blank : Lun = record { next = 0; place = 0; time = 0 } in
-    rw c.groups-groups.ensures.value (all_at (λ (lun : Lun). 1 ≤ lun.next → lun.place < length x.groups) c.luns-lun-items.result.now c.loop-lun.lun-index blank c.loop-lun-test.true (placed x.problem x.groups c.luns-lun-items.result.now c.bus_free-limits.ensures.limits c.luns-lun-items.ensures.states))
+    rw c.groups-groups.ensures.value (place_at x.problem x.groups c.luns-lun-items.result.now c.loop-lun.lun-index blank c.bus_free-limits.ensures.limits c.luns-lun-items.ensures.states c.loop-lun-test.true)
 
 pub loop-lun-preserved : goal.loop-lun-preserved
 loop-lun-preserved c =

@@ -1,8 +1,7 @@
 use Rattle.std.proofs.Common.{◌≤◌, ◌<◌, length}
 use Rattle.onfi_problem.specs.declared.moves.Lun.{Lun}
 use Rattle.onfi_bound.proofs.Tallying.{state_at}
-use Rattle.onfi_bound.proofs.Parts.{placed}
-use Rattle.onfi_bound.proofs.Steps.{all_at}
+use Rattle.onfi_bound.proofs.Parts.{place_at}
 use Rattle.onfi_bound.proofs.load.Load.first_die.Goals as goal
 
 abbrev none : Lun
@@ -11,7 +10,7 @@ none = record { next = 0; place = 0; time = 0 }
 pub die-requires-clause-place : goal.die-requires-clause-place
 die-requires-clause-place c =
     let x = c.args.problem.now in
-    all_at (λ (lun : Lun). 1 ≤ lun.next → lun.place < length x.groups) c.luns-state-items.result.now c.loop-lun.lun _ c.loop-lun-test.true (placed x.problem x.groups c.luns-state-items.result.now c.bus_free-limits.ensures.limits c.luns-state-items.ensures.states)
+    place_at x.problem x.groups c.luns-state-items.result.now c.loop-lun.lun none c.bus_free-limits.ensures.limits c.luns-state-items.ensures.states c.loop-lun-test.true
 
 pub die-requires-clause-state : goal.die-requires-clause-state
 die-requires-clause-state c = state_at c.args.problem.now.groups c.luns-state-items.result.now c.args.problem.now.problem.luns c.loop-lun.lun none c.luns-state-items.ensures.states c.loop-lun-test.true

@@ -4,8 +4,7 @@ use Rattle.onfi_problem.specs.declared.moves.Lun.{Lun}
 use Rattle.onfi_problem.specs.Position.{state_of}
 use Rattle.onfi_bound.specs.Loads.{IsTally}
 use Rattle.onfi_bound.proofs.Tallying.{state_at}
-use Rattle.onfi_bound.proofs.Parts.{placed}
-use Rattle.onfi_bound.proofs.Steps.{all_at}
+use Rattle.onfi_bound.proofs.Parts.{place_at}
 use Rattle.onfi_bound.proofs.tally.Tally.of.Goals as goal
 
 abbrev none : Lun
@@ -14,7 +13,7 @@ none = record { next = 0; place = 0; time = 0 }
 pub add_lun-requires-clause-place : goal.add_lun-requires-clause-place
 add_lun-requires-clause-place c =
     let x = c.args.problem.now in
-    all_at (λ (lun : Lun). 1 ≤ lun.next → lun.place < length x.groups) c.luns-state-items.result.now c.loop-lun.lun _ c.loop-lun-test.true (placed x.problem x.groups c.luns-state-items.result.now c.bus_free-limits.ensures.limits c.luns-state-items.ensures.states)
+    place_at x.problem x.groups c.luns-state-items.result.now c.loop-lun.lun none c.bus_free-limits.ensures.limits c.luns-state-items.ensures.states c.loop-lun-test.true
 
 pub add_lun-requires-clause-state : goal.add_lun-requires-clause-state
 add_lun-requires-clause-state c = state_at c.args.problem.now.groups c.luns-state-items.result.now c.args.problem.now.problem.luns c.loop-lun.lun none c.luns-state-items.ensures.states c.loop-lun-test.true
