@@ -1,5 +1,5 @@
 -- A search and what it is written as make an optimal plan.
-use Rattle.std.proofs.Common.{◌≡◌, ℕ, ◌-◌, Bool, List, inl, inr, sym, ap, ◌∙◌, subst, arith, ◌<◌, ◌≤◌, ◌^◌}
+use Rattle.std.proofs.Common.{◌≡◌, ℕ, ◌+◌, ◌-◌, Bool, List, inl, inr, sym, ap, ◌∙◌, subst, arith, ◌<◌, ◌≤◌, ◌^◌}
 use Rattle.std.proofs.lemmas.Bool.{cases_Bool}
 use Rattle.onfi_cert.specs.declared.token.Token.{Token}
 use Rattle.onfi_problem.specs.Problem.{Problem, IsProblem}
@@ -13,8 +13,8 @@ use Rattle.onfi_planner.specs.declared.root.Root.{Root}
 use Rattle.onfi_problem.specs.Position.{Position}
 use Rattle.onfi_problem.specs.Left.{InLimits}
 use Rattle.onfi_check.specs.First.{IsFirstRun}
-use Rattle.onfi_check.specs.Nodes.{HasNodes, HasTreeOf, OpensNodes}
-use Rattle.onfi_planner.specs.Planning.{Searched, HasOpened, Found, IsRoot, run_of, AreRising}
+use Rattle.onfi_check.specs.Nodes.{HasNodes, HasTreeOf, HasMoreNodes, OpensNodes}
+use Rattle.onfi_planner.specs.Planning.{Searched, HasOpened, IsOver, Found, IsRoot, run_of, AreRising}
 use Rattle.onfi_planner.proofs.Rising.{run_rises}
 use Rattle.onfi_planner.proofs.Beginning.{first_is_run}
 use Rattle.onfi_planner.proofs.Grown.{some_nodes}
@@ -65,6 +65,15 @@ nodes_opened x now first e n r opened =
       first_run = (run_of x.groups first.steps.items, r.first_run);
       there = subst (HasNodes first.finish x.problem) z (o.nodes first.finish (omega arith));
     }
+
+-- a search that was over
+pub more_nodes : (x now : Position) (first : Best) (n limit : ℕ) → Ready x now first → IsOver now.problem first.finish 0 n limit →
+    (n ≡ limit) × HasMoreNodes x.problem limit
+more_nodes x now first n limit r over =
+    let o = subst (λ (z : Position). IsOver z.problem first.finish 0 n limit) r.same over in
+    let z : limit - 0 + 1 ≡ limit + 1 = omega arith in
+    let nodes = subst (HasNodes first.finish x.problem) z (o.nodes first.finish (omega arith)) in
+    (o.limit, (first.finish, (run_of x.groups first.steps.items, r.first_run), nodes))
 
 pub some_opened : (p : Problem) (finish e n : ℕ) → HasOpened p finish e 0 n → 1 ≤ n
 some_opened p finish e n o =

@@ -91,7 +91,7 @@ waiting_in (true ∷ bs) (v ∷ ws) w (inl e) = inl e
 waiting_in (true ∷ bs) (v ∷ ws) w (inr h) = inr (waiting_in bs ws w h)
 waiting_in (false ∷ bs) (v ∷ ws) w h = inr (waiting_in bs ws w h)
 
-not_later : (v : Want) (ws : List Want) → All (λ w. v.id < w.id) ws → Has ws v → ⊥
+pub not_later : (v : Want) (ws : List Want) → All (λ w. v.id < w.id) ws → Has ws v → ⊥
 not_later v ws a h = let k = All-has (λ (w : Want). v.id < w.id) ws v a h in omega arith
 
 -- a group whose members all wait has lost no mark
@@ -108,14 +108,14 @@ covered g (false ∷ bs) (w ∷ ws) r f = (
 )
 
 -- who is told to be a member is one
-member_in : (all : List Want) (g : List Want) (w : Want) → Rising all → All (Has all) g → Has all w → is_member g w ≡ true → Has g w
+pub member_in : (all : List Want) (g : List Want) (w : Want) → Rising all → All (Has all) g → Has all w → is_member g w ≡ true → Has g w
 member_in all [] w r h k m = absurd (false≢true m)
 member_in all (v ∷ g) w r h k m = elim (cases_Bool (v.id == w.id)) [
   | inl e ↦ inl (same_by_id all v w r h.0 k (eqb-true v.id w.id e))
   | inr e ↦ (let q : is_member g w ≡ true = rw e at m in inr (member_in all g w r h.1 k q))
 ]
 
-first_of_test : (all ws : List Want) (m : Want) → Rising all → Has all m → All (Has all) ws → waits_first ws m ≡ true → IsFirst ws m
+pub first_of_test : (all ws : List Want) (m : Want) → Rising all → Has all m → All (Has all) ws → waits_first ws m ≡ true → IsFirst ws m
 first_of_test all [] m r hm hw h = absurd (false≢true h)
 first_of_test all (w ∷ ws) m r hm hw h = elim (cases_Bool (on_block m w)) [
   | inl k ↦ (let q : (w.id == m.id) ≡ true = rw k at h in let e = same_by_id all w m r hw.0 hm (eqb-true w.id m.id q) in rw k (ap Some e))

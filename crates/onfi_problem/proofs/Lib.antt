@@ -1,6 +1,7 @@
 pub mod OneList
 pub mod Ranges
 pub mod Steps
+pub mod StartMarks
 pub mod Ordered
 pub mod Firsts
 pub mod Count

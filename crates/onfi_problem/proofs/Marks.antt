@@ -1,13 +1,12 @@
 -- Marks of waiting wants.
-use Rattle.std.proofs.Common.{◌≡◌, ℕ, zero, suc, ◌+◌, ◌≤◌, ◌<◌, inl, inr, Bool, true, false, List, [], ◌∷◌, length, take, drop, get_or, replicate, refl, ap, subst, arith}
+use Rattle.std.proofs.Common.{◌≡◌, ℕ, zero, suc, ◌+◌, ◌≤◌, ◌<◌, inl, inr, Bool, true, false, List, [], ◌∷◌, length, take, get_or, replicate, refl, ap, subst, arith}
 use Rattle.std.specs.Prelude.{slice_set, if◌then◌else◌}
 use Rattle.std.proofs.lemmas.Bool.{cases_Bool}
-use Rattle.std.proofs.lemmas.List.{take_all, drop_more}
+use Rattle.std.proofs.lemmas.List.{take_all}
 use Rattle.onfi_request.specs.declared.want.Want.{Want}
-use Rattle.onfi_group.specs.Group.{is_member, on_block}
+use Rattle.onfi_group.specs.Group.{is_member}
 use Rattle.onfi_problem.specs.Moves.{without}
 use Rattle.onfi_problem.specs.Position.{waiting_of}
-use Rattle.onfi_problem.specs.Starts.{waits_first}
 
 -- the marks once the members of a group among these wants have lost theirs
 abbrev pub left_marks : List Want → List Bool → List Want → List Bool
@@ -61,17 +60,3 @@ pub all_wait : (n : ℕ) (ws : List Want) → length ws ≤ n → waiting_of (re
 all_wait n [] h = refl
 all_wait zero (w ∷ ws) h = absurd (omega arith)
 all_wait (suc n) (w ∷ ws) h = ap (λ z. w ∷ z) (all_wait n ws (omega arith))
-
--- a want that does not wait is passed over
-pub skip_unmarked : (bs : List Bool) (ws : List Want) (m : Want) (i : ℕ) (b : Bool) (d : Want) → i < length bs → i < length ws → get_or bs i b ≡ false → waits_first (waiting_of (drop i bs) (drop i ws)) m ≡ waits_first (waiting_of (drop (i + 1) bs) (drop (i + 1) ws)) m
-skip_unmarked bs ws m i b d h k e =
-    let p = drop_more bs i b h in
-    let q = drop_more ws i d k in
-    rw (p, q, e) refl
-
--- .. and so is one on another block
-pub skip_other : (bs : List Bool) (ws : List Want) (m : Want) (i : ℕ) (b : Bool) (d : Want) → i < length bs → i < length ws → on_block m (get_or ws i d) ≡ false → waits_first (waiting_of (drop i bs) (drop i ws)) m ≡ waits_first (waiting_of (drop (i + 1) bs) (drop (i + 1) ws)) m
-skip_other bs ws m i b d h k o = elim (cases_Bool (get_or bs i b)) [
-  | inl e ↦ rw (drop_more bs i b h, drop_more ws i d k, e) (rw o refl)
-  | inr e ↦ skip_unmarked bs ws m i b d h k e
-]

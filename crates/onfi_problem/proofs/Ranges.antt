@@ -59,17 +59,19 @@ module _ (wants : List Want) (groups : List (List Want)) (from : ℕ) where
       let q = filter_part (can_start wants) (drop from groups) (place - from) (to - from) p in
       omega arith
 
-  -- a group of the range is of the range's LUN
-  pub lun_in_range : (lun place to : ℕ) → from ≤ place → place < to → to ≤ length groups → All (λ g. lun_of g ≡ lun) (slice_range groups from to) → lun_of (slice_index_or groups place []) ≡ lun
-  lun_in_range lun place to h k l a =
+  -- what holds of the groups of a range holds of the one at a place of it
+  pub at_in_range : (P : List Want → Type 0) (place to : ℕ) → from ≤ place → place < to → to ≤ length groups →
+      All P (slice_range groups from to) → P (slice_index_or groups place [])
+  at_in_range P place to h k l a =
       let i = place - from in
       let n : i < to - from = omega arith in
       let d = length-drop from groups in
       let t = length-take (to - from) (drop from groups) in
-      let p = all_at (λ (g : List Want). lun_of g ≡ lun) (slice_range groups from to) i [] (omega arith) a in
+      let p = all_at P (slice_range groups from to) i [] (omega arith) a in
       let e : from + i ≡ place = omega arith in
-      let q : get_or (slice_range groups from to) i [] ≡ get_or groups place [] = get_or-take (to - from) (drop from groups) i [] n ∙ (get_or-drop from groups i [] ∙ ap (λ z. get_or groups z []) e) in
-      subst (λ (g : List Want). lun_of g ≡ lun) q p
+      let q : get_or (slice_range groups from to) i [] ≡ get_or groups place [] =
+      get_or-take (to - from) (drop from groups) i [] n ∙ (get_or-drop from groups i [] ∙ ap (λ z. get_or groups z []) e) in
+      subst P q p
 
   -- there is room for one move more
   pub room_for : (place to : ℕ) (old moves : List KeptMove) → from ≤ place → place < to → to ≤ length groups → can_start wants (slice_index_or groups place []) ≡ true → moves_of groups moves ≡ moves_of groups old ++ starts wants groups from place → length old + length (starts wants groups from to) ≤ 87 → length moves < 87

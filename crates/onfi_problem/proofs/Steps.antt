@@ -1,6 +1,6 @@
 -- The moves of a position, from its table.
 use Rattle.std.proofs.Common.{◌≡◌, ◌≢◌, ℕ, zero, suc, ◌+◌, ◌-◌, ◌≤◌, ◌<◌, inl, inr, Bool, true, List, [], ◌∷◌, ◌++◌, length, take, drop, get_or, refl, sym, ap, ◌∙◌, arith}
-use Rattle.std.specs.Prelude.{slice_index, slice_range}
+use Rattle.std.specs.Prelude.{slice_index, slice_index_or, slice_range}
 use Rattle.std.specs.List.{AllByRecursion as All}
 use Rattle.std.proofs.lemmas.List.{length-append, length-map, length-take, length-drop, get_or-map, map_push, take_all}
 use Rattle.std.proofs.lemmas.Bool.{eq-eqb, ne_eqb}
@@ -11,6 +11,7 @@ use Rattle.onfi_group.specs.Words.{Has, Pairs}
 use Rattle.onfi_group.specs.Group.{IsStartable, lun_of, mask_of}
 use Rattle.onfi_group.specs.Listing.{IsCandidate, AreCandidates}
 use Rattle.onfi_problem.specs.declared.moves.Lun.{Lun}
+use Rattle.onfi_problem.specs.declared.start_marks.StartMarks.{StartMarks}
 use Rattle.onfi_problem.specs.Problem.{IsWant}
 use Rattle.onfi_problem.specs.declared.moves.Move.{Move as KeptMove}
 use Rattle.onfi_problem.specs.declared.moves.Move.TheVariants.{Next as KeptNext}
@@ -19,6 +20,8 @@ use Rattle.onfi_problem.specs.Position.{Position, waiting_of, state_of, move_of,
 use Rattle.onfi_problem.specs.Kept.{IsKept, IsTable, position_of}
 use Rattle.onfi_problem.specs.Starts.{can_start, starts, IsNamed}
 use Rattle.onfi_problem.proofs.Perm.{All-append, All-has, All-each, All-weaker}
+use Rattle.onfi_problem.specs.StartMarks.{start_marks, are_met}
+use Rattle.onfi_problem.proofs.StartMarks.{met_starts}
 use Rattle.onfi_problem.proofs.Firsts.{startable_of, candidate_of, passes, startable_order}
 use Rattle.onfi_problem.proofs.Ordered.{moves_from, lun_moves, owned, few_moves, room_more, from_more, table_moves, IsListed, owned_few}
 
@@ -30,7 +33,7 @@ Pairs-each R Q (x ∷ xs) h f = (All-each (Q x) xs (λ y k. f x y (inl refl) (in
 abbrev pub own_groups : List (List Want) → List ℕ → ℕ → List (List Want)
 own_groups groups first l = slice_range groups (slice_index first l) (slice_index first (l + 1))
 
-module _ (timing : Timing) (rules : Rules) (bus_free : ℕ) (luns : List Lun) (all : List Want) (marks : List Bool) (groups : List (List Want)) (first : List ℕ) (k : IsKept (position_of timing rules bus_free luns all marks groups)) (t : IsTable rules all (length luns) groups first) where
+module _ (timing : Timing) (rules : Rules) (bus_free : ℕ) (luns : List Lun) (all : List Want) (marks : List Bool) (groups : List (List Want)) (first : List ℕ) (tests : List StartMarks) (k : IsKept (position_of timing rules bus_free luns all marks groups)) (t : IsTable rules all (length luns) groups first tests) where
   abbrev now : Position
   now = position_of timing rules bus_free luns all marks groups
 
@@ -105,6 +108,17 @@ module _ (timing : Timing) (rules : Rules) (bus_free : ℕ) (luns : List Lun) (a
 
   pub luns_of_own : (l : ℕ) → l < length luns → All (λ g. lun_of g ≡ l) (own l)
   luns_of_own l h = (listed l h).lun
+
+  pub own_listed : (l : ℕ) → l < length luns → All (λ g. All (Has all) g) (own l)
+  own_listed l h = All-weaker (IsCandidate rules all l) _ (λ g i. i.listed) (own l) (t.own l h).candidates.only
+
+  -- what the marks of a group tell
+  pub marks_tell : (place : ℕ) (d : StartMarks) → place < length groups → length marks ≡ 8 → All (Has all) (slice_index_or groups place []) →
+      are_met marks (get_or tests place d).asked (get_or tests place d).members ≡ can (slice_index_or groups place [])
+  marks_tell place d h long i =
+      let e : get_or tests place d ≡ start_marks all (get_or groups place []) =
+      ap (λ z. get_or z place d) t.asked ∙ get_or-map (start_marks all) groups place [] d h in
+      rw e (met_starts all (get_or groups place []) marks k.ids i k.limits.problem.ids k.few long)
 
   state_here : (l : ℕ) (d : Lun) → l < length luns → get_or now.problem.luns l (state_of groups d) ≡ state_of groups (get_or luns l d)
   state_here l d h = get_or-map (state_of groups) luns l d (state_of groups d) h

@@ -5,3 +5,4 @@ pub mod Position
 pub mod Kept
 pub mod Checks
 pub mod Starts
+pub mod StartMarks

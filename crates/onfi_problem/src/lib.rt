@@ -12,6 +12,7 @@ mod lun_state;
 mod move_list;
 mod moves;
 mod problem;
+mod start_marks;
 mod table;
 
 pub use fault::ProblemFault;

@@ -12,6 +12,7 @@ use crate::fault::ProblemFault;
 use crate::horizon::reaches_limit;
 use crate::lun_state::LunState;
 use crate::moves::Lun;
+use crate::start_marks::{StartMarks, list_start_marks};
 use crate::table::{list_groups, open_luns};
 use arrayvec::ArrayVec;
 use onfi_group::{Group, Rules};
@@ -33,6 +34,8 @@ pub struct Problem {
     wants: ArrayVec<Want, 8>,
     waiting: [bool; 8],
     groups: Vec<Group>,
+    // What each group asks of the marks of waiting wants.
+    start_marks: Vec<StartMarks>,
     // Where the groups begin that the wants of each LUN can form, and where they end.
     first: [usize; 9],
 }
@@ -46,7 +49,7 @@ impl Model for Problem {
 
     ghost view = { λ p. position_of p.timing p.rules p.bus_free p.luns.items p.wants.items p.waiting p.groups.items };
 
-    ghost invariant = { λ p. IsKept (position_of p.timing p.rules p.bus_free p.luns.items p.wants.items p.waiting p.groups.items) × IsTable p.rules p.wants.items (length p.luns.items) p.groups.items p.first };
+    ghost invariant = { λ p. IsKept (position_of p.timing p.rules p.bus_free p.luns.items p.wants.items p.waiting p.groups.items) × IsTable p.rules p.wants.items (length p.luns.items) p.groups.items p.first p.start_marks.items };
 }
 
 impl Problem {
@@ -107,6 +110,7 @@ impl Problem {
         let mut groups = Vec::new(alloc);
         let luns = open_luns(&mut groups, states, &rules)?;
         let first = list_groups(alloc, &mut groups, wants, states.len(), &rules)?;
+        let start_marks = list_start_marks(alloc, groups.as_slice(), wants)?;
         let wants = inline(wants);
         Ok(Problem {
             timing,
@@ -116,6 +120,7 @@ impl Problem {
             wants,
             waiting: [true; 8],
             groups,
+            start_marks,
             first,
         })
     }
@@ -128,6 +133,7 @@ impl Problem {
         ensures { IfOk result (λ p. p ≡ self.now) }
     {
         let groups = copies(alloc, self.groups.as_slice())?;
+        let start_marks = Vec::from_slice(alloc, self.start_marks.as_slice())?;
         let waiting = self.waiting;
         let first = self.first;
         Ok(Problem {
@@ -138,6 +144,7 @@ impl Problem {
             wants: inline(self.wants.as_slice()),
             waiting,
             groups,
+            start_marks,
             first,
         })
     }

@@ -1,11 +1,11 @@
 //! The groups of a problem, made once.
 
-ghost use Rattle.std.specs.Prelude.{◌≡◌, ◌<◌, ◌≤◌, ◌++◌, List, length, map, IfOk};
+ghost use Rattle.std.specs.Prelude.{◌≡◌, ℕ, ◌<◌, ◌≤◌, ◌++◌, List, length, map, slice_index, IfOk};
 ghost use Rattle.std.specs.List.{AllByRecursion as Each};
 ghost use Rattle.onfi_request.specs.declared.want.Want.{Want};
 ghost use Rattle.onfi_group.specs.Words.{Pairs};
 ghost use Rattle.onfi_problem.specs.Position.{state_of};
-ghost use Rattle.onfi_problem.specs.Kept.{IsTable};
+ghost use Rattle.onfi_problem.specs.Kept.{IsOwn};
 ghost use Rattle.onfi_problem.specs.Checks.{AreLuns, IsLun};
 
 use crate::lun_state::LunState;
@@ -80,7 +80,8 @@ pub fn list_groups(
     requires few { length wants.now ≤ 8 }
     requires planes { Each (λ w. w.plane ≤ 3) wants.now }
     requires ids { Pairs (λ a b. a.id < b.id) wants.now }
-    ensures table { IfOk result (λ first. IsTable rules.now wants.now luns groups.new.items first) }
+    ensures opened { IfOk result (λ first. slice_index first 0 ≤ 8) }
+    ensures own { IfOk result (λ first. (lun : ℕ) → lun < luns → IsOwn rules.now wants.now groups.new.items first lun) }
     ensures grown { IfOk result (λ first. (more : List (List Want)) × (groups.new.items ≡ groups.old.items ++ more)) }
 {
     let mut first = [groups.len(); 9];

@@ -1,18 +1,17 @@
 //! The moves of a problem, in their order.
 
-ghost use Rattle.std.specs.Prelude.{◌≡◌, ◌+◌, ◌≤◌, ◌<◌, ◌++◌, [], IfOk, IfSome, List, length, slice_range, slice_get};
+ghost use Rattle.std.specs.Prelude.{◌≡◌, ◌+◌, ◌≤◌, ◌<◌, ◌++◌, [], IfOk, IfSome, List, length, slice_range, slice_get, slice_index_or};
 ghost use Rattle.std.specs.List.{AllByRecursion as Each};
 ghost use Rattle.std.specs.Option.{option_map};
-ghost use Rattle.onfi_group.specs.Group.{lun_of, on_block};
+ghost use Rattle.onfi_group.specs.Group.{lun_of};
+ghost use Rattle.onfi_group.specs.Words.{Has};
 ghost use Rattle.onfi_problem.specs.Moves.{Move as OneMove, IsMove, AreMoves};
-ghost use Rattle.onfi_problem.specs.Position.{move_of, moves_of, waiting_of};
-ghost use Rattle.onfi_problem.specs.Starts.{IsNamed, can_start, starts, waits_first};
+ghost use Rattle.onfi_problem.specs.Position.{move_of, moves_of};
+ghost use Rattle.onfi_problem.specs.Starts.{IsNamed, can_start, starts};
 
 use super::Problem;
 use crate::move_list::Moves;
 use crate::moves::Move;
-use onfi_group::Group;
-use onfi_request::Want;
 use std::alloc::{AllocError, Global};
 
 impl Problem {
@@ -82,13 +81,14 @@ impl Problem {
         requires places { to ≤ 256 }
         requires few { lun < 8 }
         requires luns { Each (λ g. lun_of g ≡ lun) (slice_range self.now.groups from to) }
+        requires listed { Each (λ g. Each (Has self.now.all) g) (slice_range self.now.groups from to) }
         requires room { length moves.old + length (starts self.now.problem.wants self.now.groups from to) ≤ 87 }
         ensures moves { let now = self.now in
             moves_of now.groups moves.new ≡ moves_of now.groups moves.old ++ starts now.problem.wants now.groups from to }
         ensures named { Each (IsNamed self.now.groups) moves.old → Each (IsNamed self.now.groups) moves.new }
     {
         for place in from..to {
-            if self.can_start(&self.groups[place]) {
+            if self.can_start(place) {
                 moves.push(Move::Start {
                     lun,
                     place: place as u8,
@@ -97,35 +97,12 @@ impl Problem {
         }
     }
 
-    // Whether each member waits first on its block.
-    fn can_start(&self, group: &Group) -> bool
-        ensures { result ≡ can_start self.now.problem.wants group.now }
+    // Whether each member of the group at that place waits first on its block, which its marks tell.
+    fn can_start(&self, place: usize) -> bool
+        requires within { place < length self.now.groups }
+        requires listed { Each (Has self.now.all) (slice_index_or self.now.groups place []) }
+        ensures { result ≡ can_start self.now.problem.wants (slice_index_or self.now.groups place []) }
     {
-        let waiting = &self.waiting;
-        let wants = self.wants.as_slice();
-        group
-            .members()
-            .iter()
-            .all(|member| waits_first(waiting, wants, member))
+        self.start_marks[place].are_met(&self.waiting)
     }
-}
-
-// Whether it is this want that waits first on its block.
-fn waits_first(waiting: &[bool; 8], wants: &[Want], member: &Want) -> bool
-    requires { length wants.now ≤ 8 }
-    ensures { result ≡ waits_first (waiting_of waiting.now wants.now) member.now }
-{
-    for (i, want) in wants.iter().enumerate() {
-        if is_on_block(member, want) && waiting[i] {
-            return want.id == member.id;
-        }
-    }
-    false
-}
-
-// Whether a want is on the member's block.
-fn is_on_block(member: &Want, want: &Want) -> bool
-    ensures { result ≡ on_block member.now want.now }
-{
-    want.lun == member.lun && want.block == member.block
 }

@@ -1,6 +1,6 @@
-use Rattle.std.proofs.Common.{◌≤◌, sym, subst}
+use Rattle.std.proofs.Common.{◌≡◌, ◌≤◌, ◌∙◌, sym, subst}
 use Rattle.onfi_check.specs.Nodes.{OpensNodes}
-use Rattle.onfi_planner.proofs.Whole.{root_ready, found, nodes_opened, some_opened}
+use Rattle.onfi_planner.proofs.Whole.{root_ready, found, nodes_opened, some_opened, more_nodes}
 use Rattle.onfi_planner.proofs.planning.plan.Goals as goal
 
 pub found_plan-requires-clause-found : goal.found_plan-requires-clause-found
@@ -17,3 +17,11 @@ returns-clause-opened c =
 
 pub returns-clause-some_opened : goal.returns-clause-some_opened
 returns-clause-some_opened c = subst (λ n. 1 ≤ n) (sym c.in-Ok-found_plan.ensures.opened) (some_opened c.in-Ok.root.problem.problem _ _ c.search.new.opened c.in-Ok-search.ensures.opened)
+
+pub returns-in-Err-Over-clause-over : goal.returns-in-Err-Over-clause-over
+returns-in-Err-Over-clause-over c = λ opened e.
+    let r = root_ready c.args.problem.now c.in-Ok.root c.in-Ok.ensures in
+    let over = c.in-Err-Over.ensures.over c.in-Err-Over.field-0-is in
+    let more = more_nodes c.args.problem.now c.in-Ok.root.problem c.in-Ok.root.best c.search.new.opened c.args.limit r over in
+    let same : c.search.new.opened ≡ opened = cc in
+    (sym same ∙ more.0, more.1)

@@ -23,7 +23,10 @@ invariant_of-result c =
     let e : map (state_of groups) luns ≡ c.args.states.now = ap (λ z. map (state_of z) luns) g.1 ∙ c.in_ok-luns.ensures.states g.0 in
     let m = all_wait 8 c.args.wants.now few in
     let n = sym (length-map luns (state_of groups)) ∙ ap length e in
-    rw w (record { limits = rw (e, m) c.requires; few = few; wants = c.requires.problem.wants; ids = c.requires.problem.ids }, rw n c.in_ok-first.ensures.table)
+    rw w (
+      record { limits = rw (e, m) c.requires; few = few; wants = c.requires.problem.wants; ids = c.requires.problem.ids },
+      rw n (record { opened = c.in_ok-first.ensures.opened; own = c.in_ok-first.ensures.own; asked = rw c.as_slice.ensures.value at c.in_ok-start_marks.ensures }),
+    )
 
 pub returns-clause-ok : goal.returns-clause-ok
 returns-clause-ok c =
