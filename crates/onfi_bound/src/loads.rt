@@ -75,11 +75,18 @@ fn marks_from(marks: &[bool; 8], number: usize) -> [bool; 8]
     left
 }
 
-// The number with the marks as its bits, the first one lowest.
+// The number with the marks as its bits, the first one lowest. The marks are taken as the bytes of a number, of which the
+// product puts the one at place i to bit 56 + i, and all others below.
 fn index_of(marks: &[bool; 8]) -> usize {
-    let mut number = 0;
-    for i in 0..8usize {
-        number = number % 128 * 2 + marks[7 - i] as usize;
-    }
-    number
+    let bytes = u64::from_le_bytes([
+        marks[0] as u8,
+        marks[1] as u8,
+        marks[2] as u8,
+        marks[3] as u8,
+        marks[4] as u8,
+        marks[5] as u8,
+        marks[6] as u8,
+        marks[7] as u8,
+    ]);
+    (bytes.wrapping_mul(0x0102_0408_1020_4080) >> 56) as usize
 }

@@ -8,6 +8,7 @@ use onfi_problem::Problem;
 
 /// The first bound that is at least `e` ns, tried in the order bus, lead, trail, then dies by rising LUN; None exactly
 /// where no bound is.
+#[inline(never)]
 pub fn closing(problem: &Problem, e: u64) -> Option<Bound>
     ensures { MatchOption result (NoneReaches problem.now.problem e) (λ bound. IsFirst problem.now.problem e bound) }
 {

@@ -28,6 +28,7 @@ pub struct Tally {
 
 impl Load {
     /// What [`crate::closing`] answers of a problem whose waiting wants these are.
+    #[inline(always)]
     pub fn closing(&self, problem: &Problem, e: u64) -> Option<Bound>
         requires { IsLoad problem.now.problem.timing problem.now.problem.rules problem.now.problem.wants self.now }
         ensures { MatchOption result (NoneReaches problem.now.problem e) (λ bound. IsFirst problem.now.problem e bound) }

@@ -8,6 +8,7 @@ ghost use Rattle.onfi_check.specs.Ends.{AreLastEnds, IsLastEnd, later_of};
 use onfi_problem::{Move, Problem};
 
 /// For each LUN by when its moves end, in ns, where each starts at its earliest; None where it has no move.
+#[inline(always)]
 pub fn last_ends(problem: &Problem, moves: &[Move]) -> [Option<u64>; 8]
     requires moves { Each (IsMove problem.now.problem) (moves_of problem.now.groups moves.now) }
     requires luns { Each (λ m. move_lun (move_of problem.now.groups m) ≡ lun_named m) moves.now }

@@ -41,6 +41,7 @@ impl Problem {
     }
 
     /// Makes a move: its phase runs from its earliest start. What it answers takes the move back.
+    #[inline(always)]
     pub fn advance(&mut self, m: Move) -> Undo
         requires step { IsMove self.old.problem (move_of self.old.groups m) }
         requires lun { move_lun (move_of self.old.groups m) ≡ lun_named m }
