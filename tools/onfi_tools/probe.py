@@ -1,0 +1,52 @@
+"""A program of a few files over crates of this repository, run unproved in a folder apart."""
+
+from __future__ import annotations
+
+import shutil
+import subprocess
+from pathlib import Path
+from typing import Dict, Sequence
+
+ROOT = Path(__file__).resolve().parent.parent.parent
+
+
+def lines_below(libraries: Sequence[str]) -> Dict[str, str]:
+    """These libraries and the crates that they stand on, each with its line of crates.txt."""
+    lines = {}
+    for line in (ROOT / "crates.txt").read_text().splitlines():
+        if line and not line.startswith("#"):
+            lines[line.split(":")[0].split()[0]] = line
+    missing = set(libraries) - set(lines)
+    if missing:
+        raise ValueError(f"crates.txt does not list {', '.join(sorted(missing))}")
+    needed = set(libraries)
+    for name in reversed(lines):
+        if name in needed:
+            needed |= {it for it in lines[name].split(":")[1].split() if it in lines}
+    return {name: line for name, line in lines.items() if name in needed}
+
+
+class Probe:
+    """An empty crate in a folder, beside the sources of those that it may use."""
+
+    def __init__(self, folder: Path, name: str, libraries: Sequence[str], kit: Sequence[str] = ()) -> None:
+        """`libraries` are crates of this repository, `kit` those of the kit that the program names."""
+        self.crate = folder / "crates" / name
+        lines = lines_below(libraries)
+        for below in lines:
+            for part in ("src", "specs", "proofs"):
+                if (ROOT / "crates" / below / part).is_dir():
+                    shutil.copytree(ROOT / "crates" / below / part, folder / "crates" / below / part)
+        for part in ("src", "specs", "proofs"):
+            (self.crate / part).mkdir(parents=True)
+        for part in ("specs", "proofs"):
+            (self.crate / part / "Lib.antt").write_text("")
+        shutil.copy(ROOT / "HANDLES", folder / "HANDLES")
+        own = f"{name}: {' '.join([*lines, *kit])}"
+        (folder / "crates.txt").write_text("\n".join([*lines.values(), own]) + "\n")
+
+    def run(self, files: Dict[str, str]) -> "subprocess.CompletedProcess[str]":
+        """Runs the program with these files of its src; nothing is proved."""
+        for name, text in files.items():
+            (self.crate / "src" / name).write_text(text)
+        return subprocess.run(["rt", "try"], cwd=self.crate, capture_output=True, text=True)
