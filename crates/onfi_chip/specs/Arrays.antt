@@ -1,5 +1,6 @@
 -- The arrays of a simulated chip, and how long their operations really take.
-use Rattle.std.specs.Prelude.{ℕ, ◌+◌, ◌==◌, ◌&&◌, min, nat_le, Bool, false, List, Option, Some, None, option_map, find, slice_get, slice_set}
+use Rattle.std.specs.Prelude.{ℕ, ◌+◌, ◌==◌, ◌&&◌, ◌^◌, min, nat_le, nat_lt, if◌then◌else◌, Bool, false, List, Option, Some, None, option_map, option_and_then, find, slice_get, slice_set}
+use Rattle.std.specs.List.{filter_map, reduce}
 use Rattle.onfi_timing.specs.declared.spans.Spans.{Spans}
 use Rattle.onfi_chip.specs.declared.array_time.ArrayTime.{ArrayTime}
 use Rattle.onfi_chip.specs.declared.arrays.LunArray.{LunArray}
@@ -58,3 +59,15 @@ is_done now array = is_wait_over now array.real
 abbrev pub is_done_at : ℕ → Option LunArray → Bool
 is_done_at now None = false
 is_done_at now (Some array) = is_done now array
+
+-- when a wait is over, where that is behind `now` and a moment of 64 bits
+abbrev pub over_behind : ℕ → Wait → Option ℕ
+over_behind now wait = if nat_lt now (over_at wait) && nat_lt (over_at wait) (2 ^ 64) then Some (over_at wait) else None
+
+-- when the operation that runs is done by its real length, where that is behind `now`
+abbrev pub done_behind : ℕ → LunArray → Option ℕ
+done_behind now array = option_and_then (over_behind now) array.real
+
+-- the least of these moments of all LUNs
+abbrev pub next_done : ℕ → List LunArray → Option ℕ
+next_done now arrays = reduce min (filter_map (done_behind now) arrays)

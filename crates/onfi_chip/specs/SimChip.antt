@@ -1,5 +1,5 @@
 -- A simulated chip as a chip, which of its calls fail, and when its LUNs say that they are ready.
-use Rattle.std.specs.Prelude.{◌≡◌, ℕ, ◌||◌, Bool, true, false, ◌↔◌, List, Result, Ok, Err, IsBitSet, slice_get}
+use Rattle.std.specs.Prelude.{◌≡◌, ℕ, ◌||◌, Bool, true, false, ◌↔◌, List, Option, Result, Ok, Err, IsBitSet, slice_get}
 use Rattle.onfi_timing.specs.Kinds.{spans_of}
 use Rattle.onfi_request.specs.declared.request.Request.{Request}
 use Rattle.onfi_chip.specs.declared.array_time.ArrayTime.{ArrayTime}
@@ -10,7 +10,7 @@ use Rattle.onfi_chip.specs.declared.fault.ChipFault.TheVariants.{Bus, Memory}
 use Rattle.onfi_chip.specs.declared.sim.SimChip.{SimChip}
 use Rattle.onfi_chip.specs.Chip.{Chip, Failures}
 use Rattle.onfi_chip.specs.Numbers.{failed, fails_at, one_more}
-use Rattle.onfi_chip.specs.Arrays.{behind, is_done_at, one_over, with_change}
+use Rattle.onfi_chip.specs.Arrays.{behind, is_done_at, next_done, one_over, with_change}
 use Rattle.onfi_chip.specs.Sim.{chip_of, is_over_at}
 
 -- how often a call's bus failed, and how often a status told that its LUN isn't ready
@@ -51,6 +51,10 @@ array_times sim = sim.arrays.times.items
 -- what the array of each LUN does
 abbrev pub arrays_of : SimChip → List LunArray
 arrays_of sim = sim.arrays.luns.items
+
+-- the next moment behind `now` at which an array is done by its real length, which the list has: its LUN says ready from then on
+abbrev pub next_ready : SimChip → ℕ → Option ℕ
+next_ready sim now = next_done now (arrays_of sim)
 
 -- all lists are kept
 pub record KeepsLists (old new : SimChip) : Type 0 where

@@ -110,9 +110,26 @@ impl Arrays {
             None => false,
         }
     }
+
+    /// The next moment behind `now` at which an array is done by its real time.
+    pub(crate) fn next_done(&self, now: u64) -> Option<u64>
+        ensures { result ≡ spec.next_done now self.now.luns.items }
+    {
+        self.luns
+            .iter()
+            .filter_map(|array| array.done_behind(now))
+            .min()
+    }
 }
 
 impl LunArray {
+    /// When the operation that runs is done by its real time, where that is behind `now`.
+    fn done_behind(&self, now: u64) -> Option<u64>
+        ensures { result ≡ spec.done_behind now self.now }
+    {
+        self.real?.over_behind(now)
+    }
+
     /// Whether the operation that runs is done at `now` by its real time.
     fn is_done(&self, now: u64) -> bool
         ensures { result ≡ spec.is_done now self.now }

@@ -39,7 +39,7 @@ pub struct SimChip {
 impl SimChip {
     ghost use Rattle.onfi_chip.specs.Chip.{opened, no_failures};
     ghost use Rattle.onfi_chip.specs.Arrays.{unused};
-    ghost use Rattle.onfi_chip.specs.SimChip.{chip_in, failing_calls, failing_statuses, calls_made, statuses_made, array_times, arrays_of, KeepsCalls};
+    ghost use Rattle.onfi_chip.specs.SimChip.{chip_in, failing_calls, failing_statuses, calls_made, statuses_made, array_times, arrays_of, next_ready, KeepsCalls};
 
     /// A chip of this geometry and timing as it opens: all blocks erased, all LUNs idle. `faults` are the programs and
     /// erases that fail, `calls` the numbers, from 0, of the calls whose bus fails, `statuses` the numbers of the status
@@ -85,6 +85,14 @@ impl SimChip {
             arrays: self.arrays.with_times(times),
             ..self
         }
+    }
+
+    /// The next moment behind `now`, in ns, at which an array is done by its real time: from then on its LUN says that it is
+    /// ready. Of an operation that isn't listed, which takes the stated time, it tells nothing.
+    pub fn next_ready(&self, now: u64) -> Option<u64>
+        ensures { result ≡ next_ready self.now now }
+    {
+        self.arrays.next_done(now)
     }
 }
 

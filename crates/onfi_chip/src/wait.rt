@@ -1,5 +1,6 @@
 ghost use Rattle.std.specs.Prelude.{◌≡◌, min, nat_le};
 ghost use Rattle.onfi_chip.specs.Sim.{over_at};
+ghost use Rattle.onfi_chip.specs.Arrays.{over_behind};
 
 /// A wait: it is over `length` ns behind the moment `from`.
 #[derive(Clone, Copy, Debug)]
@@ -14,6 +15,14 @@ impl Wait {
         ensures { result ≡ nat_le (over_at self.now) now }
     {
         now >= self.from && now - self.from >= self.length
+    }
+
+    /// When it is over, where that is behind `now` and a moment.
+    pub(crate) fn over_behind(&self, now: u64) -> Option<u64>
+        ensures { result ≡ over_behind now self.now }
+    {
+        let over = self.from.checked_add(self.length)?;
+        if over > now { Some(over) } else { None }
     }
 
     /// The same, but over at `now` at the latest.

@@ -83,6 +83,13 @@ impl<P: Planner, C: Chip> Driver<P, C> {
         &self.half
     }
 
+    /// Its chip, to look at.
+    pub(crate) fn chip(&self) -> &C
+        ensures { result.now ≡ self.now.1 }
+    {
+        &self.chip
+    }
+
     /// Why the channel stopped, if it did.
     pub(crate) fn cause(&self) -> Option<Cause>
         ensures { result ≡ self.now.0.half.stopped }

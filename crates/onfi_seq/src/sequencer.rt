@@ -154,4 +154,11 @@ impl<P: Planner, C: Chip> Sequencer<P, C> {
     {
         self.driver.half().bus_free()
     }
+
+    /// Its chip, to look at: a caller with a clock may ask a simulated one when a LUN will be ready.
+    pub fn chip(&self) -> &C
+        ensures { result.now ≡ self.now.1 }
+    {
+        self.driver.chip()
+    }
 }
