@@ -146,4 +146,12 @@ impl<P: Planner, C: Chip> Sequencer<P, C> {
     {
         self.driver.half().has_phase()
     }
+
+    /// From when on the channel's bus is free, in ns of the channel's clock: behind a phase that is its end. A caller with a
+    /// clock makes no turn before: it would plan for a bus that is busy.
+    pub fn bus_free(&self) -> u64
+        ensures { result ≡ self.now.0.half.now.bus_free }
+    {
+        self.driver.half().bus_free()
+    }
 }
