@@ -16,9 +16,9 @@ use Rattle.onfi_console.specs.declared.asked.Asked.{Asked}
 use Rattle.onfi_console.specs.declared.asked.Named.{Named}
 use Rattle.onfi_console.specs.declared.asked.Named.TheVariants.{Problem, Run}
 
--- `--NAME N`
-abbrev pub number : List ℕ → Rule
-number name = record (new_rule name) { long = Some name; action = Some Set; value_names = 1 }
+-- `--NAME VALUE`
+abbrev pub value : List ℕ → Rule
+value name = record (new_rule name) { long = Some name; action = Some Set; value_names = 1 }
 
 -- `--NAME`
 abbrev pub flag : List ℕ → Rule
@@ -37,15 +37,15 @@ command name = new_app name
 
 -- `plan [--limit N] [--trace] [--requests]`
 abbrev pub plan_output : App
-plan_output = with_rule (with_rule (with_rule (command (codes "plan")) (number (codes "limit"))) (flag (codes "trace"))) (flag (codes "requests"))
+plan_output = with_rule (with_rule (with_rule (command (codes "plan")) (value (codes "limit"))) (flag (codes "trace"))) (flag (codes "requests"))
 
 -- .. with `[--workers N] [--remember] [--within]`
 abbrev pub plan_search : App
-plan_search = with_rule (with_rule (with_rule plan_output (number (codes "workers"))) (flag (codes "remember"))) (flag (codes "within"))
+plan_search = with_rule (with_rule (with_rule plan_output (value (codes "workers"))) (flag (codes "remember"))) (flag (codes "within"))
 
 -- .. with `[--early] [--slack N]`
 abbrev pub plan_early : App
-plan_early = with_rule (with_rule plan_search (flag (codes "early"))) (number (codes "slack"))
+plan_early = with_rule (with_rule plan_search (flag (codes "early"))) (value (codes "slack"))
 
 -- .. with `[--quiet] [FILE]`
 abbrev pub plan : App
@@ -61,11 +61,11 @@ check = with_rule (with_rule (with_rule check_judging quiet) (file (codes "FILE"
 
 -- `run [--limit N] [--plain] [--within] [--slack N]`
 abbrev pub run_search : App
-run_search = with_rule (with_rule (with_rule (with_rule (command (codes "run")) (number (codes "limit"))) (flag (codes "plain"))) (flag (codes "within"))) (number (codes "slack"))
+run_search = with_rule (with_rule (with_rule (with_rule (command (codes "run")) (value (codes "limit"))) (flag (codes "plain"))) (flag (codes "within"))) (value (codes "slack"))
 
--- .. with `[--quiet] [FILE]`
+-- .. with `[--clock CLOCK] [--quiet] [FILE]`
 abbrev pub run : App
-run = with_rule (with_rule run_search quiet) (file (codes "FILE"))
+run = with_rule (with_rule (with_rule run_search (value (codes "clock"))) quiet) (file (codes "FILE"))
 
 abbrev pub program : App
 program = record (command (codes "onfi_sim")) { top = record (command (codes "onfi_sim")).top { has_version = true } }
@@ -118,6 +118,11 @@ IsSlack (Some text) (Some n) = field.number 0 1000 text ≡ Ok n
 abbrev pub IsRunSlack : Option (List ℕ) → Option ℕ → Type 0
 IsRunSlack text slack = (named : Option ℕ) × IsSlack text named × (slack ≡ Some (unwrap_or named 0))
 
+-- the run has a clock: the word that was given is that of the simulated one; none where none was given
+abbrev pub IsClock : Option (List ℕ) → Bool → Type 0
+IsClock None clocked = clocked ≡ false
+IsClock (Some text) clocked = (text ≡ codes "simulated") × (clocked ≡ true)
+
 -- neither `early` nor `slack` is given
 abbrev pub is_late : Option (List ℕ) → Option (List ℕ) → Bool
 is_late early slack = not (is_given early) && not (is_some slack)
@@ -146,7 +151,7 @@ early_command finding slack limit out = if slack == 0 then PlanEarly limit out f
 -- limits are 1 to 1,048,576, workers 1 to 8
 abbrev pub IsInRange : Named → Type 0
 IsInRange (Problem command workers) = IsLimited command × (1 ≤ workers) × (workers ≤ 8)
-IsInRange (Run planner limit) = (1 ≤ limit) × (limit ≤ 1048576)
+IsInRange (Run planner limit clocked) = (1 ≤ limit) × (limit ≤ 1048576)
 
 -- the flag or number of this name
 abbrev pub given : List ℕ → List Used → Bool
@@ -178,7 +183,7 @@ IsNamed (Problem (PlanNear limit out within slack) workers) name used = (name �
 IsNamed (Problem (Check remembers) workers) name used = (name ≡ codes "check") × (remembers ≡ given (codes "remember") used) × (given (codes "within") used ≡ false) × (given (codes "legal") used ≡ false) × (workers ≡ 1)
 IsNamed (Problem CheckWithin workers) name used = (name ≡ codes "check") × (given (codes "remember") used ≡ false) × (given (codes "within") used ≡ true) × (given (codes "legal") used ≡ false) × (workers ≡ 1)
 IsNamed (Problem Legal workers) name used = (name ≡ codes "check") × (given (codes "remember") used ≡ false) × (given (codes "within") used ≡ false) × (given (codes "legal") used ≡ true) × (workers ≡ 1)
-IsNamed (Run planner limit) name used = (name ≡ codes "run") × (planner_of (given (codes "plain") used) (given (codes "within") used) ≡ Some planner.planner) × IsRunSlack (first_of (codes "slack") used) planner.slack × IsLimit (usual_of planner.planner) (first_of (codes "limit") used) limit
+IsNamed (Run planner limit clocked) name used = (name ≡ codes "run") × IsClock (first_of (codes "clock") used) clocked × (planner_of (given (codes "plain") used) (given (codes "within") used) ≡ Some planner.planner) × IsRunSlack (first_of (codes "slack") used) planner.slack × IsLimit (usual_of planner.planner) (first_of (codes "limit") used) limit
 
 -- .. with these files, quiet or not
 abbrev pub IsAsked : Asked → List ℕ → List Used → Type 0

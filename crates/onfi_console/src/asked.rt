@@ -6,9 +6,17 @@ use onfi_script::Command;
 pub enum Named {
     /// The problem of a script is planned, or a plan of it checked, by so many workers, 1 to 8; one where none are
     /// named.
-    Problem { command: Command, workers: usize },
-    /// The operations of a script are run; that planner plans each batch, with at most `limit` nodes, 1 to 1,048,576.
-    Run { planner: ChosenEarly, limit: u32 },
+    Problem {
+        command: Command,
+        workers: usize,
+    },
+    /// The operations of a script are run, by a simulated clock or in threads; that planner plans each batch, with at most
+    /// `limit` nodes, 1 to 1,048,576.
+    Run {
+        planner: ChosenEarly,
+        limit: u32,
+        clocked: bool,
+    },
 }
 
 /// What a command line asks for.

@@ -37,6 +37,7 @@ enum ValueFault {
     Slack,
     SlackWithoutEarly,
     WorkersBesideEarly,
+    Clock,
 }
 
 impl ValueFault {
@@ -68,6 +69,7 @@ impl ValueFault {
             ValueFault::WorkersBesideEarly => {
                 "'--workers' can't be used with '--early': one worker makes a plan better"
             }
+            ValueFault::Clock => "'--clock' wants 'simulated'",
         }
     }
 }
@@ -329,6 +331,17 @@ fn usual_of(planner: ChosenPlanner) -> u32
     }
 }
 
+/// Whether a run has a clock.
+fn clock_of(matches: &ArgMatches<'_>) -> Result<bool, ValueFault>
+    ensures { IfOk result (λ clocked. spec.IsClock (first_value (found_of matches.now) (codes "clock")) clocked) }
+{
+    match matches.get_str("clock") {
+        None => Ok(false),
+        Some("simulated") => Ok(true),
+        Some(_) => Err(ValueFault::Clock),
+    }
+}
+
 /// What `run` with these arguments names.
 fn run_of(used: &ArgMatches<'_>) -> Result<Named, ValueFault>
     ensures range { IfOk result (λ named. spec.IsInRange named) }
@@ -339,11 +352,16 @@ fn run_of(used: &ArgMatches<'_>) -> Result<Named, ValueFault>
     let planner = planner_of(plain, within)?;
     let limit = limit_of(used, usual_of(planner))?;
     let slack = named_slack(used)?;
+    let clocked = clock_of(used)?;
     let planner = ChosenEarly {
         planner,
         slack: Some(slack.unwrap_or(0)),
     };
-    Ok(Named::Run { planner, limit })
+    Ok(Named::Run {
+        planner,
+        limit,
+        clocked,
+    })
 }
 
 /// What a command with these arguments names.

@@ -8,16 +8,24 @@ use crate::help;
 use clap::{Arg, ArgAction, Command};
 use std::alloc::{AllocError, Global};
 
-/// `--NAME N`
-fn number<'a>(alloc: Global, name: &'a str, about: &'a str) -> Arg<'a>
-    ensures rule { rule_of result ≡ spec.number name.now }
+/// `--NAME VALUE`
+fn value<'a>(alloc: Global, name: &'a str, value: &'a str, about: &'a str) -> Arg<'a>
+    ensures rule { rule_of result ≡ spec.value name.now }
     ensures local { result.global ≡ false }
 {
     Arg::new(alloc, name)
         .long(name)
         .action(ArgAction::Set)
-        .value_name("N")
+        .value_name(value)
         .help(about)
+}
+
+/// `--NAME N`
+fn number<'a>(alloc: Global, name: &'a str, about: &'a str) -> Arg<'a>
+    ensures rule { rule_of result ≡ spec.value name.now }
+    ensures local { result.global ≡ false }
+{
+    value(alloc, name, "N", about)
 }
 
 /// `--NAME`
@@ -139,12 +147,14 @@ fn run_search<'a>(alloc: Global) -> Result<Command<'a>, AllocError>
     with(run, number(alloc, "slack", help::SLACK_RUN))
 }
 
-/// .. with `[--quiet] [FILE]`
+/// .. with `[--clock CLOCK] [--quiet] [FILE]`
 fn run<'a>(alloc: Global) -> Result<Command<'a>, AllocError>
     ensures app { IfOk result (λ a. app_of a ≡ spec.run) }
     ensures local { IfOk result (λ a. (fields_of a).has_globals ≡ false) }
 {
-    let run = with(run_search(alloc)?, quiet(alloc))?;
+    let clock = value(alloc, "clock", "CLOCK", help::CLOCK_RUN);
+    let run = with(run_search(alloc)?, clock)?;
+    let run = with(run, quiet(alloc))?;
     with(run, file(alloc, "FILE", help::FILE))
 }
 

@@ -64,7 +64,8 @@ pub const RUN: &str =
 
 pub const RUN_MORE: &str = "\
 Input: a script of page and sheet rows, channels, hosts and operations (op), up to the line 'end'.
-Output: a line for each reply, by host, channel and number, then 'closed'.
+Output: a line for each reply, by host, channel and number, then 'closed'. With --clock each reply has its moment in ns, and
+lines tell how long each bus was busy and how long reads, programs and erases took: how many, their mean, most of 99 of 100.
 
 Statuses: 0 each operation has its reply; 1 the script is refused; 3 a channel stopped or was left unfinished; 4 memory
 was refused; 5 the command line is refused; 6 a plan wasn't over within the limit; 7 a read or write failed.
@@ -72,7 +73,8 @@ was refused; 5 the command line is refused; 6 a plan wasn't over within the limi
 Example:
   onfi_sim run examples/two-hosts.onfi
   onfi_sim run --within --limit 200 examples/two-hosts.onfi
-  onfi_sim run --slack 20 examples/two-hosts.onfi";
+  onfi_sim run --slack 20 examples/two-hosts.onfi
+  onfi_sim run --clock simulated examples/two-hosts.onfi";
 
 pub const LIMIT: &str =
     "Open at most N nodes in a search, 1 to 1048576; the greatest where none is named";
@@ -105,6 +107,9 @@ pub const SLACK: &str =
 
 pub const SLACK_RUN: &str =
     "Let plans end N thousandths of their time later, 0 to 1000, so that requests end early; 0 where none is named";
+
+pub const CLOCK_RUN: &str =
+    "Run by a clock, 'simulated': tells when each reply came, how busy buses were and how long operations took";
 
 pub const WITHIN_CHECK: &str = "Take plan texts of 'plan --within', and no others";
 

@@ -1,6 +1,6 @@
 -- Answers that are collected, and reports that grow by a channel.
-use Rattle.std.proofs.Common.{◌≡◌, ℕ, ◌+◌, Bool, true, false, List, [], ◌∷◌, ◌++◌, length, map, refl, sym, ap, ◌∙◌, arith, append-nil, append_assoc, Some}
-use Rattle.std.specs.Prelude.{IsTrue, ◌&&◌, ◌||◌, slice_get, slice_set}
+use Rattle.std.proofs.Common.{◌≡◌, ℕ, ◌+◌, Bool, true, false, List, [], ◌∷◌, ◌++◌, length, map, refl, sym, ap, ◌∙◌, arith, append-nil, append_assoc}
+use Rattle.std.specs.Prelude.{IsTrue, ◌&&◌, ◌||◌}
 use Rattle.std.specs.List.{AllZip, list_all, AllByRecursion as Each}
 use Rattle.std.proofs.Math.Bool.{cond}
 use Rattle.std.proofs.lemmas.Bool.{or_parts}
@@ -12,40 +12,35 @@ use Rattle.onfi_run.specs.declared.channel_end.ChannelEnd.TheVariants as end
 use Rattle.onfi_run.specs.declared.finishing.Finished.{Finished}
 use Rattle.onfi_run.specs.declared.port.Port.{Port}
 use Rattle.onfi_run.specs.declared.station.Station.{Station}
-use Rattle.onfi_run.specs.Answers.{AddsReplies, IsComplete, IsSuited, is_complete, suits_any, with_replies, with_reply}
+use Rattle.onfi_run.specs.Answers.{AddsReplies, IsComplete, IsSuited, came, is_complete, with_replies, with_reply}
 use Rattle.onfi_run.specs.ByHost.{host_numbers, with_each}
 use Rattle.onfi_run.specs.Finishing.{AreDone, Empties, IsFinished, IsGathered, are_complete, report_of_none, report_with}
 use Rattle.onfi_run.specs.Keys.{AreLinked, ChannelQueues, port_ends, port_places, ports_of}
-use Rattle.onfi_run.specs.Report.{AnswersView, ReportView, is_any_cut_short, is_any_over, status_of}
-use Rattle.onfi_run.specs.Told.{places}
+use Rattle.onfi_run.specs.Report.{AnswersView, ReportView, is_any_cut_short, is_any_over, places, status_of}
+use Rattle.onfi_run.proofs.Suited.{came_kind, same_places}
 use Rattle.onfi_run.proofs.ByHost.{each_with, map_with_each, tail_of}
 
 -- ---- collecting
-with_one_more : (got : AnswersView) (more : List Reply) (r : Reply) → with_replies got (more ++ r ∷ []) ≡ with_reply (with_replies got more) r
-with_one_more got [] r = refl
-with_one_more got (x ∷ more) r = with_one_more (with_reply got x) more r
+with_one_more : (now : ℕ) (got : AnswersView) (more : List Reply) (r : Reply) → with_replies now got (more ++ r ∷ []) ≡ with_reply now (with_replies now got more) r
+with_one_more now got [] r = refl
+with_one_more now got (x ∷ more) r = with_one_more now (with_reply now got x) more r
 
-one_kept : (b : Bool) (a g : AnswersView) → a.kinds ≡ g.kinds → (cond b a g).kinds ≡ g.kinds
-one_kept true a g e = e
-one_kept false a g e = refl
+places_kept : (now : ℕ) (got : AnswersView) (more : List Reply) → places (with_replies now got more) ≡ places got
+places_kept now got [] = refl
+places_kept now got (r ∷ more) = places_kept now (with_reply now got r) more ∙ same_places (came now r.answer) (came_kind now r.answer) got r.serial
 
-kinds_kept : (got : AnswersView) (more : List Reply) → (with_replies got more).kinds ≡ got.kinds
-kinds_kept got [] = refl
-kinds_kept got (r ∷ more) =
-    kinds_kept (with_reply got r) more ∙ one_kept (suits_any (slice_get got.kinds r.serial) r.answer) (record got { answers = slice_set got.answers r.serial (Some r.answer) }) got refl
+adds_places : (now : ℕ) (old new : AnswersView) → AddsReplies now old new → places new ≡ places old
+adds_places now old new (more, is) = ap places is ∙ places_kept now old more
 
-adds_kinds : (old new : AnswersView) → AddsReplies old new → new.kinds ≡ old.kinds
-adds_kinds old new (more, is) = ap (λ (a : AnswersView). a.kinds) is ∙ kinds_kept old more
+pub empties_none : (now : ℕ) (inbox : InboxView) (got : AnswersView) → Empties now (inbox, got) (inbox, got)
+empties_none now inbox got = record { replies = []; given = sym (append-nil inbox.given); kept = refl }
 
-pub empties_none : (inbox : InboxView) (got : AnswersView) → Empties (inbox, got) (inbox, got)
-empties_none inbox got = record { replies = []; given = sym (append-nil inbox.given); kept = refl }
-
-pub empties_more : (old mid new : InboxView) (a b d : AnswersView) (r : Reply) → Empties (old, a) (mid, b) → new.given ≡ mid.given ++ r ∷ []
-    → d ≡ with_reply b r → Empties (old, a) (new, d)
-empties_more old mid new a b d r e gave kept = record {
+pub empties_more : (now : ℕ) (old mid new : InboxView) (a b d : AnswersView) (r : Reply) → Empties now (old, a) (mid, b) → new.given ≡ mid.given ++ r ∷ []
+    → d ≡ with_reply now b r → Empties now (old, a) (new, d)
+empties_more now old mid new a b d r e gave kept = record {
   replies = e.replies ++ r ∷ [];
   given = gave ∙ ap (λ l. l ++ r ∷ []) e.given ∙ append_assoc old.given e.replies (r ∷ []);
-  kept = kept ∙ ap (λ x. with_reply x r) e.kept ∙ sym (with_one_more a e.replies r);
+  kept = kept ∙ ap (λ x. with_reply now x r) e.kept ∙ sym (with_one_more now a e.replies r);
 }
 
 and_true : (a b : Bool) → IsTrue (a && b) → IsTrue a × IsTrue b
@@ -71,24 +66,25 @@ each_complete : (got : List AnswersView) → IsTrue (are_complete got) → Each 
 each_complete [] all = tt
 each_complete (a ∷ got) all = let both = and_true (is_complete a) (list_all is_complete got) all in (both.0, each_complete got both.1)
 
-same_places : (ports : List Port) (got : List AnswersView) → AllZip AddsReplies (map (λ (p : Port). p.answers) ports) got
+same_got : (now : ℕ) (ports : List Port) (got : List AnswersView) → AllZip (AddsReplies now) (map (λ (p : Port). p.answers) ports) got
     → map places got ≡ map port_places ports
-same_places [] [] all = refl
-same_places [] (a ∷ got) all = absurd all
-same_places (p ∷ ports) [] all = absurd all
-same_places (p ∷ ports) (a ∷ got) (here, all) =
-    ap (λ k. k ∷ map places got) (adds_kinds p.answers a here) ∙ ap (λ l. port_places p ∷ l) (same_places ports got all)
+same_got now [] [] all = refl
+same_got now [] (a ∷ got) all = absurd all
+same_got now (p ∷ ports) [] all = absurd all
+same_got now (p ∷ ports) (a ∷ got) (here, all) =
+    ap (λ k. k ∷ map places got) (adds_places now p.answers a here) ∙ ap (λ l. port_places p ∷ l) (same_got now ports got all)
 
-pub gathered_more : (all before : List (List Port)) (ports : List Port) (n : ℕ) (r : ReportView) (f : Finished) → all ≡ with_each before ports
+pub gathered_more : (now : ℕ) (all before : List (List Port)) (ports : List Port) (n : ℕ) (r : ReportView) (f : Finished) → all ≡ with_each before ports
     → IsGathered before n r → IsFinished f
-    → AllZip AddsReplies (map (λ (p : Port). p.answers) ports) f.got → IsGathered all (n + 1) (report_with r f)
-gathered_more all before ports n r f is had fine adds = record {
+    → AllZip (AddsReplies now) (map (λ (p : Port). p.answers) ports) f.got → IsGathered all (n + 1) (report_with r f)
+gathered_more now all before ports n r f is had fine adds = record {
   count = length_push r.ends f.end ∙ ap (λ k. k + 1) had.count;
   places =
       map_with_each places r.got f.got ∙ ap (λ l. with_each l (map places f.got)) had.places ∙ ap (with_each (map (map port_places) before))
-      (same_places ports f.got adds)
+      (same_got now ports f.got adds)
       ∙ sym (map_with_each port_places before ports) ∙ ap (map (map port_places)) (sym is);
-  suited = each_with IsSuited r.got f.got had.suited fine.suited;
+  suited = each_with (Each IsSuited) r.got f.got had.suited fine.suited;
+  no_clock = had.no_clock;
   complete = λ done.
       let before = done_before r f done in
       each_with IsComplete r.got f.got (had.complete before.0) (each_complete f.got (fine.complete before.1 before.2));
@@ -109,6 +105,7 @@ gathered_none f [] stations short none linked = record {
   count = refl;
   places = none_told port_ends port_places (ports_of stations) host_numbers linked;
   suited = (tt, (tt, (tt, (tt, tt))));
+  no_clock = refl;
   complete = λ done. (tt, (tt, (tt, (tt, tt))));
 }
 gathered_none f (x ∷ xs) stations short none linked = absurd (omega (arith, none))

@@ -12,19 +12,25 @@ use Rattle.onfi_run.specs.ByHost.{host_numbers, with_each}
 use Rattle.onfi_run.specs.Keys.{port_places, ports_of}
 use Rattle.onfi_run.specs.Opening.{AreNew, AreNewPorts, IsUnsent}
 use Rattle.onfi_run.specs.Operations.{kinds_of, kinds_on}
-use Rattle.onfi_run.specs.Report.{AnswersView}
+use Rattle.onfi_run.specs.Report.{AnswersView, places}
 use Rattle.onfi_run.proofs.ByHost.{each_with, told_with}
+use Rattle.onfi_run.proofs.Suited.{places_awaited}
 
 unsent : (ports : List Port) → Each (λ (h : HostView). h.sent ≡ []) (map (λ (p : Port). p.host) ports) → Each IsUnsent ports
 unsent [] all = tt
 unsent (p ∷ ports) (here, all) = (here, unsent ports all)
+
+no_places : (rows : List Row) (channel : ℕ) (hosts : List ℕ) → map places (map (λ host. awaiting (kinds_on rows host channel)) hosts) ≡ map (λ host. kinds_on rows host channel) hosts
+no_places rows channel [] = refl
+no_places rows channel (host ∷ hosts) =
+    ap (λ k. k ∷ map places (map (λ h. awaiting (kinds_on rows h channel)) hosts)) (places_awaited (kinds_on rows host channel)) ∙ ap (λ l. kinds_on rows host channel ∷ l) (no_places rows channel hosts)
 
 pub new_ports : (rows : List Row) (channel : ℕ) (t : IntakeView) (ports : List Port) (got : List AnswersView) → map (λ (p : Port). p.host) ports ≡ four_hosts t
     → map (λ (p : Port). p.answers) ports ≡ got
     → got ≡ map (λ host. awaiting (kinds_on rows host channel)) host_numbers → AreNewPorts rows channel ports
 new_ports rows channel t ports got hosts answers is = record {
   unsent = unsent ports (subst (Each (λ (h : HostView). h.sent ≡ [])) (sym hosts) (refl, (refl, (refl, (refl, tt)))));
-  places = sym (map-map (λ (a : AnswersView). a.kinds) (λ (p : Port). p.answers) ports) ∙ ap (map (λ (a : AnswersView). a.kinds)) (answers ∙ is);
+  places = sym (map-map places (λ (p : Port). p.answers) ports) ∙ ap (map places) (answers ∙ is) ∙ no_places rows channel host_numbers;
 }
 
 pub new_more : (rows : List Row) (channels : ℕ) (behind before : List Station) (ports : List Port)

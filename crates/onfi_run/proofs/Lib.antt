@@ -11,3 +11,4 @@ pub mod Proceeding
 pub mod Collecting
 pub mod Fresh
 pub mod Reporting
+pub mod Latencies

@@ -1,14 +1,17 @@
 -- From what came of all channels to what a report tells of its rows.
-use Rattle.std.proofs.Common.{◌≡◌, ℕ, List, length, map, sym, ap, ◌∙◌}
+use Rattle.std.proofs.Common.{◌≡◌, ℕ, true, false, List, length, map, sym, ap, ◌∙◌, subst, Some, refl}
+use Rattle.std.specs.Prelude.{IfSome}
+use Rattle.std.specs.Option.{is_some}
 use Rattle.std.proofs.lemmas.List.{length-map}
 use Rattle.onfi_script.specs.declared.row.Row.{Row}
 use Rattle.onfi_run.specs.declared.station.Station.{Station}
+use Rattle.onfi_run.specs.declared.clock_report.ClockReport.{ClockReport}
 use Rattle.onfi_run.specs.Finishing.{IsGathered}
 use Rattle.onfi_run.specs.Keys.{HaveSamePorts, port_key, ports_of}
 use Rattle.onfi_run.specs.Opening.{AreNew}
 use Rattle.onfi_run.specs.Report.{ReportView}
 use Rattle.onfi_run.specs.Setup.{channels_in}
-use Rattle.onfi_run.specs.Told.{IsReportOf}
+use Rattle.onfi_run.specs.Told.{IsClockOf, IsReportOf}
 use Rattle.onfi_run.proofs.ByHost.{same_by_key}
 use Rattle.onfi_run.proofs.Collecting.{status_done}
 
@@ -17,10 +20,24 @@ same_length f h xs ys e = sym (length-map xs f) ∙ ap length e ∙ length-map y
 
 pub report_told : (rows : List Row) (before behind : List Station) (channels : ℕ) (r : ReportView) → AreNew rows (channels_in rows) before
     → HaveSamePorts before behind → channels ≡ channels_in rows
-    → IsGathered (ports_of behind) channels r → IsReportOf rows r
+    → IsGathered (ports_of behind) channels r → IsReportOf false rows r
 report_told rows before behind channels r new same count all = record {
   places_are = all.places ∙ same_by_key port_key (λ k. k.1) (ports_of before) (ports_of behind) same ∙ new.places;
   ends_are = all.count ∙ count;
   suited = all.suited;
+  clock_is = ap is_some all.no_clock;
+  clock_tells = subst (λ clock. IfSome clock (IsClockOf r)) (sym all.no_clock) tt;
   complete = λ fine. all.complete (status_done r fine);
 }
+
+-- .. with what a clock told
+pub report_clocked : (rows : List Row) (r more : ReportView) (clock : ClockReport) → IsReportOf false rows r → more ≡ record r { clock = Some clock } → IsClockOf r clock → IsReportOf true rows more
+report_clocked rows r more clock told is tells =
+    subst (IsReportOf true rows) (sym is) (record {
+      places_are = told.places_are;
+      ends_are = told.ends_are;
+      suited = told.suited;
+      clock_is = refl;
+      clock_tells = record { buses = tells.buses; reads = tells.reads; programs = tells.programs; erases = tells.erases };
+      complete = told.complete;
+    })

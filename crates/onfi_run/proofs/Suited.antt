@@ -1,28 +1,61 @@
--- Answers that suit their operations.
-use Rattle.std.proofs.Common.{◌≡◌, ℕ, zero, suc, Bool, true, false, List, [], ◌∷◌, map, ap, Some}
-use Rattle.std.specs.Prelude.{Option, slice_get, slice_set, set}
+-- What is known of operations, one of them changed.
+use Rattle.std.proofs.Common.{◌≡◌, ◌<◌, ◌≤◌, ℕ, zero, suc, Bool, true, false, List, [], ◌∷◌, length, get_or, set, ap, refl, Some, arith}
+use Rattle.std.specs.Prelude.{max}
+use Rattle.std.specs.List.{AllByRecursion as Each}
 use Rattle.std.proofs.Math.Bool.{cond}
-use Rattle.onfi_request.specs.declared.reply.Reply.{Reply}
-use Rattle.onfi_run.specs.Report.{AnswersView}
+use Rattle.std.proofs.Math.Nat.{le-max_right}
 use Rattle.onfi_timing.specs.declared.kind.Kind.{Kind}
 use Rattle.onfi_request.specs.declared.answer.Answer.{Answer}
-use Rattle.onfi_run.specs.Answers.{AreSuited, none_yet, suits_any, with_reply}
+use Rattle.onfi_run.specs.declared.completion.Completion.{Completion}
+use Rattle.onfi_run.specs.Answers.{IsSuited, awaited, awaiting, came, changed, submitted, suits}
+use Rattle.onfi_run.specs.Report.{places}
 
-pub none_suited : (kinds : List Kind) → AreSuited kinds (map none_yet kinds)
-none_suited [] = tt
-none_suited (k ∷ kinds) = (tt, none_suited kinds)
+-- ---- one element changed
+pub changed_there : {X : Type 0} (f : X → X) (xs : List X) (at : ℕ) (d : X) → at < length xs → set xs at (f (get_or xs at d)) ≡ changed f xs at
+changed_there f [] at d h = absurd (omega arith)
+changed_there f (x ∷ xs) zero d h = refl
+changed_there f (x ∷ xs) (suc at) d h = ap (λ l. x ∷ l) (changed_there f xs at d (omega arith))
 
-pub one_suited : (kinds : List Kind) (answers : List (Option Answer)) (at : ℕ) (a : Answer) → suits_any (slice_get kinds at) a ≡ true → AreSuited kinds answers → AreSuited kinds (set answers at (Some a))
-one_suited [] [] at a suit all = tt
-one_suited [] (x ∷ answers) at a suit all = absurd all
-one_suited (k ∷ kinds) [] at a suit all = absurd all
-one_suited (k ∷ kinds) (x ∷ answers) zero a suit (here, all) = (suit, all)
-one_suited (k ∷ kinds) (x ∷ answers) (suc at) a suit (here, all) = (here, one_suited kinds answers at a suit all)
+pub changed_past : {X : Type 0} (f : X → X) (xs : List X) (at : ℕ) → length xs ≤ at → xs ≡ changed f xs at
+changed_past f [] at h = refl
+changed_past f (x ∷ xs) zero h = absurd (omega arith)
+changed_past f (x ∷ xs) (suc at) h = ap (λ l. x ∷ l) (changed_past f xs at (omega arith))
 
--- what keeping an answer comes to
-pub kept_there : (got : AnswersView) (reply : Reply) → suits_any (slice_get got.kinds reply.serial) reply.answer ≡ true
-    → with_reply got reply ≡ record got { answers = slice_set got.answers reply.serial (Some reply.answer) }
-kept_there got reply suit = ap (λ (b : Bool). cond b (let v : AnswersView = record got { answers = slice_set got.answers reply.serial (Some reply.answer) } in v) got) suit
+pub each_changed : {X : Type 0} (P : X → Type 0) (f : X → X) → ((x : X) → P x → P (f x)) → (xs : List X) (at : ℕ) → Each P xs → Each P (changed f xs at)
+each_changed P f keeps [] at all = tt
+each_changed P f keeps (x ∷ xs) zero (here, all) = (keeps x here, all)
+each_changed P f keeps (x ∷ xs) (suc at) (here, all) = (here, each_changed P f keeps xs at all)
 
-pub not_kept : (got : AnswersView) (reply : Reply) → suits_any (slice_get got.kinds reply.serial) reply.answer ≡ false → with_reply got reply ≡ got
-not_kept got reply suit = ap (λ (b : Bool). cond b (let v : AnswersView = record got { answers = slice_set got.answers reply.serial (Some reply.answer) } in v) got) suit
+pub same_places : (f : Completion → Completion) → ((c : Completion) → (f c).kind ≡ c.kind) → (got : List Completion) (at : ℕ) → places (changed f got at) ≡ places got
+same_places f same [] at = refl
+same_places f same (c ∷ got) zero = ap (λ k. k ∷ places got) (same c)
+same_places f same (c ∷ got) (suc at) = ap (λ l. c.kind ∷ l) (same_places f same got at)
+
+-- ---- operations
+none_suited : (k : Kind) → IsSuited (awaited k)
+none_suited k = record { suits_it = tt; in_order = omega arith }
+
+pub all_suited : (kinds : List Kind) → Each IsSuited (awaiting kinds)
+all_suited [] = tt
+all_suited (k ∷ kinds) = (none_suited k, all_suited kinds)
+
+pub places_awaited : (kinds : List Kind) → places (awaiting kinds) ≡ kinds
+places_awaited [] = refl
+places_awaited (k ∷ kinds) = ap (λ l. k ∷ l) (places_awaited kinds)
+
+pub submitted_suited : (now : ℕ) (c : Completion) → IsSuited c → IsSuited (submitted now c)
+submitted_suited now c s = record { suits_it = s.suits_it; in_order = omega arith }
+
+pub came_kind : (now : ℕ) (a : Answer) (c : Completion) → (came now a c).kind ≡ c.kind
+came_kind now a c = by_test (suits c.kind a)
+  where
+    by_test : (b : Bool) → (cond b (let d : Completion = record c { answer = Some a; at = max now c.sent } in d) c).kind ≡ c.kind
+    by_test true = refl
+    by_test false = refl
+
+pub came_suited : (now : ℕ) (a : Answer) (c : Completion) → IsSuited c → IsSuited (came now a c)
+came_suited now a c s = by_test (suits c.kind a) refl
+  where
+    by_test : (b : Bool) → suits c.kind a ≡ b → IsSuited (cond b (let d : Completion = record c { answer = Some a; at = max now c.sent } in d) c)
+    by_test true e = record { suits_it = e; in_order = le-max_right now c.sent }
+    by_test false e = s

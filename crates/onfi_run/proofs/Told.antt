@@ -1,5 +1,5 @@
 -- From what was written to what a run promises.
-use Rattle.std.proofs.Common.{◌≡◌, ℕ, List, Ok, Err, Some, None, refl, sym, subst, take}
+use Rattle.std.proofs.Common.{◌≡◌, ℕ, Bool, List, Ok, Err, Some, None, refl, sym, subst, take}
 use Rattle.std.specs.Prelude.{Option, Result, IfOk, IfErr, IfSome}
 use Rattle.std.specs.Io.KnownBytes.{Appends}
 use Rattle.onfi_script.specs.Text.{Answer, memory}
@@ -8,30 +8,30 @@ use Rattle.onfi_script.specs.declared.transfer.EngineFault.TheVariants.{Write}
 use Rattle.onfi_run.specs.Running.{IsAnswer, Answers, BeginsAnswer, is_memory}
 
 -- an answer to what the reader had
-abbrev pub AnswersInput : Option (List ℕ) → Answer → Type 0
-AnswersInput input answer = IfSome input (λ xs. IsAnswer xs answer)
+abbrev pub AnswersInput : Bool → Option (List ℕ) → Answer → Type 0
+AnswersInput clocked input answer = IfSome input (λ xs. IsAnswer clocked xs answer)
 
-pub memory_answers : (input : Option (List ℕ)) → AnswersInput input memory
-memory_answers None = tt
-memory_answers (Some xs) = is_memory refl
+pub memory_answers : (clocked : Bool) (input : Option (List ℕ)) → AnswersInput clocked input memory
+memory_answers clocked None = tt
+memory_answers clocked (Some xs) = is_memory refl
 
-told_status : (input old new : Option (List ℕ)) (answer : Answer) (s : ℕ) → AnswersInput input answer → s ≡ answer.status → Appends old new answer.text → Answers input old new s
-told_status None old new answer s is e w = tt
-told_status (Some xs) old new answer s is e w = (answer, is, sym e, w)
+told_status : (clocked : Bool) (input old new : Option (List ℕ)) (answer : Answer) (s : ℕ) → AnswersInput clocked input answer → s ≡ answer.status → Appends old new answer.text → Answers clocked input old new s
+told_status clocked None old new answer s is e w = tt
+told_status clocked (Some xs) old new answer s is e w = (answer, is, sym e, w)
 
-told_start : (input old new : Option (List ℕ)) (answer : Answer) (n : ℕ) → AnswersInput input answer → Appends old new (take n answer.text) → BeginsAnswer input old new
-told_start None old new answer n is w = tt
-told_start (Some xs) old new answer n is w = (answer, n, is, w)
+told_start : (clocked : Bool) (input old new : Option (List ℕ)) (answer : Answer) (n : ℕ) → AnswersInput clocked input answer → Appends old new (take n answer.text) → BeginsAnswer clocked input old new
+told_start clocked None old new answer n is w = tt
+told_start clocked (Some xs) old new answer n is w = (answer, n, is, w)
 
-pub told : (input old new : Option (List ℕ)) (answer : Answer) (r : Result ℕ EngineFault) → AnswersInput input answer → IfOk r (λ s. (s ≡ answer.status) × Appends old new answer.text) → IfOk r (λ s. Answers input old new s)
-told input old new answer (Ok s) is w = told_status input old new answer s is w.0 w.1
-told input old new answer (Err e) is w = tt
+pub told : (clocked : Bool) (input old new : Option (List ℕ)) (answer : Answer) (r : Result ℕ EngineFault) → AnswersInput clocked input answer → IfOk r (λ s. (s ≡ answer.status) × Appends old new answer.text) → IfOk r (λ s. Answers clocked input old new s)
+told clocked input old new answer (Ok s) is w = told_status clocked input old new answer s is w.0 w.1
+told clocked input old new answer (Err e) is w = tt
 
-pub told_part : (input old new : Option (List ℕ)) (answer : Answer) (r : Result ℕ EngineFault) → AnswersInput input answer → IfErr r (λ e. (e ≡ Write) × (n : ℕ) × Appends old new (take n answer.text)) → r ≡ Err Write → BeginsAnswer input old new
-told_part input old new answer (Ok s) is w e = absurd (cc)
-told_part input old new answer (Err f) is w e = told_start input old new answer w.1 is w.2
+pub told_part : (clocked : Bool) (input old new : Option (List ℕ)) (answer : Answer) (r : Result ℕ EngineFault) → AnswersInput clocked input answer → IfErr r (λ e. (e ≡ Write) × (n : ℕ) × Appends old new (take n answer.text)) → r ≡ Err Write → BeginsAnswer clocked input old new
+told_part clocked input old new answer (Ok s) is w e = absurd (cc)
+told_part clocked input old new answer (Err f) is w e = told_start clocked input old new answer w.1 is w.2
 
 -- an answer to bytes that were all that the reader had
-pub answered : (input : Option (List ℕ)) (bytes : List ℕ) (answer : Answer) → IfSome input (λ xs. bytes ≡ xs) → IsAnswer bytes answer → AnswersInput input answer
-answered None bytes answer all is = tt
-answered (Some xs) bytes answer all is = subst (λ (ys : List ℕ). IsAnswer ys answer) all is
+pub answered : (clocked : Bool) (input : Option (List ℕ)) (bytes : List ℕ) (answer : Answer) → IfSome input (λ xs. bytes ≡ xs) → IsAnswer clocked bytes answer → AnswersInput clocked input answer
+answered clocked None bytes answer all is = tt
+answered clocked (Some xs) bytes answer all is = subst (λ (ys : List ℕ). IsAnswer clocked ys answer) all is

@@ -1,5 +1,5 @@
--- The answers that a host got.
-use Rattle.std.specs.Prelude.{◌≡◌, Bool, true, false, if◌then◌else◌, List, [], ◌∷◌, map, Option, Some, None, IfSome, IsTrue, slice_get, slice_set}
+-- What a host got from a channel.
+use Rattle.std.specs.Prelude.{◌≡◌, ◌≤◌, ℕ, zero, suc, max, Bool, true, false, if◌then◌else◌, List, [], ◌∷◌, map, Some, None, IfSome, IsTrue}
 use Rattle.std.specs.List.{list_all}
 use Rattle.std.specs.Option.{is_some}
 use Rattle.onfi_timing.specs.declared.kind.Kind.{Kind}
@@ -7,6 +7,7 @@ use Rattle.onfi_timing.specs.declared.kind.Kind.TheVariants as kind
 use Rattle.onfi_request.specs.declared.answer.Answer.{Answer}
 use Rattle.onfi_request.specs.declared.answer.Answer.TheVariants as answer
 use Rattle.onfi_request.specs.declared.reply.Reply.{Reply}
+use Rattle.onfi_run.specs.declared.completion.Completion.{Completion}
 use Rattle.onfi_run.specs.Report.{AnswersView}
 
 -- a read gives a page, the others say whether they succeeded
@@ -21,45 +22,48 @@ suits kind.Erase (answer.Read bytes) = false
 suits kind.Erase answer.Done = true
 suits kind.Erase answer.Failed = true
 
--- a place for each operation, and in it nothing or an answer that suits it
-abbrev pub AreSuited : List Kind → List (Option Answer) → Type 0
-AreSuited [] [] = Unit {0}
-AreSuited (k ∷ ks) (a ∷ answers) = IfSome a (λ x. suits k x ≡ true) × AreSuited ks answers
-AreSuited [] (a ∷ answers) = ⊥
-AreSuited (k ∷ ks) [] = ⊥
-
-abbrev pub IsSuited : AnswersView → Type 0
-IsSuited got = AreSuited got.kinds got.answers
+-- an answer suits its operation, and no reply was collected before its operation was submitted
+pub record IsSuited (c : Completion) : Type 0 where
+  pub suits_it : IfSome c.answer (λ a. suits c.kind a ≡ true)
+  pub in_order : c.sent ≤ c.at
 
 -- each operation has its answer
 abbrev pub is_complete : AnswersView → Bool
-is_complete got = list_all is_some got.answers
+is_complete got = list_all (λ (c : Completion). is_some c.answer) got
 
 abbrev pub IsComplete : AnswersView → Type 0
 IsComplete got = IsTrue (is_complete got)
 
--- no answer yet to operations of these kinds
-abbrev pub none_yet : Kind → Option Answer
-none_yet k = None
+-- nothing yet of an operation of that kind
+abbrev pub awaited : Kind → Completion
+awaited k = record { kind = k; answer = None; sent = 0; at = 0 }
 
 abbrev pub awaiting : List Kind → AnswersView
-awaiting kinds = record { kinds = kinds; answers = map none_yet kinds }
+awaiting kinds = map awaited kinds
 
--- there is an operation of that kind, which the answer suits
-abbrev pub suits_any : Option Kind → Answer → Bool
-suits_any None a = false
-suits_any (Some k) a = suits k a
+-- its host submitted it at that moment
+abbrev pub submitted : ℕ → Completion → Completion
+submitted now c = record c { sent = now; at = now }
 
--- with the answer of a reply in the place of its serial, where it suits the operation there
-abbrev pub with_reply : AnswersView → Reply → AnswersView
-with_reply got reply =
-    if suits_any (slice_get got.kinds reply.serial) reply.answer then record got { answers = slice_set got.answers reply.serial (Some reply.answer) } else got
+-- its host collected its reply at that moment, if the answer suits it; a moment before that of its submission counts as that
+abbrev pub came : ℕ → Answer → Completion → Completion
+came now a c = if suits c.kind a then record c { answer = Some a; at = max now c.sent } else c
 
--- .. with those of these replies, one after another
-abbrev pub with_replies : AnswersView → List Reply → AnswersView
-with_replies got [] = got
-with_replies got (reply ∷ replies) = with_replies (with_reply got reply) replies
+-- with the element at a place changed, where there is one
+abbrev pub changed : {X : Type 0} → (X → X) → List X → ℕ → List X
+changed f [] at = []
+changed f (x ∷ xs) zero = f x ∷ xs
+changed f (x ∷ xs) (suc at) = x ∷ changed f xs at
 
--- these are more answers of replies
-abbrev pub AddsReplies : AnswersView → AnswersView → Type 0
-AddsReplies old new = (more : List Reply) × (new ≡ with_replies old more)
+-- with a reply that was collected at that moment
+abbrev pub with_reply : ℕ → AnswersView → Reply → AnswersView
+with_reply now got reply = changed (came now reply.answer) got reply.serial
+
+-- .. with these replies, one after another
+abbrev pub with_replies : ℕ → AnswersView → List Reply → AnswersView
+with_replies now got [] = got
+with_replies now got (reply ∷ replies) = with_replies now (with_reply now got reply) replies
+
+-- these are more answers of replies, which were collected at that moment
+abbrev pub AddsReplies : ℕ → AnswersView → AnswersView → Type 0
+AddsReplies now old new = (more : List Reply) × (new ≡ with_replies now old more)

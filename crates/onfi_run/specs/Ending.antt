@@ -27,18 +27,18 @@ progress_of none turn.Phase = progress.Advanced
 progress_of none turn.Planned = progress.Advanced
 progress_of none turn.Posted = progress.Moved
 progress_of none turn.Accepted = progress.Moved
-progress_of none (turn.Waits until) = progress.Moved
+progress_of none (turn.Waits until) = progress.Waits until
 progress_of none turn.PostFull = progress.Quiet
 progress_of none turn.Idle = progress.Quiet
 
--- the greatest moment: a run has no clock
+-- the greatest moment, which is that of turns in a run without a clock
 abbrev pub no_clock : ℕ
 no_clock = 2 ^ 64 - 1
 
--- a turn of a sequencer came to that
-pub record Proceeds (q : Seen) (p : Progress) (q' : Seen) : Type 0 where
+-- a turn of a sequencer at that moment came to that
+pub record Proceeds (now : ℕ) (q : Seen) (p : Progress) (q' : Seen) : Type 0 where
   pub answer : Turn
-  pub turned : Turned no_clock q answer q'
+  pub turned : Turned now q answer q'
   pub told : p ≡ progress_of (none_left q'.0.half) answer
 
 -- memory was refused
@@ -52,6 +52,7 @@ is_refusal _ = false
 abbrev pub thread_end : Bool → Bool → Progress → Option ChannelEnd
 thread_end spent all_ended progress.Advanced = None
 thread_end spent all_ended progress.Moved = None
+thread_end spent all_ended (progress.Waits until) = None
 thread_end spent all_ended progress.Quiet = if all_ended then Some end.Done else None
 thread_end spent all_ended progress.Refused = if spent then Some end.Unfinished else None
 thread_end spent all_ended progress.Starved = Some end.Unfinished

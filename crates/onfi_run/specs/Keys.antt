@@ -1,5 +1,5 @@
 -- Which ends of queues belong together.
-use Rattle.std.specs.Prelude.{◌≡◌, ℕ, Bool, true, false, List, length, map, Option, Some, slice_get}
+use Rattle.std.specs.Prelude.{◌≡◌, ◌⊎◌, ℕ, Bool, true, false, List, length, map, Option, Some, slice_get}
 use Rattle.atomic_table.specs.Seated.{TableId}
 use Rattle.onfi_timing.specs.declared.kind.Kind.{Kind}
 use Rattle.onfi_request.specs.declared.reply.Reply.{Reply}
@@ -8,8 +8,9 @@ use Rattle.onfi_queue.specs.Ends.{HostView, AreHostsOf}
 use Rattle.onfi_reply.specs.Ends.{InboxView, after_collecting}
 use Rattle.onfi_run.specs.declared.port.Port.{Port}
 use Rattle.onfi_run.specs.declared.station.Station.{Station}
-use Rattle.onfi_run.specs.Answers.{with_reply}
+use Rattle.onfi_run.specs.Answers.{changed, submitted, with_reply}
 use Rattle.onfi_run.specs.ByHost.{host_numbers}
+use Rattle.onfi_run.specs.Report.{places}
 
 -- the queues of a channel: the submission queue, and the completion queue of each host
 pub record ChannelQueues : Type 0 where
@@ -26,9 +27,9 @@ pub record PortEnds : Type 0 where
 abbrev pub port_ends : Port → PortEnds
 port_ends p = record { queue = p.host.queue; number = p.host.number; inbox = Some p.inbox.queue; hosts = 4 }
 
--- the kinds of the operations to which answers are kept there
+-- the kinds of the operations of which something is kept there
 abbrev pub port_places : Port → List Kind
-port_places p = p.answers.kinds
+port_places p = places p.answers
 
 -- .. both, which a port never changes
 abbrev pub port_key : Port → PortEnds × List Kind
@@ -42,16 +43,20 @@ port_state p = (port_key p, p.host.sent, p.left_out)
 abbrev pub end_of : ℕ → ChannelQueues → PortEnds
 end_of host q = record { queue = q.requests; number = host; inbox = slice_get q.replies host; hosts = length q.replies }
 
--- the next reply is with the answers
-pub record TookReply (old new : Port) : Type 0 where
+-- the next reply is with the answers, collected at that moment
+pub record TookReply (now : ℕ) (old new : Port) : Type 0 where
   pub reply : Reply
   pub inbox : new.inbox ≡ after_collecting old.inbox reply
-  pub answers : new.answers ≡ with_reply old.answers reply
+  pub answers : new.answers ≡ with_reply now old.answers reply
 
 -- a reply was collected, or none was to be had
-abbrev pub Collects : Bool → Port → Port → Type 0
-Collects true old new = TookReply old new
-Collects false old new = new ≡ old
+abbrev pub Collects : ℕ → Bool → Port → Port → Type 0
+Collects now true old new = TookReply now old new
+Collects now false old new = new ≡ old
+
+-- a request was submitted at that moment, or none was
+abbrev pub Submits : ℕ → Port → Port → Type 0
+Submits now old new = (new.answers ≡ changed (submitted now) old.answers (length old.host.sent)) ⊎ ((new.host.sent ≡ old.host.sent) × (new.answers ≡ old.answers))
 
 -- the same ends, with places for the same answers, in the same order
 abbrev pub HasSamePorts : List Port → List Port → Type 0

@@ -4,11 +4,13 @@ pub mod Chips
 pub mod Prepared
 pub mod Prepares
 pub mod Report
+pub mod Latency
 pub mod Answers
 pub mod Operations
 pub mod ByHost
 pub mod Ending
 pub mod Told
+pub mod Pace
 pub mod Keys
 pub mod Sending
 pub mod Finishing

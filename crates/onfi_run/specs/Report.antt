@@ -1,31 +1,40 @@
 -- What a run came to, and its text.
-use Rattle.std.specs.Prelude.{ℕ, ◌+◌, ◌==◌, if◌then◌else◌, Bool, true, false, List, [], ◌∷◌, ◌++◌, Option, Some, None, codes}
+use Rattle.std.specs.Prelude.{ℕ, ◌+◌, ◌==◌, if◌then◌else◌, Bool, true, false, List, [], ◌∷◌, ◌++◌, map, Option, Some, None, codes}
 use Rattle.std.specs.Fmt.{decimal}
 use Rattle.std.specs.List.{list_all, list_any}
+use Rattle.std.specs.Option.{is_some}
 use Rattle.hex.specs.Hex.{encode_upper}
 use Rattle.onfi_core.specs.declared.outcome.Cause.{Cause}
 use Rattle.onfi_core.specs.declared.outcome.Cause.TheVariants.{Bus, NotReady, Clock}
 use Rattle.onfi_request.specs.declared.answer.Answer.{Answer}
 use Rattle.onfi_request.specs.declared.answer.Answer.TheVariants as answer
 use Rattle.onfi_timing.specs.declared.kind.Kind.{Kind}
+use Rattle.onfi_run.specs.declared.bus_use.BusUse.{BusUse}
 use Rattle.onfi_run.specs.declared.channel_end.ChannelEnd.{ChannelEnd}
 use Rattle.onfi_run.specs.declared.channel_end.ChannelEnd.TheVariants as end
+use Rattle.onfi_run.specs.declared.clock_report.ClockReport.{ClockReport}
+use Rattle.onfi_run.specs.declared.completion.Completion.{Completion}
+use Rattle.onfi_run.specs.declared.latency.Latency.{Latency}
 use Rattle.onfi_script.specs.Text.{Answer as Written}
 
--- what a host got from a channel: the kinds of its operations there, by serial from 0, and of each the answer, where it came
-pub record AnswersView : Type 0 where
-  pub kinds : List Kind
-  pub answers : List (Option Answer)
+-- what a host got from a channel: what is known of each of its operations there, by serial from 0
+abbrev pub AnswersView : Type 0
+AnswersView = List Completion
 
 -- .. from each channel
 abbrev pub GotView : Type 0
 GotView = List AnswersView
 
--- what each host got, how each channel ended, and whether memory was refused on the way
+-- the kinds of the operations of which something is kept
+abbrev pub places : AnswersView → List Kind
+places got = map (λ (c : Completion). c.kind) got
+
+-- what each host got, how each channel ended, whether memory was refused on the way, and what a clock told
 pub record ReportView : Type 0 where
   pub got : List GotView
   pub ends : List ChannelEnd
   pub short_of_memory : Bool
+  pub clock : Option ClockReport
 
 -- the pieces of a list's elements, which are numbered from `number` on
 unfoldable pub numbered : {X : Type 0} → (ℕ → X → List ℕ) → ℕ → List X → List ℕ
@@ -45,23 +54,31 @@ answer_text (answer.Read bytes) = codes "read," ++ page_text bytes
 answer_text answer.Done = codes "done"
 answer_text answer.Failed = codes "failed"
 
--- the line of a reply
-abbrev pub reply_line : ℕ → ℕ → ℕ → Option Answer → List ℕ
-reply_line host channel serial None = []
-reply_line host channel serial (Some a) =
-    (codes "reply," ++ (decimal host ++ (codes "," ++ (decimal channel ++ (codes "," ++ (decimal serial ++ codes ",")))))) ++ (answer_text a ++ codes "\n")
+-- the moment of a reply, where a clock tells it
+abbrev pub at_text : Bool → ℕ → List ℕ
+at_text true at = decimal at ++ codes ","
+at_text false at = []
+
+-- the line of a reply that was collected at a moment, where it came
+abbrev pub reply_text : Bool → ℕ → ℕ → ℕ → ℕ → Option Answer → List ℕ
+reply_text clocked host channel serial at None = []
+reply_text clocked host channel serial at (Some a) =
+    (codes "reply," ++ (decimal host ++ (codes "," ++ (decimal channel ++ (codes "," ++ (decimal serial ++ codes ",")))))) ++ (at_text clocked at ++ (answer_text a ++ codes "\n"))
+
+abbrev pub reply_line : Bool → ℕ → ℕ → ℕ → Completion → List ℕ
+reply_line clocked host channel serial c = reply_text clocked host channel serial c.at c.answer
 
 -- the replies of a channel to a host by serial
-abbrev pub answers_lines : ℕ → ℕ → AnswersView → List ℕ
-answers_lines host channel got = numbered (reply_line host channel) 0 got.answers
+abbrev pub answers_lines : Bool → ℕ → ℕ → AnswersView → List ℕ
+answers_lines clocked host channel got = numbered (reply_line clocked host channel) 0 got
 
 -- the replies to a host by channel and serial
-abbrev pub got_lines : ℕ → GotView → List ℕ
-got_lines host channels = numbered (answers_lines host) 0 channels
+abbrev pub got_lines : Bool → ℕ → GotView → List ℕ
+got_lines clocked host channels = numbered (answers_lines clocked host) 0 channels
 
 -- all replies by host, channel and serial
-abbrev pub reply_lines : List GotView → List ℕ
-reply_lines got = numbered got_lines 0 got
+abbrev pub reply_lines : Bool → List GotView → List ℕ
+reply_lines clocked got = numbered (got_lines clocked) 0 got
 
 abbrev pub stop_line : ℕ → Cause → List ℕ
 stop_line channel Bus = codes "stopped," ++ (decimal channel ++ codes ",Bus\n")
@@ -74,6 +91,23 @@ end_line channel end.Done = []
 end_line channel (end.Stopped cause) = stop_line channel cause
 end_line channel (end.Over opened) = codes "over," ++ (decimal channel ++ (codes "," ++ (decimal opened ++ codes "\n")))
 end_line channel end.Unfinished = codes "unfinished," ++ (decimal channel ++ codes "\n")
+
+-- the line of a bus: how long it was busy, and when its last phase ended
+abbrev pub bus_line : ℕ → BusUse → List ℕ
+bus_line channel bus = codes "bus," ++ (decimal channel ++ (codes "," ++ (decimal bus.busy ++ (codes "," ++ (decimal bus.until ++ codes "\n")))))
+
+-- the line of a kind that has replies
+abbrev pub latency_line : List ℕ → Option Latency → List ℕ
+latency_line kind None = []
+latency_line kind (Some l) =
+    codes "latency," ++ (kind ++ (codes "," ++ (decimal l.count ++ (codes "," ++ (decimal l.mean ++ (codes "," ++ (decimal l.most_of_99 ++ codes "\n")))))))
+
+-- the lines of a clock
+abbrev pub clock_lines : Option ClockReport → List ℕ
+clock_lines None = []
+clock_lines (Some clock) =
+    numbered bus_line 0 clock.buses.items
+    ++ (latency_line (codes "read") clock.reads ++ (latency_line (codes "program") clock.programs ++ latency_line (codes "erase") clock.erases))
 
 abbrev pub closing_line : Bool → List ℕ
 closing_line true = codes "memory\n"
@@ -101,7 +135,7 @@ status_of true ends = 4
 status_of false ends = if is_any_cut_short ends then 3 else if is_any_over ends then 6 else 0
 
 abbrev pub report_text : ReportView → List ℕ
-report_text r = (reply_lines r.got ++ numbered end_line 0 r.ends) ++ closing_line r.short_of_memory
+report_text r = (reply_lines (is_some r.clock) r.got ++ numbered end_line 0 r.ends) ++ (clock_lines r.clock ++ closing_line r.short_of_memory)
 
 -- what is written of a run
 abbrev pub report_answer : ReportView → Written

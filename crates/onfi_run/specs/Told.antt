@@ -1,23 +1,33 @@
 -- What a report tells of the rows that were run.
-use Rattle.std.specs.Prelude.{◌≡◌, List, [], ◌∷◌, length, map}
+use Rattle.std.specs.Prelude.{◌≡◌, Bool, List, [], ◌∷◌, length, map, IfSome}
+use Rattle.std.specs.Option.{is_some}
 use Rattle.std.specs.List.{AllByRecursion as Each}
 use Rattle.onfi_timing.specs.declared.kind.Kind.{Kind}
+use Rattle.onfi_timing.specs.declared.kind.Kind.TheVariants.{Read, Program, Erase}
 use Rattle.onfi_script.specs.declared.row.Row.{Row}
 use Rattle.onfi_run.specs.Answers.{IsSuited, IsComplete}
 use Rattle.onfi_run.specs.Operations.{kinds_of}
-use Rattle.onfi_run.specs.Report.{AnswersView, GotView, ReportView, status_of}
+use Rattle.onfi_run.specs.declared.clock_report.ClockReport.{ClockReport}
+use Rattle.onfi_run.specs.Latency.{IsLatencyOf, latencies}
+use Rattle.onfi_run.specs.Report.{GotView, ReportView, places, status_of}
 use Rattle.onfi_run.specs.Setup.{channels_in}
 
--- the places for answers, each of the kind of its operation: on a channel, and by channel
-abbrev pub places : AnswersView → List Kind
-places got = got.kinds
-
+-- the kinds of the operations of which something is kept, by channel
 abbrev pub places_by_channel : GotView → List (List Kind)
 places_by_channel got = map places got
 
--- Of each of four hosts there is, by channel, a place for each of its operations there, in the order of their rows, and in it nothing or an answer that suits that operation. Where the status is 0 each place has its answer.
-pub record IsReportOf (rows : List Row) (report : ReportView) : Type 0 where
+-- what a clock tells of a run: of each channel how busy its bus was, and how long operations of each kind took
+pub record IsClockOf (report : ReportView) (clock : ClockReport) : Type 0 where
+  pub buses : length clock.buses.items ≡ length report.ends
+  pub reads : IsLatencyOf (latencies Read report.got) clock.reads
+  pub programs : IsLatencyOf (latencies Program report.got) clock.programs
+  pub erases : IsLatencyOf (latencies Erase report.got) clock.erases
+
+-- Of each of four hosts there is, by channel, a place for each of its operations there, in the order of their rows, and in it nothing or an answer that suits that operation, collected no sooner than the operation was submitted. Where the status is 0 each place has its answer. Moments are told where the run has a clock.
+pub record IsReportOf (clocked : Bool) (rows : List Row) (report : ReportView) : Type 0 where
   pub places_are : map places_by_channel report.got ≡ map (kinds_of rows (channels_in rows)) (0 ∷ 1 ∷ 2 ∷ 3 ∷ [])
   pub ends_are : length report.ends ≡ channels_in rows
-  pub suited : Each (Each IsSuited) report.got
+  pub suited : Each (Each (Each IsSuited)) report.got
+  pub clock_is : is_some report.clock ≡ clocked
+  pub clock_tells : IfSome report.clock (IsClockOf report)
   pub complete : status_of report.short_of_memory report.ends ≡ 0 → Each (Each IsComplete) report.got

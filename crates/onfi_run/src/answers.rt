@@ -1,8 +1,11 @@
 //! What a host got.
-ghost use Rattle.std.specs.Prelude.{◌≡◌, ◌++◌, [], ◌∷◌, IfOk, Some, map, slice_get, slice_set};
+ghost use Rattle.std.specs.Prelude.{◌≡◌, ◌++◌, [], ◌∷◌, IfOk, MatchOption, None, Some, map};
+ghost use Rattle.std.specs.List.{AllByRecursion as Each};
 ghost use Rattle.onfi_run.specs.Answers as spec;
 ghost use Rattle.onfi_run.specs.Operations.{kinds_on as spec_kinds_on};
+ghost use Rattle.onfi_run.specs.Report.{places};
 
+use crate::completion::Completion;
 use crate::operations::kinds_on;
 use onfi_request::{Answer, Reply};
 use onfi_script::Row;
@@ -10,23 +13,23 @@ use onfi_timing::Kind;
 use std::alloc::{AllocError, Global};
 use std::marker::Model;
 
-/// What a host got from one channel: of each of its operations there, by serial from 0, the answer, where it came. An
-/// answer stands only where it suits the kind of its operation.
+/// What a host got from one channel: what is known of each of its operations there, by serial from 0. An answer stands
+/// only where it suits the kind of its operation, and it came no sooner than the operation was submitted.
 #[derive(Drop)]
 pub struct Answers {
-    kinds: Vec<Kind>,
-    by_serial: Vec<Option<Answer>>,
+    by_serial: Vec<Completion>,
 }
 
 impl Model for Answers {
+    ghost use Rattle.std.specs.List.{AllByRecursion as Each};
     ghost use Rattle.onfi_run.specs.Report.{AnswersView};
-    ghost use Rattle.onfi_run.specs.Answers.{AreSuited};
+    ghost use Rattle.onfi_run.specs.Answers.{IsSuited};
 
     ghost Value = { AnswersView };
 
-    ghost view = { λ a. record { kinds = a.kinds.items; answers = a.by_serial.items } };
+    ghost view = { λ a. a.by_serial.items };
 
-    ghost invariant = { λ a. AreSuited a.kinds.items a.by_serial.items };
+    ghost invariant = { λ a. Each IsSuited a.by_serial.items };
 }
 
 /// Whether an answer suits an operation: a read gives a page, the others say whether they succeeded.
@@ -39,30 +42,64 @@ fn suits(kind: Kind, answer: &Answer) -> bool
     }
 }
 
-/// Whether there is an operation with that serial, which the answer suits.
-fn suits_at(kinds: &[Kind], at: usize, answer: &Answer) -> bool
-    ensures { result ≡ spec.suits_any (slice_get kinds.now at) answer.now }
-{
-    if at < kinds.len() {
-        suits(kinds[at], answer)
-    } else {
-        false
+impl Completion {
+    /// Nothing yet, of an operation of that kind.
+    fn awaited(kind: Kind) -> Completion
+        ensures { result ≡ spec.awaited kind }
+    {
+        Completion {
+            kind,
+            answer: None,
+            sent: 0,
+            at: 0,
+        }
+    }
+
+    /// The host submits it at that moment.
+    fn submit(&mut self, now: u64)
+        ensures { self.new ≡ spec.submitted now self.old }
+    {
+        self.sent = now;
+        self.at = now;
+    }
+
+    /// The host collects its reply at that moment, or, where that is before it was submitted, as it was; the answer is kept
+    /// where it suits the operation.
+    fn come(&mut self, now: u64, answer: Answer)
+        ensures { self.new ≡ spec.came now answer self.old }
+    {
+        if suits(self.kind, &answer) {
+            self.answer = Some(answer);
+            self.at = now.max(self.sent);
+        }
     }
 }
 
-/// A place for the answer to each operation, in which there is none yet.
-fn places(alloc: Global, kinds: &[Kind]) -> Result<Vec<Option<Answer>>, AllocError>
-    ensures { IfOk result (λ places. places.items ≡ map spec.none_yet kinds.now) }
+/// Nothing yet, of operations of these kinds.
+fn awaited(alloc: Global, kinds: &[Kind]) -> Result<Vec<Completion>, AllocError>
+    ensures { IfOk result (λ places. places.items ≡ map spec.awaited kinds.now) }
 {
-    kinds.iter().map(|_| None).collect(alloc)
+    kinds
+        .iter()
+        .map(|kind| Completion::awaited(*kind))
+        .collect(alloc)
 }
 
-/// Puts an answer into the place of its serial, where there is one.
-fn put(by_serial: &mut Vec<Option<Answer>>, at: usize, answer: Answer)
-    ensures { by_serial.new.items ≡ slice_set by_serial.old.items at (Some answer) }
+/// The operation of that serial is submitted, where there is one.
+fn submit_at(by_serial: &mut Vec<Completion>, at: usize, now: u64)
+    ensures { by_serial.new.items ≡ spec.changed (spec.submitted now) by_serial.old.items at }
 {
     if at < by_serial.len() {
-        by_serial[at] = Some(answer);
+        by_serial[at].submit(now);
+    }
+}
+
+/// The reply of that serial is collected, where there is such an operation.
+fn come_at(by_serial: &mut Vec<Completion>, at: usize, now: u64, answer: Answer)
+    ensures { by_serial.new.items ≡ spec.changed (spec.came now answer) by_serial.old.items at }
+{
+    if at < by_serial.len() {
+        by_serial[at].come(now, answer);
     }
 }
 
@@ -80,13 +117,14 @@ impl Answers {
         ensures { IfOk result (λ answers. answers ≡ spec.awaiting (spec_kinds_on rows.now host channel)) }
     {
         let kinds = kinds_on(alloc, rows, host, channel)?;
-        let by_serial = places(alloc, kinds.as_slice())?;
-        Ok(Answers { kinds, by_serial })
+        let by_serial = awaited(alloc, kinds.as_slice())?;
+        Ok(Answers { by_serial })
     }
 
-    /// The answers by serial.
-    pub fn as_slice(&self) -> &[Option<Answer>]
-        ensures { result.now ≡ self.now.answers }
+    /// What is known of each operation, by serial.
+    pub fn as_slice(&self) -> &[Completion]
+        ensures all { result.now ≡ self.now }
+        ensures suited { Each spec.IsSuited result.now }
     {
         self.by_serial.as_slice()
     }
@@ -94,20 +132,31 @@ impl Answers {
     /// Whether each operation has its answer.
     pub(crate) fn is_complete(&self) -> bool
         ensures complete { result ≡ spec.is_complete self.now }
-        ensures suited { spec.IsSuited self.now }
+        ensures suited { Each spec.IsSuited self.now }
     {
-        self.by_serial.iter().all(|answer| answer.is_some())
+        self.by_serial.iter().all(|c| c.answer.is_some())
     }
 
-    /// Keeps the answer of a reply in the place of its serial, where it suits the operation there.
-    pub(crate) fn keep(&mut self, reply: Reply)
-        ensures { self.new ≡ spec.with_reply self.old reply }
+    /// The operation of that serial is submitted at that moment, in ns of the run's clock.
+    pub(crate) fn send(&mut self, serial: u32, now: u64)
+        ensures sent { self.new ≡ spec.changed (spec.submitted now) self.old serial }
+        ensures same { places self.new ≡ places self.old }
     {
-        let at = reply.serial as usize;
-        let suits = suits_at(self.kinds.as_slice(), at, &reply.answer);
-        if suits {
-            put(&mut self.by_serial, at, reply.answer);
-        }
+        submit_at(&mut self.by_serial, serial as usize, now);
+    }
+
+    /// Keeps the answer of a reply, which is collected at that moment, in ns of the run's clock, in the place of its serial,
+    /// where it suits the operation there.
+    pub(crate) fn keep(&mut self, reply: Reply, now: u64)
+        ensures kept { self.new ≡ spec.with_reply now self.old reply }
+        ensures same { places self.new ≡ places self.old }
+    {
+        come_at(
+            &mut self.by_serial,
+            reply.serial as usize,
+            now,
+            reply.answer,
+        );
     }
 }
 

@@ -10,6 +10,9 @@ use onfi_reply::Inbox;
 use std::alloc::Global;
 use std::sync::Wait;
 
+/// The moment of a turn in a run without a clock: nothing waits then.
+pub(crate) const NO_CLOCK: u64 = u64::MAX;
+
 /// How the draining of a channel ended.
 #[derive(Clone, Copy)]
 pub struct Drained {
@@ -20,7 +23,7 @@ pub struct Drained {
 
 /// A channel as a run drives it: the sequencer, with the gate that is called before each of its turns.
 pub trait Channel {
-    ghost use Rattle.std.specs.Prelude.{Bool, List};
+    ghost use Rattle.std.specs.Prelude.{Bool, List, ℕ};
     ghost use Rattle.onfi_queue.specs.Ends.{HostView};
     ghost use Rattle.onfi_run.specs.declared.channel.Drained.{Drained};
     ghost use Rattle.onfi_run.specs.declared.progress.Progress.{Progress};
@@ -32,20 +35,27 @@ pub trait Channel {
     /// Whether memory was refused to one of its turns.
     ghost short: { Self → Bool };
 
-    /// What a turn from the one to the other came to.
-    ghost proceeds: { Self → Progress → Self → Type 0 };
+    /// From when on its bus is free, in ns of its clock.
+    ghost free: { Self → ℕ };
+
+    /// What a turn at that moment, from the one to the other, came to.
+    ghost proceeds: { ℕ → Self → Progress → Self → Type 0 };
 
     /// What a draining with these hosts from the one to the other came to.
     ghost drains: { Self → List HostView → Drained → Self → Type 0 };
 
-    /// Makes a turn.
-    fn turn<R: Wait>(&mut self, rt: &R, alloc: Global) -> Progress
-        ensures turned { proceeds self.old result self.new }
+    /// Makes a turn at that moment, in ns of its clock; at the greatest nothing waits.
+    fn turn<R: Wait>(&mut self, rt: &R, alloc: Global, now: u64) -> Progress
+        ensures turned { proceeds now self.old result self.new }
         ensures same { queues self.new ≡ queues self.old }
         ensures refused { IsTrue (is_refusal result) → IsTrue (short self.new) }
         ensures short { IsTrue (short self.old) → IsTrue (short self.new) };
 
-    /// Makes turns, and takes replies in, until everything is answered, or tells why it isn't.
+    /// From when on its bus is free, in ns of its clock.
+    fn bus_free(&self) -> u64
+        ensures { result ≡ free self.now };
+
+    /// Makes turns at the greatest moment, and takes replies in, until everything is answered, or tells why it isn't.
     fn drain<R: Wait>(
         &mut self,
         rt: &R,

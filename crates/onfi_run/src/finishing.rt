@@ -27,36 +27,36 @@ struct Finished {
     short_of_memory: bool,
 }
 
-/// Collects all that waits for a host in its inbox, and keeps the answers.
-fn empty<R: Wait>(rt: &R, inbox: &mut Inbox, answers: &mut Answers)
+/// Collects all that waits for a host in its inbox at that moment, and keeps the answers.
+fn empty<R: Wait>(rt: &R, now: u64, inbox: &mut Inbox, answers: &mut Answers)
     ensures same { inbox.new.queue ≡ inbox.old.queue }
-    ensures got { Empties (inbox.old, answers.old) (inbox.new, answers.new) }
-    ensures adds { AddsReplies answers.old answers.new }
+    ensures got { Empties now (inbox.old, answers.old) (inbox.new, answers.new) }
+    ensures adds { AddsReplies now answers.old answers.new }
 {
     for _ in rt.forever() {
         let Some(reply) = inbox.collect(rt) else {
             break;
         };
-        answers.keep(reply);
+        answers.keep(reply, now);
     }
 }
 
-/// Collects all that waits in the inboxes of a channel, each host's with its own answers.
-fn empty_all<R: Wait>(rt: &R, inboxes: &mut [Inbox; 4], got: &mut [Answers; 4])
+/// Collects all that waits in the inboxes of a channel at that moment, each host's with its own answers.
+fn empty_all<R: Wait>(rt: &R, now: u64, inboxes: &mut [Inbox; 4], got: &mut [Answers; 4])
     ensures same { queues_of inboxes.new ≡ queues_of inboxes.old }
-    ensures got { AllZip Empties (zip inboxes.old got.old) (zip inboxes.new got.new) }
-    ensures adds { AllZip AddsReplies got.old got.new }
+    ensures got { AllZip (Empties now) (zip inboxes.old got.old) (zip inboxes.new got.new) }
+    ensures adds { AllZip (AddsReplies now) got.old got.new }
 {
-    empty(rt, &mut inboxes[0], &mut got[0]);
-    empty(rt, &mut inboxes[1], &mut got[1]);
-    empty(rt, &mut inboxes[2], &mut got[2]);
-    empty(rt, &mut inboxes[3], &mut got[3]);
+    empty(rt, now, &mut inboxes[0], &mut got[0]);
+    empty(rt, now, &mut inboxes[1], &mut got[1]);
+    empty(rt, now, &mut inboxes[2], &mut got[2]);
+    empty(rt, now, &mut inboxes[3], &mut got[3]);
 }
 
 /// Whether each operation of each host has its answer.
 fn are_complete(got: &[Answers; 4]) -> bool
     ensures complete { result ≡ spec_are_complete got.now }
-    ensures suited { Each IsSuited got.now }
+    ensures suited { Each (Each IsSuited) got.now }
 {
     let first = got[0].is_complete();
     let second = got[1].is_complete();
@@ -94,7 +94,7 @@ fn channel_end(
 }
 
 /// Whether one of the two holds.
-fn either(first: bool, second: bool) -> bool
+pub(crate) fn either(first: bool, second: bool) -> bool
     ensures { result ≡ (first || second) }
 {
     first || second
@@ -135,16 +135,17 @@ fn ends_of(ports: [Port; 4]) -> ([Host; 4], [Inbox; 4], [Answers; 4])
     )
 }
 
-/// Drains a channel whose hosts have these ports, empties its inboxes and closes it.
+/// Drains a channel whose hosts have these ports, empties its inboxes at that moment and closes it.
 fn close_channel<R: Wait, C: Channel + Drop>(
     rt: &R,
     alloc: Global,
+    now: u64,
     lane: Lane<C>,
     short_of_memory: bool,
     ports: [Port; 4],
 ) -> Finished
     requires { AreEndsOf (C.queues lane.channel) ports }
-    ensures got { AllZip AddsReplies (map (λ p. p.answers) ports) result.got }
+    ensures got { AllZip (AddsReplies now) (map (λ p. p.answers) ports) result.got }
     ensures finished { IsFinished result }
     ensures short { IsTrue (short_of_memory || C.short lane.channel) → IsTrue result.short_of_memory }
 {
@@ -152,10 +153,11 @@ fn close_channel<R: Wait, C: Channel + Drop>(
         mut channel,
         ended,
         refusals: _,
+        pace: _,
     } = lane;
     let (hosts, mut inboxes, mut got) = ends_of(ports);
     let drained = channel.drain(rt, alloc, &hosts, &mut inboxes);
-    empty_all(rt, &mut inboxes, &mut got);
+    empty_all(rt, now, &mut inboxes, &mut got);
     channel.close(rt, hosts, inboxes);
     conclude(drained, ended, short_of_memory, got)
 }
@@ -204,6 +206,7 @@ impl Report {
             ],
             ends: Vec::new(alloc),
             short_of_memory,
+            clock: None,
         }
     }
 
@@ -215,6 +218,7 @@ impl Report {
             got,
             mut ends,
             short_of_memory,
+            clock,
         } = self;
         let (g0, g1, g2, g3) = apart(got);
         let (a0, a1, a2, a3) = apart(finished.got);
@@ -223,6 +227,7 @@ impl Report {
             got: [g0.with(a0)?, g1.with(a1)?, g2.with(a2)?, g3.with(a3)?],
             ends,
             short_of_memory: either(short_of_memory, finished.short_of_memory),
+            clock,
         })
     }
 }
@@ -231,6 +236,7 @@ impl Report {
 fn gather<R: Wait, C: Channel + Drop>(
     rt: &R,
     alloc: Global,
+    now: u64,
     lanes: Vec<Lane<C>>,
     stations: [Station; 4],
     short_of_memory: bool,
@@ -243,15 +249,16 @@ fn gather<R: Wait, C: Channel + Drop>(
         return Ok(Report::new(alloc, short_of_memory));
     };
     let (stations, ports) = take_ports(stations);
-    let finished = close_channel(rt, alloc, lane, short_of_memory, ports);
-    let report = gather(rt, alloc, left, stations, short_of_memory)?;
+    let finished = close_channel(rt, alloc, now, lane, short_of_memory, ports);
+    let report = gather(rt, alloc, now, left, stations, short_of_memory)?;
     report.with_channel(finished)
 }
 
-/// The report of all channels, in their order.
+/// The report of all channels, in their order; what is left in inboxes is collected at that moment, in ns of the run's clock.
 pub(crate) fn finish_all<R: Wait, C: Channel + Drop>(
     rt: &R,
     alloc: Global,
+    now: u64,
     lanes: Vec<Lane<C>>,
     stations: [Station; 4],
 ) -> Result<Report, AllocError>
@@ -259,5 +266,5 @@ pub(crate) fn finish_all<R: Wait, C: Channel + Drop>(
     ensures { IfOk result (λ report. IsGathered (ports_of stations) (length lanes.items) report) }
 {
     let short_of_memory = is_any_short(&stations);
-    gather(rt, alloc, lanes, stations, short_of_memory)
+    gather(rt, alloc, now, lanes, stations, short_of_memory)
 }

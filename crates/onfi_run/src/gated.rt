@@ -3,7 +3,7 @@ ghost use Rattle.std.specs.Prelude.{◌≡◌, ◌||◌};
 ghost use Rattle.onfi_core.specs.Steps.{none_left};
 ghost use Rattle.onfi_run.specs.Ending as spec;
 
-use crate::channel::{Channel, Drained};
+use crate::channel::{Channel, Drained, NO_CLOCK};
 use crate::channel_end::ChannelEnd;
 use crate::progress::Progress;
 use onfi_chip::SimChip;
@@ -16,9 +16,6 @@ use std::sync::Wait;
 
 /// The most turns of a drain.
 const MOST_TURNS: u64 = 1_000_000;
-
-/// A run has no clock: at this moment nothing waits.
-const NO_CLOCK: u64 = u64::MAX;
 
 /// The sequencer of a simulated chip, which plans by a planner of this type, with the gate that is called before each of its
 /// turns.
@@ -40,7 +37,8 @@ impl<P: Planner, G: Gate> Gated<P, G> {
             Turn::Memory if self.sequencer.has_phase() => Progress::Refused,
             Turn::Memory => Progress::Starved,
             Turn::Phase | Turn::Planned => Progress::Advanced,
-            Turn::Posted | Turn::Accepted | Turn::Waits { .. } => Progress::Moved,
+            Turn::Posted | Turn::Accepted => Progress::Moved,
+            Turn::Waits { until } => Progress::Waits { until },
             Turn::PostFull | Turn::Idle => Progress::Quiet,
         }
     }
@@ -75,13 +73,19 @@ impl<P: Planner + Drop, G: Gate + Drop> Channel for Gated<P, G> {
 
     ghost short = { λ c. c.sequencer.0.short };
 
-    ghost proceeds = { λ c p c'. Proceeds (seen_in chip_in c.sequencer) p (seen_in chip_in c'.sequencer) };
+    ghost free = { λ c. c.sequencer.0.half.now.bus_free };
+
+    ghost proceeds = { λ now c p c'. Proceeds now (seen_in chip_in c.sequencer) p (seen_in chip_in c'.sequencer) };
 
     ghost drains = { λ c hosts d c'. DrainsTo (seen_in chip_in c.sequencer) hosts d (seen_in chip_in c'.sequencer) };
 
-    fn turn<R: Wait>(&mut self, rt: &R, alloc: Global) -> Progress {
-        let turn = self.sequencer.turn(rt, alloc, &mut self.gate, NO_CLOCK);
+    fn turn<R: Wait>(&mut self, rt: &R, alloc: Global, now: u64) -> Progress {
+        let turn = self.sequencer.turn(rt, alloc, &mut self.gate, now);
         self.progress(turn)
+    }
+
+    fn bus_free(&self) -> u64 {
+        self.sequencer.bus_free()
     }
 
     fn drain<R: Wait>(

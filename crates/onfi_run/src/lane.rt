@@ -1,11 +1,14 @@
 //! A channel in its thread.
-ghost use Rattle.std.specs.Prelude.{◌≡◌, Bool, IsTrue, Some};
+ghost use Rattle.std.specs.Prelude.{◌≡◌, ◌≤◌, Bool, IsTrue, Option, Some, false, is_some};
 ghost use Rattle.onfi_run.specs.declared.progress.Progress.{Progress as AProgress};
+ghost use Rattle.onfi_run.specs.declared.channel_end.ChannelEnd.{ChannelEnd};
+ghost use Rattle.onfi_run.specs.Pace.{due_of, pace_behind};
 ghost use Rattle.onfi_run.specs.Ending.{is_spent, refusals_behind, thread_end};
 
 use crate::board::Board;
-use crate::channel::Channel;
+use crate::channel::{Channel, NO_CLOCK};
 use crate::channel_end::ChannelEnd;
+use crate::pace::Pace;
 use crate::progress::Progress;
 use std::alloc::Global;
 use std::sync::Wait;
@@ -23,12 +26,15 @@ pub(crate) struct Lane<C: Channel> {
     pub(crate) ended: ChannelEnd,
     /// How many turns were refused memory since the last phase or plan.
     pub(crate) refusals: u64,
+    /// When it makes its next turn, in a run with a clock.
+    pub(crate) pace: Pace,
 }
 
 impl<C: Channel> Lane<C> {
     /// How the channel's thread ends behind a turn that came to this, if it does.
     fn end_behind(&mut self, progress: Progress, all_ended: bool) -> Option<ChannelEnd>
         ensures channel { self.new.channel ≡ self.old.channel }
+        ensures pace { self.new.pace ≡ self.old.pace }
         ensures end { result ≡ thread_end (is_spent self.old.refusals) all_ended progress }
         ensures refusals { self.new.refusals ≡ refusals_behind self.old.refusals progress }
     {
@@ -37,7 +43,7 @@ impl<C: Channel> Lane<C> {
                 self.refusals = 0;
                 None
             }
-            Progress::Moved => None,
+            Progress::Moved | Progress::Waits { .. } => None,
             Progress::Quiet if all_ended => Some(ChannelEnd::Done),
             Progress::Quiet => None,
             Progress::Refused if self.refusals >= MOST_REFUSALS => Some(ChannelEnd::Unfinished),
@@ -53,15 +59,44 @@ impl<C: Channel> Lane<C> {
 
     /// Makes a turn, and answers how the channel's thread ends behind it, if it does.
     fn step<R: Wait>(&mut self, rt: &R, alloc: Global, board: &Board) -> Option<ChannelEnd>
-        ensures ended { (p : AProgress) × (all_ended : Bool) × C.proceeds self.old.channel p self.new.channel × (result ≡ thread_end (is_spent self.old.refusals) all_ended p) }
+        ensures ended { (p : AProgress) × (all_ended : Bool) × C.proceeds 18446744073709551615 self.old.channel p self.new.channel × (result ≡ thread_end (is_spent self.old.refusals) all_ended p) }
         ensures same { C.queues self.new.channel ≡ C.queues self.old.channel }
         ensures short { IsTrue (C.short self.old.channel) → IsTrue (C.short self.new.channel) }
     {
-        let progress = self.channel.turn(rt, alloc);
+        let progress = self.channel.turn(rt, alloc, NO_CLOCK);
         if matches!(progress, Progress::Quiet) {
             thread::yield_now();
         }
         self.end_behind(progress, board.have_hosts_ended())
+    }
+
+    /// From when on it may make a turn, in ns of the run's clock; `NO_CLOCK` where there is no such moment.
+    pub(crate) fn due(&self) -> u64
+        ensures { result ≡ due_of self.now.pace (C.free self.now.channel) }
+    {
+        self.pace.due(self.channel.bus_free())
+    }
+
+    /// Makes a turn at that moment of the run's clock, if it may make one, and answers whether it did. Its bus is free by then.
+    pub(crate) fn turn_at<R: Wait>(&mut self, rt: &R, alloc: Global, now: u64) -> bool
+        ensures due { IsTrue result → C.free self.old.channel ≤ now }
+        ensures turned { IsTrue result → (p : AProgress) × (end : Option ChannelEnd) × C.proceeds now self.old.channel p self.new.channel
+            × (end ≡ thread_end (is_spent self.old.refusals) false p) × (self.new.pace ≡ pace_behind now (C.free self.new.channel) p (is_some end) self.old.pace) }
+        ensures none { result ≡ false → self.new ≡ self.old }
+        ensures same { C.queues self.new.channel ≡ C.queues self.old.channel }
+        ensures short { IsTrue (C.short self.old.channel) → IsTrue (C.short self.new.channel) }
+    {
+        if self.due() > now || self.pace.has_ended {
+            return false;
+        }
+        let progress = self.channel.turn(rt, alloc, now);
+        let end = self.end_behind(progress, false);
+        if let Some(end) = end {
+            self.ended = end;
+        }
+        let free = self.channel.bus_free();
+        self.pace.turn(now, free, progress, end.is_some());
+        true
     }
 
     /// What the channel's thread does: turns, until the channel stopped or can't plan with no phase left, or nothing is
@@ -73,7 +108,7 @@ impl<C: Channel> Lane<C> {
         board: &Board,
         number: usize,
     ) -> Lane<C>
-        ensures ended { (before : C) × (p : AProgress) × (spent : Bool) × (all_ended : Bool) × C.proceeds before p result.channel × (Some result.ended ≡ thread_end spent all_ended p) }
+        ensures ended { (before : C) × (p : AProgress) × (spent : Bool) × (all_ended : Bool) × C.proceeds 18446744073709551615 before p result.channel × (Some result.ended ≡ thread_end spent all_ended p) }
         ensures same { C.queues result.channel ≡ C.queues self.channel }
         ensures short { IsTrue (C.short self.channel) → IsTrue (C.short result.channel) }
     {

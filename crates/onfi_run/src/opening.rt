@@ -14,6 +14,7 @@ use crate::channel_end::ChannelEnd;
 use crate::chip::chip_of;
 use crate::gated::Gated;
 use crate::lane::Lane;
+use crate::pace::Pace;
 use crate::port::Port;
 use crate::setup::setup_of;
 use crate::station::{Station, apart};
@@ -71,6 +72,7 @@ fn open_lane<P: Planner + Drop, G: Gate + Drop>(
         channel: Gated { sequencer, gate },
         ended: ChannelEnd::Unfinished,
         refusals: 0,
+        pace: Pace::new(),
     })
 }
 
@@ -142,6 +144,7 @@ impl Station {
         Station {
             number,
             ports: Vec::new(alloc),
+            passed: 0,
             short_of_memory: false,
         }
     }

@@ -1,7 +1,7 @@
 //! A host's ends on a channel.
 ghost use Rattle.std.specs.Prelude.{◌≡◌, ◌++◌, [], ◌∷◌, List, IfSome, IfNone};
 ghost use Rattle.onfi_request.specs.declared.request.Request.{Request as ARequest};
-ghost use Rattle.onfi_run.specs.Keys.{port_key, port_state, Collects};
+ghost use Rattle.onfi_run.specs.Keys.{port_key, port_state, Collects, Submits};
 ghost use Rattle.onfi_run.specs.Sending.{IsSending};
 
 use crate::answers::Answers;
@@ -21,14 +21,14 @@ pub(crate) struct Port {
 }
 
 impl Port {
-    /// Collects the next reply, and answers whether there was one.
-    pub(crate) fn collect<R: Wait>(&mut self, rt: &R) -> bool
+    /// Collects the next reply at that moment, and answers whether there was one.
+    pub(crate) fn collect<R: Wait>(&mut self, rt: &R, now: u64) -> bool
         ensures same { port_state self.new ≡ port_state self.old }
-        ensures collected { Collects result self.old self.new }
+        ensures collected { Collects now result self.old self.new }
     {
         match self.inbox.collect(rt) {
             Some(reply) => {
-                self.answers.keep(reply);
+                self.answers.keep(reply, now);
                 true
             }
             None => false,
@@ -38,23 +38,28 @@ impl Port {
     /// Leaves an operation out.
     pub(crate) fn leave_out(&mut self)
         ensures same { port_key self.new ≡ port_key self.old }
+        ensures nothing { (self.new.host ≡ self.old.host) × (self.new.answers ≡ self.old.answers) }
         ensures left { (requests : List ARequest) (request : ARequest) → IsSending requests self.old → IsSending (requests ++ request ∷ []) self.new }
     {
         self.left_out = true;
     }
 
-    /// Submits a request behind all that were submitted, or leaves it out where one was left out before. It comes back
-    /// where the queue was full.
-    pub(crate) fn submit<R: Wait>(&mut self, rt: &R, request: Request) -> Option<Request>
+    /// Submits a request at that moment behind all that were submitted, or leaves it out where one was left out before. It
+    /// comes back where the queue was full.
+    pub(crate) fn submit<R: Wait>(&mut self, rt: &R, now: u64, request: Request) -> Option<Request>
         ensures same { port_key self.new ≡ port_key self.old }
         ensures sent { IfNone result ((requests : List ARequest) → IsSending requests self.old → IsSending (requests ++ request ∷ []) self.new) }
         ensures full { IfSome result (λ back. (back ≡ request) × (port_state self.new ≡ port_state self.old)) }
+        ensures moment { Submits now self.old self.new }
     {
         if self.left_out {
             return None;
         }
         match self.host.submit(rt, request) {
-            Ok(_) => None,
+            Ok(serial) => {
+                self.answers.send(serial, now);
+                None
+            }
             Err((SubmitFault::Full, request)) => Some(request),
             Err(_) => {
                 self.leave_out();

@@ -7,6 +7,8 @@ pub enum Progress {
     Advanced,
     /// A reply was posted or an item accepted; or a planning was over, and a phase is left.
     Moved,
+    /// The next phase starts then, behind the moment of the turn; a run without a clock has none such.
+    Waits { until: u64 },
     /// Nothing is left to do but to post to full queues.
     Quiet,
     /// Memory was refused, and a phase is left.

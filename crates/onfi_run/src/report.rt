@@ -1,6 +1,13 @@
 //! What a run came to.
+ghost use Rattle.std.specs.Prelude.{◌≡◌, length, IfOk, None, Some};
+
 use crate::answers::Got;
+use crate::bus_use::BusUse;
 use crate::channel_end::ChannelEnd;
+use crate::clock_report::ClockReport;
+use crate::latency::latency_of;
+use onfi_timing::Kind;
+use std::alloc::{AllocError, Global};
 use std::marker::Model;
 
 /// What a run came to.
@@ -12,6 +19,8 @@ pub struct Report {
     pub ends: Vec<ChannelEnd>,
     /// Whether memory was refused on the way.
     pub short_of_memory: bool,
+    /// What the run's clock told, where it has one.
+    pub clock: Option<ClockReport>,
 }
 
 impl Model for Report {
@@ -19,5 +28,40 @@ impl Model for Report {
 
     ghost Value = { ReportView };
 
-    ghost view = { λ r. record { got = r.got; ends = r.ends.items; short_of_memory = r.short_of_memory } };
+    ghost view = { λ r. record { got = r.got; ends = r.ends.items; short_of_memory = r.short_of_memory; clock = r.clock } };
+}
+
+impl Report {
+    ghost use Rattle.onfi_run.specs.declared.clock_report.ClockReport.{ClockReport as AClockReport};
+    ghost use Rattle.onfi_run.specs.Told.{IsClockOf};
+
+    /// With what a clock told: how busy the bus of each channel was; how long operations took is taken from the moments of
+    /// the replies.
+    ///
+    /// # Errors
+    /// Want of memory.
+    pub(crate) fn with_clock(self, alloc: Global, buses: Vec<BusUse>) -> Result<Report, AllocError>
+        requires none { self.clock ≡ None }
+        requires buses { length buses.items ≡ length self.ends }
+        ensures clock { IfOk result (λ report. (clock : AClockReport) × (report ≡ record self { clock = Some clock }) × IsClockOf self clock × (clock.buses.items ≡ buses.items)) }
+    {
+        let clock = ClockReport {
+            buses,
+            reads: latency_of(alloc, Kind::Read, &self.got)?,
+            programs: latency_of(alloc, Kind::Program, &self.got)?,
+            erases: latency_of(alloc, Kind::Erase, &self.got)?,
+        };
+        let Report {
+            got,
+            ends,
+            short_of_memory,
+            clock: _,
+        } = self;
+        Ok(Report {
+            got,
+            ends,
+            short_of_memory,
+            clock: Some(clock),
+        })
+    }
 }

@@ -1,5 +1,5 @@
 //! From the bytes of an input to the bytes of its answer.
-ghost use Rattle.std.specs.Prelude.{◌≡◌, ◌≤◌, length, IfOk};
+ghost use Rattle.std.specs.Prelude.{◌≡◌, ◌≤◌, length, IfOk, true, false};
 ghost use Rattle.std.specs.Io.KnownBytes.{Keeps};
 ghost use Rattle.onfi_script.specs.AnswerOf.{answer_of};
 ghost use Rattle.onfi_run.specs.Prepares.{IsPrepared};
@@ -11,6 +11,8 @@ use crate::no_gate::no_gates;
 use crate::opening::Stage;
 use crate::preparing::{Prepared, prepare};
 use crate::report::Report;
+use crate::simulation::{Course, Settled, buses_of, simulate};
+use crate::station::NO_MOMENT;
 use crate::text::report_answer;
 use crate::threads::run_threads;
 use onfi_plan::Planner;
@@ -21,7 +23,7 @@ use std::io::{Read, Write};
 use std::sync::Wait;
 use std::thread::Threads;
 
-/// Runs what was prepared, and answers what it came to.
+/// Runs what was prepared in threads, and answers what it came to.
 fn run<R: Threads + Wait + Sync, P: Planner + Copy + Send + Drop, G: Gate + Send + Drop>(
     rt: &R,
     alloc: Global,
@@ -33,14 +35,69 @@ fn run<R: Threads + Wait + Sync, P: Planner + Copy + Send + Drop, G: Gate + Send
     requires some { 1 ≤ limit }
     requires few { limit ≤ 1048576 }
     requires gates { length gates.items ≡ 4 }
-    ensures { IfOk result (λ report. IsReportOf prepared.now.rows.items report) }
+    ensures { IfOk result (λ report. IsReportOf false prepared.now.rows.items report) }
 {
     let rows = prepared.rows.as_slice();
     let stage = Stage::open(alloc, rows, &prepared.device, planner, limit, gates)?;
     let Stage { lanes, stations } = stage;
     match run_threads(rt, alloc, &prepared.device.geometry, rows, lanes, stations) {
-        Some(ran) => finish_all(rt, alloc, ran.0, ran.1),
+        Some(ran) => finish_all(rt, alloc, NO_MOMENT, ran.0, ran.1),
         None => Err(AllocError),
+    }
+}
+
+/// Runs what was prepared by a clock, and answers what it came to.
+fn run_by_clock<R: Wait, P: Planner + Copy + Drop, G: Gate + Drop>(
+    rt: &R,
+    alloc: Global,
+    planner: P,
+    limit: u32,
+    gates: Vec<G>,
+    prepared: &Prepared,
+) -> Result<Report, AllocError>
+    requires some { 1 ≤ limit }
+    requires few { limit ≤ 1048576 }
+    requires gates { length gates.items ≡ 4 }
+    ensures { IfOk result (λ report. IsReportOf true prepared.now.rows.items report) }
+{
+    let rows = prepared.rows.as_slice();
+    let stage = Stage::open(alloc, rows, &prepared.device, planner, limit, gates)?;
+    let Stage { lanes, stations } = stage;
+    let course = Course {
+        alloc,
+        geometry: &prepared.device.geometry,
+        rows,
+    };
+    let settled = simulate(rt, &course, lanes, stations);
+    let Settled {
+        lanes,
+        stations,
+        now,
+    } = settled;
+    let buses = buses_of(alloc, lanes.as_slice())?;
+    let report = finish_all(rt, alloc, now, lanes, stations)?;
+    report.with_clock(alloc, buses)
+}
+
+/// Runs what was prepared, by a clock or in threads.
+fn run_either<R: Threads + Wait + Sync, P: Planner + Copy + Send + Drop, G: Gate + Send + Drop>(
+    rt: &R,
+    alloc: Global,
+    planner: P,
+    limit: u32,
+    clocked: bool,
+    gates: Vec<G>,
+    prepared: &Prepared,
+) -> Result<Report, AllocError>
+    requires some { 1 ≤ limit }
+    requires few { limit ≤ 1048576 }
+    requires gates { length gates.items ≡ 4 }
+    ensures { IfOk result (λ report. IsReportOf clocked prepared.now.rows.items report) }
+{
+    if clocked {
+        run_by_clock(rt, alloc, planner, limit, gates, prepared)
+    } else {
+        run(rt, alloc, planner, limit, gates, prepared)
     }
 }
 
@@ -50,17 +107,18 @@ fn answer<R: Threads + Wait + Sync, P: Planner + Copy + Send + Drop, G: Gate + S
     alloc: Global,
     planner: P,
     limit: u32,
+    clocked: bool,
     gates: Vec<G>,
     input: &[u8],
 ) -> Result<Answer, AllocError>
     requires some { 1 ≤ limit }
     requires few { limit ≤ 1048576 }
     requires gates { length gates.items ≡ 4 }
-    ensures { IfOk result (λ a. IsAnswer input.now (answer_of a)) }
+    ensures { IfOk result (λ a. IsAnswer clocked input.now (answer_of a)) }
 {
     match prepare(alloc, input) {
         Ok(prepared) => {
-            let report = run(rt, alloc, planner, limit, gates, &prepared)?;
+            let report = run_either(rt, alloc, planner, limit, clocked, gates, &prepared)?;
             report_answer(alloc, &report)
         }
         Err(Stop::Refused(refusal)) => refused(alloc, refusal),
@@ -68,9 +126,13 @@ fn answer<R: Threads + Wait + Sync, P: Planner + Copy + Send + Drop, G: Gate + S
     }
 }
 
-/// Reads a script of hosts' operations, runs each channel and each host in a thread of its own, and writes what each host
-/// got. Each channel plans by a copy of `planner`, with at most `limit` nodes, 1 to 1,048,576, for one planning. Gate i, of
-/// four, is called before each turn of channel i.
+/// Reads a script of hosts' operations, runs each channel and each host in a thread of its own or, where `clocked`, all of them
+/// by one clock, and writes what each host got. Each channel plans by a copy of `planner`, with at most `limit` nodes, 1 to
+/// 1,048,576, for one planning. Gate i, of four, is called before each turn of channel i.
+///
+/// By a clock, one thread goes from moment to moment: at each, hosts submit and collect what they can and channels make
+/// turns until nothing changes, and what a phase takes of the bus is waited for. So the report rests on the script and the
+/// planner alone, tells when each reply was collected, how busy buses were and how long operations took.
 ///
 /// Answers the exit status of the program: 0 only where each operation of the script is answered, 1 where the script is
 /// refused, 3 where a channel stopped or was left unfinished, 4 for want of memory, 6 where a planning opened `limit` nodes
@@ -90,6 +152,7 @@ pub fn run_script<
     alloc: Global,
     planner: P,
     limit: u32,
+    clocked: bool,
     gates: Vec<G>,
     reader: &mut I,
     writer: &mut O,
@@ -97,16 +160,16 @@ pub fn run_script<
     requires some { 1 ≤ limit }
     requires few { limit ≤ 1048576 }
     requires gates { length gates.items ≡ 4 }
-    ensures answer { IfOk result (λ status. Answers (I.remaining reader.old) (O.contents writer.old) (O.contents writer.new) status) }
+    ensures answer { IfOk result (λ status. Answers clocked (I.remaining reader.old) (O.contents writer.old) (O.contents writer.new) status) }
     ensures unread { result ≡ Err EngineFault.Read → Keeps (O.contents writer.old) (O.contents writer.new) }
-    ensures unwritten { result ≡ Err EngineFault.Write → BeginsAnswer (I.remaining reader.old) (O.contents writer.old) (O.contents writer.new) }
+    ensures unwritten { result ≡ Err EngineFault.Write → BeginsAnswer clocked (I.remaining reader.old) (O.contents writer.old) (O.contents writer.new) }
 {
     let input = match read_all(alloc, reader) {
         Ok(input) => input,
         Err(InputFault::Read) => return Err(EngineFault::Read),
         Err(InputFault::Memory) => return tell(writer, b"memory\n", 4),
     };
-    match answer(rt, alloc, planner, limit, gates, input.as_slice()) {
+    match answer(rt, alloc, planner, limit, clocked, gates, input.as_slice()) {
         Ok(answer) => tell(writer, answer.text.as_slice(), answer.status),
         Err(AllocError) => tell(writer, b"memory\n", 4),
     }
@@ -121,17 +184,18 @@ pub fn run_freely<R: Threads + Wait + Sync, P: Planner + Copy + Send + Drop, I: 
     alloc: Global,
     planner: P,
     limit: u32,
+    clocked: bool,
     reader: &mut I,
     writer: &mut O,
 ) -> Result<u8, EngineFault>
     requires some { 1 ≤ limit }
     requires few { limit ≤ 1048576 }
-    ensures answer { IfOk result (λ status. Answers (I.remaining reader.old) (O.contents writer.old) (O.contents writer.new) status) }
+    ensures answer { IfOk result (λ status. Answers clocked (I.remaining reader.old) (O.contents writer.old) (O.contents writer.new) status) }
     ensures unread { result ≡ Err EngineFault.Read → Keeps (O.contents writer.old) (O.contents writer.new) }
-    ensures unwritten { result ≡ Err EngineFault.Write → BeginsAnswer (I.remaining reader.old) (O.contents writer.old) (O.contents writer.new) }
+    ensures unwritten { result ≡ Err EngineFault.Write → BeginsAnswer clocked (I.remaining reader.old) (O.contents writer.old) (O.contents writer.new) }
 {
     match no_gates(alloc) {
-        Ok(gates) => run_script(rt, alloc, planner, limit, gates, reader, writer),
+        Ok(gates) => run_script(rt, alloc, planner, limit, clocked, gates, reader, writer),
         Err(AllocError) => tell(writer, b"memory\n", 4),
     }
 }

@@ -1,5 +1,5 @@
 //! A host with its ends on all channels.
-ghost use Rattle.std.specs.Prelude.{◌≡◌, ℕ, ◌++◌, [], ◌∷◌, List, map};
+ghost use Rattle.std.specs.Prelude.{◌≡◌, ℕ, ◌++◌, [], ◌∷◌, List, map, IsTrue, false};
 ghost use Rattle.onfi_request.specs.declared.request.Request.{Request as ARequest};
 ghost use Rattle.onfi_script.specs.declared.row.Row.{Row as ARow};
 ghost use Rattle.onfi_run.specs.Keys.{HasSamePorts, SendsNothing};
@@ -17,12 +17,17 @@ use std::alloc::Global;
 use std::sync::Wait;
 use std::thread;
 
+/// The moment of all that is done in a run without a clock.
+pub(crate) const NO_MOMENT: u64 = 0;
+
 /// A host with its ends on all channels.
 #[derive(Drop)]
 pub(crate) struct Station {
     pub(crate) number: u8,
     /// By channel.
     pub(crate) ports: Vec<Port>,
+    /// How many rows it has gone through, in a run with a clock.
+    pub(crate) passed: usize,
     pub(crate) short_of_memory: bool,
 }
 
@@ -35,29 +40,38 @@ pub(crate) fn apart<T>(of: [T; 4]) -> (T, T, T, T)
 }
 
 impl Station {
-    /// Collects the next reply of one inbox.
-    fn collect<R: Wait>(&mut self, rt: &R, channel: usize)
+    /// Collects the next reply of one inbox at that moment, and answers whether there was one.
+    fn collect<R: Wait>(&mut self, rt: &R, now: u64, channel: usize) -> bool
         ensures number { self.new.number ≡ self.old.number }
+        ensures passed { self.new.passed ≡ self.old.passed }
         ensures same { SendsNothing self.old.ports.items self.new.ports.items }
     {
         if channel < self.ports.len() {
-            self.ports[channel].collect(rt);
+            self.ports[channel].collect(rt, now)
+        } else {
+            false
         }
     }
 
-    /// Collects what waits in each inbox, one reply of each.
-    fn collect_all<R: Wait>(&mut self, rt: &R)
+    /// Collects what waits in each inbox at that moment, one reply of each, and answers whether there was one.
+    pub(crate) fn collect_all<R: Wait>(&mut self, rt: &R, now: u64) -> bool
         ensures number { self.new.number ≡ self.old.number }
+        ensures passed { self.new.passed ≡ self.old.passed }
         ensures same { SendsNothing self.old.ports.items self.new.ports.items }
     {
+        let mut any = false;
         for channel in 0..4usize {
-            self.collect(rt, channel);
+            if self.collect(rt, now, channel) {
+                any = true;
+            }
         }
+        any
     }
 
     /// Leaves an operation on a channel out.
     fn leave_out(&mut self, channel: usize)
         ensures number { self.new.number ≡ self.old.number }
+        ensures passed { self.new.passed ≡ self.old.passed }
         ensures same { HasSamePorts self.old.ports.items self.new.ports.items }
         ensures left { (requests : ℕ → List ARequest) (request : ARequest) → AreSending requests self.old.ports.items → AreSending (with_request requests channel request) self.new.ports.items }
     {
@@ -66,14 +80,21 @@ impl Station {
         }
     }
 
-    /// Submits a request to a channel; it comes back where the queue was full.
-    fn submit_once<R: Wait>(&mut self, rt: &R, channel: usize, request: Request) -> Option<Request>
+    /// Submits a request to a channel at that moment; it comes back where the queue was full.
+    fn submit_once<R: Wait>(
+        &mut self,
+        rt: &R,
+        now: u64,
+        channel: usize,
+        request: Request,
+    ) -> Option<Request>
         ensures number { self.new.number ≡ self.old.number }
+        ensures passed { self.new.passed ≡ self.old.passed }
         ensures same { HasSamePorts self.old.ports.items self.new.ports.items }
         ensures tried { Tried result channel request self.old.ports.items self.new.ports.items }
     {
         if channel < self.ports.len() {
-            self.ports[channel].submit(rt, request)
+            self.ports[channel].submit(rt, now, request)
         } else {
             None
         }
@@ -92,8 +113,8 @@ impl Station {
         ensures same { HasSamePorts self.old.ports.items self.new.ports.items }
         ensures tried { Tried result channel request self.old.ports.items self.new.ports.items }
     {
-        let request = self.submit_once(rt, channel, request)?;
-        self.collect_all(rt);
+        let request = self.submit_once(rt, NO_MOMENT, channel, request)?;
+        self.collect_all(rt, NO_MOMENT);
         if board.has_channel_ended(channel) {
             self.leave_out(channel);
             return None;
@@ -138,6 +159,61 @@ impl Station {
             Err(_) => {
                 self.short_of_memory = true;
                 self.leave_out(channel);
+            }
+        }
+    }
+
+    /// Submits a request to a channel at that moment, or leaves it out where the queue is full and the channel has ended; whether
+    /// either was done.
+    fn submit_at<R: Wait>(
+        &mut self,
+        rt: &R,
+        now: u64,
+        channel: usize,
+        has_ended: bool,
+        request: Request,
+    ) -> bool
+        ensures number { self.new.number ≡ self.old.number }
+        ensures passed { self.new.passed ≡ self.old.passed }
+        ensures same { HasSamePorts self.old.ports.items self.new.ports.items }
+        ensures sent { IsTrue result → (requests : ℕ → List ARequest) → AreSending requests self.old.ports.items → AreSending (with_request requests channel request) self.new.ports.items }
+        ensures waits { result ≡ false → (requests : ℕ → List ARequest) → AreSending requests self.old.ports.items → AreSending requests self.new.ports.items }
+    {
+        match self.submit_once(rt, now, channel, request) {
+            None => true,
+            Some(_) if has_ended => {
+                self.leave_out(channel);
+                true
+            }
+            Some(_) => false,
+        }
+    }
+
+    /// Makes an operation at that moment, or leaves it out where memory is refused or its channel has ended and its queue is
+    /// full; whether it is behind it then: else the queue is full.
+    pub(crate) fn operate_at<R: Wait>(
+        &mut self,
+        rt: &R,
+        alloc: Global,
+        geometry: &Geometry,
+        now: u64,
+        has_ended: bool,
+        operation: &Operation,
+    ) -> bool
+        ensures number { self.new.number ≡ self.old.number }
+        ensures passed { self.new.passed ≡ self.old.passed }
+        ensures same { HasSamePorts self.old.ports.items self.new.ports.items }
+        ensures sent { IsTrue result → (requests : ℕ → List ARequest) → AreSending requests self.old.ports.items
+            → AreSending (with_request requests operation.now.aim.channel (spec_request_of geometry.now operation.now)) self.new.ports.items }
+        ensures waits { result ≡ false → (requests : ℕ → List ARequest) → AreSending requests self.old.ports.items → AreSending requests self.new.ports.items }
+    {
+        let channel = usize::from(operation.aim.channel);
+        match request_of(alloc, geometry, operation) {
+            Ok(request) => self.submit_at(rt, now, channel, has_ended, request),
+            Err(_) => {
+                self.short_of_memory = true;
+                self.leave_out(channel);
+                true
             }
         }
     }
@@ -187,7 +263,7 @@ impl Station {
             if board.have_hosts_ended() {
                 break;
             }
-            self.collect_all(rt);
+            self.collect_all(rt, NO_MOMENT);
             thread::yield_now();
         }
     }

@@ -5,7 +5,11 @@ ghost use Rattle.onfi_script.specs.AnswerOf.{answer_of};
 ghost use Rattle.onfi_run.specs.Report as spec;
 
 use crate::answers::{Answers, Got};
+use crate::bus_use::BusUse;
 use crate::channel_end::ChannelEnd;
+use crate::clock_report::ClockReport;
+use crate::completion::Completion;
+use crate::latency::Latency;
 use crate::report::Report;
 use onfi_core::Cause;
 use onfi_request::Answer;
@@ -55,22 +59,35 @@ fn put_answer(alloc: Global, text: &mut String, answer: &Answer) -> Result<(), A
     }
 }
 
+/// Puts the moment of a reply behind a text, where a clock tells it.
+fn put_at(alloc: Global, text: &mut String, clocked: bool, at: u64) -> Result<(), AllocError>
+    ensures { OnOk result (string_bytes text.new ≡ string_bytes text.old ++ spec.at_text clocked at) }
+{
+    if !clocked {
+        return Ok(());
+    }
+    let moment = format!(in alloc; "{at},")?;
+    text.push_str(moment.as_str())
+}
+
 /// Puts the line of a reply behind a text, where it came.
 fn put_reply(
     alloc: Global,
     text: &mut String,
+    clocked: bool,
     host: usize,
     channel: usize,
     serial: usize,
-    answer: &Option<Answer>,
+    completion: &Completion,
 ) -> Result<(), AllocError>
-    ensures { OnOk result (string_bytes text.new ≡ string_bytes text.old ++ spec.reply_line host channel serial answer.now) }
+    ensures { OnOk result (string_bytes text.new ≡ string_bytes text.old ++ spec.reply_line clocked host channel serial completion.now) }
 {
-    let Some(answer) = answer else {
+    let Some(answer) = &completion.answer else {
         return Ok(());
     };
     let head = format!(in alloc; "reply,{host},{channel},{serial},")?;
     text.push_str(head.as_str())?;
+    put_at(alloc, text, clocked, completion.at)?;
     put_answer(alloc, text, answer)?;
     text.push_str("\n")
 }
@@ -79,34 +96,46 @@ fn put_reply(
 fn put_answers(
     alloc: Global,
     text: &mut String,
+    clocked: bool,
     host: usize,
     channel: usize,
-    answers: &[Option<Answer>],
+    answers: &[Completion],
 ) -> Result<(), AllocError>
-    ensures { OnOk result (string_bytes text.new ≡ string_bytes text.old ++ spec.numbered (spec.reply_line host channel) 0 answers.now) }
+    ensures { OnOk result (string_bytes text.new ≡ string_bytes text.old ++ spec.answers_lines clocked host channel answers.now) }
 {
-    for (serial, answer) in answers.iter().enumerate() {
-        put_reply(alloc, text, host, channel, serial, answer)?;
+    for (serial, completion) in answers.iter().enumerate() {
+        put_reply(alloc, text, clocked, host, channel, serial, completion)?;
     }
     Ok(())
 }
 
 /// Puts what a host got behind a text.
-fn put_got(alloc: Global, text: &mut String, host: usize, got: &[Answers]) -> Result<(), AllocError>
-    ensures { OnOk result (string_bytes text.new ≡ string_bytes text.old ++ spec.got_lines host got.now) }
+fn put_got(
+    alloc: Global,
+    text: &mut String,
+    clocked: bool,
+    host: usize,
+    got: &[Answers],
+) -> Result<(), AllocError>
+    ensures { OnOk result (string_bytes text.new ≡ string_bytes text.old ++ spec.got_lines clocked host got.now) }
 {
     for (channel, answers) in got.iter().enumerate() {
-        put_answers(alloc, text, host, channel, answers.as_slice())?;
+        put_answers(alloc, text, clocked, host, channel, answers.as_slice())?;
     }
     Ok(())
 }
 
 /// Puts all replies behind a text.
-fn put_replies(alloc: Global, text: &mut String, all: &[Got]) -> Result<(), AllocError>
-    ensures { OnOk result (string_bytes text.new ≡ string_bytes text.old ++ spec.reply_lines all.now) }
+fn put_replies(
+    alloc: Global,
+    text: &mut String,
+    clocked: bool,
+    all: &[Got],
+) -> Result<(), AllocError>
+    ensures { OnOk result (string_bytes text.new ≡ string_bytes text.old ++ spec.reply_lines clocked all.now) }
 {
     for (host, got) in all.iter().enumerate() {
-        put_got(alloc, text, host, got.as_slice())?;
+        put_got(alloc, text, clocked, host, got.as_slice())?;
     }
     Ok(())
 }
@@ -155,6 +184,62 @@ fn put_ends(alloc: Global, text: &mut String, ends: &[ChannelEnd]) -> Result<(),
         put_end(alloc, text, channel, end)?;
     }
     Ok(())
+}
+
+/// Puts the lines of buses behind a text.
+fn put_buses(alloc: Global, text: &mut String, buses: &[BusUse]) -> Result<(), AllocError>
+    ensures { OnOk result (string_bytes text.new ≡ string_bytes text.old ++ spec.numbered spec.bus_line 0 buses.now) }
+{
+    for (channel, bus) in buses.iter().enumerate() {
+        put_bus(alloc, text, channel, bus)?;
+    }
+    Ok(())
+}
+
+/// Puts the line of a bus behind a text.
+fn put_bus(alloc: Global, text: &mut String, channel: usize, bus: &BusUse) -> Result<(), AllocError>
+    ensures { OnOk result (string_bytes text.new ≡ string_bytes text.old ++ spec.bus_line channel bus.now) }
+{
+    let busy = bus.busy;
+    let until = bus.until;
+    let line = format!(in alloc; "bus,{channel},{busy},{until}\n")?;
+    text.push_str(line.as_str())
+}
+
+/// Puts the line of a kind behind a text, where it has replies.
+fn put_latency(
+    alloc: Global,
+    text: &mut String,
+    kind: &str,
+    latency: Option<Latency>,
+) -> Result<(), AllocError>
+    ensures { OnOk result (string_bytes text.new ≡ string_bytes text.old ++ spec.latency_line kind.now latency) }
+{
+    let Some(latency) = latency else {
+        return Ok(());
+    };
+    let count = latency.count;
+    let mean = latency.mean;
+    let most = latency.most_of_99;
+    let line = format!(in alloc; "latency,{kind},{count},{mean},{most}\n")?;
+    text.push_str(line.as_str())
+}
+
+/// Puts the lines of a clock behind a text, where there is one.
+fn put_clock(
+    alloc: Global,
+    text: &mut String,
+    clock: &Option<ClockReport>,
+) -> Result<(), AllocError>
+    ensures { OnOk result (string_bytes text.new ≡ string_bytes text.old ++ spec.clock_lines clock.now) }
+{
+    let Some(clock) = clock else {
+        return Ok(());
+    };
+    put_buses(alloc, text, clock.buses.as_slice())?;
+    put_latency(alloc, text, "read", clock.reads)?;
+    put_latency(alloc, text, "program", clock.programs)?;
+    put_latency(alloc, text, "erase", clock.erases)
 }
 
 /// Whether the channel stopped or was left unfinished.
@@ -211,8 +296,9 @@ fn closing_line(short_of_memory: bool) -> &'static str
     }
 }
 
-/// What is written of a report: its replies by host, channel and serial, a line for each channel that stopped, was over
-/// or was left unfinished, and `closed`, or `memory` where memory was refused on the way.
+/// What is written of a report: its replies by host, channel and serial, with their moments where the run has a clock; a
+/// line for each channel that stopped, was over or was left unfinished; the lines of the clock; and `closed`, or `memory`
+/// where memory was refused on the way.
 ///
 /// # Errors
 /// Want of memory.
@@ -220,8 +306,9 @@ pub fn report_answer(alloc: Global, report: &Report) -> Result<Written, AllocErr
     ensures { IfOk result (λ a. answer_of a ≡ spec.report_answer report.now) }
 {
     let mut text = String::new(alloc);
-    put_replies(alloc, &mut text, &report.got)?;
+    put_replies(alloc, &mut text, report.clock.is_some(), &report.got)?;
     put_ends(alloc, &mut text, report.ends.as_slice())?;
+    put_clock(alloc, &mut text, &report.clock)?;
     text.push_str(closing_line(report.short_of_memory))?;
     Ok(Written {
         text: text.into_bytes(),

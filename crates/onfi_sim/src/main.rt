@@ -116,7 +116,11 @@ fn answer_to<R: Threads + Wait + Sync + AllocGlobal>(
 {
     let alloc = rt.alloc();
     match asked.named {
-        Named::Run { planner, limit } => run_freely(rt, alloc, planner, limit, &mut text, answer),
+        Named::Run {
+            planner,
+            limit,
+            clocked,
+        } => run_freely(rt, alloc, planner, limit, clocked, &mut text, answer),
         Named::Problem {
             command: Command::Plan { limit, output, .. },
             workers,

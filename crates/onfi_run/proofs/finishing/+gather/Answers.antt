@@ -49,6 +49,6 @@ returns g t c =
     let more = report_with report finished.result in
     let count = ap length c.in-Some.ensures.items ∙ length_push left c.in-Some.lane in
     let told = finished.ensures in
-    let all = gathered_more ports (ports_of r.result.0) r.result.1 (length left) report finished.result r.ensures c.in_ok-report.ensures told.finished told.got in
+    let all = gathered_more c.args.now ports (ports_of r.result.0) r.result.1 (length left) report finished.result r.ensures c.in_ok-report.ensures told.finished told.got in
     IfOk-weaker c.with_channel.result (λ m. m ≡ more) (λ m. IsGathered ports (length c.args.lanes.items) m)
     (λ m is. subst (IsGathered ports (length c.args.lanes.items)) (sym is) (subst (λ n. IsGathered ports n more) (sym count) all)) c.with_channel.ensures

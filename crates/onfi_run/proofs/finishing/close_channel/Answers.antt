@@ -21,8 +21,8 @@ close-requires g c =
 
 pub returns-clause-got : goal.returns-clause-got
 returns-clause-got g c =
-    let adds = subst (λ l. AllZip AddsReplies l c.empty_all.new.got) c.ends_of-hosts.ensures.answers c.empty_all.ensures.adds in
-    subst (AllZip AddsReplies (map (λ p. p.answers) c.args.ports)) (sym c.conclude.ensures.got) adds
+    let adds = subst (λ l. AllZip (AddsReplies c.args.now) l c.empty_all.new.got) c.ends_of-hosts.ensures.answers c.empty_all.ensures.adds in
+    subst (AllZip (AddsReplies c.args.now) (map (λ p. p.answers) c.args.ports)) (sym c.conclude.ensures.got) adds
 
 pub returns-clause-short : goal.returns-clause-short
 returns-clause-short g c =

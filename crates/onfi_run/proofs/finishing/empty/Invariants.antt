@@ -3,4 +3,4 @@ use Rattle.onfi_run.specs.Finishing.{Empties}
 use Rattle.onfi_run.proofs.finishing.empty.Given as goal
 
 abbrev pub invariant-loop : goal.invariant-loop
-invariant-loop g l = (l.inbox.queue ≡ l.fn.inbox.queue) × Empties (l.fn.inbox, l.fn.answers) (l.inbox, l.answers)
+invariant-loop g l = (l.inbox.queue ≡ l.fn.inbox.queue) × Empties l.now (l.fn.inbox, l.fn.answers) (l.inbox, l.answers)

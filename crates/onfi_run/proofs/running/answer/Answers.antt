@@ -13,11 +13,11 @@ returns-in-Ok g c =
     let input = c.args.input.now in
     let p = c.in-Ok.prepared in
     let report = c.in_ok-report-in-Ok.report in
-    IfOk-weaker c.report_answer.result (λ a. answer_of a ≡ report_answer report) (λ a. IsAnswer input (answer_of a)) (λ a e. is_report p.rows.items p.device report c.in-Ok.ensures c.in_ok-report-in-Ok.ensures e) c.report_answer.ensures
+    IfOk-weaker c.report_answer.result (λ a. answer_of a ≡ report_answer report) (λ a. IsAnswer c.args.clocked input (answer_of a)) (λ a e. is_report p.rows.items p.device report c.in-Ok.ensures c.in_ok-report-in-Ok.ensures e) c.report_answer.ensures
 
 pub returns-in-Err-Refused : goal.returns-in-Err-Refused
 returns-in-Err-Refused g c =
     let input = c.args.input.now in
     let why = subst (λ s. IfRefused s (λ r. IsRefused input r)) c.in-Err-Refused.field-0-is c.in-Err-Refused.ensures in
     let refuses = subst (λ r. IfOk c.refused.result (λ a. answer_of a ≡ refused r)) c.in-Err-Refused.refusal-is c.refused.ensures in
-    IfOk-weaker c.refused.result (λ a. answer_of a ≡ refused c.in-Err-Refused.refusal) (λ a. IsAnswer input (answer_of a)) (λ a e. is_refused c.in-Err-Refused.refusal why e) refuses
+    IfOk-weaker c.refused.result (λ a. answer_of a ≡ refused c.in-Err-Refused.refusal) (λ a. IsAnswer c.args.clocked input (answer_of a)) (λ a e. is_refused c.in-Err-Refused.refusal why e) refuses

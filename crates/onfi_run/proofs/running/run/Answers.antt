@@ -1,4 +1,4 @@
-use Rattle.std.proofs.Common.{length, ◌∙◌, subst}
+use Rattle.std.proofs.Common.{false, length, ◌∙◌, subst}
 use Rattle.std.proofs.lemmas.Result.{IfOk-weaker}
 use Rattle.onfi_run.specs.Finishing.{IsGathered}
 use Rattle.onfi_run.specs.Keys.{port_key, ports_of}
@@ -20,7 +20,7 @@ returns-in-Some g c =
     let stage = c.in_ok-stage.stage in
     let lanes = c.in-Some.ran.0.items in
     let count = same_length lane_queues lane_queues lanes stage.lanes.items c.in-Some.ensures.lanes ∙ c.in_ok-stage.ensures.count in
-    IfOk-weaker c.finish_all.result (IsGathered (ports_of c.in-Some.ran.1) (length lanes)) (IsReportOf c.args.prepared.now.rows.items)
-    (λ r all. subst (λ l. IsReportOf l r) c.as_slice-rows.ensures.value
+    IfOk-weaker c.finish_all.result (IsGathered (ports_of c.in-Some.ran.1) (length lanes)) (IsReportOf false c.args.prepared.now.rows.items)
+    (λ r all. subst (λ l. IsReportOf false l r) c.as_slice-rows.ensures.value
     (report_told rows stage.stations c.in-Some.ran.1 (length lanes) r c.in_ok-stage.ensures.new c.in-Some.ensures.stations count all))
     c.finish_all.ensures

@@ -9,7 +9,7 @@ loop-host-init c = numbered_none _ _ _
 
 pub loop-host-preserved : goal.loop-host-preserved
 loop-host-preserved c = numbered_more _ _ _ c.index-all-host.result _ _ _ c.loop-host-test.true c.loop-host.invariant
-    (c.in_ok-put_got.ensures ∙ ap (λ l. string_bytes c.loop-host.text ++ got_lines c.loop-host.host l) (c.as_slice.ensures ∙ c.index-all-host.is))
+    (c.in_ok-put_got.ensures ∙ ap (λ l. string_bytes c.loop-host.text ++ got_lines c.args.clocked c.loop-host.host l) (c.as_slice.ensures ∙ c.index-all-host.is))
 
 pub returns : goal.returns
 returns c = numbered_all _ _ _ _ _ c.loop-host-test.false c.loop-host.invariant

@@ -13,7 +13,7 @@ returns-clause-same g c = same_queues (seen_in chip_in c.args.self.now.sequencer
 
 pub returns-clause-refused : goal.returns-clause-refused
 returns-clause-refused g c =
-    refused_kept (seen_in chip_in c.args.self.now.sequencer) (seen_in chip_in c.turn-turn.new.self) (none_left c.turn-turn.new.self.0.half) c.turn-turn.result c.progress.result c.turn-turn.ensures.turned c.progress.ensures
+    refused_kept c.args.now (seen_in chip_in c.args.self.now.sequencer) (seen_in chip_in c.turn-turn.new.self) (none_left c.turn-turn.new.self.0.half) c.turn-turn.result c.progress.result c.turn-turn.ensures.turned c.progress.ensures
 
 pub returns-clause-short : goal.returns-clause-short
 returns-clause-short g c = c.turn-turn.ensures.short

@@ -1,0 +1,8 @@
+use Rattle.std.proofs.Common.{◌≡◌, map}
+use Rattle.onfi_run.specs.Keys.{HaveSamePorts}
+use Rattle.onfi_run.proofs.simulation.simulate.Given as goal
+
+abbrev pub invariant-loop : goal.invariant-loop
+invariant-loop g l =
+    (map (λ x. g.C.Channel.queues x.channel) l.lanes.items ≡ map (λ x. g.C.Channel.queues x.channel) l.fn.lanes.items)
+    × HaveSamePorts l.fn.stations l.stations

@@ -1,0 +1,138 @@
+//! How long operations took.
+ghost use Rattle.std.specs.Prelude.{◌≡◌, ◌≤◌, ◌*◌, ◌/◌, ◌++◌, [], OnOk, IfOk, length, filter_map};
+ghost use Rattle.std.specs.List.{cons_option, flat_map, sum};
+ghost use Rattle.onfi_script.specs.Subject.{is_kind};
+ghost use Rattle.onfi_run.specs.Latency as spec;
+
+use crate::answers::{Answers, Got};
+use crate::completion::Completion;
+use onfi_timing::Kind;
+use std::alloc::{AllocError, Global};
+
+/// How long operations of one kind took, from submission to reply, in ns of the run's clock.
+#[derive(Clone, Copy)]
+pub struct Latency {
+    /// How many they are, at least 1.
+    pub count: u64,
+    /// Rounded down.
+    pub mean: u64,
+    /// The least of them that at least 99 of 100 don't pass.
+    pub most_of_99: u64,
+}
+
+/// Whether the two are one kind.
+fn is_kind(kind: Kind, other: Kind) -> bool
+    ensures { result ≡ is_kind kind other }
+{
+    match kind {
+        Kind::Read => matches!(other, Kind::Read),
+        Kind::Program => matches!(other, Kind::Program),
+        Kind::Erase => matches!(other, Kind::Erase),
+    }
+}
+
+impl Completion {
+    /// How long the operation took, where it is of that kind and has its reply.
+    fn latency(&self, kind: Kind) -> Option<u64>
+        ensures { result ≡ spec.latency_of kind self.now }
+    {
+        if is_kind(kind, self.kind) && self.answer.is_some() {
+            Some(self.at.saturating_sub(self.sent))
+        } else {
+            None
+        }
+    }
+}
+
+/// Puts a latency behind others, where there is one.
+fn put(latencies: &mut Vec<u64>, latency: Option<u64>) -> Result<(), AllocError>
+    ensures { OnOk result (latencies.new.items ≡ latencies.old.items ++ cons_option latency []) }
+{
+    if let Some(latency) = latency {
+        latencies.push(latency)?;
+    }
+    Ok(())
+}
+
+/// Puts how long the operations of a host on a channel took behind others.
+fn add(latencies: &mut Vec<u64>, kind: Kind, all: &[Completion]) -> Result<(), AllocError>
+    ensures { OnOk result (latencies.new.items ≡ latencies.old.items ++ filter_map (spec.latency_of kind) all.now) }
+{
+    for completion in all {
+        put(latencies, completion.latency(kind))?;
+    }
+    Ok(())
+}
+
+/// .. of a host on all channels.
+fn add_got(latencies: &mut Vec<u64>, kind: Kind, got: &[Answers]) -> Result<(), AllocError>
+    ensures { OnOk result (latencies.new.items ≡ latencies.old.items ++ flat_map (filter_map (spec.latency_of kind)) got.now) }
+{
+    for answers in got {
+        add(latencies, kind, answers.as_slice())?;
+    }
+    Ok(())
+}
+
+/// .. of all hosts.
+fn latencies(alloc: Global, kind: Kind, all: &[Got]) -> Result<Vec<u64>, AllocError>
+    ensures { IfOk result (λ v. v.items ≡ spec.latencies kind all.now) }
+{
+    let mut latencies = Vec::new(alloc);
+    for got in all {
+        add_got(&mut latencies, kind, got.as_slice())?;
+    }
+    Ok(latencies)
+}
+
+/// The sum of so many numbers.
+fn total(numbers: &[u64]) -> u128
+    ensures sum { result ≡ sum numbers.now }
+    ensures most { result ≤ length numbers.now * 18446744073709551615 }
+{
+    let mut total = 0u128;
+    for number in numbers {
+        total += u128::from(*number);
+    }
+    total
+}
+
+/// The mean of numbers of which there is one at least, rounded down.
+fn mean(numbers: &[u64]) -> u64
+    requires { 1 ≤ length numbers.now }
+    ensures { result ≡ sum numbers.now / length numbers.now }
+{
+    (total(numbers) / numbers.len() as u128) as u64
+}
+
+/// What is told of latencies; nothing of none.
+fn told(latencies: Vec<u64>) -> Option<Latency>
+    ensures { spec.IsLatencyOf latencies.items result }
+{
+    let mut latencies = latencies;
+    let count = latencies.len();
+    if count == 0 {
+        return None;
+    }
+    let mean = mean(latencies.as_slice());
+    latencies.sort_unstable();
+    Some(Latency {
+        count: count as u64,
+        mean,
+        most_of_99: latencies[count - count / 100 - 1],
+    })
+}
+
+/// How long the operations of that kind took which have their replies; nothing where there are none.
+///
+/// # Errors
+/// Want of memory.
+pub(crate) fn latency_of(
+    alloc: Global,
+    kind: Kind,
+    all: &[Got],
+) -> Result<Option<Latency>, AllocError>
+    ensures { IfOk result (λ latency. spec.IsLatencyOf (spec.latencies kind all.now) latency) }
+{
+    Ok(told(latencies(alloc, kind, all)?))
+}

@@ -1,0 +1,308 @@
+//! A run with a clock: one thread goes from moment to moment.
+ghost use Rattle.std.specs.Prelude.{◌≡◌, ◌<◌, ◌++◌, [], ◌∷◌, ℕ, List, IfOk, IfSome, IsTrue, None, false, map, take};
+ghost use Rattle.std.specs.List.{fold};
+ghost use Rattle.onfi_run.specs.Keys.{HasSamePorts, HaveSamePorts};
+ghost use Rattle.onfi_run.specs.Pace.{due_of, least_of, sooner as spec_sooner};
+ghost use Rattle.onfi_request.specs.declared.request.Request.{Request as ARequest};
+ghost use Rattle.onfi_script.specs.declared.row.Row.{Row as ARow};
+ghost use Rattle.onfi_run.specs.Requests.{request_of};
+ghost use Rattle.onfi_run.specs.Sending.{AreSending, HasSent, with_request};
+
+use crate::bus_use::BusUse;
+use crate::channel::{Channel, NO_CLOCK};
+use crate::finishing::either;
+use crate::lane::Lane;
+use crate::operations::operation_of;
+use crate::station::Station;
+use onfi_addr::Geometry;
+use onfi_script::{Operation, Row};
+use std::alloc::{AllocError, Global};
+use std::sync::Wait;
+
+/// What all of a run with a clock share.
+#[derive(Clone, Copy)]
+pub(crate) struct Course<'s> {
+    pub(crate) alloc: Global,
+    pub(crate) geometry: &'s Geometry,
+    pub(crate) rows: &'s [Row],
+}
+
+/// The channels and hosts of a run whose clock stood still, and its last moment, in ns.
+#[derive(Drop)]
+pub(crate) struct Settled<C: Channel> {
+    pub(crate) lanes: Vec<Lane<C>>,
+    pub(crate) stations: [Station; 4],
+    pub(crate) now: u64,
+}
+
+/// Whether a channel makes no more turns.
+fn has_ended<C: Channel>(lanes: &[Lane<C>], channel: usize) -> bool {
+    channel >= lanes.len() || lanes[channel].pace.has_ended
+}
+
+/// A request came to a channel.
+fn wake<C: Channel>(lanes: &mut Vec<Lane<C>>, channel: usize)
+    ensures { map (λ l. C.queues l.channel) lanes.new.items ≡ map (λ l. C.queues l.channel) lanes.old.items }
+{
+    if channel < lanes.len() {
+        lanes[channel].pace.wake();
+    }
+}
+
+/// The host makes an operation at that moment, or leaves it out, and answers whether it is behind it then: else the queue of
+/// its channel is full.
+fn make<R: Wait, C: Channel>(
+    rt: &R,
+    course: &Course<'_>,
+    now: u64,
+    lanes: &mut Vec<Lane<C>>,
+    station: &mut Station,
+    operation: &Operation,
+) -> bool
+    ensures lanes { map (λ l. C.queues l.channel) lanes.new.items ≡ map (λ l. C.queues l.channel) lanes.old.items }
+    ensures same { HasSamePorts station.old.ports.items station.new.ports.items }
+    ensures number { station.new.number ≡ station.old.number }
+    ensures passed { station.new.passed ≡ station.old.passed }
+    ensures sent { IsTrue result → (requests : ℕ → List ARequest) → AreSending requests station.old.ports.items
+        → AreSending (with_request requests operation.now.aim.channel (request_of course.now.geometry.now operation.now)) station.new.ports.items }
+    ensures waits { result ≡ false → (requests : ℕ → List ARequest) → AreSending requests station.old.ports.items → AreSending requests station.new.ports.items }
+{
+    let channel = usize::from(operation.aim.channel);
+    let ended = has_ended(lanes.as_slice(), channel);
+    let made = station.operate_at(rt, course.alloc, course.geometry, now, ended, operation);
+    if made {
+        wake(lanes, channel);
+    }
+    made
+}
+
+/// The host goes behind a row at that moment, and answers whether it did: it doesn't where the row tells an operation of this
+/// host whose queue is full.
+fn follow<R: Wait, C: Channel>(
+    rt: &R,
+    course: &Course<'_>,
+    now: u64,
+    lanes: &mut Vec<Lane<C>>,
+    station: &mut Station,
+    row: &Row,
+) -> bool
+    ensures lanes { map (λ l. C.queues l.channel) lanes.new.items ≡ map (λ l. C.queues l.channel) lanes.old.items }
+    ensures same { HasSamePorts station.old.ports.items station.new.ports.items }
+    ensures number { station.new.number ≡ station.old.number }
+    ensures passed { station.new.passed ≡ station.old.passed }
+    ensures sent { IsTrue result → (before : List ARow) → HasSent course.now.geometry.now before station.old.number station.old.ports.items
+        → HasSent course.now.geometry.now (before ++ row.now ∷ []) station.old.number station.new.ports.items }
+    ensures waits { result ≡ false → (before : List ARow) → HasSent course.now.geometry.now before station.old.number station.old.ports.items
+        → HasSent course.now.geometry.now before station.old.number station.new.ports.items }
+{
+    match operation_of(row, station.number) {
+        Some(operation) => make(rt, course, now, lanes, station, operation),
+        None => true,
+    }
+}
+
+/// The host goes behind its next row at that moment, and answers whether it did: it doesn't where none is left, or the queue
+/// of its operation is full.
+fn pass_row<R: Wait, C: Channel>(
+    rt: &R,
+    course: &Course<'_>,
+    now: u64,
+    lanes: &mut Vec<Lane<C>>,
+    station: &mut Station,
+) -> bool
+    ensures lanes { map (λ l. C.queues l.channel) lanes.new.items ≡ map (λ l. C.queues l.channel) lanes.old.items }
+    ensures same { HasSamePorts station.old.ports.items station.new.ports.items }
+    ensures number { station.new.number ≡ station.old.number }
+    ensures sent { HasSent course.now.geometry.now (take station.old.passed course.now.rows.now) station.old.number station.old.ports.items
+        → HasSent course.now.geometry.now (take station.new.passed course.now.rows.now) station.old.number station.new.ports.items }
+{
+    let at = station.passed;
+    if at >= course.rows.len() {
+        return false;
+    }
+    let passed = follow(rt, course, now, lanes, station, &course.rows[at]);
+    if passed {
+        station.passed = at + 1;
+    }
+    passed
+}
+
+/// The host goes behind its next rows at that moment as long as queues have room, and answers whether it went behind one.
+fn pass_rows<R: Wait, C: Channel>(
+    rt: &R,
+    course: &Course<'_>,
+    now: u64,
+    lanes: &mut Vec<Lane<C>>,
+    station: &mut Station,
+) -> bool
+    ensures lanes { map (λ l. C.queues l.channel) lanes.new.items ≡ map (λ l. C.queues l.channel) lanes.old.items }
+    ensures same { HasSamePorts station.old.ports.items station.new.ports.items }
+    ensures number { station.new.number ≡ station.old.number }
+    ensures sent { HasSent course.now.geometry.now (take station.old.passed course.now.rows.now) station.old.number station.old.ports.items
+        → HasSent course.now.geometry.now (take station.new.passed course.now.rows.now) station.old.number station.new.ports.items }
+{
+    let mut any = false;
+    for _ in course.rows {
+        if !pass_row(rt, course, now, lanes, station) {
+            break;
+        }
+        any = true;
+    }
+    any
+}
+
+/// The host submits what queues have room for at that moment, and collects a reply of each inbox; whether it did anything.
+fn act<R: Wait, C: Channel>(
+    rt: &R,
+    course: &Course<'_>,
+    now: u64,
+    lanes: &mut Vec<Lane<C>>,
+    station: &mut Station,
+) -> bool
+    ensures lanes { map (λ l. C.queues l.channel) lanes.new.items ≡ map (λ l. C.queues l.channel) lanes.old.items }
+    ensures same { HasSamePorts station.old.ports.items station.new.ports.items }
+    ensures number { station.new.number ≡ station.old.number }
+    ensures sent { HasSent course.now.geometry.now (take station.old.passed course.now.rows.now) station.old.number station.old.ports.items
+        → HasSent course.now.geometry.now (take station.new.passed course.now.rows.now) station.old.number station.new.ports.items }
+{
+    let passed = pass_rows(rt, course, now, lanes, station);
+    let collected = station.collect_all(rt, now);
+    either(passed, collected)
+}
+
+/// Each host in the order of its number acts at that moment; whether one did anything.
+fn act_all<R: Wait, C: Channel>(
+    rt: &R,
+    course: &Course<'_>,
+    now: u64,
+    lanes: &mut Vec<Lane<C>>,
+    stations: &mut [Station; 4],
+) -> bool
+    ensures lanes { map (λ l. C.queues l.channel) lanes.new.items ≡ map (λ l. C.queues l.channel) lanes.old.items }
+    ensures stations { HaveSamePorts stations.old stations.new }
+{
+    let first = act(rt, course, now, lanes, &mut stations[0]);
+    let second = act(rt, course, now, lanes, &mut stations[1]);
+    let third = act(rt, course, now, lanes, &mut stations[2]);
+    let fourth = act(rt, course, now, lanes, &mut stations[3]);
+    either(either(first, second), either(third, fourth))
+}
+
+/// Each channel in the order of its number makes a turn at that moment, if it may make one; whether one did.
+fn turn_all<R: Wait, C: Channel>(rt: &R, alloc: Global, now: u64, lanes: &mut Vec<Lane<C>>) -> bool
+    ensures { map (λ l. C.queues l.channel) lanes.new.items ≡ map (λ l. C.queues l.channel) lanes.old.items }
+{
+    let mut any = false;
+    for channel in 0..lanes.len() {
+        if lanes[channel].turn_at(rt, alloc, now) {
+            any = true;
+        }
+    }
+    any
+}
+
+/// A round at that moment: all hosts act, then all channels make a turn; whether one did anything.
+fn round<R: Wait, C: Channel>(
+    rt: &R,
+    course: &Course<'_>,
+    now: u64,
+    lanes: &mut Vec<Lane<C>>,
+    stations: &mut [Station; 4],
+) -> bool
+    ensures lanes { map (λ l. C.queues l.channel) lanes.new.items ≡ map (λ l. C.queues l.channel) lanes.old.items }
+    ensures stations { HaveSamePorts stations.old stations.new }
+{
+    let acted = act_all(rt, course, now, lanes, stations);
+    let turned = turn_all(rt, course.alloc, now, lanes);
+    either(acted, turned)
+}
+
+/// Rounds at that moment, until one changes nothing.
+fn settle<R: Wait, C: Channel>(
+    rt: &R,
+    course: &Course<'_>,
+    now: u64,
+    lanes: &mut Vec<Lane<C>>,
+    stations: &mut [Station; 4],
+)
+    ensures lanes { map (λ l. C.queues l.channel) lanes.new.items ≡ map (λ l. C.queues l.channel) lanes.old.items }
+    ensures stations { HaveSamePorts stations.old stations.new }
+{
+    for _ in rt.forever() {
+        if !round(rt, course, now, lanes, stations) {
+            break;
+        }
+    }
+}
+
+/// The lesser of two moments, where the first is told.
+fn least(other: Option<u64>, due: u64) -> u64
+    ensures { result ≡ least_of other due }
+{
+    match other {
+        Some(other) => other.min(due),
+        None => due,
+    }
+}
+
+/// The least of the moments behind `now` so far, and of the one at which a channel is due, if that is behind it.
+fn sooner(now: u64, other: Option<u64>, due: u64) -> Option<u64>
+    ensures is { result ≡ spec_sooner now other due }
+    ensures later { IfSome other (λ next. now < next) → IfSome result (λ next. now < next) }
+{
+    if due > now && due < NO_CLOCK {
+        Some(least(other, due))
+    } else {
+        other
+    }
+}
+
+/// The moment that comes next behind `now`: the least at which a channel may make a turn.
+fn next_moment<C: Channel>(lanes: &[Lane<C>], now: u64) -> Option<u64>
+    ensures least { result ≡ fold (spec_sooner now) None (map (λ l. due_of l.pace (C.free l.channel)) lanes.now) }
+    ensures later { IfSome result (λ next. now < next) }
+{
+    let mut next = None;
+    for lane in lanes {
+        next = sooner(now, next, lane.due());
+    }
+    next
+}
+
+/// The channels and hosts behind a run from moment 0 on, until nothing is left to do at any.
+pub(crate) fn simulate<R: Wait, C: Channel + Drop>(
+    rt: &R,
+    course: &Course<'_>,
+    mut lanes: Vec<Lane<C>>,
+    mut stations: [Station; 4],
+) -> Settled<C>
+    ensures lanes { map (λ l. C.queues l.channel) result.lanes.items ≡ map (λ l. C.queues l.channel) lanes.items }
+    ensures stations { HaveSamePorts stations result.stations }
+{
+    let mut now = 0u64;
+    for _ in rt.forever() {
+        settle(rt, course, now, &mut lanes, &mut stations);
+        match next_moment(lanes.as_slice(), now) {
+            Some(next) => now = next,
+            None => break,
+        }
+    }
+    Settled {
+        lanes,
+        stations,
+        now,
+    }
+}
+
+/// How busy the bus of each channel was.
+///
+/// # Errors
+/// Want of memory.
+pub(crate) fn buses_of<C: Channel>(
+    alloc: Global,
+    lanes: &[Lane<C>],
+) -> Result<Vec<BusUse>, AllocError>
+    ensures { IfOk result (λ buses. buses.items ≡ map (λ l. l.pace.bus) lanes.now) }
+{
+    lanes.iter().map(|lane| lane.pace.bus).collect(alloc)
+}
