@@ -23,7 +23,7 @@ pub struct Drained {
 
 /// A channel as a run drives it: the sequencer, with the gate that is called before each of its turns.
 pub trait Channel {
-    ghost use Rattle.std.specs.Prelude.{Bool, List, ℕ};
+    ghost use Rattle.std.specs.Prelude.{Bool, List, Option, ℕ};
     ghost use Rattle.onfi_queue.specs.Ends.{HostView};
     ghost use Rattle.onfi_run.specs.declared.channel.Drained.{Drained};
     ghost use Rattle.onfi_run.specs.declared.progress.Progress.{Progress};
@@ -37,6 +37,9 @@ pub trait Channel {
 
     /// From when on its bus is free, in ns of its clock.
     ghost free: { Self → ℕ };
+
+    /// The next moment behind that one at which an array of its chip is done sooner than stated, in ns of its clock.
+    ghost done_behind: { Self → ℕ → Option ℕ };
 
     /// What a turn at that moment, from the one to the other, came to.
     ghost proceeds: { ℕ → Self → Progress → Self → Type 0 };
@@ -54,6 +57,10 @@ pub trait Channel {
     /// From when on its bus is free, in ns of its clock.
     fn bus_free(&self) -> u64
         ensures { result ≡ free self.now };
+
+    /// The next moment behind `now` at which an array of its chip is done sooner than stated, in ns of its clock.
+    fn next_ready(&self, now: u64) -> Option<u64>
+        ensures { result ≡ done_behind self.now now };
 
     /// Makes turns at the greatest moment, and takes replies in, until everything is answered, or tells why it isn't.
     fn drain<R: Wait>(

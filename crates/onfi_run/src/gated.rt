@@ -64,7 +64,7 @@ fn is_short(end: End, short: bool) -> bool
 }
 
 impl<P: Planner + Drop, G: Gate + Drop> Channel for Gated<P, G> {
-    ghost use Rattle.onfi_chip.specs.SimChip.{chip_in};
+    ghost use Rattle.onfi_chip.specs.SimChip.{chip_in, next_ready};
     ghost use Rattle.onfi_seq.specs.Drained.{poster_queues};
     ghost use Rattle.onfi_seq.specs.Sequencer.{seen_in};
     ghost use Rattle.onfi_run.specs.Ending.{DrainsTo, Proceeds};
@@ -74,6 +74,8 @@ impl<P: Planner + Drop, G: Gate + Drop> Channel for Gated<P, G> {
     ghost short = { λ c. c.sequencer.0.short };
 
     ghost free = { λ c. c.sequencer.0.half.now.bus_free };
+
+    ghost done_behind = { λ c now. next_ready c.sequencer.1 now };
 
     ghost proceeds = { λ now c p c'. Proceeds now (seen_in chip_in c.sequencer) p (seen_in chip_in c'.sequencer) };
 
@@ -86,6 +88,10 @@ impl<P: Planner + Drop, G: Gate + Drop> Channel for Gated<P, G> {
 
     fn bus_free(&self) -> u64 {
         self.sequencer.bus_free()
+    }
+
+    fn next_ready(&self, now: u64) -> Option<u64> {
+        self.sequencer.chip().next_ready(now)
     }
 
     fn drain<R: Wait>(

@@ -81,7 +81,7 @@ impl<C: Channel> Lane<C> {
     pub(crate) fn turn_at<R: Wait>(&mut self, rt: &R, alloc: Global, now: u64) -> bool
         ensures due { IsTrue result → C.free self.old.channel ≤ now }
         ensures turned { IsTrue result → (p : AProgress) × (end : Option ChannelEnd) × C.proceeds now self.old.channel p self.new.channel
-            × (end ≡ thread_end (is_spent self.old.refusals) false p) × (self.new.pace ≡ pace_behind now (C.free self.new.channel) p (is_some end) self.old.pace) }
+            × (end ≡ thread_end (is_spent self.old.refusals) false p) × (self.new.pace ≡ pace_behind now (C.free self.new.channel) (C.done_behind self.new.channel now) p (is_some end) self.old.pace) }
         ensures none { result ≡ false → self.new ≡ self.old }
         ensures same { C.queues self.new.channel ≡ C.queues self.old.channel }
         ensures short { IsTrue (C.short self.old.channel) → IsTrue (C.short self.new.channel) }
@@ -95,7 +95,8 @@ impl<C: Channel> Lane<C> {
             self.ended = end;
         }
         let free = self.channel.bus_free();
-        self.pace.turn(now, free, progress, end.is_some());
+        let ready = self.channel.next_ready(now);
+        self.pace.turn(now, free, ready, progress, end.is_some());
         true
     }
 

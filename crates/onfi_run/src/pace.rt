@@ -18,12 +18,22 @@ pub(crate) struct Pace {
     pub(crate) bus: BusUse,
 }
 
-/// From when on a turn may do something behind one that came to this.
-fn wakes_behind(progress: Progress) -> u64
-    ensures { result ≡ spec.wakes_behind progress }
+/// The lesser of two moments, where the first is told.
+pub(crate) fn least(other: Option<u64>, due: u64) -> u64
+    ensures { result ≡ spec.least_of other due }
+{
+    match other {
+        Some(other) => other.min(due),
+        None => due,
+    }
+}
+
+/// From when on a turn may do something behind one that came to this, where an array is done early at the moment `ready`.
+fn wakes_behind(progress: Progress, ready: Option<u64>) -> u64
+    ensures { result ≡ spec.wakes_behind progress ready }
 {
     match progress {
-        Progress::Waits { until } => until,
+        Progress::Waits { until } => least(ready, until),
         Progress::Quiet => NO_CLOCK,
         _ => 0,
     }
@@ -46,11 +56,19 @@ impl Pace {
         self.wakes = 0;
     }
 
-    /// A turn at `now` came to this, behind it the bus is free from `free` on, and it was the last one or not.
-    pub(crate) fn turn(&mut self, now: u64, free: u64, progress: Progress, is_last: bool)
-        ensures { self.new ≡ spec.pace_behind now free progress is_last self.old }
+    /// A turn at `now` came to this, behind it the bus is free from `free` on and an array done early at `ready`, and it was
+    /// the last one or not.
+    pub(crate) fn turn(
+        &mut self,
+        now: u64,
+        free: u64,
+        ready: Option<u64>,
+        progress: Progress,
+        is_last: bool,
+    )
+        ensures { self.new ≡ spec.pace_behind now free ready progress is_last self.old }
     {
-        self.wakes = wakes_behind(progress);
+        self.wakes = wakes_behind(progress, ready);
         self.has_ended = is_last;
         self.bus.turn(now, free);
     }

@@ -2,7 +2,7 @@
 ghost use Rattle.std.specs.Prelude.{◌≡◌, ◌<◌, ◌++◌, [], ◌∷◌, ℕ, List, IfOk, IfSome, IsTrue, None, false, map, take};
 ghost use Rattle.std.specs.List.{fold};
 ghost use Rattle.onfi_run.specs.Keys.{HasSamePorts, HaveSamePorts};
-ghost use Rattle.onfi_run.specs.Pace.{due_of, least_of, sooner as spec_sooner};
+ghost use Rattle.onfi_run.specs.Pace.{due_of, sooner as spec_sooner};
 ghost use Rattle.onfi_request.specs.declared.request.Request.{Request as ARequest};
 ghost use Rattle.onfi_script.specs.declared.row.Row.{Row as ARow};
 ghost use Rattle.onfi_run.specs.Requests.{request_of};
@@ -13,6 +13,7 @@ use crate::channel::{Channel, NO_CLOCK};
 use crate::finishing::either;
 use crate::lane::Lane;
 use crate::operations::operation_of;
+use crate::pace::least;
 use crate::station::Station;
 use onfi_addr::Geometry;
 use onfi_script::{Operation, Row};
@@ -232,16 +233,6 @@ fn settle<R: Wait, C: Channel>(
         if !round(rt, course, now, lanes, stations) {
             break;
         }
-    }
-}
-
-/// The lesser of two moments, where the first is told.
-fn least(other: Option<u64>, due: u64) -> u64
-    ensures { result ≡ least_of other due }
-{
-    match other {
-        Some(other) => other.min(due),
-        None => due,
     }
 }
 
