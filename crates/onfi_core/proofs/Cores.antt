@@ -163,55 +163,9 @@ pub none_left : {A : Type 0} (n : ℕ) (xs : List A) → (0 < n → false ≡ tr
 none_left n [] h e = refl
 none_left n (x ∷ xs) h e = absurd (false≢true (h (omega arith)))
 
--- The promise of each channel, clause by clause
-
-module _ (s : Setup) (cs : List ChannelState) (reached : All (IsReached s) cs) where
-  each_promise : (P : ChannelState → Type 0) → ((c : ChannelState) → KeepsPromise s c → P c) → All P cs
-  each_promise P f = All-weaker (KeepsPromise s) P f cs (all_promised s cs reached)
-
-  pub all_rightful : All (λ c. AreRightful (device_for s c.chip) c.half.accepted c.half.posted) cs
-  all_rightful = each_promise (λ c. AreRightful (device_for s c.chip) c.half.accepted c.half.posted) (λ c k. k.rightful)
-
-  pub all_sent : All (λ c. c.sent ≡ c.half.accepted ++ c.waiting) cs
-  all_sent = each_promise (λ c. c.sent ≡ c.half.accepted ++ c.waiting) (λ c k. k.sent)
-
-  pub all_serials : All (λ c. (host : ℕ) → SerialsFrom 0 (sent_by host c)) cs
-  all_serials = each_promise (λ c. (host : ℕ) → SerialsFrom 0 (sent_by host c)) (λ c k. k.serials)
-
-  pub all_collected : All (λ c. (host : ℕ) → IsBeginning (collected_by host c) (posted_to host c)) cs
-  all_collected = each_promise (λ c. (host : ℕ) → IsBeginning (collected_by host c) (posted_to host c)) (λ c k. k.collected)
-
-  pub all_once : All (λ c. (place : ℕ) → times s c.half place ≡ number (has_id place) (wants_from s.geometry 0 c.half.accepted)) cs
-  all_once = each_promise (λ c. (place : ℕ) → times s c.half place ≡ number (has_id place) (wants_from s.geometry 0 c.half.accepted)) (λ c k. k.once)
-
-  pub all_last : All (λ c. IfSome c.half.last IsPlanned) cs
-  all_last = each_promise (λ c. IfSome c.half.last IsPlanned) (λ c k. k.last)
-
 -- where the planner is exact, each last plan is optimal
-pub all_optimal : (exact : Bool) (certifies : Certificate → Type 0) (cs : List ChannelState) → IsTrue exact → All (λ c. IfSome c.half.last IsPlanned) cs → All (λ c. IfSome c.half.last (IsPromised exact certifies)) cs → All (λ c. IfSome c.half.last IsOptimal) cs
-all_optimal exact certifies [] is planned promised = tt
-all_optimal exact certifies (c ∷ cs) is planned promised = (last_optimal exact certifies c.half.last is planned.0 promised.0, all_optimal exact certifies cs is planned.1 promised.1)
-
--- where nothing is left each channel is reached
-pub ends_reached : (s s' : Setup) (cs : List ChannelState) (events left : List Event) (outcomes : List Outcome) (now : List ChannelState) → All (IsReached s) cs → Halfway s cs events left outcomes now → left ≡ [] → s' ≡ s → All (IsReached s') now
-ends_reached s s' cs events left outcomes now reached h none same =
-    let P : Setup → Type 0 = λ x. All (IsReached x) now in
-    subst P (sym same) (run_keeps s cs now events outcomes reached (halfway_end s cs events left outcomes now h none)).0
-
--- Events reach the channels from event to event
-
-pub step_all_reach : (s : Setup) (cs : List ChannelState) (e : Event) (o : Outcome) (cs' : List ChannelState) → All (Reaches s) cs → CoreStep s cs e o cs' → All (Reaches s) cs'
-step_all_reach s cs e o cs' all (inl (none, out, same)) = subst (All (Reaches s)) (sym same) all
-step_all_reach s cs e o cs' all (inr (c, c', at, step, after)) = subst (All (Reaches s)) (sym after) (All-set (Reaches s) cs (channel_of e) c' all (step_reaches s c e o c' (All-at (Reaches s) cs (channel_of e) c all at) step))
-
-run_all_reach : (s : Setup) (cs : List ChannelState) (es : List Event) (os : List Outcome) (cs' : List ChannelState) → All (Reaches s) cs → CoreRun s cs es os cs' → All (Reaches s) cs'
-run_all_reach s cs [] [] cs' all run = subst (All (Reaches s)) (sym run) all
-run_all_reach s cs [] (o ∷ os) cs' all run = absurd run
-run_all_reach s cs (e ∷ es) [] cs' all run = absurd run
-run_all_reach s cs (e ∷ es) (o ∷ os) cs' all (mid, one, rest) = run_all_reach s mid es os cs' (step_all_reach s cs e o mid all one) rest
-
--- where nothing is left events reach each channel
-pub ends_by_events : (s s' : Setup) (cs : List ChannelState) (events left : List Event) (outcomes : List Outcome) (now : List ChannelState) → All (Reaches s) cs → Halfway s cs events left outcomes now → left ≡ [] → s' ≡ s → All (Reaches s') now
-ends_by_events s s' cs events left outcomes now all h none same =
-    let P : Setup → Type 0 = λ x. All (Reaches x) now in
-    subst P (sym same) (run_all_reach s cs events outcomes now all (halfway_end s cs events left outcomes now h none))
+pub all_optimal : (exact : Bool) (certifies : Certificate → Type 0) (s : Setup) (cs : List ChannelState) → IsTrue exact → All (KeepsPromise s) cs
+    → All (λ c. IfSome c.half.last (IsPromised exact certifies)) cs → All (λ c. IfSome c.half.last IsOptimal) cs
+all_optimal exact certifies s [] is kept promised = tt
+all_optimal exact certifies s (c ∷ cs) is kept promised =
+    (last_optimal exact certifies c.half.last is kept.0.last promised.0, all_optimal exact certifies s cs is kept.1 promised.1)
