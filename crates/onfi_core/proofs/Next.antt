@@ -1,5 +1,5 @@
 -- What the next planning takes, item by item.
-use Rattle.std.proofs.Common.{◌≡◌, ◌≢◌, ℕ, zero, suc, ◌+◌, ◌<◌, ◌≤◌, ◌⊎◌, inl, inr, true, false, List, [], ◌∷◌, ◌++◌, ◌-◌, length, Some, None, ◌^◌, take, drop, refl, sym, ap, ◌∙◌, append_assoc, length-drop, arith}
+use Rattle.std.proofs.Common.{◌≡◌, ◌≢◌, ℕ, zero, suc, ◌+◌, ◌<◌, ◌≤◌, ◌⊎◌, inl, inr, true, false, List, [], ◌∷◌, ◌++◌, ◌-◌, length, Some, None, ◌^◌, take, drop, refl, sym, ap, ◌∙◌, subst, append_assoc, length-drop, arith}
 use Rattle.std.specs.Prelude.{slice_get, ◌==◌, nat_le, nat_lt, not, if◌then◌else◌, Bool, Option}
 use Rattle.std.specs.List.{flat_map}
 use Rattle.std.proofs.lemmas.Bool.{cases_Bool, cases_lt, lt-ltb}
@@ -18,7 +18,7 @@ use Rattle.onfi_core.specs.declared.outcome.Outcome.{Outcome}
 use Rattle.onfi_core.specs.declared.outcome.Outcome.TheVariants as outcome
 use Rattle.onfi_core.specs.declared.setup.Choice.{Choice}
 use Rattle.onfi_core.specs.declared.setup.Choice.TheVariants.{InOrder, ByLun, ReadsFirst}
-use Rattle.onfi_core.specs.Steps.{unplanned, if_stopped, is_current, is_empty, is_late, or_else, refused_where, taken_next, next_problem, nothing_to_plan, plan_refusal}
+use Rattle.onfi_core.specs.Steps.{RunsLate, Taken, Takes, TakesBy, unplanned, if_stopped, is_current, is_empty, is_late, or_else, problem_with, refused_where, taken_next, nothing_to_plan, plan_refusal}
 use Rattle.onfi_group.proofs.Counting.{number-append}
 use Rattle.onfi_problem.specs.Left.{horizon}
 use Rattle.onfi_core.specs.Kept.{IsSound, is_of_place, unposted}
@@ -99,23 +99,35 @@ goes_late : (stopped : Option Outcome) (none late : Bool) → stopped ≡ None �
 goes_late stopped none late a b c = rw (a, b, c) refl
 
 -- where nothing stands against it a planning is not refused
-pub plan_goes_on : (s : Setup) (h : HalfState) → h.stopped ≡ None → nothing_to_plan s h ≡ false → is_late s.choice s h ≡ false → plan_refusal s h ≡ None
+plan_goes_on : (s : Setup) (h : HalfState) → h.stopped ≡ None → nothing_to_plan s h ≡ false → is_late s.choice s h ≡ false → plan_refusal s h ≡ None
 plan_goes_on s h going some early = goes (if_stopped h.stopped) (nothing_to_plan s h) (is_late s.choice s h) (ap if_stopped going) some early
 
-pub early_in_order : (s : Setup) (h : HalfState) → s.choice ≡ InOrder → horizon (next_problem s h) < 2 ^ 62 → is_late s.choice s h ≡ false
-early_in_order s h e low = let b : nat_le (2 ^ 62) (horizon (next_problem s h)) ≡ false = grind (arith, nat_tests) in rw e b
+-- .. one that might end late is
+stopped_late : (s : Setup) (h : HalfState) → h.stopped ≡ None → nothing_to_plan s h ≡ false → is_late s.choice s h ≡ true → plan_refusal s h ≡ Some (outcome.Stopped Clock)
+stopped_late s h going some late = goes_late (if_stopped h.stopped) (nothing_to_plan s h) (is_late s.choice s h) (ap if_stopped going) some late
 
-pub late_in_order : (s : Setup) (h : HalfState) → s.choice ≡ InOrder → 2 ^ 62 ≤ horizon (next_problem s h) → is_late s.choice s h ≡ true
-late_in_order s h e high = let b : nat_le (2 ^ 62) (horizon (next_problem s h)) ≡ true = grind (arith, nat_tests) in rw e b
+-- a planning of what is taken ends in time: in order the state tells so
+early_by : (choice : Choice) (s : Setup) (h : HalfState) (taken : Taken) → TakesBy choice s h taken → horizon (problem_with h taken.wants) < 2 ^ 62
+    → is_late choice s h ≡ false
+early_by InOrder s h taken takes low =
+    let in_time = subst (λ (t : Taken). horizon (problem_with h t.wants) < 2 ^ 62) takes low in
+    grind (arith, nat_tests)
+early_by ByLun s h taken takes low = refl
+early_by ReadsFirst s h taken takes low = refl
 
-never_late : (choice : Choice) (s : Setup) (h : HalfState) → choice ≢ InOrder → is_late choice s h ≡ false
-never_late InOrder s h n = absurd (n refl)
-never_late ByLun s h n = refl
-never_late ReadsFirst s h n = refl
+-- nothing stands against a planning of what is taken that ends in time
+pub taken_goes_on : (s : Setup) (h : HalfState) (taken : Taken) → h.stopped ≡ None → nothing_to_plan s h ≡ false → Takes s h taken
+    → horizon (problem_with h taken.wants) < 2 ^ 62 → plan_refusal s h ≡ None
+taken_goes_on s h taken going some takes low = plan_goes_on s h going some (early_by s.choice s h taken takes low)
 
--- where all are chosen of, the state doesn't tell that the plan might end late
-pub early_chosen : (s : Setup) (h : HalfState) → s.choice ≢ InOrder → is_late s.choice s h ≡ false
-early_chosen s h n = never_late s.choice s h n
+-- one that might end late stops the channel
+pub taken_stops : (s : Setup) (h : HalfState) (taken : Taken) → h.stopped ≡ None → nothing_to_plan s h ≡ false → Takes s h taken
+    → 2 ^ 62 ≤ horizon (problem_with h taken.wants)
+    → (plan_refusal s h ≡ Some (outcome.Stopped Clock)) ⊎ ((plan_refusal s h ≡ None) × (Clock ≡ Clock) × RunsLate s h)
+taken_stops s h taken going some takes high = elim (cases_Bool (is_late s.choice s h)) [
+  | inl late ↦ inl (stopped_late s h going some late)
+  | inr early ↦ inr (plan_goes_on s h going some early, refl, (taken, takes, high))
+]
 
 -- a planning is refused where nothing new finds a place and the plan is current
 pub nothing_taken : (s : Setup) (h : HalfState) → h.stopped ≡ None → nothing_to_plan s h ≡ true → plan_refusal s h ≡ Some outcome.NothingToPlan
@@ -128,10 +140,6 @@ none_taken s h none = both (is_empty (taken_next s h)) (is_current h) none
     both : (b e : Bool) → (if b then e else false) ≡ true → b ≡ true
     both true e h = refl
     both false e h = cc
-
--- .. or where its plan might end late
-pub stopped_late : (s : Setup) (h : HalfState) → h.stopped ≡ None → nothing_to_plan s h ≡ false → is_late s.choice s h ≡ true → plan_refusal s h ≡ Some (outcome.Stopped Clock)
-stopped_late s h going some late = goes_late (if_stopped h.stopped) (nothing_to_plan s h) (is_late s.choice s h) (ap if_stopped going) some late
 
 -- Whether a planning takes more
 

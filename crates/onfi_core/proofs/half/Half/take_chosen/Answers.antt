@@ -5,7 +5,7 @@ use Rattle.onfi_core.specs.Choice.{Rise}
 use Rattle.onfi_core.specs.Steps.{unplanned}
 use Rattle.onfi_core.specs.View.{HalfView}
 use Rattle.onfi_core.proofs.Plan.{apart, unplanned_rises}
-use Rattle.onfi_core.proofs.half.Half.choose_next.Goals as goal
+use Rattle.onfi_core.proofs.half.Half.take_chosen.Goals as goal
 
 pub merged-requires-clause-right : goal.merged-requires-clause-right
 merged-requires-clause-right c =
