@@ -12,9 +12,10 @@ ghost use Rattle.onfi_core.specs.declared.setup.Choice.TheVariants.{InOrder};
 ghost use Rattle.onfi_problem.specs.declared.lun_state.LunState.TheVariants.{Free};
 
 use crate::batch::Batch;
-use crate::due::{Due, behind_first, lun_after, wants_again, wants_without};
+use crate::due::{Due, wants_again, wants_without};
 use crate::finding::find;
 use crate::history::History;
+use crate::left::{free_luns, no_starts};
 use crate::lent::Lent;
 use crate::oldest::oldest_for;
 use crate::outcome::Cause;
@@ -313,21 +314,16 @@ impl Half {
         else {
             unreachable!();
         };
-        let starts = &self.rest[next.at];
-        let start = starts.as_slice()[0];
-        let spans = self.setup.timing.spans(group.kind());
-        let ended = start + spans.phase_length(group.len(), usize::from(*phase));
-        Due {
-            start,
-            group: group.copy(),
-            phase: *phase,
-            lun: group.lun(),
-            next: lun_after(&self.setup.timing, group, *phase, ended),
-            rest: behind_first(alloc, starts),
-            place: None,
-            bus_free: ended,
-            wants: wants_again(self.wants.as_slice()),
-        }
+        let wants = wants_again(self.wants.as_slice());
+        Due::of(
+            alloc,
+            &self.setup.timing,
+            group,
+            *phase,
+            &self.rest[next.at],
+            None,
+            wants,
+        )
     }
 
     // The first phase of the group at that place.
@@ -338,20 +334,16 @@ impl Half {
     {
         let placed = &self.groups[first.at];
         let group = placed.members();
-        let start = placed.starts().as_slice()[0];
-        let spans = self.setup.timing.spans(group.kind());
-        let ended = start + spans.phase_length(group.len(), 0);
-        Due {
-            start,
-            group: group.copy(),
-            phase: 0,
-            lun: group.lun(),
-            next: lun_after(&self.setup.timing, group, 0, ended),
-            rest: behind_first(alloc, placed.starts()),
-            place: Some(first.at),
-            bus_free: ended,
-            wants: wants_without(group, self.wants.as_slice()),
-        }
+        let wants = wants_without(group, self.wants.as_slice());
+        Due::of(
+            alloc,
+            &self.setup.timing,
+            group,
+            0,
+            placed.starts(),
+            Some(first.at),
+            wants,
+        )
     }
 
     /// Moves out the oldest reply that is held for the host. What follows is [`Half::keep`] or [`Half::posted`]; until
@@ -423,26 +415,4 @@ pub(crate) fn refusal_of(stop: PlanStop) -> PlanRefusal
         PlanStop::Over { opened } => PlanRefusal::Over { opened },
         PlanStop::Memory => PlanRefusal::Memory,
     }
-}
-
-// So many LUNs that are free from 0 on.
-fn free_luns(alloc: Global, count: u8) -> Result<Vec<LunState>, AllocError>
-    ensures { IfOk result (λ v. v.items ≡ replicate count (Free 0)) }
-{
-    let mut luns = Vec::with_capacity(alloc, usize::from(count))?;
-    for _lun in 0..count {
-        luns.push(LunState::Free { since: 0 })?;
-    }
-    Ok(luns)
-}
-
-// No start for each of so many LUNs.
-fn no_starts(alloc: Global, count: u8) -> Result<Vec<Starts>, AllocError>
-    ensures { IfOk result (λ v. v.items ≡ replicate count []) }
-{
-    let mut rest = Vec::with_capacity(alloc, usize::from(count))?;
-    for _lun in 0..count {
-        rest.push(Starts::new(alloc))?;
-    }
-    Ok(rest)
 }

@@ -46,10 +46,6 @@ get_of_or (x ∷ xs) (suc i) v d lt e = get_of_or xs i v d (omega arith) e
 
 -- Reading
 
--- what a read of a list of wants gives where nothing stands
-abbrev pub no_want : Want
-no_want = record { id = 0; kind = Read; lun = 0; plane = 0; block = 0; page = 0 }
-
 pub item_read : (items : List Item) (i : ℕ) (v d : Item) → i < length items → v ≡ get_or items i d → v ≡ item_at items i
 item_read items i v d lt e = sym (index_get items i v no_item (get_of_or items i v d lt e))
 
@@ -57,18 +53,6 @@ item_read items i v d lt e = sym (index_get items i v no_item (get_of_or items i
 pub taken_is : (s : Setup) (h : HalfState) (due : Due) → IsSound s h → IsDue h due → (i : ℕ) (m : Want) → slice_get due.group i ≡ Some m
     → IsTaken s h.planned h.accepted m
 taken_is s h due sound is i m at = All-has (IsTaken s h.planned h.accepted) due.group m (goes s h due sound is).1.members (get_has due.group i m at)
-
--- a reply of these parts is that to the member
-pub reply_is : (accepted : List Item) (faults : List Fault) (due : Due) (given : PhaseResult) (answer : Answer) (place : ℕ) (item : Item) (basis : Basis)
-    → (m : Want) → given ≡ ran.Post answer → length due.group ≤ due.phase → member_of due.group due.phase ≡ Some m → place ≡ m.id
-    → item ≡ item_at accepted m.id → basis.accepted ≡ accepted → basis.faults ≡ faults
-    → (let r : Reply = record { host = item.host; serial = item.serial; place = place; answer = answer; basis = basis } in r) ∷ []
-    ≡ replies_of accepted faults due given
-reply_is accepted faults due given answer place item basis m eg le at ep ei ea ef =
-    let there : slice_get due.group (due.phase - length due.group) ≡ Some m = rw (le-ltb due.phase (length due.group) le) at at in
-    let b : basis ≡ record { accepted = accepted; faults = faults } = ap (λ xs. let z : Basis = record { accepted = xs; faults = basis.faults } in z) ea
-    ∙ ap (λ fs. let z : Basis = record { accepted = accepted; faults = fs } in z) ef in
-    rw (eg, there, ep, ei, b) refl
 
 -- What is known of the chip
 

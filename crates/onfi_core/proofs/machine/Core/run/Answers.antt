@@ -14,7 +14,6 @@ loop-event-preserved g c =
     let push = c.push_reserved.ensures.items in
     record {
       setup = c.step.ensures.setup ∙ inv.setup;
-      promised = c.step.ensures.promised;
       halfway = rw push more;
       room = omega (arith, inv.room, c.in-Some.ensures.len, c.push_reserved.ensures.len, c.push_reserved.ensures.capacity, c.push_reserved.new.self.ok.0, c.loop-event.outcomes.ok.0);
     }
