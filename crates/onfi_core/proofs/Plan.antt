@@ -25,6 +25,7 @@ use Rattle.onfi_core.specs.declared.setup.Choice.{Choice}
 use Rattle.onfi_core.specs.declared.setup.Choice.TheVariants.{InOrder, ByLun, ReadsFirst}
 use Rattle.onfi_core.specs.declared.setup.Setup.{Setup}
 use Rattle.onfi_core.proofs.Bus.{number-append}
+use Rattle.onfi_core.proofs.Halves.{same_replies}
 use Rattle.onfi_core.proofs.Lists.{All-at, All-drop, length_least}
 use Rattle.onfi_core.proofs.Merged.{all_parts, filter_merged, in_turn, merged_all, number_merged, rise_back, rise_parts}
 use Rattle.onfi_core.proofs.Numbered.{all_taken, length_wants, none_below, split_at, taken_are, not_below, numbers_rise, Rising-append, wants_rise}
@@ -323,16 +324,8 @@ module _ (s : Setup) (h : HalfState) (half : IsSound s h) (taken : Taken) (plan 
   }
 
 pub plan_kept : (s : Setup) (c : ChannelState) (taken : Taken) (plan : Planning) → c.half.stopped ≡ None → IsReached s c → Plans s c.half taken plan → IsReached s (record c { half = planned_by c.half taken plan })
-plan_kept s c taken plan going reached plans = record {
-  half = record { sound = sound_planned s c.half reached.half.sound taken plan plans; held = reached.half.held; posted = reached.half.posted; made = reached.half.made };
-  chip = λ _. chip_planned s c.half reached.half.sound taken plan plans c.chip (reached.chip going);
-  sent = reached.sent;
-  in_range = reached.in_range;
-  hosts = reached.hosts;
-  fit = reached.fit;
-  serials = reached.serials;
-  collected = reached.collected;
-}
+plan_kept s c taken plan going reached plans = same_replies s c (planned_by c.half taken plan) c.chip reached refl refl refl refl
+    (sound_planned s c.half reached.half.sound taken plan plans) (λ _. chip_planned s c.half reached.half.sound taken plan plans c.chip (reached.chip going))
 
 -- the problem of these parts
 pub parts_are : (s : Setup) (h : HalfState) → IsSound s h → (luns : List LunState) (wants these : List Want) → luns ≡ h.now.luns → wants ≡ these → problem_of s.timing s.rules h.now.bus_free luns wants ≡ problem_with h these
