@@ -4,8 +4,7 @@ use Rattle.std.specs.Prelude.{slice_get, slice_set, slice_index_or}
 use Rattle.onfi_timing.specs.Phases.{phase_length}
 use Rattle.onfi_request.specs.declared.want.Want.{Want}
 use Rattle.onfi_group.specs.Group.{lun_of, group_spans}
-use Rattle.onfi_problem.specs.declared.lun_state.LunState.{LunState}
-use Rattle.onfi_problem.specs.declared.lun_state.LunState.TheVariants.{Free, Running}
+use Rattle.onfi_problem.specs.declared.lun_state.LunState.TheVariants.{Running}
 use Rattle.onfi_problem.specs.Problem.{Problem, IsProblem}
 use Rattle.onfi_problem.proofs.Lists.{map_get}
 use Rattle.onfi_problem.proofs.Places.{within_get}
@@ -85,11 +84,6 @@ some_plan s h due sound is = something_left h.now h.left is.move due.start is.le
 
 pub goes_on : (s : Setup) (h : HalfState) (due : Due) → IsSound s h → h.stopped ≡ None → IsDue h due → bus_refusal h ≡ None
 goes_on s h due sound going is = let e = some_plan s h due sound is in rw (going, e) refl
-
--- of a group that runs
-pub next_runs : (s : Setup) (h : HalfState) → IsSound s h → (next : AStart) → IsTurn h.left.rest h.left.groups (turn.Next next) → (state : LunState) → slice_get h.now.luns next.at ≡ Some state → (group : List Want) × (phase : ℕ) × (ready : ℕ) × (state ≡ Running group phase ready)
-next_runs s h sound next is (Free since) there = absurd (let e = sound.legal.shape.no_rest next.at since (next.time ∷ is.0.0) there is.0.1 in cc)
-next_runs s h sound next is (Running group phase ready) there = (group, phase, ready, refl)
 
 pub next_is_due : (s : Setup) (h : HalfState) → IsSound s h → (next : AStart) → IsTurn h.left.rest h.left.groups (turn.Next next)
     → (group : List Want) (phase ready : ℕ) → slice_get h.now.luns next.at ≡ Some (Running group phase ready)

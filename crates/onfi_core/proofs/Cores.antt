@@ -1,5 +1,5 @@
 -- The channels of a core from event to event.
-use Rattle.std.proofs.Common.{◌≡◌, ℕ, zero, suc, ◌<◌, ◌≤◌, inl, inr, true, false, List, [], ◌∷◌, ◌++◌, length, Some, None, map, refl, sym, ap, ◌∙◌, subst, append_assoc, append-nil, arith}
+use Rattle.std.proofs.Common.{◌≡◌, ℕ, ◌<◌, ◌≤◌, inr, true, false, List, [], ◌∷◌, ◌++◌, length, Some, map, refl, sym, ap, ◌∙◌, subst, append_assoc, append-nil, arith}
 use Rattle.std.proofs.lemmas.Bool.{false≢true}
 use Rattle.std.proofs.lemmas.List.{length-map, map-append}
 use Rattle.std.specs.Prelude.{Bool, IfSome, IsTrue, slice_get, slice_set}
@@ -7,41 +7,27 @@ use Rattle.std.specs.List.{AllByRecursion as All}
 use Rattle.onfi_problem.proofs.Lists.{map_get, map_set}
 use Rattle.onfi_problem.proofs.Places.{length_set}
 use Rattle.onfi_problem.proofs.Perm.{All-append, All-weaker}
-use Rattle.onfi_problem.specs.Problem.{has_id}
-use Rattle.onfi_group.specs.Words.{number}
-use Rattle.onfi_die.specs.Rightful.{AreRightful}
-use Rattle.onfi_die.specs.Order.{IsBeginning}
 use Rattle.onfi_core.specs.declared.event.Event.{Event}
 use Rattle.onfi_core.specs.declared.outcome.Outcome.{Outcome}
-use Rattle.onfi_core.specs.declared.outcome.Outcome.TheVariants as outcome
 use Rattle.onfi_core.specs.declared.setup.Setup.{Setup}
-use Rattle.onfi_core.specs.Core.{CoreRun, CoreStep, Did, channel_of, request_in, with_batch}
+use Rattle.onfi_core.specs.Core.{CoreRun, CoreStep, Did, channel_of, with_batch}
 use Rattle.onfi_core.specs.Core.Doing.{SetsBatch}
-use Rattle.onfi_core.specs.Kept.{IsReached, KeepsPromise, SerialsFrom, times}
+use Rattle.onfi_core.specs.Kept.{IsReached, KeepsPromise}
 use Rattle.onfi_chip.specs.Chip.{Chip}
 use Rattle.onfi_core.specs.Queues.{ChannelView, AreChannels, AreOpened, opened_with, state_in}
-use Rattle.onfi_core.specs.State.{ChannelState, Planning, collected_by, device_for, posted_to, sent_by, wants_from}
+use Rattle.onfi_core.specs.State.{ChannelState, Planning}
 use Rattle.onfi_plan.specs.Certificate.{Certificate}
-use Rattle.onfi_core.specs.Steps.{IsOptimal, IsPlanned, IsPromised, Step}
-use Rattle.onfi_core.proofs.Channels.{All-set, run_keeps}
+use Rattle.onfi_core.specs.Steps.{IsOptimal, IsPromised, Step}
+use Rattle.onfi_core.proofs.Channels.{All-set}
 use Rattle.onfi_core.proofs.Lists.{head_same, tail_same, All-at, All-map}
 use Rattle.onfi_core.proofs.Promise.{promise}
 use Rattle.onfi_core.proofs.Promised.{last_optimal}
 use Rattle.onfi_core.proofs.Reaching.{events_reach, opened_reaches, step_reaches}
 use Rattle.onfi_core.specs.Reaching.{Reaches}
 
-get_none : {A : Type 0} (xs : List A) (i : ℕ) → length xs ≤ i → slice_get xs i ≡ None
-get_none [] i h = refl
-get_none (x ∷ xs) zero h = absurd (omega arith)
-get_none (x ∷ xs) (suc i) h = get_none xs i (omega arith)
-
 module _ {C : Type 0} (state : C → Chip) (Such : Planning → Type 0) where
   abbrev states : List (ChannelView C) → List ChannelState
   states views = map (state_in state) views
-
-  -- an event of a channel that isn't there
-  pub no_channel : (s : Setup) (views : List (ChannelView C)) (e : Event) (o : Outcome) → length views ≤ channel_of e → o ≡ outcome.NoSuch (request_in e) → CoreStep s (states views) e o (states views)
-  no_channel s views e o h is = inl (get_none (states views) (channel_of e) (let l = length-map views (state_in state) in omega arith), is, refl)
 
   -- an event changes its channel
   pub channel_steps : (s : Setup) (views : List (ChannelView C)) (e : Event) (o : Outcome) (at : ℕ) (v v' : ChannelView C) → at ≡ channel_of e → slice_get views at ≡ Some v → v.0.setup ≡ s → Step v.0.setup (state_in state v) e o (state_in state v') → CoreStep s (states views) e o (states (slice_set views at v'))
@@ -109,9 +95,6 @@ halfway_more s cs events left left' outcomes mid now e o h is step = record {
   parts = h.parts ∙ ap (λ es. h.done ++ es) is ∙ sym (append_assoc h.done (e ∷ []) left');
   run = run_more s cs h.done outcomes mid now e o h.run step;
 }
-
-pub halfway_end : (s : Setup) (cs : List ChannelState) (events left : List Event) (outcomes : List Outcome) (now : List ChannelState) → Halfway s cs events left outcomes now → left ≡ [] → CoreRun s cs events outcomes now
-halfway_end s cs events left outcomes now h none = let P : List Event → Type 0 = λ es. CoreRun s cs es outcomes now in subst P (sym (h.parts ∙ ap (λ es. h.done ++ es) none ∙ append-nil h.done)) h.run
 
 -- so far those chips have their channels, and these are left
 pub record OpenedSoFar {C : Type 0} (state : C → Chip) (s : Setup) (chips left : List C) (views : List (ChannelView C)) : Type 0 where

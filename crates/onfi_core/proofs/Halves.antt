@@ -1,7 +1,6 @@
 -- What a channel keeps whose half or chip is another.
-use Rattle.std.proofs.Common.{◌≡◌, None, ◌++◌, List, sym, ap, ◌∙◌, subst}
+use Rattle.std.proofs.Common.{◌≡◌, None, ◌++◌, sym, ap, ◌∙◌, subst}
 use Rattle.std.specs.List.{filter}
-use Rattle.onfi_request.specs.declared.reply.Reply.{Reply}
 use Rattle.onfi_die.specs.Order.{IsBeginning}
 use Rattle.onfi_chip.specs.Chip.{Chip}
 use Rattle.onfi_core.specs.declared.setup.Setup.{Setup}

@@ -1,6 +1,6 @@
 -- What the next planning takes, item by item.
-use Rattle.std.proofs.Common.{◌≡◌, ◌≢◌, ℕ, zero, suc, ◌+◌, ◌<◌, ◌≤◌, ◌⊎◌, inl, inr, true, false, List, [], ◌∷◌, ◌++◌, ◌-◌, length, Some, None, ◌^◌, take, drop, refl, sym, ap, ◌∙◌, subst, append_assoc, length-drop, arith}
-use Rattle.std.specs.Prelude.{slice_get, ◌==◌, nat_le, nat_lt, not, if◌then◌else◌, Bool, Option}
+use Rattle.std.proofs.Common.{◌≡◌, ℕ, zero, suc, ◌+◌, ◌<◌, ◌≤◌, ◌⊎◌, inl, inr, true, false, List, [], ◌∷◌, ◌++◌, ◌-◌, length, Some, None, ◌^◌, take, drop, refl, sym, ap, ◌∙◌, subst, append_assoc, length-drop, arith}
+use Rattle.std.specs.Prelude.{slice_get, ◌==◌, nat_lt, not, if◌then◌else◌, Bool, Option}
 use Rattle.std.specs.List.{flat_map}
 use Rattle.std.proofs.lemmas.Bool.{cases_Bool, cases_lt, lt-ltb}
 use Rattle.std.proofs.lemmas.Bool.Decides.{nat_tests}
@@ -92,9 +92,6 @@ takes_all n m xs low (inr h) = take_all n m xs h (omega arith)
 goes : (stopped : Option Outcome) (none late : Bool) → stopped ≡ None → none ≡ false → late ≡ false → or_else stopped (or_else (refused_where none outcome.NothingToPlan) (refused_where late (outcome.Stopped Clock))) ≡ None
 goes stopped none late a b c = rw (a, b, c) refl
 
-goes_not : (stopped : Option Outcome) (none late : Bool) → stopped ≡ None → none ≡ true → or_else stopped (or_else (refused_where none outcome.NothingToPlan) (refused_where late (outcome.Stopped Clock))) ≡ Some outcome.NothingToPlan
-goes_not stopped none late a b = rw (a, b) refl
-
 goes_late : (stopped : Option Outcome) (none late : Bool) → stopped ≡ None → none ≡ false → late ≡ true → or_else stopped (or_else (refused_where none outcome.NothingToPlan) (refused_where late (outcome.Stopped Clock))) ≡ Some (outcome.Stopped Clock)
 goes_late stopped none late a b c = rw (a, b, c) refl
 
@@ -129,10 +126,6 @@ taken_stops s h taken going some takes high = elim (cases_Bool (is_late s.choice
   | inr early ↦ inr (plan_goes_on s h going some early, refl, (taken, takes, high))
 ]
 
--- a planning is refused where nothing new finds a place and the plan is current
-pub nothing_taken : (s : Setup) (h : HalfState) → h.stopped ≡ None → nothing_to_plan s h ≡ true → plan_refusal s h ≡ Some outcome.NothingToPlan
-nothing_taken s h going none = goes_not (if_stopped h.stopped) (nothing_to_plan s h) (is_late s.choice s h) (ap if_stopped going) none
-
 -- then no item is taken
 pub none_taken : (s : Setup) (h : HalfState) → nothing_to_plan s h ≡ true → is_empty (taken_next s h) ≡ true
 none_taken s h none = both (is_empty (taken_next s h)) (is_current h) none
@@ -147,9 +140,6 @@ is_empty_take : {A : Type 0} (n : ℕ) (xs : List A) → 1 ≤ n → is_empty (t
 is_empty_take zero xs h = absurd (omega arith)
 is_empty_take (suc n) [] h = refl
 is_empty_take (suc n) (x ∷ xs) h = refl
-
-pub full_takes : (s : Setup) (h : HalfState) → h.batch ≤ length h.now.wants → false ≡ not (is_empty (taken_next s h))
-full_takes s h full = let e : h.batch - length h.now.wants ≡ 0 = omega arith in rw e refl
 
 pub some_taken : (s : Setup) (h : HalfState) → length h.now.wants < h.batch → is_empty (taken_next s h) ≡ is_empty (unplanned s h)
 some_taken s h room = is_empty_take (h.batch - length h.now.wants) (unplanned s h) (omega arith)
@@ -173,10 +163,6 @@ empty_drop zero (x ∷ xs) = ap not (sym (lt-ltb 0 (length (x ∷ xs)) (omega ar
 empty_drop (suc n) [] = let e : nat_lt (suc n) 0 ≡ false = grind (arith, nat_tests) in ap not (sym e)
 empty_drop (suc n) (x ∷ xs) = empty_drop n xs ∙ ap not (lt_same n (length xs) (suc n) (suc (length xs)) (λ l. omega arith) (λ l. omega arith))
 
-empty_front : {A : Type 0} (xs ys : List A) → is_empty xs ≡ false → is_empty (xs ++ ys) ≡ false
-empty_front [] ys h = cc
-empty_front (x ∷ xs) ys h = refl
-
 empty_back : {A : Type 0} (xs ys : List A) → is_empty xs ≡ true → is_empty (xs ++ ys) ≡ is_empty ys
 empty_back [] ys h = refl
 empty_back (x ∷ xs) ys h = cc
@@ -188,10 +174,6 @@ none_there (x ∷ xs) e = absurd (omega arith)
 not_not : (b : Bool) → b ≡ not (not b)
 not_not true = refl
 not_not false = refl
-
--- what is set aside is taken
-pub aside_takes : (s : Setup) (h : HalfState) → length h.now.wants < h.batch → is_empty h.aside ≡ false → true ≡ not (is_empty (taken_next s h))
-aside_takes s h room some = let e = some_taken s h room ∙ empty_front h.aside (wants_from s.geometry h.planned (drop h.planned h.accepted)) some in sym (ap not e)
 
 -- else what no planning has looked at
 pub new_takes : (s : Setup) (h : HalfState) → length h.now.wants < h.batch → length h.aside ≡ 0 → nat_lt h.planned (length h.accepted) ≡ not (is_empty (taken_next s h))

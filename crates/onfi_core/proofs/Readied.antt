@@ -11,7 +11,6 @@ use Rattle.onfi_problem.specs.declared.lun_state.LunState.TheVariants.{Free, Run
 use Rattle.onfi_problem.specs.Moves.{free_from}
 use Rattle.onfi_problem.specs.Problem.{has_id}
 use Rattle.onfi_problem.proofs.Places.{get_set_other, get_set_same, length_set, same_place}
-use Rattle.onfi_die.specs.Shapes.{Device}
 use Rattle.onfi_chip.specs.Chip.{Chip, Lun, found_ready}
 use Rattle.onfi_chip.specs.Chip.Lun.{Posting}
 use Rattle.onfi_chip.specs.declared.post.Post.{Post}
@@ -123,9 +122,6 @@ module _ (s : Setup) (h : HalfState) (half : IsSound s h) (lun : ℕ) (works : I
   sound_readied = subst (IsSound s) (sym found_is) sound_found
 
   module _ (chip : Chip) (agrees : ChipAgrees s h chip) where
-    abbrev D : Device
-    D = device_for s chip
-
     abbrev posts : List Post
     posts = map (post_for (device_for s chip) h.accepted) (drop (works.next - length works.group) works.group)
 

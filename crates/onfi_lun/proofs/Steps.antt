@@ -1,11 +1,6 @@
 -- A phase of a batch, and what it leaves.
-use Rattle.std.proofs.Common.{◌≡◌, ℕ, zero, suc, ◌-◌, ◌<◌, ◌≤◌, inl, inr, List, [], ◌∷◌, length, Some, get_or, refl, sym, ap, subst, ◌∙◌, arith}
+use Rattle.std.proofs.Common.{◌≡◌, ℕ, zero, suc, ◌<◌, inl, inr, List, [], ◌∷◌, length, Some, get_or, refl, sym, ap, subst, ◌∙◌, arith}
 use Rattle.std.specs.Prelude.{slice_get}
-use Rattle.std.proofs.lemmas.Bool.{le-ltb}
-use Rattle.onfi_timing.specs.declared.kind.Kind.TheVariants.{Read}
-use Rattle.onfi_request.specs.declared.answer.Answer.{Answer}
-use Rattle.onfi_request.specs.declared.basis.Basis.{Basis}
-use Rattle.onfi_request.specs.declared.fault.Fault.{Fault}
 use Rattle.onfi_request.specs.declared.request.Item.{Item}
 use Rattle.onfi_request.specs.declared.reply.Reply.{Reply}
 use Rattle.onfi_request.specs.declared.want.Want.{Want}
@@ -25,9 +20,8 @@ use Rattle.onfi_core.specs.declared.drive.DriveFault.{DriveFault}
 use Rattle.onfi_core.specs.declared.drive.DriveFault.TheVariants as drive
 use Rattle.onfi_core.specs.declared.due.Due.{Due}
 use Rattle.onfi_core.specs.declared.phase_result.PhaseResult.{PhaseResult}
-use Rattle.onfi_core.specs.declared.phase_result.PhaseResult.TheVariants as ran
 use Rattle.onfi_core.specs.declared.setup.Setup.{Setup}
-use Rattle.onfi_core.specs.Drive.{HasRun, AfterDrive, IsStatus}
+use Rattle.onfi_core.specs.Drive.{HasRun, IsStatus}
 use Rattle.onfi_core.specs.Dues.{IsDue, after_due, member_of, replies_of}
 use Rattle.onfi_core.specs.Kept.{IsHalf, IsSound, IsTaken, ChipAgrees}
 use Rattle.onfi_core.specs.State.{HalfState, device_for, item_at, no_item}
@@ -36,7 +30,7 @@ use Rattle.onfi_core.proofs.Bus.{AfterPhase, after_move}
 use Rattle.onfi_core.proofs.Done.{after_due_is, goes, lun_there}
 use Rattle.onfi_core.proofs.Driving.{asks_status, ran_on_chip}
 use Rattle.onfi_core.proofs.Lists.{get_has, index_get}
-use Rattle.onfi_lun.specs.Batch.{AfterBatchFault, KeptSince, fault_of}
+use Rattle.onfi_lun.specs.Batch.{KeptSince, fault_of}
 use Rattle.onfi_lun.specs.Flight.{GoesOn, IsFaultOf, steps_left}
 
 pub get_of_or : {A : Type 0} (xs : List A) (i : ℕ) (v d : A) → i < length xs → v ≡ get_or xs i d → slice_get xs i ≡ Some v
@@ -80,12 +74,6 @@ pub kept_by : (h h' : HalfState) (chip chip' : Chip) (due : Due) → GoesOn h ch
 kept_by h h' chip chip' due (replies, inl (inl c, none), after) = done_keeps chip _ chip' refl refl c.done
 kept_by h h' chip chip' due (replies, inl (inr c, none), after) = done_keeps chip _ chip' refl refl c.done
 kept_by h h' chip chip' due (replies, inr (member, answer, c, one), after) = done_keeps chip _ chip' refl refl c.done
-
--- of a phase that wasn't run
-pub lost_by : (fault : DriveFault) (lun : ℕ) (chip chip' : Chip) → AfterDrive fault chip chip' → AfterBatchFault (fault_of fault lun) chip chip'
-lost_by drive.Bus lun chip chip' lost = lost
-lost_by drive.NotReady lun chip chip' lost = lost
-lost_by drive.Memory lun chip chip' same = kept_same chip chip' same
 
 -- The due phase runs
 

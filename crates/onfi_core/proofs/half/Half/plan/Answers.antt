@@ -1,5 +1,4 @@
-use Rattle.std.proofs.Common.{◌≡◌, ◌≢◌, ℕ, ◌<◌, ◌≤◌, ◌⊎◌, ◌^◌, Bool, List, None, Some, false, refl, sym, ap, ◌∙◌, subst}
-use Rattle.std.specs.Prelude.{IfSome}
+use Rattle.std.proofs.Common.{◌≡◌, ◌≢◌, ◌<◌, ◌≤◌, ◌^◌, Bool, None, false, refl, sym, ap, ◌∙◌, subst}
 use Rattle.onfi_problem.specs.Problem.{IsProblem, Problem}
 use Rattle.onfi_problem.specs.Kept.{problem_of}
 use Rattle.onfi_problem.specs.Left.{horizon}
@@ -7,10 +6,8 @@ use Rattle.onfi_check.specs.Nodes.{HasMoreNodes}
 use Rattle.onfi_core.specs.declared.planning.PlanStop.{PlanStop}
 use Rattle.onfi_core.specs.declared.planning.PlanStop.TheVariants.{Clock, Over, Memory}
 use Rattle.onfi_core.specs.Kept.{IsSound}
-use Rattle.onfi_core.specs.Steps.{IsPromised, Plans, RunsLate, Taken, Takes, nothing_to_plan, plan_refusal, problem_with}
+use Rattle.onfi_core.specs.Steps.{Plans, Taken, Takes, nothing_to_plan, problem_with}
 use Rattle.onfi_core.specs.View.{HalfView, PlanRefused, StopsBecause, planning_of, refusal_of, taken_of}
-use Rattle.onfi_core.specs.declared.outcome.Cause.TheVariants as cause
-use Rattle.onfi_core.specs.declared.outcome.Outcome.TheVariants as outcome
 use Rattle.onfi_core.proofs.Plan.{keeps_taken, parts_are}
 use Rattle.onfi_core.proofs.Next.{taken_goes_on, taken_stops}
 use Rattle.onfi_core.proofs.Running.{clock_stops}

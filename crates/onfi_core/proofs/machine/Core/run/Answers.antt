@@ -1,8 +1,8 @@
 use Rattle.std.proofs.Common.{◌∙◌, subst, arith}
-use Rattle.std.specs.Vec.Iter.{into_iter_items, into_iter_len}
+use Rattle.std.specs.Vec.Iter.{into_iter_items}
 use Rattle.onfi_core.specs.Core.{CoreStep}
 use Rattle.onfi_core.specs.Queues.{states_in}
-use Rattle.onfi_core.proofs.Cores.{halfway_end, halfway_more, none_left}
+use Rattle.onfi_core.proofs.Cores.{halfway_more}
 use Rattle.onfi_core.proofs.machine.Core.run.Goals as goal
 
 pub loop-event-preserved : goal.loop-event-preserved
