@@ -63,9 +63,6 @@ module _ (s : Setup) (h : HalfState) (half : IsSound s h) (x : Item) where
   abbrev Below : Want → Type 0
   Below w = w.id < length h.accepted
 
-  abbrev last_want : Want
-  last_want = want_of s.geometry (length h.accepted) x
-
   all_wants : wants_from s.geometry 0 (h.accepted ++ x ∷ []) ≡ wants_from s.geometry 0 h.accepted ++ want_of s.geometry (length h.accepted) x ∷ []
   all_wants = let e : 0 + length h.accepted ≡ length h.accepted = omega arith in wants_from-append s.geometry 0 h.accepted (x ∷ []) ∙ ap (λ n. wants_from s.geometry 0 h.accepted ++ want_of s.geometry n x ∷ []) e
 

@@ -2,18 +2,13 @@
 use Rattle.std.proofs.Common.{◌≡◌, ℕ, zero, suc, ◌+◌, ◌<◌, ◌⊎◌, inl, inr, true, false, List, [], ◌∷◌, ◌++◌, length, take, drop, Some, None, refl, sym, ap, ◌∙◌, subst, arith}
 use Rattle.std.specs.Prelude.{slice_get, slice_set, slice_index_or}
 use Rattle.onfi_timing.specs.Phases.{phase_length}
-use Rattle.onfi_timing.specs.Kinds.{spans_of}
-use Rattle.onfi_timing.specs.declared.kind.Kind.{Kind}
-use Rattle.onfi_timing.specs.declared.spans.Spans.{Spans}
-use Rattle.onfi_timing.specs.declared.timing.Timing.{Timing}
 use Rattle.onfi_request.specs.declared.want.Want.{Want}
-use Rattle.onfi_group.specs.Group.{lun_of, kind_of, group_spans}
-use Rattle.onfi_problem.specs.declared.lun_state.LunState.{LunState}
-use Rattle.onfi_problem.specs.declared.lun_state.LunState.TheVariants.{Free, Running}
+use Rattle.onfi_group.specs.Group.{lun_of, group_spans}
+use Rattle.onfi_problem.specs.declared.lun_state.LunState.TheVariants.{Running}
 use Rattle.onfi_problem.specs.Problem.{Problem, IsProblem}
 use Rattle.onfi_problem.proofs.Lists.{map_get}
 use Rattle.onfi_problem.proofs.Places.{within_get}
-use Rattle.onfi_problem.specs.Moves.{Move, Next, Start, lun_after, next_ran, ran, placed, without}
+use Rattle.onfi_problem.specs.Moves.{Move, Next, Start, next_ran, ran, placed, without}
 use Rattle.onfi_schedule.specs.Schedule.{Placed, Schedule, Legal, phases}
 use Rattle.onfi_schedule.specs.Laws.{Begins, ComesNext}
 use Rattle.onfi_schedule.proofs.Following.{first_move_law, next_law, done_law}
@@ -28,7 +23,7 @@ use Rattle.onfi_core.specs.Kept.{IsSound}
 use Rattle.onfi_core.specs.View.{HalfView}
 use Rattle.onfi_core.specs.declared.starting.Turn.{Turn}
 use Rattle.onfi_core.specs.declared.outcome.Outcome.TheVariants as outcome
-use Rattle.onfi_core.specs.Dues.{NoneStart, IsTurn, IsDue, starts_in}
+use Rattle.onfi_core.specs.Dues.{NoneStart, IsPhaseOf, IsTurn, IsDue, starts_in}
 use Rattle.onfi_core.proofs.Lists.{cut_there, get_at_length}
 use Rattle.onfi_core.proofs.First.{phases_start}
 
@@ -39,6 +34,10 @@ group_at (x ∷ groups) (suc i) starts h = group_at groups i starts h
 
 pub within_groups : (groups : List Placed) (i : ℕ) (starts : List ℕ) → slice_get (starts_in groups) i ≡ Some starts → i < length groups
 within_groups groups i starts h = let g = group_at groups i starts h in within_get groups i g.0 g.1
+
+-- the first start of these
+abbrev first_in : List ℕ → ℕ
+first_in starts = slice_index_or starts 0 0
 
 first_of : (starts : List ℕ) (t : ℕ) (ts : List ℕ) → starts ≡ t ∷ ts → drop 1 starts ≡ ts
 first_of starts t ts e = ap (drop 1) e
@@ -86,60 +85,56 @@ some_plan s h due sound is = something_left h.now h.left is.move due.start is.le
 pub goes_on : (s : Setup) (h : HalfState) (due : Due) → IsSound s h → h.stopped ≡ None → IsDue h due → bus_refusal h ≡ None
 goes_on s h due sound going is = let e = some_plan s h due sound is in rw (going, e) refl
 
--- of a group that runs
-pub next_runs : (s : Setup) (h : HalfState) → IsSound s h → (next : AStart) → IsTurn h.left.rest h.left.groups (turn.Next next) → (state : LunState) → slice_get h.now.luns next.at ≡ Some state → (group : List Want) × (phase : ℕ) × (ready : ℕ) × (state ≡ Running group phase ready)
-next_runs s h sound next is (Free since) there = absurd (let e = sound.legal.shape.no_rest next.at since (next.time ∷ is.0.0) there is.0.1 in cc)
-next_runs s h sound next is (Running group phase ready) there = (group, phase, ready, refl)
-
 pub next_is_due : (s : Setup) (h : HalfState) → IsSound s h → (next : AStart) → IsTurn h.left.rest h.left.groups (turn.Next next)
     → (group : List Want) (phase ready : ℕ) → slice_get h.now.luns next.at ≡ Some (Running group phase ready)
-    → (due : Due) (starts : List ℕ) → slice_get h.left.rest next.at ≡ Some starts → due.start ≡ next.time → due.group ≡ group → due.phase ≡ phase → due.lun ≡ lun_of group
-    → due.bus_free ≡ next.time + phase_length (group_spans h.now.timing group) (length group) phase → due.next ≡ lun_after h.now.timing group phase due.bus_free
-    → due.rest ≡ drop 1 starts → due.place ≡ None → due.wants.items ≡ h.now.wants → IsDue h due
-next_is_due s h sound next is group phase ready there due starts starts_there start_is group_is phase_is lun_is bus_is next_is rest_is place_is wants_is =
+    → (due : Due) (starts : List ℕ) → slice_get h.left.rest next.at ≡ Some starts → IsPhaseOf h.now.timing group phase starts None h.now.wants due → IsDue h due
+next_is_due s h sound next is group phase ready there due starts starts_there p =
     let runs = sound.problem.running next.at group phase ready there in
-    let lun : due.lun ≡ next.at = lun_is ∙ runs.lun in
+    let lun : due.lun ≡ next.at = p.lun ∙ runs.lun in
     let some : Some starts ≡ Some (next.time ∷ is.0.0) = sym starts_there ∙ is.0.1 in
-    let behind : is.0.0 ≡ due.rest = sym (first_of starts next.time is.0.0 cc) ∙ sym rest_is in
+    let are : starts ≡ next.time ∷ is.0.0 = cc in
+    let start : due.start ≡ next.time = p.start ∙ ap first_in are in
+    let bus = p.bus ∙ ap (λ us. first_in us + phase_length (group_spans h.now.timing group) (length group) phase) are in
+    let behind : is.0.0 ≡ due.rest = sym (first_of starts next.time is.0.0 are) ∙ sym p.rest in
     let least = phases_start h.now h.left next.time sound.legal is.1 is.2 in
     let after : placed h.now (Next next.at) next.time ≡ ran h.now next.at group phase next.time = ap (λ o. next_ran h.now next.at o next.time) there in
     record {
       move = Next next.at;
       left = record { rest = slice_set h.left.rest next.at is.0.0; groups = h.left.groups };
-      next = rw start_is (record { begins = (is.0.0, is.0.1, refl); least = least });
-      is = rw (group_is, phase_is) (ready, there);
+      next = rw start (record { begins = (is.0.0, is.0.1, refl); least = least });
+      is = rw (p.group_is, p.phase_is) (ready, there);
       lun_is = lun;
-      place_there = λ at e. absurd (let z : Some at ≡ None = sym e ∙ place_is in cc);
-      now_is = rw (start_is, lun, next_is, wants_is, bus_is) after;
-      left_is = rw (lun, place_is, behind) refl;
+      place_there = λ at e. absurd (let z : Some at ≡ None = sym e ∙ p.place_is in cc);
+      now_is = rw (start, lun, p.next, p.wants_are, bus) after;
+      left_is = rw (lun, p.place_is, behind) refl;
     }
 
 -- of a group that starts
 pub first_is_due : (s : Setup) (h : HalfState) → IsSound s h → (first : AStart) → IsTurn h.left.rest h.left.groups (turn.First first)
     → (g : Placed) → slice_get h.left.groups first.at ≡ Some g
-    → (due : Due) → due.start ≡ first.time → due.group ≡ g.members → due.phase ≡ 0 → due.lun ≡ lun_of g.members
-    → due.bus_free ≡ first.time + phase_length (group_spans h.now.timing g.members) (length g.members) 0 → due.next ≡ lun_after h.now.timing g.members 0 due.bus_free
-    → due.rest ≡ drop 1 g.starts → due.place ≡ Some first.at → due.wants.items ≡ without g.members h.now.wants → IsDue h due
-first_is_due s h sound first is g there due start_is group_is phase_is lun_is bus_is next_is rest_is place_is wants_is =
+    → (due : Due) → IsPhaseOf h.now.timing g.members 0 g.starts (Some first.at) (without g.members h.now.wants) due → IsDue h due
+first_is_due s h sound first is g there due p =
     let some : Some g.starts ≡ Some (first.time ∷ is.0.0) = sym (map_get (λ (x : Placed). x.starts) h.left.groups first.at g there) ∙ is.0.1 in
     let starts : g.starts ≡ first.time ∷ is.0.0 = cc in
-    let behind : is.0.0 ≡ due.rest = sym (first_of g.starts first.time is.0.0 starts) ∙ sym rest_is in
+    let start : due.start ≡ first.time = p.start ∙ ap first_in starts in
+    let bus = p.bus ∙ ap (λ us. first_in us + phase_length (group_spans h.now.timing g.members) (length g.members) 0) starts in
+    let behind : is.0.0 ≡ due.rest = sym (first_of g.starts first.time is.0.0 starts) ∙ sym p.rest in
     let whole : g ≡ record { members = g.members; starts = first.time ∷ is.0.0 } = ap (λ us. record { members = g.members; starts = us }) starts in
     let are = cut_there h.left.groups first.at g there ∙ ap (λ z. take first.at h.left.groups ++ z ∷ drop (first.at + 1) h.left.groups) whole in
     let least = phases_start h.now h.left first.time sound.legal is.1 is.2 in
     record {
       move = Start g.members;
       left = record { rest = slice_set h.left.rest (lun_of g.members) is.0.0; groups = take first.at h.left.groups ++ drop (first.at + 1) h.left.groups };
-      next = rw start_is (record { begins = (is.0.0, take first.at h.left.groups, drop (first.at + 1) h.left.groups, are, refl); least = least });
-      is = (sym group_is, phase_is);
-      lun_is = lun_is;
+      next = rw start (record { begins = (is.0.0, take first.at h.left.groups, drop (first.at + 1) h.left.groups, are, refl); least = least });
+      is = (sym p.group_is, p.phase_is);
+      lun_is = p.lun;
       place_there = λ at e. (
-          let z : Some at ≡ Some first.at = sym e ∙ place_is in
+          let z : Some at ≡ Some first.at = sym e ∙ p.place_is in
           let q : at ≡ first.at = cc in
           let low = within_get h.left.groups first.at g there in
           omega arith);
-      now_is = rw (start_is, lun_is, next_is, wants_is, bus_is) refl;
-      left_is = rw (lun_is, place_is, behind) refl;
+      now_is = rw (start, p.lun, p.next, p.wants_are, bus) refl;
+      left_is = rw (p.lun, p.place_is, behind) refl;
     }
 
 -- What callers see of a half is what its fields say
@@ -159,20 +154,6 @@ none_outside inside h v sound going rest groups =
     let e = no_plan inside.setup inside.state sound going rest groups in
     let inner : bus_refusal inside.state ≡ Some outcome.NoPlan = rw (going, e) refl in
     subst (λ (x : HalfView). bus_refusal x.state ≡ Some outcome.NoPlan) v inner
-
--- the first start of those that stand there
-pub starts_then : (lists : List (List ℕ)) (i t : ℕ) (ts starts read : List ℕ) → slice_get lists i ≡ Some (t ∷ ts) → slice_get lists i ≡ Some starts → read ≡ starts → slice_index_or read 0 0 ≡ t
-starts_then lists i t ts starts read a b e =
-    let s : Some starts ≡ Some (t ∷ ts) = sym b ∙ a in
-    let q : starts ≡ t ∷ ts = cc in
-    ap (λ (us : List ℕ). slice_index_or us 0 0) (e ∙ q)
-
-pub length_is : (timing : Timing) (spans : Spans) (kind : Kind) (group : List Want) (k n phase r : ℕ) → r ≡ phase_length spans k n → spans ≡ spans_of timing kind → kind ≡ kind_of group → k ≡ length group → n ≡ phase → r ≡ phase_length (group_spans timing group) (length group) phase
-length_is timing spans kind group k n phase r a b c d e =
-    a ∙ ap (λ s. phase_length s k n) (b ∙ ap (spans_of timing) c) ∙ ap (λ m. phase_length (group_spans timing group) m n) d ∙ ap (λ m. phase_length (group_spans timing group) (length group) m) e
-
-pub sum_is : (a b c d : ℕ) → a ≡ b → c ≡ d → a + c ≡ b + d
-sum_is a b c d e f = omega arith
 
 pub due_inside : (inside h : HalfView) (due : Due) → inside ≡ h → IsDue h.state due → IsDue inside.state due
 due_inside inside h due v is = subst (λ (x : HalfView). IsDue x.state due) (sym v) is

@@ -29,6 +29,7 @@ use Rattle.onfi_core.specs.State.{HalfState, ChannelState, device_for}
 use Rattle.onfi_core.specs.Steps.{reply_to, Commands, Launches, Posts, RunsOnChip, Runs, IsPhase, half_after_phase}
 use Rattle.onfi_core.specs.declared.setup.Setup.{Setup}
 use Rattle.onfi_core.proofs.Going.{Going, OnLun, going_next, going_start, on_next, on_start}
+use Rattle.onfi_core.proofs.Halves.{other_half}
 use Rattle.onfi_core.proofs.Lists.{drop_next}
 use Rattle.onfi_core.proofs.Made.{made_push}
 use Rattle.onfi_core.proofs.Phase.{after_command, after_launch, after_post, right_reply}
@@ -176,14 +177,5 @@ bus_kept s c c' start reached going r =
     let a = after_move s c.half c.chip reached.half (reached.chip going) r.move start r.left r.next r.group r.phase r.is r.chip r.replies r.on_chip in
     let e = ap (device_of s.geometry) a.0 in
     let h' = half_after_phase c.half r.move start r.left r.replies in
-    let next : IsReached s (record c { half = h'; chip = r.chip }) = record {
-      half = subst (λ d. IsHalf s d h') (sym e) a.1;
-      chip = λ _. a.2;
-      sent = reached.sent;
-      in_range = reached.in_range;
-      hosts = reached.hosts;
-      fit = reached.fit;
-      serials = reached.serials;
-      collected = reached.collected;
-    } in
-    subst (IsReached s) (sym r.after) next
+    let half = subst (λ d. IsHalf s d h') (sym e) a.1 in
+    subst (IsReached s) (sym r.after) (other_half s c h' r.chip reached refl refl half (λ _. a.2))

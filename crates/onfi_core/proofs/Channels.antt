@@ -1,5 +1,5 @@
 -- Each channel of a core keeps the promise.
-use Rattle.std.proofs.Common.{ℕ, zero, suc, ◌≤◌, inl, inr, List, [], ◌∷◌, sym, subst}
+use Rattle.std.proofs.Common.{ℕ, zero, suc, ◌≤◌, inl, inr, List, [], ◌∷◌, refl, sym, subst}
 use Rattle.std.specs.Prelude.{slice_set}
 use Rattle.std.specs.List.{AllByRecursion as All}
 use Rattle.onfi_problem.proofs.Perm.{All-weaker}
@@ -10,6 +10,7 @@ use Rattle.onfi_core.specs.State.{HalfState, ChannelState}
 use Rattle.onfi_core.specs.declared.event.Event.{Event}
 use Rattle.onfi_core.specs.declared.outcome.Outcome.{Outcome}
 use Rattle.onfi_core.specs.declared.setup.Setup.{Setup}
+use Rattle.onfi_core.proofs.Halves.{same_replies}
 use Rattle.onfi_core.proofs.Opening.{opened}
 use Rattle.onfi_core.proofs.Promise.{promise}
 use Rattle.onfi_core.proofs.Reach.{step_kept}
@@ -24,16 +25,8 @@ pub sound_batch : (s : Setup) (batch : ℕ) (h : HalfState) → 1 ≤ batch → 
 sound_batch s batch h some few r = record { planned = r.planned; some_batch = some; few_batch = few; timing = r.timing; rules = r.rules; problem = r.problem; few = r.few; luns = r.luns; legal = r.legal; in_range = r.in_range; wants = r.wants; running = r.running; once = r.once; aside = r.aside; aside_rise = r.aside_rise; in_order = r.in_order; last = r.last }
 
 pub batch_kept : (s : Setup) (batch : ℕ) (c : ChannelState) → 1 ≤ batch → batch ≤ 8 → IsReached s c → IsReached s (with_batch batch c)
-batch_kept s batch c some few r = record {
-  half = record { sound = sound_batch s batch c.half some few r.half.sound; held = r.half.held; posted = r.half.posted; made = r.half.made };
-  chip = λ going. (let g = r.chip going in record { geometry = g.geometry; timing = g.timing; blocks = λ l b. (let o = g.blocks l b in record { ran = o.ran; contents = o.contents; order = o.order }); luns = g.luns });
-  sent = r.sent;
-  in_range = r.in_range;
-  hosts = r.hosts;
-  fit = r.fit;
-  serials = r.serials;
-  collected = r.collected;
-}
+batch_kept s batch c some few r = same_replies s c (record c.half { batch = batch }) c.chip r refl refl refl refl (sound_batch s batch c.half some few r.half.sound)
+    (λ going. (let g = r.chip going in record { geometry = g.geometry; timing = g.timing; blocks = λ l b. (let o = g.blocks l b in record { ran = o.ran; contents = o.contents; order = o.order }); luns = g.luns }))
 
 pub core_step_kept : (s : Setup) (cs : List ChannelState) (e : Event) (o : Outcome) (cs' : List ChannelState) → All (IsReached s) cs → CoreStep s cs e o cs' → All (IsReached s) cs'
 core_step_kept s cs e o cs' all (inl (none, out, same)) = subst (All (IsReached s)) (sym same) all

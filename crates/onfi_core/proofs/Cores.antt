@@ -1,5 +1,5 @@
 -- The channels of a core from event to event.
-use Rattle.std.proofs.Common.{◌≡◌, ℕ, zero, suc, ◌<◌, ◌≤◌, inl, inr, true, false, List, [], ◌∷◌, ◌++◌, length, Some, None, map, refl, sym, ap, ◌∙◌, subst, append_assoc, append-nil, arith}
+use Rattle.std.proofs.Common.{◌≡◌, ℕ, ◌<◌, ◌≤◌, inr, true, false, List, [], ◌∷◌, ◌++◌, length, Some, map, refl, sym, ap, ◌∙◌, subst, append_assoc, append-nil, arith}
 use Rattle.std.proofs.lemmas.Bool.{false≢true}
 use Rattle.std.proofs.lemmas.List.{length-map, map-append}
 use Rattle.std.specs.Prelude.{Bool, IfSome, IsTrue, slice_get, slice_set}
@@ -7,41 +7,27 @@ use Rattle.std.specs.List.{AllByRecursion as All}
 use Rattle.onfi_problem.proofs.Lists.{map_get, map_set}
 use Rattle.onfi_problem.proofs.Places.{length_set}
 use Rattle.onfi_problem.proofs.Perm.{All-append, All-weaker}
-use Rattle.onfi_problem.specs.Problem.{has_id}
-use Rattle.onfi_group.specs.Words.{number}
-use Rattle.onfi_die.specs.Rightful.{AreRightful}
-use Rattle.onfi_die.specs.Order.{IsBeginning}
 use Rattle.onfi_core.specs.declared.event.Event.{Event}
 use Rattle.onfi_core.specs.declared.outcome.Outcome.{Outcome}
-use Rattle.onfi_core.specs.declared.outcome.Outcome.TheVariants as outcome
 use Rattle.onfi_core.specs.declared.setup.Setup.{Setup}
-use Rattle.onfi_core.specs.Core.{CoreRun, CoreStep, Did, channel_of, request_in, with_batch}
+use Rattle.onfi_core.specs.Core.{CoreRun, CoreStep, Did, channel_of, with_batch}
 use Rattle.onfi_core.specs.Core.Doing.{SetsBatch}
-use Rattle.onfi_core.specs.Kept.{IsReached, KeepsPromise, SerialsFrom, times}
+use Rattle.onfi_core.specs.Kept.{IsReached, KeepsPromise}
 use Rattle.onfi_chip.specs.Chip.{Chip}
 use Rattle.onfi_core.specs.Queues.{ChannelView, AreChannels, AreOpened, opened_with, state_in}
-use Rattle.onfi_core.specs.State.{ChannelState, Planning, collected_by, device_for, posted_to, sent_by, wants_from}
+use Rattle.onfi_core.specs.State.{ChannelState, Planning}
 use Rattle.onfi_plan.specs.Certificate.{Certificate}
-use Rattle.onfi_core.specs.Steps.{IsOptimal, IsPlanned, IsPromised, Step}
-use Rattle.onfi_core.proofs.Channels.{All-set, run_keeps}
+use Rattle.onfi_core.specs.Steps.{IsOptimal, IsPromised, Step}
+use Rattle.onfi_core.proofs.Channels.{All-set}
 use Rattle.onfi_core.proofs.Lists.{head_same, tail_same, All-at, All-map}
 use Rattle.onfi_core.proofs.Promise.{promise}
 use Rattle.onfi_core.proofs.Promised.{last_optimal}
 use Rattle.onfi_core.proofs.Reaching.{events_reach, opened_reaches, step_reaches}
 use Rattle.onfi_core.specs.Reaching.{Reaches}
 
-get_none : {A : Type 0} (xs : List A) (i : ℕ) → length xs ≤ i → slice_get xs i ≡ None
-get_none [] i h = refl
-get_none (x ∷ xs) zero h = absurd (omega arith)
-get_none (x ∷ xs) (suc i) h = get_none xs i (omega arith)
-
 module _ {C : Type 0} (state : C → Chip) (Such : Planning → Type 0) where
   abbrev states : List (ChannelView C) → List ChannelState
   states views = map (state_in state) views
-
-  -- an event of a channel that isn't there
-  pub no_channel : (s : Setup) (views : List (ChannelView C)) (e : Event) (o : Outcome) → length views ≤ channel_of e → o ≡ outcome.NoSuch (request_in e) → CoreStep s (states views) e o (states views)
-  no_channel s views e o h is = inl (get_none (states views) (channel_of e) (let l = length-map views (state_in state) in omega arith), is, refl)
 
   -- an event changes its channel
   pub channel_steps : (s : Setup) (views : List (ChannelView C)) (e : Event) (o : Outcome) (at : ℕ) (v v' : ChannelView C) → at ≡ channel_of e → slice_get views at ≡ Some v → v.0.setup ≡ s → Step v.0.setup (state_in state v) e o (state_in state v') → CoreStep s (states views) e o (states (slice_set views at v'))
@@ -110,9 +96,6 @@ halfway_more s cs events left left' outcomes mid now e o h is step = record {
   run = run_more s cs h.done outcomes mid now e o h.run step;
 }
 
-pub halfway_end : (s : Setup) (cs : List ChannelState) (events left : List Event) (outcomes : List Outcome) (now : List ChannelState) → Halfway s cs events left outcomes now → left ≡ [] → CoreRun s cs events outcomes now
-halfway_end s cs events left outcomes now h none = let P : List Event → Type 0 = λ es. CoreRun s cs es outcomes now in subst P (sym (h.parts ∙ ap (λ es. h.done ++ es) none ∙ append-nil h.done)) h.run
-
 -- so far those chips have their channels, and these are left
 pub record OpenedSoFar {C : Type 0} (state : C → Chip) (s : Setup) (chips left : List C) (views : List (ChannelView C)) : Type 0 where
   pub done : List C
@@ -163,55 +146,9 @@ pub none_left : {A : Type 0} (n : ℕ) (xs : List A) → (0 < n → false ≡ tr
 none_left n [] h e = refl
 none_left n (x ∷ xs) h e = absurd (false≢true (h (omega arith)))
 
--- The promise of each channel, clause by clause
-
-module _ (s : Setup) (cs : List ChannelState) (reached : All (IsReached s) cs) where
-  each_promise : (P : ChannelState → Type 0) → ((c : ChannelState) → KeepsPromise s c → P c) → All P cs
-  each_promise P f = All-weaker (KeepsPromise s) P f cs (all_promised s cs reached)
-
-  pub all_rightful : All (λ c. AreRightful (device_for s c.chip) c.half.accepted c.half.posted) cs
-  all_rightful = each_promise (λ c. AreRightful (device_for s c.chip) c.half.accepted c.half.posted) (λ c k. k.rightful)
-
-  pub all_sent : All (λ c. c.sent ≡ c.half.accepted ++ c.waiting) cs
-  all_sent = each_promise (λ c. c.sent ≡ c.half.accepted ++ c.waiting) (λ c k. k.sent)
-
-  pub all_serials : All (λ c. (host : ℕ) → SerialsFrom 0 (sent_by host c)) cs
-  all_serials = each_promise (λ c. (host : ℕ) → SerialsFrom 0 (sent_by host c)) (λ c k. k.serials)
-
-  pub all_collected : All (λ c. (host : ℕ) → IsBeginning (collected_by host c) (posted_to host c)) cs
-  all_collected = each_promise (λ c. (host : ℕ) → IsBeginning (collected_by host c) (posted_to host c)) (λ c k. k.collected)
-
-  pub all_once : All (λ c. (place : ℕ) → times s c.half place ≡ number (has_id place) (wants_from s.geometry 0 c.half.accepted)) cs
-  all_once = each_promise (λ c. (place : ℕ) → times s c.half place ≡ number (has_id place) (wants_from s.geometry 0 c.half.accepted)) (λ c k. k.once)
-
-  pub all_last : All (λ c. IfSome c.half.last IsPlanned) cs
-  all_last = each_promise (λ c. IfSome c.half.last IsPlanned) (λ c k. k.last)
-
 -- where the planner is exact, each last plan is optimal
-pub all_optimal : (exact : Bool) (certifies : Certificate → Type 0) (cs : List ChannelState) → IsTrue exact → All (λ c. IfSome c.half.last IsPlanned) cs → All (λ c. IfSome c.half.last (IsPromised exact certifies)) cs → All (λ c. IfSome c.half.last IsOptimal) cs
-all_optimal exact certifies [] is planned promised = tt
-all_optimal exact certifies (c ∷ cs) is planned promised = (last_optimal exact certifies c.half.last is planned.0 promised.0, all_optimal exact certifies cs is planned.1 promised.1)
-
--- where nothing is left each channel is reached
-pub ends_reached : (s s' : Setup) (cs : List ChannelState) (events left : List Event) (outcomes : List Outcome) (now : List ChannelState) → All (IsReached s) cs → Halfway s cs events left outcomes now → left ≡ [] → s' ≡ s → All (IsReached s') now
-ends_reached s s' cs events left outcomes now reached h none same =
-    let P : Setup → Type 0 = λ x. All (IsReached x) now in
-    subst P (sym same) (run_keeps s cs now events outcomes reached (halfway_end s cs events left outcomes now h none)).0
-
--- Events reach the channels from event to event
-
-pub step_all_reach : (s : Setup) (cs : List ChannelState) (e : Event) (o : Outcome) (cs' : List ChannelState) → All (Reaches s) cs → CoreStep s cs e o cs' → All (Reaches s) cs'
-step_all_reach s cs e o cs' all (inl (none, out, same)) = subst (All (Reaches s)) (sym same) all
-step_all_reach s cs e o cs' all (inr (c, c', at, step, after)) = subst (All (Reaches s)) (sym after) (All-set (Reaches s) cs (channel_of e) c' all (step_reaches s c e o c' (All-at (Reaches s) cs (channel_of e) c all at) step))
-
-run_all_reach : (s : Setup) (cs : List ChannelState) (es : List Event) (os : List Outcome) (cs' : List ChannelState) → All (Reaches s) cs → CoreRun s cs es os cs' → All (Reaches s) cs'
-run_all_reach s cs [] [] cs' all run = subst (All (Reaches s)) (sym run) all
-run_all_reach s cs [] (o ∷ os) cs' all run = absurd run
-run_all_reach s cs (e ∷ es) [] cs' all run = absurd run
-run_all_reach s cs (e ∷ es) (o ∷ os) cs' all (mid, one, rest) = run_all_reach s mid es os cs' (step_all_reach s cs e o mid all one) rest
-
--- where nothing is left events reach each channel
-pub ends_by_events : (s s' : Setup) (cs : List ChannelState) (events left : List Event) (outcomes : List Outcome) (now : List ChannelState) → All (Reaches s) cs → Halfway s cs events left outcomes now → left ≡ [] → s' ≡ s → All (Reaches s') now
-ends_by_events s s' cs events left outcomes now all h none same =
-    let P : Setup → Type 0 = λ x. All (Reaches x) now in
-    subst P (sym same) (run_all_reach s cs events outcomes now all (halfway_end s cs events left outcomes now h none))
+pub all_optimal : (exact : Bool) (certifies : Certificate → Type 0) (s : Setup) (cs : List ChannelState) → IsTrue exact → All (KeepsPromise s) cs
+    → All (λ c. IfSome c.half.last (IsPromised exact certifies)) cs → All (λ c. IfSome c.half.last IsOptimal) cs
+all_optimal exact certifies s [] is kept promised = tt
+all_optimal exact certifies s (c ∷ cs) is kept promised =
+    (last_optimal exact certifies c.half.last is kept.0.last promised.0, all_optimal exact certifies s cs is kept.1 promised.1)

@@ -1,5 +1,5 @@
 -- How far a half is.
-use Rattle.std.proofs.Common.{◌≡◌, ◌≢◌, ℕ, zero, suc, ◌+◌, ◌-◌, ◌<◌, inl, inr, Bool, true, false, List, [], ◌∷◌, length, Option, Some, None, drop, refl, sym, ap, subst, ◌∙◌, length-append, length-drop, arith}
+use Rattle.std.proofs.Common.{◌≡◌, ℕ, zero, suc, ◌+◌, ◌-◌, ◌<◌, inl, inr, Bool, true, false, List, [], ◌∷◌, length, Option, Some, None, drop, refl, sym, ap, subst, ◌∙◌, length-append, length-drop, arith}
 use Rattle.std.specs.Prelude.{cond, count_by, is_some, nat_lt, slice_get, slice_index_or, ◌==◌, IsTrue, MatchOption}
 use Rattle.std.specs.List.{flat_map}
 use Rattle.std.proofs.lemmas.Bool.{cases_Bool, cases_lt, eqb-true, false≢true, lt-ltb, ltb-true}
@@ -12,8 +12,7 @@ use Rattle.onfi_problem.specs.declared.lun_state.LunState.TheVariants.{Free, Run
 use Rattle.onfi_schedule.specs.Schedule.{Placed, group_phases, phases, phases_left, rest_phases}
 use Rattle.slab.specs.Slab.{Slab, slab_len}
 use Rattle.onfi_core.specs.declared.setup.Setup.{Setup}
-use Rattle.onfi_core.specs.declared.setup.Choice.{Choice}
-use Rattle.onfi_core.specs.declared.setup.Choice.TheVariants.{InOrder, ByLun, ReadsFirst}
+use Rattle.onfi_core.specs.declared.setup.Choice.TheVariants.{InOrder}
 use Rattle.onfi_core.specs.declared.slot.Slot.{Slot}
 use Rattle.onfi_core.specs.declared.starting.Turn.{Turn}
 use Rattle.onfi_core.specs.declared.starting.Turn.TheVariants as turn
@@ -63,15 +62,6 @@ wants_more s h sound is accepted planned batch a p b =
       λ t. subst (λ c. WantsBy c s h) (sym is) (let l = ltb-true (accepted - planned) batch t in omega arith),
       λ w. (let l = subst (λ c. WantsBy c s h) is w in lt-ltb (accepted - planned) batch (omega arith)),
     )
-
-wants_by : (choice : Choice) (s : Setup) (h : HalfState) → choice ≢ InOrder → WantsBy choice s h
-wants_by InOrder s h n = absurd (n refl)
-wants_by ByLun s h n = tt
-wants_by ReadsFirst s h n = tt
-
--- else always
-pub wants_always : (s : Setup) (h : HalfState) → s.choice ≢ InOrder → WantsItem s h
-wants_always s h n = wants_by s.choice s h n
 
 -- Where no phase is left nothing starts
 

@@ -185,44 +185,29 @@ fields_done s slots n room room' kept kept' h lent lent' due replies accepted' h
 pub lun_there : (s : Setup) (h : HalfState) (due : Due) → IsSound s h → IsDue h due → due.lun < length h.now.luns
 lun_there s h due sound is = let g = goes s h due sound is in within_get h.now.luns due.lun g.1.state g.1.there
 
--- the member of the due phase
-pub member_is : (s : Setup) (h : HalfState) (due : Due) → IsSound s h → IsDue h due → (members : List Want) (number : ℕ) (d : Want) → members ≡ due.group → number ≡ (if nat_lt due.phase (length due.group) then due.phase else due.phase - length due.group)
-    → member_of due.group due.phase ≡ Some (slice_index_or members number d)
-member_is s h due sound is members number d em en =
-    let w = (goes s h due sound is).1.within in
-    let low : (if nat_lt due.phase (length due.group) then due.phase else due.phase - length due.group) < length due.group = elim (cases_lt due.phase (length due.group)) [
-      | inl lt ↦ rw (lt-ltb due.phase (length due.group) lt) lt
-      | inr ge ↦ rw (le-ltb due.phase (length due.group) ge) (omega arith)
+-- the member of a phase stands at that place of its group
+pub member_at : (group : List Want) (phase number : ℕ) (d : Want) → phase < 2 * length group
+    → number ≡ (if nat_lt phase (length group) then phase else phase - length group) → member_of group phase ≡ Some (slice_index_or group number d)
+member_at group phase number d within is =
+    let low : (if nat_lt phase (length group) then phase else phase - length group) < length group = elim (cases_lt phase (length group)) [
+      | inl lt ↦ rw (lt-ltb phase (length group) lt) lt
+      | inr ge ↦ rw (le-ltb phase (length group) ge) (omega arith)
     ] in
-    let m = get_within due.group (if nat_lt due.phase (length due.group) then due.phase else due.phase - length due.group) low in
-    rw (em, en) (m.1 ∙ ap Some (sym (index_get due.group (if nat_lt due.phase (length due.group) then due.phase else due.phase - length due.group) m.0 d m.1)))
+    let m = get_within group (if nat_lt phase (length group) then phase else phase - length group) low in
+    rw is (m.1 ∙ ap Some (sym (index_get group (if nat_lt phase (length group) then phase else phase - length group) m.0 d m.1)))
 
--- the reply of a post
-pub reply_made : (accepted : List Item) (faults : List Fault) (due : Due) (given : PhaseResult) (answer : Answer) (members : List Want) (number : ℕ) (d : Want) (item : Item) (basis : Basis)
-    → given ≡ ran.Post answer → members ≡ due.group → number ≡ due.phase - length due.group → number < length due.group
-    → item ≡ item_at accepted (slice_index_or members number d).id → basis.accepted ≡ accepted → basis.faults ≡ faults
-    → (let r : Reply = record { host = item.host; serial = item.serial; place = (slice_index_or members number d).id; answer = answer; basis = basis } in r) ∷ [] ≡ replies_of accepted faults due given
-reply_made accepted faults due given answer members number d item basis eg em en within ei ea ef =
-    let m = get_within due.group number within in
-    let w : slice_index_or members number d ≡ m.0 = ap (λ ms. slice_index_or ms number d) em ∙ index_get due.group number m.0 d m.1 in
-    let at : slice_get due.group (due.phase - length due.group) ≡ Some m.0 = ap (slice_get due.group) (sym en) ∙ m.1 in
-    let it : item ≡ item_at accepted m.0.id = ei ∙ ap (λ (x : Want). item_at accepted x.id) w in
-    let b : basis ≡ record { accepted = accepted; faults = faults } = ap (λ xs. let z : Basis = record { accepted = xs; faults = basis.faults } in z) ea ∙ ap (λ fs. let z : Basis = record { accepted = accepted; faults = fs } in z) ef in
-    rw (eg, at, w, b, it) refl
-
--- a post's member stands in a slot
-pub member_here : (s : Setup) (slots : Slab Slot) (h : HalfState) (due : Due) → AreSlots slots h.accepted h.posted → IsSound s h → IsDue h due → (given : PhaseResult) → IsRan due given → (m : Want) → slice_get due.group (due.phase - length due.group) ≡ Some m → HasSlot slots m.id
-member_here s slots h due a sound is ran.Command lt m at =
-    let z : due.phase - length due.group ≡ 0 = omega arith in
-    let w = within_get due.group (due.phase - length due.group) m at in
-    let one = later_number due.group (due.phase - length due.group) m at in
-    slot_of s slots h due a sound is m (rw z one)
-member_here s slots h due a sound is (ran.Post answer) le m at = member_slot s slots h due a sound is m (rw (le-ltb due.phase (length due.group) le) at)
+-- a reply of these parts is that to the member
+pub reply_is : (accepted : List Item) (faults : List Fault) (due : Due) (given : PhaseResult) (answer : Answer) (place : ℕ) (item : Item) (basis : Basis)
+    → (m : Want) → given ≡ ran.Post answer → length due.group ≤ due.phase → member_of due.group due.phase ≡ Some m → place ≡ m.id
+    → item ≡ item_at accepted m.id → basis.accepted ≡ accepted → basis.faults ≡ faults
+    → (let r : Reply = record { host = item.host; serial = item.serial; place = place; answer = answer; basis = basis } in r) ∷ []
+    ≡ replies_of accepted faults due given
+reply_is accepted faults due given answer place item basis m eg le at ep ei ea ef =
+    let there : slice_get due.group (due.phase - length due.group) ≡ Some m = rw (le-ltb due.phase (length due.group) le) at at in
+    let b : basis ≡ record { accepted = accepted; faults = faults } = ap (λ xs. let z : Basis = record { accepted = xs; faults = basis.faults } in z) ea
+    ∙ ap (λ fs. let z : Basis = record { accepted = accepted; faults = fs } in z) ef in
+    rw (eg, there, ep, ei, b) refl
 
 -- the item that a slot keeps
 pub item_in_slot : (accepted : List Item) (p : ℕ) (slot : Slot) (item : Item) → slice_get accepted slot.place ≡ Some slot.item → slot.place ≡ p → item ≡ slot.item → item ≡ item_at accepted p
 item_in_slot accepted p slot item there e is = is ∙ sym (index_get accepted p slot.item no_item (subst (λ i. slice_get accepted i ≡ Some slot.item) e there))
-
-pub member_told : (s : Setup) (h : HalfState) (due : Due) → IsSound s h → IsDue h due → (members : List Want) (number : ℕ) (d : Want) → members ≡ due.group → number ≡ (if nat_lt due.phase (length due.group) then due.phase else due.phase - length due.group)
-    → (item : Item) → item ≡ item_at h.accepted (slice_index_or members number d).id → (m : Want) × (member_of due.group due.phase ≡ Some m) × (item ≡ item_at h.accepted m.id)
-member_told s h due sound is members number d em en item e = (slice_index_or members number d, member_is s h due sound is members number d em en, e)

@@ -28,7 +28,7 @@ use Rattle.onfi_core.specs.declared.phase_result.PhaseResult.{PhaseResult}
 use Rattle.onfi_core.specs.declared.phase_result.PhaseResult.TheVariants as ran
 use Rattle.onfi_core.specs.declared.setup.Setup.{Setup}
 use Rattle.onfi_core.specs.Drive.{MayRun, HasRun, IsStatus, closer_of}
-use Rattle.onfi_core.specs.Dues.{IsDue, IsRan, member_of, replies_of}
+use Rattle.onfi_core.specs.Dues.{IsDue, member_of, replies_of}
 use Rattle.onfi_core.specs.Kept.{IsSound, IsTaken, ChipAgrees, LunAgrees, post_for}
 use Rattle.onfi_core.specs.State.{HalfState, device_for, item_at, request_of}
 use Rattle.onfi_core.specs.Steps.{IsPhase, AsksStatus, RunsOnChip, Commands, Launches}
@@ -246,8 +246,3 @@ module _ (s : Setup) (h : HalfState) (chip : Chip) (sound : IsSound s h) (agrees
     there = post_at le;
     kind = λ e. other (ap (λ (x : Item). x.request.kind) item_is ∙ place_kind s h m taken ∙ e);
   }
-
--- what the chip gave is of the phase
-pub is_ran : (chip chip' : Chip) (geometry : Geometry) (due : Due) (item : Item) (given : PhaseResult) → HasRun chip geometry due item given chip' → IsRan due given
-is_ran chip chip' geometry due item ran.Command (lt, done) = lt
-is_ran chip chip' geometry due item (ran.Post answer) (le, told) = le

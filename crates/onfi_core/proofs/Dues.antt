@@ -1,7 +1,6 @@
 -- Which list of starts has the least first start.
-use Rattle.std.proofs.Common.{◌≡◌, ℕ, zero, suc, ◌+◌, ◌<◌, ◌≤◌, ◌⊎◌, inl, inr, List, [], ◌∷◌, length, Option, Some, None, refl, sym, ap, ◌∙◌, subst, arith}
-use Rattle.std.specs.Prelude.{slice_get, slice_index_or, map}
-use Rattle.onfi_schedule.specs.Schedule.{Placed}
+use Rattle.std.proofs.Common.{◌≡◌, ℕ, ◌+◌, ◌<◌, ◌⊎◌, inl, inr, List, [], ◌∷◌, Option, Some, None, refl, sym, ap, ◌∙◌, subst, arith}
+use Rattle.std.specs.Prelude.{slice_get}
 use Rattle.onfi_core.specs.Dues.{SoonerIs, SoonerOf, LeastSoFar}
 use Rattle.onfi_core.specs.declared.starting.Start.{Start}
 
@@ -64,8 +63,3 @@ so_far_some lists n (Some s) r t ts h e (inr k) =
 pub so_far_one : (lists : List (List ℕ)) (n : ℕ) (least r : Option Start) (starts : List ℕ) → LeastSoFar lists n least → slice_get lists n ≡ Some starts → SoonerOf least n starts r → LeastSoFar lists (n + 1) r
 so_far_one lists n least r [] h e k = subst (λ (o : Option Start). LeastSoFar lists (n + 1) o) (sym k) (so_far_none lists n least h e)
 so_far_one lists n least r (t ∷ ts) h e k = so_far_some lists n least r t ts h e k
-
--- of the first starts
-pub sooner_first : (least r : Option Start) (at : ℕ) (starts : List ℕ) (time : ℕ) → 1 ≤ length starts → time ≡ slice_index_or starts 0 0 → SoonerIs least (record { at = at; time = time }) r → SoonerOf least at starts r
-sooner_first least r at [] time some e k = absurd (omega arith)
-sooner_first least r at (t ∷ ts) time some e k = subst (λ (u : ℕ). SoonerIs least (record { at = at; time = u }) r) e k

@@ -1,9 +1,8 @@
 -- Whom the held replies are for, and what a quiet half has left.
-use Rattle.std.proofs.Common.{◌≡◌, ℕ, suc, zero, ◌+◌, ◌*◌, ◌-◌, ◌<◌, ◌≤◌, true, List, [], ◌∷◌, ◌++◌, length, take, Some, refl, sym, ap, ◌∙◌, subst, arith}
-use Rattle.std.specs.Prelude.{◌==◌, slice_get}
+use Rattle.std.proofs.Common.{◌≡◌, ℕ, suc, zero, ◌+◌, ◌*◌, ◌-◌, ◌<◌, ◌≤◌, true, List, [], ◌∷◌, ◌++◌, length, take, refl, sym, ap, ◌∙◌, subst, arith}
+use Rattle.std.specs.Prelude.{◌==◌}
 use Rattle.std.specs.List.{AllByRecursion as All, filter, flat_map}
 use Rattle.std.proofs.lemmas.Bool.{eq-eqb}
-use Rattle.std.proofs.lemmas.List.Elements.{filter-append}
 use Rattle.onfi_timing.specs.declared.spans.Spans.{Spans}
 use Rattle.onfi_timing.specs.declared.timing.Timing.{Timing}
 use Rattle.onfi_request.specs.declared.reply.Reply.{Reply}
@@ -19,7 +18,7 @@ use Rattle.onfi_die.proofs.Order.{rule_kept}
 use Rattle.onfi_die.specs.Order.{AreInOrder}
 use Rattle.onfi_die.specs.Rightful.{IsRightful}
 use Rattle.onfi_core.specs.declared.setup.Setup.{Setup}
-use Rattle.onfi_core.specs.Kept.{IsReached, IsSound}
+use Rattle.onfi_core.specs.Kept.{IsReached}
 use Rattle.onfi_core.specs.Reaching.{IdleIs, NextBehind, NothingHeld}
 use Rattle.onfi_core.specs.State.{HalfState, ChannelState, device_for, is_to, posted_to}
 use Rattle.onfi_core.specs.Steps.{GoesOut, is_empty, unplanned}

@@ -1,11 +1,9 @@
 -- What is posted to a host is in order of making.
-use Rattle.std.proofs.Common.{◌≡◌, ◌≢◌, inl, inr, Bool, List, [], ◌∷◌, ◌++◌}
+use Rattle.std.proofs.Common.{◌≡◌, ◌≢◌}
 use Rattle.std.specs.List.{filter}
-use Rattle.std.proofs.lemmas.Bool.{cases_Bool}
-use Rattle.onfi_request.specs.Words.{Pairs}
 use Rattle.onfi_request.specs.declared.reply.Reply.{Reply}
 use Rattle.onfi_problem.proofs.Perm.{All-front}
-use Rattle.onfi_problem.proofs.Wants.{All-filter, Pairs-filter}
+use Rattle.onfi_problem.proofs.Wants.{Pairs-filter}
 use Rattle.onfi_die.specs.Order.{IsBeginning}
 use Rattle.onfi_die.specs.Rightful.{IsRightful}
 use Rattle.onfi_core.specs.State.{device_for, is_to}

@@ -1,5 +1,5 @@
 -- Lags and last starts, list by list; and lists that are mapped in place.
-use Rattle.std.proofs.Common.{◌≡◌, ℕ, zero, suc, ◌+◌, ◌-◌, ◌<◌, List, [], ◌∷◌, ◌++◌, length, Some, take, drop, refl, sym, ap, ◌∙◌, arith}
+use Rattle.std.proofs.Common.{◌≡◌, ℕ, zero, suc, ◌+◌, ◌<◌, List, [], ◌∷◌, ◌++◌, length, Some, take, drop, refl, sym, ap, ◌∙◌, arith}
 use Rattle.std.specs.Prelude.{get_or, map, max, slice_get, slice_set}
 use Rattle.std.proofs.lemmas.Option.{slice_get_read}
 use Rattle.std.specs.List.{AllByRecursion as All, flat_map}
@@ -28,13 +28,6 @@ latest_more f xs i x so now all at inv is =
     let e : latest_start (flat_map f (drop i xs)) ≡ max (latest_start (f x)) (latest_start (flat_map f (drop (i + 1) xs))) =
     ap (λ zs. latest_start (flat_map f zs)) (drop_next xs i x at) ∙ latest_append (f x) (flat_map f (drop (i + 1) xs)) in
     omega (arith, e, inv, is)
-
--- .. one start more
-pub lag_one : (moment : ℕ) (xs : List ℕ) (i x so now all : ℕ) → slice_get xs i ≡ Some x → max so (lag moment (drop i xs)) ≡ all → now ≡ max so (moment - x) → max now (lag moment (drop (i + 1) xs)) ≡ all
-lag_one moment xs i x so now all at inv is = let e : lag moment (drop i xs) ≡ max (moment - x) (lag moment (drop (i + 1) xs)) = ap (lag moment) (drop_next xs i x at) in omega (arith, e, inv, is)
-
-pub latest_one : (xs : List ℕ) (i x so now all : ℕ) → slice_get xs i ≡ Some x → max so (latest_start (drop i xs)) ≡ all → now ≡ max so x → max now (latest_start (drop (i + 1) xs)) ≡ all
-latest_one xs i x so now all at inv is = let e : latest_start (drop i xs) ≡ max x (latest_start (drop (i + 1) xs)) = ap latest_start (drop_next xs i x at) in omega (arith, e, inv, is)
 
 -- all stay below a bound with the lag added
 pub below_latest : (by bound : ℕ) (ts : List ℕ) → latest_start ts + by < bound → All (λ t. t + by < bound) ts

@@ -1,7 +1,7 @@
 -- A held reply goes out, or comes back.
-use Rattle.std.proofs.Common.{◌≡◌, ◌≢◌, ℕ, zero, suc, ◌+◌, ◌<◌, ◌≤◌, inl, inr, true, false, List, [], ◌∷◌, ◌++◌, length, Option, Some, None, take, drop, refl, sym, ap, ◌∙◌, subst, length-append, arith}
-use Rattle.std.specs.Prelude.{slice_get, slice_index_or, ◌==◌, option_to_list}
-use Rattle.std.specs.List.{filter, insert}
+use Rattle.std.proofs.Common.{◌≡◌, ◌≢◌, ℕ, ◌+◌, ◌<◌, ◌≤◌, inl, inr, true, false, List, [], ◌∷◌, ◌++◌, length, Option, Some, None, take, drop, refl, sym, ap, ◌∙◌, subst, length-append, arith}
+use Rattle.std.specs.Prelude.{slice_index_or, ◌==◌, option_to_list}
+use Rattle.std.specs.List.{filter}
 use Rattle.std.proofs.lemmas.Bool.{ne_eqb}
 use Rattle.std.proofs.lemmas.Bool.Decides.{nat_tests}
 use Rattle.std.proofs.lemmas.List.{length-take-le}
@@ -73,28 +73,6 @@ room_back s slots n room kept at h lent f =
     let l1 = ap length held ∙ length-append before (r ∷ behind) in
     let l2 = ap length left ∙ length-append before behind in
     (omega arith, omega arith)
-
-insert_here : {A : Type 0} (before behind : List A) (x : A) → insert (before ++ behind) (length before) x ≡ before ++ x ∷ behind
-insert_here [] behind x = refl
-insert_here (y ∷ before) behind x = ap (λ zs. y ∷ zs) (insert_here before behind x)
-
-pub fields_back : (s : Setup) (slots : Slab Slot) (n room room' : ℕ) (kept kept' : List Reply) (at : Lent) (h : HalfState) (lent lent' : Option Reply) (r : Reply) (accepted' : List Item) (held' posted' : List Reply)
-    → AreFields s slots n room kept (Some at) h lent → lent ≡ Some r → kept' ≡ insert kept at.at r → room ≤ room'
-    → accepted' ≡ h.accepted → held' ≡ h.held → posted' ≡ h.posted → lent' ≡ None
-    → AreFields s slots n room' kept' None (record h { accepted = accepted'; held = held'; posted = posted' }) lent'
-fields_back s slots n room room' kept kept' at h lent lent' r accepted' held' posted' f own k c e0 e1 e2 e3 =
-    let (q, before, behind, is, held, left, count, place, none) = f.lending in
-    let same : r ≡ q = same_reply r q (sym own ∙ is) in
-    let back : kept' ≡ h.held = k ∙ ap (λ zs. insert zs at.at r) left ∙ ap (λ i. insert (before ++ behind) i r) (sym count) ∙ insert_here before behind r ∙ ap (λ x. before ++ x ∷ behind) same ∙ sym held in
-    let b = f.room_is in
-    rw (e0, e1, e2, e3) (record {
-      slots_are = f.slots_are;
-      count = f.count;
-      numbered = f.numbered;
-      room_is = omega arith;
-      lending = (refl, back);
-      sound = f.sound;
-    })
 
 -- the slot of the reply that is lent
 pub lent_slot : (s : Setup) (slots : Slab Slot) (n room : ℕ) (kept : List Reply) (at : Lent) (h : HalfState) (lent : Option Reply) → AreFields s slots n room kept (Some at) h lent → HasSlot slots at.place

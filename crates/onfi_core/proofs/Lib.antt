@@ -1,4 +1,5 @@
 pub mod Lists
+pub mod Halves
 pub mod Lags
 pub mod Shifted
 pub mod Cut

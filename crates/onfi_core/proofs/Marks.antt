@@ -1,5 +1,5 @@
 -- Marks on items, and the choice that they make.
-use Rattle.std.proofs.Common.{◌≡◌, ℕ, zero, suc, ◌+◌, ◌-◌, ◌<◌, ◌≤◌, ◌⊎◌, inl, inr, Bool, true, false, List, [], ◌∷◌, ◌++◌, length, Some, take, drop, refl, sym, ap, ◌∙◌, subst, arith}
+use Rattle.std.proofs.Common.{◌≡◌, ℕ, zero, suc, ◌+◌, ◌<◌, ◌≤◌, ◌⊎◌, inl, inr, Bool, true, false, List, [], ◌∷◌, ◌++◌, length, Some, take, drop, refl, sym, ap, ◌∙◌, subst, arith}
 use Rattle.std.proofs.Common.{get_or, length-append, min}
 use Rattle.std.specs.Prelude.{slice_get, slice_set, ◌==◌, nat_lt, Result, Ok, Err, IfOk}
 use Rattle.std.proofs.lemmas.Bool.{cases_Bool, cases_lt, eqb-true, ltb-true, lt-ltb}
@@ -11,7 +11,7 @@ use Rattle.onfi_die.proofs.Lists.{get_more}
 use Rattle.onfi_problem.proofs.Places.{get_set_same, get_set_other, get_within, length_set, within_get, same_place, drop_next}
 use Rattle.onfi_core.proofs.Lists.{get_at_length}
 use Rattle.onfi_core.specs.declared.choosing.Chosen.{Chosen}
-use Rattle.onfi_core.specs.Choice.{AreMerged, Rise, IsChoice, IsSelection, Grows, Follows, AllBelow, marked, picked, left_out, passed_over, on, is_want_on}
+use Rattle.onfi_core.specs.Choice.{AreMerged, IsChoice, IsSelection, Grows, Follows, AllBelow, marked, picked, left_out, passed_over, on, is_want_on}
 
 wanted_on : (lun block : ℕ) (w : Want) → is_want_on lun block w ≡ true → (w.lun ≡ lun) × (w.block ≡ block)
 wanted_on lun block w h = elim (cases_Bool (w.lun == lun)) [
@@ -103,12 +103,6 @@ is_choice batch accepted items marks is full oldest =
     }
 
 -- More marks
-
-pub grows_same : (batch : ℕ) (items : List Want) (marks : List Bool) → IsSelection batch items marks → Grows batch items marks marks
-grows_same batch items marks is = record { is = is; more = omega arith; kept = λ at h. h }
-
-pub grows_on : (batch : ℕ) (items : List Want) (a b c : List Bool) → Grows batch items a b → Grows batch items b c → Grows batch items a c
-grows_on batch items a b c f g = let x = f.more in let y = g.more in record { is = g.is; more = omega arith; kept = λ at h. g.kept at (f.kept at h) }
 
 marked_set : (marks : List Bool) (at : ℕ) → slice_get marks at ≡ Some false → marked (slice_set marks at true) ≡ marked marks + 1
 marked_set [] at h = cc

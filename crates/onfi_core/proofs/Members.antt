@@ -57,10 +57,6 @@ requests_of_on s h l b (w ∷ g) t =
       | inr k ↦ (let m : is_on l b (request_of h.accepted w) ≡ false = q ∙ k in rw (m, k) e)
     ]
 
--- on one LUN, different planes are of different blocks
-pub Differ : Want → Want → Type 0
-Differ a b = a.block ≢ b.block
-
 planes_differ : (s : Setup) (h : HalfState) (a b : Want) → IsTaken s h.planned h.accepted a → IsTaken s h.planned h.accepted b → a.plane < b.plane → a.block ≢ b.block
 planes_differ s h a b t u lower e =
     let pa : a.plane ≡ plane_of_block s.geometry a.block = ap (λ (v : Want). v.plane) t.is ∙ ap (plane_of_block s.geometry) (sym (ap (λ (v : Want). v.block) t.is)) in

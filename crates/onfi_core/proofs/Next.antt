@@ -1,6 +1,6 @@
 -- What the next planning takes, item by item.
-use Rattle.std.proofs.Common.{◌≡◌, ◌≢◌, ℕ, zero, suc, ◌+◌, ◌<◌, ◌≤◌, ◌⊎◌, inl, inr, true, false, List, [], ◌∷◌, ◌++◌, ◌-◌, length, Some, None, ◌^◌, take, drop, refl, sym, ap, ◌∙◌, append_assoc, length-drop, arith}
-use Rattle.std.specs.Prelude.{slice_get, ◌==◌, nat_le, nat_lt, not, if◌then◌else◌, Bool, Option}
+use Rattle.std.proofs.Common.{◌≡◌, ℕ, zero, suc, ◌+◌, ◌<◌, ◌≤◌, ◌⊎◌, inl, inr, true, false, List, [], ◌∷◌, ◌++◌, ◌-◌, length, Some, None, ◌^◌, take, drop, refl, sym, ap, ◌∙◌, subst, append_assoc, length-drop, arith}
+use Rattle.std.specs.Prelude.{slice_get, ◌==◌, nat_lt, not, if◌then◌else◌, Bool, Option}
 use Rattle.std.specs.List.{flat_map}
 use Rattle.std.proofs.lemmas.Bool.{cases_Bool, cases_lt, lt-ltb}
 use Rattle.std.proofs.lemmas.Bool.Decides.{nat_tests}
@@ -18,7 +18,7 @@ use Rattle.onfi_core.specs.declared.outcome.Outcome.{Outcome}
 use Rattle.onfi_core.specs.declared.outcome.Outcome.TheVariants as outcome
 use Rattle.onfi_core.specs.declared.setup.Choice.{Choice}
 use Rattle.onfi_core.specs.declared.setup.Choice.TheVariants.{InOrder, ByLun, ReadsFirst}
-use Rattle.onfi_core.specs.Steps.{unplanned, if_stopped, is_current, is_empty, is_late, or_else, refused_where, taken_next, next_problem, nothing_to_plan, plan_refusal}
+use Rattle.onfi_core.specs.Steps.{RunsLate, Taken, Takes, TakesBy, unplanned, if_stopped, is_current, is_empty, is_late, or_else, problem_with, refused_where, taken_next, nothing_to_plan, plan_refusal}
 use Rattle.onfi_group.proofs.Counting.{number-append}
 use Rattle.onfi_problem.specs.Left.{horizon}
 use Rattle.onfi_core.specs.Kept.{IsSound, is_of_place, unposted}
@@ -92,34 +92,39 @@ takes_all n m xs low (inr h) = take_all n m xs h (omega arith)
 goes : (stopped : Option Outcome) (none late : Bool) → stopped ≡ None → none ≡ false → late ≡ false → or_else stopped (or_else (refused_where none outcome.NothingToPlan) (refused_where late (outcome.Stopped Clock))) ≡ None
 goes stopped none late a b c = rw (a, b, c) refl
 
-goes_not : (stopped : Option Outcome) (none late : Bool) → stopped ≡ None → none ≡ true → or_else stopped (or_else (refused_where none outcome.NothingToPlan) (refused_where late (outcome.Stopped Clock))) ≡ Some outcome.NothingToPlan
-goes_not stopped none late a b = rw (a, b) refl
-
 goes_late : (stopped : Option Outcome) (none late : Bool) → stopped ≡ None → none ≡ false → late ≡ true → or_else stopped (or_else (refused_where none outcome.NothingToPlan) (refused_where late (outcome.Stopped Clock))) ≡ Some (outcome.Stopped Clock)
 goes_late stopped none late a b c = rw (a, b, c) refl
 
 -- where nothing stands against it a planning is not refused
-pub plan_goes_on : (s : Setup) (h : HalfState) → h.stopped ≡ None → nothing_to_plan s h ≡ false → is_late s.choice s h ≡ false → plan_refusal s h ≡ None
+plan_goes_on : (s : Setup) (h : HalfState) → h.stopped ≡ None → nothing_to_plan s h ≡ false → is_late s.choice s h ≡ false → plan_refusal s h ≡ None
 plan_goes_on s h going some early = goes (if_stopped h.stopped) (nothing_to_plan s h) (is_late s.choice s h) (ap if_stopped going) some early
 
-pub early_in_order : (s : Setup) (h : HalfState) → s.choice ≡ InOrder → horizon (next_problem s h) < 2 ^ 62 → is_late s.choice s h ≡ false
-early_in_order s h e low = let b : nat_le (2 ^ 62) (horizon (next_problem s h)) ≡ false = grind (arith, nat_tests) in rw e b
+-- .. one that might end late is
+stopped_late : (s : Setup) (h : HalfState) → h.stopped ≡ None → nothing_to_plan s h ≡ false → is_late s.choice s h ≡ true → plan_refusal s h ≡ Some (outcome.Stopped Clock)
+stopped_late s h going some late = goes_late (if_stopped h.stopped) (nothing_to_plan s h) (is_late s.choice s h) (ap if_stopped going) some late
 
-pub late_in_order : (s : Setup) (h : HalfState) → s.choice ≡ InOrder → 2 ^ 62 ≤ horizon (next_problem s h) → is_late s.choice s h ≡ true
-late_in_order s h e high = let b : nat_le (2 ^ 62) (horizon (next_problem s h)) ≡ true = grind (arith, nat_tests) in rw e b
+-- a planning of what is taken ends in time: in order the state tells so
+early_by : (choice : Choice) (s : Setup) (h : HalfState) (taken : Taken) → TakesBy choice s h taken → horizon (problem_with h taken.wants) < 2 ^ 62
+    → is_late choice s h ≡ false
+early_by InOrder s h taken takes low =
+    let in_time = subst (λ (t : Taken). horizon (problem_with h t.wants) < 2 ^ 62) takes low in
+    grind (arith, nat_tests)
+early_by ByLun s h taken takes low = refl
+early_by ReadsFirst s h taken takes low = refl
 
-never_late : (choice : Choice) (s : Setup) (h : HalfState) → choice ≢ InOrder → is_late choice s h ≡ false
-never_late InOrder s h n = absurd (n refl)
-never_late ByLun s h n = refl
-never_late ReadsFirst s h n = refl
+-- nothing stands against a planning of what is taken that ends in time
+pub taken_goes_on : (s : Setup) (h : HalfState) (taken : Taken) → h.stopped ≡ None → nothing_to_plan s h ≡ false → Takes s h taken
+    → horizon (problem_with h taken.wants) < 2 ^ 62 → plan_refusal s h ≡ None
+taken_goes_on s h taken going some takes low = plan_goes_on s h going some (early_by s.choice s h taken takes low)
 
--- where all are chosen of, the state doesn't tell that the plan might end late
-pub early_chosen : (s : Setup) (h : HalfState) → s.choice ≢ InOrder → is_late s.choice s h ≡ false
-early_chosen s h n = never_late s.choice s h n
-
--- a planning is refused where nothing new finds a place and the plan is current
-pub nothing_taken : (s : Setup) (h : HalfState) → h.stopped ≡ None → nothing_to_plan s h ≡ true → plan_refusal s h ≡ Some outcome.NothingToPlan
-nothing_taken s h going none = goes_not (if_stopped h.stopped) (nothing_to_plan s h) (is_late s.choice s h) (ap if_stopped going) none
+-- one that might end late stops the channel
+pub taken_stops : (s : Setup) (h : HalfState) (taken : Taken) → h.stopped ≡ None → nothing_to_plan s h ≡ false → Takes s h taken
+    → 2 ^ 62 ≤ horizon (problem_with h taken.wants)
+    → (plan_refusal s h ≡ Some (outcome.Stopped Clock)) ⊎ ((plan_refusal s h ≡ None) × (Clock ≡ Clock) × RunsLate s h)
+taken_stops s h taken going some takes high = elim (cases_Bool (is_late s.choice s h)) [
+  | inl late ↦ inl (stopped_late s h going some late)
+  | inr early ↦ inr (plan_goes_on s h going some early, refl, (taken, takes, high))
+]
 
 -- then no item is taken
 pub none_taken : (s : Setup) (h : HalfState) → nothing_to_plan s h ≡ true → is_empty (taken_next s h) ≡ true
@@ -129,19 +134,12 @@ none_taken s h none = both (is_empty (taken_next s h)) (is_current h) none
     both true e h = refl
     both false e h = cc
 
--- .. or where its plan might end late
-pub stopped_late : (s : Setup) (h : HalfState) → h.stopped ≡ None → nothing_to_plan s h ≡ false → is_late s.choice s h ≡ true → plan_refusal s h ≡ Some (outcome.Stopped Clock)
-stopped_late s h going some late = goes_late (if_stopped h.stopped) (nothing_to_plan s h) (is_late s.choice s h) (ap if_stopped going) some late
-
 -- Whether a planning takes more
 
 is_empty_take : {A : Type 0} (n : ℕ) (xs : List A) → 1 ≤ n → is_empty (take n xs) ≡ is_empty xs
 is_empty_take zero xs h = absurd (omega arith)
 is_empty_take (suc n) [] h = refl
 is_empty_take (suc n) (x ∷ xs) h = refl
-
-pub full_takes : (s : Setup) (h : HalfState) → h.batch ≤ length h.now.wants → false ≡ not (is_empty (taken_next s h))
-full_takes s h full = let e : h.batch - length h.now.wants ≡ 0 = omega arith in rw e refl
 
 pub some_taken : (s : Setup) (h : HalfState) → length h.now.wants < h.batch → is_empty (taken_next s h) ≡ is_empty (unplanned s h)
 some_taken s h room = is_empty_take (h.batch - length h.now.wants) (unplanned s h) (omega arith)
@@ -165,10 +163,6 @@ empty_drop zero (x ∷ xs) = ap not (sym (lt-ltb 0 (length (x ∷ xs)) (omega ar
 empty_drop (suc n) [] = let e : nat_lt (suc n) 0 ≡ false = grind (arith, nat_tests) in ap not (sym e)
 empty_drop (suc n) (x ∷ xs) = empty_drop n xs ∙ ap not (lt_same n (length xs) (suc n) (suc (length xs)) (λ l. omega arith) (λ l. omega arith))
 
-empty_front : {A : Type 0} (xs ys : List A) → is_empty xs ≡ false → is_empty (xs ++ ys) ≡ false
-empty_front [] ys h = cc
-empty_front (x ∷ xs) ys h = refl
-
 empty_back : {A : Type 0} (xs ys : List A) → is_empty xs ≡ true → is_empty (xs ++ ys) ≡ is_empty ys
 empty_back [] ys h = refl
 empty_back (x ∷ xs) ys h = cc
@@ -180,10 +174,6 @@ none_there (x ∷ xs) e = absurd (omega arith)
 not_not : (b : Bool) → b ≡ not (not b)
 not_not true = refl
 not_not false = refl
-
--- what is set aside is taken
-pub aside_takes : (s : Setup) (h : HalfState) → length h.now.wants < h.batch → is_empty h.aside ≡ false → true ≡ not (is_empty (taken_next s h))
-aside_takes s h room some = let e = some_taken s h room ∙ empty_front h.aside (wants_from s.geometry h.planned (drop h.planned h.accepted)) some in sym (ap not e)
 
 -- else what no planning has looked at
 pub new_takes : (s : Setup) (h : HalfState) → length h.now.wants < h.batch → length h.aside ≡ 0 → nat_lt h.planned (length h.accepted) ≡ not (is_empty (taken_next s h))

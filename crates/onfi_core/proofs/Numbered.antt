@@ -45,10 +45,6 @@ not_below geometry n zero k xs h = tt
 not_below geometry n (suc m) k [] h = tt
 not_below geometry n (suc m) k (x ∷ xs) h = (h, not_below geometry n m (k + 1) xs (omega arith))
 
-weaker_below : (a b : ℕ) (ws : List Want) → a ≤ b → All (λ (w : Want). b ≤ w.id) ws → All (λ (w : Want). a ≤ w.id) ws
-weaker_below a b [] h k = tt
-weaker_below a b (w ∷ ws) h k = let q = k.0 in (omega arith, weaker_below a b ws h k.1)
-
 above : (a : ℕ) (v : Want) (ws : List Want) → v.id ≡ a → All (λ (w : Want). a + 1 ≤ w.id) ws → All (λ (w : Want). v.id < w.id) ws
 above a v [] e h = tt
 above a v (w ∷ ws) e h = let q = h.0 in (omega arith, above a v ws e h.1)

@@ -17,6 +17,7 @@ use Rattle.onfi_core.specs.Steps.{wait_lag, waited}
 use Rattle.onfi_core.specs.Times.{all_starts, free_at, lag, later, later_group, later_starts, latest_start}
 use Rattle.onfi_core.specs.View.{AreFields}
 use Rattle.onfi_core.proofs.First.{phases_start}
+use Rattle.onfi_core.proofs.Halves.{same_replies}
 use Rattle.onfi_core.proofs.Lags.{below_latest}
 use Rattle.onfi_core.proofs.Shifted.{later_legal}
 use Rattle.onfi_core.proofs.Lists.{get_has, get_map}
@@ -69,16 +70,8 @@ sound_waited s moment h r = record {
 }
 
 pub wait_kept : (s : Setup) (c : ChannelState) (moment : ℕ) → IsReached s c → IsReached s (record c { half = waited moment c.half })
-wait_kept s c moment r = record {
-  half = record { sound = sound_waited s moment c.half r.half.sound; held = r.half.held; posted = r.half.posted; made = r.half.made };
-  chip = λ going. (let g = r.chip going in record { geometry = g.geometry; timing = g.timing; blocks = λ l b. (let o = g.blocks l b in record { ran = o.ran; contents = o.contents; order = o.order }); luns = g.luns });
-  sent = r.sent;
-  in_range = r.in_range;
-  hosts = r.hosts;
-  fit = r.fit;
-  serials = r.serials;
-  collected = r.collected;
-}
+wait_kept s c moment r = same_replies s c (waited moment c.half) c.chip r refl refl refl refl (sound_waited s moment c.half r.half.sound)
+    (λ going. (let g = r.chip going in record { geometry = g.geometry; timing = g.timing; blocks = λ l b. (let o = g.blocks l b in record { ran = o.ran; contents = o.contents; order = o.order }); luns = g.luns }))
 
 pub fields_waited : (s : Setup) (slots : Slab Slot) (n room : ℕ) (kept : List Reply) (at : Option Lent) (h : HalfState) (lent : Option Reply) (moment : ℕ)
     → AreFields s slots n room kept at h lent → AreFields s slots n room kept at (waited moment h) lent

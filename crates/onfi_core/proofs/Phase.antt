@@ -53,9 +53,6 @@ map_map f g (x ∷ xs) = ap (λ zs. f (g x) ∷ zs) (map_map f g xs)
 
 module _ (s : Setup) (h : HalfState) (timing : h.now.timing ≡ s.timing) (chip : Chip) (agrees : ChipAgrees s h chip) (l : ℕ) (g : List Want) (n start : ℕ) (wants : List Want) (going : Going s h l g n wants) (lane : OnLun s h chip l g n) (now : Problem) (left : Schedule) (held : List Reply)
     (luns_are : now.luns ≡ slice_set h.now.luns l (lun_after h.now.timing g n (start + phase_length (group_spans h.now.timing g) (length g) n))) (wants_are : now.wants ≡ wants) where
-  ended : ℕ
-  ended = start + phase_length (group_spans h.now.timing g) (length g) n
-
   behind : LunState
   behind = lun_after h.now.timing g n (start + phase_length (group_spans h.now.timing g) (length g) n)
 

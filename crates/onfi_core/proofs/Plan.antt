@@ -12,7 +12,7 @@ use Rattle.onfi_request.specs.Range.{Fits, IsPageFor}
 use Rattle.onfi_request.specs.declared.request.Item.{Item}
 use Rattle.onfi_request.specs.declared.want.Want.{Want}
 use Rattle.onfi_group.specs.Words.{Has, number}
-use Rattle.onfi_problem.specs.Problem.{Problem, IsProblem, IsSmall, IsWant, has_id}
+use Rattle.onfi_problem.specs.Problem.{Problem, IsProblem, IsWant, has_id}
 use Rattle.onfi_problem.proofs.Perm.{All-weaker, All-append, All-each}
 use Rattle.onfi_chip.specs.Chip.{Chip}
 use Rattle.onfi_problem.specs.declared.lun_state.LunState.{LunState}
@@ -25,6 +25,7 @@ use Rattle.onfi_core.specs.declared.setup.Choice.{Choice}
 use Rattle.onfi_core.specs.declared.setup.Choice.TheVariants.{InOrder, ByLun, ReadsFirst}
 use Rattle.onfi_core.specs.declared.setup.Setup.{Setup}
 use Rattle.onfi_core.proofs.Bus.{number-append}
+use Rattle.onfi_core.proofs.Halves.{same_replies}
 use Rattle.onfi_core.proofs.Lists.{All-at, All-drop, length_least}
 use Rattle.onfi_core.proofs.Merged.{all_parts, filter_merged, in_turn, merged_all, number_merged, rise_back, rise_parts}
 use Rattle.onfi_core.proofs.Numbered.{all_taken, length_wants, none_below, split_at, taken_are, not_below, numbers_rise, Rising-append, wants_rise}
@@ -261,13 +262,6 @@ keeps_by ReadsFirst s h taken half is takes = keeps_chosen s h half taken takes 
 pub keeps_taken : (s : Setup) (h : HalfState) (taken : Taken) → IsSound s h → Takes s h taken → Keeps s h taken
 keeps_taken s h taken half takes = keeps_by s.choice s h taken half refl takes
 
-pub next_is_small : (s : Setup) (h : HalfState) (taken : Taken) → IsSound s h → Keeps s h taken → IsSmall (problem_with h taken.wants)
-next_is_small s h taken half keeps =
-    let e = half.luns in
-    let a = s.geometry.some_lun in
-    let b = s.geometry.few_luns in
-    record { wants = keeps.few; some_luns = omega arith; few_luns = omega arith }
-
 module _ (s : Setup) (h : HalfState) (half : IsSound s h) (taken : Taken) (plan : Planning) (plans : Plans s h taken plan) where
   keeps : Keeps s h taken
   keeps = keeps_taken s h taken half plans.tries.takes
@@ -323,16 +317,8 @@ module _ (s : Setup) (h : HalfState) (half : IsSound s h) (taken : Taken) (plan 
   }
 
 pub plan_kept : (s : Setup) (c : ChannelState) (taken : Taken) (plan : Planning) → c.half.stopped ≡ None → IsReached s c → Plans s c.half taken plan → IsReached s (record c { half = planned_by c.half taken plan })
-plan_kept s c taken plan going reached plans = record {
-  half = record { sound = sound_planned s c.half reached.half.sound taken plan plans; held = reached.half.held; posted = reached.half.posted; made = reached.half.made };
-  chip = λ _. chip_planned s c.half reached.half.sound taken plan plans c.chip (reached.chip going);
-  sent = reached.sent;
-  in_range = reached.in_range;
-  hosts = reached.hosts;
-  fit = reached.fit;
-  serials = reached.serials;
-  collected = reached.collected;
-}
+plan_kept s c taken plan going reached plans = same_replies s c (planned_by c.half taken plan) c.chip reached refl refl refl refl
+    (sound_planned s c.half reached.half.sound taken plan plans) (λ _. chip_planned s c.half reached.half.sound taken plan plans c.chip (reached.chip going))
 
 -- the problem of these parts
 pub parts_are : (s : Setup) (h : HalfState) → IsSound s h → (luns : List LunState) (wants these : List Want) → luns ≡ h.now.luns → wants ≡ these → problem_of s.timing s.rules h.now.bus_free luns wants ≡ problem_with h these
@@ -340,16 +326,3 @@ parts_are s h sound luns wants these l w =
     let t = sym sound.timing in
     let r = sym sound.rules in
     ap (λ x. problem_of x s.rules h.now.bus_free luns wants) t ∙ ap (λ x. problem_of h.now.timing x h.now.bus_free luns wants) r ∙ ap (λ x. problem_of h.now.timing h.now.rules h.now.bus_free x wants) l ∙ ap (problem_of h.now.timing h.now.rules h.now.bus_free h.now.luns) w
-
--- What a planning takes
-
-pub takes_in_order : (s : Setup) (h : HalfState) → s.choice ≡ InOrder → Takes s h (taken_in_order s h)
-takes_in_order s h is = subst (λ c. TakesBy c s h (taken_in_order s h)) (sym is) refl
-
-takes_by : (choice : Choice) (s : Setup) (h : HalfState) (taken : Taken) → choice ≢ InOrder → Chooses s h taken → TakesBy choice s h taken
-takes_by InOrder s h taken n chooses = absurd (n refl)
-takes_by ByLun s h taken n chooses = chooses
-takes_by ReadsFirst s h taken n chooses = chooses
-
-pub takes_chosen : (s : Setup) (h : HalfState) (taken : Taken) → s.choice ≢ InOrder → Chooses s h taken → Takes s h taken
-takes_chosen s h taken n chooses = takes_by s.choice s h taken n chooses

@@ -17,6 +17,7 @@ use Rattle.onfi_core.specs.declared.outcome.Outcome.TheVariants.{Stopped}
 use Rattle.onfi_core.specs.declared.setup.Setup.{Setup}
 use Rattle.onfi_core.proofs.Accept.{accept_kept}
 use Rattle.onfi_core.proofs.Bus.{bus_kept}
+use Rattle.onfi_core.proofs.Halves.{other_half, same_replies}
 use Rattle.onfi_core.proofs.Hosts.{submit_kept, post_kept, collect_kept}
 use Rattle.onfi_core.proofs.Plan.{plan_kept}
 use Rattle.onfi_core.proofs.Passing.{wait_kept}
@@ -48,16 +49,7 @@ sound_stopped s cause h r = record { planned = r.planned; some_batch = r.some_ba
 
 -- a stop cause stays
 stop_kept : (s : Setup) (cause : Cause) (c : ChannelState) → IsReached s c → IsReached s (stopped_by cause c)
-stop_kept s cause c r = record {
-  half = record { sound = sound_stopped s cause c.half r.half.sound; held = r.half.held; posted = r.half.posted; made = r.half.made };
-  chip = λ going. cc;
-  sent = r.sent;
-  in_range = r.in_range;
-  hosts = r.hosts;
-  fit = r.fit;
-  serials = r.serials;
-  collected = r.collected;
-}
+stop_kept s cause c r = same_replies s c (record c.half { stopped = Some cause }) c.chip r refl refl refl refl (sound_stopped s cause c.half r.half.sound) (λ going. cc)
 
 refused_kept : (s : Setup) (o : Outcome) (c : ChannelState) → IsReached s c → IsReached s (after_refusal o c)
 refused_kept s (Stopped cause) c r = stop_kept s cause c r
@@ -66,17 +58,8 @@ refused_kept s _ c r = r
 fails_kept : (s : Setup) (c c' : ChannelState) (cause : Cause) → IsReached s c → Fails c c' cause → IsReached s c'
 fails_kept s c c' cause r f =
     let k = stop_kept s cause c r in
-    let next : IsReached s (record (stopped_by cause c) { chip = f.chip }) = record {
-      half = subst (λ fs. IsHalf s (device_of s.geometry fs) (stopped_by cause c).half) (sym f.lost.faults) k.half;
-      chip = λ going. cc;
-      sent = r.sent;
-      in_range = r.in_range;
-      hosts = r.hosts;
-      fit = r.fit;
-      serials = r.serials;
-      collected = r.collected;
-    } in
-    subst (IsReached s) (sym f.after) next
+    let half = subst (λ fs. IsHalf s (device_of s.geometry fs) (stopped_by cause c).half) (sym f.lost.faults) k.half in
+    subst (IsReached s) (sym f.after) (other_half s c (stopped_by cause c).half f.chip r refl refl half (λ going. cc))
 
 does_kept : (s : Setup) (c : ChannelState) (e : Event) (o : Outcome) (c' : ChannelState) → IsReached s c → refusal s c e ≡ None → Does s c e o c' → IsReached s c'
 does_kept s c (Submit host channel r) o c' reached none d =

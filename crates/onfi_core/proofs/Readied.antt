@@ -11,7 +11,6 @@ use Rattle.onfi_problem.specs.declared.lun_state.LunState.TheVariants.{Free, Run
 use Rattle.onfi_problem.specs.Moves.{free_from}
 use Rattle.onfi_problem.specs.Problem.{has_id}
 use Rattle.onfi_problem.proofs.Places.{get_set_other, get_set_same, length_set, same_place}
-use Rattle.onfi_die.specs.Shapes.{Device}
 use Rattle.onfi_chip.specs.Chip.{Chip, Lun, found_ready}
 use Rattle.onfi_chip.specs.Chip.Lun.{Posting}
 use Rattle.onfi_chip.specs.declared.post.Post.{Post}
@@ -23,6 +22,7 @@ use Rattle.onfi_core.specs.Kept.{ChipAgrees, IsReached, IsSound, LunAgrees, comm
 use Rattle.onfi_core.specs.State.{ChannelState, HalfState, device_for}
 use Rattle.onfi_core.specs.Steps.{is_in_array, luns_ready_by, readied}
 use Rattle.onfi_core.specs.View.{AreFields}
+use Rattle.onfi_core.proofs.Halves.{same_replies}
 use Rattle.onfi_core.proofs.Shifted.{ready_legal}
 
 -- the LUN runs a group whose next phase is the first post
@@ -122,9 +122,6 @@ module _ (s : Setup) (h : HalfState) (half : IsSound s h) (lun : ℕ) (works : I
   sound_readied = subst (IsSound s) (sym found_is) sound_found
 
   module _ (chip : Chip) (agrees : ChipAgrees s h chip) where
-    abbrev D : Device
-    D = device_for s chip
-
     abbrev posts : List Post
     posts = map (post_for (device_for s chip) h.accepted) (drop (works.next - length works.group) works.group)
 
@@ -172,16 +169,8 @@ module _ (s : Setup) (h : HalfState) (half : IsSound s h) (lun : ℕ) (works : I
 
 pub ready_kept : (s : Setup) (c : ChannelState) (lun : ℕ) → IsReached s c → c.half.stopped ≡ None → InArray (slice_get c.half.now.luns lun)
     → IsReached s (record c { half = readied lun c.half; chip = found_ready c.chip lun c.half.now.bus_free })
-ready_kept s c lun r going works = record {
-  half = record { sound = sound_readied s c.half r.half.sound lun works; held = r.half.held; posted = r.half.posted; made = r.half.made };
-  chip = λ _. agrees_readied s c.half r.half.sound lun works c.chip (r.chip going);
-  sent = r.sent;
-  in_range = r.in_range;
-  hosts = r.hosts;
-  fit = r.fit;
-  serials = r.serials;
-  collected = r.collected;
-}
+ready_kept s c lun r going works = same_replies s c (readied lun c.half) (found_ready c.chip lun c.half.now.bus_free) r refl refl refl refl
+    (sound_readied s c.half r.half.sound lun works) (λ _. agrees_readied s c.half r.half.sound lun works c.chip (r.chip going))
 
 pub fields_readied : (s : Setup) (slots : Slab Slot) (n room : ℕ) (kept : List Reply) (at : Option Lent) (h : HalfState) (lent : Option Reply) (lun : ℕ) (luns : List LunState) (outdated : Bool)
     → AreFields s slots n room kept at h lent → InArray (slice_get h.now.luns lun) → luns ≡ luns_ready_by h.now.bus_free lun (slice_get h.now.luns lun) h.now.luns → outdated ≡ (if h.outdated then true else nat_lt h.now.bus_free (free_from (slice_get h.now.luns lun)))

@@ -17,7 +17,7 @@ use Rattle.onfi_core.specs.declared.outcome.Outcome.TheVariants as outcome
 use Rattle.onfi_core.specs.declared.setup.Setup.{Setup}
 use Rattle.onfi_core.specs.declared.half.passing.WaitRefusal.{WaitRefusal}
 use Rattle.onfi_core.specs.State.{ChannelState, HalfState, sent_by, posted_to, collected_by, is_to}
-use Rattle.onfi_core.specs.Steps.{Step, StepBy, Does, refusal, after_refusal, stopped_by, fault_of, is_empty, held_for, not_collected, accept_refusal, bus_refusal, or_else, if_stopped, readied, ready_of, ready_refusal, refused_where, unanswered, wait_refusal, waited}
+use Rattle.onfi_core.specs.Steps.{Step, StepBy, Does, refusal, after_refusal, stopped_by, fault_of, is_empty, held_for, not_collected, accept_refusal, or_else, if_stopped, readied, ready_of, ready_refusal, refused_where, wait_refusal, waited}
 use Rattle.onfi_core.specs.Refusals.{wait_outcome, waited_outcome}
 use Rattle.onfi_core.specs.View.{HalfView, IsOldest}
 
@@ -30,9 +30,6 @@ step_does s c e o c' r d = let P : Option Outcome → Type 0 = λ q. StepBy q s 
 -- Submit
 
 module _ (s : Setup) (c : ChannelState) (host channel : ℕ) (r : Request) where
-  pub no_such_host : s.hosts ≤ host → Step s c (event.Submit host channel r) (outcome.NoSuch (Some r)) c
-  no_such_host h = let t : nat_le s.hosts host ≡ true = grind (arith, nat_tests) in step_refused s c (event.Submit host channel r) (outcome.NoSuch (Some r)) c (rw t refl) refl
-
   module _ (known : host < s.hosts) where
     there : nat_le s.hosts host ≡ false
     there = grind (arith, nat_tests)
@@ -65,28 +62,6 @@ module _ (s : Setup) (c : ChannelState) (host channel : ℕ) (r : Request) where
 same_stop : (c : ChannelState) (cause : Cause) → c.half.stopped ≡ Some cause → c ≡ stopped_by cause c
 same_stop c cause e = ap (λ (o : Option Cause). let z : ChannelState = record c { half = record c.half { stopped = o } } in z) e
 
--- what is told of a half's acceptance leaves it
-accept_leaves : (c : ChannelState) (stop : Option Cause) (o : Outcome) → c.half.stopped ≡ stop → or_else (if_stopped stop) (refused_where (nat_le 64 (unanswered c.half)) outcome.WindowFull) ≡ Some o → c ≡ after_refusal o c
-accept_leaves c (Some cause) o e h =
-    let q : outcome.Stopped cause ≡ o = cc in
-    subst (λ (p : Outcome). c ≡ after_refusal p c) q (same_stop c cause e)
-accept_leaves c None o e h = window (nat_le 64 (unanswered c.half)) h
-  where
-    window : (b : _) → refused_where b outcome.WindowFull ≡ Some o → c ≡ after_refusal o c
-    window true h = (let q : outcome.WindowFull ≡ o = cc in subst (λ (p : Outcome). c ≡ after_refusal p c) q refl)
-    window false h = cc
-
-pub not_accepted : (s : Setup) (c : ChannelState) (channel : ℕ) (o : Outcome) → accept_refusal c.half ≡ Some o → Step s c (event.Accept channel) o c
-not_accepted s c channel o h =
-    let f = refused_where (is_empty c.waiting) outcome.NothingToAccept in
-    step_refused s c (event.Accept channel) o c (ap (λ (x : Option Outcome). or_else x f) h) (accept_leaves c c.half.stopped o refl h)
-
-pub nothing_to_accept : (s : Setup) (c : ChannelState) (channel : ℕ) → accept_refusal c.half ≡ None → c.waiting ≡ [] → Step s c (event.Accept channel) outcome.NothingToAccept c
-nothing_to_accept s c channel h e =
-    let f = refused_where (is_empty c.waiting) outcome.NothingToAccept in
-    let z : f ≡ Some outcome.NothingToAccept = ap (λ (xs : List Item). refused_where (is_empty xs) outcome.NothingToAccept) e in
-    step_refused s c (event.Accept channel) outcome.NothingToAccept c (ap (λ (x : Option Outcome). or_else x f) h ∙ z) refl
-
 -- the front of what waits is accepted
 pub accepts : (s : Setup) (c c' : ChannelState) (channel : ℕ) (x : Item) (behind : List Item) → accept_refusal c.half ≡ None → c.waiting ≡ x ∷ behind → c' ≡ record c { half = record c.half { accepted = c.half.accepted ++ x ∷ [] }; waiting = behind }
     → Step s c (event.Accept channel) (outcome.Accepted (length c.half.accepted)) c'
@@ -103,9 +78,6 @@ leaves c (Some cause) b why o same e h =
     subst (λ (p : Outcome). c ≡ after_refusal p c) q (same_stop c cause e)
 leaves c None true why o same e h = let q : why ≡ o = cc in subst (λ (p : Outcome). c ≡ after_refusal p c) q same
 leaves c None false why o same e h = cc
-
-pub not_run : (s : Setup) (c : ChannelState) (channel : ℕ) (o : Outcome) → bus_refusal c.half ≡ Some o → Step s c (event.Bus channel) o c
-not_run s c channel o h = step_refused s c (event.Bus channel) o c h (leaves c c.half.stopped _ outcome.NoPlan o refl refl h)
 
 -- Wait
 
@@ -131,24 +103,12 @@ waiting_posts s c moment old new (Err refusal) same done left = ap (λ (v : Half
 
 -- Ready
 
-ready_leaves : (c : ChannelState) (none : _) (stop : Option Cause) (b : _) (o : Outcome) → c.half.stopped ≡ stop → or_else (refused_where none (outcome.NoSuch None)) (or_else (if_stopped stop) (refused_where b outcome.NotInArray)) ≡ Some o → c ≡ after_refusal o c
-ready_leaves c true stop b o e h = let q : outcome.NoSuch None ≡ o = cc in subst (λ (p : Outcome). c ≡ after_refusal p c) q refl
-ready_leaves c false stop b o e h = leaves c stop b outcome.NotInArray o refl e h
-
-pub not_ready : (s : Setup) (c : ChannelState) (channel lun : ℕ) (o : Outcome) → ready_refusal lun c.half ≡ Some o → Step s c (event.Ready channel lun) o c
-not_ready s c channel lun o h = step_refused s c (event.Ready channel lun) o c h (ready_leaves c _ c.half.stopped _ o refl h)
-
 -- the chip says that the LUN is ready
 pub finds_ready : (s : Setup) (c : ChannelState) (channel lun ready : ℕ) (h : HalfState) (chip : Chip) → ready_refusal lun c.half ≡ None → ready ≡ ready_of lun c.half → h ≡ readied lun c.half → chip ≡ found_ready c.chip lun c.half.now.bus_free
     → Step s c (event.Ready channel lun) (outcome.ReadyFrom ready) (record c { half = h; chip = chip })
 finds_ready s c channel lun ready h chip open' e half found =
     step_does s c (event.Ready channel lun) (outcome.ReadyFrom ready) (record c { half = h; chip = chip }) open'
     (inl (ap outcome.ReadyFrom e, ap (λ (x : HalfState). let z : ChannelState = record c { half = x; chip = chip } in z) half ∙ ap (λ (x : Chip). let z : ChannelState = record c { half = readied lun c.half; chip = x } in z) found))
-
--- .. or that it isn't
-pub still_busy : (s : Setup) (c : ChannelState) (channel lun : ℕ) (chip : Chip) → ready_refusal lun c.half ≡ None → chip ≡ c.chip → Step s c (event.Ready channel lun) outcome.StillBusy (record c { chip = chip })
-still_busy s c channel lun chip open' same =
-    step_does s c (event.Ready channel lun) outcome.StillBusy (record c { chip = chip }) open' (inr (refl, ap (λ (x : Chip). let z : ChannelState = record c { chip = x } in z) same))
 
 -- Post and Collect
 
@@ -157,18 +117,9 @@ some_held host [] behind r own = let t : (r.host == host) ≡ true = grind (arit
 some_held host (x ∷ before) behind r own = elim (cases_Bool (x.host == host)) [ inl k ↦ rw k refl | inr k ↦ rw k (some_held host before behind r own) ]
 
 module _ (s : Setup) (c : ChannelState) (host channel : ℕ) where
-  pub no_such_poster : s.hosts ≤ host → Step s c (event.Post channel host) (outcome.NoSuch None) c
-  no_such_poster h = let t : nat_le s.hosts host ≡ true = grind (arith, nat_tests) in step_refused s c (event.Post channel host) (outcome.NoSuch None) c (rw t refl) refl
-
-  pub no_such_collector : s.hosts ≤ host → Step s c (event.Collect channel host) (outcome.NoSuch None) c
-  no_such_collector h = let t : nat_le s.hosts host ≡ true = grind (arith, nat_tests) in step_refused s c (event.Collect channel host) (outcome.NoSuch None) c (rw t refl) refl
-
   module _ (known : host < s.hosts) where
     is_there : nat_le s.hosts host ≡ false
     is_there = grind (arith, nat_tests)
-
-    pub nothing_to_post : held_for host c.half ≡ [] → Step s c (event.Post channel host) outcome.NothingToPost c
-    nothing_to_post e = let t = is_there in step_refused s c (event.Post channel host) outcome.NothingToPost c (rw (t, e) refl) refl
 
     held_is : (r : Reply) → IsOldest host c.half.held r → is_empty (held_for host c.half) ≡ false
     held_is r o = ap (λ (rs : List Reply). is_empty (filter (is_to host) rs)) o.is ∙ some_held host o.before o.behind r o.own

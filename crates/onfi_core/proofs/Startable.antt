@@ -148,15 +148,6 @@ module _ (p : Problem) (g : List Want) (rising : Rising p.wants) (st : IsStartab
   pub startable_on : (l b : ℕ) → on l b p.wants ≡ on l b g ++ on l b (without g p.wants)
   startable_on l b = startable_from l b (on l b g) refl
 
-  -- its members are on different blocks
-  pub different_blocks : (m v : Want) → Has g m → Has g v → m.lun ≡ v.lun → m.block ≡ v.block → m ≡ v
-  different_blocks m v hm hv a c =
-      let k : is_want_on v.lun v.block m ≡ true = grind (arith, nat_tests) in
-      let j : is_want_on v.lun v.block v ≡ true = grind (arith, nat_tests) in
-      let tm = is_there m hm v.lun v.block k in
-      let tv = is_there v hv v.lun v.block j in
-      head_same _ _ _ _ (sym tm.1 ∙ tv.1)
-
   others_not : (i : ℕ) (m : Want) (vs : List Want) → Has p.wants m → All (Has p.wants) vs → All (λ (v : Want). m.plane < v.plane) vs → m.id ≡ i → number (has_id i) vs ≡ 0
   others_not i m [] h k q e = refl
   others_not i m (v ∷ vs) h k q e =

@@ -21,11 +21,10 @@ use Rattle.onfi_core.proofs.Plan.{sound_planned}
 use Rattle.onfi_problem.specs.Problem.{Problem}
 use Rattle.onfi_request.specs.declared.want.Want.{Want}
 use Rattle.onfi_schedule.specs.Schedule.{Placed}
-use Rattle.onfi_core.specs.Steps.{planned_by, problem_with, Plans, Taken, taken_in_order, taken_next, accept_refusal, if_stopped, unanswered}
+use Rattle.onfi_core.specs.Steps.{planned_by, problem_with, Plans, Taken, accept_refusal, if_stopped, unanswered}
 use Rattle.onfi_core.specs.Kept.{IsSound, is_of_place, first_half}
 use Rattle.onfi_core.proofs.Opening.{opened_sound}
-use Rattle.onfi_core.specs.View.{IsNext, AreSlots, AreNumbered, AreFields, taken_of}
-use Rattle.onfi_core.specs.declared.choosing.Chosen.{Chosen}
+use Rattle.onfi_core.specs.View.{IsNext, AreSlots, AreNumbered, AreFields}
 use Rattle.onfi_core.proofs.Accept.{sound_accepted}
 use Rattle.onfi_core.proofs.Lists.{get_at_length}
 use Rattle.onfi_core.proofs.Next.{was_accepted}
@@ -208,15 +207,3 @@ fields_planned s slots n room kept at h lent plan taken wants aside planned rest
       sound = sound_planned s h f.sound taken plan plans;
     } in
     rw (ew, ea, ep, er, eg) (subst P (sym built) base)
-
--- .. in order
-pub fields_in_order : (s : Setup) (slots : Slab Slot) (n room : ℕ) (kept : List Reply) (at : Option Lent) (h : HalfState) (lent : Option Reply) (plan : Planning) (wants : List Want) (planned : ℕ) (rest : List (List ℕ)) (groups : List Placed)
-    → AreFields s slots n room kept at h lent → Plans s h (taken_in_order s h) plan → wants ≡ h.now.wants ++ taken_next s h → planned ≡ h.planned + length (taken_next s h) → rest ≡ plan.schedule.rest → groups ≡ plan.schedule.groups
-    → AreFields s slots n room kept at (record h { planned = planned; now = record h.now { wants = wants }; left = record { rest = rest; groups = groups }; outdated = false; last = Some plan }) lent
-fields_in_order s slots n room kept at h lent plan wants planned rest groups f plans ew ep er eg = fields_planned s slots n room kept at h lent plan (taken_in_order s h) wants h.aside planned rest groups f plans ew refl ep er eg
-
--- .. and where the wants are chosen
-pub fields_chosen : (s : Setup) (slots : Slab Slot) (n room : ℕ) (kept : List Reply) (at : Option Lent) (h : HalfState) (lent : Option Reply) (plan : Planning) (chosen : Chosen) (planned : ℕ) (rest : List (List ℕ)) (groups : List Placed)
-    → AreFields s slots n room kept at h lent → Plans s h (taken_of h chosen) plan → planned ≡ length h.accepted → rest ≡ plan.schedule.rest → groups ≡ plan.schedule.groups
-    → AreFields s slots n room kept at (record h { planned = planned; aside = chosen.rest.items; now = record h.now { wants = chosen.wants.items }; left = record { rest = rest; groups = groups }; outdated = false; last = Some plan }) lent
-fields_chosen s slots n room kept at h lent plan chosen planned rest groups f plans ep er eg = fields_planned s slots n room kept at h lent plan (taken_of h chosen) chosen.wants.items chosen.rest.items planned rest groups f plans refl refl ep er eg

@@ -1,10 +1,13 @@
 -- The phase that is due, and what it leaves.
-use Rattle.std.specs.Prelude.{◌≡◌, ℕ, ◌+◌, ◌<◌, ◌≤◌, ◌-◌, ◌⊎◌, nat_lt, if◌then◌else◌, List, [], ◌∷◌, ◌++◌, length, map, take, drop, Option, Some, None, option_to_list, slice_get, slice_set}
+use Rattle.std.specs.Prelude.{◌≡◌, ℕ, ◌+◌, ◌<◌, ◌≤◌, ◌-◌, ◌⊎◌, nat_lt, if◌then◌else◌, List, [], ◌∷◌, ◌++◌, length, map, take, drop, Option, Some, None, option_to_list, slice_get, slice_index_or, slice_set}
+use Rattle.onfi_timing.specs.declared.timing.Timing.{Timing}
+use Rattle.onfi_timing.specs.Phases.{phase_length}
 use Rattle.onfi_request.specs.declared.reply.Reply.{Reply}
 use Rattle.onfi_request.specs.declared.want.Want.{Want}
 use Rattle.onfi_request.specs.declared.request.Item.{Item}
 use Rattle.onfi_request.specs.declared.fault.Fault.{Fault}
-use Rattle.onfi_problem.specs.Moves.{Move, move_lun, placed}
+use Rattle.onfi_group.specs.Group.{group_spans, lun_of}
+use Rattle.onfi_problem.specs.Moves.{Move, lun_after, move_lun, placed}
 use Rattle.onfi_schedule.specs.Schedule.{Placed, Schedule}
 use Rattle.onfi_schedule.specs.Laws.{ComesNext}
 use Rattle.onfi_core.specs.declared.starting.Start.{Start}
@@ -85,6 +88,18 @@ pub record IsDue (h : HalfState) (due : Due) : Type 0 where
   pub place_there : (at : ℕ) → due.place ≡ Some at → at < length h.left.groups
   pub now_is : placed h.now move due.start ≡ record h.now { bus_free = due.bus_free; luns = slice_set h.now.luns due.lun due.next; wants = due.wants.items }
   pub left_is : left ≡ record { rest = slice_set h.left.rest due.lun due.rest; groups = groups_left due.place h.left.groups }
+
+-- the phase of the group at the first of the starts, and what stands once it is done
+pub record IsPhaseOf (timing : Timing) (group : List Want) (phase : ℕ) (starts : List ℕ) (place : Option ℕ) (wants : List Want) (due : Due) : Type 0 where
+  pub start : due.start ≡ slice_index_or starts 0 0
+  pub group_is : due.group ≡ group
+  pub phase_is : due.phase ≡ phase
+  pub lun : due.lun ≡ lun_of group
+  pub bus : due.bus_free ≡ slice_index_or starts 0 0 + phase_length (group_spans timing group) (length group) phase
+  pub next : due.next ≡ lun_after timing group phase due.bus_free
+  pub rest : due.rest ≡ drop 1 starts
+  pub place_is : due.place ≡ place
+  pub wants_are : due.wants.items ≡ wants
 
 -- the member of a group that its phase is of: commands first, then posts
 abbrev pub member_of : List Want → ℕ → Option Want

@@ -4,7 +4,7 @@ use Rattle.std.specs.List.{AllByRecursion as Each}
 use Rattle.std.specs.VecDeque.{deque_capacity}
 use Rattle.onfi_request.specs.declared.request.Item.{Item}
 use Rattle.onfi_request.specs.declared.reply.Reply.{Reply}
-use Rattle.onfi_chip.specs.Chip.{Chip, opened, IsAsOpened}
+use Rattle.onfi_chip.specs.Chip.{Chip, IsAsOpened}
 use Rattle.onfi_core.specs.declared.host_queue.HostQueue.{HostQueue}
 use Rattle.onfi_core.specs.declared.setup.Setup.{Setup}
 use Rattle.onfi_core.specs.Kept.{first}

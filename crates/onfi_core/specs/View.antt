@@ -18,7 +18,7 @@ use Rattle.onfi_core.specs.declared.setup.Choice.TheVariants.{InOrder, ByLun, Re
 use Rattle.onfi_core.specs.declared.slot.Slot.{Slot}
 use Rattle.onfi_core.specs.declared.lent.Lent.{Lent}
 use Rattle.onfi_core.specs.declared.batch.Batch.{Batch}
-use Rattle.onfi_core.specs.declared.choosing.Chosen.{Chosen}
+use Rattle.onfi_core.specs.declared.half.choosing.Taking.{Taking}
 use Rattle.onfi_core.specs.declared.planning.PlanStop.{PlanStop}
 use Rattle.onfi_core.specs.declared.planning.PlanStop.TheVariants.{Clock, Over, Memory}
 use Rattle.onfi_core.specs.declared.half.PlanRefusal.{PlanRefusal}
@@ -131,9 +131,9 @@ PlanRefused s h NothingToPlan h' = (plan_refusal s h ≡ Some outcome.NothingToP
 PlanRefused s h (IsOver opened) h' = (plan_refusal s h ≡ None) × (opened ≡ s.limit) × RunsOver s h × (h' ≡ h)
 PlanRefused s h NoMemory h' = (plan_refusal s h ≡ None) × (h' ≡ h)
 
--- what a planning takes that takes this choice of all
-abbrev pub taken_of : HalfState → Chosen → Taken
-taken_of h chosen = record { wants = chosen.wants.items; planned = length h.accepted; aside = chosen.rest.items }
+-- what is taken, as lists and numbers
+abbrev pub taken_of : Taking → Taken
+taken_of taking = record { wants = taking.wants.items; planned = taking.planned; aside = taking.aside.items }
 
 -- a planning's plan took the old one's place
 abbrev pub PlannedAs : HalfView → HalfView → Result ℕ PlanRefusal → Type 0

@@ -1,11 +1,12 @@
-ghost use Rattle.std.specs.Prelude.{◌≡◌, ◌<◌, ◌≤◌, ◌+◌, ◌*◌, ◌^◌, drop, length};
+ghost use Rattle.std.specs.Prelude.{◌≡◌, ℕ, ◌<◌, ◌≤◌, ◌+◌, ◌*◌, ◌^◌, drop, length, Some, vec_len};
 ghost use Rattle.onfi_problem.specs.Moves.{lun_after, without};
+ghost use Rattle.onfi_core.specs.Dues.{IsPhaseOf, groups_left, member_of};
 
 use arrayvec::ArrayVec;
 use onfi_group::Group;
 use onfi_problem::LunState;
 use onfi_request::Want;
-use onfi_schedule::Starts;
+use onfi_schedule::{Placed, Starts};
 use onfi_timing::Timing;
 use std::alloc::Global;
 
@@ -27,6 +28,55 @@ pub struct Due {
     pub bus_free: u64,
     /// The wants that are not started then.
     pub wants: ArrayVec<Want, 8>,
+}
+
+impl Due {
+    /// The phase of the group at the first of these starts; the group stood at that place among those that didn't start, if it
+    /// did, and these wants are not started then. This takes no memory.
+    pub fn of(
+        alloc: Global,
+        timing: &Timing,
+        group: &Group,
+        phase: u8,
+        starts: &Starts,
+        place: Option<usize>,
+        wants: ArrayVec<Want, 8>,
+    ) -> Due
+        requires phase { phase < 2 * length group.now }
+        requires some { 1 ≤ length starts.now }
+        ensures phase { IsPhaseOf timing.now group.now phase starts.now place wants.items result }
+        ensures time { result.start < 2 ^ 63 }
+    {
+        let start = starts.as_slice()[0];
+        let spans = timing.spans(group.kind());
+        let ended = start + spans.phase_length(group.len(), usize::from(phase));
+        Due {
+            start,
+            group: group.copy(),
+            phase,
+            lun: group.lun(),
+            next: lun_after(timing, group, phase, ended),
+            rest: behind_first(alloc, starts),
+            place,
+            bus_free: ended,
+            wants,
+        }
+    }
+
+    /// The member of the group that the phase is of: each has a command, then each a post.
+    pub fn member(&self) -> &Want
+        requires { self.now.phase < 2 * length self.now.group }
+        ensures { member_of self.now.group self.now.phase ≡ Some result.now }
+    {
+        let members = self.group.len();
+        let phase = usize::from(self.phase);
+        let number = if phase < members {
+            phase
+        } else {
+            phase - members
+        };
+        &self.group.members()[number]
+    }
 }
 
 /// What the LUN of a group does once a phase of it has ended.
@@ -81,4 +131,14 @@ pub fn wants_without(group: &Group, wants: &[Want]) -> ArrayVec<Want, 8>
         }
     }
     left
+}
+
+/// The group at the place starts, if one does: the others are left.
+pub fn leave(groups: &mut Vec<Placed>, place: Option<usize>)
+    requires { (at : ℕ) → place ≡ Some at → at < vec_len groups.old }
+    ensures { groups.new.items ≡ groups_left place groups.old.items }
+{
+    if let Some(at) = place {
+        groups.remove(at);
+    }
 }

@@ -3,26 +3,26 @@ ghost use Rattle.onfi_core.specs.Kept.{first_half};
 ghost use Rattle.onfi_request.specs.declared.reply.Reply.{Reply as AReply};
 ghost use Rattle.onfi_plan.specs.Certificate.{certificate_in};
 ghost use Rattle.onfi_core.specs.State.{Planning};
-ghost use Rattle.onfi_core.specs.Steps.{GoesOut, IsPromised, accept_refusal, bus_refusal, held_for, taken_in_order, taken_next, planned_by, Plans};
+ghost use Rattle.onfi_core.specs.Steps.{GoesOut, IsPromised, accept_refusal, bus_refusal, held_for, taken_next, planned_by, Plans};
 ghost use Rattle.onfi_core.specs.Dues.{IsDue, IsTurn, due_outcome};
 ghost use Rattle.onfi_core.specs.declared.starting.Turn.TheVariants as turn;
 ghost use Rattle.onfi_core.specs.Refusals.{fault_outcome};
-ghost use Rattle.onfi_core.specs.View.{IsNext, IsOldest, accepting, planning_of, PlannedAs, RefusedAs, refusal_of};
+ghost use Rattle.onfi_core.specs.View.{IsNext, IsOldest, accepting, planning_of, PlannedAs, RefusedAs, refusal_of, taken_of};
 ghost use Rattle.onfi_core.specs.declared.setup.Choice.TheVariants.{InOrder};
 ghost use Rattle.onfi_problem.specs.declared.lun_state.LunState.TheVariants.{Free};
 
 use crate::batch::Batch;
-use crate::due::{Due, behind_first, lun_after, wants_again, wants_without};
-use crate::finding::{find, item_of};
+use crate::due::{Due, wants_again, wants_without};
+use crate::finding::find;
 use crate::history::History;
+use crate::left::{free_luns, no_starts};
 use crate::lent::Lent;
 use crate::oldest::oldest_for;
 use crate::outcome::Cause;
 use crate::planning::{NextPlan, PlanStop, plan_wants};
-use crate::setup::{Choice, Setup};
+use crate::setup::Setup;
 use crate::slot::Slot;
 use crate::starting::{Start, Turn, next_turn};
-use crate::wants::want_of;
 use arrayvec::ArrayVec;
 use onfi_plan::{Plan, Planner};
 use onfi_problem::{LunState, Problem};
@@ -37,6 +37,8 @@ mod counts;
 pub(crate) mod passing;
 mod phase;
 mod unanswered;
+
+use choosing::Taking;
 
 /// At most this many accepted items have no posted reply.
 const WINDOW: usize = 64;
@@ -214,21 +216,6 @@ impl Half {
         self.batch = batch;
     }
 
-    // The wants not started, and behind them those that the next planning takes.
-    fn next_wants(&self) -> ArrayVec<Want, 8>
-        requires in_order { self.now.setup.choice ≡ InOrder }
-        ensures { result.items ≡ self.now.state.now.wants ++ taken_next self.now.setup self.now.state }
-    {
-        let mut wants = ArrayVec::try_from(self.wants.as_slice()).unwrap();
-        let room = u64::from(self.batch).saturating_sub(wants.len() as u64);
-        let count = room.min(self.accepted - self.planned);
-        for at in 0..count {
-            let place = self.planned + at;
-            wants.push(want_of(&self.setup.geometry, place, item_of(&self.slots, place)));
-        }
-        wants
-    }
-
     /// Plans, with the bus and the LUNs as they stand, by that planner: in order the wants not started, and behind them the
     /// first unplanned items, up to the batch in all; else a choice of all accepted items that aren't started, and those that
     /// it leaves are set aside. The plan takes the old one's place; its finish is answered, in ns of the channel's clock.
@@ -245,39 +232,25 @@ impl Half {
         ensures settled { self.new.lent ≡ None }
         ensures setup { self.new.setup ≡ self.old.setup }
     {
-        match self.setup.choice {
-            Choice::InOrder => self.plan_in_order(alloc, planner),
-            Choice::ByLun | Choice::ReadsFirst => self.plan_chosen(alloc, planner),
-        }
-    }
-
-    // Plans the wants not started, and behind them the first unplanned items, up to the batch in all.
-    fn plan_in_order<P: Planner>(&mut self, alloc: Global, planner: &P) -> Result<u64, PlanRefusal>
-        requires settled { self.old.lent ≡ None }
-        requires in_order { self.old.setup.choice ≡ InOrder }
-        ensures planned { PlannedAs self.old self.new result }
-        ensures promised { IfOk result (λ _. IfSome self.new.state.last (IsPromised P.exact P.certifies)) }
-        ensures refused { RefusedAs self.old self.new result }
-        ensures settled { self.new.lent ≡ None }
-        ensures setup { self.new.setup ≡ self.old.setup }
-    {
         if let Some(cause) = self.stopped {
             return Err(PlanRefusal::Stopped(cause));
         }
         if self.nothing_to_plan() {
             return Err(PlanRefusal::NothingToPlan);
         }
-        let wants = self.next_wants();
+        let Ok(taking) = self.take_next(alloc) else {
+            return Err(PlanRefusal::Memory);
+        };
         let next = plan_wants(
             alloc,
             planner,
             &self.setup,
             self.bus_free,
             self.luns.as_slice(),
-            wants.as_slice(),
+            taking.wants.as_slice(),
         );
         match next {
-            Ok(next) => Ok(self.take_over(wants, next)),
+            Ok(next) => Ok(self.take_over(taking, next)),
             Err(stop) => match stop {
                 PlanStop::Clock => {
                     self.stopped = Some(Cause::Clock);
@@ -288,18 +261,18 @@ impl Half {
         }
     }
 
-    // The plan of these wants takes the old one's place.
-    fn take_over(&mut self, wants: ArrayVec<Want, 8>, next: NextPlan) -> u64
-        requires wants { wants.items ≡ self.old.state.now.wants ++ taken_next self.old.setup self.old.state }
-        requires plans { Plans self.old.setup self.old.state (taken_in_order self.old.setup self.old.state) (planning_of next.batch) }
+    // The plan of what was taken takes the old one's place.
+    fn take_over(&mut self, taking: Taking, next: NextPlan) -> u64
+        requires plans { Plans self.old.setup self.old.state (taken_of taking) (planning_of next.batch) }
         requires rest { next.rest.items ≡ next.batch.plan.schedule.rest }
         requires groups { next.groups.items ≡ next.batch.plan.schedule.groups }
-        ensures planned { self.new ≡ record self.old { state = planned_by self.old.state (taken_in_order self.old.setup self.old.state) (planning_of next.batch) } }
+        ensures planned { self.new ≡ record self.old { state = planned_by self.old.state (taken_of taking) (planning_of next.batch) } }
         ensures finish { result ≡ next.batch.plan.finish }
     {
         let finish = next.batch.plan.finish;
-        self.planned += (wants.len() - self.wants.len()) as u64;
-        self.wants = wants;
+        self.planned = taking.planned;
+        self.aside = taking.aside;
+        self.wants = taking.wants;
         self.rest = next.rest;
         self.groups = next.groups;
         self.outdated = false;
@@ -341,21 +314,16 @@ impl Half {
         else {
             unreachable!();
         };
-        let starts = &self.rest[next.at];
-        let start = starts.as_slice()[0];
-        let spans = self.setup.timing.spans(group.kind());
-        let ended = start + spans.phase_length(group.len(), usize::from(*phase));
-        Due {
-            start,
-            group: group.copy(),
-            phase: *phase,
-            lun: group.lun(),
-            next: lun_after(&self.setup.timing, group, *phase, ended),
-            rest: behind_first(alloc, starts),
-            place: None,
-            bus_free: ended,
-            wants: wants_again(self.wants.as_slice()),
-        }
+        let wants = wants_again(self.wants.as_slice());
+        Due::of(
+            alloc,
+            &self.setup.timing,
+            group,
+            *phase,
+            &self.rest[next.at],
+            None,
+            wants,
+        )
     }
 
     // The first phase of the group at that place.
@@ -366,20 +334,16 @@ impl Half {
     {
         let placed = &self.groups[first.at];
         let group = placed.members();
-        let start = placed.starts().as_slice()[0];
-        let spans = self.setup.timing.spans(group.kind());
-        let ended = start + spans.phase_length(group.len(), 0);
-        Due {
-            start,
-            group: group.copy(),
-            phase: 0,
-            lun: group.lun(),
-            next: lun_after(&self.setup.timing, group, 0, ended),
-            rest: behind_first(alloc, placed.starts()),
-            place: Some(first.at),
-            bus_free: ended,
-            wants: wants_without(group, self.wants.as_slice()),
-        }
+        let wants = wants_without(group, self.wants.as_slice());
+        Due::of(
+            alloc,
+            &self.setup.timing,
+            group,
+            0,
+            placed.starts(),
+            Some(first.at),
+            wants,
+        )
     }
 
     /// Moves out the oldest reply that is held for the host. What follows is [`Half::keep`] or [`Half::posted`]; until
@@ -451,26 +415,4 @@ pub(crate) fn refusal_of(stop: PlanStop) -> PlanRefusal
         PlanStop::Over { opened } => PlanRefusal::Over { opened },
         PlanStop::Memory => PlanRefusal::Memory,
     }
-}
-
-// So many LUNs that are free from 0 on.
-fn free_luns(alloc: Global, count: u8) -> Result<Vec<LunState>, AllocError>
-    ensures { IfOk result (λ v. v.items ≡ replicate count (Free 0)) }
-{
-    let mut luns = Vec::with_capacity(alloc, usize::from(count))?;
-    for _lun in 0..count {
-        luns.push(LunState::Free { since: 0 })?;
-    }
-    Ok(luns)
-}
-
-// No start for each of so many LUNs.
-fn no_starts(alloc: Global, count: u8) -> Result<Vec<Starts>, AllocError>
-    ensures { IfOk result (λ v. v.items ≡ replicate count []) }
-{
-    let mut rest = Vec::with_capacity(alloc, usize::from(count))?;
-    for _lun in 0..count {
-        rest.push(Starts::new(alloc))?;
-    }
-    Ok(rest)
 }

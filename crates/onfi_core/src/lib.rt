@@ -15,6 +15,7 @@ mod host_queue;
 mod lag;
 mod later;
 mod laws;
+mod left;
 mod lent;
 mod machine;
 mod merging;
@@ -31,7 +32,7 @@ mod wants;
 pub use channel::cause_of;
 pub use choosing::{Chosen, choose};
 pub use drive::{DriveFault, run_phase};
-pub use due::{Due, behind_first, lun_after, wants_without};
+pub use due::{Due, behind_first, leave, lun_after, wants_without};
 pub use event::Event;
 pub use half::passing::{ReadyRefusal, WaitRefusal};
 pub use half::{AcceptFault, DueRefusal, Half, PlanRefusal};
@@ -41,6 +42,7 @@ pub use laws::{
     posted_in_order, posting_reached, reached_keeps, ready_is_legal, run_keeps, shifted_is_legal,
     step_keeps, step_reaches,
 };
+pub use left::{copy_groups, free_luns, no_starts};
 pub use machine::{Core, CoreFault};
 pub use outcome::{Cause, Outcome};
 pub use phase_result::PhaseResult;

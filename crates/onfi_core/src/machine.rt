@@ -1,17 +1,13 @@
 //! Several channels, over events.
 
-ghost use Rattle.std.specs.Prelude.{◌≡◌, ℕ, ◌+◌, ◌<◌, ◌≤◌, ◌++◌, ◌↔◌, length, map, None, Some, Option, IfOk, IfSome, IsTrue, OnErr, IsErrOf, MatchOption, slice_get};
+ghost use Rattle.std.specs.Prelude.{◌≡◌, ◌<◌, ◌≤◌, ◌↔◌, length, map, None, Some, Option, IfOk, IfSome, IsTrue, OnErr, IsErrOf, MatchOption, slice_get};
 ghost use Rattle.std.specs.List.{AllByRecursion as Each};
-ghost use Rattle.onfi_problem.specs.Problem.{has_id};
-ghost use Rattle.onfi_group.specs.Words.{number};
-ghost use Rattle.onfi_die.specs.Rightful.{AreRightful};
-ghost use Rattle.onfi_die.specs.Order.{IsBeginning};
 ghost use Rattle.onfi_core.specs.Core.{CoreStep, CoreRun, Did};
 ghost use Rattle.onfi_core.specs.Core.Doing.{SetsBatch};
-ghost use Rattle.onfi_core.specs.State.{ChannelState, device_for, wants_from, sent_by, posted_to, collected_by};
+ghost use Rattle.onfi_core.specs.State.{ChannelState};
 ghost use Rattle.onfi_plan.specs.Certificate.{certificate_in};
-ghost use Rattle.onfi_core.specs.Steps.{IsOptimal, IsPlanned, IsPromised};
-ghost use Rattle.onfi_core.specs.Kept.{IsReached, SerialsFrom, times};
+ghost use Rattle.onfi_core.specs.Steps.{IsOptimal, IsPromised};
+ghost use Rattle.onfi_core.specs.Kept.{IsReached, KeepsPromise};
 ghost use Rattle.onfi_core.specs.Reaching.{Reaches};
 ghost use Rattle.onfi_core.specs.Queues.{IsFresh, AreOpened, opened_with, state_in, states_in};
 
@@ -104,7 +100,9 @@ impl<P: Planner, C: Chip> Core<P, C> {
             return Outcome::NoSuch(event.into_request());
         }
         let channel = &mut self.channels[at];
-        channel.step(alloc, &self.planner, event)
+        let outcome = channel.step(alloc, &self.planner, event);
+        self.is_reached();
+        outcome
     }
 
     /// The events one after another, and what each came to.
@@ -117,12 +115,7 @@ impl<P: Planner, C: Chip> Core<P, C> {
         ensures setup { self.new.0 ≡ self.old.0 }
         ensures by_events { Each (Reaches self.new.0) (states_in C.state self.new) }
         ensures reached { Each (IsReached self.new.0) (states_in C.state self.new) }
-        ensures rightful { Each (λ c. AreRightful (device_for self.new.0 c.chip) c.half.accepted c.half.posted) (states_in C.state self.new) }
-        ensures sent { Each (λ c. c.sent ≡ c.half.accepted ++ c.waiting) (states_in C.state self.new) }
-        ensures serials { Each (λ c. (host : ℕ) → SerialsFrom 0 (sent_by host c)) (states_in C.state self.new) }
-        ensures collected { Each (λ c. (host : ℕ) → IsBeginning (collected_by host c) (posted_to host c)) (states_in C.state self.new) }
-        ensures once { Each (λ c. (place : ℕ) → times self.new.0 c.half place ≡ number (has_id place) (wants_from self.new.0.geometry 0 c.half.accepted)) (states_in C.state self.new) }
-        ensures last { Each (λ c. IfSome c.half.last IsPlanned) (states_in C.state self.new) }
+        ensures keeps { Each (KeepsPromise self.new.0) (states_in C.state self.new) }
         ensures promised { Each (λ c. IfSome c.half.last (IsPromised P.exact P.certifies)) (states_in C.state self.new) }
         ensures optimal { IsTrue P.exact → Each (λ c. IfSome c.half.last IsOptimal) (states_in C.state self.new) }
     {
@@ -132,14 +125,17 @@ impl<P: Planner, C: Chip> Core<P, C> {
         while let Some(event) = left.next() {
             outcomes.push_reserved(self.step(alloc, event));
         }
+        self.is_reached();
         Ok(outcomes)
     }
 
-    // Each channel is one that events reach.
+    // Each channel is one that events reach, and keeps its promise.
     fn is_reached(&self)
         ensures by_events { Each (Reaches self.now.0) (states_in C.state self.now) }
         ensures reached { Each (IsReached self.now.0) (states_in C.state self.now) }
+        ensures keeps { Each (KeepsPromise self.now.0) (states_in C.state self.now) }
         ensures promised { Each (λ c. IfSome c.half.last (IsPromised P.exact P.certifies)) (states_in C.state self.now) }
+        ensures optimal { IsTrue P.exact → Each (λ c. IfSome c.half.last IsOptimal) (states_in C.state self.now) }
     {
         let _setup = self.setup;
     }

@@ -6,11 +6,12 @@ ghost use Rattle.onfi_core.specs.Steps.{IsPlanned, IsPromised};
 ghost use Rattle.onfi_core.specs.View.{planning_of, StopsBecause, stop_of};
 
 use crate::batch::Batch;
+use crate::left::{copy_groups, copy_rest};
 use crate::setup::Setup;
 use onfi_plan::{Plan, Planner, PlannerFault};
 use onfi_problem::{LunState, Problem, ProblemFault};
 use onfi_request::Want;
-use onfi_schedule::{Placed, Schedule, Starts};
+use onfi_schedule::{Placed, Starts};
 use std::alloc::{AllocError, Global};
 
 /// A plan, and its starts once more, to be used up phase by phase.
@@ -81,31 +82,11 @@ fn with_starts(alloc: Global, problem: Problem, plan: Plan) -> Result<NextPlan, 
     ensures rest { IfOk result (λ next. next.rest.items ≡ plan.schedule.rest) }
     ensures groups { IfOk result (λ next. next.groups.items ≡ plan.schedule.groups) }
 {
-    let rest = copy_rest(alloc, &plan.schedule)?;
-    let groups = copy_groups(alloc, &plan.schedule)?;
+    let rest = copy_rest(alloc, plan.schedule.rest())?;
+    let groups = copy_groups(alloc, plan.schedule.groups())?;
     Ok(NextPlan {
         batch: Batch { problem, plan },
         rest,
         groups,
     })
-}
-
-fn copy_rest(alloc: Global, schedule: &Schedule) -> Result<Vec<Starts>, AllocError>
-    ensures { IfOk result (λ v. v.items ≡ schedule.now.rest) }
-{
-    let mut rest = Vec::with_capacity(alloc, schedule.rest().len())?;
-    for starts in schedule.rest() {
-        rest.push(starts.copy())?;
-    }
-    Ok(rest)
-}
-
-fn copy_groups(alloc: Global, schedule: &Schedule) -> Result<Vec<Placed>, AllocError>
-    ensures { IfOk result (λ v. v.items ≡ schedule.now.groups) }
-{
-    let mut groups = Vec::with_capacity(alloc, schedule.groups().len())?;
-    for placed in schedule.groups() {
-        groups.push(placed.copy())?;
-    }
-    Ok(groups)
 }

@@ -1,6 +1,6 @@
 -- The moves of the LUNs of a channel.
 use Rattle.std.proofs.Common.{◌≡◌, ◌≢◌, ℕ, zero, suc, ◌+◌, ◌<◌, ◌≤◌, ◌⊎◌, inl, inr, Bool, true, false, IsTrue, List, [], ◌∷◌, ◌++◌, length, replicate, Option, Some, None, Result, Ok, Err, IfOk, IfErr, refl, sym, ap, subst, ◌∙◌, length-append, arith}
-use Rattle.std.specs.Prelude.{slice_get, slice_set, All as Every}
+use Rattle.std.specs.Prelude.{slice_get, slice_set}
 use Rattle.std.proofs.lemmas.List.{length-replicate}
 use Rattle.onfi_addr.specs.declared.geometry.Geometry.{Geometry}
 use Rattle.onfi_addr.specs.declared.place.Place.{Place}
@@ -14,23 +14,20 @@ use Rattle.onfi_chip.specs.declared.closer.Closer.{Closer}
 use Rattle.onfi_chip.specs.declared.closer.Closer.TheVariants as closer
 use Rattle.onfi_chip.specs.declared.fetch.Fetch.{Fetch}
 use Rattle.onfi_chip.specs.declared.post.Post.{Post}
-use Rattle.onfi_chip.specs.Chip.{Chip, Lun, after_post, found_ready, luns_ready_by, posted, ready_by, taken}
-use Rattle.onfi_chip.specs.Chip.Lun.{Idle as DoesNothing, Commanding, Posting as HasPosts}
-use Rattle.onfi_chip.specs.Calls.{command_of, HasDone, IsNextPost, MayJoin, MayTake}
+use Rattle.onfi_chip.specs.Chip.{Chip, Lun, after_post, found_ready, luns_ready_by, posted, ready_by}
+use Rattle.onfi_chip.specs.Chip.Lun.{Idle as DoesNothing, Posting as HasPosts}
+use Rattle.onfi_chip.specs.Calls.{command_of, HasDone, IsNextPost, MayTake}
 use Rattle.onfi_chip.proofs.SimCalls.{in_range}
 use Rattle.onfi_core.specs.declared.due.Due.{Due}
 use Rattle.onfi_lun.specs.declared.lun.Lun.{Lun as Typed}
-use Rattle.onfi_lun.specs.declared.lun.Commanded.{Commanded}
-use Rattle.onfi_lun.specs.declared.lun.Commanded.TheVariants as commanded
 use Rattle.onfi_lun.specs.declared.lun.Posted.{Posted}
 use Rattle.onfi_lun.specs.declared.lun.Posted.TheVariants as behind
-use Rattle.onfi_lun.specs.declared.states.Queuing.{Queuing as TakesMore}
 use Rattle.onfi_lun.specs.declared.states.Posting.{Posting as InPosts}
 use Rattle.onfi_lun.specs.declared.lanes.any_lun.AnyLun.{AnyLun}
 use Rattle.onfi_lun.specs.declared.lanes.any_lun.AnyLun.TheVariants.{Idle, Queuing, Working, Posting, Moving}
 use Rattle.onfi_lun.specs.declared.target.Target.{Target}
-use Rattle.onfi_lun.specs.Phases.{IsOf, IsDue, IsQueuing, IsCommanded, IsPosted, OthersStay}
-use Rattle.onfi_lun.specs.Lanes.{IsThere, LanesAgree, AreIdle, IsIdleAt, MayRunDue, OthersKept, IsPostOf, IsRipe, number_in, left_in, ready_in, behind_command, behind_post}
+use Rattle.onfi_lun.specs.Phases.{IsOf, IsDue, IsPosted, OthersStay}
+use Rattle.onfi_lun.specs.Lanes.{IsThere, LanesAgree, AreIdle, IsIdleAt, MayRunDue, OthersKept, IsPostOf, IsRipe, number_in, left_in, ready_in, behind_post}
 use Rattle.onfi_lun.proofs.Phases.{same_posts}
 
 set_twice : {A : Type 0} (xs : List A) (i : ℕ) (a b : A) → slice_set (slice_set xs i a) i b ≡ slice_set xs i b
@@ -148,25 +145,6 @@ pub command_size : (c : Closer) (old new : Chip) (r : Request) (now : ℕ) → H
 command_size closer.More old new r now done = ap (λ (x : Chip). length x.luns) done.state ∙ length_set old.luns r.place.lun _
 command_size closer.Last old new r now done = ap (λ (x : Chip). length x.luns) done.state ∙ length_set old.luns r.place.lun _
 
--- a LUN in its commands takes the next
-pub queuing_takes :
-    (geometry : Geometry) (chip : Chip) (lun : Typed TakesMore) (now : ℕ) (r : Request) → IsThere chip (Queuing lun) → MayTake geometry now r (slice_get chip.luns lun.number) → length (taken (slice_get chip.luns lun.number)) < 4
-    → ((requests : List Request) × IsQueuing chip lun requests × Every (MayJoin geometry r) requests) × (lun.state.ready ≤ now) × (lun.state.commands < 4)
-queuing_takes geometry chip lun now r (requests, is) next few =
-    let k : MayTake geometry now r (Some (Commanding requests lun.state.ready)) = subst (MayTake geometry now r) is.there next in
-    let n : length requests < 4 = subst (λ o. length (taken o) < 4) is.there few in
-    ((requests, is, k.1), k.0, (let c = is.count in omega (arith, c, n)))
-
--- a LUN that has posts takes none
-pub posts_take_none : (geometry : Geometry) (chip : Chip) (number now ready : ℕ) (r : Request) (posts : List Post) → slice_get chip.luns number ≡ Some (HasPosts posts ready) → MayTake geometry now r (slice_get chip.luns number) → ⊥
-posts_take_none geometry chip number now ready r posts there next = subst (MayTake geometry now r) there next
-
-pub commanded_there : (c : Closer) (chip : Chip) (number : ℕ) (made : Commanded) → IsCommanded c chip number made → (number_in (behind_command made) ≡ number) × IsThere chip (behind_command made)
-commanded_there closer.More chip number (commanded.More lun) is = is
-commanded_there closer.More chip number (commanded.Last lun) is = absurd is
-commanded_there closer.Last chip number (commanded.More lun) is = absurd is
-commanded_there closer.Last chip number (commanded.Last lun) is = is
-
 -- the LUNs behind a command, where it was taken
 pub command_agrees :
     {A E : Type 0} (result : Result A E) (c : Closer) (old new : Chip) (r : Request) (now : ℕ) (lanes : List AnyLun) (at : ℕ) (before moving after : AnyLun) → LanesAgree old lanes → slice_get lanes at ≡ Some before → number_in after ≡ number_in before
@@ -206,9 +184,6 @@ module _ (target : Target) (chip : Chip) (lun : AnyLun) (now : ℕ) (fetch : Fet
 
   waits : (ready_in lun ≡ next.fetch_is.next.ready) × (left_in lun ≡ length (post ∷ left)) × IsRipe now lun
   waits = posts_in chip lun (post ∷ left) next.fetch_is.next.ready now there here next.fetch_is.next.over
-
-  pub ripe : IsRipe now lun
-  ripe = waits.2
 
   pub due_is : IsOf target chip → (posting : Typed InPosts) → posting.number ≡ number_in lun → posting.state.left ≡ left_in lun → posting.state.ready ≡ ready_in lun → IsDue target.geometry chip posting now fetch post left
   due_is of posting number left_is ready =

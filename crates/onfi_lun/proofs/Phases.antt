@@ -35,10 +35,6 @@ length_posts device (r ∷ rs) blocks = ap suc (length_posts device rs (changed 
 
 -- Commands
 
-pub command_others : (c : Closer) (old new : Chip) (r : Request) (now : ℕ) → HasDone (command_of c old r now) new → OthersStay r.place.lun old new
-command_others closer.More old new r now done other d = ap (λ (x : Chip). slice_get x.luns other) done.state ∙ get_set_other old.luns r.place.lun other (Commanding (group_with old r) (now + (spans_for old r).cmd + (spans_for old r).gap)) d
-command_others closer.Last old new r now done other d = ap (λ (x : Chip). slice_get x.luns other) done.state ∙ get_set_other old.luns r.place.lun other (Posting (posts_of (device_in old) (group_with old r) old.blocks) (now + (spans_for old r).cmd + (spans_for old r).array)) d
-
 -- the LUN took these commands, and its state before is no matter otherwise
 pub command_made :
     (c : Closer) (target : Target) (old new : Chip) (r : Request) (now number commands ready : ℕ) (y : Lun) (made : Commanded) → IsOf target old → HasDone (command_of c old r now) new → r.place.lun ≡ number → slice_get old.luns number ≡ Some y →

@@ -1,11 +1,6 @@
 -- A phase of a batch, and what it leaves.
-use Rattle.std.proofs.Common.{◌≡◌, ℕ, zero, suc, ◌-◌, ◌<◌, ◌≤◌, inl, inr, List, [], ◌∷◌, length, Some, get_or, refl, sym, ap, subst, ◌∙◌, arith}
+use Rattle.std.proofs.Common.{◌≡◌, ℕ, zero, suc, ◌<◌, inl, inr, List, [], ◌∷◌, length, Some, get_or, refl, sym, ap, subst, ◌∙◌, arith}
 use Rattle.std.specs.Prelude.{slice_get}
-use Rattle.std.proofs.lemmas.Bool.{le-ltb}
-use Rattle.onfi_timing.specs.declared.kind.Kind.TheVariants.{Read}
-use Rattle.onfi_request.specs.declared.answer.Answer.{Answer}
-use Rattle.onfi_request.specs.declared.basis.Basis.{Basis}
-use Rattle.onfi_request.specs.declared.fault.Fault.{Fault}
 use Rattle.onfi_request.specs.declared.request.Item.{Item}
 use Rattle.onfi_request.specs.declared.reply.Reply.{Reply}
 use Rattle.onfi_request.specs.declared.want.Want.{Want}
@@ -25,9 +20,8 @@ use Rattle.onfi_core.specs.declared.drive.DriveFault.{DriveFault}
 use Rattle.onfi_core.specs.declared.drive.DriveFault.TheVariants as drive
 use Rattle.onfi_core.specs.declared.due.Due.{Due}
 use Rattle.onfi_core.specs.declared.phase_result.PhaseResult.{PhaseResult}
-use Rattle.onfi_core.specs.declared.phase_result.PhaseResult.TheVariants as ran
 use Rattle.onfi_core.specs.declared.setup.Setup.{Setup}
-use Rattle.onfi_core.specs.Drive.{HasRun, AfterDrive, IsStatus}
+use Rattle.onfi_core.specs.Drive.{HasRun, IsStatus}
 use Rattle.onfi_core.specs.Dues.{IsDue, after_due, member_of, replies_of}
 use Rattle.onfi_core.specs.Kept.{IsHalf, IsSound, IsTaken, ChipAgrees}
 use Rattle.onfi_core.specs.State.{HalfState, device_for, item_at, no_item}
@@ -36,7 +30,7 @@ use Rattle.onfi_core.proofs.Bus.{AfterPhase, after_move}
 use Rattle.onfi_core.proofs.Done.{after_due_is, goes, lun_there}
 use Rattle.onfi_core.proofs.Driving.{asks_status, ran_on_chip}
 use Rattle.onfi_core.proofs.Lists.{get_has, index_get}
-use Rattle.onfi_lun.specs.Batch.{AfterBatchFault, KeptSince, fault_of}
+use Rattle.onfi_lun.specs.Batch.{KeptSince, fault_of}
 use Rattle.onfi_lun.specs.Flight.{GoesOn, IsFaultOf, steps_left}
 
 pub get_of_or : {A : Type 0} (xs : List A) (i : ℕ) (v d : A) → i < length xs → v ≡ get_or xs i d → slice_get xs i ≡ Some v
@@ -46,10 +40,6 @@ get_of_or (x ∷ xs) (suc i) v d lt e = get_of_or xs i v d (omega arith) e
 
 -- Reading
 
--- what a read of a list of wants gives where nothing stands
-abbrev pub no_want : Want
-no_want = record { id = 0; kind = Read; lun = 0; plane = 0; block = 0; page = 0 }
-
 pub item_read : (items : List Item) (i : ℕ) (v d : Item) → i < length items → v ≡ get_or items i d → v ≡ item_at items i
 item_read items i v d lt e = sym (index_get items i v no_item (get_of_or items i v d lt e))
 
@@ -57,18 +47,6 @@ item_read items i v d lt e = sym (index_get items i v no_item (get_of_or items i
 pub taken_is : (s : Setup) (h : HalfState) (due : Due) → IsSound s h → IsDue h due → (i : ℕ) (m : Want) → slice_get due.group i ≡ Some m
     → IsTaken s h.planned h.accepted m
 taken_is s h due sound is i m at = All-has (IsTaken s h.planned h.accepted) due.group m (goes s h due sound is).1.members (get_has due.group i m at)
-
--- a reply of these parts is that to the member
-pub reply_is : (accepted : List Item) (faults : List Fault) (due : Due) (given : PhaseResult) (answer : Answer) (place : ℕ) (item : Item) (basis : Basis)
-    → (m : Want) → given ≡ ran.Post answer → length due.group ≤ due.phase → member_of due.group due.phase ≡ Some m → place ≡ m.id
-    → item ≡ item_at accepted m.id → basis.accepted ≡ accepted → basis.faults ≡ faults
-    → (let r : Reply = record { host = item.host; serial = item.serial; place = place; answer = answer; basis = basis } in r) ∷ []
-    ≡ replies_of accepted faults due given
-reply_is accepted faults due given answer place item basis m eg le at ep ei ea ef =
-    let there : slice_get due.group (due.phase - length due.group) ≡ Some m = rw (le-ltb due.phase (length due.group) le) at at in
-    let b : basis ≡ record { accepted = accepted; faults = faults } = ap (λ xs. let z : Basis = record { accepted = xs; faults = basis.faults } in z) ea
-    ∙ ap (λ fs. let z : Basis = record { accepted = accepted; faults = fs } in z) ef in
-    rw (eg, there, ep, ei, b) refl
 
 -- What is known of the chip
 
@@ -96,12 +74,6 @@ pub kept_by : (h h' : HalfState) (chip chip' : Chip) (due : Due) → GoesOn h ch
 kept_by h h' chip chip' due (replies, inl (inl c, none), after) = done_keeps chip _ chip' refl refl c.done
 kept_by h h' chip chip' due (replies, inl (inr c, none), after) = done_keeps chip _ chip' refl refl c.done
 kept_by h h' chip chip' due (replies, inr (member, answer, c, one), after) = done_keeps chip _ chip' refl refl c.done
-
--- of a phase that wasn't run
-pub lost_by : (fault : DriveFault) (lun : ℕ) (chip chip' : Chip) → AfterDrive fault chip chip' → AfterBatchFault (fault_of fault lun) chip chip'
-lost_by drive.Bus lun chip chip' lost = lost
-lost_by drive.NotReady lun chip chip' lost = lost
-lost_by drive.Memory lun chip chip' same = kept_same chip chip' same
 
 -- The due phase runs
 

@@ -1,16 +1,12 @@
 -- What is left of a batch's plan, and what a phase makes of it.
-use Rattle.std.specs.Prelude.{◌≡◌, ℕ, ◌+◌, ◌<◌, List, [], length, drop, replicate, false, Option, None, Some, slice_get, slice_index_or}
+use Rattle.std.specs.Prelude.{◌≡◌, ℕ, ◌+◌, ◌<◌, List, [], length, drop, replicate, false, None, Some, slice_get}
 use Rattle.std.specs.List.{AllByRecursion as Each, AllZip}
-use Rattle.onfi_timing.specs.declared.timing.Timing.{Timing}
-use Rattle.onfi_timing.specs.Phases.{phase_length}
 use Rattle.onfi_request.specs.declared.want.Want.{Want}
 use Rattle.onfi_request.specs.declared.request.Item.{Item}
 use Rattle.onfi_request.specs.declared.reply.Reply.{Reply}
 use Rattle.onfi_chip.specs.Chip.{Chip}
-use Rattle.onfi_group.specs.Group.{group_spans, lun_of}
 use Rattle.onfi_group.specs.Words.{Has, Pairs, total}
 use Rattle.onfi_problem.specs.declared.lun_state.LunState.TheVariants.{Free, Running}
-use Rattle.onfi_problem.specs.Moves.{lun_after}
 use Rattle.onfi_problem.specs.Problem.{Problem}
 use Rattle.onfi_schedule.specs.Schedule.{Placed, Schedule, rest_of}
 use Rattle.onfi_core.specs.declared.due.Due.{Due}
@@ -54,18 +50,6 @@ state_of f =
 -- nothing of the schedule is done, and so many LUNs are free
 abbrev pub opening : ℕ → Problem → Schedule → List Item → HalfState
 opening luns p s items = half_of items (record p { luns = replicate luns (Free 0) }) (record { rest = replicate luns []; groups = s.groups }) []
-
--- the phase of the group at the first of the starts, and what stands once it is done
-pub record IsPhaseOf (timing : Timing) (group : List Want) (phase : ℕ) (starts : List ℕ) (place : Option ℕ) (wants : List Want) (due : Due) : Type 0 where
-  pub start : due.start ≡ slice_index_or starts 0 0
-  pub group_is : due.group ≡ group
-  pub phase_is : due.phase ≡ phase
-  pub lun : due.lun ≡ lun_of group
-  pub bus : due.bus_free ≡ slice_index_or starts 0 0 + phase_length (group_spans timing group) (length group) phase
-  pub next : due.next ≡ lun_after timing group phase due.bus_free
-  pub rest : due.rest ≡ drop 1 starts
-  pub place_is : due.place ≡ place
-  pub wants_are : due.wants.items ≡ wants
 
 -- what is left of the plan, the chip and its LUNs in their phases agree
 pub record IsDriven (target : Target) (flight : Flight) (lanes : List AnyLun) (chip : Chip) : Type 0 where

@@ -1,5 +1,5 @@
 -- A half with its chip: what its calls come to, and what they keep.
-use Rattle.std.proofs.Common.{◌≡◌, ◌≢◌, ℕ, ◌<◌, ◌≤◌, ◌^◌, List, [], ◌∷◌, ◌++◌, length, Some, None, Option, Result, Ok, Err, IfOk, IfErr, refl, sym, ap, ◌∙◌, subst}
+use Rattle.std.proofs.Common.{◌≡◌, ℕ, ◌<◌, ◌≤◌, ◌^◌, List, [], ◌∷◌, ◌++◌, Some, None, Option, Result, Ok, Err, IfOk, refl, sym, ap, ◌∙◌, subst}
 use Rattle.std.specs.Prelude.{IfSome, replicate}
 use Rattle.std.specs.List.{filter}
 use Rattle.onfi_addr.specs.declared.geometry.Geometry.{Geometry}
@@ -16,7 +16,6 @@ use Rattle.onfi_core.specs.declared.event.Event.TheVariants as event
 use Rattle.onfi_core.specs.declared.half.PlanRefusal.{PlanRefusal}
 use Rattle.onfi_core.specs.declared.half.PlanRefusal.TheVariants as refused
 use Rattle.onfi_core.specs.declared.outcome.Cause.{Cause}
-use Rattle.onfi_core.specs.declared.outcome.Outcome.{Outcome}
 use Rattle.onfi_core.specs.declared.outcome.Outcome.TheVariants as outcome
 use Rattle.onfi_core.specs.declared.phase_result.PhaseResult.{PhaseResult}
 use Rattle.onfi_core.specs.declared.setup.Setup.{Setup}
@@ -34,7 +33,7 @@ use Rattle.onfi_core.proofs.HeldFor.{next_behind}
 use Rattle.onfi_core.proofs.Reach.{none_first, not_stopped}
 use Rattle.onfi_core.proofs.Reaching.{accepting_reached, batch_reached, events_reach, opened_reaches, posting_reached, step_reaches}
 use Rattle.onfi_core.proofs.Promised.{planned_last}
-use Rattle.onfi_core.proofs.Running.{after_planning, cause_is, lost_by, no_memory, nothing_posted, ran_step, refused_alone, same_by, stop_step}
+use Rattle.onfi_core.proofs.Running.{after_planning, cause_is, lost_by, nothing_posted, ran_step, refused_alone, stop_step}
 use Rattle.onfi_lun.specs.declared.lanes.any_lun.AnyLun.{AnyLun}
 use Rattle.onfi_lun.specs.declared.target.Target.{Target}
 use Rattle.onfi_lun.specs.Lanes.{LanesAgree, MayRunDue}
@@ -159,9 +158,6 @@ module _ (s : Setup) (h : HalfState) (chip : Chip) (reached : Reaches s (quiet h
     lanes_are = λ going. absurd (let q : Some stop ≡ None = sym (ap (λ (x : HalfState). x.stopped) is_stopped) ∙ going in cc);
     last = subst (λ (x : HalfState). IfSome x.last Such) (sym is_stopped) last;
   }
-
-  pub memory_phase : (channel : ℕ) (chip' : Chip) → chip' ≡ chip → Step s (quiet h chip) (event.Bus channel) (outcome.Memory None) (quiet h chip')
-  memory_phase channel chip' same = no_memory s (quiet h chip) channel chip' open' same
 
 -- Posts
 

@@ -1,5 +1,5 @@
 -- What the fields of a sequencer keep from call to call.
-use Rattle.std.proofs.Common.{◌≡◌, ◌≢◌, ℕ, zero, suc, ◌+◌, ◌<◌, ◌≤◌, inl, inr, Bool, false, List, [], ◌∷◌, ◌++◌, length, Some, None, refl, sym, ap, ◌∙◌, subst, length-append, arith}
+use Rattle.std.proofs.Common.{◌≡◌, ◌≢◌, ℕ, zero, suc, ◌+◌, ◌<◌, inl, inr, Bool, false, List, [], ◌∷◌, ◌++◌, length, Some, None, refl, sym, ap, ◌∙◌, subst, length-append, arith}
 use Rattle.std.specs.Prelude.{replicate, slice_get, slice_set}
 use Rattle.std.specs.List.{filter}
 use Rattle.onfi_request.specs.declared.request.Item.{Item}
@@ -100,27 +100,6 @@ kept_opened s channel intake posters counts hosts fresh_intake fresh_posters zer
     }
 
 -- Where neither what is accepted nor what is posted changes
-
-pub kept_same : (q : SequencerFields) (counts : List ℕ) (s : Setup) (h : HalfState) (refused short : Bool) → IsKept q counts → s ≡ q.setup → h.accepted ≡ q.half.accepted → h.posted ≡ q.half.posted
-    → IsKept (record q { setup = s; half = h; refused = refused; short = short }) counts
-kept_same q counts s h refused short kept setup accepted posted = record {
-  hosts = ap (λ (x : Setup). x.hosts) setup ∙ kept.hosts;
-  opened = kept.opened ∙ ap (λ (x : Setup). opened_as x q.intake.opened.channel) (sym setup);
-  room = kept.room ∙ sym (ap (λ (x : Setup). x.submit_cap) setup);
-  accepted = kept.accepted ∙ sym accepted;
-  posters = kept.posters;
-  each = λ host p there. (
-      let old = kept.each host p there in
-      record {
-        opened = old.opened ∙ ap (λ (x : Setup). opened_for x q.intake.opened.channel host) (sym setup);
-        room = old.room ∙ sym (ap (λ (x : Setup). x.post_cap) setup);
-        posted = old.posted ∙ sym (ap (filter (is_to host)) posted);
-      });
-  counts_are = record {
-    hosts = kept.counts_are.hosts;
-    each = λ host count there. kept.counts_are.each host count there ∙ sym (ap (λ (xs : List Item). length (filter (is_from host) xs)) accepted);
-  };
-}
 
 -- An item more
 

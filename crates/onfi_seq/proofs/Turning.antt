@@ -1,16 +1,14 @@
 -- Why a turn does what it does.
-use Rattle.std.proofs.Common.{◌≡◌, ℕ, ◌+◌, ◌<◌, ◌≤◌, inl, inr, Bool, true, false, List, [], Option, Some, None, refl, sym, ap, ◌∙◌, subst, arith}
-use Rattle.std.specs.Prelude.{nat_le, slice_get, slice_set}
+use Rattle.std.proofs.Common.{◌≡◌, ℕ, ◌+◌, ◌<◌, inl, inr, Bool, true, false, List, [], Option, Some, None, refl, sym, ap, ◌∙◌, subst, arith}
+use Rattle.std.specs.Prelude.{slice_get, slice_set}
 use Rattle.std.specs.List.{filter}
-use Rattle.std.proofs.lemmas.Bool.Decides.{nat_tests}
 use Rattle.onfi_chip.specs.Chip.{Chip}
 use Rattle.onfi_core.specs.declared.outcome.Cause.{Cause}
 use Rattle.onfi_core.specs.declared.outcome.Cause.TheVariants.{Clock}
-use Rattle.onfi_core.specs.declared.outcome.Outcome.{Outcome}
-use Rattle.onfi_core.specs.declared.outcome.Outcome.TheVariants.{NoPlan, NothingToPlan, Stopped, WindowFull}
+use Rattle.onfi_core.specs.declared.outcome.Outcome.TheVariants.{NoPlan, NothingToPlan, Stopped}
 use Rattle.onfi_core.specs.Reaching.{Reaches}
 use Rattle.onfi_core.specs.State.{ChannelState, HalfState, is_to}
-use Rattle.onfi_core.specs.Steps.{accept_refusal, bus_refusal, held_for, if_stopped, none_left, nothing_to_plan, or_else, plan_refusal, refused_where, taken_next, unanswered}
+use Rattle.onfi_core.specs.Steps.{bus_refusal, held_for, if_stopped, none_left, nothing_to_plan, or_else, plan_refusal, refused_where, taken_next}
 use Rattle.onfi_core.specs.declared.setup.Setup.{Setup}
 use Rattle.onfi_core.proofs.HeldFor.{idle_is, is_nil, nothing_held}
 use Rattle.onfi_core.proofs.Dues.{next_cases}
@@ -28,15 +26,6 @@ use Rattle.onfi_seq.specs.declared.turn.Turn.TheVariants as turn
 use Rattle.onfi_seq.specs.Turned.{Goes, HeldBelow, IsPostRefused, IsRest, MayRunPhase, NothingPosts, OfferedAll, OfferedTo, Rests}
 
 -- Refusals of a half that goes on
-
-full_window : (stopped : Option Cause) (full : Bool) (o : Outcome) → stopped ≡ None → or_else (if_stopped stopped) (refused_where full WindowFull) ≡ Some o → full ≡ true
-full_window None true o going e = refl
-full_window None false o going e = cc
-full_window (Some cause) full o going e = cc
-
--- no item is accepted since 64 are unanswered
-pub window_full : (h : HalfState) (o : Outcome) → h.stopped ≡ None → accept_refusal h ≡ Some o → 64 ≤ unanswered h
-window_full h o going e = let full = full_window h.stopped (nat_le 64 (unanswered h)) o going e in grind (arith, nat_tests)
 
 no_plan : (stopped : Option Cause) (none : Bool) → stopped ≡ None → or_else (if_stopped stopped) (refused_where none NoPlan) ≡ Some NoPlan → none ≡ true
 no_plan None true going e = refl
@@ -119,13 +108,6 @@ pub record Offering (q q' : Seen) (host : ℕ) (held : Offer) : Type 0 where
   pub same : q' ≡ q
   pub lower : NothingPosts q host
   pub held_is : HeldBelow q host held
-
-pub offering_first : (q : Seen) → Offering q q 0 offer.Nothing
-offering_first q = record {
-  same = refl;
-  lower = λ host low. absurd (omega (arith, low));
-  held_is = λ host low. absurd (omega (arith, low));
-}
 
 lower_more : (q : Seen) (host : ℕ) → NothingPosts q host → IsPostRefused q host → NothingPosts q (host + 1)
 lower_more q host lower here = λ j low. elim (next_cases j host low) [

@@ -1,11 +1,11 @@
 -- What callers see of a sequencer, what always holds of it, and what its fields keep.
-use Rattle.std.specs.Prelude.{◌≡◌, ℕ, ◌+◌, ◌<◌, ◌≤◌, Bool, false, List, [], ◌∷◌, length, map, None, Some, slice_get}
+use Rattle.std.specs.Prelude.{◌≡◌, ℕ, Bool, List, length, map, Some, slice_get}
 use Rattle.std.specs.List.{filter}
 use Rattle.atomic_table.specs.Seated.{TableId}
 use Rattle.onfi_chip.specs.Chip.{Chip}
 use Rattle.onfi_die.specs.Rightful.{AreRightful}
 use Rattle.onfi_core.specs.declared.setup.Setup.{Setup}
-use Rattle.onfi_core.specs.Kept.{AreMade, first_half, made_for}
+use Rattle.onfi_core.specs.Kept.{AreMade, made_for}
 use Rattle.onfi_core.specs.Reaching.{Reaches}
 use Rattle.onfi_core.specs.State.{HalfState, ChannelState, device_for, is_from, is_to, quiet}
 use Rattle.onfi_queue.specs.declared.opened.Opened.{Opened}

@@ -1,67 +1,32 @@
-//! Plannings that choose of all accepted items that aren't started.
+//! What a planning takes.
 
-ghost use Rattle.std.specs.Prelude.{◌≡◌, ◌≢◌, length, not, None, IfOk, IfSome, List};
-ghost use Rattle.onfi_request.specs.declared.want.Want.{Want as AWant};
-ghost use Rattle.onfi_core.specs.Choice.{IsChoice};
-ghost use Rattle.onfi_core.specs.Steps.{AreItems, IsPromised, Plans, is_empty, nothing_to_plan, planned_by, taken_next, unplanned};
-ghost use Rattle.onfi_core.specs.View.{PlannedAs, RefusedAs, planning_of, taken_of};
+ghost use Rattle.std.specs.Prelude.{◌≡◌, ◌≢◌, ◌++◌, not, IfOk, IfErr};
+ghost use Rattle.onfi_core.specs.Steps.{Chooses, Takes, is_empty, nothing_to_plan, taken_in_order, taken_next, unplanned};
+ghost use Rattle.onfi_core.specs.View.{taken_of};
 ghost use Rattle.onfi_core.specs.declared.setup.Choice.TheVariants.{InOrder};
 
-use crate::choosing::{Chosen, choose};
+use crate::choosing::choose;
 use crate::finding::item_of;
-use crate::half::{Half, PlanRefusal, refusal_of};
+use crate::half::Half;
 use crate::merging::merged;
-use crate::outcome::Cause;
-use crate::planning::{NextPlan, PlanStop, plan_wants};
+use crate::setup::Choice;
 use crate::wants::want_of;
-use onfi_plan::Planner;
+use arrayvec::ArrayVec;
 use onfi_request::Want;
 use std::alloc::{AllocError, Global};
 
-impl Half {
-    /// Plans a choice of all accepted items that aren't started; the others are set aside.
-    pub(crate) fn plan_chosen<P: Planner>(
-        &mut self,
-        alloc: Global,
-        planner: &P,
-    ) -> Result<u64, PlanRefusal>
-        requires settled { self.old.lent ≡ None }
-        requires chosen { self.old.setup.choice ≢ InOrder }
-        ensures planned { PlannedAs self.old self.new result }
-        ensures promised { IfOk result (λ _. IfSome self.new.state.last (IsPromised P.exact P.certifies)) }
-        ensures refused { RefusedAs self.old self.new result }
-        ensures settled { self.new.lent ≡ None }
-        ensures setup { self.new.setup ≡ self.old.setup }
-    {
-        if let Some(cause) = self.stopped {
-            return Err(PlanRefusal::Stopped(cause));
-        }
-        if self.nothing_to_plan() {
-            return Err(PlanRefusal::NothingToPlan);
-        }
-        let Ok(chosen) = self.choose_next(alloc) else {
-            return Err(PlanRefusal::Memory);
-        };
-        let next = plan_wants(
-            alloc,
-            planner,
-            &self.setup,
-            self.bus_free,
-            self.luns.as_slice(),
-            chosen.wants.as_slice(),
-        );
-        match next {
-            Ok(next) => Ok(self.take_chosen(chosen, next)),
-            Err(stop) => match stop {
-                PlanStop::Clock => {
-                    self.stopped = Some(Cause::Clock);
-                    Err(PlanRefusal::Stopped(Cause::Clock))
-                }
-                _ => Err(refusal_of(stop)),
-            },
-        }
-    }
+/// What a planning takes, and what it leaves.
+#[derive(Drop)]
+pub struct Taking {
+    /// The wants of its problem.
+    pub wants: ArrayVec<Want, 8>,
+    /// How many accepted items have been looked at.
+    pub planned: u64,
+    /// Which of those are set aside.
+    pub aside: Vec<Want>,
+}
 
+impl Half {
     /// Whether nothing is to be planned, stopped or not: no item is unplanned, or the wants not started fill the batch, and
     /// the plan is that of the bus and the LUNs as they stand, or nothing of it is left.
     pub fn nothing_to_plan(&self) -> bool
@@ -83,14 +48,53 @@ impl Half {
         self.planned < self.accepted
     }
 
-    // The choice of the next planning.
-    fn choose_next(&self, alloc: Global) -> Result<Chosen, AllocError>
-        ensures { IfOk result (λ chosen. (items : List AWant) × AreItems self.now.setup self.now.state items
-            × IsChoice self.now.state.batch (length self.now.state.accepted) items chosen.wants.items chosen.rest.items) }
+    /// What the next planning takes.
+    pub(crate) fn take_next(&self, alloc: Global) -> Result<Taking, AllocError>
+        ensures takes { IfOk result (λ taking. Takes self.now.setup self.now.state (taken_of taking)) }
+        ensures chosen { IfErr result (λ _. self.now.setup.choice ≢ InOrder) }
+    {
+        match self.setup.choice {
+            Choice::InOrder => Ok(self.take_in_order(alloc)),
+            Choice::ByLun | Choice::ReadsFirst => self.take_chosen(alloc),
+        }
+    }
+
+    // In order: the wants not started, and behind them the first unplanned items, up to the batch in all.
+    fn take_in_order(&self, alloc: Global) -> Taking
+        requires in_order { self.now.setup.choice ≡ InOrder }
+        ensures { taken_of result ≡ taken_in_order self.now.setup self.now.state }
+    {
+        let wants = self.next_wants();
+        let planned = self.planned + (wants.len() - self.wants.len()) as u64;
+        Taking {
+            wants,
+            planned,
+            aside: Vec::new(alloc),
+        }
+    }
+
+    // The wants not started, and behind them those that the next planning takes.
+    fn next_wants(&self) -> ArrayVec<Want, 8>
+        requires in_order { self.now.setup.choice ≡ InOrder }
+        ensures { result.items ≡ self.now.state.now.wants ++ taken_next self.now.setup self.now.state }
+    {
+        let mut wants = ArrayVec::try_from(self.wants.as_slice()).unwrap();
+        let room = u64::from(self.batch).saturating_sub(wants.len() as u64);
+        let count = room.min(self.accepted - self.planned);
+        for at in 0..count {
+            let place = self.planned + at;
+            wants.push(want_of(&self.setup.geometry, place, item_of(&self.slots, place)));
+        }
+        wants
+    }
+
+    // Else a choice of all accepted items that aren't started; the others are set aside.
+    fn take_chosen(&self, alloc: Global) -> Result<Taking, AllocError>
+        ensures { IfOk result (λ taking. Chooses self.now.setup self.now.state (taken_of taking)) }
     {
         let unplanned = self.unplanned_wants(alloc)?;
         let items = merged(alloc, self.wants.as_slice(), unplanned.as_slice())?;
-        choose(
+        let chosen = choose(
             alloc,
             &self.setup,
             self.bus_free,
@@ -98,7 +102,12 @@ impl Half {
             items.as_slice(),
             self.accepted,
             self.batch,
-        )
+        )?;
+        Ok(Taking {
+            wants: chosen.wants,
+            planned: self.accepted,
+            aside: chosen.rest,
+        })
     }
 
     // The items that no plan has taken, as wants.
@@ -112,25 +121,6 @@ impl Half {
             wants.push(want_of(&self.setup.geometry, place, item))?;
         }
         Ok(wants)
-    }
-
-    // The plan of the chosen wants takes the old one's place, and the others are set aside.
-    fn take_chosen(&mut self, chosen: Chosen, next: NextPlan) -> u64
-        requires plans { Plans self.old.setup self.old.state (taken_of self.old.state chosen) (planning_of next.batch) }
-        requires rest { next.rest.items ≡ next.batch.plan.schedule.rest }
-        requires groups { next.groups.items ≡ next.batch.plan.schedule.groups }
-        ensures planned { self.new ≡ record self.old { state = planned_by self.old.state (taken_of self.old.state chosen) (planning_of next.batch) } }
-        ensures finish { result ≡ next.batch.plan.finish }
-    {
-        let finish = next.batch.plan.finish;
-        self.planned = self.accepted;
-        self.aside = chosen.rest;
-        self.wants = chosen.wants;
-        self.rest = next.rest;
-        self.groups = next.groups;
-        self.outdated = false;
-        self.last = Some(next.batch);
-        finish
     }
 }
 

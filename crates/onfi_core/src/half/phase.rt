@@ -7,10 +7,10 @@ ghost use Rattle.onfi_request.specs.declared.want.Want.{Want as AWant};
 ghost use Rattle.onfi_core.specs.declared.slot.Slot.{Slot as ASlot};
 ghost use Rattle.onfi_core.specs.State.{item_at};
 ghost use Rattle.onfi_core.specs.Steps.{half_after_phase};
-ghost use Rattle.onfi_core.specs.Dues.{IsDue, IsRan, member_of, replies_of, after_due, groups_left};
+ghost use Rattle.onfi_core.specs.Dues.{IsDue, IsRan, member_of, replies_of, after_due};
 ghost use Rattle.onfi_core.specs.View.{HasSlot};
 
-use crate::due::Due;
+use crate::due::{Due, leave};
 use crate::finding::item_of;
 use crate::half::Half;
 use crate::history::History;
@@ -18,7 +18,6 @@ use crate::outcome::Cause;
 use crate::phase_result::PhaseResult;
 use crate::slot::Slot;
 use onfi_request::{Basis, Item, Reply};
-use onfi_schedule::Placed;
 use slab::Slab;
 
 impl Half {
@@ -27,14 +26,7 @@ impl Half {
         requires { IsDue self.now.state due.now }
         ensures { (m : AWant) × (member_of due.now.group due.now.phase ≡ Some m) × (result.now ≡ item_at self.now.state.accepted m.id) }
     {
-        let members = due.group.len();
-        let phase = usize::from(due.phase);
-        let number = if phase < members {
-            phase
-        } else {
-            phase - members
-        };
-        item_of(&self.slots, due.group.members()[number].id)
+        item_of(&self.slots, due.member().id)
     }
 
     /// The phase that [`Half::due`] told is done, and the chip gave `ran` at it; the reply of a post is held behind all
@@ -90,14 +82,14 @@ fn reply_of<T>(
     ghost faults: { List AFault }
     requires ran { IsRan due.now ran }
     requires within { due.now.phase < 2 * length due.now.group }
-    requires slot { (m : AWant) → slice_get due.now.group (due.now.phase - length due.now.group) ≡ Some m → HasSlot slots.now m.id }
+    requires slot { (m : AWant) → member_of due.now.group due.now.phase ≡ Some m → HasSlot slots.now m.id }
     requires items { (key : ℕ) (slot : ASlot) → get slots.now key ≡ Some slot → slice_get history.now.accepted slot.place ≡ Some slot.item }
     ensures { option_to_list result ≡ replies_of history.now.accepted faults due.now ran }
 {
     let PhaseResult::Post(answer) = ran else {
         return None;
     };
-    let place = due.group.members()[usize::from(due.phase) - due.group.len()].id;
+    let place = due.member().id;
     let item = item_of(slots, place);
     Some(Reply {
         host: item.host,
@@ -116,15 +108,5 @@ fn hold(held: &mut Vec<Reply>, reply: Option<Reply>)
 {
     if let Some(reply) = reply {
         held.push_reserved(reply);
-    }
-}
-
-// The group at the place starts, if one does.
-fn leave(groups: &mut Vec<Placed>, place: Option<usize>)
-    requires { (at : ℕ) → place ≡ Some at → at < vec_len groups.old }
-    ensures { groups.new.items ≡ groups_left place groups.old.items }
-{
-    if let Some(at) = place {
-        groups.remove(at);
     }
 }

@@ -1,14 +1,12 @@
-ghost use Rattle.std.specs.Prelude.{◌≡◌, ℕ, ◌+◌, ◌*◌, ◌-◌, ◌^◌, ◌<◌, ◌≤◌, ◌++◌, [], true, length, replicate, drop, Some, None, Option, option_to_list, slice_get, slice_index_or, IfOk, IfErr, IfSome, IfNone, vec_len};
+ghost use Rattle.std.specs.Prelude.{◌≡◌, ◌^◌, ◌<◌, ◌≤◌, ◌++◌, true, length, Some, option_to_list, IfOk, IfErr, IfSome, IfNone};
 ghost use Rattle.onfi_request.specs.declared.want.Want.{Want as AWant};
-ghost use Rattle.onfi_request.specs.declared.request.Item.{Item as AnItem};
-ghost use Rattle.onfi_problem.specs.declared.lun_state.LunState.TheVariants.{Free};
 ghost use Rattle.onfi_problem.specs.Position.{waiting_of};
 ghost use Rattle.onfi_core.specs.declared.setup.Setup.{Setup as ASetup};
-ghost use Rattle.onfi_core.specs.Dues.{IsDue, IsRan, after_due, groups_left, member_of, replies_of};
+ghost use Rattle.onfi_core.specs.Dues.{IsDue, IsRan, after_due, member_of, replies_of};
 ghost use Rattle.onfi_core.specs.Kept.{IsSound};
 ghost use Rattle.onfi_core.specs.State.{item_at};
 ghost use Rattle.onfi_core.specs.Steps.{none_left};
-ghost use Rattle.onfi_lun.specs.Flight.{state_of, opening, IsFaultOf, IsDriven, IsPhaseOf, GoesOn};
+ghost use Rattle.onfi_lun.specs.Flight.{state_of, opening, IsFaultOf, IsDriven, GoesOn};
 ghost use Rattle.onfi_lun.specs.Batch.{AfterBatchFault};
 
 use crate::batch::fault::{BatchFault, fault_of};
@@ -16,8 +14,10 @@ use crate::lanes::Lanes;
 use crate::target::Target;
 use arrayvec::ArrayVec;
 use onfi_chip::Chip;
-use onfi_core::{Due, PhaseResult, Turn, behind_first, lun_after, next_turn, wants_without};
-use onfi_group::{Group, Rules};
+use onfi_core::{
+    Due, PhaseResult, Turn, copy_groups, free_luns, leave, next_turn, no_starts, wants_without,
+};
+use onfi_group::Rules;
 use onfi_problem::{LunState, Problem};
 use onfi_request::{Answer, Basis, Item, Reply, Want};
 use onfi_schedule::{Placed, Schedule, Starts};
@@ -57,7 +57,7 @@ impl Flight {
         let replies = Vec::with_capacity(alloc, items.len())?;
         let states = free_luns(alloc, luns)?;
         let rest = no_starts(alloc, luns)?;
-        let groups = copies(alloc, schedule.groups())?;
+        let groups = copy_groups(alloc, schedule.groups())?;
         Ok(Flight {
             items,
             timing: problem.timing(),
@@ -88,47 +88,18 @@ impl Flight {
                 else {
                     unreachable!();
                 };
+                let starts = &self.rest[next.at];
                 let wants = ArrayVec::try_from(self.wants.as_slice()).unwrap();
-                Some(self.phase_of(alloc, group, *phase, &self.rest[next.at], None, wants))
+                Some(Due::of(alloc, &self.timing, group, *phase, starts, None, wants))
             }
             Some(Turn::First(first)) => {
                 let placed = &self.groups[first.at];
                 let group = placed.members();
+                let starts = placed.starts();
                 let wants = wants_without(group, self.wants.as_slice());
-                Some(self.phase_of(alloc, group, 0, placed.starts(), Some(first.at), wants))
+                Some(Due::of(alloc, &self.timing, group, 0, starts, Some(first.at), wants))
             }
             None => None,
-        }
-    }
-
-    // The phase of the group, at the first of these starts, with these wants not started when it is done.
-    fn phase_of(
-        &self,
-        alloc: Global,
-        group: &Group,
-        phase: u8,
-        starts: &Starts,
-        place: Option<usize>,
-        wants: ArrayVec<Want, 8>,
-    ) -> Due
-        requires phase { phase < 2 * length group.now }
-        requires some { 1 ≤ length starts.now }
-        ensures phase { IsPhaseOf self.now.timing group.now phase starts.now place wants.items result }
-        ensures time { result.start < 2 ^ 63 }
-    {
-        let start = starts.as_slice()[0];
-        let spans = self.timing.spans(group.kind());
-        let ended = start + spans.phase_length(group.len(), usize::from(phase));
-        Due {
-            start,
-            group: group.copy(),
-            phase,
-            lun: group.lun(),
-            next: lun_after(&self.timing, group, phase, ended),
-            rest: behind_first(alloc, starts),
-            place,
-            bus_free: ended,
-            wants,
         }
     }
 
@@ -166,14 +137,7 @@ impl Flight {
         requires due { IsDue (state_of self.now) due.now }
         ensures { (m : AWant) × (member_of due.now.group due.now.phase ≡ Some m) × (result.0 ≡ m.id) × (result.1.now ≡ item_at self.now.items.items m.id) }
     {
-        let members = due.group.len();
-        let phase = usize::from(due.phase);
-        let number = if phase < members {
-            phase
-        } else {
-            phase - members
-        };
-        let place = due.group.members()[number].id;
+        let place = due.member().id;
         (place, &self.items[place as usize])
     }
 
@@ -235,16 +199,6 @@ fn hold(replies: &mut Vec<Reply>, reply: Option<Reply>) -> Result<(), AllocError
     Ok(())
 }
 
-// The group at the place starts, if one does.
-fn leave(groups: &mut Vec<Placed>, place: Option<usize>)
-    requires { (at : ℕ) → place ≡ Some at → at < vec_len groups.old }
-    ensures { groups.new.items ≡ groups_left place groups.old.items }
-{
-    if let Some(at) = place {
-        groups.remove(at);
-    }
-}
-
 // The wants that wait.
 fn waiting(all: &[Want], marks: &[bool; 8]) -> ArrayVec<Want, 8>
     requires { length all.now ≤ 8 }
@@ -257,37 +211,4 @@ fn waiting(all: &[Want], marks: &[bool; 8]) -> ArrayVec<Want, 8>
         }
     }
     wants
-}
-
-// So many LUNs that are free from 0 on.
-fn free_luns(alloc: Global, count: u8) -> Result<Vec<LunState>, AllocError>
-    ensures { IfOk result (λ luns. luns.items ≡ replicate count (Free 0)) }
-{
-    let mut luns = Vec::with_capacity(alloc, usize::from(count))?;
-    for _lun in 0..count {
-        luns.push(LunState::Free { since: 0 })?;
-    }
-    Ok(luns)
-}
-
-// No start for each of so many LUNs.
-fn no_starts(alloc: Global, count: u8) -> Result<Vec<Starts>, AllocError>
-    ensures { IfOk result (λ rest. rest.items ≡ replicate count []) }
-{
-    let mut rest = Vec::with_capacity(alloc, usize::from(count))?;
-    for _lun in 0..count {
-        rest.push(Starts::new(alloc))?;
-    }
-    Ok(rest)
-}
-
-// The same groups with the same starts once more.
-fn copies(alloc: Global, groups: &[Placed]) -> Result<Vec<Placed>, AllocError>
-    ensures { IfOk result (λ copies. copies.items ≡ groups.now) }
-{
-    let mut copies = Vec::with_capacity(alloc, groups.len())?;
-    for placed in groups {
-        copies.push(placed.copy())?;
-    }
-    Ok(copies)
 }

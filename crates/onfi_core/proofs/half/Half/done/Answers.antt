@@ -2,7 +2,7 @@ use Rattle.std.proofs.Common.{◌≡◌, ◌++◌, length, None, sym, ap, ◌∙
 use Rattle.std.specs.Prelude.{slice_set}
 use Rattle.onfi_core.specs.View.{HalfView}
 use Rattle.onfi_core.proofs.Becoming.{due_inside}
-use Rattle.onfi_core.proofs.Done.{goes, lun_there, makes_of, member_here, room_for, fields_done}
+use Rattle.onfi_core.proofs.Done.{goes, lun_there, makes_of, member_slot, room_for, fields_done}
 use Rattle.onfi_core.proofs.Lending.{settled_is}
 use Rattle.onfi_core.proofs.half.Half.done.Goals as goal
 
@@ -11,7 +11,7 @@ reply_of-reply-requires g c κs within =
     let i = c.self.invariant in
     let is = due_inside _ _ c.args.due c.self.view_is c.requires.1.1.0 in
     let w = (goes c.self.inside.setup _ c.args.due i.sound is).1.within in
-    (within, (c.requires.1.1.1, (w, (λ m at. member_here c.self.inside.setup c.self.inside.slots _ c.args.due i.slots_are i.sound is c.args.ran c.requires.1.1.1 m at, i.slots_are.items))))
+    (within, (c.requires.1.1.1, (w, (λ m at. member_slot c.self.inside.setup c.self.inside.slots _ c.args.due i.slots_are i.sound is m at, i.slots_are.items))))
 
 pub hold-requires : goal.hold-requires
 hold-requires g c =

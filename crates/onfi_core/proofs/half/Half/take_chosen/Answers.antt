@@ -1,11 +1,21 @@
-use Rattle.std.proofs.Common.{sym, subst}
-use Rattle.onfi_core.specs.Steps.{Plans}
-use Rattle.onfi_core.specs.View.{HalfView, planning_of, taken_of}
-use Rattle.onfi_core.proofs.Window.{fields_chosen}
+use Rattle.std.proofs.Common.{◌≢◌, List, sym, ap, ◌∙◌, subst}
+use Rattle.std.specs.List.{AllByRecursion as All}
+use Rattle.onfi_request.specs.declared.want.Want.{Want}
+use Rattle.onfi_core.specs.Choice.{Rise}
+use Rattle.onfi_core.specs.Steps.{unplanned}
+use Rattle.onfi_core.specs.View.{HalfView}
+use Rattle.onfi_core.proofs.Plan.{apart, unplanned_rises}
 use Rattle.onfi_core.proofs.half.Half.take_chosen.Goals as goal
 
-pub invariant_of-self : goal.invariant_of-self
-invariant_of-self c =
+pub merged-requires-clause-right : goal.merged-requires-clause-right
+merged-requires-clause-right c =
     let i = c.self.invariant in
-    let plans = subst (λ (x : HalfView). Plans x.setup x.state (taken_of x.state c.args.chosen) (planning_of c.args.next.batch)) (sym c.self.view_is) c.requires.plans in
-    fields_chosen _ _ _ _ _ _ _ _ (planning_of c.args.next.batch) c.args.chosen _ _ _ i plans i.count c.requires.rest c.requires.groups
+    let r = subst (λ (v : HalfView). Rise (unplanned v.setup v.state)) c.self.view_is (unplanned_rises c.self.inside.setup _ i.sound) in
+    subst Rise (sym (c.as_slice-2.ensures.value ∙ c.in_ok-unplanned.ensures)) r
+
+pub merged-requires-clause-apart : goal.merged-requires-clause-apart
+merged-requires-clause-apart c =
+    let i = c.self.invariant in
+    let P : List Want → List Want → Type 0 = λ xs ys. All (λ (x : Want). All (λ (y : Want). x.id ≢ y.id) ys) xs in
+    let a = subst (λ (v : HalfView). P v.state.now.wants (unplanned v.setup v.state)) c.self.view_is (apart c.self.inside.setup _ i.sound) in
+    subst (P c.as_slice.result.now) (sym (c.as_slice-2.ensures.value ∙ c.in_ok-unplanned.ensures)) (subst (λ xs. P xs (unplanned c.args.self.now.setup c.args.self.now.state)) (sym (c.as_slice.ensures.value ∙ ap (λ (v : HalfView). v.state.now.wants) c.self.view_is)) a)

@@ -4,7 +4,7 @@ use Rattle.std.proofs.lemmas.Option.{slice_get_read}
 use Rattle.onfi_core.specs.Core.{CoreStep}
 use Rattle.onfi_core.specs.Queues.{CoreView, states_in}
 use Rattle.onfi_core.specs.Steps.{IsPromised}
-use Rattle.onfi_core.proofs.Cores.{all_reached, all_such, channel_steps, channels_kept, reached_behind, setup_at, step_all_reach}
+use Rattle.onfi_core.proofs.Cores.{channel_steps, channels_kept, reached_behind, setup_at}
 use Rattle.onfi_core.proofs.machine.Core.step.Goals as goal
 
 pub invariant_of-self : goal.invariant_of-self
@@ -16,7 +16,7 @@ invariant_of-self g c =
     let v = c.index_mut-channel.result.now in
     let within : c.from-at.result < length views = omega (arith, c.if-at-len.false, c.len.ensures, c.self.inside.channels.ok.0) in
     let there : slice_get views c.from-at.result ≡ Some v = slice_get_read views (length views) c.from-at.result v refl within c.index_mut-channel.ensures.value in
-    channels_kept st such s views c.from-at.result v c.step.new.self c.self.invariant there c.step.ensures.setup (reached_behind st such s views c.from-at.result v c.step.new.self c.args.event c.step.result c.self.invariant there c.step.ensures.step) c.step.ensures.promised
+    channels_kept st such s views c.from-at.result v c.step-outcome.new.self c.self.invariant there c.step-outcome.ensures.setup (reached_behind st such s views c.from-at.result v c.step-outcome.new.self c.args.event c.step-outcome.result c.self.invariant there c.step-outcome.ensures.step) c.step-outcome.ensures.promised
 
 pub returns-clause-step : goal.returns-clause-step
 returns-clause-step g c =
@@ -27,30 +27,6 @@ returns-clause-step g c =
     let v = c.index_mut-channel.result.now in
     let within : c.from-at.result < length views = omega (arith, c.if-at-len.false, c.len.ensures, c.self.inside.channels.ok.0) in
     let there : slice_get views c.from-at.result ≡ Some v = slice_get_read views (length views) c.from-at.result v refl within c.index_mut-channel.ensures.value in
-    let step = channel_steps st such s views c.args.event c.step.result c.from-at.result v c.step.new.self (c.from-at.ensures ∙ c.channel.ensures) there (setup_at st such s views c.from-at.result v c.self.invariant there) c.step.ensures.step in
-    let P : CoreView g.row.C.Denot → Type 0 = λ x. CoreStep x.0 (states_in st x) c.args.event c.step.result (states_in st (s, slice_set views c.from-at.result c.step.new.self)) in
+    let step = channel_steps st such s views c.args.event c.step-outcome.result c.from-at.result v c.step-outcome.new.self (c.from-at.ensures ∙ c.channel.ensures) there (setup_at st such s views c.from-at.result v c.self.invariant there) c.step-outcome.ensures.step in
+    let P : CoreView g.row.C.Denot → Type 0 = λ x. CoreStep x.0 (states_in st x) c.args.event c.step-outcome.result (states_in st (s, slice_set views c.from-at.result c.step-outcome.new.self)) in
     subst P c.self.view_is step
-
-pub returns-clause-by_events : goal.returns-clause-by_events
-returns-clause-by_events g c =
-    let st = g.C.Chip.state in
-    let such = IsPromised g.P.Planner.exact g.P.Planner.certifies in
-    let s = c.self.inside.setup in
-    let views = c.self.inside.channels.items in
-    let v = c.index_mut-channel.result.now in
-    let within : c.from-at.result < length views = omega (arith, c.if-at-len.false, c.len.ensures, c.self.inside.channels.ok.0) in
-    let there : slice_get views c.from-at.result ≡ Some v = slice_get_read views (length views) c.from-at.result v refl within c.index_mut-channel.ensures.value in
-    let step = channel_steps st such s views c.args.event c.step.result c.from-at.result v c.step.new.self (c.from-at.ensures ∙ c.channel.ensures) there (setup_at st such s views c.from-at.result v c.self.invariant there) c.step.ensures.step in
-    step_all_reach s (states_in st (s, views)) c.args.event c.step.result (states_in st (s, slice_set views c.from-at.result c.step.new.self)) (all_reached st such s views c.self.invariant) step
-
-pub returns-clause-promised : goal.returns-clause-promised
-returns-clause-promised g c =
-    let st = g.C.Chip.state in
-    let such = IsPromised g.P.Planner.exact g.P.Planner.certifies in
-    let s = c.self.inside.setup in
-    let views = c.self.inside.channels.items in
-    let v = c.index_mut-channel.result.now in
-    let within : c.from-at.result < length views = omega (arith, c.if-at-len.false, c.len.ensures, c.self.inside.channels.ok.0) in
-    let there : slice_get views c.from-at.result ≡ Some v = slice_get_read views (length views) c.from-at.result v refl within c.index_mut-channel.ensures.value in
-    let kept = channels_kept st such s views c.from-at.result v c.step.new.self c.self.invariant there c.step.ensures.setup (reached_behind st such s views c.from-at.result v c.step.new.self c.args.event c.step.result c.self.invariant there c.step.ensures.step) c.step.ensures.promised in
-    all_such st such s (slice_set views c.from-at.result c.step.new.self) kept

@@ -2,7 +2,7 @@ use Rattle.std.specs.Prelude.{IfSome}
 use Rattle.onfi_core.specs.Steps.{IsOptimal, IsPromised}
 use Rattle.onfi_core.proofs.Promised.{last_optimal}
 use Rattle.onfi_core.proofs.Reaching.{events_reach}
-use Rattle.onfi_seq.specs.Sequencer.{Seen, channel_of}
+use Rattle.onfi_seq.specs.Sequencer.{Seen}
 use Rattle.onfi_seq.proofs.Keeping.{seen_outside}
 use Rattle.onfi_seq.proofs.sequencer.Sequencer.last.Goals as goal
 

@@ -1,4 +1,4 @@
-use Rattle.onfi_seq.specs.Sequencer.{IsRight, Seen}
+use Rattle.onfi_seq.specs.Sequencer.{IsRight}
 use Rattle.onfi_seq.proofs.Keeping.{right_is, seen_outside}
 use Rattle.onfi_seq.proofs.sequencer.Sequencer.look.Goals as goal
 

@@ -1,17 +1,14 @@
-use Rattle.std.proofs.Common.{◌≡◌, ℕ, List, ◌+◌, ◌<◌, length, Some, refl, ap, ◌∙◌, subst, arith}
+use Rattle.std.proofs.Common.{◌≡◌, ℕ, List, ◌<◌, length, None, Some, refl, ap, ◌∙◌, subst, arith}
 use Rattle.std.specs.Prelude.{slice_get}
 use Rattle.std.proofs.lemmas.Option.{slice_get_read}
-use Rattle.onfi_timing.specs.Phases.{phase_length}
-use Rattle.onfi_group.specs.Group.{group_spans}
-use Rattle.onfi_problem.proofs.Lists.{map_get}
 use Rattle.onfi_problem.proofs.Places.{within_get}
 use Rattle.onfi_problem.specs.declared.lun_state.LunState.TheVariants.{Running}
 use Rattle.onfi_problem.specs.Moves.{without}
 use Rattle.onfi_schedule.specs.Schedule.{Placed}
 use Rattle.onfi_core.specs.declared.starting.Turn.{Turn}
 use Rattle.onfi_core.specs.declared.starting.Turn.TheVariants as turn
-use Rattle.onfi_core.specs.Dues.{IsTurn, NoneStart, starts_in}
-use Rattle.onfi_core.proofs.Becoming.{next_is_due, first_is_due, no_plan, starts_then, within_groups}
+use Rattle.onfi_core.specs.Dues.{IsPhaseOf, IsTurn, NoneStart, starts_in}
+use Rattle.onfi_core.proofs.Becoming.{next_is_due, first_is_due, no_plan, within_groups}
 use Rattle.onfi_lun.specs.Flight.{state_of}
 use Rattle.onfi_lun.proofs.batch.flight.Flight.due.Goals as goal
 
@@ -26,20 +23,15 @@ returns-in-Running-clause-due c =
     let next = c.in-Some-Next.next in
     let is : IsTurn f.rest.items f.groups.items (turn.Next next) = subst (IsTurn f.rest.items f.groups.items) c.in-Some-Next.field-0-is
     (turn_inside _ _ _ _ _ c.as_slice.ensures.value c.as_slice-2.ensures.value c.in-Some-Next.ensures) in
-    let starts = c.index-in-Some-Next.result.now in
+    let starts = c.index-starts.result.now in
     let within : next.at < length f.rest.items = within_get f.rest.items next.at _ is.0.1 in
     let same = sound.legal.shape.luns in
-    let starts_there : slice_get f.rest.items next.at ≡ Some starts = slice_get_read f.rest.items _ next.at starts refl within c.index-in-Some-Next.ensures in
+    let starts_there : slice_get f.rest.items next.at ≡ Some starts = slice_get_read f.rest.items _ next.at starts refl within c.index-starts.ensures in
     let there : slice_get f.luns.items next.at ≡ Some (Running c.in-Running.group c.in-Running.phase c.in-Running.ready) =
     slice_get_read f.luns.items _ next.at c.index.result.now refl (omega (arith, within, same)) c.index.ensures ∙ ap Some c.in-Running.is in
-    let first = starts_then f.rest.items next.at next.time is.0.0 starts starts is.0.1 starts_there refl in
-    let p = c.phase_of.ensures.phase in
-    let length_is = phase_length (group_spans f.timing c.in-Running.group) (length c.in-Running.group) c.in-Running.phase in
-    next_is_due c.requires.sound.0
-    (state_of f) sound next is c.in-Running.group c.in-Running.phase c.in-Running.ready there c.phase_of.result starts starts_there
-    (p.start ∙ first) p.group_is p.phase_is p.lun
-    (p.bus ∙ ap (λ t. t + length_is) first) p.next p.rest p.place_is
-    (p.wants_are ∙ (rw c.unwrap-wants.ensures at c.try_from.ensures).0 ∙ c.as_slice-in-Some-Next.ensures.value)
+    let p = subst (λ ws. IsPhaseOf f.timing c.in-Running.group c.in-Running.phase starts None ws c.of.result)
+    ((rw c.unwrap-wants.ensures at c.try_from.ensures).0 ∙ c.as_slice-in-Some-Next.ensures.value) c.of.ensures.phase in
+    next_is_due c.requires.sound.0 (state_of f) sound next is c.in-Running.group c.in-Running.phase c.in-Running.ready there c.of.result starts starts_there p
 
 pub returns-in-Some-First-clause-due : goal.returns-in-Some-First-clause-due
 returns-in-Some-First-clause-due c =
@@ -52,12 +44,11 @@ returns-in-Some-First-clause-due c =
     let m = c.members-group.ensures in
     let there : slice_get f.groups.items first.at ≡ Some g =
     slice_get_read f.groups.items _ first.at g refl (within_groups f.groups.items first.at _ is.0.1) c.index-placed.ensures in
-    let p = rw (m, c.starts.ensures) at c.phase_of-in-Some-First.ensures.phase in
-    let start = starts_then _ first.at first.time is.0.0 g.starts g.starts is.0.1 (map_get (λ (x : Placed). x.starts) f.groups.items first.at g there) refl in
-    first_is_due c.requires.sound.0 (state_of f) sound first is g there c.phase_of-in-Some-First.result (p.start ∙ start) p.group_is p.phase_is p.lun
-    (p.bus ∙ ap (λ t. t + phase_length (group_spans f.timing g.members) (length g.members) 0) start) p.next p.rest p.place_is
-    (p.wants_are ∙ c.wants_without-wants.ensures ∙ ap (λ x. without x c.as_slice-in-Some-First.result.now) m
-    ∙ ap (λ ws. without g.members ws) c.as_slice-in-Some-First.ensures.value)
+    let wants = c.wants_without-wants.ensures ∙ ap (λ x. without x c.as_slice-in-Some-First.result.now) m
+    ∙ ap (without g.members) c.as_slice-in-Some-First.ensures.value in
+    let p = subst (λ ws. IsPhaseOf f.timing g.members 0 g.starts (Some first.at) ws c.of-in-Some-First.result) wants
+    (rw (m, c.starts-starts.ensures) at c.of-in-Some-First.ensures.phase) in
+    first_is_due c.requires.sound.0 (state_of f) sound first is g there c.of-in-Some-First.result p
 
 pub returns-in-None-clause-none : goal.returns-in-None-clause-none
 returns-in-None-clause-none c =

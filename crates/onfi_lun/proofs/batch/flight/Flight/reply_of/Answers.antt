@@ -1,6 +1,6 @@
 use Rattle.std.proofs.Common.{◌≤◌, length, subst}
 use Rattle.onfi_core.specs.Dues.{IsRan}
-use Rattle.onfi_lun.proofs.Steps.{reply_is}
+use Rattle.onfi_core.proofs.Done.{reply_is}
 use Rattle.onfi_lun.proofs.batch.flight.Flight.reply_of.Goals as goal
 
 pub returns : goal.returns
