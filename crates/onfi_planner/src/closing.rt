@@ -16,9 +16,11 @@ pub fn closing_token(problem: &Problem, loads: &Loads, e: u64) -> Option<Token>
 {
     match loads.closing(problem, e) {
         None => None,
-        Some(Bound::Bus) => Some(Token::Bus),
-        Some(Bound::Lead) => Some(Token::Lead),
-        Some(Bound::Trail) => Some(Token::Trail),
-        Some(Bound::Die(lun)) => Some(Token::Die(LunNumber::of(lun))),
+        Some(first) => match first.bound {
+            Bound::Bus => Some(Token::Bus),
+            Bound::Lead => Some(Token::Lead),
+            Bound::Trail => Some(Token::Trail),
+            Bound::Die(lun) => Some(Token::Die(LunNumber::of(lun))),
+        },
     }
 }
