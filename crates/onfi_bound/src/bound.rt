@@ -10,3 +10,10 @@ pub enum Bound {
     /// The LUN of that number does all that is left to it, one group after another.
     Die(u8),
 }
+
+/// A bound, and what it comes to, in ns.
+#[derive(Clone, Copy, Debug, PartialEq, Eq)]
+pub struct BoundAt {
+    pub bound: Bound,
+    pub at: u64,
+}

@@ -17,9 +17,10 @@ mod reaching;
 mod tally;
 mod waits;
 
-pub use bound::Bound;
+pub use bound::{Bound, BoundAt};
 pub use bounds::{bus, die, lead, trail};
 pub use commands::Commands;
+pub use load::Load;
 pub use loads::Loads;
-pub use node::NodeBounds;
+pub use node::{NodeBounds, bus_after};
 pub use reaching::{closing, reaches};

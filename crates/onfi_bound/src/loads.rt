@@ -1,8 +1,9 @@
-ghost use Rattle.std.specs.Prelude.{◌≡◌, ◌+◌, ◌≤◌, ◌<◌, ℕ, IfOk, MatchOption, false, slice_index_or, length};
-ghost use Rattle.onfi_bound.specs.Loads.{AreLoads, AreLoadsBefore};
-ghost use Rattle.onfi_bound.specs.Reaching.{NoneReaches, IsFirst};
+ghost use Rattle.std.specs.Prelude.{◌≡◌, ◌+◌, ◌≤◌, ◌<◌, ℕ, IfOk, IfSome, MatchOption, false, slice_index_or, length};
+ghost use Rattle.onfi_bound.specs.Loads.{AreLoads, AreLoadsBefore, IsLoad};
+ghost use Rattle.onfi_bound.specs.Bounds.{bus};
+ghost use Rattle.onfi_bound.specs.Reaching.{NoneReaches, IsFirstAt};
 
-use crate::bound::Bound;
+use crate::bound::{Bound, BoundAt};
 use crate::load::Load;
 use onfi_problem::Problem;
 use std::alloc::{AllocError, Global};
@@ -33,19 +34,48 @@ impl Loads {
     }
 
     /// What [`crate::closing`] answers, in less time.
-    pub fn closing(&self, problem: &Problem, e: u64) -> Option<Bound>
+    pub fn closing(&self, problem: &Problem, e: u64) -> Option<BoundAt>
         requires { AreLoads problem.now self.now.of.items }
-        ensures { MatchOption result (NoneReaches problem.now.problem e) (λ bound. IsFirst problem.now.problem e bound) }
+        ensures { MatchOption result (NoneReaches problem.now.problem e) (λ first. IsFirstAt problem.now.problem e first) }
+    {
+        match self.of_waiting(problem) {
+            Some(load) => load.closing(problem, e),
+            None => crate::closing(problem, e),
+        }
+    }
+
+    /// What [`Loads::closing`] answers of a problem whose bus bound comes to `at` ns, without a look at any LUN where that
+    /// reaches `e`.
+    #[inline(always)]
+    pub fn closing_from(&self, problem: &Problem, at: u64, e: u64) -> Option<BoundAt>
+        requires loads { AreLoads problem.now self.now.of.items }
+        requires bus { at ≡ bus problem.now.problem }
+        ensures { MatchOption result (NoneReaches problem.now.problem e) (λ first. IsFirstAt problem.now.problem e first) }
+    {
+        if at >= e {
+            return Some(BoundAt {
+                bound: Bound::Bus,
+                at,
+            });
+        }
+        self.closing(problem, e)
+    }
+
+    /// What the wants take that wait; None where the loads are of another problem.
+    #[inline(always)]
+    pub fn of_waiting(&self, problem: &Problem) -> Option<&Load>
+        requires { AreLoads problem.now self.now.of.items }
+        ensures { IfSome result (λ load. IsLoad problem.now.problem.timing problem.now.problem.rules problem.now.problem.wants load.now) }
     {
         let waiting = problem.waiting();
         // (marks behind the last want mean nothing, and are no part of a place)
         let place = index_of(waiting) & self.of.len().wrapping_sub(1);
-        if let Some(load) = self.of.get(place)
-            && load.is_of(waiting)
-        {
-            return load.closing(problem, e);
+        let load = self.of.get(place)?;
+        if load.is_of(waiting) {
+            Some(load)
+        } else {
+            None
         }
-        crate::closing(problem, e)
     }
 }
 

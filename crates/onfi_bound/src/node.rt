@@ -42,20 +42,9 @@ impl NodeBounds {
         ensures { AreNodeBounds (after problem.now.problem (move_of problem.now.groups m)) result }
     {
         NodeBounds {
-            bus: self.bus_after(problem, m),
+            bus: bus_after(problem, self.bus, m),
             commands: self.commands.after(problem, m),
         }
-    }
-
-    // The bus bound of what a move leaves, in ns: later by as long as the bus idles before the move.
-    fn bus_after(self, problem: &Problem, m: Move) -> u64
-        requires bus { self.bus ≡ bus problem.now.problem }
-        requires step { IsMove problem.now.problem (move_of problem.now.groups m) }
-        requires lun { move_lun (move_of problem.now.groups m) ≡ lun_named m }
-        ensures { result ≡ bus (after problem.now.problem (move_of problem.now.groups m)) }
-    {
-        let idle = problem.earliest(m) - problem.bus_free();
-        self.bus + idle
     }
 
     /// Whether the bus bound of what a move leaves is at least `e` ns, where these are those before the move. The move
@@ -66,6 +55,19 @@ impl NodeBounds {
         requires lun { move_lun (move_of problem.now.groups m) ≡ lun_named m }
         ensures { IsTrue result ↔ Reaches (after problem.now.problem (move_of problem.now.groups m)) e Bound.Bus }
     {
-        self.bus_after(problem, m) >= e
+        bus_after(problem, self.bus, m) >= e
     }
+}
+
+/// The bus bound, in ns, of what a move leaves of a problem whose own comes to `at`: later by as long as the bus idles before
+/// the move, which isn't made.
+#[inline(always)]
+pub fn bus_after(problem: &Problem, at: u64, m: Move) -> u64
+    requires bus { at ≡ bus problem.now.problem }
+    requires step { IsMove problem.now.problem (move_of problem.now.groups m) }
+    requires lun { move_lun (move_of problem.now.groups m) ≡ lun_named m }
+    ensures { result ≡ bus (after problem.now.problem (move_of problem.now.groups m)) }
+{
+    let idle = problem.earliest(m) - problem.bus_free();
+    at + idle
 }

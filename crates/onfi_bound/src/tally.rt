@@ -4,14 +4,14 @@ ghost use Rattle.std.specs.Prelude.{◌≡◌, ℕ, ◌+◌, ◌<◌, ◌≤◌,
 ghost use Rattle.onfi_problem.specs.Position.{state_of};
 ghost use Rattle.onfi_bound.specs.Bounds.{die};
 ghost use Rattle.onfi_bound.specs.Loads.{IsLoad, IsTally, IsChainAt};
-ghost use Rattle.onfi_bound.specs.Reaching.{NoneReaches, IsFirst, IsFirstDie};
+ghost use Rattle.onfi_bound.specs.Reaching.{NoneReaches, IsFirstAt, IsFirstDieAt};
 
-use crate::bound::Bound;
+use crate::bound::{Bound, BoundAt};
 use crate::chain::Chain;
 use crate::left::Sums;
 use crate::load::Load;
 use crate::posts::least_of;
-use crate::reaching::is_reached;
+use crate::reaching::at_least;
 use onfi_problem::{Lun, Problem};
 
 /// What is left, as far as a walk over the LUNs has come.
@@ -29,39 +29,54 @@ pub struct Tally {
 impl Load {
     /// What [`crate::closing`] answers of a problem whose waiting wants these are.
     #[inline(always)]
-    pub fn closing(&self, problem: &Problem, e: u64) -> Option<Bound>
+    pub fn closing(&self, problem: &Problem, e: u64) -> Option<BoundAt>
         requires { IsLoad problem.now.problem.timing problem.now.problem.rules problem.now.problem.wants self.now }
-        ensures { MatchOption result (NoneReaches problem.now.problem e) (λ bound. IsFirst problem.now.problem e bound) }
+        ensures { MatchOption result (NoneReaches problem.now.problem e) (λ first. IsFirstAt problem.now.problem e first) }
     {
         let tally = Tally::of(problem, self);
-        if tally.sums.bus(problem) >= e {
-            return Some(Bound::Bus);
+        let bus = tally.sums.bus(problem);
+        if bus >= e {
+            return Some(BoundAt {
+                bound: Bound::Bus,
+                at: bus,
+            });
         }
-        if tally.sums.lead(problem, tally.first) >= e {
-            return Some(Bound::Lead);
+        let lead = tally.sums.lead(problem, tally.first);
+        if lead >= e {
+            return Some(BoundAt {
+                bound: Bound::Lead,
+                at: lead,
+            });
         }
-        if is_reached(tally.sums.trail(problem), e) {
-            return Some(Bound::Trail);
+        if let Some(at) = at_least(tally.sums.trail(problem), e) {
+            return Some(BoundAt {
+                bound: Bound::Trail,
+                at,
+            });
         }
         if tally.done < e {
             return None;
         }
         match self.first_die(problem, e) {
-            Some(lun) => Some(Bound::Die(lun)),
+            Some(first) => Some(first),
             None => None,
         }
     }
 
     // The first LUN whose die bound is at least `e` ns.
-    fn first_die(&self, problem: &Problem, e: u64) -> Option<u8>
+    fn first_die(&self, problem: &Problem, e: u64) -> Option<BoundAt>
         requires { IsLoad problem.now.problem.timing problem.now.problem.rules problem.now.problem.wants self.now }
         ensures { MatchOption result ((l : ℕ) → l < length problem.now.problem.luns → die problem.now.problem l < e)
-            (λ lun. IsFirstDie problem.now.problem e lun) }
+            (λ first. IsFirstDieAt problem.now.problem e first) }
     {
         let _limits = problem.bus_free();
         for (lun, state) in problem.luns().iter().enumerate() {
-            if self.die(problem, lun as u8, *state) >= e {
-                return Some(lun as u8);
+            let at = self.die(problem, lun as u8, *state);
+            if at >= e {
+                return Some(BoundAt {
+                    bound: Bound::Die(lun as u8),
+                    at,
+                });
             }
         }
         None

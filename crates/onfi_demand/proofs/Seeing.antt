@@ -1,5 +1,5 @@
 -- What is seen of phases within a window, one by one.
-use Rattle.std.proofs.Common.{◌≡◌, ℕ, suc, ◌+◌, ◌*◌, ◌-◌, ◌≤◌, ◌<◌, inl, inr, List, [], ◌∷◌, ◌++◌, length, get_or, Some, sym, ap, ◌∙◌, subst, arith}
+use Rattle.std.proofs.Common.{◌≡◌, ℕ, suc, ◌+◌, ◌*◌, ◌-◌, ◌^◌, ◌≤◌, ◌<◌, inl, inr, false, List, [], ◌∷◌, ◌++◌, length, get_or, Option, Some, None, sym, ap, ◌∙◌, subst, arith}
 use Rattle.std.specs.Prelude.{max, slice_get}
 use Rattle.std.proofs.lemmas.Bool.{cases_Bool, cases_lt}
 use Rattle.onfi_timing.specs.declared.kind.Kind.{Kind}
@@ -13,27 +13,30 @@ use Rattle.onfi_problem.specs.declared.lun_state.LunState.{LunState}
 use Rattle.onfi_problem.specs.declared.lun_state.LunState.TheVariants.{Free, Running}
 use Rattle.onfi_problem.specs.Problem.{Problem, IsProblem}
 use Rattle.onfi_problem.specs.Moves.{may_go}
-use Rattle.onfi_problem.specs.Left.{chain_time}
-use Rattle.onfi_bound.specs.Bounds.{on_lun, wants_work, die, die_at}
-use Rattle.onfi_demand.specs.Left.{LunLeft, Idle, Rest, left_on, has_left}
+use Rattle.onfi_problem.specs.Left.{InLimits}
+use Rattle.onfi_group.specs.declared.rules.Rules.{Rules}
+use Rattle.onfi_bound.specs.Bounds.{on_lun, wants_work}
+use Rattle.onfi_bound.proofs.DieBound.{no_work}
+use Rattle.onfi_bound.proofs.Ends.{die_small}
+use Rattle.onfi_demand.specs.Left.{has_left, has_left_at}
 use Rattle.onfi_demand.specs.Work.{left_of, IsWork}
 use Rattle.onfi_demand.specs.declared.left.LunLeft.TheVariants.{Rest as KeptRest}
 use Rattle.onfi_demand.specs.declared.left.LunWork.{LunWork}
-use Rattle.onfi_demand.proofs.Sums.{die_is}
+use Rattle.onfi_demand.proofs.Sums.{die_is, work_at}
 use Rattle.onfi_demand.proofs.Opened.{left_there}
 use Rattle.onfi_demand.proofs.WindowAsks.{rest_left, phases_by, idle_phases}
 use Rattle.onfi_demand.specs.Kept.{IsKept}
 use Rattle.onfi_demand.specs.declared.demand.Demand.{Demand as Kept}
-use Rattle.onfi_demand.specs.Look.{phase_at, Sees}
+use Rattle.onfi_demand.specs.Look.{phase_at, Sees, IsSight}
 use Rattle.onfi_demand.specs.Window.{PhaseLeft, chain_from, group_phase, group_left, wants_left, phases_left_on, needed, window, window_demand}
 use Rattle.onfi_demand.specs.declared.look.Look.{Look}
 use Rattle.onfi_demand.specs.declared.look.Seen.{Seen}
+use Rattle.onfi_demand.specs.declared.look.Sight.{Sight}
+use Rattle.onfi_demand.specs.declared.look.Window.{Window}
 use Rattle.onfi_demand.proofs.Between.{chain_step, within_append}
-use Rattle.onfi_demand.proofs.Leading.{some_state}
-use Rattle.onfi_demand.proofs.Sooner.{has_running}
 
 pub sees_none : (look : Look) (seen : Seen) → Sees look seen [] seen
-sees_none look seen = record { length = omega arith; time = omega arith }
+sees_none look seen = record { length = omega arith; needs = λ n. omega arith }
 
 needed_append : (go r q n : ℕ) (xs ys : List PhaseLeft) → needed go r q n (xs ++ ys) ≡ max (needed go r q n xs) (needed go r q n ys)
 needed_append go r q n [] ys = omega arith
@@ -42,12 +45,16 @@ needed_append go r q n (x ∷ xs) ys = let e = needed_append go r q n xs ys in o
 pub sees_append : (look : Look) (before middle behind : Seen) (xs ys : List PhaseLeft) → Sees look before xs middle → Sees look middle ys behind → Sees look before (xs ++ ys) behind
 sees_append look before middle behind xs ys a b =
     let w = within_append look.go look.window.start look.window.tail xs ys in
-    let n = needed_append look.go look.window.start look.window.tail look.time xs ys in
     let al = a.length in
     let bl = b.length in
-    let at = a.time in
-    let bt = b.time in
-    record { length = omega arith; time = omega arith }
+    record {
+      length = omega arith;
+      needs = λ n.
+          let both = needed_append look.go look.window.start look.window.tail n xs ys in
+          let an = a.needs n in
+          let bn = b.needs n in
+          omega arith;
+    }
 
 -- one phase of a group more
 pub group_more : (look : Look) (spans : Spans) (k rest n from long left : ℕ) (before middle behind : Seen) → n < 2 * k → left ≡ chain_from spans k n → long ≡ phase_length spans k n → Sees look before (phase_at from long (left - long + rest) ∷ []) middle → Sees look middle (group_left spans k rest (2 * k - (n + 1)) (n + 1) (from + phase_length spans k n + wait_before spans k (n + 1))) behind → Sees look before (group_left spans k rest (2 * k - n) n from) behind
@@ -67,24 +74,27 @@ want_more look timing from w ws spans before middle next behind is a b rest =
     let b' = subst (λ (z : Spans). Sees look middle (phase_at (from + z.cmd + z.array) z.post 0 ∷ []) next) is b in
     sees_append look before middle behind (phase_at from spans'.cmd (spans'.array + spans'.post) ∷ []) (phase_at (from + spans'.cmd + spans'.array) spans'.post 0 ∷ wants_left timing from ws) a' (sees_append look middle next behind (phase_at (from + spans'.cmd + spans'.array) spans'.post 0 ∷ []) (wants_left timing from ws) b' rest)
 
-abbrev chain_of : Timing → LunLeft → ℕ
-chain_of timing Idle = 0
-chain_of timing (Rest kind k i) = chain_from (spans_of timing kind) k i
+part_of_work : (timing : Timing) (rules : Rules) (ws : List Want) (o : Option LunState) → wants_work timing rules ws ≤ work_at timing rules ws o
+part_of_work timing rules ws None = omega arith
+part_of_work timing rules ws (Some (Free a)) = omega arith
+part_of_work timing rules ws (Some (Running g n r)) = omega arith
 
--- what the wants of a LUN with a group take, by its die bound
-pub rest_is : (p : Problem) (lun k n go chain d : ℕ) (kind : Kind) (spans : Spans) (work : LunWork) → IsWork p lun work → work.left ≡ KeptRest kind k n → spans ≡ spans_of p.timing kind → chain ≡ chain_from spans k n → go ≡ work.go → d ≡ die p lun → d - (go + chain) ≡ wants_work p.timing p.rules (on_lun lun p.wants)
-rest_is p lun k n go chain d kind spans work w rest s c g is =
-    let x = some_state (slice_get p.luns lun) (left_of work.left) w.left in
-    of_state x.0 x.1 (x.2 ∙ ap left_of rest)
-  where
-    of_state : (y : LunState) → slice_get p.luns lun ≡ Some y → left_on y ≡ Rest kind k n → d - (go + chain) ≡ wants_work p.timing p.rules (on_lun lun p.wants)
-    of_state (Free a) at q = cc
-    of_state (Running g' n' r) at q =
-        let value : die p lun ≡ may_go p lun + chain_time p.timing (Running g' n' r) + wants_work p.timing p.rules (on_lun lun p.wants) = ap (die_at p lun (on_lun lun p.wants)) at ∙ (die_is p lun (on_lun lun p.wants) (Some (Running g' n' r)) (has_running (on_lun lun p.wants) g' n' r) ∙ (omega arith)) in
-        let same : chain_of p.timing (Rest (kind_of g') (length g') n') ≡ chain_of p.timing (Rest kind k n) = ap (chain_of p.timing) q in
-        let chain_is : chain ≡ chain_from (spans_of p.timing kind) k n = c ∙ ap (λ (z : Spans). chain_from z k n) s in
-        let go_is = w.go in
-        omega arith
+no_wants : (timing : Timing) (rules : Rules) (ws : List Want) (o : Option LunState) → has_left_at ws o ≡ false → wants_work timing rules ws ≡ 0
+no_wants timing rules [] o h = no_work timing rules
+no_wants timing rules (w ∷ ws) None h = cc
+no_wants timing rules (w ∷ ws) (Some (Free a)) h = cc
+no_wants timing rules (w ∷ ws) (Some (Running g n r)) h = cc
+
+-- what the wants of a LUN take, within the limits of a problem
+pub work_small : (p : Problem) (lun work : ℕ) → InLimits p → lun < length p.luns → work ≡ wants_work p.timing p.rules (on_lun lun p.wants) → work < 2 ^ 62
+work_small p lun work limits there is = elim (cases_Bool (has_left p lun)) [
+  | inl h ↦ (
+      let small = die_small p lun limits there in
+      let whole = die_is p lun (on_lun lun p.wants) (slice_get p.luns lun) h in
+      let part = part_of_work p.timing p.rules (on_lun lun p.wants) (slice_get p.luns lun) in
+      omega arith)
+  | inr h ↦ (let none = no_wants p.timing p.rules (on_lun lun p.wants) (slice_get p.luns lun) h in omega arith)
+]
 
 -- .. and all that is left to it
 pub rest_sees : (p : Problem) (lun k n chain rest : ℕ) (kind : Kind) (timing : Timing) (spans : Spans) (work : LunWork) (look : Look) (ws : List Want) (before middle behind : Seen) → IsWork p lun work → work.left ≡ KeptRest kind k n → timing ≡ p.timing → spans ≡ spans_of timing kind → chain ≡ chain_from spans k n → rest ≡ wants_work p.timing p.rules (on_lun lun p.wants) → ws ≡ work.wants.items → Sees look before (group_left spans k rest (2 * k - n) n 0) middle → Sees look middle (wants_left timing chain ws) behind → Sees look before (phases_left_on p lun) behind
@@ -99,14 +109,14 @@ rest_sees p lun k n chain rest kind timing spans work look ws before middle behi
     rw q (sees_append look before middle behind (group_left (spans_of p.timing kind) k (wants_work p.timing p.rules (on_lun lun p.wants)) (2 * k - n) n 0) (wants_left p.timing (chain_from (spans_of p.timing kind) k n) (on_lun lun p.wants)) a'' b''')
 
 -- the numbers of the window bound's demand
-pub window_kept : (p : Problem) (e r q time : ℕ) (luns : List ℕ) (d : Kept) → IsProblem p → time ≡ e - (window p r q + q) → d.bus ≡ 0 → d.luns ≡ luns → ((l : ℕ) → l < length p.luns → get_or luns l 0 ≡ needed (may_go p l) r q time (phases_left_on p l)) → ((l : ℕ) → length p.luns ≤ l → get_or luns l 0 ≡ 0) → IsKept d (window_demand p r q e)
-window_kept p e r q time luns d ip t bus same value rest = record { bus = bus; luns = λ l small. rw same (at l) }
+pub window_kept : (p : Problem) (e time : ℕ) (w : Window) (sight : Sight) (luns : List ℕ) (d : Kept) → IsProblem p → IsSight p w sight → time ≡ e - (window p w.start w.tail + w.tail) → time < 2 ^ 64 → d.bus ≡ 0 → d.luns ≡ luns → ((l : ℕ) → l < 8 → get_or luns l 0 ≡ time - get_or sight.firsts l 0) → IsKept d (window_demand p w.start w.tail e)
+window_kept p e time w sight luns d ip s t few bus same value = record { bus = bus; luns = λ l small. rw same (at l small) }
   where
-    at : (l : ℕ) → get_or luns l 0 ≡ needed (may_go p l) r q (e - (window p r q + q)) (phases_left_on p l)
-    at l = elim (cases_lt l (length p.luns)) [
-      | inl h ↦ subst (λ z. get_or luns l 0 ≡ needed (may_go p l) r q z (phases_left_on p l)) t (value l h)
+    at : (l : ℕ) → l < 8 → get_or luns l 0 ≡ needed (may_go p l) w.start w.tail (e - (window p w.start w.tail + w.tail)) (phases_left_on p l)
+    at l small = elim (cases_lt l (length p.luns)) [
+      | inl h ↦ subst (λ z. get_or luns l 0 ≡ needed (may_go p l) w.start w.tail z (phases_left_on p l)) t (value l small ∙ s.needs l time h few)
       | inr h ↦ elim (cases_Bool (has_left p l)) [
         | inl k ↦ (let there = left_there p l ip k in absurd (omega arith))
-        | inr k ↦ (let none = idle_phases p.timing p.rules (on_lun l p.wants) (slice_get p.luns l) k in rest l h ∙ sym (ap (needed (may_go p l) r q (e - (window p r q + q))) none))
+        | inr k ↦ (let none = idle_phases p.timing p.rules (on_lun l p.wants) (slice_get p.luns l) k in value l small ∙ (s.none l time h small few ∙ sym (ap (needed (may_go p l) w.start w.tail (e - (window p w.start w.tail + w.tail))) none)))
       ]
     ]

@@ -1,6 +1,6 @@
 -- The numbers of a move say what is asked before it.
 use Rattle.std.proofs.Common.{◌≡◌, ℕ, zero, suc, ◌-◌, inl, inr, true, false, length, Option, Some, None, refl, subst, arith}
-use Rattle.std.specs.Prelude.{◌==◌}
+use Rattle.std.specs.Prelude.{◌==◌, nat_le, if◌then◌else◌}
 use Rattle.std.proofs.lemmas.Bool.{cases_Bool}
 use Rattle.onfi_problem.specs.Problem.{Problem}
 use Rattle.onfi_problem.specs.Moves.{Move, move_lun, after}
@@ -31,3 +31,7 @@ step_asks p m step d lun is =
           let k' : (lun == move_lun m) ≡ false = subst (λ z. (lun == z) ≡ false) is.lun k in
           rw k (rw k' (rw is.end refl)))
     ]
+
+-- what is asked of a LUN that the move isn't of
+abbrev pub behind : ℕ → ℕ → ℕ
+behind end time = if nat_le time end then 0 else time

@@ -1,9 +1,9 @@
 -- What is left to a LUN, as it is read.
-use Rattle.std.proofs.Common.{◌≡◌, ℕ, ◌+◌, ◌≤◌, ◌<◌, Bool, true, false, List, [], ◌∷◌, ◌++◌, length, map, get_or, take, Option, Some, None, refl, sym, ap, ◌∙◌, subst, arith}
+use Rattle.std.proofs.Common.{◌≡◌, ℕ, ◌+◌, ◌≤◌, ◌<◌, inl, inr, Bool, true, false, List, [], ◌∷◌, ◌++◌, length, map, get_or, take, Option, Some, None, refl, sym, ap, ◌∙◌, subst, arith}
 use Rattle.std.specs.Prelude.{slice_get, ◌==◌}
-use Rattle.std.specs.List.{filter}
+use Rattle.std.specs.List.{filter, AllByRecursion as All}
 use Rattle.std.specs.Option.{option_map}
-use Rattle.std.proofs.lemmas.Bool.{eq-eqb, ne_eqb}
+use Rattle.std.proofs.lemmas.Bool.{cases_Bool, eq-eqb, false≢true, ne_eqb}
 use Rattle.std.proofs.lemmas.List.{length-map}
 use Rattle.std.proofs.lemmas.List.Elements.{filter-append}
 use Rattle.onfi_request.specs.declared.want.Want.{Want}
@@ -17,6 +17,7 @@ use Rattle.onfi_problem.proofs.Lists.{map_found}
 use Rattle.onfi_problem.proofs.Places.{get_within}
 use Rattle.onfi_problem.proofs.Perm.{append_nil}
 use Rattle.onfi_bound.specs.Bounds.{on_lun}
+use Rattle.onfi_bound.proofs.Loading.{waits_at}
 use Rattle.onfi_bound.proofs.Parts.{placed}
 use Rattle.onfi_bound.proofs.Steps.{all_at, waiting_yes, waiting_no}
 use Rattle.onfi_demand.specs.Left.{Rest, left_on}
@@ -72,3 +73,19 @@ wants_other lun marks ws i d before h m at b =
 
 pub wants_no : (lun : ℕ) (marks : List Bool) (ws : List Want) (i : ℕ) (before : List Want) → get_or marks i false ≡ false → before ≡ on_lun lun (waiting_of marks (take i ws)) → before ≡ on_lun lun (waiting_of marks (take (i + 1) ws))
 wants_no lun marks ws i before m b = b ∙ sym (ap (on_lun lun) (waiting_no marks ws i m))
+
+-- none of these wants is of the LUN
+none_on : (lun : ℕ) (ws : List Want) → on_lun lun ws ≡ [] → All (λ w. w.lun ≡ lun → ⊥) ws
+none_on lun [] e = tt
+none_on lun (w ∷ ws) e = elim (cases_Bool (w.lun == lun)) [
+  | inl h ↦ (let q : w ∷ on_lun lun ws ≡ [] = rw h at e in cc)
+  | inr h ↦ (λ at. false≢true (sym h ∙ eq-eqb w.lun lun at), none_on lun ws (rw h at e))
+]
+
+-- a marked want is of the LUN
+pub some_on : (lun : ℕ) (marks : List Bool) (ws : List Want) (i : ℕ) (d : Want) → i < length ws → get_or marks i false ≡ true → (get_or ws i d).lun ≡ lun → 1 ≤ length (on_lun lun (waiting_of marks ws))
+some_on lun marks ws i d h m at = go (on_lun lun (waiting_of marks ws)) refl
+  where
+    go : (on : List Want) → on_lun lun (waiting_of marks ws) ≡ on → 1 ≤ length (on_lun lun (waiting_of marks ws))
+    go [] e = absurd (waits_at (λ w. w.lun ≡ lun → ⊥) marks ws i d h m (none_on lun (waiting_of marks ws) e) at)
+    go (w ∷ on) e = rw e (omega arith)

@@ -51,21 +51,6 @@ impl Demand {
         self.bus.saturating_sub(length).max(own.max(through))
     }
 
-    // What is asked of a LUN, where that of the move is asked for so much.
-    fn of_other(&self, step: &Step, own: u64, lun: usize) -> u64
-        requires { lun < 8 }
-        ensures { (count : ℕ) → own ≡ own_asks step.now count (demand_of self.now) → result ≡ asked_by step.now count (demand_of self.now) lun }
-    {
-        let time = self.luns[lun];
-        if lun == step.lun as usize {
-            own
-        } else if time <= step.end {
-            0
-        } else {
-            time
-        }
-    }
-
     /// Raises what is asked of each LUN by what this demand behind a move asks before it, where there are so many LUNs.
     pub fn raise(&self, step: &Step, count: usize, asked: &mut [u64; 8])
         requires lun { step.now.lun < 8 }
@@ -73,8 +58,14 @@ impl Demand {
         ensures { (lun : ℕ) → lun < 8 → slice_index asked.new lun ≡ max (slice_index asked.old lun) (asked_by step.now count (demand_of self.now) lun) }
     {
         let own = self.of_own(step, count);
+        // (the LUN of the move is raised last, whatever the loop does to it)
+        let raised = asked[step.lun as usize].max(own);
         for lun in 0..8usize {
-            asked[lun] = asked[lun].max(self.of_other(step, own, lun));
+            let time = self.luns[lun];
+            if time > step.end {
+                asked[lun] = asked[lun].max(time);
+            }
         }
+        asked[step.lun as usize] = raised;
     }
 }

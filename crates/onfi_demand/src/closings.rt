@@ -1,22 +1,24 @@
 //! What the bounds ask for that close a node, in ns.
 
-ghost use Rattle.std.specs.Prelude.{◌≡◌, ℕ, ◌-◌, ◌<◌, Some, length};
-ghost use Rattle.onfi_bound.specs.Bounds.{trail};
+ghost use Rattle.std.specs.Prelude.{◌≡◌, ◌-◌, ◌<◌, length};
+ghost use Rattle.onfi_bound.specs.Bounds.{bus, die};
 ghost use Rattle.onfi_demand.specs.Demand.{of_bus, of_one, bus_demand, trail_demand, die_demand};
 ghost use Rattle.onfi_demand.specs.Kept.{IsKept};
 
 use crate::demand::Demand;
-use crate::left::{LunLeft, LunWork};
-use onfi_bound::{bus, die, trail};
+use crate::left::has_left;
 use onfi_problem::Problem;
 use onfi_timing::Timing;
 
 impl Demand {
     /// Asks for the bus alone.
-    pub fn of_bus(bus: u64) -> Demand
-        ensures { IsKept result (of_bus bus) }
+    pub fn of_bus(time: u64) -> Demand
+        ensures { IsKept result (of_bus time) }
     {
-        Demand { bus, luns: [0; 8] }
+        Demand {
+            bus: time,
+            luns: [0; 8],
+        }
     }
 
     /// Asks for one LUN alone.
@@ -30,33 +32,31 @@ impl Demand {
     }
 
     /// What the bus bound asks for, where it reaches `e`.
-    pub fn of_bus_bound(problem: &Problem, e: u64) -> Demand
+    pub fn of_bus_bound(problem: &Problem, at: u64, e: u64) -> Demand
+        requires { at ≡ bus problem.now.problem }
         ensures { IsKept result (bus_demand problem.now.problem e) }
     {
-        let left = bus(problem) - problem.bus_free();
+        let left = at - problem.bus_free();
         Demand::of_bus(e.saturating_sub(left))
     }
 
-    /// What the trail bound asks for, where there is one.
-    pub fn of_trail(problem: &Problem, e: u64) -> Demand
-        ensures { (t : ℕ) → trail problem.now.problem ≡ Some t → IsKept result (trail_demand problem.now.problem t e) }
+    /// What the trail bound asks for that comes to `at`.
+    pub fn of_trail(problem: &Problem, at: u64, e: u64) -> Demand
+        ensures { IsKept result (trail_demand problem.now.problem at e) }
     {
-        let bus_free = problem.bus_free();
-        match trail(problem) {
-            Some(end) => Demand::of_bus(e.saturating_sub(end.saturating_sub(bus_free))),
-            None => Demand::of_bus(0),
-        }
+        let left = at.saturating_sub(problem.bus_free());
+        Demand::of_bus(e.saturating_sub(left))
     }
 
     /// What the die bound of a LUN asks for.
-    pub fn of_die(problem: &Problem, lun: u8, e: u64) -> Demand
-        requires { lun < length problem.now.problem.luns }
+    pub fn of_die(problem: &Problem, lun: u8, at: u64, e: u64) -> Demand
+        requires lun { lun < length problem.now.problem.luns }
+        requires at { at ≡ die problem.now.problem lun }
         ensures { IsKept result (die_demand problem.now.problem lun e) }
     {
         let count = problem.lun_count();
-        let work = LunWork::of(problem, lun);
-        if work.is_some() {
-            let left = die(problem, lun).saturating_sub(work.go);
+        if has_left(problem, lun) {
+            let left = at.saturating_sub(problem.may_go(lun));
             Demand::of_lun(lun, e.saturating_sub(left))
         } else {
             Demand::of_bus(e)

@@ -1,6 +1,6 @@
 //! What is left to a LUN, in numbers.
 
-ghost use Rattle.std.specs.Prelude.{◌≡◌, ◌≤◌, ◌<◌, [], length, slice_get, Some};
+ghost use Rattle.std.specs.Prelude.{◌≡◌, ◌≤◌, ◌<◌, true, false, [], length, slice_get, Some};
 ghost use Rattle.std.specs.Option.{option_map};
 ghost use Rattle.onfi_problem.specs.Position.{state_of, waiting_of};
 ghost use Rattle.onfi_bound.specs.Bounds.{on_lun};
@@ -81,6 +81,30 @@ fn left_of(groups: &[Group], lun: Lun) -> LunLeft
         members: group.len() as u8,
         next: lun.next,
     }
+}
+
+/// Whether a group runs on a LUN or a want waits for it.
+pub fn has_left(problem: &Problem, lun: u8) -> bool
+    requires { lun < length problem.now.problem.luns }
+    ensures { result ≡ has_left problem.now.problem lun }
+{
+    let _limits = problem.bus_free();
+    let state = problem.luns()[lun as usize];
+    state.next != 0 || has_want(problem.wants(), problem.waiting(), lun)
+}
+
+/// Whether a marked want is of a LUN.
+fn has_want(all: &[Want], marks: &[bool; 8], lun: u8) -> bool
+    requires { length all.now ≤ 8 }
+    ensures none { result ≡ false → on_lun lun (waiting_of marks.now all.now) ≡ [] }
+    ensures some { result ≡ true → 1 ≤ length (on_lun lun (waiting_of marks.now all.now)) }
+{
+    for (i, want) in all.iter().enumerate() {
+        if marks[i] && lun == want.lun {
+            return true;
+        }
+    }
+    false
 }
 
 /// Lists the marked wants of a LUN.

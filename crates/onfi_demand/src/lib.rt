@@ -12,5 +12,5 @@ mod look;
 
 pub use asked::Step;
 pub use demand::Demand;
-pub use left::{LunLeft, LunWork, left_on};
+pub use left::{LunLeft, LunWork, has_left, left_on};
 pub use look::Window;

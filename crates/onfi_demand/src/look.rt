@@ -1,15 +1,17 @@
 //! The window bound: phases that start at a time or later and leave some time behind them stand in between.
 
-ghost use Rattle.std.specs.Prelude.{◌≡◌, ◌↔◌, ◌+◌, ◌-◌, ◌*◌, ◌^◌, ◌≤◌, ◌<◌, ◌∷◌, [], max, IsTrue, length};
+ghost use Rattle.std.specs.Prelude.{◌≡◌, ℕ, ◌+◌, ◌-◌, ◌*◌, ◌^◌, ◌≤◌, ◌<◌, ◌∷◌, [], IfSome, IfNone, length, slice_index};
+ghost use Rattle.onfi_bound.specs.Bounds.{on_lun, wants_work};
+ghost use Rattle.onfi_bound.specs.Loads.{IsLoad};
 ghost use Rattle.onfi_demand.specs.Kept.{IsKept};
-ghost use Rattle.onfi_demand.specs.Look.{look_of, phase_at, Sees};
-ghost use Rattle.onfi_demand.specs.Window.{chain_from, group_left, wants_left, phases_left_on, window, window_demand, IsWindow};
+ghost use Rattle.onfi_demand.specs.Look.{look_of, phase_at, nothing_seen, Sees, IsSight};
+ghost use Rattle.onfi_demand.specs.Window.{chain_from, group_left, wants_left, phases_left_on, window_demand, IsWindow};
 ghost use Rattle.onfi_demand.specs.Work.{IsWork};
 
 use crate::demand::Demand;
 use crate::lead::rest_to_post;
 use crate::left::{LunLeft, LunWork};
-use onfi_bound::die;
+use onfi_bound::Load;
 use onfi_problem::Problem;
 use onfi_request::Want;
 use onfi_timing::{Spans, Timing};
@@ -21,19 +23,31 @@ pub struct Window {
     pub tail: u64,
 }
 
-/// What is looked for on a LUN that may go on from `go`: the phases within, which must start at `time` or later.
+/// What is looked for on a LUN that may go on from `go`: the phases within.
 #[derive(Clone, Copy)]
 pub(crate) struct Look {
     pub go: u64,
     pub window: Window,
-    pub time: u64,
 }
 
-/// The phases within that were seen: their lengths, and from when on they need their LUN to go on.
+/// The phases within that were seen: their lengths, and how long behind the time from which its LUN may go on the first
+/// of them may start; the greatest number where none was seen.
 #[derive(Clone, Copy)]
 pub(crate) struct Seen {
     pub length: u64,
-    pub time: u64,
+    pub first: u64,
+}
+
+impl Seen {
+    // Before the first phase.
+    fn none() -> Seen
+        ensures { result ≡ nothing_seen }
+    {
+        Seen {
+            length: 0,
+            first: u64::MAX,
+        }
+    }
 }
 
 impl Look {
@@ -47,7 +61,7 @@ impl Look {
         if self.go + from >= self.window.start && tail >= self.window.tail {
             Seen {
                 length: seen.length + length,
-                time: seen.time.max(self.time.saturating_sub(from)),
+                first: seen.first.min(from),
             }
         } else {
             seen
@@ -62,10 +76,10 @@ impl Look {
         requires chain { chain ≡ chain_from spans.now members next }
         requires small { chain < 2 ^ 60 }
         requires rest { rest < 2 ^ 62 }
-        ensures sees { Sees self.now (record { length = 0; time = 0 }) (group_left spans.now members rest (2 * members - next) next 0) result }
+        ensures sees { Sees self.now nothing_seen (group_left spans.now members rest (2 * members - next) next 0) result }
         ensures small { result.length ≤ 2 ^ 54 }
     {
-        let mut seen = Seen { length: 0, time: 0 };
+        let mut seen = Seen::none();
         let mut from = 0;
         let mut left = chain;
         for phase in next..2 * members {
@@ -108,24 +122,22 @@ fn chain_left(spans: &Spans, members: u8, next: u8) -> u64
 }
 
 impl LunWork {
-    // What of all that is left to the LUN is within a window.
-    fn see(&self, problem: &Problem, lun: u8, window: Window, time: u64) -> Seen
+    // What of all that is left to the LUN is within a window, where its wants take so long.
+    fn see(&self, problem: &Problem, lun: u8, rest: u64, window: Window) -> Seen
         requires lun { lun < length problem.now.problem.luns }
         requires work { IsWork problem.now.problem lun self.now }
-        ensures sees { Sees (look_of problem.now.problem lun window time) (record { length = 0; time = 0 }) (phases_left_on problem.now.problem lun) result }
+        requires rest { rest ≡ wants_work problem.now.problem.timing problem.now.problem.rules (on_lun lun problem.now.problem.wants) }
+        requires short { rest < 2 ^ 62 }
+        ensures sees { Sees (look_of problem.now.problem lun window) nothing_seen (phases_left_on problem.now.problem lun) result }
         ensures small { result.length ≤ 2 ^ 56 }
     {
         let timing = problem.timing();
         let look = Look {
             go: self.go,
             window,
-            time,
         };
         match self.left {
-            LunLeft::Idle => {
-                let none = Seen { length: 0, time: 0 };
-                look.see_wants(none, &timing, 0, &self.wants)
-            }
+            LunLeft::Idle => look.see_wants(Seen::none(), &timing, 0, &self.wants),
             LunLeft::Rest {
                 kind,
                 members,
@@ -133,7 +145,6 @@ impl LunWork {
             } => {
                 let spans = timing.spans(kind);
                 let chain = chain_left(&spans, members, next);
-                let rest = die(problem, lun).saturating_sub(self.go + chain);
                 let seen = look.see_group(&spans, members, next, chain, rest);
                 look.see_wants(seen, &timing, chain, &self.wants)
             }
@@ -141,45 +152,62 @@ impl LunWork {
     }
 }
 
-impl Window {
-    /// The lengths of all phases within, in ns.
-    pub fn length(self, problem: &Problem) -> u64
-        ensures value { result ≡ window problem.now.problem self.start self.tail }
-        ensures small { result ≤ 2 ^ 59 }
-    {
-        let count = problem.lun_count();
-        let mut length = 0;
-        for lun in 0..count {
-            let work = LunWork::of(problem, lun as u8);
-            length += work.see(problem, lun as u8, self, 0).length;
-        }
-        length
-    }
-
-    /// Whether some phase is within, and what is within reaches `e` ns.
-    pub fn reaches(self, problem: &Problem, e: u64) -> bool
-        ensures { IsTrue result ↔ IsWindow problem.now.problem e self.start self.tail }
-    {
-        let length = self.length(problem);
-        length >= 1 && e.saturating_sub(self.start).saturating_sub(self.tail) <= length
-    }
+/// What of all that is left is within a window, in ns: the lengths of the phases, and for each LUN how long behind the time
+/// from which it may go on its first phase within may start.
+#[derive(Clone, Copy)]
+pub(crate) struct Sight {
+    pub length: u64,
+    pub firsts: [u64; 8],
 }
 
-impl Demand {
-    /// What the window bound asks for.
-    pub fn of_window(problem: &Problem, window: Window, e: u64) -> Demand
-        ensures { IsKept result (window_demand problem.now.problem window.start window.tail e) }
+impl Sight {
+    // What is within a window of a problem whose waiting wants take that load.
+    fn of(problem: &Problem, load: &Load, window: Window) -> Sight
+        requires { IsLoad problem.now.problem.timing problem.now.problem.rules problem.now.problem.wants load.now }
+        ensures sight { IsSight problem.now.problem window result }
+        ensures small { result.length ≤ 2 ^ 59 }
     {
         let _limits = problem.bus_free();
         let count = problem.lun_count();
-        let time = e
-            .saturating_sub(window.length(problem))
-            .saturating_sub(window.tail);
-        let mut luns = [0; 8];
+        let mut length = 0;
+        let mut firsts = [u64::MAX; 8];
         for lun in 0..count {
             let work = LunWork::of(problem, lun as u8);
-            luns[lun] = work.see(problem, lun as u8, window, time).time;
+            let seen = work.see(problem, lun as u8, load.work[lun], window);
+            length += seen.length;
+            firsts[lun] = seen.first;
         }
-        Demand { bus: 0, luns }
+        Sight { length, firsts }
+    }
+
+    // From when on each LUN must go on, where its phases within start at `time` or later.
+    fn times(&self, time: u64) -> [u64; 8]
+        ensures { (lun : ℕ) → lun < 8 → slice_index result lun ≡ time - slice_index self.now.firsts lun }
+    {
+        let mut times = [0; 8];
+        for lun in 0..8usize {
+            times[lun] = time.saturating_sub(self.firsts[lun]);
+        }
+        times
+    }
+}
+
+impl Window {
+    /// What the window bound asks for, where some phase is within and what is within reaches `e` ns; `load` is what the
+    /// problem's waiting wants take.
+    pub fn asks(self, problem: &Problem, load: &Load, e: u64) -> Option<Demand>
+        requires { IsLoad problem.now.problem.timing problem.now.problem.rules problem.now.problem.wants load.now }
+        ensures some { IfSome result (λ d. IsWindow problem.now.problem e self.start self.tail × IsKept d (window_demand problem.now.problem self.start self.tail e)) }
+        ensures none { IfNone result (IsWindow problem.now.problem e self.start self.tail → ⊥) }
+    {
+        let _limits = problem.bus_free();
+        let sight = Sight::of(problem, load, self);
+        let needed = e.saturating_sub(self.start).saturating_sub(self.tail);
+        if sight.length == 0 || sight.length < needed {
+            return None;
+        }
+        let time = e.saturating_sub(sight.length).saturating_sub(self.tail);
+        let luns = sight.times(time);
+        Some(Demand { bus: 0, luns })
     }
 }

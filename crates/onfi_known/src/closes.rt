@@ -1,6 +1,6 @@
 //! Tokens that close a node.
 
-ghost use Rattle.std.specs.Prelude.{◌≢◌, ℕ, ◌<◌, ◌↔◌, ◌∷◌, IsTrue, IfOk, IfErr, List, Some};
+ghost use Rattle.std.specs.Prelude.{◌≢◌, ℕ, ◌<◌, ◌↔◌, ◌∷◌, IsTrue, IfOk, IfErr, IfSome, IfNone, List};
 ghost use Rattle.onfi_group.specs.Words.{Pairs};
 ghost use Rattle.onfi_demand.specs.Kept.{IsKept};
 ghost use Rattle.onfi_demand.specs.declared.demand.Demand.{Demand as OneDemand};
@@ -12,7 +12,7 @@ ghost use Rattle.onfi_known.specs.declared.token.Token.{Token as OneToken};
 use crate::fault::KnownFault;
 use crate::known::Known;
 use crate::token::Token;
-use onfi_bound::{Bound, reaches};
+use onfi_bound::{Load, bus, die, lead, trail};
 use onfi_demand::{Demand, Window};
 use onfi_problem::Problem;
 
@@ -23,34 +23,91 @@ fn is_over(problem: &Problem, e: u64) -> bool
     problem.bus_free() >= e && problem.steps().is_empty()
 }
 
-/// Whether a token's bound reaches the finish `e`, in ns.
-pub(crate) fn closes(problem: &Problem, token: &Token, e: u64) -> bool
-    ensures { IsTrue result ↔ Closes problem.now.problem e token.now }
+// What the bus bound asks for, where it reaches the finish `e`, in ns.
+fn bus_asks(problem: &Problem, e: u64) -> Option<Demand>
+    ensures some { IfSome result (λ d. Closes problem.now.problem e Token.Bus × IsKept d (closing_demand problem.now.problem e Token.Bus)) }
+    ensures none { IfNone result (Closes problem.now.problem e Token.Bus → ⊥) }
 {
-    match *token {
-        Token::Bus => reaches(problem, Bound::Bus, e),
-        Token::Lead => reaches(problem, Bound::Lead, e),
-        Token::Trail => reaches(problem, Bound::Trail, e),
-        Token::Die(lun) => reaches(problem, Bound::Die(lun.get()), e),
-        Token::End => is_over(problem, e),
-        Token::Window { start, tail } => Window { start, tail }.reaches(problem, e),
-        Token::Branch(_) | Token::Yield(_) | Token::Again(_) => false,
+    let at = bus(problem);
+    if at < e {
+        return None;
+    }
+    Some(Demand::of_bus_bound(problem, at, e))
+}
+
+// .. the lead bound.
+fn lead_asks(problem: &Problem, e: u64) -> Option<Demand>
+    ensures some { IfSome result (λ d. Closes problem.now.problem e Token.Lead × IsKept d (closing_demand problem.now.problem e Token.Lead)) }
+    ensures none { IfNone result (Closes problem.now.problem e Token.Lead → ⊥) }
+{
+    if lead(problem) < e {
+        return None;
+    }
+    Some(Demand::of_lead(problem, e))
+}
+
+// .. the trail bound.
+fn trail_asks(problem: &Problem, e: u64) -> Option<Demand>
+    ensures some { IfSome result (λ d. Closes problem.now.problem e Token.Trail × IsKept d (closing_demand problem.now.problem e Token.Trail)) }
+    ensures none { IfNone result (Closes problem.now.problem e Token.Trail → ⊥) }
+{
+    let at = trail(problem)?;
+    if at < e {
+        return None;
+    }
+    Some(Demand::of_trail(problem, at, e))
+}
+
+// .. the die bound of a LUN.
+fn die_asks(problem: &Problem, lun: u8, e: u64) -> Option<Demand>
+    ensures some { IfSome result (λ d. Closes problem.now.problem e (Token.Die lun) × IsKept d (closing_demand problem.now.problem e (Token.Die lun))) }
+    ensures none { IfNone result (Closes problem.now.problem e (Token.Die lun) → ⊥) }
+{
+    if lun as usize >= problem.lun_count() {
+        return None;
+    }
+    let at = die(problem, lun);
+    if at < e {
+        return None;
+    }
+    Some(Demand::of_die(problem, lun, at, e))
+}
+
+// .. a window.
+fn window_asks(problem: &Problem, window: Window, e: u64) -> Option<Demand>
+    ensures some { IfSome result (λ d. Closes problem.now.problem e (Token.Window window.start window.tail) × IsKept d (closing_demand problem.now.problem e (Token.Window window.start window.tail))) }
+    ensures none { IfNone result (Closes problem.now.problem e (Token.Window window.start window.tail) → ⊥) }
+{
+    let _limits = problem.bus_free();
+    let load = Load::of(problem, problem.waiting());
+    window.asks(problem, &load, e)
+}
+
+// What a node asks for to which nothing is left, where so much time has passed.
+fn end_asks(problem: &Problem, e: u64) -> Option<Demand>
+    ensures some { IfSome result (λ d. Closes problem.now.problem e Token.End × IsKept d (closing_demand problem.now.problem e Token.End)) }
+    ensures none { IfNone result (Closes problem.now.problem e Token.End → ⊥) }
+{
+    if is_over(problem, e) {
+        Some(Demand::of_bus(e))
+    } else {
+        None
     }
 }
 
-// What a token asks for that closes the node of a problem for the finish `e`, in ns.
-fn asks(problem: &Problem, token: &Token, e: u64) -> Demand
-    requires { Closes problem.now.problem e token.now }
-    ensures { IsKept result (closing_demand problem.now.problem e token.now) }
+// What a token asks for, where it closes the node of a problem for the finish `e`, in ns.
+fn closing_asks(problem: &Problem, token: &Token, e: u64) -> Option<Demand>
+    ensures some { IfSome result (λ d. Closes problem.now.problem e token.now × IsKept d (closing_demand problem.now.problem e token.now)) }
+    ensures none { IfNone result (Closes problem.now.problem e token.now → ⊥) }
 {
     match *token {
-        Token::Bus => Demand::of_bus_bound(problem, e),
-        Token::Lead => Demand::of_lead(problem, e),
-        Token::Trail => Demand::of_trail(problem, e),
-        Token::Die(lun) => Demand::of_die(problem, lun.get(), e),
-        Token::End => Demand::of_bus(e),
-        Token::Window { start, tail } => Demand::of_window(problem, Window { start, tail }, e),
-        Token::Branch(_) | Token::Yield(_) | Token::Again(_) => Demand::of_bus(0),
+        Token::Bus => bus_asks(problem, e),
+        Token::Lead => lead_asks(problem, e),
+        Token::Trail => trail_asks(problem, e),
+        Token::Die(lun) => die_asks(problem, lun.get(), e),
+        Token::End => end_asks(problem, e),
+        Token::Window { start, tail } => window_asks(problem, Window { start, tail }, e),
+        Token::Branch(_) | Token::Yield(_) | Token::Again(_) => None,
     }
 }
 
@@ -80,10 +137,9 @@ pub(crate) fn read_closing(
     ensures err { IfErr result (λ _. Closes problem.now.problem e token → ⊥) }
     ensures kind { IfErr result (λ fault. (behind left : List OneToken) → FaultFits place (token ∷ behind) left fault) }
 {
-    if closes(problem, &token, e) {
-        Ok(asks(problem, &token, e))
-    } else {
-        Err(closing_fault(token, place))
+    match closing_asks(problem, &token, e) {
+        Some(demand) => Ok(demand),
+        None => Err(closing_fault(token, place)),
     }
 }
 

@@ -8,7 +8,7 @@ ghost use Rattle.onfi_demand.specs.Work.{left_of};
 ghost use Rattle.onfi_known.specs.Proves.{Describes, times_of};
 
 use arrayvec::ArrayVec;
-use onfi_demand::{LunLeft, LunWork, left_on};
+use onfi_demand::{LunLeft, has_left, left_on};
 use onfi_problem::Problem;
 use onfi_timing::Kind;
 
@@ -101,14 +101,6 @@ fn are_left(problem: &Problem, luns: &[LunLeft]) -> bool
     are_alike(luns, own.as_slice())
 }
 
-// Whether a group runs on a LUN or a want waits for it.
-fn is_left(problem: &Problem, lun: u8) -> bool
-    requires { lun < length problem.now.problem.luns }
-    ensures { result ≡ has_left problem.now.problem lun }
-{
-    LunWork::of(problem, lun).is_some()
-}
-
 impl Known {
     /// A node of the problem, with these times.
     pub fn of(problem: &Problem, times: [u64; 8]) -> Known
@@ -141,7 +133,7 @@ impl Known {
         let _limits = problem.bus_free();
         let count = problem.lun_count();
         for lun in 0..count {
-            if self.times[lun] > problem.may_go(lun as u8) && is_left(problem, lun as u8) {
+            if self.times[lun] > problem.may_go(lun as u8) && has_left(problem, lun as u8) {
                 return false;
             }
         }

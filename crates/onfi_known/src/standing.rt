@@ -12,7 +12,7 @@ ghost use Rattle.onfi_known.specs.declared.given.Given.{Given as OneGiven};
 use crate::fault::KnownFault;
 use crate::given::Given;
 use arrayvec::ArrayVec;
-use onfi_demand::{LunWork, Step};
+use onfi_demand::{Step, has_left};
 use onfi_problem::Problem;
 
 /// What is asked of each LUN so far, in ns, and which children yield.
@@ -85,8 +85,11 @@ pub fn step_behind(problem: &Problem, lun: u8, start: u64) -> Step
     ensures end { result.end ≡ problem.now.problem.bus_free }
     ensures go { GoesOn problem.now.problem lun result.go }
 {
-    let work = LunWork::of(problem, lun);
-    let go = if work.is_some() { Some(work.go) } else { None };
+    let go = if has_left(problem, lun) {
+        Some(problem.may_go(lun))
+    } else {
+        None
+    };
     Step {
         lun,
         start,

@@ -1,5 +1,7 @@
 use crate::sample::{free, running, want};
-use onfi_bound::{Bound, Commands, Loads, NodeBounds, bus, closing, die, lead, reaches, trail};
+use onfi_bound::{
+    Bound, BoundAt, Commands, Loads, NodeBounds, bus, closing, die, lead, reaches, trail,
+};
 use onfi_group::Rules;
 use onfi_problem::{LunState, Problem, ProblemFault};
 use onfi_request::Want;
@@ -38,6 +40,13 @@ fn bounds_of_an_output_and_a_status(rt: HostRuntime) -> Result<(), Fail> {
     Ok(())
 }
 
+fn bound_of(first: Option<BoundAt>) -> Option<Bound> {
+    match first {
+        Some(first) => Some(first.bound),
+        None => None,
+    }
+}
+
 #[test]
 fn the_first_bound_that_reaches(rt: HostRuntime) -> Result<(), Fail> {
     let problem = output_and_status(rt.alloc())?;
@@ -48,8 +57,8 @@ fn the_first_bound_that_reaches(rt: HostRuntime) -> Result<(), Fail> {
         (1500810, Some(Bound::Die(1))),
         (1500811, None),
     ] {
-        assert_eq!(rt; closing(&problem, finish), first);
-        assert_eq!(rt; loads.closing(&problem, finish), first);
+        assert_eq!(rt; bound_of(closing(&problem, finish)), first);
+        assert_eq!(rt; bound_of(loads.closing(&problem, finish)), first);
     }
     for (bound, finish, does) in [
         (Bound::Bus, 11660, true),
@@ -77,7 +86,11 @@ fn bounds_of_programs_apart(rt: HostRuntime) -> Result<(), Fail> {
     assert_eq!(rt; trail(&problem), Some(221980));
     assert_eq!(rt; die_of(&problem, 0), Some(222860));
     assert_eq!(rt; die_of(&problem, 1), Some(100280));
-    assert_eq!(rt; closing(&problem, 100840), Some(Bound::Lead));
+    let lead = BoundAt {
+        bound: Bound::Lead,
+        at: 100840,
+    };
+    assert_eq!(rt; closing(&problem, 100840), Some(lead));
     Ok(())
 }
 

@@ -18,7 +18,7 @@ use crate::dealing::do_in_turn;
 use crate::root::Root;
 use crate::search::Stop;
 use crate::yields::yields_of;
-use onfi_bound::Loads;
+use onfi_bound::{Loads, bus};
 use onfi_cert::{LunNumber, Token, Width, join};
 use onfi_check::last_ends;
 use onfi_problem::{Move, Problem};
@@ -42,7 +42,12 @@ pub fn write_parts<R: Threads + Sync>(
     requires workers { 1 ≤ workers }
     ensures { IfOk result (λ tokens. AcceptsTokens tokens.items root.now.problem.problem root.now.best.finish) }
 {
-    if let Some(token) = closing_token(&root.problem, &root.loads, root.best.finish) {
+    if let Some(token) = closing_token(
+        &root.problem,
+        &root.loads,
+        bus(&root.problem),
+        root.best.finish,
+    ) {
         let mut tokens = Vec::new(alloc);
         tokens.push(token)?;
         return Ok(tokens);
@@ -122,7 +127,8 @@ fn write_branch(
             let Ok(mut at) = problem.copy(alloc) else {
                 return Err(Stop::Memory);
             };
-            let Ok(_) = write_below(&mut at, loads, step, e, &mut tokens) else {
+            let bus_bound = bus(&at);
+            let Ok(_) = write_below(&mut at, loads, bus_bound, step, e, &mut tokens) else {
                 return Err(Stop::Memory);
             };
         }

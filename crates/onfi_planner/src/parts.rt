@@ -20,7 +20,7 @@ use crate::gate::PartGate;
 use crate::root::Root;
 use crate::search::{Best, Stop, visit};
 use crate::yields::yields_of;
-use onfi_bound::Loads;
+use onfi_bound::{Loads, bus};
 use onfi_check::last_ends;
 use onfi_problem::{Move, Problem};
 use std::alloc::{AllocError, Global};
@@ -62,7 +62,14 @@ pub fn search_parts<R: Threads + Sync, G: PartGate + Sync>(
     ensures within { IfOk result (λ opened. opened ≤ 1048576) }
     ensures over { IfErr result (λ fault. (n : ℕ) → fault ≡ PlanFault.Over n → IsSplitOver root.old.problem.problem limit n) }
 {
-    if closing_token(&root.problem, &root.loads, root.best.finish).is_some() {
+    if closing_token(
+        &root.problem,
+        &root.loads,
+        bus(&root.problem),
+        root.best.finish,
+    )
+    .is_some()
+    {
         return Ok(1);
     }
     let moves = root.problem.steps();
@@ -157,7 +164,8 @@ fn search_part(
     let steps = Vec::new(alloc);
     let mut best = Best { finish, steps };
     let mut opened = 0;
-    visit(&mut at, loads, step, &mut best, &mut opened, limit)?;
+    let bound = bus(&at);
+    visit(&mut at, loads, bound, step, &mut best, &mut opened, limit)?;
     Ok(Part { best, opened })
 }
 

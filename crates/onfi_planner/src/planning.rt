@@ -11,6 +11,7 @@ use crate::placing::schedule_of;
 use crate::planned::Planned;
 use crate::root::{Root, root_of};
 use crate::search::{self, Best, Stop};
+use onfi_bound::bus;
 use onfi_cert::Token;
 use onfi_problem::Problem;
 use std::alloc::{AllocError, Global};
@@ -43,13 +44,14 @@ pub fn plan(alloc: Global, problem: &Problem, limit: u32) -> Result<Planned, Pla
         mut best,
     } = root;
     let mut opened = 0;
-    match search::search(&mut at, &loads, &mut best, &mut opened, limit) {
+    let bus_bound = bus(&at);
+    match search::search(&mut at, &loads, bus_bound, &mut best, &mut opened, limit) {
         Ok(_) => {}
         Err(Stop::Over) => return Err(PlanFault::Over { opened }),
         Err(Stop::Memory) => return Err(PlanFault::Memory),
     }
     let mut cert = Vec::new(alloc);
-    let Ok(_) = certificate::write(&mut at, &loads, best.finish, &mut cert) else {
+    let Ok(_) = certificate::write(&mut at, &loads, bus_bound, best.finish, &mut cert) else {
         return Err(PlanFault::Memory);
     };
     let Ok(planned) = found_plan(alloc, problem, &best, cert, opened) else {

@@ -3,12 +3,13 @@ ghost use Rattle.onfi_problem.specs.Moves.{IsMove, move_lun};
 ghost use Rattle.onfi_problem.specs.Left.{InLimits};
 ghost use Rattle.onfi_problem.specs.Position.{move_of, moved, lun_named};
 ghost use Rattle.onfi_schedule.specs.Runs.{Run};
+ghost use Rattle.onfi_bound.specs.Bounds.{bus};
 ghost use Rattle.onfi_bound.specs.Loads.{AreLoads};
 ghost use Rattle.onfi_planner.specs.Planning.{Searched, HasOpened, IsOver, Bounded, run_of};
 
 use crate::closing::closing_token;
 use crate::yields::yields_of;
-use onfi_bound::Loads;
+use onfi_bound::{Loads, bus_after};
 use onfi_check::last_ends;
 use onfi_problem::{Move, Moves, Problem};
 
@@ -35,17 +36,20 @@ pub enum Stop {
     Memory,
 }
 
-/// Looks below a node for what ends before the best; tells whether it found something.
+/// Looks below a node for what ends before the best; tells whether it found something. The bus bound of the node comes to
+/// `bus_bound` ns.
 #[cycle(search)]
 pub fn search(
     problem: &mut Problem,
     loads: &Loads,
+    bus_bound: u64,
     best: &mut Best,
     opened: &mut u32,
     limit: u32,
 ) -> Result<bool, Stop>
     requires limits { InLimits problem.old.problem }
     requires loads { AreLoads problem.old loads.now.of.items }
+    requires bus { bus_bound ≡ bus problem.old.problem }
     requires opened { opened.old ≤ limit }
     ensures problem { IfOk result (λ _. problem.new ≡ problem.old) }
     ensures found { IfOk result (λ improved. Searched problem.old best.old best.new improved) }
@@ -57,7 +61,7 @@ pub fn search(
         return Err(Stop::Over);
     }
     *opened += 1;
-    if closing_token(problem, loads, best.finish).is_some() {
+    if closing_token(problem, loads, bus_bound, best.finish).is_some() {
         return Ok(false);
     }
     let mut moves = Moves::new();
@@ -75,18 +79,20 @@ pub fn search(
         if yields[step.lun() as usize].is_some() {
             continue;
         }
-        if visit(problem, loads, *step, best, opened, limit)? {
+        if visit(problem, loads, bus_bound, *step, best, opened, limit)? {
             improved = true;
         }
     }
     Ok(improved)
 }
 
-/// Looks below a step for what ends before the best; tells whether it found something.
+/// Looks below a step for what ends before the best; tells whether it found something. A node that the bus bound closes is
+/// counted, and its move isn't made.
 #[cycle(search)]
 pub fn visit(
     problem: &mut Problem,
     loads: &Loads,
+    bus_bound: u64,
     step: Move,
     best: &mut Best,
     opened: &mut u32,
@@ -94,6 +100,7 @@ pub fn visit(
 ) -> Result<bool, Stop>
     requires limits { InLimits problem.old.problem }
     requires loads { AreLoads problem.old loads.now.of.items }
+    requires bus { bus_bound ≡ bus problem.old.problem }
     requires opened { opened.old ≤ limit }
     requires step { IsMove problem.old.problem (move_of problem.old.groups step) }
     requires lun { move_lun (move_of problem.old.groups step) ≡ lun_named step }
@@ -107,8 +114,17 @@ pub fn visit(
     ensures over { IfErr result (λ stop. stop ≡ Stop.Over → IsOver (moved problem.old step).problem best.old.finish opened.old opened.new limit) }
 {
     let start = problem.earliest(step);
+    let behind = bus_after(problem, bus_bound, step);
+    if behind >= best.finish {
+        if limit == *opened {
+            let over = Stop::Over;
+            return Err(over);
+        }
+        *opened = *opened + 1;
+        return Ok(false);
+    }
     let undo = problem.advance(step);
-    let improved = search(problem, loads, best, opened, limit)?;
+    let improved = search(problem, loads, behind, best, opened, limit)?;
     problem.undo(undo);
     if improved {
         match best.steps.push(Begun { step, start }) {

@@ -3,15 +3,14 @@
 ghost use Rattle.std.specs.Prelude.{◌≤◌, ◌<◌, ◌^◌, IfOk, IfSome, IfNone, length, ℕ};
 ghost use Rattle.onfi_group.specs.Words.{Pairs};
 ghost use Rattle.onfi_bound.specs.Loads.{AreLoads};
-ghost use Rattle.onfi_bound.specs.Reaching.{Reaches};
-ghost use Rattle.onfi_demand.specs.Window.{IsWindow};
+ghost use Rattle.onfi_bound.specs.Reaching.{Reaches, ComesTo};
 ghost use Rattle.onfi_check.specs.Nodes.{IsOpen};
 ghost use Rattle.onfi_recall.specs.Walks.{ClosesBy, IsClosing};
 ghost use Rattle.onfi_known.specs.declared.token.TheConstants.{MOST_KNOWN as most};
 
 use crate::phases::Phases;
 use crate::records::Records;
-use onfi_bound::{Bound, Loads};
+use onfi_bound::{Bound, BoundAt, Loads};
 use onfi_cert::LunNumber;
 use onfi_demand::{Demand, Window};
 use onfi_known::Token;
@@ -80,20 +79,21 @@ fn by_bound(problem: &Problem, loads: &Loads, e: u64) -> Option<Closing>
 {
     match loads.closing(problem, e) {
         None => None,
-        Some(bound) => Some(bound_closing(problem, bound, e)),
+        Some(first) => Some(bound_closing(problem, first, e)),
     }
 }
 
-/// The token of a bound that reaches `e`, in ns.
-pub fn bound_closing(problem: &Problem, bound: Bound, e: u64) -> Closing
-    requires { Reaches problem.now.problem e bound }
+/// The token of a bound that reaches `e`, in ns, and what it asks for.
+pub fn bound_closing(problem: &Problem, first: BoundAt, e: u64) -> Closing
+    requires reaches { Reaches problem.now.problem e first.bound }
+    requires comes_to { ComesTo problem.now.problem first.at first.bound }
     ensures { ClosesBy problem.now.problem e result }
 {
     let _limits = problem.bus_free();
-    match bound {
+    match first.bound {
         Bound::Bus => Closing {
             token: Token::Bus,
-            demand: Demand::of_bus_bound(problem, e),
+            demand: Demand::of_bus_bound(problem, first.at, e),
         },
         Bound::Lead => Closing {
             token: Token::Lead,
@@ -101,11 +101,11 @@ pub fn bound_closing(problem: &Problem, bound: Bound, e: u64) -> Closing
         },
         Bound::Trail => Closing {
             token: Token::Trail,
-            demand: Demand::of_trail(problem, e),
+            demand: Demand::of_trail(problem, first.at, e),
         },
         Bound::Die(lun) => Closing {
             token: Token::Die(LunNumber::of(lun)),
-            demand: Demand::of_die(problem, lun, e),
+            demand: Demand::of_die(problem, lun, first.at, e),
         },
     }
 }
@@ -117,24 +117,26 @@ fn by_window(
     e: u64,
     phases: &mut Phases,
 ) -> Result<Option<Closing>, AllocError>
+    requires { AreLoads problem.now loads.now.of.items }
     ensures { IfOk result (λ found. IfSome found (ClosesBy problem.now.problem e)) }
 {
     match phases.window(problem, loads, e)? {
         None => Ok(None),
-        Some(window) => Ok(Some(window_closing(problem, window, e))),
+        Some(window) => Ok(window_closing(problem, loads, window, e)),
     }
 }
 
-// The token of a window that reaches `e`.
-fn window_closing(problem: &Problem, window: Window, e: u64) -> Closing
-    requires reaches { IsWindow problem.now.problem e window.start window.tail }
+// The token of a window, where it reaches `e`.
+fn window_closing(problem: &Problem, loads: &Loads, window: Window, e: u64) -> Option<Closing>
+    requires loads { AreLoads problem.now loads.now.of.items }
     requires small { window.start < 2 ^ 63 × window.tail < 2 ^ 63 }
-    ensures { ClosesBy problem.now.problem e result }
+    ensures { IfSome result (ClosesBy problem.now.problem e) }
 {
+    let load = loads.of_waiting(problem)?;
+    let demand = window.asks(problem, load, e)?;
     let Window { start, tail } = window;
     let token = Token::Window { start, tail };
-    let demand = Demand::of_window(problem, window, e);
-    Closing { token, demand }
+    Some(Closing { token, demand })
 }
 
 // A node that is known, to which the same is left.

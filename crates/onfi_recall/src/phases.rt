@@ -1,7 +1,6 @@
 //! A window whose phases reach a finish.
 
 ghost use Rattle.std.specs.Prelude.{◌≡◌, ◌≤◌, ◌<◌, ◌^◌, IfOk, IfSome, [], length};
-ghost use Rattle.onfi_demand.specs.Window.{IsWindow};
 
 use crate::guessed::{KindCounts, rest_of, waiting_counts, waiting_work};
 use onfi_bound::Loads;
@@ -39,7 +38,7 @@ impl Phases {
         }
     }
 
-    /// A window that reaches `e` ns. Where it finds none there may be one: a walk opens a node more then.
+    /// A window that seems to reach `e` ns. Where it finds none there may be one: a walk opens a node more then.
     ///
     /// # Errors
     /// Only where memory was refused.
@@ -49,13 +48,12 @@ impl Phases {
         loads: &Loads,
         e: u64,
     ) -> Result<Option<Window>, AllocError>
-        ensures reaches { IfOk result (λ found. IfSome found (λ w. IsWindow problem.now.problem e w.start w.tail)) }
-        ensures small { IfOk result (λ found. IfSome found (λ w. w.start < 2 ^ 63 × w.tail < 2 ^ 63)) }
+        ensures { IfOk result (λ found. IfSome found (λ w. w.start < 2 ^ 63 × w.tail < 2 ^ 63)) }
     {
         self.of.clear();
         self.tails.clear();
         self.list(problem, loads)?;
-        Ok(self.reaching(problem, e))
+        Ok(self.spellable(e))
     }
 
     // Lists what is left to all LUNs.
@@ -171,13 +169,12 @@ impl Phases {
         self.of.len()
     }
 
-    // The first window that seems to reach `e`, where it does and a token can name it.
-    fn reaching(&self, problem: &Problem, e: u64) -> Option<Window>
-        ensures reaches { IfSome result (λ w. IsWindow problem.now.problem e w.start w.tail) }
-        ensures small { IfSome result (λ w. w.start < 2 ^ 63 × w.tail < 2 ^ 63) }
+    // The first window that seems to reach `e`, where a token can name it.
+    fn spellable(&self, e: u64) -> Option<Window>
+        ensures { IfSome result (λ w. w.start < 2 ^ 63 × w.tail < 2 ^ 63) }
     {
         let window = self.seeming(e)?;
-        if window.start >= 1 << 63 || window.tail >= 1 << 63 || !window.reaches(problem, e) {
+        if window.start >= 1 << 63 || window.tail >= 1 << 63 {
             return None;
         }
         Some(window)

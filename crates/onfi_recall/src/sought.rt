@@ -6,7 +6,7 @@ ghost use Rattle.onfi_recall.specs.Within.{IsSought};
 
 use crate::closing::{Closing, bound_closing, bound_reaching};
 use crate::phases::Phases;
-use onfi_bound::{Bound, Loads};
+use onfi_bound::{Bound, BoundAt, Loads, bus};
 use onfi_problem::Problem;
 use std::alloc::{AllocError, Global};
 
@@ -34,9 +34,13 @@ pub fn greatest_bound(
     ensures found { IfOk result (λ sought. sought.below ≡ sought.most) }
 {
     let mut phases = Phases::new(alloc);
+    let by_bus = BoundAt {
+        bound: Bound::Bus,
+        at: bus(problem),
+    };
     let sought = Sought {
         below: 0,
-        closing: bound_closing(problem, Bound::Bus, 0),
+        closing: bound_closing(problem, by_bus, 0),
         most: finish,
     };
     narrow(problem, loads, &mut phases, sought)

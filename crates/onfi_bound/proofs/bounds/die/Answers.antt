@@ -1,4 +1,4 @@
-use Rattle.std.proofs.Common.{◌≡◌, ◌≤◌, ◌<◌, ◌∙◌, inl, inr, length, ap, arith}
+use Rattle.std.proofs.Common.{◌≡◌, ◌∙◌, inl, inr, ap, arith}
 use Rattle.onfi_problem.specs.declared.moves.Lun.{Lun}
 use Rattle.onfi_problem.specs.Position.{waiting_of}
 use Rattle.onfi_bound.specs.Bounds.{die}

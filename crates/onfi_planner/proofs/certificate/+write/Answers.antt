@@ -6,9 +6,11 @@ use Rattle.std.proofs.lemmas.Bool.{eqb-true}
 use Rattle.onfi_problem.specs.Moves.{IsMove, move_lun, after}
 use Rattle.onfi_problem.specs.Left.{InLimits}
 use Rattle.onfi_problem.proofs.Limits.{after_limits}
-use Rattle.onfi_cert.specs.declared.token.Token.TheVariants.{Yield}
+use Rattle.onfi_cert.specs.declared.token.Token.TheVariants.{Bus, Yield}
+use Rattle.onfi_check.specs.Tree.{ByBus}
 use Rattle.onfi_problem.specs.declared.moves.Move.TheVariants.{Next}
 use Rattle.onfi_problem.specs.Position.{Position, move_of, moves_of, moved, lun_named}
+use Rattle.onfi_bound.specs.Bounds.{bus}
 use Rattle.onfi_bound.specs.Loads.{AreLoads}
 use Rattle.onfi_bound.proofs.Loading.{loads_after}
 use Rattle.onfi_planner.specs.Opening.{yield_at}
@@ -56,10 +58,13 @@ write-write_below-requires t c =
         (
           subst (λ (z : Position). AreLoads z c.args.loads.now.of.items) (sym e) c.requires.loads,
           (
-            subst (λ (z : Position). Bounded z.problem c.args.e) (sym e) c.requires.least,
+            subst (λ (z : Position). c.args.bus_bound ≡ bus z.problem) (sym e) c.requires.bus,
             (
-              subst (λ (z : Position). IsMove z.problem (move_of z.groups (get_or items c.loop-step.step-index (Next 0)))) (sym e) m,
-              subst (λ (z : Position). move_lun (move_of z.groups (get_or items c.loop-step.step-index (Next 0))) ≡ lun_named (get_or items c.loop-step.step-index (Next 0))) (sym e) (step_of_lun x items c.loop-step.step-index (get_or items c.loop-step.step-index (Next 0)) are luns (get_or_default items c.loop-step.step-index (Next 0) _ c.loop-step-test.true) c.loop-step-test.true),
+              subst (λ (z : Position). Bounded z.problem c.args.e) (sym e) c.requires.least,
+              (
+                subst (λ (z : Position). IsMove z.problem (move_of z.groups (get_or items c.loop-step.step-index (Next 0)))) (sym e) m,
+                subst (λ (z : Position). move_lun (move_of z.groups (get_or items c.loop-step.step-index (Next 0))) ≡ lun_named (get_or items c.loop-step.step-index (Next 0))) (sym e) (step_of_lun x items c.loop-step.step-index (get_or items c.loop-step.step-index (Next 0)) are luns (get_or_default items c.loop-step.step-index (Next 0) _ c.loop-step-test.true) c.loop-step-test.true),
+              ),
             ),
           ),
         ),
@@ -105,7 +110,10 @@ write_below-write-requires t c =
         subst (λ (z : Position). InLimits z.problem) (sym c.advance-undo.ensures.moved) (after_limits x.problem m c.requires.limits c.requires.step),
         (
           subst (λ (z : Position). AreLoads z c.args.loads.now.of.items) (sym c.advance-undo.ensures.moved) (loads_after x c.args.step c.args.loads.now.of.items c.requires.step c.requires.loads),
-          subst (λ (z : Position). Bounded z.problem c.args.e) (sym c.advance-undo.ensures.moved) (bounded_below x.problem m c.args.e c.requires.step c.requires.least),
+          (
+            subst (λ (z : Position). c.bus_after-behind.result ≡ bus z.problem) (sym c.advance-undo.ensures.moved) c.bus_after-behind.ensures,
+            subst (λ (z : Position). Bounded z.problem c.args.e) (sym c.advance-undo.ensures.moved) (bounded_below x.problem m c.args.e c.requires.step c.requires.least),
+          ),
         ),
       ),
     )
@@ -130,3 +138,9 @@ write-bounds-yields-lun t c = lun_in c.args.problem.now.groups c.list_steps.new.
 
 pub write_below-returns-clause-problem : goal.write_below-returns-clause-problem
 write_below-returns-clause-problem t c = handed_back c.args.problem.now _ c.write.new.problem _ c.advance-undo.result c.in_ok-write.ensures.problem c.advance-undo.ensures.undo c.undo.ensures
+
+pub write_below-returns-then-behind-e-clause-written : goal.write_below-returns-then-behind-e-clause-written
+write_below-returns-then-behind-e-clause-written t c =
+    let x = c.args.problem.now in
+    let m = move_of x.groups c.args.step in
+    closed_written (after x.problem m) c.args.e Bus c.args.tokens.now.items _ c.in_ok-push.ensures.items (ByBus, refl, let b = c.bus_after-behind.ensures in let k = c.if-behind-e.true in omega arith)

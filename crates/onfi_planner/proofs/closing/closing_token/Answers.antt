@@ -4,5 +4,5 @@ use Rattle.onfi_planner.proofs.closing.closing_token.Goals as goal
 pub returns-in-None : goal.returns-in-None
 returns-in-None c = none_open c.args.problem.now.problem c.args.e c.in-None.ensures
 
-pub returns-in-Some-Die : goal.returns-in-Some-Die
-returns-in-Some-Die c = by_die c.args.problem.now.problem c.args.e c.in-Some-Die.lun c.of.result c.in-Some-Die.field-0 c.in-Some-Die.field-0-is c.of.ensures c.in-Some-Die.ensures.reaches
+pub returns-in-Die : goal.returns-in-Die
+returns-in-Die c = by_die c.args.problem.now.problem c.args.e c.in-Die.lun c.of.result c.in-Some.first.bound c.in-Die.is c.of.ensures c.in-Some.ensures.is_first.reaches

@@ -1,7 +1,12 @@
 use Rattle.std.proofs.Common.{◌≡◌, ◌≤◌, ◌∙◌, sym, subst}
+use Rattle.onfi_problem.specs.Position.{Position}
+use Rattle.onfi_bound.specs.Bounds.{bus}
 use Rattle.onfi_check.specs.Nodes.{OpensNodes}
 use Rattle.onfi_planner.proofs.Whole.{root_ready, found, nodes_opened, some_opened, more_nodes}
 use Rattle.onfi_planner.proofs.planning.plan.Goals as goal
+
+pub write-requires-clause-bus : goal.write-requires-clause-bus
+write-requires-clause-bus c = subst (λ (z : Position). c.bus-bus_bound.result ≡ bus z.problem) (sym c.in-Ok-search.ensures.problem) c.bus-bus_bound.ensures.value
 
 pub found_plan-requires-clause-found : goal.found_plan-requires-clause-found
 found_plan-requires-clause-found c =

@@ -9,8 +9,11 @@ use Rattle.onfi_problem.specs.Left.{InLimits}
 use Rattle.onfi_problem.specs.declared.moves.Move.TheVariants.{Next}
 use Rattle.onfi_problem.specs.Position.{Position, move_of, moved, lun_named}
 use Rattle.onfi_schedule.specs.Runs.{Run}
+use Rattle.onfi_bound.specs.Bounds.{bus}
 use Rattle.onfi_bound.specs.Loads.{AreLoads}
 use Rattle.onfi_bound.proofs.Loading.{loads_after}
+use Rattle.onfi_check.specs.Tree.{ByBus, Closed}
+use Rattle.onfi_check.proofs.Sound.{sound}
 use Rattle.onfi_planner.specs.declared.search.Best.{Best}
 use Rattle.onfi_planner.specs.Planning.{work, IsOver, Bounded, HasOpened, run_of}
 use Rattle.onfi_planner.proofs.Halfway.{step_of_lun, yields_some, one_over, one_opened, closed_node, closed_by, closed_at_end, open_node, done_node, step_moves, given_up, skipped, visited, ended, ended_count, steps_same, not_empty, luns_of, luns_small, lun_in, started}
@@ -53,10 +56,13 @@ search-visit-requires t c =
         (
           subst (λ (z : Position). AreLoads z c.args.loads.now.of.items) (sym e) c.requires.loads,
           (
-            c.loop-step.invariant.half.within,
+            subst (λ (z : Position). c.args.bus_bound ≡ bus z.problem) (sym e) c.requires.bus,
             (
-              subst (λ (z : Position). IsMove z.problem (move_of z.groups (get_or items c.loop-step.step-index (Next 0)))) (sym e) m,
-              subst (λ (z : Position). move_lun (move_of z.groups (get_or items c.loop-step.step-index (Next 0))) ≡ lun_named (get_or items c.loop-step.step-index (Next 0))) (sym e) (step_of_lun x items c.loop-step.step-index (get_or items c.loop-step.step-index (Next 0)) are luns (get_or_default items c.loop-step.step-index (Next 0) _ c.loop-step-test.true) c.loop-step-test.true),
+              c.loop-step.invariant.half.within,
+              (
+                subst (λ (z : Position). IsMove z.problem (move_of z.groups (get_or items c.loop-step.step-index (Next 0)))) (sym e) m,
+                subst (λ (z : Position). move_lun (move_of z.groups (get_or items c.loop-step.step-index (Next 0))) ≡ lun_named (get_or items c.loop-step.step-index (Next 0))) (sym e) (step_of_lun x items c.loop-step.step-index (get_or items c.loop-step.step-index (Next 0)) are luns (get_or_default items c.loop-step.step-index (Next 0) _ c.loop-step-test.true) c.loop-step-test.true),
+              ),
             ),
           ),
         ),
@@ -152,8 +158,21 @@ visit-search-requires t c =
     let less = work_after x.problem m c.requires.limits.problem c.requires.step in
     let w : work c.advance-undo.new.self.problem ≡ work (after x.problem m) = ap (λ (z : Position). work z.problem) c.advance-undo.ensures.moved in (
       omega (arith, c.decreases, w, less),
-      (subst (λ (z : Position). InLimits z.problem) (sym c.advance-undo.ensures.moved) (after_limits x.problem m c.requires.limits c.requires.step), (subst (λ (z : Position). AreLoads z c.args.loads.now.of.items) (sym c.advance-undo.ensures.moved) (loads_after x c.args.step c.args.loads.now.of.items c.requires.step c.requires.loads), c.requires.opened)),
+      (subst (λ (z : Position). InLimits z.problem) (sym c.advance-undo.ensures.moved) (after_limits x.problem m c.requires.limits c.requires.step), (subst (λ (z : Position). AreLoads z c.args.loads.now.of.items) (sym c.advance-undo.ensures.moved) (loads_after x c.args.step c.args.loads.now.of.items c.requires.step c.requires.loads), (subst (λ (z : Position). c.bus_after-behind.result ≡ bus z.problem) (sym c.advance-undo.ensures.moved) c.bus_after-behind.ensures, c.requires.opened))),
     )
+
+pub visit-returns-then-limit-opened-clause-over : goal.visit-returns-then-limit-opened-clause-over
+visit-returns-then-limit-opened-clause-over t c = λ e. one_over _ _ _ _ (sym c.if-limit-opened.true)
+
+pub visit-returns-then-behind-best-clause-least : goal.visit-returns-then-behind-best-clause-least
+visit-returns-then-behind-best-clause-least t c =
+    let x = c.args.problem.now in
+    let m = move_of x.groups c.args.step in
+    let limits = after_limits x.problem m c.requires.limits c.requires.step in
+    sound (Closed ByBus) (after x.problem m) c.args.best.now.finish limits.problem (let b = c.bus_after-behind.ensures in let k = c.if-behind-best.true in omega arith)
+
+pub visit-returns-then-behind-best-clause-opened : goal.visit-returns-then-behind-best-clause-opened
+visit-returns-then-behind-best-clause-opened t c = one_opened _ _ _ _ (ByBus, let b = c.bus_after-behind.ensures in let k = c.if-behind-best.true in omega arith)
 
 pub visit-returns-else-improved-clause-problem : goal.visit-returns-else-improved-clause-problem
 visit-returns-else-improved-clause-problem t c = handed_back c.args.problem.now _ c.search.new.problem _ c.advance-undo.result c.in_ok-improved.ensures.problem c.advance-undo.ensures.undo c.undo.ensures

@@ -1,4 +1,3 @@
-use Rattle.std.proofs.Common.{◌≤◌, ◌<◌, length}
 use Rattle.onfi_problem.specs.declared.moves.Lun.{Lun}
 use Rattle.onfi_bound.proofs.Tallying.{state_at}
 use Rattle.onfi_bound.proofs.Parts.{place_at}
@@ -7,10 +6,10 @@ use Rattle.onfi_bound.proofs.load.Load.first_die.Goals as goal
 abbrev none : Lun
 none = record { next = 0; place = 0; time = 0 }
 
-pub die-requires-clause-place : goal.die-requires-clause-place
-die-requires-clause-place c =
+pub die-at-requires-clause-place : goal.die-at-requires-clause-place
+die-at-requires-clause-place c =
     let x = c.args.problem.now in
     place_at x.problem x.groups c.luns-state-items.result.now c.loop-lun.lun none c.bus_free-limits.ensures.limits c.luns-state-items.ensures.states c.loop-lun-test.true
 
-pub die-requires-clause-state : goal.die-requires-clause-state
-die-requires-clause-state c = state_at c.args.problem.now.groups c.luns-state-items.result.now c.args.problem.now.problem.luns c.loop-lun.lun none c.luns-state-items.ensures.states c.loop-lun-test.true
+pub die-at-requires-clause-state : goal.die-at-requires-clause-state
+die-at-requires-clause-state c = state_at c.args.problem.now.groups c.luns-state-items.result.now c.args.problem.now.problem.luns c.loop-lun.lun none c.luns-state-items.ensures.states c.loop-lun-test.true

@@ -4,7 +4,7 @@ use Rattle.onfi_problem.specs.Position.{move_of}
 use Rattle.onfi_problem.proofs.Limits.{after_limits}
 use Rattle.onfi_bound.proofs.BusBound.{bus_after}
 use Rattle.onfi_bound.proofs.Ends.{bus_small}
-use Rattle.onfi_bound.proofs.node.NodeBounds.bus_after.Goals as goal
+use Rattle.onfi_bound.proofs.node.bus_after.Goals as goal
 
 pub overflow_add-result : goal.overflow_add-result
 overflow_add-result c =
