@@ -10,7 +10,6 @@ mod closes;
 mod ends;
 mod fault;
 mod laws;
-mod numbered;
 mod walk;
 mod yields;
 
