@@ -19,6 +19,7 @@ mod tokens;
 mod walk;
 mod within;
 mod word;
+mod writing;
 
 pub use checking::{check_known, check_known_text};
 pub use fault::{KnownFault, KnownTextFault, WithinFault, WithinTextFault};
@@ -28,3 +29,4 @@ pub use standing::step_behind;
 pub use token::{MOST_KNOWN, Token};
 pub use tokens::Tokens;
 pub use within::{check_known_tokens_within, check_known_within};
+pub use writing::text_of;
