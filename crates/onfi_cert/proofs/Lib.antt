@@ -1,4 +1,5 @@
 pub mod Ahead
+pub mod Fronted
 pub mod Put
 pub mod Spellings
 pub mod Walking

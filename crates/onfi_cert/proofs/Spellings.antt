@@ -1,6 +1,6 @@
 -- Which words are tokens.
 use Rattle.std.proofs.Common.{◌≡◌, ◌<◌, ◌≤◌, ℕ, ◌+◌, ◌-◌, ◌*◌, ◌/◌, ◌%◌, List, [], ◌∷◌, ◌++◌, Bool, true, false, cond, refl, sym, ap, ◌∙◌, subst, arith, inl, inr}
-use Rattle.std.specs.Prelude.{Option, Some, None, ◌==◌, ◌&&◌, nat_le}
+use Rattle.std.specs.Prelude.{IfSome, Option, Some, None, ◌==◌, ◌&&◌, nat_le}
 use Rattle.std.proofs.lemmas.Bool.{cases_lt, lt-ltb, le-ltb, le-leb, leb-true, eqb-true, ne_eqb, and_parts}
 use Rattle.onfi_cert.specs.declared.token.Token.{Token}
 use Rattle.onfi_cert.specs.declared.token.Token.TheVariants as tk
@@ -66,39 +66,38 @@ spelling_again tk.End h = refl
 abbrev pub Spells : List ℕ → Token → Type 0
 Spells w t = InRange t × (spelling t ≡ w)
 
-abbrev Sound : Option Token → List ℕ → Type 0
-Sound o w = (t : Token) → o ≡ Some t → Spells w t
+-- what is so of whatever is found is so of what was found
+pub found_is : {T : Type 0} (P : T → Type 0) (o : Option T) (t : T) → o ≡ Some t → IfSome o P → P t
+found_is P o t e h = subst (λ x. IfSome x P) e h
 
-either : (b : Bool) (x y : Option Token) (w : List ℕ) → (b ≡ true → Sound x w) → (b ≡ false → Sound y w) → Sound (cond b x y) w
-either true x y w f g = f refl
-either false x y w f g = g refl
+-- what a test chooses is so where each of the two is
+pub either : {T : Type 0} (P : T → Type 0) (b : Bool) (x y : Option T) → (b ≡ true → IfSome x P) → (b ≡ false → IfSome y P) → IfSome (cond b x y) P
+either P true x y f g = f refl
+either P false x y f g = g refl
 
-none : (w : List ℕ) → Sound None w
-none w t e = cc
-
-one : (t : Token) (w : List ℕ) → Spells w t → Sound (Some t) w
-one t w h u e =
-    let same : t ≡ u = cc in
-    subst (λ v. Spells w v) same h
+-- a letter that was compared
+pub at_letter : {T : Type 0} (P : List ℕ → T → Type 0) (c l : ℕ) (o : Option T) (more : List ℕ) → IfSome o (P (l ∷ more)) → (c == l) ≡ true → IfSome o (P (c ∷ more))
+at_letter P c l o more h e =
+    let Q : ℕ → Type 0 = λ x. IfSome o (P (x ∷ more)) in
+    subst Q (sym (eqb-true c l e)) h
 
 letter : (c l : ℕ) → (c == l) ≡ true → l ∷ [] ≡ c ∷ []
 letter c l e = ap (λ x. x ∷ []) (sym (eqb-true c l e))
 
-letter_sound : (c : ℕ) → Sound (letter_token c) (c ∷ [])
+letter_sound : (c : ℕ) → IfSome (letter_token c) (Spells (c ∷ []))
 letter_sound c =
-    either (c == 85) _ _ _ (λ e. one tk.Bus _ (tt, letter c 85 e))
-    (λ _. either (c == 76) _ _ _ (λ e. one tk.Lead _ (tt, letter c 76 e))
-    (λ _. either (c == 84) _ _ _ (λ e. one tk.Trail _ (tt, letter c 84 e))
-    (λ _. either (c == 88) _ _ _ (λ e. one tk.End _ (tt, letter c 88 e)) (λ _. none _))))
+    either _ (c == 85) _ _ (λ e. (tt, letter c 85 e))
+    (λ _. either _ (c == 76) _ _ (λ e. (tt, letter c 76 e))
+    (λ _. either _ (c == 84) _ _ (λ e. (tt, letter c 84 e))
+    (λ _. either _ (c == 88) _ _ (λ e. (tt, letter c 88 e)) (λ _. tt))))
 
 from_within : (low b high : ℕ) → is_within low b high ≡ true → (low ≤ b) × (b ≤ high)
 from_within low b high h =
     let both = and_parts (nat_le low b) (nat_le b high) h in
     (leb-true low b both.0, leb-true b high both.1)
 
-narrow_sound : (d : ℕ) → Sound (narrow d) (66 ∷ d ∷ [])
-narrow_sound d =
-    either (is_within 49 d 57) _ _ _ (λ e. one (tk.Branch (d - 48)) _ (spelled (from_within 49 d 57 e))) (λ _. none _)
+narrow_sound : (d : ℕ) → IfSome (narrow d) (Spells (66 ∷ d ∷ []))
+narrow_sound d = either _ (is_within 49 d 57) _ _ (λ e. spelled (from_within 49 d 57 e)) (λ _. tt)
   where
     spelled : (49 ≤ d) × (d ≤ 57) → Spells (66 ∷ d ∷ []) (tk.Branch (d - 48))
     spelled h =
@@ -108,21 +107,16 @@ narrow_sound d =
 abbrev TokenOfLun : ℕ → (ℕ → Token) → Type 0
 TokenOfLun letter token = (l : ℕ) → l < 8 → Spells (letter ∷ digit l ∷ []) (token l)
 
-lun_by : (letter d : ℕ) (token : ℕ → Token) (b : Bool) → TokenOfLun letter token → is_within 48 d 55 ≡ b → Sound (lun_token token (cond b (Some (d - 48)) None)) (letter ∷ d ∷ [])
-lun_by letter d token false spelled e = none _
+lun_by : (letter d : ℕ) (token : ℕ → Token) (b : Bool) → TokenOfLun letter token → is_within 48 d 55 ≡ b → IfSome (lun_token token (cond b (Some (d - 48)) None)) (Spells (letter ∷ d ∷ []))
+lun_by letter d token false spelled e = tt
 lun_by letter d token true spelled e =
     let in_range = from_within 48 d 55 e in
     let same : 48 + (d - 48) ≡ d = omega arith in
     let P : ℕ → Type 0 = λ x. Spells (letter ∷ x ∷ []) (token (d - 48)) in
-    one (token (d - 48)) _ (subst P same (spelled (d - 48) (omega arith)))
+    subst P same (spelled (d - 48) (omega arith))
 
-lun_sound : (letter d : ℕ) (token : ℕ → Token) → TokenOfLun letter token → Sound (lun_token token (lun_at d)) (letter ∷ d ∷ [])
+lun_sound : (letter d : ℕ) (token : ℕ → Token) → TokenOfLun letter token → IfSome (lun_token token (lun_at d)) (Spells (letter ∷ d ∷ []))
 lun_sound letter d token spelled = lun_by letter d token (is_within 48 d 55) spelled refl
-
-at_letter : (c l : ℕ) (o : Option Token) (more : List ℕ) → Sound o (l ∷ more) → (c == l) ≡ true → Sound o (c ∷ more)
-at_letter c l o more h e =
-    let P : ℕ → Type 0 = λ x. Sound o (x ∷ more) in
-    subst P (sym (eqb-true c l e)) h
 
 wide_spelled : (d e : ℕ) → (49 ≤ d) × (d ≤ 57) → (48 ≤ e) × (e ≤ 57) → Spells (66 ∷ d ∷ e ∷ []) (tk.Branch ((d - 48) * 10 + (e - 48)))
 wide_spelled d e h k =
@@ -131,26 +125,26 @@ wide_spelled d e h k =
     let ones : 48 + ((d - 48) * 10 + (e - 48)) % 10 ≡ e = omega arith in
     ((omega arith, omega arith), rw (le-ltb ((d - 48) * 10 + (e - 48)) 10 (omega arith), tens, ones))
 
-wide_sound : (d e : ℕ) → Sound (wide d e) (66 ∷ d ∷ e ∷ [])
+wide_sound : (d e : ℕ) → IfSome (wide d e) (Spells (66 ∷ d ∷ e ∷ []))
 wide_sound d e =
-    either (is_within 49 d 57 && is_within 48 e 57) _ _ _ (λ h. one _ _ (spelled (and_parts (is_within 49 d 57) (is_within 48 e 57) h))) (λ _. none _)
+    either _ (is_within 49 d 57 && is_within 48 e 57) _ _ (λ h. spelled (and_parts (is_within 49 d 57) (is_within 48 e 57) h)) (λ _. tt)
   where
     spelled : (is_within 49 d 57 ≡ true) × (is_within 48 e 57 ≡ true) → Spells (66 ∷ d ∷ e ∷ []) (tk.Branch ((d - 48) * 10 + (e - 48)))
     spelled h = wide_spelled d e (from_within 49 d 57 h.0) (from_within 48 e 57 h.1)
 
-numbered_sound : (c d : ℕ) → Sound (numbered c d) (c ∷ d ∷ [])
+numbered_sound : (c d : ℕ) → IfSome (numbered c d) (Spells (c ∷ d ∷ []))
 numbered_sound c d =
-    either (c == 66) _ _ _ (at_letter c 66 (narrow d) (d ∷ []) (narrow_sound d))
-    (λ _. either (c == 68) _ _ _ (at_letter c 68 (lun_token tk.Die (lun_at d)) (d ∷ []) (lun_sound 68 d tk.Die (λ l h. (h, refl))))
-    (λ _. either (c == 89) _ _ _ (at_letter c 89 (lun_token tk.Yield (lun_at d)) (d ∷ []) (lun_sound 89 d tk.Yield (λ l h. (h, refl)))) (λ _. none _)))
+    either _ (c == 66) _ _ (at_letter Spells c 66 (narrow d) (d ∷ []) (narrow_sound d))
+    (λ _. either _ (c == 68) _ _ (at_letter Spells c 68 (lun_token tk.Die (lun_at d)) (d ∷ []) (lun_sound 68 d tk.Die (λ l h. (h, refl))))
+    (λ _. either _ (c == 89) _ _ (at_letter Spells c 89 (lun_token tk.Yield (lun_at d)) (d ∷ []) (lun_sound 89 d tk.Yield (λ l h. (h, refl)))) (λ _. tt)))
 
 -- what a word spells has that spelling
-pub token_of_sound : (w : List ℕ) (t : Token) → token_of w ≡ Some t → Spells w t
-token_of_sound [] = none []
+pub token_of_sound : (w : List ℕ) → IfSome (token_of w) (Spells w)
+token_of_sound [] = tt
 token_of_sound (c ∷ []) = letter_sound c
 token_of_sound (c ∷ d ∷ []) = numbered_sound c d
-token_of_sound (c ∷ d ∷ e ∷ []) = either (c == 66) _ _ _ (at_letter c 66 (wide d e) (d ∷ e ∷ []) (wide_sound d e)) (λ _. none _)
-token_of_sound (c ∷ d ∷ e ∷ f ∷ more) = none (c ∷ d ∷ e ∷ f ∷ more)
+token_of_sound (c ∷ d ∷ e ∷ []) = either _ (c == 66) _ _ (at_letter Spells c 66 (wide d e) (d ∷ e ∷ []) (wide_sound d e)) (λ _. tt)
+token_of_sound (c ∷ d ∷ e ∷ f ∷ more) = tt
 
 pub no_token : (w : List ℕ) → token_of w ≡ None → NoToken w
 no_token w e t h spelled =
@@ -163,7 +157,7 @@ no_token_of w h = known (token_of w) refl
   where
     known : (o : Option Token) → token_of w ≡ o → token_of w ≡ None
     known None e = e
-    known (Some t) e = let s = token_of_sound w t e in absurd (h t s.0 s.1)
+    known (Some t) e = let s = found_is (Spells w) (token_of w) t e (token_of_sound w) in absurd (h t s.0 s.1)
 
 -- the word in front is this token's
 pub token_in_front : (t : Token) (text rest : List ℕ) → InRange t → Ends rest → text ≡ spelling t ++ rest → (token_of (word text) ≡ Some t) × (behind_word text ≡ rest)
@@ -175,5 +169,5 @@ token_in_front t text rest h ends e = (
 -- so the text begins with its spelling
 pub front_token : (t : Token) (text : List ℕ) → token_of (word text) ≡ Some t → InRange t × (text ≡ spelling t ++ behind_word text)
 front_token t text e =
-    let s = token_of_sound (word text) t e in
+    let s = found_is (Spells (word text)) (token_of (word text)) t e (token_of_sound (word text)) in
     (s.0, sym (word-behind_word text) ∙ ap (λ w. w ++ behind_word text) (sym s.1))

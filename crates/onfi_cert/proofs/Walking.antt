@@ -1,7 +1,6 @@
 -- Reading a line token by token.
 use Rattle.std.proofs.Common.{◌≡◌, ◌<◌, ◌≤◌, inl, inr, ℕ, zero, suc, ◌+◌, ◌-◌, List, [], ◌∷◌, ◌++◌, Bool, cond, length, refl, sym, ap, ◌∙◌, subst, arith, append_assoc}
 use Rattle.std.specs.Prelude.{Option, Some, None, Result, Ok, Err, All, nat_lt}
-use Rattle.std.specs.List.{flat_map}
 use Rattle.std.proofs.lemmas.Bool.{cases_lt, lt-ltb, le-ltb, ne_eqb}
 use Rattle.std.proofs.lemmas.List.Elements.{All-nil, All-cons, All-head, All-tail}
 use Rattle.onfi_cert.specs.declared.token.Token.{Token}
@@ -12,6 +11,7 @@ use Rattle.onfi_cert.specs.Text.{InRange, spelling}
 use Rattle.onfi_cert.specs.Word.{NoToken, behind_word, token_of, word}
 use Rattle.onfi_cert.specs.Reading.{Ahead}
 use Rattle.onfi_cert.specs.Ahead.{ahead_of, found, from, later, next_of, step, token_in, walk, walked}
+use Rattle.onfi_cert.proofs.Fronted.{fronted_of, fronted_ends}
 use Rattle.onfi_cert.proofs.Words.{Ends, behind_word_ends}
 use Rattle.onfi_cert.proofs.Spellings.{front_token, no_token, no_token_of, token_in_front}
 
@@ -64,7 +64,7 @@ gives_fault strict place text f ahead h e same =
 
 -- the tokens with a space in front of each
 abbrev pub fronted : List Token → List ℕ
-fronted ts = flat_map (λ t. 32 ∷ spelling t) ts
+fronted ts = fronted_of spelling ts
 
 -- what is wrong behind n tokens
 pub data Wrong (n : ℕ) (tail : List ℕ) : Type 0 where
@@ -161,10 +161,6 @@ stops_end n (Some fault.TooLong) tail s = subst Ends (sym s.1.1) (inr refl)
 stops_end n (Some fault.Header) tail s = absurd s
 stops_end n (Some fault.Memory) tail s = absurd s
 
-fronted_ends : (ts : List Token) (tail : List ℕ) → Ends tail → Ends (fronted ts ++ tail)
-fronted_ends [] tail h = h
-fronted_ends (t ∷ ts) tail h = inr refl
-
 -- a line that stops here is read so
 stop_again : (place n : ℕ) (e : Option CertTextFault) (tail : List ℕ) (next : List ℕ → List Token × Option CertTextFault) → place ≡ n → Stops n e tail → walked (step place tail) next ≡ ([], e)
 stop_again place n None tail next same s = ap (λ x. walked (step place x) next) s
@@ -213,6 +209,6 @@ walk_complete (t ∷ ts) (suc n) place e tail all h few s =
     let below : place + 1 + n ≡ MOST_TOKENS + 1 = omega arith in
     let count : place + suc (length ts) ≡ place + 1 + length ts = omega arith in
     let further = subst (λ k. Stops k e tail) count s in
-    let ends = fronted_ends ts tail (stops_end _ e tail s) in
+    let ends = fronted_ends spelling ts tail (stops_end _ e tail s) in
     token_again place t ((spelling t ++ fronted ts) ++ tail) (fronted ts ++ tail) (walk n (place + 1)) (ts, e) (omega arith) (All-head InRange t ts h) ends
     (append_assoc (spelling t) (fronted ts) tail) (walk_complete ts n (place + 1) e tail below (All-tail InRange t ts h) (omega arith) further)

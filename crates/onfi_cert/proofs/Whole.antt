@@ -1,5 +1,5 @@
 -- A whole text: its header, and the line behind it.
-use Rattle.std.proofs.Common.{◌≡◌, ◌⊎◌, ◌≤◌, inl, inr, ℕ, ◌+◌, List, [], ◌∷◌, ◌++◌, Bool, true, false, length, drop, get_or, refl, sym, ap, ◌∙◌, subst, arith, append_assoc, append-nil, ap₂}
+use Rattle.std.proofs.Common.{◌≡◌, ◌⊎◌, ◌≤◌, inl, inr, ℕ, ◌+◌, List, [], ◌∷◌, ◌++◌, Bool, true, false, cond, length, drop, get_or, refl, sym, ap, ◌∙◌, subst, arith, append_assoc, append-nil, ap₂}
 use Rattle.std.specs.Prelude.{Option, Some, None, Result, Ok, Err, All, ◌≢◌, IfOk, IfErr, MatchResult}
 use Rattle.std.proofs.lemmas.Bool.{cases_eq, ne_eqb, eq-eqb}
 use Rattle.onfi_cert.specs.declared.token.Token.{Token}
@@ -9,19 +9,12 @@ use Rattle.onfi_cert.specs.declared.fault.CertTextFault.TheVariants as fault
 use Rattle.onfi_cert.specs.declared.limits.TheConstants.{MOST_TOKENS}
 use Rattle.onfi_cert.specs.Text.{InRange, IsCertificate, digit, header, joined, line, number, spelling, text_of}
 use Rattle.onfi_cert.specs.Word.{NoToken}
-use Rattle.onfi_cert.specs.Reading.{Ahead, EndsBy, Holds, IsFaultOf, NoHeader, Reads, spaced}
+use Rattle.onfi_cert.specs.Reading.{Ahead, BeginsWithNeither, EndsBy, Holds, IsFaultOf, NoHeader, Reads, spaced}
 use Rattle.onfi_cert.specs.Reading.IsWrongAfter.{no_token, no_end, goes_on}
 use Rattle.onfi_cert.specs.Ahead.{ahead_of, led, walk}
+use Rattle.onfi_cert.proofs.Fronted.{fronted_line}
 use Rattle.onfi_cert.proofs.Words.{Ends}
 use Rattle.onfi_cert.proofs.Walking.{Stops, cut, on, bad, fronted, walk_sound, walk_complete}
-
-fronted_joined : (t : Token) (ts : List Token) → fronted (t ∷ ts) ≡ 32 ∷ joined (t ∷ ts)
-fronted_joined t [] = ap (λ x. 32 ∷ x) (append-nil (spelling t))
-fronted_joined t (u ∷ ts) = ap (λ x. 32 ∷ (spelling t ++ x)) (fronted_joined u ts)
-
--- joined tokens with this behind them
-fronted_line : (t : Token) (ts : List Token) (tail : List ℕ) → fronted (t ∷ ts) ++ tail ≡ 32 ∷ (joined (t ∷ ts) ++ tail)
-fronted_line t ts tail = ap (λ x. x ++ tail) (fronted_joined t ts)
 
 fronted_spaced : (ts : List Token) (more : List ℕ) → fronted ts ++ 32 ∷ more ≡ 32 ∷ (spaced ts ++ more)
 fronted_spaced [] more = refl
@@ -98,7 +91,7 @@ cut_front x xs ys e = cc
 
 behind_tokens : (bytes : List ℕ) (t : Token) (ts : List Token) (tail rest : List ℕ) → 32 ∷ bytes ≡ fronted (t ∷ ts) ++ tail → tail ≡ rest → bytes ≡ joined (t ∷ ts) ++ rest
 behind_tokens bytes t ts tail rest e f =
-    cut_front 32 bytes (joined (t ∷ ts) ++ rest) (e ∙ fronted_line t ts tail ∙ ap (λ x. 32 ∷ (joined (t ∷ ts) ++ x)) f)
+    cut_front 32 bytes (joined (t ∷ ts) ++ rest) (e ∙ fronted_line spelling t ts tail ∙ ap (λ x. 32 ∷ (joined (t ∷ ts) ++ x)) f)
 
 behind_space : (bytes : List ℕ) (ts : List Token) (tail more : List ℕ) → 32 ∷ bytes ≡ fronted ts ++ tail → tail ≡ 32 ∷ more → bytes ≡ spaced ts ++ more
 behind_space bytes ts tail more e f =
@@ -147,7 +140,7 @@ led_by bytes front rest other e = led_other bytes other ∙ e
 
 joined_by : (t : Token) (ts : List Token) (bytes rest : List ℕ) → bytes ≡ joined (t ∷ ts) ++ rest → led bytes ≡ fronted (t ∷ ts) ++ rest
 joined_by t ts bytes rest e =
-    led_by bytes (fronted (t ∷ ts)) rest (λ f. not_empty t ts rest (sym e ∙ f)) (ap (λ x. 32 ∷ x) e ∙ sym (fronted_line t ts rest))
+    led_by bytes (fronted (t ∷ ts)) rest (λ f. not_empty t ts rest (sym e ∙ f)) (ap (λ x. 32 ∷ x) e ∙ sym (fronted_line spelling t ts rest))
 
 -- how its walk stops, from how a line ends
 pub stops_by : (ts : List Token) (bytes : List ℕ) (e : Option CertTextFault) → EndsBy ts bytes e → StopsBy ts bytes e
@@ -264,9 +257,9 @@ one_fault text (fault.BadToken p) f h k = same_some _ _ (sym h.1.1 ∙ fault_hol
 one_fault text fault.TooLong f h k = same_some _ _ (sym h.1.1 ∙ fault_holds text h.0 f h.1.0 k)
 one_fault text fault.Memory f h k = same_some _ _ (sym h.1.1 ∙ fault_holds text h.0 f h.1.0 k)
 
-pub neither : (text : List ℕ) → ((rest : List ℕ) → text ≢ header false ++ rest) → ((rest : List ℕ) → text ≢ header true ++ rest) → NoHeader text
-neither text plain strict true = strict
-neither text plain strict false = plain
+pub neither : (plain strict text : List ℕ) → ((rest : List ℕ) → text ≢ plain ++ rest) → ((rest : List ℕ) → text ≢ strict ++ rest) → BeginsWithNeither (λ option. cond option strict plain) text
+neither plain strict text one other true = other
+neither plain strict text one other false = one
 
 pub read_again : (strict : Bool) (tokens : List Token) → All InRange tokens → length tokens ≤ MOST_TOKENS → (answer : Result (Bool × List Token) CertTextFault)
     → Reads (text_of strict tokens) answer → (answer ≡ Ok (strict, tokens)) ⊎ (answer ≡ Err fault.Memory)

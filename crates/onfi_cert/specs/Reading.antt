@@ -43,9 +43,13 @@ pub record Holds (text : List ℕ) (ahead : Ahead) : Type 0 where
   pub spelled : text ≡ header ahead.strict ++ bytes
   pub ends : EndsBy ahead.tokens bytes ahead.fault
 
--- the text begins with neither header
+-- the text begins with neither of two headers
+abbrev pub BeginsWithNeither : (Bool → List ℕ) → List ℕ → Type 0
+BeginsWithNeither header text = (strict : Bool) (bytes : List ℕ) → text ≢ header strict ++ bytes
+
+-- .. of a certificate
 abbrev pub NoHeader : List ℕ → Type 0
-NoHeader text = (strict : Bool) (bytes : List ℕ) → text ≢ header strict ++ bytes
+NoHeader text = BeginsWithNeither header text
 
 -- why the text is no certificate
 abbrev pub IsFaultOf : List ℕ → CertTextFault → Type 0

@@ -33,13 +33,21 @@ spelling (tk.Die lun) = codes "D" ++ digit lun ∷ []
 spelling (tk.Yield lun) = codes "Y" ++ digit lun ∷ []
 spelling tk.End = codes "X"
 
+-- tokens of a kind with a space between each two
+abbrev pub joined_of : {T : Type 0} → (T → List ℕ) → List T → List ℕ
+joined_of spelling tokens = join_with_byte 32 (map spelling tokens)
+
+-- .. and LF behind them
+abbrev pub line_of : {T : Type 0} → (T → List ℕ) → List T → List ℕ
+line_of spelling tokens = joined_of spelling tokens ++ 10 ∷ []
+
 -- the tokens with a space between each two
 abbrev pub joined : List Token → List ℕ
-joined tokens = join_with_byte 32 (map spelling tokens)
+joined tokens = joined_of spelling tokens
 
 -- the line of tokens, with its LF
 abbrev pub line : List Token → List ℕ
-line tokens = joined tokens ++ 10 ∷ []
+line tokens = line_of spelling tokens
 
 abbrev pub header : Bool → List ℕ
 header strict = if strict then codes "ONFICERT 2 strict\n" else codes "ONFICERT 1\n"

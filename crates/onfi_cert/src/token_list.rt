@@ -2,41 +2,41 @@
 ghost use Rattle.std.specs.Prelude.{◌≡◌};
 
 use crate::source::TokenSource;
-use crate::token::Token;
 use std::marker::Model;
 
 /// The tokens of a list, from the front on. Contracts see the list of those that are left.
 #[derive(Drop)]
-pub struct TokenList<'a> {
-    rest: &'a [Token],
+pub struct TokenList<'a, T> {
+    rest: &'a [T],
 }
 
-impl<'a> Model for TokenList<'a> {
+impl<'a, T> Model for TokenList<'a, T> {
     ghost use Rattle.std.specs.Prelude.{List};
-    ghost use Rattle.onfi_cert.specs.declared.token.Token.{Token};
 
-    ghost Value = { List Token };
+    ghost Value = { List T };
 
     ghost view = { λ l. l.rest.now };
 }
 
-impl<'a> TokenList<'a> {
+impl<'a, T> TokenList<'a, T> {
     /// All tokens of the list.
-    pub fn new(tokens: &'a [Token]) -> TokenList<'a>
+    pub fn new(tokens: &'a [T]) -> TokenList<'a, T>
         ensures { result ≡ tokens.now }
     {
         TokenList { rest: tokens }
     }
 }
 
-impl<'a> TokenSource for TokenList<'a> {
-    ghost use Rattle.std.specs.Prelude.{None};
+impl<'a, T: Copy> TokenSource for TokenList<'a, T> {
+    type Token = T;
+
+    ghost Behind = { Unit {0} };
 
     ghost left = { λ l. l };
 
-    ghost behind = { λ l. None };
+    ghost behind = { λ l. tt };
 
-    fn next(&mut self) -> Option<Token> {
+    fn next(&mut self) -> Option<T> {
         match self.rest {
             [token, rest @ ..] => {
                 self.rest = rest;

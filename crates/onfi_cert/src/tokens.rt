@@ -94,6 +94,13 @@ impl<'a> Tokens<'a> {
 }
 
 impl<'a> TokenSource for Tokens<'a> {
+    ghost use Rattle.std.specs.Prelude.{Option};
+    ghost use Rattle.onfi_cert.specs.declared.fault.CertTextFault.{CertTextFault};
+
+    type Token = Token;
+
+    ghost Behind = { Option CertTextFault };
+
     ghost left = { λ t. t.tokens };
 
     ghost behind = { λ t. t.fault };

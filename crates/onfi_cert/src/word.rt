@@ -58,7 +58,7 @@ fn numbered(letter: u8, digit: u8) -> Option<Token>
 }
 
 /// The token that a word spells.
-pub(crate) fn token_of(word: &[u8]) -> Option<Token>
+pub fn token_of(word: &[u8]) -> Option<Token>
     ensures { result ≡ token_of word.now }
 {
     match word {
@@ -88,7 +88,7 @@ fn word_len(text: &[u8]) -> usize
 }
 
 /// The bytes up to the next space or LF, and what stands behind them.
-pub(crate) fn cut_word(text: &[u8]) -> (&[u8], &[u8])
+pub fn cut_word(text: &[u8]) -> (&[u8], &[u8])
     ensures word { result.0.now ≡ word text.now }
     ensures behind { result.1.now ≡ behind_word text.now }
 {

@@ -1,9 +1,11 @@
 //! From tokens to text.
 ghost use Rattle.std.specs.Prelude.{◌≡◌, ◌<◌, ◌⊎◌, ◌↔◌, ◌++◌, All, length, IfOk, IfErr, OnOk};
-ghost use Rattle.onfi_cert.specs.Text.{InRange, IsCertificate, line, number, spelling, text_of};
+ghost use Rattle.onfi_cert.specs.Text.{IsCertificate, line_of, number};
 
 use crate::fault::CertTextFault;
+use crate::header::header;
 use crate::limits::MOST_TOKENS;
+use crate::spelled::Spelled;
 use crate::token::Token;
 use crate::width::Width;
 use std::alloc::{AllocError, Global};
@@ -19,49 +21,58 @@ fn put_width(out: &mut Vec<u8>, width: Width) -> Result<(), AllocError>
     }
 }
 
-fn put_token(out: &mut Vec<u8>, token: Token) -> Result<(), AllocError>
-    ensures spelled { OnOk result (out.new.items ≡ out.old.items ++ spelling token) }
-    ensures in_range { OnOk result (InRange token) }
-{
-    match token {
-        Token::Branch(width) => {
-            out.push(b'B')?;
-            put_width(out, width)
+impl Spelled for Token {
+    ghost use Rattle.onfi_cert.specs.Text.{InRange, spelling as spelling_of};
+
+    ghost spelling = { spelling_of };
+
+    ghost Kept = { InRange };
+
+    fn put(self, out: &mut Vec<u8>) -> Result<(), AllocError> {
+        match self {
+            Token::Branch(width) => {
+                out.push(b'B')?;
+                put_width(out, width)
+            }
+            Token::Bus => out.extend_from_slice(b"U"),
+            Token::Lead => out.extend_from_slice(b"L"),
+            Token::Trail => out.extend_from_slice(b"T"),
+            Token::Die(lun) => out.extend_from_slice(&[b'D', b'0' + lun.get()]),
+            Token::Yield(lun) => out.extend_from_slice(&[b'Y', b'0' + lun.get()]),
+            Token::End => out.extend_from_slice(b"X"),
         }
-        Token::Bus => out.extend_from_slice(b"U"),
-        Token::Lead => out.extend_from_slice(b"L"),
-        Token::Trail => out.extend_from_slice(b"T"),
-        Token::Die(lun) => out.extend_from_slice(&[b'D', b'0' + lun.get()]),
-        Token::Yield(lun) => out.extend_from_slice(&[b'Y', b'0' + lun.get()]),
-        Token::End => out.extend_from_slice(b"X"),
     }
 }
 
-/// Appends the line of the tokens.
-fn put_line(out: &mut Vec<u8>, tokens: &[Token]) -> Result<(), AllocError>
-    ensures spelled { OnOk result (out.new.items ≡ out.old.items ++ line tokens.now) }
-    ensures in_range { OnOk result (All InRange tokens.now) }
+// Appends the line of the tokens.
+fn put_line<T: Spelled>(out: &mut Vec<u8>, tokens: &[T]) -> Result<(), AllocError>
+    ensures spelled { OnOk result (out.new.items ≡ out.old.items ++ line_of T.spelling tokens.now) }
+    ensures kept { OnOk result (All T.Kept tokens.now) }
 {
     for (at, token) in tokens.iter().enumerate() {
         if at > 0 {
             out.push(b' ')?;
         }
-        put_token(out, *token)?;
+        token.put(out)?;
     }
     out.push(b'\n')?;
     Ok(())
 }
 
-fn put_text(alloc: Global, strict: bool, tokens: &[Token]) -> Result<Vec<u8>, AllocError>
-    ensures spelled { IfOk result (λ text. text.items ≡ text_of strict tokens.now) }
-    ensures in_range { OnOk result (All InRange tokens.now) }
+/// A header line, and behind it the tokens with a space between each two and LF at their end.
+///
+/// # Errors
+/// Only where memory was refused.
+pub fn text_behind<T: Spelled>(
+    alloc: Global,
+    header: &[u8],
+    tokens: &[T],
+) -> Result<Vec<u8>, AllocError>
+    ensures spelled { IfOk result (λ text. text.items ≡ header.now ++ line_of T.spelling tokens.now) }
+    ensures kept { OnOk result (All T.Kept tokens.now) }
 {
     let mut out = Vec::new(alloc);
-    if strict {
-        out.extend_from_slice(b"ONFICERT 2 strict\n")?;
-    } else {
-        out.extend_from_slice(b"ONFICERT 1\n")?;
-    }
+    out.extend_from_slice(header)?;
     put_line(&mut out, tokens)?;
     Ok(out)
 }
@@ -78,7 +89,7 @@ pub fn write(alloc: Global, strict: bool, tokens: &[Token]) -> Result<Vec<u8>, C
     if tokens.len() > MOST_TOKENS as usize {
         return Err(CertTextFault::TooLong);
     }
-    match put_text(alloc, strict, tokens) {
+    match text_behind(alloc, header(strict), tokens) {
         Ok(text) => Ok(text),
         Err(_) => Err(CertTextFault::Memory),
     }

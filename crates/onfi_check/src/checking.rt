@@ -6,15 +6,14 @@ ghost use Rattle.onfi_check.specs.Faults.{IsCertFault, IsTextFault};
 ghost use Rattle.onfi_check.specs.Tree.{AcceptsTokens};
 
 use crate::fault::{CertFault, TextFault};
-use crate::numbered::Numbered;
 use crate::walk::read_whole;
-use onfi_cert::{Token, TokenList, TokenSource, Tokens};
+use onfi_cert::{Numbered, Token, TokenList, TokenSource, Tokens};
 use onfi_problem::Problem;
 use onfi_schedule::{Schedule, finish, legal};
 use std::alloc::Global;
 
 // Checks a schedule by the tokens of a source.
-fn check_source<S: TokenSource>(
+fn check_source<S: TokenSource<Token = Token>>(
     alloc: Global,
     problem: &Problem,
     schedule: &Schedule,

@@ -47,8 +47,8 @@ pub(crate) fn trail_closes_after(problem: &Problem, bounds: NodeBounds, m: Move,
     bounds.commands.trail_reaches_after(problem, m, e)
 }
 
-// Whether nothing is left and so much time has passed.
-fn is_over(problem: &Problem, e: u64) -> bool
+/// Whether nothing is left of a problem and the bus is free at `e` ns or later, which closes a node for the finish `e`.
+pub fn is_over(problem: &Problem, e: u64) -> bool
     ensures { IsTrue result ↔ Closes problem.now.problem e AtEnd }
 {
     problem.bus_free() >= e && problem.steps().is_empty()

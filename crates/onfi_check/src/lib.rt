@@ -10,11 +10,11 @@ mod closes;
 mod ends;
 mod fault;
 mod laws;
-mod numbered;
 mod walk;
 mod yields;
 
 pub use checking::{check, check_text};
+pub use closes::is_over;
 pub use ends::last_ends;
 pub use fault::{CertFault, TextFault};
 pub use laws::{accepted_is_optimal, accepted_is_refused_for_memory_alone};

@@ -14,10 +14,9 @@ ghost use Rattle.onfi_check.specs.Tree.{AcceptsTokens, Closes, Closing, token_of
 
 use crate::closes::{bus_closes_after, closes, trail_closes_after};
 use crate::fault::CertFault;
-use crate::numbered::Numbered;
 use crate::yields::{Standing, take_yield};
 use onfi_bound::NodeBounds;
-use onfi_cert::{Token, TokenSource, Width};
+use onfi_cert::{Numbered, Token, TokenSource, Width};
 use onfi_problem::{Move, Moves, Problem};
 
 // What speaks against a token that closes no node, told at that place.
@@ -104,7 +103,7 @@ fn read_trail(
 // # Errors
 // The first fault in reading order. Then the problem may be one within the tree.
 #[cycle(read)]
-fn read_tree<S: TokenSource>(
+fn read_tree<S: TokenSource<Token = Token>>(
     problem: &mut Problem,
     e: u64,
     bounds: NodeBounds,
@@ -132,7 +131,7 @@ fn read_tree<S: TokenSource>(
 // Reads the tree of a branch, which was taken already. A function of its own, so that a token that closes a node
 // makes no room for moves.
 #[cycle(read)]
-fn read_branch<S: TokenSource>(
+fn read_branch<S: TokenSource<Token = Token>>(
     problem: &mut Problem,
     e: u64,
     bounds: NodeBounds,
@@ -161,7 +160,7 @@ fn read_branch<S: TokenSource>(
 
 // Reads a child for each move of a node.
 #[cycle(read)]
-fn read_children<S: TokenSource>(
+fn read_children<S: TokenSource<Token = Token>>(
     problem: &mut Problem,
     e: u64,
     bounds: NodeBounds,
@@ -194,7 +193,7 @@ fn read_children<S: TokenSource>(
 
 // Reads the child of one of the moves of a node: a yield, or a tree.
 #[cycle(read)]
-fn read_child<S: TokenSource>(
+fn read_child<S: TokenSource<Token = Token>>(
     problem: &mut Problem,
     e: u64,
     bounds: NodeBounds,
@@ -232,7 +231,7 @@ fn read_child<S: TokenSource>(
 
 // Reads the tree behind a move, whose first token was taken already.
 #[cycle(read)]
-fn read_below<S: TokenSource>(
+fn read_below<S: TokenSource<Token = Token>>(
     problem: &mut Problem,
     e: u64,
     bounds: NodeBounds,
@@ -266,7 +265,7 @@ fn read_below<S: TokenSource>(
 /// # Errors
 /// The first fault in reading order: `Short`, `Width`, `BoundLow`, `YieldLoop`, `YieldNoFit` or `NotEnd`, else
 /// `Trailing` at the first token behind the tree. Then the problem may be one within the tree.
-pub(crate) fn read_whole<S: TokenSource>(
+pub(crate) fn read_whole<S: TokenSource<Token = Token>>(
     problem: &mut Problem,
     e: u64,
     tokens: &mut Numbered<S>,

@@ -1,12 +1,11 @@
 -- What a reader of a text gives.
-use Rattle.std.proofs.Common.{◌≡◌, ◌<◌, ◌≤◌, ℕ, zero, suc, ◌+◌, List, [], ◌∷◌, ◌++◌, Bool, true, false, not, cond, length, get_or, drop, refl, sym, ap, ◌∙◌, subst, arith, inl, inr, append_assoc, append-nil, length-append}
-use Rattle.std.specs.Prelude.{Option, Some, None, ◌==◌, ◌≢◌, ◌↔◌, IsTrue, All, map}
-use Rattle.std.specs.List.{flat_map, join_with_byte}
+use Rattle.std.proofs.Common.{◌≡◌, ◌<◌, ◌≤◌, ℕ, zero, suc, ◌+◌, List, [], ◌∷◌, ◌++◌, Bool, true, false, not, cond, length, get_or, drop, refl, sym, ap, ◌∙◌, subst, arith, inl, append_assoc, length-append}
+use Rattle.std.specs.Prelude.{Option, Some, None, ◌==◌, ◌≢◌, ◌↔◌, IsTrue, All}
 use Rattle.std.proofs.lemmas.Bool.{eqb-true}
 use mathlib.Core.Bool.{beq}
 use Rattle.std.proofs.lemmas.List.Elements.{All-nil, All-cons, All-head, All-tail}
 use Rattle.onfi_cert.specs.Word.{word, behind_word}
-use Rattle.onfi_cert.proofs.Words.{Ends}
+use Rattle.onfi_cert.proofs.Fronted.{fronted_of, fronted_ends, fronted_line}
 use Rattle.onfi_known.specs.declared.token.Token.{Token}
 use Rattle.onfi_known.specs.Faults.{NoHeader}
 use Rattle.onfi_known.specs.Text.{InRange, IsCertificate, header, line, spelling}
@@ -90,7 +89,7 @@ rest_behind begun text e = by_next (next_in (led begun text)) refl
 
 -- the tokens with a space in front of each
 abbrev fronted : List Token → List ℕ
-fronted ts = flat_map (λ t. 32 ∷ spelling t) ts
+fronted ts = fronted_of spelling ts
 
 record Sound (text : List ℕ) (a : Ahead) : Type 0 where
   in_range : All InRange a.tokens
@@ -112,10 +111,6 @@ unfolding walk
 walk_sound zero text = record { in_range = All-nil InRange; spelled = refl }
 walk_sound (suc n) text = taken_sound text (next_in text) (walk n) refl (λ p. walk_sound n p.1)
 
-fronted_ends : (ts : List Token) → Ends (fronted ts ++ 10 ∷ [])
-fronted_ends [] = inl refl
-fronted_ends (t ∷ ts) = inr refl
-
 -- what stands there is read
 walk_complete : (ts : List Token) (n : ℕ) → All InRange ts → length (fronted ts ++ 10 ∷ []) ≤ n → walk n (fronted ts ++ 10 ∷ []) ≡ record { tokens = ts; behind = 10 ∷ [] }
 unfolding walk
@@ -127,20 +122,13 @@ walk_complete (t ∷ ts) (suc n) h few =
     let text = (spelling t ++ fronted ts) ++ 10 ∷ [] in
     let whole : text ≡ spelling t ++ rest = append_assoc (spelling t) (fronted ts) (10 ∷ []) in
     let long = ap length whole ∙ length-append (spelling t) rest in
-    let front = token_in_front t text rest (All-head InRange t ts h) (fronted_ends ts) whole in
+    let front = token_in_front t text rest (All-head InRange t ts h) (fronted_ends spelling ts (10 ∷ []) (inl refl)) whole in
     let here : next_in (32 ∷ text) ≡ Some (t, rest) = ap (λ o. found (behind_word text) o) front.0 ∙ ap (λ z. Some (t, z)) front.1 in
     ap (λ o. taken (32 ∷ text) o (walk n)) here ∙ ap (λ (a : Ahead). record { tokens = t ∷ a.tokens; behind = a.behind }) (walk_complete ts n (All-tail InRange t ts h) (omega arith))
 
-abbrev joined : List Token → List ℕ
-joined ts = join_with_byte 32 (map spelling ts)
-
-fronted_joined : (t : Token) (ts : List Token) → fronted (t ∷ ts) ≡ 32 ∷ joined (t ∷ ts)
-fronted_joined t [] = ap (λ x. 32 ∷ x) (append-nil (spelling t))
-fronted_joined t (u ∷ ts) = ap (λ x. 32 ∷ (spelling t ++ x)) (fronted_joined u ts)
-
-fronted_line : (ts : List Token) → 1 ≤ length ts → fronted ts ++ 10 ∷ [] ≡ 32 ∷ line ts
-fronted_line [] h = absurd (omega arith)
-fronted_line (t ∷ ts) h = ap (λ x. x ++ 10 ∷ []) (fronted_joined t ts)
+some_line : (ts : List Token) → 1 ≤ length ts → fronted ts ++ 10 ∷ [] ≡ 32 ∷ line ts
+some_line [] h = absurd (omega arith)
+some_line (t ∷ ts) h = fronted_line spelling t ts (10 ∷ [])
 
 led_is : (bytes : List ℕ) → ahead_of false bytes ≡ walk (length bytes + 1) (32 ∷ bytes)
 unfolding ahead_of
@@ -157,12 +145,12 @@ certificate text strict bytes e behind =
     let sound = subst (Sound (32 ∷ bytes)) (sym (led_is bytes)) (walk_sound (length bytes + 1) (32 ∷ bytes)) in
     let spelled : 32 ∷ bytes ≡ fronted ts ++ 10 ∷ [] = sound.spelled ∙ ap (λ z. fronted ts ++ z) behind in
     let some = some_read ts bytes spelled in
-    let bytes_are : bytes ≡ line ts = ap (drop 1) (spelled ∙ fronted_line ts some) in
+    let bytes_are : bytes ≡ line ts = ap (drop 1) (spelled ∙ some_line ts some) in
     record { some = some; in_range = sound.in_range; spelled = e ∙ ap (λ z. header strict ++ z) bytes_are }
 
 pub line_read : (ts : List Token) → 1 ≤ length ts → All InRange ts → ahead_of false (line ts) ≡ record { tokens = ts; behind = 10 ∷ [] }
 line_read ts some h =
-    let same = fronted_line ts some in
+    let same = some_line ts some in
     let long = ap length same in
     led_is (line ts) ∙ ap (walk (length (line ts) + 1)) (sym same) ∙ walk_complete ts (length (line ts) + 1) h (omega arith)
 
@@ -177,10 +165,6 @@ pub reads : (text : List ℕ) (r strict : Bool) (bytes : List ℕ) (ts : List To
 reads text r strict bytes ts e c =
     let one = one_option r strict bytes (line ts) (sym e ∙ c.spelled) in
     (one.0, ap (ahead_of false) one.1 ∙ line_read ts c.some c.in_range)
-
-pub neither : (text : List ℕ) → ((rest : List ℕ) → text ≢ header false ++ rest) → ((rest : List ℕ) → text ≢ header true ++ rest) → NoHeader text
-neither text plain strict true = strict
-neither text plain strict false = plain
 
 -- a text without a header is no certificate
 pub no_certificate : (text : List ℕ) (strict : Bool) (ts : List Token) → NoHeader text → IsCertificate text strict ts → ⊥

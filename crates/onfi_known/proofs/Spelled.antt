@@ -1,10 +1,10 @@
 -- Which words are tokens.
-use Rattle.std.proofs.Common.{rules, ◌≡◌, ◌<◌, ◌≤◌, ℕ, zero, suc, ◌+◌, ◌^◌, List, [], ◌∷◌, ◌++◌, Bool, true, false, not, cond, length, get_or, take, drop, refl, sym, ap, ◌∙◌, subst, arith, append_assoc, length-append}
-use Rattle.std.specs.Prelude.{Option, Some, None, ◌==◌, ◌&&◌, nat_le, nat_lt, option_map, option_and_then, position, decimal}
+use Rattle.std.proofs.Common.{rules, ◌≡◌, ◌<◌, ℕ, zero, suc, ◌+◌, ◌^◌, List, [], ◌∷◌, ◌++◌, Bool, true, false, not, cond, length, get_or, take, drop, refl, sym, ap, ◌∙◌, arith, append_assoc, length-append}
+use Rattle.std.specs.Prelude.{IfSome, Option, Some, None, ◌==◌, ◌&&◌, nat_lt, option_map, option_and_then, position, decimal}
 use Rattle.std.specs.Char.{is_ascii_digit}
 use Rattle.std.specs.List.{list_all, position_or_len, before_first, after_first}
 use Rattle.std.specs.Str.Parse.{AllDigits, digits_value}
-use Rattle.std.proofs.lemmas.Bool.{lt-ltb, le-leb, leb-true, ltb-true, eqb-true, eqb-false, ne_eqb, and_parts}
+use Rattle.std.proofs.lemmas.Bool.{lt-ltb, ltb-true, eqb-true, eqb-false, ne_eqb, and_parts}
 use Rattle.std.proofs.lemmas.Bool.Decides.{nat_tests}
 use Rattle.std.proofs.lemmas.Fmt.{decimal_is_IsNumeral, decimal_digit, first_decimal, decimal-digits_value}
 use Rattle.std.proofs.lemmas.Str.Parse.{digit_from_value, numerals_by_value, IsNumeralModel}
@@ -12,13 +12,16 @@ use Rattle.std.proofs.lemmas.List.{drop_at}
 use Rattle.std.proofs.lemmas.List.Sums.{split_at_first, passes_at_first}
 use Rattle.std.proofs.Math.Seq.{take-append_seam}
 use Rattle.onfi_timing.specs.Decimal.{is_number, number_of}
-use Rattle.onfi_cert.specs.Word.{word, behind_word}
+use Rattle.onfi_cert.specs.declared.token.Token.{Token as PlainToken}
+use Rattle.onfi_cert.specs.declared.token.Token.TheVariants as plain_tk
+use Rattle.onfi_cert.specs.Word.{word, behind_word, token_of as plain_token_of}
+use Rattle.onfi_cert.proofs.Spellings.{at_letter, either, found_is, Spells as PlainSpells, plain as is_plain, spelling_again as plain_spelling_again, token_of_sound as plain_token_of_sound}
 use Rattle.onfi_cert.proofs.Words.{Ends, Plain, word-append, behind_word-append, word-behind_word}
 use Rattle.onfi_known.specs.declared.token.Token.{Token}
 use Rattle.onfi_known.specs.declared.token.Token.TheVariants as tk
 use Rattle.onfi_known.specs.declared.token.TheConstants.{MOST_KNOWN}
 use Rattle.onfi_known.specs.Text.{InRange, spelling}
-use Rattle.onfi_known.specs.Word.{has_leading_zero, below, number, letter_token, branch_token, numbered, window_token, token_of}
+use Rattle.onfi_known.specs.Word.{has_leading_zero, below, number, of_plain, again_token, window_token, token_of}
 
 -- digits are no separators and no commas
 plain_digits : (ds : List ℕ) → AllDigits 10 ds → Plain ds
@@ -36,13 +39,13 @@ plain_append (b ∷ v) w h k = (h.0, plain_append v w h.1 k)
 
 -- no spelling has a space or LF in it
 pub plain : (t : Token) → InRange t → Plain (spelling t)
-plain (tk.Branch n) h = (refl, plain_decimal n (omega (arith, h.1)))
-plain tk.Bus h = (refl, tt)
-plain tk.Lead h = (refl, tt)
-plain tk.Trail h = (refl, tt)
-plain (tk.Die l) h = (refl, plain_decimal l (omega arith))
-plain (tk.Yield l) h = (refl, plain_decimal l (omega arith))
-plain tk.End h = (refl, tt)
+plain (tk.Branch n) h = is_plain (plain_tk.Branch n)
+plain tk.Bus h = is_plain plain_tk.Bus
+plain tk.Lead h = is_plain plain_tk.Lead
+plain tk.Trail h = is_plain plain_tk.Trail
+plain (tk.Die l) h = is_plain (plain_tk.Die l)
+plain (tk.Yield l) h = is_plain (plain_tk.Yield l)
+plain tk.End h = is_plain plain_tk.End
 plain (tk.Window a b) h = (refl, plain_append (decimal a) (44 ∷ decimal b) (plain_decimal a (omega (arith, h.0))) (refl, plain_decimal b (omega (arith, h.1))))
 plain (tk.Again n) h = (refl, plain_decimal n (omega arith))
 
@@ -143,91 +146,35 @@ window_again a b h k =
     ∙ ap (λ o. option_and_then (λ start. option_map (tk.Window start) (number (drop (length (decimal a) + 1) text))) o) (ap number (take-append_seam (decimal a) (44 ∷ decimal b)) ∙ number_again a h)
     ∙ ap (λ o. option_map (tk.Window a) o) (ap number (behind_comma (decimal a) (decimal b)) ∙ number_again b k)
 
-branch_again : (n : ℕ) → 1 ≤ n → n ≤ 99 → branch_token n ≡ Some (tk.Branch n)
-branch_again n lo hi = rw (le-leb 1 n lo) (ap (option_map tk.Branch) (below_again 100 n (omega arith)))
-
--- a letter with a number behind it
-lettered : (letter n : ℕ) → n < 2 ^ 63 → (letter ≡ 87 → ⊥) → token_of (letter ∷ decimal n) ≡ numbered letter n
-lettered letter n h other = by_digits (decimal n) (decimal_is_IsNumeral n (omega arith)).0.0 (number_again n h)
-  where
-    by_digits : (ds : List ℕ) → 0 < length ds → number ds ≡ Some n → token_of (letter ∷ ds) ≡ numbered letter n
-    by_digits [] s e = absurd (omega arith)
-    by_digits (d ∷ more) s e = rw (ne_eqb letter 87 other) (ap (λ o. option_and_then (numbered letter) o) e)
-
-windowed : (ds rest : List ℕ) → 0 < length ds → token_of (87 ∷ (ds ++ rest)) ≡ window_token (ds ++ rest)
-windowed [] rest s = absurd (omega arith)
-windowed (d ∷ ds) rest s = refl
-
 -- a spelling spells its token
 pub spelling_again : (t : Token) → InRange t → token_of (spelling t) ≡ Some t
-spelling_again (tk.Branch n) h = lettered 66 n (omega (arith, h.1)) (λ e. omega arith) ∙ branch_again n h.0 h.1
+spelling_again (tk.Branch n) h = ap (option_map of_plain) (plain_spelling_again (plain_tk.Branch n) h)
 spelling_again tk.Bus h = refl
 spelling_again tk.Lead h = refl
 spelling_again tk.Trail h = refl
-spelling_again (tk.Die l) h = lettered 68 l (omega arith) (λ e. omega arith) ∙ ap (option_map tk.Die) (below_again 8 l h)
-spelling_again (tk.Yield l) h = lettered 89 l (omega arith) (λ e. omega arith) ∙ ap (option_map tk.Yield) (below_again 8 l h)
+spelling_again (tk.Die l) h = ap (option_map of_plain) (plain_spelling_again (plain_tk.Die l) h)
+spelling_again (tk.Yield l) h = ap (option_map of_plain) (plain_spelling_again (plain_tk.Yield l) h)
 spelling_again tk.End h = refl
-spelling_again (tk.Window a b) h = windowed (decimal a) (44 ∷ decimal b) (decimal_is_IsNumeral a (omega (arith, h.0))).0.0 ∙ window_again a b h.0 h.1
-spelling_again (tk.Again n) h = lettered 82 n (omega arith) (λ e. omega arith) ∙ ap (option_map tk.Again) (below_again MOST_KNOWN n h)
+spelling_again (tk.Window a b) h = window_again a b h.0 h.1
+spelling_again (tk.Again n) h = ap (option_and_then (λ m. option_map tk.Again (below MOST_KNOWN m))) (number_again n (omega arith)) ∙ ap (option_map tk.Again) (below_again MOST_KNOWN n h)
 
 abbrev pub Spells : List ℕ → Token → Type 0
 Spells w t = InRange t × (spelling t ≡ w)
 
-abbrev Sound : Option Token → List ℕ → Type 0
-Sound o w = (t : Token) → o ≡ Some t → Spells w t
+mapped : {A B : Type 0} (P : B → Type 0) (f : A → B) (o : Option A) → ((a : A) → o ≡ Some a → P (f a)) → IfSome (option_map f o) P
+mapped P f None h = tt
+mapped P f (Some a) h = h a refl
 
-either : (b : Bool) (x y : Option Token) (w : List ℕ) → (b ≡ true → Sound x w) → (b ≡ false → Sound y w) → Sound (cond b x y) w
-either true x y w f g = f refl
-either false x y w f g = g refl
+chained : {A B : Type 0} (P : B → Type 0) (f : A → Option B) (o : Option A) → ((a : A) → o ≡ Some a → IfSome (f a) P) → IfSome (option_and_then f o) P
+chained P f None h = tt
+chained P f (Some a) h = h a refl
 
-none : (w : List ℕ) → Sound None w
-none w t e = cc
-
-one : (t : Token) (w : List ℕ) → Spells w t → Sound (Some t) w
-one t w h u e =
-    let same : t ≡ u = cc in
-    subst (λ v. Spells w v) same h
-
-mapped : (f : ℕ → Token) (o : Option ℕ) (w : List ℕ) → ((n : ℕ) → o ≡ Some n → Spells w (f n)) → Sound (option_map f o) w
-mapped f None w h = none w
-mapped f (Some n) w h = one (f n) w (h n refl)
-
-chained : (f : ℕ → Option Token) (o : Option ℕ) (w : List ℕ) → ((n : ℕ) → o ≡ Some n → Sound (f n) w) → Sound (option_and_then f o) w
-chained f None w h = none w
-chained f (Some n) w h = h n refl
-
-letter : (c l : ℕ) → (c == l) ≡ true → l ∷ [] ≡ c ∷ []
-letter c l e = ap (λ x. x ∷ []) (sym (eqb-true c l e))
-
-letter_sound : (c : ℕ) → Sound (letter_token c) (c ∷ [])
-letter_sound c =
-    either (c == 85) _ _ _ (λ e. one tk.Bus _ (tt, letter c 85 e))
-    (λ _. either (c == 76) _ _ _ (λ e. one tk.Lead _ (tt, letter c 76 e))
-    (λ _. either (c == 84) _ _ _ (λ e. one tk.Trail _ (tt, letter c 84 e))
-    (λ _. either (c == 88) _ _ _ (λ e. one tk.End _ (tt, letter c 88 e)) (λ _. none _))))
-
-at_letter : (c l : ℕ) (o : Option Token) (more : List ℕ) → Sound o (l ∷ more) → (c == l) ≡ true → Sound o (c ∷ more)
-at_letter c l o more h e =
-    let P : ℕ → Type 0 = λ x. Sound o (x ∷ more) in
-    subst P (sym (eqb-true c l e)) h
-
--- a letter with a number below a limit
-lettered_sound : (l limit n : ℕ) (f : ℕ → Token) (ds : List ℕ) → decimal n ≡ ds → ((m : ℕ) → m < limit → Spells (l ∷ decimal m) (f m)) → Sound (option_map f (below limit n)) (l ∷ ds)
-lettered_sound l limit n f ds e h = mapped f (below limit n) (l ∷ ds) (λ m s. let b = below_some limit n m s in subst (λ z. Spells (l ∷ z) (f m)) (ap decimal b.0 ∙ e) (h m b.1))
-
-branch_sound : (n : ℕ) (ds : List ℕ) → decimal n ≡ ds → Sound (branch_token n) (66 ∷ ds)
-branch_sound n ds e =
-    either (nat_le 1 n) _ _ _ (λ lo. mapped tk.Branch (below 100 n) (66 ∷ ds) (λ m s.
-    let b = below_some 100 n m s in
-    let l = leb-true 1 n lo in
-    ((omega arith, omega arith), ap (λ z. 66 ∷ z) (ap decimal b.0 ∙ e)))) (λ _. none _)
-
-numbered_sound : (c n : ℕ) (ds : List ℕ) → decimal n ≡ ds → Sound (numbered c n) (c ∷ ds)
-numbered_sound c n ds e =
-    either (c == 66) _ _ _ (at_letter c 66 (branch_token n) ds (branch_sound n ds e))
-    (λ _. either (c == 68) _ _ _ (at_letter c 68 (option_map tk.Die (below 8 n)) ds (lettered_sound 68 8 n tk.Die ds e (λ m h. (h, refl))))
-    (λ _. either (c == 89) _ _ _ (at_letter c 89 (option_map tk.Yield (below 8 n)) ds (lettered_sound 89 8 n tk.Yield ds e (λ m h. (h, refl))))
-    (λ _. either (c == 82) _ _ _ (at_letter c 82 (option_map tk.Again (below MOST_KNOWN n)) ds (lettered_sound 82 MOST_KNOWN n tk.Again ds e (λ m h. (h, refl)))) (λ _. none _))))
+again_sound : (text : List ℕ) → IfSome (again_token text) (Spells (82 ∷ text))
+again_sound text =
+    chained _ _ (number text) (λ n read.
+    mapped (Spells (82 ∷ text)) tk.Again (below MOST_KNOWN n) (λ m s.
+    let b = below_some MOST_KNOWN n m s in
+    (b.1, ap (λ z. 82 ∷ z) (ap decimal b.0 ∙ (number_read text n read).0))))
 
 -- a text that is cut at its first comma
 cut_comma : (text : List ℕ) (at : ℕ) → position is_comma text ≡ Some at → text ≡ take at text ++ 44 ∷ drop (at + 1) text
@@ -242,22 +189,32 @@ cut_comma text at e = by_test (nat_lt (position_or_len is_comma text) (length te
     by_test true t s = let same : position_or_len is_comma text ≡ at = cc in cut at same (ltb-true _ _ t)
     by_test false t s = cc
 
-window_sound : (text : List ℕ) → Sound (window_token text) (87 ∷ text)
+window_sound : (text : List ℕ) → IfSome (window_token text) (Spells (87 ∷ text))
 window_sound text =
-    chained _ (position is_comma text) (87 ∷ text) (λ at here.
-    chained _ (number (take at text)) (87 ∷ text) (λ a first.
-    mapped (tk.Window a) (number (drop (at + 1) text)) (87 ∷ text) (λ b second.
+    chained _ _ (position is_comma text) (λ at here.
+    chained _ _ (number (take at text)) (λ a first.
+    mapped (Spells (87 ∷ text)) (tk.Window a) (number (drop (at + 1) text)) (λ b second.
     let x = number_read (take at text) a first in
     let y = number_read (drop (at + 1) text) b second in
     ((x.1, y.1), ap (λ z. 87 ∷ z) (ap (λ z. z ++ 44 ∷ decimal b) x.0 ∙ ap (λ z. take at text ++ 44 ∷ z) y.0 ∙ sym (cut_comma text at here))))))
 
+-- a plain token is spelled as in plain certificates
+plain_spells : (t : PlainToken) (w : List ℕ) → PlainSpells w t → Spells w (of_plain t)
+plain_spells (plain_tk.Branch n) w h = h
+plain_spells plain_tk.Bus w h = h
+plain_spells plain_tk.Lead w h = h
+plain_spells plain_tk.Trail w h = h
+plain_spells (plain_tk.Die l) w h = h
+plain_spells (plain_tk.Yield l) w h = h
+plain_spells plain_tk.End w h = h
+
 -- what a word spells has that spelling
-pub token_of_sound : (w : List ℕ) (t : Token) → token_of w ≡ Some t → Spells w t
-token_of_sound [] = none []
-token_of_sound (c ∷ []) = letter_sound c
-token_of_sound (c ∷ d ∷ more) =
-    either (c == 87) _ _ _ (at_letter c 87 (window_token (d ∷ more)) (d ∷ more) (window_sound (d ∷ more)))
-    (λ _. chained (numbered c) (number (d ∷ more)) (c ∷ d ∷ more) (λ n e. numbered_sound c n (d ∷ more) (number_read (d ∷ more) n e).0))
+pub token_of_sound : (w : List ℕ) → IfSome (token_of w) (Spells w)
+token_of_sound [] = tt
+token_of_sound (c ∷ more) =
+    either _ (c == 87) _ _ (at_letter Spells c 87 (window_token more) more (window_sound more))
+    (λ _. either _ (c == 82) _ _ (at_letter Spells c 82 (again_token more) more (again_sound more))
+    (λ _. mapped (Spells (c ∷ more)) of_plain (plain_token_of (c ∷ more)) (λ t e. plain_spells t (c ∷ more) (found_is (PlainSpells (c ∷ more)) (plain_token_of (c ∷ more)) t e (plain_token_of_sound (c ∷ more))))))
 
 -- the word in front is this token's
 pub token_in_front : (t : Token) (text rest : List ℕ) → InRange t → Ends rest → text ≡ spelling t ++ rest → (token_of (word text) ≡ Some t) × (behind_word text ≡ rest)
@@ -269,5 +226,5 @@ token_in_front t text rest h ends e = (
 -- so the text begins with its spelling
 pub front_token : (t : Token) (text : List ℕ) → token_of (word text) ≡ Some t → InRange t × (text ≡ spelling t ++ behind_word text)
 front_token t text e =
-    let s = token_of_sound (word text) t e in
+    let s = found_is (Spells (word text)) (token_of (word text)) t e (token_of_sound (word text)) in
     (s.0, sym (word-behind_word text) ∙ ap (λ w. w ++ behind_word text) (sym s.1))

@@ -4,6 +4,7 @@ use Rattle.std.specs.List.{AllByRecursion as Each}
 use Rattle.onfi_request.specs.declared.want.Want.{Want}
 use Rattle.onfi_problem.specs.Problem.{Problem}
 use Rattle.onfi_schedule.specs.Schedule.{Schedule, Legal, finish}
+use Rattle.onfi_cert.specs.Reading.{BeginsWithNeither}
 use Rattle.onfi_demand.specs.declared.demand.Demand.{Demand as Kept}
 use Rattle.onfi_known.specs.declared.fault.KnownFault.{KnownFault}
 use Rattle.onfi_known.specs.declared.fault.KnownFault.TheVariants.{Illegal, Short, Trailing, Width, BoundLow, YieldNoFit, YieldLoop, NotEnd, Memory, Unknown, OtherLeft, Sooner, TooMany}
@@ -22,7 +23,7 @@ pub use Rattle.onfi_check.specs.Faults.{IsAt}
 
 -- the text begins with neither header
 abbrev pub NoHeader : List ℕ → Type 0
-NoHeader text = (strict : Bool) (bytes : List ℕ) → text ≢ header strict ++ bytes
+NoHeader text = BeginsWithNeither header text
 
 -- what a fault of tokens says; out of memory says nothing of them
 abbrev pub OfTokens : KnownFault → Type 0 → Type 0

@@ -54,17 +54,40 @@ abbrev pub FitTimes : List ℕ → List Given → Type 0
 FitTimes asked given = (lun : ℕ) → lun < 8 → with_yields asked given lun < 2 ^ 64
 
 mutual
-  -- tokens begin with the accepted tree of a node: what was known before it, what it asks for, what is known behind it, and the tokens left
+  -- tokens begin with the accepted tree of a node: what was known before it, what it asks for, what is known behind it,
+  -- and the tokens left
   pub data Proves (e : ℕ) (all : List Want) : Problem → List Known → List Token → Kept → List Known → List Token → Type 0 where
-    closed : (p : Problem) (known : List Known) (token : Token) (d : Kept) (rest : List Token) → Closes p e token → IsKept d (closing_demand p e token) → Proves e all p known (token ∷ rest) d known rest
-    again : (p : Problem) (known : List Known) (number : ℕ) (d : Kept) (rest : List Token) → IsAgain all p known number d → Proves e all p known (Again number ∷ rest) d known rest
-    opened : (p : Problem) (known : List Known) (width : ℕ) (tokens : List Token) (moves : List Move) (asks : List ℕ) (given : List Given) (k : Known) (d : Kept) (behind : List Known) (rest : List Token) → AreMoves p moves → 1 ≤ length moves → width ≡ length moves → Children e all p moves moves known tokens asks given behind rest → FitTimes asks given → Describes all k p → IsKept d (of_luns (with_yields asks given)) → IsKept d (times_of k) → Proves e all p known (Branch width ∷ tokens) d (behind ++ k ∷ []) rest
+    -- a bound closes it
+    closed : (p : Problem) (known : List Known) (token : Token) (d : Kept) (rest : List Token)
+        → Closes p e token → IsKept d (closing_demand p e token) → Proves e all p known (token ∷ rest) d known rest
+    -- a node that was read closes it
+    again : (p : Problem) (known : List Known) (number : ℕ) (d : Kept) (rest : List Token)
+        → IsAgain all p known number d → Proves e all p known (Again number ∷ rest) d known rest
+    -- it has a child for each move, and is remembered with what it asks for
+    opened : (p : Problem) (known : List Known) (width : ℕ) (tokens : List Token) (moves : List Move) (asks : List ℕ)
+        (given : List Given) (k : Known) (d : Kept) (behind : List Known) (rest : List Token)
+        → AreMoves p moves → 1 ≤ length moves → width ≡ length moves
+        → Children e all p moves moves known tokens asks given behind rest
+        → FitTimes asks given → Describes all k p → IsKept d (of_luns (with_yields asks given)) → IsKept d (times_of k)
+        → Proves e all p known (Branch width ∷ tokens) d (behind ++ k ∷ []) rest
 
   -- .. with accepted children of the first of a node's moves: what they ask for, and which yield
   pub data Children (e : ℕ) (all : List Want) : Problem → List Move → List Move → List Known → List Token → List ℕ → List Given → List Known → List Token → Type 0 where
-    none : (p : Problem) (moves : List Move) (known : List Known) (tokens : List Token) (asks : List ℕ) → ((lun : ℕ) → slice_index asks lun ≡ 0) → Children e all p moves [] known tokens asks [] known tokens
-    tree : (p : Problem) (moves firsts more : List Move) (m : Move) (known : List Known) (tokens : List Token) (asks raised : List ℕ) (given : List Given) (middle : List Known) (left : List Token) (d : Kept) (behind : List Known) (rest : List Token) → more ≡ firsts ++ m ∷ [] → Children e all p moves firsts known tokens asks given middle left → Proves e all (after p m) middle left d behind rest → AreRaised p m d asks raised → Children e all p moves more known tokens raised given behind rest
-    yielded : (p : Problem) (moves firsts more : List Move) (m : Move) (known : List Known) (tokens : List Token) (asks : List ℕ) (given : List Given) (y : Given) (behind : List Known) (rest : List Token) → more ≡ firsts ++ m ∷ [] → Children e all p moves firsts known tokens asks given behind (Yield y.lun ∷ rest) → MayYield p moves given m y → Children e all p moves more known tokens asks (given ++ y ∷ []) behind rest
+    -- of none, nothing is asked
+    none : (p : Problem) (moves : List Move) (known : List Known) (tokens : List Token) (asks : List ℕ)
+        → ((lun : ℕ) → slice_index asks lun ≡ 0) → Children e all p moves [] known tokens asks [] known tokens
+    -- of one move more, behind which a tree raises what is asked
+    tree : (p : Problem) (moves firsts more : List Move) (m : Move) (known : List Known) (tokens : List Token)
+        (asks raised : List ℕ) (given : List Given) (middle : List Known) (left : List Token) (d : Kept)
+        (behind : List Known) (rest : List Token)
+        → more ≡ firsts ++ m ∷ [] → Children e all p moves firsts known tokens asks given middle left
+        → Proves e all (after p m) middle left d behind rest → AreRaised p m d asks raised
+        → Children e all p moves more known tokens raised given behind rest
+    -- .. or which yields
+    yielded : (p : Problem) (moves firsts more : List Move) (m : Move) (known : List Known) (tokens : List Token)
+        (asks : List ℕ) (given : List Given) (y : Given) (behind : List Known) (rest : List Token)
+        → more ≡ firsts ++ m ∷ [] → Children e all p moves firsts known tokens asks given behind (Yield y.lun ∷ rest)
+        → MayYield p moves given m y → Children e all p moves more known tokens asks (given ++ y ∷ []) behind rest
 
 -- the tokens are those of one accepted tree, with nothing behind them and nothing known before, and no more nodes are remembered than may be
 abbrev pub ProvesTokens : List Want → List Token → Problem → ℕ → Type 0

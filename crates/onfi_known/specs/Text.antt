@@ -1,6 +1,6 @@
 -- The one text of a list of tokens.
-use Rattle.std.specs.Prelude.{ℕ, ◌^◌, ◌≤◌, ◌<◌, ◌≡◌, List, [], ◌∷◌, ◌++◌, ⊤, Bool, All, map, length, codes, decimal, if◌then◌else◌}
-use Rattle.std.specs.List.{join_with_byte}
+use Rattle.std.specs.Prelude.{ℕ, ◌^◌, ◌≤◌, ◌<◌, ◌≡◌, List, [], ◌∷◌, ◌++◌, ⊤, Bool, All, length, codes, decimal, if◌then◌else◌}
+use Rattle.onfi_cert.specs.Text.{digit, number as digits, line_of}
 use Rattle.onfi_known.specs.declared.token.Token.{Token}
 use Rattle.onfi_known.specs.declared.token.Token.TheVariants as tk
 use Rattle.onfi_known.specs.declared.token.TheConstants.{MOST_KNOWN}
@@ -17,21 +17,21 @@ InRange tk.End = ⊤
 InRange (tk.Window start tail) = (start < 2 ^ 63) × (tail < 2 ^ 63)
 InRange (tk.Again number) = number < MOST_KNOWN
 
--- B1 to B99, U, L, T, D0 to D7, Y0 to Y7, X, W with two numbers, R with one
+-- B1 to B99, U, L, T, D0 to D7, Y0 to Y7, X as in plain certificates, W with two numbers, R with one
 abbrev pub spelling : Token → List ℕ
-spelling (tk.Branch width) = codes "B" ++ decimal width
+spelling (tk.Branch width) = codes "B" ++ digits width
 spelling tk.Bus = codes "U"
 spelling tk.Lead = codes "L"
 spelling tk.Trail = codes "T"
-spelling (tk.Die lun) = codes "D" ++ decimal lun
-spelling (tk.Yield lun) = codes "Y" ++ decimal lun
+spelling (tk.Die lun) = codes "D" ++ digit lun ∷ []
+spelling (tk.Yield lun) = codes "Y" ++ digit lun ∷ []
 spelling tk.End = codes "X"
 spelling (tk.Window start tail) = codes "W" ++ (decimal start ++ (codes "," ++ decimal tail))
 spelling (tk.Again number) = codes "R" ++ decimal number
 
 -- the tokens with a space between each two, and LF behind them
 abbrev pub line : List Token → List ℕ
-line tokens = join_with_byte 32 (map spelling tokens) ++ 10 ∷ []
+line tokens = line_of spelling tokens
 
 abbrev pub header : Bool → List ℕ
 header strict = if strict then codes "ONFICERT 4 strict remember\n" else codes "ONFICERT 3 remember\n"

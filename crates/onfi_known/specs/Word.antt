@@ -1,8 +1,10 @@
 -- Words of a text, and the tokens that they spell. What a token looks like is said by `spelling` alone; here stands
 -- the way back, for the readers' own contracts.
-use Rattle.std.specs.Prelude.{ℕ, zero, suc, ◌+◌, ◌==◌, ◌^◌, length, List, [], ◌∷◌, Bool, false, Option, Some, None, option_map, option_and_then, take, drop, position, nat_le, nat_lt, if◌then◌else◌}
+use Rattle.std.specs.Prelude.{ℕ, zero, suc, ◌+◌, ◌==◌, ◌^◌, length, List, [], ◌∷◌, Bool, false, Option, Some, None, option_map, option_and_then, take, drop, position, nat_lt, if◌then◌else◌}
 use Rattle.onfi_timing.specs.Decimal.{number_of}
-use Rattle.onfi_cert.specs.Word.{word, behind_word}
+use Rattle.onfi_cert.specs.declared.token.Token.{Token as PlainToken}
+use Rattle.onfi_cert.specs.declared.token.Token.TheVariants as plain
+use Rattle.onfi_cert.specs.Word.{word, behind_word, token_of as plain_token_of}
 use Rattle.onfi_known.specs.declared.token.Token.{Token}
 use Rattle.onfi_known.specs.declared.token.Token.TheVariants as tk
 use Rattle.onfi_known.specs.declared.token.TheConstants.{MOST_KNOWN}
@@ -21,26 +23,19 @@ below limit n = if nat_lt n limit then Some n else None
 abbrev pub number : List ℕ → Option ℕ
 number text = if has_leading_zero text then None else option_and_then (below (2 ^ 63)) (number_of text)
 
--- U, L, T or X
-abbrev pub letter_token : ℕ → Option Token
-letter_token letter =
-    if letter == 85 then Some tk.Bus
-    else if letter == 76 then Some tk.Lead
-    else if letter == 84 then Some tk.Trail
-    else if letter == 88 then Some tk.End
-    else None
+-- a token of a plain certificate
+abbrev pub of_plain : PlainToken → Token
+of_plain (plain.Branch width) = tk.Branch width
+of_plain plain.Bus = tk.Bus
+of_plain plain.Lead = tk.Lead
+of_plain plain.Trail = tk.Trail
+of_plain (plain.Die lun) = tk.Die lun
+of_plain (plain.Yield lun) = tk.Yield lun
+of_plain plain.End = tk.End
 
-abbrev pub branch_token : ℕ → Option Token
-branch_token n = if nat_le 1 n then option_map tk.Branch (below 100 n) else None
-
--- B, D, Y or R with its number
-abbrev pub numbered : ℕ → ℕ → Option Token
-numbered letter n =
-    if letter == 66 then branch_token n
-    else if letter == 68 then option_map tk.Die (below 8 n)
-    else if letter == 89 then option_map tk.Yield (below 8 n)
-    else if letter == 82 then option_map tk.Again (below MOST_KNOWN n)
-    else None
+-- the number of a node
+abbrev pub again_token : List ℕ → Option Token
+again_token text = option_and_then (λ n. option_map tk.Again (below MOST_KNOWN n)) (number text)
 
 -- two numbers with a comma between them
 abbrev pub window_token : List ℕ → Option Token
@@ -50,8 +45,10 @@ window_token text =
 -- the token that a word spells
 abbrev pub token_of : List ℕ → Option Token
 token_of [] = None
-token_of (letter ∷ []) = letter_token letter
-token_of (letter ∷ d ∷ more) = if letter == 87 then window_token (d ∷ more) else option_and_then (numbered letter) (number (d ∷ more))
+token_of (letter ∷ more) =
+    if letter == 87 then window_token more
+    else if letter == 82 then again_token more
+    else option_map of_plain (plain_token_of (letter ∷ more))
 
 -- what is ahead of a reader: tokens, and the bytes behind them
 pub record Ahead : Type 0 where

@@ -11,18 +11,16 @@ ghost use Rattle.onfi_known.specs.declared.token.Token.{Token as OneToken};
 
 use crate::fault::{KnownFault, KnownTextFault};
 use crate::header::header_of;
-use crate::numbered::Numbered;
-use crate::source::TokenSource;
 use crate::token::Token;
-use crate::token_list::TokenList;
 use crate::tokens::Tokens;
 use crate::walk::read_whole;
+use onfi_cert::{Numbered, TokenList, TokenSource};
 use onfi_problem::Problem;
 use onfi_schedule::{Schedule, finish, legal};
 use std::alloc::Global;
 
 /// Reads tokens of a source that are to show that no legal schedule ends before `e` ns.
-pub(crate) fn read_source<S: TokenSource>(
+pub(crate) fn read_source<S: TokenSource<Token = Token>>(
     alloc: Global,
     problem: &Problem,
     e: u64,
@@ -46,7 +44,7 @@ pub(crate) fn read_source<S: TokenSource>(
 }
 
 // Checks a schedule by the tokens of a source.
-fn check_source<S: TokenSource>(
+fn check_source<S: TokenSource<Token = Token>>(
     alloc: Global,
     problem: &Problem,
     schedule: &Schedule,

@@ -13,15 +13,9 @@ use crate::fault::KnownFault;
 use crate::known::Known;
 use crate::token::Token;
 use onfi_bound::{Load, bus, die, lead, trail};
+use onfi_check::is_over;
 use onfi_demand::{Demand, Window};
 use onfi_problem::Problem;
-
-// Whether nothing is left and so much time has passed.
-fn is_over(problem: &Problem, e: u64) -> bool
-    ensures { IsTrue result ↔ Closes problem.now.problem e Token.End }
-{
-    problem.bus_free() >= e && problem.steps().is_empty()
-}
 
 // What the bus bound asks for, where it reaches the finish `e`, in ns.
 fn bus_asks(problem: &Problem, e: u64) -> Option<Demand>

@@ -2,9 +2,9 @@
 ghost use Rattle.std.specs.Prelude.{◌≡◌, ◌∷◌, [], true, false, option_map, IsTrue, ◌↔◌};
 ghost use Rattle.onfi_known.specs.Word.{ahead_of, next_in, led};
 
-use crate::source::TokenSource;
 use crate::token::Token;
 use crate::word::token_in;
+use onfi_cert::TokenSource;
 use std::marker::Model;
 
 /// A reader that gives the tokens behind a header one by one, without memory.
@@ -66,6 +66,12 @@ impl<'a> Tokens<'a> {
 }
 
 impl<'a> TokenSource for Tokens<'a> {
+    ghost use Rattle.std.specs.Prelude.{ℕ, List};
+
+    type Token = Token;
+
+    ghost Behind = { List ℕ };
+
     ghost left = { λ t. t.tokens };
 
     ghost behind = { λ t. t.behind };

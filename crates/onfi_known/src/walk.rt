@@ -14,11 +14,9 @@ ghost use Rattle.onfi_check.specs.Ends.{AreLastEnds};
 use crate::closes::{read_again, read_closing};
 use crate::fault::KnownFault;
 use crate::known::Known;
-use crate::numbered::Numbered;
-use crate::source::TokenSource;
 use crate::standing::{Standing, step_behind, take_yield};
 use crate::token::{MOST_KNOWN, Token};
-use onfi_cert::Width;
+use onfi_cert::{Numbered, TokenSource, Width};
 use onfi_check::last_ends;
 use onfi_demand::Demand;
 use onfi_problem::{Move, Moves, Problem};
@@ -55,7 +53,7 @@ fn remember(
 // # Errors
 // The first fault in reading order. Then the problem may be one within the tree.
 #[cycle(read)]
-fn read_tree<S: TokenSource>(
+fn read_tree<S: TokenSource<Token = Token>>(
     problem: &mut Problem,
     e: u64,
     token: Token,
@@ -85,7 +83,7 @@ fn read_tree<S: TokenSource>(
 
 // Reads the tree of a branch, which was taken already.
 #[cycle(read)]
-fn read_branch<S: TokenSource>(
+fn read_branch<S: TokenSource<Token = Token>>(
     problem: &mut Problem,
     e: u64,
     width: Width,
@@ -120,7 +118,7 @@ fn read_branch<S: TokenSource>(
 
 // Reads a child for each move of a node.
 #[cycle(read)]
-fn read_children<S: TokenSource>(
+fn read_children<S: TokenSource<Token = Token>>(
     problem: &mut Problem,
     e: u64,
     moves: &Moves,
@@ -153,7 +151,7 @@ fn read_children<S: TokenSource>(
 
 // Reads the child of one of the moves of a node: a yield, or a tree.
 #[cycle(read)]
-fn read_child<S: TokenSource>(
+fn read_child<S: TokenSource<Token = Token>>(
     problem: &mut Problem,
     e: u64,
     m: Move,
@@ -191,7 +189,7 @@ fn read_child<S: TokenSource>(
 
 // Reads the tree behind a move, whose first token was taken already, and raises what is asked by what it asks.
 #[cycle(read)]
-fn read_below<S: TokenSource>(
+fn read_below<S: TokenSource<Token = Token>>(
     problem: &mut Problem,
     e: u64,
     m: Move,
@@ -231,7 +229,7 @@ fn read_below<S: TokenSource>(
 /// # Errors
 /// The first fault in reading order, else `Trailing` at the first token behind the tree. Then the problem may be one
 /// within the tree.
-pub(crate) fn read_whole<S: TokenSource>(
+pub(crate) fn read_whole<S: TokenSource<Token = Token>>(
     problem: &mut Problem,
     e: u64,
     tokens: &mut Numbered<S>,

@@ -11,17 +11,15 @@ ghost use Rattle.onfi_known.specs.declared.token.Token.{Token as OneToken};
 use crate::checking::{read_source, read_to_end};
 use crate::fault::{KnownFault, KnownTextFault, WithinFault, WithinTextFault};
 use crate::header::header_of;
-use crate::numbered::Numbered;
-use crate::source::TokenSource;
 use crate::token::Token;
-use crate::token_list::TokenList;
 use crate::tokens::Tokens;
+use onfi_cert::{Numbered, TokenList, TokenSource};
 use onfi_problem::Problem;
 use onfi_schedule::{Schedule, finish, legal};
 use std::alloc::Global;
 
 // Checks a schedule and a number by the tokens of a source.
-fn check_source_within<S: TokenSource>(
+fn check_source_within<S: TokenSource<Token = Token>>(
     alloc: Global,
     problem: &Problem,
     schedule: &Schedule,

@@ -1,11 +1,9 @@
 //! From a word to its token.
-ghost use Rattle.std.specs.Prelude.{◌≡◌, ◌^◌, ◌<◌, ◌≤◌, ◌==◌, IfSome, option_map, position, length};
-ghost use Rattle.std.specs.List.{position_or_len};
-ghost use Rattle.onfi_cert.specs.Word.{is_separator};
-ghost use Rattle.onfi_known.specs.Word.{has_leading_zero, number, below, letter_token, branch_token, numbered, window_token, token_of, token_in};
+ghost use Rattle.std.specs.Prelude.{◌≡◌, ◌^◌, ◌<◌, ◌==◌, IfSome, option_map, position, length};
+ghost use Rattle.onfi_known.specs.Word.{has_leading_zero, number, of_plain, again_token, window_token, token_of, token_in};
 
 use crate::token::{MOST_KNOWN, Token};
-use onfi_cert::{LunNumber, Width};
+use onfi_cert::{Token as PlainToken, cut_word, token_of as plain_token_of};
 use onfi_timing::read_number;
 
 // Whether there are more digits than one, the first a zero.
@@ -30,40 +28,10 @@ fn number(text: &[u8]) -> Option<u64>
     if value < 1 << 63 { Some(value) } else { None }
 }
 
-fn letter_token(letter: u8) -> Option<Token>
-    ensures { result ≡ letter_token letter }
+fn again_token(text: &[u8]) -> Option<Token>
+    ensures { result ≡ again_token text.now }
 {
-    match letter {
-        b'U' => Some(Token::Bus),
-        b'L' => Some(Token::Lead),
-        b'T' => Some(Token::Trail),
-        b'X' => Some(Token::End),
-        _ => None,
-    }
-}
-
-fn branch_token(n: u64) -> Option<Token>
-    ensures { result ≡ branch_token n }
-{
-    if n < 1 || n > 99 {
-        return None;
-    }
-    Some(Token::Branch(Width::of(n as u8)))
-}
-
-fn lun_of(n: u64) -> Option<LunNumber>
-    ensures { result ≡ below 8 n }
-{
-    if n < 8 {
-        Some(LunNumber::of(n as u8))
-    } else {
-        None
-    }
-}
-
-fn again_token(n: u64) -> Option<Token>
-    ensures { result ≡ option_map Token.Again (below MOST_KNOWN n) }
-{
+    let n = number(text)?;
     if n < u64::from(MOST_KNOWN) {
         Some(Token::Again(n as u32))
     } else {
@@ -71,15 +39,18 @@ fn again_token(n: u64) -> Option<Token>
     }
 }
 
-fn numbered(letter: u8, n: u64) -> Option<Token>
-    ensures { result ≡ numbered letter n }
+// A token of a plain certificate.
+fn of_plain(token: PlainToken) -> Token
+    ensures { result ≡ of_plain token }
 {
-    match letter {
-        b'B' => branch_token(n),
-        b'D' => lun_of(n).map(Token::Die),
-        b'Y' => lun_of(n).map(Token::Yield),
-        b'R' => again_token(n),
-        _ => None,
+    match token {
+        PlainToken::Branch(width) => Token::Branch(width),
+        PlainToken::Bus => Token::Bus,
+        PlainToken::Lead => Token::Lead,
+        PlainToken::Trail => Token::Trail,
+        PlainToken::Die(lun) => Token::Die(lun),
+        PlainToken::Yield(lun) => Token::Yield(lun),
+        PlainToken::End => Token::End,
     }
 }
 
@@ -105,35 +76,16 @@ fn token_of(word: &[u8]) -> Option<Token>
     ensures { result ≡ token_of word.now }
 {
     match word {
-        [] => None,
-        [letter] => letter_token(*letter),
         [b'W', more @ ..] => window_token(more),
-        [letter, more @ ..] => numbered(*letter, number(more)?),
+        [b'R', more @ ..] => again_token(more),
+        _ => Some(of_plain(plain_token_of(word)?)),
     }
-}
-
-fn is_separator(b: u8) -> bool
-    ensures { result ≡ is_separator b }
-{
-    b == b' ' || b == b'\n'
-}
-
-fn word_len(text: &[u8]) -> usize
-    ensures value { result ≡ position_or_len is_separator text.now }
-    ensures within { result ≤ length text.now }
-{
-    for (len, b) in text.iter().enumerate() {
-        if is_separator(*b) {
-            return len;
-        }
-    }
-    text.len()
 }
 
 /// The token in front of a text, and what stands behind it.
 pub(crate) fn token_in(text: &[u8]) -> Option<(Token, &[u8])>
     ensures { option_map (λ p. (p.0, p.1.now)) result ≡ token_in text.now }
 {
-    let (word, rest) = text.split_at(word_len(text));
+    let (word, rest) = cut_word(text);
     Some((token_of(word)?, rest))
 }

@@ -132,7 +132,7 @@ fn tells_what_is_wrong(rt: HostRuntime) {
 }
 
 // Whether the source gives these tokens and no more.
-fn gives<S: TokenSource + Drop>(mut source: S, tokens: &[Token]) -> bool {
+fn gives<S: TokenSource<Token = Token> + Drop>(mut source: S, tokens: &[Token]) -> bool {
     for token in tokens {
         if source.next() != Some(*token) {
             return false;

@@ -1,5 +1,4 @@
 mod Steps
-mod Put
 mod Closed
 mod Again
 mod Waiting

@@ -18,7 +18,6 @@ mod records;
 mod search;
 mod sought;
 mod standing;
-mod text;
 mod within;
 mod yields;
 

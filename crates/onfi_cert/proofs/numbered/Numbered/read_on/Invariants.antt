@@ -1,5 +1,5 @@
 use Rattle.std.proofs.Common.{◌≡◌, ◌+◌, length}
-use Rattle.onfi_known.proofs.numbered.Numbered.read_on.Given as goal
+use Rattle.onfi_cert.proofs.numbered.Numbered.read_on.Given as goal
 
 abbrev pub invariant-loop : goal.invariant-loop
 invariant-loop g l = record {
