@@ -102,7 +102,7 @@ class Help(unittest.TestCase):
     OPTIONS = {"plan": ["--limit <N>", "--trace", "--requests", "--workers <N>", "--remember", "--within", "--early", "--slack <N>", "-q, --quiet",
                         "[FILE]"],
                "check": ["--remember", "--within", "--legal", "-q, --quiet", "[FILE]", "[PLAN]"],
-               "run": ["--limit <N>", "--plain", "--within", "--slack <N>", "-q, --quiet", "[FILE]"]}
+               "run": ["--limit <N>", "--plain", "--within", "--slack <N>", "--clock <CLOCK>", "-q, --quiet", "[FILE]"]}
 
     def help(self, *words: str) -> str:
         found = ran(*words)

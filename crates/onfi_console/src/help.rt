@@ -106,7 +106,7 @@ pub const SLACK: &str =
     "With --early: let the plan end N thousandths of its time later, 0 to 1000; the text is that of --within";
 
 pub const SLACK_RUN: &str =
-    "Let plans end N thousandths of their time later, 0 to 1000, so that requests end early; 0 where none is named";
+    "Let plans end N thousandths of their time later, 0 to 1000, so that requests end early; 0 where not named";
 
 pub const CLOCK_RUN: &str =
     "Run by a clock, 'simulated': tells when each reply came, how busy buses were and how long operations took";
