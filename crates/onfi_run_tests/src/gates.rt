@@ -114,7 +114,17 @@ fn meet<R: Threads + Wait + Sync>(
     let script = format!(in alloc; "{DEVICE}channels,2\n{rows}end\n").ok()?;
     let mut reader = script.as_bytes();
     let mut text = Vec::new(alloc);
-    let status = run_script(rt, alloc, planner, limit, false, gates, &mut reader, &mut text).ok()?;
+    let status = run_script(
+        rt,
+        alloc,
+        planner,
+        limit,
+        false,
+        gates,
+        &mut reader,
+        &mut text,
+    )
+    .ok()?;
     if meeting.missed.load(Ordering::SeqCst) {
         return None;
     }
