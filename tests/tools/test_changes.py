@@ -136,6 +136,18 @@ class WhatChangesNothing(unittest.TestCase):
         self.assertEqual(due_behind("src/half.rt", "    let half = Half::of(n);", "    let half =\n        Half::of(n);"), [])
         self.assertEqual(due_behind("specs/Words.antt", "IsHalf n half = IsTwice", "IsHalf n half =  IsTwice"), [])
 
+    def test_the_lines_of_imports(self) -> None:
+        self.assertEqual(due_behind("src/half.rt", "specs.Words.{IsHalf, IsAt as Stands};", "specs.{Words.IsHalf, Words.{IsAt as Stands}};"), [])
+        self.assertEqual(due_behind("src/half.rt", "crate::third::third;", "crate::{third::{third}};"), [])
+        several = "crate::{\n    third::{\n        third,\n    },\n};"
+        self.assertEqual(due_behind("src/half.rt", "crate::third::third;", several), [])
+        self.assertEqual(due_behind("specs/Words.antt", "specs.Prelude.{ℕ, ◌≡◌}", "{specs.Prelude.{ℕ}, specs.Prelude.◌≡◌}"), [])
+        answers = {"proofs/half/Half/of/Answers.antt": "use Rattle.demo.{proofs.Halves.{half_is, in_six}, specs.Words.IsHalf}\n\nreturns = half_is n\n"}
+        apart = "use Rattle.demo.specs.Words.{IsHalf}\nuse Rattle.demo.proofs.Halves.{in_six, half_is}\n\nreturns = half_is n\n"
+        self.assertEqual(due_where({**FILES, **answers}), ["Half::of"])
+        changes = Changes({**FILES, **answers}, {**FILES, "proofs/half/Half/of/Answers.antt": apart})
+        self.assertEqual([key for key in changes.bodies if changes.why(key)], [])
+
     def test_what_nothing_names(self) -> None:
         self.assertEqual(due_behind("specs/Words.antt", "-- half of it", "abbrev pub IsNew : ℕ\nIsNew = 1\n\n-- half of it"), [])
         self.assertEqual(due_behind("src/half.rt", "fn quarter", "fn eighth(n: u8) -> u8 {\n    n / 8\n}\n\nfn quarter"), ["eighth"])
@@ -177,6 +189,7 @@ class WhatChangesSome(unittest.TestCase):
     def test_a_name_from_elsewhere_changes_those_who_use_it_or_have_it(self) -> None:
         self.assertEqual(due_behind("src/half.rt", "crate::third::third", "crate::sixth::third"), ["Half::next", "sixth", "third"])
         self.assertEqual(due_behind("src/half.rt", "IsAt as Stands", "IsNear as Stands"), ["Half::next", "Half::of", "quarter"])
+        self.assertEqual(due_behind("src/half.rt", "Words.{IsHalf, IsAt as", "{Phrases.IsHalf, Words.IsAt as"), ["Half::of", "quarter"])
 
     def test_a_word_for_the_whole_crate_changes_all(self) -> None:
         self.assertEqual(due_behind("src/lib.rt", "#![tactic(auto)]", "#![tactic(auto, using(half_is))]"), ALL)

@@ -22,7 +22,9 @@ Texts = Dict[str, str]
 WORD = re.compile(r"[^\W\d][\w'-]*")
 RUST_TOKEN = re.compile(r"""/\*.*?\*/|//[^\n]*|b?"(?:\\.|[^"\\])*"|b?'(?:\\.|[^'\\])'|\w+|\S""", re.S)
 PROOF_COMMENT = re.compile(r"(?:^|(?<=\s))--(?=[\s-]|$).*")
-USE = re.compile(r"^ *(?:pub(?:\([a-z]+\))? )?(?:ghost )?use ([^;{]+?)(?:\{([^}]*)\})?(?:;|$)", re.M)
+# An import: what it brings, which may be a tree of paths in brackets and stand in several lines.
+TREE = r"(?:[^;{}\n]|\{(?:[^{}]|\{(?:[^{}]|\{[^{}]*\})*\})*\})+"
+USE = re.compile(rf"^ *(?:unfoldable )?(?:pub(?:\([a-z]+\))? )?(?:ghost )?use ({TREE})(?:;|$)", re.M)
 CYCLE = re.compile(r"#\[cycle\((\w+)\)\]")
 TYPE = re.compile(r"(?:pub(?:\([a-z]+\))? )?(?:struct|enum|trait|const|static|type|union) (\w+)")
 IMPL = re.compile(r"impl\b(?:<.*?>)? (?:.* for )?&?(?:\w+::)*(\w+)")
@@ -86,13 +88,36 @@ def body_of(path: str, lines: List[str], function: Function) -> Body:
     return Body(code_of(path, seen), code_of(path, done), "")
 
 
+def leaves_of(tree: str) -> Iterator[str]:
+    """The whole paths of a tree of imports, whichever brackets they stand in."""
+    before, bracket, inside = tree.strip().partition("{")
+    if not bracket:
+        yield before.strip()
+        return
+    depth, leaf = 0, ""
+    for sign in inside.rpartition("}")[0] + ",":
+        depth += (sign == "{") - (sign == "}")
+        if sign == "," and depth == 0:
+            yield from (before + path for path in leaves_of(leaf) if path)
+            leaf = ""
+        else:
+            leaf += sign
+
+
 def imports_in(text: str) -> Iterator[Tuple[str, str, str]]:
     """Each name that a file brings in, what it is called where it comes from, and the path to it."""
-    for before, inside in USE.findall(text):
-        for leaf in inside.split(",") if inside else [before]:
-            path, _, other = leaf.strip().partition(" as ")
+    for tree in USE.findall(text):
+        for leaf in leaves_of(tree):
+            path, _, other = leaf.partition(" as ")
             last = re.split(r"[.:]", path)[-1]
-            yield other or last, last, f"{before}{path}" if inside else path
+            yield other or last, last, path
+
+
+def own_proof_of(path: str, text: str) -> str:
+    """A file of a function's own proof, without comments and layout; what it imports counts, and not how the lines are cut."""
+    code = code_of(path, text)
+    lines = [line for line in USE.sub("", code).split("\n") if line]
+    return "\n".join([*sorted({f"{source} as {name}" for name, _, source in imports_in(code)}), *lines])
 
 
 def items_of_rust(path: str, text: str) -> Iterator[Tuple[str, str]]:
@@ -173,7 +198,7 @@ def is_of(folder: List[str], function: Function, cycles: Iterable[str]) -> bool:
 
 def bodies_of(texts: Texts) -> Dict[Key, Body]:
     """The functions of a crate; to what a proof is made from belong the files of its own folder."""
-    proofs = [(list(PurePosixPath(path).parts[1:-1]), code_of(path, text)) for path, text in texts.items() if is_own_proof(path)]
+    proofs = [(list(PurePosixPath(path).parts[1:-1]), own_proof_of(path, text)) for path, text in texts.items() if is_own_proof(path)]
     found: Dict[Key, Body] = {}
     for path, text in texts.items():
         lines = text.split("\n") if path.endswith(".rt") else []
