@@ -14,7 +14,7 @@ use Rattle.onfi_schedule.specs.Schedule.{Placed, Schedule, Phase, phases_from, p
 use Rattle.onfi_problem.specs.Moves.{lun_after, without}
 use Rattle.onfi_problem.proofs.Perm.{Perm, same, trans, back, on_left, on_right, to_front, between, append_nil, All-perm, Pairs-perm, Has-perm, flat_map-perm, total-perm, All-back, All-each, All-has, All-flat_map}
 use Rattle.onfi_problem.proofs.Places.{length_set, same_place}
-use Rattle.onfi_schedule.proofs.Rests.{rest_changed}
+use Rattle.onfi_schedule.proofs.Rests.{RunningFirst, FromFree, rest_changed}
 use Rattle.onfi_schedule.proofs.First.{phases_long, left_after, state_same, state_other, starts_same, starts_other, new_rest, new_no_rest, new_rest_waits, behind_first, Apart-sym}
 use Rattle.onfi_problem.proofs.LunAfter.{running_is, free_is}
 use Rattle.onfi_problem.proofs.Wants.{Pairs-filter, Pairs-weaker, others_once, others_only}
@@ -30,9 +30,6 @@ not_before t y ys (z ∷ zs) a l s e b = omega (arith, a.0, l.0, b.0.0)
 pub phases_number : (lun : ℕ) (spans : _) (k n : ℕ) (ts : List ℕ) → length (phases_from lun spans k n ts) ≡ length ts
 phases_number lun spans k n [] = refl
 phases_number lun spans k n (t ∷ ts) = ap suc (phases_number lun spans k (n + 1) ts)
-
-abbrev RunningFirst : Problem → List LunState → List (List ℕ) → Placed → Type 0
-RunningFirst p luns rest h = (group : List Want) (next ready : ℕ) (starts : List ℕ) → slice_get luns (lun_of h.members) ≡ Some (Running group next ready) → slice_get rest (lun_of h.members) ≡ Some starts → Before (phases_left p.timing (lun_of h.members) (Running group next ready) starts) (group_phases p.timing h)
 
 module _ (p : Problem) (s : Schedule) (ip : IsProblem p) (lg : Legal p s) (ms : List Want) (t : ℕ) (ts : List ℕ) (gs : List Placed) (perm : Perm s.groups (record { members = ms; starts = t ∷ ts } ∷ gs)) (since : ℕ) (us : List ℕ) (at : slice_get p.luns (lun_of ms) ≡ Some (Free since)) (starts_at : slice_get s.rest (lun_of ms) ≡ Some us) where
   abbrev g : Placed
@@ -86,7 +83,7 @@ module _ (p : Problem) (s : Schedule) (ip : IsProblem p) (lg : Legal p s) (ms : 
       let n = phases_number (lun_of h.members) (group_spans p.timing h.members) (length h.members) 0 h.starts in
       ⊎_elim (λ x. x) (λ x. absurd (not_before t begun_phase _ (group_phases p.timing h) from takes (omega arith) refl x)) (turns e)
 
-  begun_running_first : (h : Placed) → (lun_of ms ≡ lun_of h.members → Before (group_phases p.timing g) (group_phases p.timing h)) → RunningFirst p p.luns s.rest h → RunningFirst p begun.luns begun_schedule.rest h
+  begun_running_first : (h : Placed) → (lun_of ms ≡ lun_of h.members → Before (group_phases p.timing g) (group_phases p.timing h)) → RunningFirst p.timing p.luns s.rest h → RunningFirst p.timing begun.luns begun_schedule.rest h
   begun_running_first h first from g' n' r' vs k m =
       elim (same_place l (lun_of h.members)) [
         | inl e ↦ (
@@ -98,7 +95,7 @@ module _ (p : Problem) (s : Schedule) (ip : IsProblem p) (lg : Legal p s) (ms : 
         | inr d ↦ from g' n' r' vs (state_other p s lg l ms 0 b ts us _ at starts_at begun_count (lun_of h.members) _ d k) (starts_other p s lg l ms 0 b ts us _ at starts_at begun_count (lun_of h.members) vs d m)
       ]
 
-  begun_from_since : (h : Placed) → ((since' : ℕ) → slice_get p.luns (lun_of h.members) ≡ Some (Free since') → StartsFrom since' h.starts) → (since' : ℕ) → slice_get begun.luns (lun_of h.members) ≡ Some (Free since') → StartsFrom since' h.starts
+  begun_from_since : (h : Placed) → FromFree p.luns h → FromFree begun.luns h
   begun_from_since h from since' k =
       elim (same_place l (lun_of h.members)) [
         | inl e ↦ (

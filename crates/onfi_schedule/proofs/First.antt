@@ -17,7 +17,7 @@ use Rattle.onfi_problem.proofs.Perm.{Perm, same, on_left, All-perm, Pairs-perm, 
 use Rattle.onfi_problem.proofs.Places.{get_set_same, get_set_other, length_set, same_place}
 use Rattle.onfi_problem.proofs.LunAfter.{lun_after_running, lun_after_free, running_is, free_is}
 use Rattle.onfi_schedule.proofs.Chains.{all_long}
-use Rattle.onfi_schedule.proofs.Rests.{rest_changed}
+use Rattle.onfi_schedule.proofs.Rests.{RunningFirst, FromFree, rest_changed}
 
 -- every phase takes time
 rest_long : (timing : Timing) (first : ℕ) (luns : List LunState) (rest : List (List ℕ)) → All (λ x. 1 ≤ x.length) (rest_phases timing first luns rest)
@@ -105,10 +105,7 @@ module _ (p : Problem) (s : Schedule) (ip : IsProblem p) (lg : Legal p s) (l : �
   abbrev NewLuns : List LunState
   NewLuns = slice_set p.luns l (lun_after p.timing g n (t + phase_length (group_spans p.timing g) (length g) n))
 
-  abbrev pub RunningFirst : List LunState → List (List ℕ) → Placed → Type 0
-  RunningFirst luns rest h = (group : List Want) (next ready : ℕ) (starts : List ℕ) → slice_get luns (lun_of h.members) ≡ Some (Running group next ready) → slice_get rest (lun_of h.members) ≡ Some starts → Before (phases_left p.timing (lun_of h.members) (Running group next ready) starts) (group_phases p.timing h)
-
-  next_running_first : (h : Placed) → RunningFirst p.luns s.rest h → RunningFirst NewLuns (slice_set s.rest l ts) h
+  next_running_first : (h : Placed) → RunningFirst p.timing p.luns s.rest h → RunningFirst p.timing NewLuns (slice_set s.rest l ts) h
   next_running_first h old g' n' r' vs k m =
       let b = t + phase_length (group_spans p.timing g) (length g) n in
       elim (same_place l (lun_of h.members)) [
@@ -120,7 +117,7 @@ module _ (p : Problem) (s : Schedule) (ip : IsProblem p) (lg : Legal p s) (l : �
         | inr d ↦ old g' n' r' vs (state_other p s lg l g n b ts (t ∷ ts) _ at starts_at next_count (lun_of h.members) _ d k) (starts_other p s lg l g n b ts (t ∷ ts) _ at starts_at next_count (lun_of h.members) vs d m)
       ]
 
-  next_from_since : (h : Placed) → RunningFirst p.luns s.rest h → ((since : ℕ) → slice_get p.luns (lun_of h.members) ≡ Some (Free since) → StartsFrom since h.starts) → (since : ℕ) → slice_get NewLuns (lun_of h.members) ≡ Some (Free since) → StartsFrom since h.starts
+  next_from_since : (h : Placed) → RunningFirst p.timing p.luns s.rest h → FromFree p.luns h → FromFree NewLuns h
   next_from_since h old from since k =
       let b = t + phase_length (group_spans p.timing g) (length g) n in
       elim (same_place l (lun_of h.members)) [

@@ -3,10 +3,21 @@ use Rattle.std.proofs.Common.{◌≡◌, ℕ, zero, suc, ◌+◌, inl, inr, List
 use Rattle.std.specs.Prelude.{slice_get, slice_set}
 use Rattle.std.specs.List.{AllByRecursion as All}
 use Rattle.onfi_timing.specs.declared.timing.Timing.{Timing}
+use Rattle.onfi_request.specs.declared.want.Want.{Want}
 use Rattle.onfi_problem.specs.declared.lun_state.LunState.{LunState}
+use Rattle.onfi_problem.specs.declared.lun_state.LunState.TheVariants.{Free, Running}
+use Rattle.onfi_group.specs.Group.{lun_of}
 use Rattle.onfi_group.specs.Words.{Has}
-use Rattle.onfi_schedule.specs.Schedule.{Phase, phases_left, rest_phases}
+use Rattle.onfi_schedule.specs.Schedule.{Placed, Phase, phases_left, rest_phases, group_phases, Before, StartsFrom}
 use Rattle.onfi_problem.proofs.Perm.{Perm, trans, on_left, on_right, between, All-front, All-back, Has-append_cases}
+
+-- what runs on the LUN of a new group has ended when the new one starts
+abbrev pub RunningFirst : Timing → List LunState → List (List ℕ) → Placed → Type 0
+RunningFirst timing luns rest g = (group : List Want) (next ready : ℕ) (starts : List ℕ) → slice_get luns (lun_of g.members) ≡ Some (Running group next ready) → slice_get rest (lun_of g.members) ≡ Some starts → Before (phases_left timing (lun_of g.members) (Running group next ready) starts) (group_phases timing g)
+
+-- where the LUN of a new group is free, the group starts no sooner
+abbrev pub FromFree : List LunState → Placed → Type 0
+FromFree luns g = (since : ℕ) → slice_get luns (lun_of g.members) ≡ Some (Free since) → StartsFrom since g.starts
 
 -- a change at one LUN
 pub rest_changed : (timing : Timing) (first lun here : ℕ) (luns : List LunState) (rest : List (List ℕ)) (state state' : LunState) (ts ts' : List ℕ) (before behind : List Phase) → here ≡ first + lun → slice_get luns lun ≡ Some state → slice_get rest lun ≡ Some ts → Perm (before ++ phases_left timing here state ts) (behind ++ phases_left timing here state' ts') → Perm (before ++ rest_phases timing first luns rest) (behind ++ rest_phases timing first (slice_set luns lun state') (slice_set rest lun ts'))
