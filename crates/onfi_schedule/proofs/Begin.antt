@@ -4,13 +4,12 @@ use Rattle.std.specs.Prelude.{slice_get, slice_set}
 use Rattle.std.specs.List.{AllByRecursion as All, flat_map}
 use Rattle.onfi_timing.specs.declared.timing.Timing.{Timing}
 use Rattle.onfi_request.specs.declared.want.Want.{Want}
-use Rattle.onfi_problem.specs.declared.lun_state.LunState.{LunState}
-use Rattle.onfi_problem.specs.declared.lun_state.LunState.TheVariants.{Free, Running}
+use Rattle.onfi_problem.specs.declared.lun_state.LunState.TheVariants.{Free}
 use Rattle.onfi_group.specs.Words.{Has, number}
 use Rattle.onfi_problem.specs.Problem.{Problem, IsProblem, has_id}
 use Rattle.onfi_group.specs.Group.{IsGroup, group_spans, lun_of}
 use Rattle.onfi_timing.specs.Phases.{phase_length}
-use Rattle.onfi_schedule.specs.Schedule.{Placed, Schedule, Phase, phases_from, phases_left, rest_phases, group_phases, phases, InOrder, Apart, Before, StartsFrom, TakeTurns, all_members, Legal}
+use Rattle.onfi_schedule.specs.Schedule.{Placed, Schedule, Phase, phases_from, rest_phases, group_phases, phases, InOrder, Apart, Before, TakeTurns, all_members, Legal}
 use Rattle.onfi_problem.specs.Moves.{lun_after, without}
 use Rattle.onfi_problem.proofs.Perm.{Perm, same, trans, back, on_left, on_right, to_front, between, append_nil, All-perm, Pairs-perm, Has-perm, flat_map-perm, total-perm, All-back, All-each, All-has, All-flat_map}
 use Rattle.onfi_problem.proofs.Places.{length_set, same_place}

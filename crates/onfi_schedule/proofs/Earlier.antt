@@ -1,5 +1,5 @@
 -- What is legal stays so where times are earlier.
-use Rattle.std.proofs.Common.{◌≡◌, ℕ, zero, suc, ◌+◌, ◌≤◌, List, [], ◌∷◌, ◌++◌, length, Some, refl, sym, ap, ◌∙◌, subst, arith}
+use Rattle.std.proofs.Common.{◌≡◌, ℕ, suc, ◌+◌, ◌≤◌, List, [], ◌∷◌, ◌++◌, length, Some, refl, sym, ap, ◌∙◌, subst, arith}
 use Rattle.std.specs.Prelude.{slice_get, slice_set}
 use Rattle.std.specs.List.{AllByRecursion as All, flat_map}
 use Rattle.onfi_timing.specs.declared.timing.Timing.{Timing}
@@ -13,7 +13,7 @@ use Rattle.onfi_problem.specs.declared.lun_state.LunState.TheVariants.{Free, Run
 use Rattle.onfi_problem.specs.Problem.{Problem}
 use Rattle.onfi_problem.specs.Moves.{Next, Start, lun_after, without}
 use Rattle.onfi_problem.proofs.Perm.{All-weaker}
-use Rattle.onfi_schedule.specs.Schedule.{Placed, Schedule, Phase, rest_phases, group_phases, phases_left, phases, latest, finish, rest_of, Apart, Before, StartsFrom, Legal}
+use Rattle.onfi_schedule.specs.Schedule.{Schedule, Phase, rest_phases, group_phases, phases_left, phases, latest, finish, Apart, StartsFrom, Legal}
 use Rattle.onfi_schedule.specs.Laws.{EarlierLaw}
 use Rattle.onfi_schedule.proofs.Chains.{lower_floor}
 use Rattle.onfi_schedule.proofs.Rests.{RunningFirst, FromFree}

@@ -11,7 +11,7 @@ use Rattle.onfi_problem.specs.declared.lun_state.LunState.TheVariants.{Free, Run
 use Rattle.onfi_problem.specs.Problem.{Problem, IsProblem}
 use Rattle.onfi_group.specs.Group.{group_spans, lun_of}
 use Rattle.onfi_timing.specs.Phases.{phase_length, wait_before}
-use Rattle.onfi_schedule.specs.Schedule.{Placed, Schedule, Phase, end_of, phases_from, phases_left, rest_phases, group_phases, phases, InOrder, Apart, Before, StartsFrom, Legal}
+use Rattle.onfi_schedule.specs.Schedule.{Placed, Schedule, Phase, end_of, phases_from, phases_left, rest_phases, group_phases, phases, InOrder, Apart, StartsFrom, Legal}
 use Rattle.onfi_problem.specs.Moves.{lun_after, ran}
 use Rattle.onfi_problem.proofs.Perm.{Perm, same, on_left, All-perm, Pairs-perm, All-append, All-weaker, All-both}
 use Rattle.onfi_problem.proofs.Places.{get_set_same, get_set_other, length_set, same_place}

@@ -2,7 +2,7 @@
 use Rattle.std.proofs.Common.{◌≡◌, ℕ, zero, suc, ◌+◌, ◌≤◌, ◌<◌, ◌⊎◌, inl, inr, ⊎_elim, List, [], ◌∷◌, ◌++◌, length, Some, refl, sym, ap, ◌∙◌, subst, arith}
 use Rattle.std.specs.Prelude.{slice_get, slice_set, true, max, ◌==◌}
 use Rattle.std.specs.List.{AllByRecursion as All}
-use Rattle.std.proofs.lemmas.Bool.{cases_lt, cases_Bool, eqb-true, eq-eqb, false≢true}
+use Rattle.std.proofs.lemmas.Bool.{cases_lt, cases_Bool, eqb-true, false≢true}
 use Rattle.std.proofs.lemmas.List.{nil_from_length}
 use Rattle.onfi_timing.specs.declared.spans.Spans.{Spans}
 use Rattle.onfi_request.specs.declared.want.Want.{Want}
@@ -20,8 +20,8 @@ use Rattle.onfi_problem.proofs.Perm.{Perm, back, All-perm, All-has, All-each, Al
 use Rattle.onfi_problem.proofs.Places.{get_within, within_get}
 use Rattle.onfi_schedule.proofs.Chains.{is_head}
 use Rattle.onfi_schedule.proofs.Rests.{all_at, has_at}
-use Rattle.onfi_schedule.proofs.First.{phases_long, next_schedule, next_phase, next_phases, next_legal}
-use Rattle.onfi_schedule.proofs.Begin.{begun_schedule, begun_phase, begun_phases, begun_legal, not_before, phases_number}
+use Rattle.onfi_schedule.proofs.First.{phases_long, next_phase, next_phases, next_legal}
+use Rattle.onfi_schedule.proofs.Begin.{begun_phase, begun_phases, begun_legal, not_before, phases_number}
 use Rattle.onfi_problem.proofs.Kept.{kept}
 use Rattle.onfi_problem.proofs.Wants.{number_has, some_with_id, same_by_id}
 use Rattle.onfi_group.proofs.Firsts.{on_own_block}

@@ -1,17 +1,17 @@
 -- The words of the functions that look for a broken condition say that a schedule is legal.
-use Rattle.std.proofs.Common.{◌≡◌, ℕ, zero, suc, ◌≤◌, ◌↔◌, ◌⊎◌, List, [], ◌∷◌, Some, inl, inr, refl, sym, ◌∙◌, subst, arith}
+use Rattle.std.proofs.Common.{◌≡◌, ℕ, zero, suc, ◌≤◌, ◌⊎◌, List, [], ◌∷◌, Some, inl, inr, refl, sym, ◌∙◌, subst, arith}
 use Rattle.std.specs.Prelude.{slice_get}
 use Rattle.onfi_request.specs.declared.want.Want.{Want}
 use Rattle.std.specs.List.{AllByRecursion as All}
 use Rattle.onfi_group.specs.Words.{Has, Pairs, number}
-use Rattle.onfi_group.specs.Group.{lun_of, IsGroup}
+use Rattle.onfi_group.specs.Group.{IsGroup}
 use Rattle.onfi_problem.specs.Problem.{Problem, IsProblem, has_id}
 use Rattle.onfi_problem.specs.Left.{InLimits}
 use Rattle.onfi_problem.specs.declared.lun_state.LunState.{LunState}
 use Rattle.onfi_problem.specs.declared.lun_state.LunState.TheVariants.{Free, Running}
 use Rattle.onfi_problem.proofs.Perm.{All-has, All-each, All-weaker, All-flat_map}
 use Rattle.onfi_problem.proofs.Wants.{Pairs-weaker, number_has, some_with_id, one_with_id}
-use Rattle.onfi_schedule.specs.Schedule.{Placed, Schedule, IsSchedule, Legal, all_members, rest_of, phases_left, group_phases, Before, StartsFrom, KeepsBlockOrder}
+use Rattle.onfi_schedule.specs.Schedule.{Placed, Schedule, IsSchedule, Legal, all_members, KeepsBlockOrder}
 use Rattle.onfi_schedule.specs.Conditions.{HasShape, KeepsBus, KeepsWaits, KeepsTurns, EachRest, StateFits, StateWaits, LeftFirst, FromSince, HoldsOnce, InBlockOrder, start_count}
 use Rattle.onfi_schedule.proofs.Rests.{RunningFirst, FromFree}
 use Rattle.onfi_schedule.proofs.Room.{id_count_is, members_among, few_starts}
