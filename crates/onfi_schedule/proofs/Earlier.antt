@@ -16,6 +16,7 @@ use Rattle.onfi_problem.proofs.Perm.{All-weaker}
 use Rattle.onfi_schedule.specs.Schedule.{Schedule, Phase, rest_phases, group_phases, phases_left, phases, latest, finish, Apart, StartsFrom, Legal}
 use Rattle.onfi_schedule.specs.Laws.{EarlierLaw}
 use Rattle.onfi_schedule.proofs.Chains.{lower_floor}
+use Rattle.onfi_schedule.proofs.First.{starts_lower}
 use Rattle.onfi_schedule.proofs.Rests.{RunningFirst, FromFree}
 use Rattle.onfi_schedule.proofs.Sooner.{SoonerState, SoonerLuns, luns_self, set_sooner, after_sooner, at_times, state_below, as_running}
 
@@ -42,10 +43,6 @@ rest_same timing first (x ∷ xs) [] rest h = absurd h
 rest_same timing first (x ∷ xs) (y ∷ ys) [] h = refl
 rest_same timing first (x ∷ xs) (y ∷ ys) (ts ∷ rest) h =
     ap (λ ps. ps ++ rest_phases timing (first + 1) xs rest) (left_same timing first x y ts h.0) ∙ ap (λ ps. phases_left timing first y ts ++ ps) (rest_same timing (first + 1) xs ys rest h.1)
-
-starts_lower : (a b : ℕ) (ts : List ℕ) → a ≤ b → StartsFrom b ts → StartsFrom a ts
-starts_lower a b [] l h = tt
-starts_lower a b (t ∷ ts) l h = omega arith
 
 latest_sooner : (a b : ℕ) (ps : List Phase) → a ≤ b → latest a ps ≤ latest b ps
 latest_sooner a b [] h = h

@@ -1,6 +1,7 @@
 -- The words of the functions that look for a broken condition say that a schedule is legal.
 use Rattle.std.proofs.Common.{◌≡◌, ℕ, zero, suc, ◌≤◌, ◌⊎◌, List, [], ◌∷◌, Some, inl, inr, refl, sym, ◌∙◌, subst, arith}
 use Rattle.std.specs.Prelude.{slice_get}
+use Rattle.onfi_timing.specs.declared.timing.Timing.{Timing}
 use Rattle.onfi_request.specs.declared.want.Want.{Want}
 use Rattle.std.specs.List.{AllByRecursion as All}
 use Rattle.onfi_group.specs.Words.{Has, Pairs, number}
@@ -13,7 +14,7 @@ use Rattle.onfi_problem.proofs.Perm.{All-has, All-each, All-weaker, All-flat_map
 use Rattle.onfi_problem.proofs.Wants.{Pairs-weaker, number_has, some_with_id, one_with_id}
 use Rattle.onfi_schedule.specs.Schedule.{Placed, Schedule, IsSchedule, Legal, all_members, KeepsBlockOrder}
 use Rattle.onfi_schedule.specs.Conditions.{HasShape, KeepsBus, KeepsWaits, KeepsTurns, EachRest, StateFits, StateWaits, LeftFirst, FromSince, HoldsOnce, InBlockOrder, start_count}
-use Rattle.onfi_schedule.proofs.Rests.{RunningFirst, FromFree}
+use Rattle.onfi_schedule.proofs.Rests.{RunningFirst, FromFree, At}
 use Rattle.onfi_schedule.proofs.Room.{id_count_is, members_among, few_starts}
 
 -- at one LUN, and from each
@@ -34,11 +35,24 @@ each_from P (x ∷ luns) (us ∷ rest) h = (h 0 x us refl refl, each_from P luns
 none_or_some : (n : ℕ) → (n ≡ 0) ⊎ (1 ≤ n)
 none_or_some n = grind arith
 
-module _ (p : Problem) (s : Schedule) (ip : IsProblem p) where
-  fits_of : IsSchedule p s → (i : ℕ) (state : LunState) (ts : List ℕ) → slice_get p.luns i ≡ Some state → slice_get s.rest i ≡ Some ts → StateFits state ts
-  fits_of sh i (Free since) ts e k = sh.no_rest i since ts e k
-  fits_of sh i (Running g n r) ts e k = sh.rest i g n r ts e k
+-- LUN by LUN
+pub fits_of : (p : Problem) (s : Schedule) → IsSchedule p s → (j : ℕ) → At StateFits p.luns s.rest j
+fits_of p s sh j (Free since) ts e k = sh.no_rest j since ts e k
+fits_of p s sh j (Running g n r) ts e k = sh.rest j g n r ts e k
 
+pub waits_of : (p : Problem) (s : Schedule) → Legal p s → (j : ℕ) → At (StateWaits p.timing) p.luns s.rest j
+waits_of p s lg j (Free since) ts e k = tt
+waits_of p s lg j (Running g n r) ts e k = lg.rest_waits j g n r ts e k
+
+pub left_from : (timing : Timing) (luns : List LunState) (rest : List (List ℕ)) (g : Placed) → RunningFirst timing luns rest g → LeftFirst timing luns rest g
+left_from timing luns rest g h (Free since) ts e k = tt
+left_from timing luns rest g h (Running group n r) ts e k = h group n r ts e k
+
+pub since_from : (luns : List LunState) (g : Placed) → FromFree luns g → FromSince luns g
+since_from luns g h (Free since) e = h since e
+since_from luns g h (Running group n r) e = tt
+
+module _ (p : Problem) (s : Schedule) (ip : IsProblem p) where
   -- no other member has the id of a want
   once_of : HasShape p.luns p.wants s → (id : ℕ) → number (has_id id) (all_members s.groups) ≡ number (has_id id) p.wants
   once_of sh id =
@@ -74,23 +88,11 @@ module _ (p : Problem) (s : Schedule) (ip : IsProblem p) where
   pub shape_from : IsSchedule p s → HasShape p.luns p.wants s
   shape_from sh = record {
     luns = sh.luns;
-    rest = each_from StateFits p.luns s.rest (fits_of sh);
+    rest = each_from StateFits p.luns s.rest (fits_of p s sh);
     starts = sh.starts;
     members = All-flat_map (Has p.wants) (λ g. g.members) s.groups sh.wants_only;
     once = All-each (HoldsOnce s.groups) p.wants (λ w k. id_count_is s.groups w.id ∙ sh.once w.id ∙ one_with_id p.wants w ip.ids k);
   }
-
-  waits_of : Legal p s → (i : ℕ) (state : LunState) (ts : List ℕ) → slice_get p.luns i ≡ Some state → slice_get s.rest i ≡ Some ts → StateWaits p.timing state ts
-  waits_of lg i (Free since) ts e k = tt
-  waits_of lg i (Running g n r) ts e k = lg.rest_waits i g n r ts e k
-
-  left_from : (g : Placed) → RunningFirst p.timing p.luns s.rest g → LeftFirst p.timing p.luns s.rest g
-  left_from g h (Free since) ts e k = tt
-  left_from g h (Running group n r) ts e k = h group n r ts e k
-
-  since_from : (g : Placed) → FromFree p.luns g → FromSince p.luns g
-  since_from g h (Free since) e = h since e
-  since_from g h (Running group n r) e = tt
 
   order_to : (a b : Want) → InBlockOrder p.timing s.groups a b → KeepsBlockOrder p.timing s.groups a b
   order_to a b o el eb g h hg hh ma mb = All-has _ s.groups h (All-has _ s.groups g (o.holders_end el eb) hg ma) hh mb
@@ -113,13 +115,13 @@ module _ (p : Problem) (s : Schedule) (ip : IsProblem p) where
   }
 
   pub waits_from : Legal p s → KeepsWaits p.timing p.luns s
-  waits_from lg = record { rest_waits = each_from (StateWaits p.timing) p.luns s.rest (waits_of lg); groups_wait = lg.waits }
+  waits_from lg = record { rest_waits = each_from (StateWaits p.timing) p.luns s.rest (waits_of p s lg); groups_wait = lg.waits }
 
   pub turns_from : Legal p s → KeepsTurns p.timing p.luns s
   turns_from lg = record {
-    left_first = All-weaker (RunningFirst p.timing p.luns s.rest) (LeftFirst p.timing p.luns s.rest) left_from s.groups lg.running_first;
+    left_first = All-weaker (RunningFirst p.timing p.luns s.rest) (LeftFirst p.timing p.luns s.rest) (left_from p.timing p.luns s.rest) s.groups lg.running_first;
     turns = lg.turns;
-    from_since = All-weaker (FromFree p.luns) (FromSince p.luns) since_from s.groups lg.from_since;
+    from_since = All-weaker (FromFree p.luns) (FromSince p.luns) (since_from p.luns) s.groups lg.from_since;
   }
 
   pub block_order_from : Legal p s → Pairs (InBlockOrder p.timing s.groups) p.wants

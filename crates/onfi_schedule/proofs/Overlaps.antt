@@ -1,12 +1,11 @@
 -- Two phases of a list, of which one starts while the other lasts.
-use Rattle.std.proofs.Common.{◌≡◌, ℕ, zero, suc, ◌+◌, ◌<◌, List, [], ◌∷◌, length, take, drop, slice_index_or, inl, inr, refl, arith}
+use Rattle.std.proofs.Common.{◌≡◌, ℕ, zero, suc, ◌+◌, ◌<◌, List, [], ◌∷◌, length, take, drop, slice_index_or, inl, inr, refl, sym, subst, arith}
 use Rattle.onfi_group.specs.Words.{Has}
 use Rattle.onfi_problem.specs.Problem.{Problem}
 use Rattle.onfi_schedule.specs.declared.phase.Phase.{Phase}
 use Rattle.onfi_schedule.specs.Schedule.{Schedule, phases}
 use Rattle.onfi_schedule.specs.declared.slot.Slot.{Slot}
 use Rattle.onfi_schedule.specs.declared.breach.Breach.{Breach}
-use Rattle.onfi_schedule.specs.declared.breach.Breach.TheVariants.{ForeignLun, MissingLun, RestOfFreeLun, RestCount, StartCount, UnknownRequest, MissingRequest, RepeatedRequest, MixedGroup, SinglePlane, PlaneOrder, BusNotFree, NotReady, WaitTooShort, RunningGroupLeft, LunTaken, LunNotFree, BlockOrder, Overlap}
 use Rattle.onfi_schedule.specs.Slots.{phases_in}
 use Rattle.onfi_schedule.specs.Tells.{Tells, TellsOf, EitherMeets, AnyPair}
 
@@ -32,22 +31,4 @@ pair_at R (x ∷ xs) (suc i) zero d o e h k r = absurd (omega (arith, e))
 pair_at R (x ∷ xs) (suc i) (suc j) d o e h k r = inr (pair_at R xs i j d o (omega (arith, e)) (omega (arith, h)) k r)
 
 pub tells_met : (p : Problem) (s : Schedule) (x y : Phase) (b : Breach) → TellsOf x y b → ((start from to : ℕ) → EitherMeets start from to x y → AnyPair (EitherMeets start from to) (phases p s)) → Tells p s b
-tells_met p s x y (Overlap name start holder from to) t f = f start from to t
-tells_met p s x y (ForeignLun a) t f = absurd t
-tells_met p s x y (MissingLun a) t f = absurd t
-tells_met p s x y (RestOfFreeLun a) t f = absurd t
-tells_met p s x y (RestCount a b c) t f = absurd t
-tells_met p s x y (StartCount a b c) t f = absurd t
-tells_met p s x y (UnknownRequest a) t f = absurd t
-tells_met p s x y (MissingRequest a) t f = absurd t
-tells_met p s x y (RepeatedRequest a b) t f = absurd t
-tells_met p s x y (MixedGroup a b c) t f = absurd t
-tells_met p s x y (SinglePlane a b) t f = absurd t
-tells_met p s x y (PlaneOrder a b) t f = absurd t
-tells_met p s x y (BusNotFree a b c) t f = absurd t
-tells_met p s x y (NotReady a b c d) t f = absurd t
-tells_met p s x y (WaitTooShort a b c d e) t f = absurd t
-tells_met p s x y (RunningGroupLeft a b c d) t f = absurd t
-tells_met p s x y (LunTaken a b c d e g) t f = absurd t
-tells_met p s x y (LunNotFree a b c d) t f = absurd t
-tells_met p s x y (BlockOrder a b c d) t f = absurd t
+tells_met p s x y b t f = subst (Tells p s) (sym t.5) (f t.1 t.3 t.4 t.6)

@@ -8,6 +8,7 @@ use Rattle.onfi_schedule.specs.Schedule.{Placed, Schedule, end_of, phases}
 use Rattle.onfi_schedule.specs.declared.phase.Phase.{Phase}
 use Rattle.onfi_schedule.specs.Conditions.{id_count}
 use Rattle.onfi_schedule.specs.declared.breach.Breach.{Breach}
+use Rattle.onfi_schedule.specs.declared.phase_name.PhaseName.{PhaseName}
 use Rattle.onfi_schedule.specs.declared.breach.Breach.TheVariants.{ForeignLun, MissingLun, RestOfFreeLun, RestCount, StartCount, UnknownRequest, MissingRequest, RepeatedRequest, MixedGroup, SinglePlane, PlaneOrder, BusNotFree, NotReady, WaitTooShort, LunNotFree, RunningGroupLeft, LunTaken, BlockOrder, Overlap}
 
 -- the number of the first member
@@ -62,5 +63,4 @@ Tells p s (BlockOrder a b c d) = Unit {0}
 
 -- what an overlap says of the very two phases
 abbrev pub TellsOf : Phase → Phase → Breach → Type 0
-TellsOf x y (Overlap name start holder from to) = EitherMeets start from to x y
-TellsOf x y breach = ⊥
+TellsOf x y b = (name : PhaseName) × (start : ℕ) × (holder : PhaseName) × (from : ℕ) × (to : ℕ) × (b ≡ Overlap name start holder from to) × EitherMeets start from to x y

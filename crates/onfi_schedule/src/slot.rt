@@ -4,7 +4,7 @@ use crate::phase::Phase;
 use crate::phase_name::PhaseName;
 
 /// A phase with its name.
-#[derive(Clone, Copy, Debug)]
+#[derive(Clone, Copy)]
 pub(crate) struct Slot {
     pub(crate) name: PhaseName,
     pub(crate) phase: Phase,
