@@ -13,7 +13,7 @@ use Rattle.onfi_problem.specs.declared.lun_state.LunState.TheVariants.{Free, Run
 use Rattle.onfi_problem.specs.Problem.{Problem}
 use Rattle.onfi_problem.specs.Moves.{Next, Start, lun_after, without}
 use Rattle.onfi_problem.proofs.Perm.{All-weaker}
-use Rattle.onfi_schedule.specs.Schedule.{Schedule, Phase, rest_phases, group_phases, phases_left, phases, latest, finish, Apart, StartsFrom, Legal}
+use Rattle.onfi_schedule.specs.Schedule.{Schedule, Phase, rest_phases, group_phases, phases_left, phases, latest, finish, Apart, Legal}
 use Rattle.onfi_schedule.specs.Laws.{EarlierLaw}
 use Rattle.onfi_schedule.proofs.Chains.{lower_floor}
 use Rattle.onfi_schedule.proofs.First.{starts_lower}
