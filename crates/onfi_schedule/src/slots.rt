@@ -25,6 +25,9 @@ use onfi_timing::{Spans, Timing};
 /// of eight requests.
 pub(crate) type Slots = ArrayVec<Slot, 80>;
 
+/// Those of one group, which has at most eight phases.
+pub(crate) type GroupSlots = ArrayVec<Slot, 8>;
+
 /// What is common to the phases of a group from number `next` on; a new group begins with number 0.
 #[derive(Clone, Copy)]
 pub(crate) struct Work {
@@ -91,8 +94,13 @@ impl Work {
 }
 
 /// Puts the phases of a group at these starts behind the others.
-fn push_work(slots: &mut Slots, work: &Work, members: &[Want], starts: &[u64])
-    requires room { array_vec_len slots.old + length starts.now ≤ 80 }
+fn push_work<const CAP: usize>(
+    slots: &mut ArrayVec<Slot, CAP>,
+    work: &Work,
+    members: &[Want],
+    starts: &[u64],
+)
+    requires room { array_vec_len slots.old + length starts.now ≤ CAP }
     requires few { work.now.next + length starts.now < 2 ^ 60 }
     requires small { Each (λ t. t < 2 ^ 63) starts.now }
     ensures phases { phases_in slots.new.items ≡ phases_in slots.old.items ++ phases_from work.now.lun work.now.spans (length members.now) work.now.next starts.now }
@@ -113,15 +121,15 @@ fn push_work(slots: &mut Slots, work: &Work, members: &[Want], starts: &[u64])
 }
 
 /// Puts what is left of a running group behind the others; nothing where the LUN is free.
-pub(crate) fn push_left(
-    slots: &mut Slots,
+pub(crate) fn push_left<const CAP: usize>(
+    slots: &mut ArrayVec<Slot, CAP>,
     timing: &Timing,
     table: &[Group],
     at: u8,
     lun: &Lun,
     starts: &Starts,
 )
-    requires room { array_vec_len slots.old ≤ 72 }
+    requires room { array_vec_len slots.old + 8 ≤ CAP }
     requires named { Names table.now lun.now }
     ensures phases { phases_in slots.new.items ≡ phases_in slots.old.items ++ phases_left timing.now at (state_of table.now lun.now) starts.now }
     ensures len { array_vec_len slots.new ≤ array_vec_len slots.old + 8 }
@@ -135,8 +143,13 @@ pub(crate) fn push_left(
 }
 
 /// Puts the phases of a new group behind the others.
-pub(crate) fn push_group(slots: &mut Slots, timing: &Timing, members: &Group, starts: &[u64])
-    requires room { array_vec_len slots.old + length starts.now ≤ 80 }
+pub(crate) fn push_group<const CAP: usize>(
+    slots: &mut ArrayVec<Slot, CAP>,
+    timing: &Timing,
+    members: &Group,
+    starts: &[u64],
+)
+    requires room { array_vec_len slots.old + length starts.now ≤ CAP }
     requires small { Each (λ t. t < 2 ^ 63) starts.now }
     ensures phases { phases_in slots.new.items ≡ phases_in slots.old.items ++ group_phases timing.now (record { members = members.now; starts = starts.now }) }
     ensures len { array_vec_len slots.new ≡ array_vec_len slots.old + length starts.now }

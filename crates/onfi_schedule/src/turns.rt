@@ -13,7 +13,7 @@ ghost use Rattle.onfi_schedule.specs.Slots.{phases_in, EndsFirst};
 use crate::breach::Breach;
 use crate::placed::Placed;
 use crate::slot::Slot;
-use crate::slots::{self, Slots};
+use crate::slots::{self, GroupSlots};
 use crate::starts::Starts;
 use arrayvec::ArrayVec;
 use onfi_group::Group;
@@ -21,7 +21,7 @@ use onfi_problem::Lun;
 use onfi_timing::Timing;
 
 /// The phases of a new group.
-pub(crate) fn slots_of(timing: &Timing, group: &Placed) -> Slots
+pub(crate) fn slots_of(timing: &Timing, group: &Placed) -> GroupSlots
     ensures { phases_in result.items ≡ group_phases timing.now group.now }
 {
     let mut slots = ArrayVec::new();
@@ -89,7 +89,7 @@ fn before_end_of(
     ensures none { IsNone result ↔ Before (phases_left timing.now (lun_of group.now.members) (state_of table.now lun.now) starts.now) (group_phases timing.now group.now) }
     ensures about { IfSome result (λ b. condition_of b ≡ running_first) }
 {
-    let mut left = ArrayVec::new();
+    let mut left: GroupSlots = ArrayVec::new();
     slots::push_left(&mut left, timing, table, group.members().lun(), lun, starts);
     let own = slots_of(timing, group);
     if are_before(left.as_slice(), own.as_slice()) {

@@ -5,7 +5,7 @@ use Rattle.onfi_schedule.specs.Slots.{phases_in}
 use Rattle.onfi_schedule.proofs.slots.push_work.Given as goal
 
 abbrev pub invariant-loop-start : goal.invariant-loop-start
-invariant-loop-start l =
+invariant-loop-start _ l =
     let w = l.work in
     record {
       number : l.number ≡ w.next + l.start-index;
