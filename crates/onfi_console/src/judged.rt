@@ -1,9 +1,8 @@
 //! Why a plan text or its certificate is refused.
 use crate::escaping::shown;
 use crate::input::{Input, line_at, line_start, word_at};
-use onfi_breach::find_breach;
 use onfi_problem::Problem;
-use onfi_schedule::{Schedule, finish, legal};
+use onfi_schedule::{Schedule, find_breach, finish, legal};
 use onfi_script::{
     Command, PlanWithin, Purpose, behind_end, device_of, read_plan_within, read_rows, script_len,
     set_up,

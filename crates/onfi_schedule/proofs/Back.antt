@@ -1,5 +1,5 @@
 -- A legal schedule of what a move leaves gives one with the move's phase in front.
-use Rattle.std.proofs.Common.{◌≡◌, ◌≢◌, ℕ, suc, ◌+◌, ◌*◌, ◌≤◌, ◌<◌, inl, inr, ⊎_elim, Bool, true, List, [], ◌∷◌, ◌++◌, length, Some, refl, sym, ap, ◌∙◌, subst, arith, append_assoc}
+use Rattle.std.proofs.Common.{◌≡◌, ℕ, suc, ◌+◌, ◌*◌, ◌≤◌, ◌<◌, inl, inr, ⊎_elim, Bool, true, List, [], ◌∷◌, ◌++◌, length, Some, refl, sym, ap, ◌∙◌, subst, arith, append_assoc}
 use Rattle.std.specs.Prelude.{slice_get, slice_set, max, not, if◌then◌else◌}
 use Rattle.std.specs.List.{AllByRecursion as All, flat_map, filter}
 use Rattle.std.proofs.lemmas.Bool.{cases_Bool, cases_lt, false≢true, eq-eqb}
@@ -14,10 +14,12 @@ use Rattle.onfi_group.specs.Group.{group_spans, lun_of, IsStartable, IsFirst, on
 use Rattle.onfi_timing.specs.Phases.{phase_length, wait_before}
 use Rattle.onfi_schedule.specs.Schedule.{Placed, Schedule, Phase, end_of, phases_from, phases_left, rest_phases, group_phases, phases, latest, finish, InOrder, Apart, Before, StartsFrom, KeepsBlockOrder, all_members, Legal, starts_at, with_first}
 use Rattle.onfi_problem.proofs.Perm.{Perm, turned, same, trans, back, on_left, to_front, between, All-perm, Pairs-perm, All-has, All-each, All-append, All-back, All-weaker, All-flat_map, Has-flat_map_in}
-use Rattle.onfi_problem.proofs.Places.{get_set_same, get_set_other, set_back, length_set, same_place, get_within, within_get}
-use Rattle.onfi_schedule.proofs.Rests.{rest_changed}
+use Rattle.onfi_problem.proofs.Places.{get_set_same, set_back, length_set, same_some, get_within, within_get}
+use Rattle.onfi_schedule.proofs.Rests.{At, set_state, set_at, rest_changed}
+use Rattle.onfi_schedule.proofs.LegalIs.{fits_of, waits_of, left_from, since_from}
+use Rattle.onfi_schedule.specs.Conditions.{StateFits, StateWaits, StateSince, LeftFirst, FromSince}
 use Rattle.onfi_problem.proofs.LunAfter.{lun_after_running, lun_after_free}
-use Rattle.onfi_schedule.proofs.First.{left_after, starts_from, Apart-sym}
+use Rattle.onfi_schedule.proofs.First.{left_after, starts_from, starts_lower, Apart-sym}
 use Rattle.onfi_problem.proofs.Wants.{first_has, total-append, Rising, Has-filter}
 use Rattle.onfi_problem.proofs.Totals.{startable_total}
 use Rattle.onfi_schedule.proofs.Least.{latest-perm, latest-behind}
@@ -63,17 +65,9 @@ module _ (p : Problem) (ws : List Want) (s' : Schedule) (l : ℕ) (g : List Want
         | inr a ↦ (let q = lg.shape.no_rest l c ts (state_there ∙ ap Some (lun_after_free p.timing g n c a)) rest_there in rw q tt)
       ]
 
-  other_state : (j : ℕ) (y : LunState) → l ≢ j → slice_get p.luns j ≡ Some y → slice_get (slice_set p.luns l (lun_after p.timing g n c)) j ≡ Some y
-  other_state j y d h = get_set_other p.luns l j _ (λ e. d (sym e)) ∙ h
-
-  other_rest : (j : ℕ) (vs : List ℕ) → l ≢ j → slice_get (slice_set s'.rest l new) j ≡ Some vs → slice_get s'.rest j ≡ Some vs
-  other_rest j vs d h = sym (get_set_other s'.rest l j new (λ e. d (sym e))) ∙ h
-
-  own_state : (j : ℕ) (y : LunState) → l ≡ j → slice_get p.luns j ≡ Some y → x ≡ y
-  own_state j y e h = let k = subst (λ i. slice_get p.luns i ≡ Some y) (sym e) h in cc
-
-  own_rest : (j : ℕ) (vs : List ℕ) → l ≡ j → slice_get (slice_set s'.rest l new) j ≡ Some vs → new ≡ vs
-  own_rest j vs e h = let k = subst (λ i. slice_get (slice_set s'.rest l new) i ≡ Some vs) (sym e) h in let q = get_set_same s'.rest l ts new rest_there in cc
+  -- what holds where the phase is over, and at LUN l before it, holds before it
+  back_at : (P : LunState → List ℕ → Type 0) (j : ℕ) → (l ≡ j → P x new) → At P (slice_set p.luns l (lun_after p.timing g n c)) s'.rest j → At P p.luns (slice_set s'.rest l new) j
+  back_at P j own other = subst (λ luns. At P luns (slice_set s'.rest l new) j) (set_back p.luns l _ x at) (set_at P (slice_set p.luns l (lun_after p.timing g n c)) s'.rest l (lun_after p.timing g n c) x ts new state_there rest_there j own other)
 
   abbrev first : Phase
   first = record { lun = l; start = t; length = phase_length (group_spans p.timing g) (length g) n }
@@ -96,12 +90,22 @@ module _ (p : Problem) (ws : List Want) (s' : Schedule) (l : ℕ) (g : List Want
         ],
       )
 
-  -- the groups that come behind `since` where the phase does
-  from_bus : (since : ℕ) → since ≤ t → (h : Placed) → Has s'.groups h → l ≡ lun_of h.members → StartsFrom since h.starts
-  from_bus since le h k e =
-      let b = (tail_first h k e).0 in
-      let weak = All-weaker (λ y. c ≤ y.start) (λ y. since ≤ y.start) (λ y q. omega arith) (group_phases p.timing h) b in
-      starts_from since (lun_of h.members) (group_spans p.timing h.members) (length h.members) 0 h.starts weak
+  back_fits : StateFits x new → (j : ℕ) → At StateFits p.luns (slice_set s'.rest l new) j
+  back_fits own j = back_at StateFits j (λ e. own) (fits_of (ran_with p l g n t ws) s' lg.shape j)
+
+  back_waits : StateWaits p.timing x new → (j : ℕ) → At (StateWaits p.timing) p.luns (slice_set s'.rest l new) j
+  back_waits own j = back_at (StateWaits p.timing) j (λ e. own) (waits_of (ran_with p l g n t ws) s' lg j)
+
+  back_left : (h : Placed) → Has s'.groups h → (Before (first ∷ tail) (group_phases p.timing h) → Before (phases_left p.timing l x new) (group_phases p.timing h)) → LeftFirst p.timing p.luns (slice_set s'.rest l new) h
+  back_left h k own =
+      let Left : ℕ → LunState → List ℕ → Type 0 = λ i z vs. Before (phases_left p.timing i z vs) (group_phases p.timing h) in
+      back_at (Left (lun_of h.members)) (lun_of h.members) (λ e. subst (λ i. Left i x new) e (own (tail_first h k e))) (left_from p.timing _ s'.rest h (All-has _ s'.groups h lg.running_first k))
+
+  back_since : (h : Placed) → Has s'.groups h → (StartsFrom c h.starts → StateSince x h.starts) → FromSince p.luns h
+  back_since h k own =
+      let starts : l ≡ lun_of h.members → StartsFrom c h.starts = λ e. starts_from c (lun_of h.members) (group_spans p.timing h.members) (length h.members) 0 h.starts (tail_first h k e).0 in
+      let there = since_from (slice_set p.luns l (lun_after p.timing g n c)) h (All-has _ s'.groups h lg.from_since k) in
+      subst (λ luns. FromSince luns h) (set_back p.luns l _ x at) (set_state (λ z. StateSince z h.starts) _ l (lun_after p.timing g n c) x state_there (lun_of h.members) (λ e. own (starts e)) there)
 
   -- all that is left, with the phase in front
   with_tail : (vs : List ℕ) → Perm (tail ++ rest_phases p.timing 0 p.luns (slice_set s'.rest l vs)) (phases_left p.timing l x vs ++ rest_phases p.timing 0 (slice_set p.luns l (lun_after p.timing g n c)) s'.rest)
@@ -149,52 +153,23 @@ module _ (p : Problem) (s' : Schedule) (ip : IsProblem p) (l : ℕ) (g : List Wa
   next_back =
       let x = Running g n r in
       let ws = p.wants in
+      let fits = back_fits p ws s' l g n t x us some unfinished at lg (count p ws s' l g n t x us some unfinished at lg) in
       record {
         shape = record {
           luns = length_set s'.rest l us ∙ lg.shape.luns ∙ length_set p.luns l _;
-          rest = λ j g' n' r' vs h k. elim (same_place l j) [
-            | inl e ↦ (
-                let a = own_state p ws s' l g n t x us some unfinished at lg j _ e h in
-                let b = own_rest p ws s' l g n t x us some unfinished at lg j vs e k in
-                let a0 : g ≡ g' = cc in let a1 : n ≡ n' = cc in
-                let q = count p ws s' l g n t x us some unfinished at lg in
-                rw (← a0, ← a1, ← b) q)
-            | inr d ↦ lg.shape.rest j g' n' r' vs (other_state p ws s' l g n t x us some unfinished at lg j _ d h) (other_rest p ws s' l g n t x us some unfinished at lg j vs d k)
-          ];
-          no_rest = λ j since vs h k. elim (same_place l j) [
-            | inl e ↦ (let a = own_state p ws s' l g n t x us some unfinished at lg j _ e h in cc)
-            | inr d ↦ lg.shape.no_rest j since vs (other_state p ws s' l g n t x us some unfinished at lg j _ d h) (other_rest p ws s' l g n t x us some unfinished at lg j vs d k)
-          ];
+          rest = λ j g' n' r' vs. fits j (Running g' n' r') vs;
+          no_rest = λ j since vs. fits j (Free since) vs;
           starts = lg.shape.starts;
           wants_only = lg.shape.wants_only;
           once = lg.shape.once;
         };
         from_bus_free = bus_first p ws s' l g n t x us some unfinished at lg (omega arith) (phases p back_next) next_perm;
         no_overlap = apart_first p ws s' l g n t x us some unfinished at lg (phases p back_next) next_perm;
-        rest_waits = λ j g' n' r' vs h k. elim (same_place l j) [
-          | inl e ↦ (
-              let a = own_state p ws s' l g n t x us some unfinished at lg j _ e h in
-              let b = own_rest p ws s' l g n t x us some unfinished at lg j vs e k in
-              let a0 : g ≡ g' = cc in let a1 : n ≡ n' = cc in let a2 : r ≡ r' = cc in
-              let le : r ≤ t = omega arith in
-              rw (← a0, ← a1, ← a2, ← b) (le, order p ws s' l g n t x us some unfinished at lg))
-          | inr d ↦ lg.rest_waits j g' n' r' vs (other_state p ws s' l g n t x us some unfinished at lg j _ d h) (other_rest p ws s' l g n t x us some unfinished at lg j vs d k)
-        ];
+        rest_waits = λ j g' n' r' vs. back_waits p ws s' l g n t x us some unfinished at lg (omega arith, order p ws s' l g n t x us some unfinished at lg) j (Running g' n' r') vs;
         waits = lg.waits;
-        running_first = All-each _ s'.groups (λ h here g' n' r' vs k m. elim (same_place l (lun_of h.members)) [
-          | inl e ↦ (
-              let a = own_state p ws s' l g n t x us some unfinished at lg (lun_of h.members) _ e k in
-              let b = own_rest p ws s' l g n t x us some unfinished at lg (lun_of h.members) vs e m in
-              let a0 : g ≡ g' = cc in let a1 : n ≡ n' = cc in
-              let q = tail_first p ws s' l g n t x us some unfinished at lg h here e in
-              rw (← a0, ← a1, ← b) (subst (λ i. Before (phases_from i (group_spans p.timing g) (length g) n us) (group_phases p.timing h)) e q))
-          | inr d ↦ All-has _ s'.groups h lg.running_first here g' n' r' vs (other_state p ws s' l g n t x us some unfinished at lg (lun_of h.members) _ d k) (other_rest p ws s' l g n t x us some unfinished at lg (lun_of h.members) vs d m)
-        ]);
+        running_first = All-each _ s'.groups (λ h here g' n' r' vs. back_left p ws s' l g n t x us some unfinished at lg h here (λ q. q) (Running g' n' r') vs);
         turns = lg.turns;
-        from_since = All-each _ s'.groups (λ h here since k. elim (same_place l (lun_of h.members)) [
-          | inl e ↦ (let a = own_state p ws s' l g n t x us some unfinished at lg (lun_of h.members) _ e k in cc)
-          | inr d ↦ All-has _ s'.groups h lg.from_since here since (other_state p ws s' l g n t x us some unfinished at lg (lun_of h.members) _ d k)
-        ]);
+        from_since = All-each _ s'.groups (λ h here since. back_since p ws s' l g n t x us some unfinished at lg h here (λ q. tt) (Free since));
         block_order = lg.block_order;
         group = lg.group;
       }
@@ -313,14 +288,8 @@ module _ (p : Problem) (s' : Schedule) (ip : IsProblem p) (ms : List Want) (sinc
   start_back = record {
     shape = record {
       luns = length_set s'.rest (lun_of ms) [] ∙ lg.shape.luns ∙ length_set p.luns (lun_of ms) _;
-      rest = λ j g' n' r' vs h i. elim (same_place (lun_of ms) j) [
-        | inl e ↦ (let a = own_state p left s' (lun_of ms) ms 0 t x [] here short at lg j _ e h in cc)
-        | inr d ↦ lg.shape.rest j g' n' r' vs (other_state p left s' (lun_of ms) ms 0 t x [] here short at lg j _ d h) (other_rest p left s' (lun_of ms) ms 0 t x [] here short at lg j vs d i)
-      ];
-      no_rest = λ j since' vs h i. elim (same_place (lun_of ms) j) [
-        | inl e ↦ sym (own_rest p left s' (lun_of ms) ms 0 t x [] here short at lg j vs e i)
-        | inr d ↦ lg.shape.no_rest j since' vs (other_state p left s' (lun_of ms) ms 0 t x [] here short at lg j _ d h) (other_rest p left s' (lun_of ms) ms 0 t x [] here short at lg j vs d i)
-      ];
+      rest = λ j g' n' r' vs. back_fits p left s' (lun_of ms) ms 0 t x [] here short at lg refl j (Running g' n' r') vs;
+      no_rest = λ j since' vs. back_fits p left s' (lun_of ms) ms 0 t x [] here short at lg refl j (Free since') vs;
       starts = (omega (arith, count p left s' (lun_of ms) ms 0 t x [] here short at lg), lg.shape.starts);
       wants_only = All-append (Has p.wants) ms _ members_wanted (All-weaker (Has left) (Has p.wants) (λ w h. Has-filtered _ p.wants w h) (all_members s'.groups) lg.shape.wants_only);
       once = λ id.
@@ -331,25 +300,16 @@ module _ (p : Problem) (s' : Schedule) (ip : IsProblem p) (ms : List Want) (sinc
     };
     from_bus_free = bus_first p left s' (lun_of ms) ms 0 t x [] here short at lg (omega arith) (phases p back_start) start_perm;
     no_overlap = apart_first p left s' (lun_of ms) ms 0 t x [] here short at lg (phases p back_start) start_perm;
-    rest_waits = λ j g' n' r' vs h i. elim (same_place (lun_of ms) j) [
-      | inl e ↦ (let a = own_state p left s' (lun_of ms) ms 0 t x [] here short at lg j _ e h in cc)
-      | inr d ↦ lg.rest_waits j g' n' r' vs (other_state p left s' (lun_of ms) ms 0 t x [] here short at lg j _ d h) (other_rest p left s' (lun_of ms) ms 0 t x [] here short at lg j vs d i)
-    ];
+    rest_waits = λ j g' n' r' vs. back_waits p left s' (lun_of ms) ms 0 t x [] here short at lg tt j (Running g' n' r') vs;
     waits = ((omega arith, order p left s' (lun_of ms) ms 0 t x [] here short at lg), lg.waits);
     running_first = (
-      λ g' n' r' vs h i. let a = own_state p left s' (lun_of ms) ms 0 t x [] here short at lg (lun_of ms) _ refl h in cc,
-      All-each _ s'.groups (λ h i g' n' r' vs q m. elim (same_place (lun_of ms) (lun_of h.members)) [
-        | inl e ↦ (let a = own_state p left s' (lun_of ms) ms 0 t x [] here short at lg (lun_of h.members) _ e q in cc)
-        | inr d ↦ All-has _ s'.groups h lg.running_first i g' n' r' vs (other_state p left s' (lun_of ms) ms 0 t x [] here short at lg (lun_of h.members) _ d q) (other_rest p left s' (lun_of ms) ms 0 t x [] here short at lg (lun_of h.members) vs d m)
-      ]),
+      λ g' n' r' vs h i. let a = same_some (Free since) _ _ at h in cc,
+      All-each _ s'.groups (λ h i g' n' r' vs. back_left p left s' (lun_of ms) ms 0 t x [] here short at lg h i (λ q. tt) (Running g' n' r') vs),
     );
     turns = (All-each _ s'.groups (λ h i e. inl (tail_first p left s' (lun_of ms) ms 0 t x [] here short at lg h i e)), lg.turns);
     from_since = (
-      λ since' h. let a = own_state p left s' (lun_of ms) ms 0 t x [] here short at lg (lun_of ms) _ refl h in let e : since ≡ since' = cc in omega arith,
-      All-each _ s'.groups (λ h i since' q. elim (same_place (lun_of ms) (lun_of h.members)) [
-        | inl e ↦ (let a = own_state p left s' (lun_of ms) ms 0 t x [] here short at lg (lun_of h.members) _ e q in let e' : since ≡ since' = cc in from_bus p left s' (lun_of ms) ms 0 t x [] here short at lg since' (omega arith) h i e)
-        | inr d ↦ All-has _ s'.groups h lg.from_since i since' (other_state p left s' (lun_of ms) ms 0 t x [] here short at lg (lun_of h.members) _ d q)
-      ]),
+      λ since' h. let a = same_some (Free since) _ _ at h in let e : since ≡ since' = cc in omega arith,
+      All-each _ s'.groups (λ h i since'. back_since p left s' (lun_of ms) ms 0 t x [] here short at lg h i (λ q. starts_lower since (c p left s' (lun_of ms) ms 0 t x [] here short at lg) h.starts (omega arith) q) (Free since')),
     );
     block_order = start_order;
     group = (st.group, lg.group);

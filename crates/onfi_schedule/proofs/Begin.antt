@@ -1,22 +1,20 @@
 -- A new group comes first.
-use Rattle.std.proofs.Common.{◌≡◌, ℕ, suc, ◌+◌, ◌*◌, ◌≤◌, inl, inr, ⊎_elim, List, [], ◌∷◌, ◌++◌, length, Some, refl, sym, ap, ◌∙◌, subst, arith, append_assoc}
+use Rattle.std.proofs.Common.{◌≡◌, ℕ, suc, ◌+◌, ◌*◌, ◌≤◌, inl, inr, ⊎_elim, List, [], ◌∷◌, ◌++◌, length, Some, refl, sym, ap, ◌∙◌, arith, append_assoc}
 use Rattle.std.specs.Prelude.{slice_get, slice_set}
 use Rattle.std.specs.List.{AllByRecursion as All, flat_map}
 use Rattle.onfi_timing.specs.declared.timing.Timing.{Timing}
 use Rattle.onfi_request.specs.declared.want.Want.{Want}
-use Rattle.onfi_problem.specs.declared.lun_state.LunState.{LunState}
 use Rattle.onfi_problem.specs.declared.lun_state.LunState.TheVariants.{Free, Running}
 use Rattle.onfi_group.specs.Words.{Has, number}
 use Rattle.onfi_problem.specs.Problem.{Problem, IsProblem, has_id}
 use Rattle.onfi_group.specs.Group.{IsGroup, group_spans, lun_of}
 use Rattle.onfi_timing.specs.Phases.{phase_length}
-use Rattle.onfi_schedule.specs.Schedule.{Placed, Schedule, Phase, phases_from, phases_left, rest_phases, group_phases, phases, InOrder, Apart, Before, StartsFrom, TakeTurns, all_members, Legal}
+use Rattle.onfi_schedule.specs.Schedule.{Placed, Schedule, Phase, phases_from, rest_phases, group_phases, phases, InOrder, Apart, Before, TakeTurns, all_members, Legal}
 use Rattle.onfi_problem.specs.Moves.{lun_after, without}
 use Rattle.onfi_problem.proofs.Perm.{Perm, same, trans, back, on_left, on_right, to_front, between, append_nil, All-perm, Pairs-perm, Has-perm, flat_map-perm, total-perm, All-back, All-each, All-has, All-flat_map}
-use Rattle.onfi_problem.proofs.Places.{length_set, same_place}
+use Rattle.onfi_problem.proofs.Places.{length_set}
 use Rattle.onfi_schedule.proofs.Rests.{rest_changed}
-use Rattle.onfi_schedule.proofs.First.{phases_long, left_after, state_same, state_other, starts_same, starts_other, new_rest, new_no_rest, new_rest_waits, behind_first, Apart-sym}
-use Rattle.onfi_problem.proofs.LunAfter.{running_is, free_is}
+use Rattle.onfi_schedule.proofs.First.{phases_long, left_after, new_fits, new_waits, new_left, new_since, behind_first, Apart-sym}
 use Rattle.onfi_problem.proofs.Wants.{Pairs-filter, Pairs-weaker, others_once, others_only}
 
 TakeTurns-sym : (timing : Timing) (a b : Placed) → TakeTurns timing a b → TakeTurns timing b a
@@ -30,9 +28,6 @@ not_before t y ys (z ∷ zs) a l s e b = omega (arith, a.0, l.0, b.0.0)
 pub phases_number : (lun : ℕ) (spans : _) (k n : ℕ) (ts : List ℕ) → length (phases_from lun spans k n ts) ≡ length ts
 phases_number lun spans k n [] = refl
 phases_number lun spans k n (t ∷ ts) = ap suc (phases_number lun spans k (n + 1) ts)
-
-abbrev RunningFirst : Problem → List LunState → List (List ℕ) → Placed → Type 0
-RunningFirst p luns rest h = (group : List Want) (next ready : ℕ) (starts : List ℕ) → slice_get luns (lun_of h.members) ≡ Some (Running group next ready) → slice_get rest (lun_of h.members) ≡ Some starts → Before (phases_left p.timing (lun_of h.members) (Running group next ready) starts) (group_phases p.timing h)
 
 module _ (p : Problem) (s : Schedule) (ip : IsProblem p) (lg : Legal p s) (ms : List Want) (t : ℕ) (ts : List ℕ) (gs : List Placed) (perm : Perm s.groups (record { members = ms; starts = t ∷ ts } ∷ gs)) (since : ℕ) (us : List ℕ) (at : slice_get p.luns (lun_of ms) ≡ Some (Free since)) (starts_at : slice_get s.rest (lun_of ms) ≡ Some us) where
   abbrev g : Placed
@@ -86,51 +81,31 @@ module _ (p : Problem) (s : Schedule) (ip : IsProblem p) (lg : Legal p s) (ms : 
       let n = phases_number (lun_of h.members) (group_spans p.timing h.members) (length h.members) 0 h.starts in
       ⊎_elim (λ x. x) (λ x. absurd (not_before t begun_phase _ (group_phases p.timing h) from takes (omega arith) refl x)) (turns e)
 
-  begun_running_first : (h : Placed) → (lun_of ms ≡ lun_of h.members → Before (group_phases p.timing g) (group_phases p.timing h)) → RunningFirst p p.luns s.rest h → RunningFirst p begun.luns begun_schedule.rest h
-  begun_running_first h first from g' n' r' vs k m =
-      elim (same_place l (lun_of h.members)) [
-        | inl e ↦ (
-            let q = running_is p.timing ms g' 0 b n' r' (state_same p s lg l ms 0 b ts us _ at starts_at begun_count (lun_of h.members) _ e k) in
-            let w = starts_same p s lg l ms 0 b ts us _ at starts_at begun_count (lun_of h.members) vs e m in
-            let q0 = q.0 in let q1 = q.1 in
-            let P : ℕ → Type 0 = λ i. Before (phases_from i (group_spans p.timing ms) (length ms) 1 ts) (group_phases p.timing h) in
-            rw (← q0, ← q1, ← w) (subst P e (first e).1))
-        | inr d ↦ from g' n' r' vs (state_other p s lg l ms 0 b ts us _ at starts_at begun_count (lun_of h.members) _ d k) (starts_other p s lg l ms 0 b ts us _ at starts_at begun_count (lun_of h.members) vs d m)
-      ]
-
-  begun_from_since : (h : Placed) → ((since' : ℕ) → slice_get p.luns (lun_of h.members) ≡ Some (Free since') → StartsFrom since' h.starts) → (since' : ℕ) → slice_get begun.luns (lun_of h.members) ≡ Some (Free since') → StartsFrom since' h.starts
-  begun_from_since h from since' k =
-      elim (same_place l (lun_of h.members)) [
-        | inl e ↦ (
-            let q = free_is p.timing ms 0 b since' (state_same p s lg l ms 0 b ts us _ at starts_at begun_count (lun_of h.members) _ e k) in
-            let q1 = q.1 in let some = (All-perm (λ h. IsGroup p.rules h.members) perm lg.group).0.some in absurd (omega arith))
-        | inr d ↦ from since' (state_other p s lg l ms 0 b ts us _ at starts_at begun_count (lun_of h.members) _ d k)
-      ]
-
   pub begun_legal : All (λ x. t ≤ x.start) (phases p s) → Legal begun begun_schedule
   begun_legal least =
       let least' = All-perm (λ x. t ≤ x.start) begun_phases least in
       let long' = All-perm (λ x. 1 ≤ x.length) begun_phases (phases_long p s) in
       let apart = Pairs-perm Apart Apart-sym begun_phases lg.no_overlap in
+      let fits = new_fits p s lg l ms 0 b ts us _ at starts_at begun_count in
       let in_order = All-perm (λ h. InOrder (group_spans p.timing h.members) (length h.members) 0 0 h.starts) perm lg.waits in
       let members_only = All-perm (Has p.wants) (flat_map-perm (λ h. h.members) perm) lg.shape.wants_only in
       let members_once : (id : ℕ) → number (has_id id) (ms ++ all_members gs) ≡ number (has_id id) p.wants = λ id. sym (total-perm _ (flat_map-perm (λ h. h.members) perm)) ∙ lg.shape.once id in
       record {
         shape = record {
           luns = length_set s.rest l ts ∙ lg.shape.luns ∙ sym (length_set p.luns l _);
-          rest = new_rest p s lg l ms 0 b ts us _ at starts_at begun_count;
-          no_rest = new_no_rest p s lg l ms 0 b ts us _ at starts_at begun_count;
+          rest = λ j g' n' r' vs. fits j (Running g' n' r') vs;
+          no_rest = λ j since' vs. fits j (Free since') vs;
           starts = (All-perm (λ h. length h.starts ≡ 2 * length h.members) perm lg.shape.starts).1;
           wants_only = others_only p.wants ms (all_members gs) ip.ids members_only members_once;
           once = others_once p.wants ms (all_members gs) ip.ids members_only members_once;
         };
         from_bus_free = behind_first t b begun_phase _ refl refl apart.0 least'.1 long'.1;
         no_overlap = apart.1;
-        rest_waits = new_rest_waits p s lg l ms 0 b ts us _ at starts_at begun_count in_order.0.1;
+        rest_waits = λ j g' n' r' vs. new_waits p s lg l ms 0 b ts us _ at starts_at begun_count in_order.0.1 j (Running g' n' r') vs;
         waits = in_order.1;
-        running_first = All-each _ gs (λ h k. begun_running_first h (begun_first least h k) (All-has _ s.groups h lg.running_first (old h k)));
+        running_first = All-each _ gs (λ h k g' n' r' vs. new_left p s lg l ms 0 b ts us _ at starts_at begun_count h (λ e. (begun_first least h k e).1) (All-has _ s.groups h lg.running_first (old h k)) (Running g' n' r') vs);
         turns = (Pairs-perm (TakeTurns p.timing) (TakeTurns-sym p.timing) perm lg.turns).1;
-        from_since = All-each _ gs (λ h k. begun_from_since h (All-has _ s.groups h lg.from_since (old h k)));
+        from_since = All-each _ gs (λ h k since'. new_since p s lg l ms 0 b ts us _ at starts_at begun_count h (λ e. (begun_first least h k e).0) (All-has _ s.groups h lg.from_since (old h k)) (Free since'));
         block_order = Pairs-filter _ _ p.wants (Pairs-weaker _ _ (λ x y r e f h i hh hi. r e f h i (old h hh) (old i hi)) p.wants lg.block_order);
         group = (All-perm (λ h. IsGroup p.rules h.members) perm lg.group).1;
       }

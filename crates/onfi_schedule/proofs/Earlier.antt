@@ -1,5 +1,5 @@
 -- What is legal stays so where times are earlier.
-use Rattle.std.proofs.Common.{◌≡◌, ℕ, zero, suc, ◌+◌, ◌≤◌, List, [], ◌∷◌, ◌++◌, length, Some, refl, sym, ap, ◌∙◌, subst, arith}
+use Rattle.std.proofs.Common.{◌≡◌, ℕ, suc, ◌+◌, ◌≤◌, List, [], ◌∷◌, ◌++◌, length, Some, refl, sym, ap, ◌∙◌, subst, arith}
 use Rattle.std.specs.Prelude.{slice_get, slice_set}
 use Rattle.std.specs.List.{AllByRecursion as All, flat_map}
 use Rattle.onfi_timing.specs.declared.timing.Timing.{Timing}
@@ -13,9 +13,11 @@ use Rattle.onfi_problem.specs.declared.lun_state.LunState.TheVariants.{Free, Run
 use Rattle.onfi_problem.specs.Problem.{Problem}
 use Rattle.onfi_problem.specs.Moves.{Next, Start, lun_after, without}
 use Rattle.onfi_problem.proofs.Perm.{All-weaker}
-use Rattle.onfi_schedule.specs.Schedule.{Placed, Schedule, Phase, rest_phases, group_phases, phases_left, phases, latest, finish, rest_of, Apart, Before, StartsFrom, Legal}
+use Rattle.onfi_schedule.specs.Schedule.{Schedule, Phase, rest_phases, group_phases, phases_left, phases, latest, finish, Apart, Legal}
 use Rattle.onfi_schedule.specs.Laws.{EarlierLaw}
 use Rattle.onfi_schedule.proofs.Chains.{lower_floor}
+use Rattle.onfi_schedule.proofs.First.{starts_lower}
+use Rattle.onfi_schedule.proofs.Rests.{RunningFirst, FromFree}
 use Rattle.onfi_schedule.proofs.Sooner.{SoonerState, SoonerLuns, luns_self, set_sooner, after_sooner, at_times, state_below, as_running}
 
 as_free : (a : ℕ) (y : LunState) → SoonerState (Free a) y → (b : ℕ) × (y ≡ Free b) × (a ≤ b)
@@ -42,10 +44,6 @@ rest_same timing first (x ∷ xs) (y ∷ ys) [] h = refl
 rest_same timing first (x ∷ xs) (y ∷ ys) (ts ∷ rest) h =
     ap (λ ps. ps ++ rest_phases timing (first + 1) xs rest) (left_same timing first x y ts h.0) ∙ ap (λ ps. phases_left timing first y ts ++ ps) (rest_same timing (first + 1) xs ys rest h.1)
 
-starts_lower : (a b : ℕ) (ts : List ℕ) → a ≤ b → StartsFrom b ts → StartsFrom a ts
-starts_lower a b [] l h = tt
-starts_lower a b (t ∷ ts) l h = omega arith
-
 latest_sooner : (a b : ℕ) (ps : List Phase) → a ≤ b → latest a ps ≤ latest b ps
 latest_sooner a b [] h = h
 latest_sooner a b (p ∷ ps) h = let e = latest_sooner a b ps h in omega arith
@@ -66,12 +64,6 @@ module _ (timing : Timing) (rules : Rules) (wants : List Want) (b b' : ℕ) (lun
   phases_same : phases p s ≡ phases q s
   phases_same = ap (λ ps. ps ++ flat_map (group_phases timing) s.groups) (rest_same timing 0 luns luns' s.rest sooner)
 
-  abbrev RunningFirst : List LunState → Placed → Type 0
-  RunningFirst states g = (group : List Want) (next ready : ℕ) (starts : List ℕ) → slice_get states (lun_of g.members) ≡ Some (Running group next ready) → rest_of s (lun_of g.members) ≡ Some starts → Before (phases_left timing (lun_of g.members) (Running group next ready) starts) (group_phases timing g)
-
-  abbrev Since : List LunState → Placed → Type 0
-  Since states g = (since : ℕ) → slice_get states (lun_of g.members) ≡ Some (Free since) → StartsFrom since g.starts
-
   pub sooner_legal : Legal q s → Legal p s
   sooner_legal lg = record {
     shape = record {
@@ -86,9 +78,9 @@ module _ (timing : Timing) (rules : Rules) (wants : List Want) (b b' : ℕ) (lun
     no_overlap = subst (Pairs Apart) (sym phases_same) lg.no_overlap;
     rest_waits = λ l g n r ts at k. let w = running l g n r at in lower_floor (group_spans timing g) (length g) n r w.0 ts w.2 (lg.rest_waits l g n w.0 ts w.1 k);
     waits = lg.waits;
-    running_first = All-weaker (RunningFirst luns') (RunningFirst luns) (λ g h group n r ts at k. let w = running (lun_of g.members) group n r at in h group n w.0 ts w.1 k) s.groups lg.running_first;
+    running_first = All-weaker (RunningFirst timing luns' s.rest) (RunningFirst timing luns s.rest) (λ g h group n r ts at k. let w = running (lun_of g.members) group n r at in h group n w.0 ts w.1 k) s.groups lg.running_first;
     turns = lg.turns;
-    from_since = All-weaker (Since luns') (Since luns) (λ g h since at. let w = free (lun_of g.members) since at in starts_lower since w.0 g.starts w.2 (h w.0 w.1)) s.groups lg.from_since;
+    from_since = All-weaker (FromFree luns') (FromFree luns) (λ g h since at. let w = free (lun_of g.members) since at in starts_lower since w.0 g.starts w.2 (h w.0 w.1)) s.groups lg.from_since;
     block_order = lg.block_order;
     group = lg.group;
   }

@@ -1,8 +1,8 @@
 -- A legal schedule with something left has a first move.
-use Rattle.std.proofs.Common.{◌≡◌, ℕ, zero, suc, ◌+◌, ◌≤◌, ◌<◌, ◌⊎◌, inl, inr, ⊎_elim, List, [], ◌∷◌, length, Some, refl, sym, ap, ◌∙◌, subst, arith}
+use Rattle.std.proofs.Common.{◌≡◌, ℕ, zero, suc, ◌+◌, ◌≤◌, ◌<◌, ◌⊎◌, inl, inr, ⊎_elim, List, [], ◌∷◌, ◌++◌, length, Some, refl, sym, ap, ◌∙◌, subst, arith}
 use Rattle.std.specs.Prelude.{slice_get, slice_set, true, max, ◌==◌}
 use Rattle.std.specs.List.{AllByRecursion as All}
-use Rattle.std.proofs.lemmas.Bool.{cases_lt, cases_Bool, eqb-true, eq-eqb, false≢true}
+use Rattle.std.proofs.lemmas.Bool.{cases_lt, cases_Bool, eqb-true, false≢true}
 use Rattle.std.proofs.lemmas.List.{nil_from_length}
 use Rattle.onfi_timing.specs.declared.spans.Spans.{Spans}
 use Rattle.onfi_request.specs.declared.want.Want.{Want}
@@ -15,12 +15,13 @@ use Rattle.onfi_group.specs.Group.{IsGroup, lun_of, group_spans, IsFirst, on_blo
 use Rattle.onfi_timing.specs.Phases.{phase_length}
 use Rattle.onfi_schedule.specs.Schedule.{Placed, Schedule, Phase, end_of, phases_from, phases_left, rest_phases, group_phases, phases, latest, finish, InOrder, KeepsBlockOrder, all_members, Legal}
 use Rattle.onfi_schedule.specs.Runs.{Step, Run}
-use Rattle.onfi_problem.proofs.Perm.{Perm, back, All-perm, All-has, All-each, All-front, All-back, All-flat_map, Has-append_cases, Has-flat_map, Has-flat_map_in, Has-perm, taken_out, length_perm}
+use Rattle.onfi_schedule.specs.Laws.{ComesNext}
+use Rattle.onfi_problem.proofs.Perm.{Perm, back, All-perm, All-has, All-each, All-front, All-back, All-flat_map, Has-append_cases, Has-flat_map, Has-flat_map_in, Has-perm, to_front, length_perm}
 use Rattle.onfi_problem.proofs.Places.{get_within, within_get}
 use Rattle.onfi_schedule.proofs.Chains.{is_head}
 use Rattle.onfi_schedule.proofs.Rests.{all_at, has_at}
-use Rattle.onfi_schedule.proofs.First.{phases_long, next_schedule, next_phase, next_phases, next_legal}
-use Rattle.onfi_schedule.proofs.Begin.{begun_schedule, begun_phase, begun_phases, begun_legal, not_before, phases_number}
+use Rattle.onfi_schedule.proofs.First.{phases_long, next_phase, next_phases, next_legal}
+use Rattle.onfi_schedule.proofs.Begin.{begun_phase, begun_phases, begun_legal, not_before, phases_number}
 use Rattle.onfi_problem.proofs.Kept.{kept}
 use Rattle.onfi_problem.proofs.Wants.{number_has, some_with_id, same_by_id}
 use Rattle.onfi_group.proofs.Firsts.{on_own_block}
@@ -50,17 +51,25 @@ first_or_earlier R (v ∷ ws) m r h =
       | inr k ↦ ⊎_elim (λ e. absurd (false≢true (sym k ∙ (ap (on_block m) e ∙ on_own_block m)))) (λ i. ⊎_elim (λ q. inl (rw k q)) (λ (w, a, b, c, d). inr (w, inr a, b, c, d)) (first_or_earlier R ws m r.1 i)) h
     ]
 
--- what a first move is
-pub record FirstMove (p : Problem) (s : Schedule) : Type 0 where
-  pub move : Move
-  pub start : ℕ
-  pub left : Schedule
-  pub phase : Phase
+-- what comes next is a move, and what it leaves is legal
+pub record FirstMove (p : Problem) (s : Schedule) (move : Move) (start : ℕ) (left : Schedule) : Type 0 where
   pub is_move : IsMove p move
   pub on_time : earliest p move ≤ start
   pub legal : Legal (placed p move start) left
-  pub others : Perm (phases p s) (phase ∷ phases (placed p move start) left)
-  pub ends : end_of phase ≡ (placed p move start).bus_free
+  pub same_finish : finish (placed p move start) left ≡ finish p s
+  pub one_fewer : length (phases p s) ≡ suc (length (phases (placed p move start) left))
+
+pub some_or_none : {A : Type 0} (xs : List A) → (xs ≡ []) ⊎ (1 ≤ length xs)
+some_or_none [] = inl refl
+some_or_none (x ∷ xs) = inr (omega arith)
+
+cut_at : {A : Type 0} (xs : List A) (x : A) → Has xs x → (before : List A) × (behind : List A) × (xs ≡ before ++ x ∷ behind)
+cut_at [] x h = absurd h
+cut_at (y ∷ xs) x (inl e) = ([], xs, ap (λ z. z ∷ xs) e)
+cut_at (y ∷ xs) x (inr h) = let r = cut_at xs x h in (y ∷ r.0, r.1, ap (λ ys. y ∷ ys) r.2)
+
+abbrev pub NextPhase : Problem → Schedule → Type 0
+NextPhase p s = (move : Move) × (start : ℕ) × (left : Schedule) × ComesNext p s move start left
 
 no_phases : (lun : ℕ) (spans : Spans) (k n : ℕ) (ts : List ℕ) → All (λ x. ⊥) (phases_from lun spans k n ts) → length ts ≡ 0
 no_phases lun spans k n [] h = refl
@@ -135,22 +144,26 @@ module _ (p : Problem) (s : Schedule) (ip : IsProblem p) (lg : Legal p s) where
           let c = phases_number (lun_of h.0.members) (group_spans p.timing h.0.members) (length h.0.members) 0 h.0.starts in
           absurd (omega arith)
 
-  next_first : (l : ℕ) (g : List Want) (n r t : ℕ) (ts : List ℕ) → slice_get p.luns l ≡ Some (Running g n r) → slice_get s.rest l ≡ Some (t ∷ ts) → All (λ x. t ≤ x.start) (phases p s) → FirstMove p s
-  next_first l g n r t ts at starts_at least =
-      let perm = next_phases p s ip lg l g n r t ts at starts_at in
-      let bus = All-perm (λ x. p.bus_free ≤ x.start) perm lg.from_bus_free in
-      let order = lg.rest_waits l g n r (t ∷ ts) at starts_at in
-      record {
-        move = Next l;
-        start = t;
-        left = next_schedule p s ip lg l g n r t ts at starts_at;
-        phase = next_phase p s ip lg l g n r t ts at starts_at;
-        is_move = (g, n, r, at);
-        on_time = rw at (omega (arith, bus.0, order.0));
-        legal = rw at (next_legal p s ip lg l g n r t ts at starts_at least);
-        others = rw at perm;
-        ends = rw at refl;
-      }
+  next_first : (l t : ℕ) (ts : List ℕ) → slice_get s.rest l ≡ Some (t ∷ ts) → All (λ x. t ≤ x.start) (phases p s) → FirstMove p s (Next l) t (record { rest = slice_set s.rest l ts; groups = s.groups })
+  next_first l t ts starts_at least =
+      let b = within_get s.rest l (t ∷ ts) starts_at in
+      let e = lg.shape.luns in
+      let x = get_within p.luns l (omega arith) in
+      at_state x.0 x.1
+    where
+      at_state : (x : LunState) → slice_get p.luns l ≡ Some x → FirstMove p s (Next l) t (record { rest = slice_set s.rest l ts; groups = s.groups })
+      at_state (Free since) at = let z = lg.shape.no_rest l since (t ∷ ts) at starts_at in cc
+      at_state (Running g n r) at =
+          let perm = next_phases p s ip lg l g n r t ts at starts_at in
+          let bus = All-perm (λ x. p.bus_free ≤ x.start) perm lg.from_bus_free in
+          let order = lg.rest_waits l g n r (t ∷ ts) at starts_at in
+          record {
+            is_move = (g, n, r, at);
+            on_time = rw at (omega (arith, bus.0, order.0));
+            legal = rw at (next_legal p s ip lg l g n r t ts at starts_at least);
+            same_finish = rw at (latest_without p.bus_free _ (next_phase p s ip lg l g n r t ts at starts_at) (phases p s) _ perm bus.0 refl);
+            one_fewer = rw at (length_perm perm);
+          }
 
   -- the LUN of a group whose first phase is the least is free
   abbrev StartsFree : List Want → ℕ → Type 0
@@ -180,75 +193,60 @@ module _ (p : Problem) (s : Schedule) (ip : IsProblem p) (lg : Legal p s) where
       absurd (not_before t (record { lun = lun_of ms; start = t; length = phase_length (group_spans p.timing ms) (length ms) 0 }) _ (group_phases p.timing h.0) (of_group (λ x. t ≤ x.start) h.0 h.1 least) (of_group (λ x. 1 ≤ x.length) h.0 h.1 (phases_long p s)) (group_number h.0 h.1) refl before)) (first_or_earlier (KeepsBlockOrder p.timing s.groups) p.wants m lg.block_order (wanted g m here i))) in
       free_at ms t ts us.0 least here group first x.0 x.1 us.1
 
-  begun_first : (ms : List Want) (t : ℕ) (ts : List ℕ) (gs : List Placed) → Perm s.groups (record { members = ms; starts = t ∷ ts } ∷ gs) → All (λ x. t ≤ x.start) (phases p s) → FirstMove p s
+  begun_first : (ms : List Want) (t : ℕ) (ts : List ℕ) (gs : List Placed) → Perm s.groups (record { members = ms; starts = t ∷ ts } ∷ gs) → All (λ x. t ≤ x.start) (phases p s) → FirstMove p s (Start ms) t (record { rest = slice_set s.rest (lun_of ms) ts; groups = gs })
   begun_first ms t ts gs perm least =
       let (since, us, at, starts_at, group, first, from) = starts_free ms t ts gs perm least in
       let order = begun_phases p s ip lg ms t ts gs perm since us at starts_at in
       let bus = All-perm (λ x. p.bus_free ≤ x.start) order lg.from_bus_free in
       record {
-        move = Start ms;
-        start = t;
-        left = begun_schedule p s ip lg ms t ts gs perm since us at starts_at;
-        phase = begun_phase p s ip lg ms t ts gs perm since us at starts_at;
         is_move = (since, at, record { group = group; first = first });
         on_time = rw at (omega (arith, bus.0));
         legal = begun_legal p s ip lg ms t ts gs perm since us at starts_at least;
-        others = order;
-        ends = refl;
+        same_finish = latest_without p.bus_free _ (begun_phase p s ip lg ms t ts gs perm since us at starts_at) (phases p s) _ order bus.0 refl;
+        one_fewer = length_perm order;
       }
 
-  abbrev pub Left : List Want → ℕ → List ℕ → List Placed → Type 0
-  Left ms t ts gs = IsMove p (Start ms) × (earliest p (Start ms) ≤ t) × Legal (placed p (Start ms) t) (record { rest = slice_set s.rest (lun_of ms) ts; groups = gs }) × (finish (placed p (Start ms) t) (record { rest = slice_set s.rest (lun_of ms) ts; groups = gs }) ≡ finish p s)
-
-  pub law_first : (ms : List Want) (t : ℕ) (ts : List ℕ) (gs : List Placed) → Perm s.groups (record { members = ms; starts = t ∷ ts } ∷ gs) → All (λ x. t ≤ x.start) (phases p s) → Left ms t ts gs
-  law_first ms t ts gs perm least =
-      let (since, us, at, starts_at, group, first, from) = starts_free ms t ts gs perm least in
-      let order = begun_phases p s ip lg ms t ts gs perm since us at starts_at in
-      let bus = All-perm (λ x. p.bus_free ≤ x.start) order lg.from_bus_free in
-      ((since, at, record { group = group; first = first }), rw at (omega (arith, bus.0)), begun_legal p s ip lg ms t ts gs perm since us at starts_at least, latest_without p.bus_free _ (begun_phase p s ip lg ms t ts gs perm since us at starts_at) (phases p s) _ order bus.0 refl)
-
-  pub law_next : (l t : ℕ) (ts : List ℕ) → slice_get s.rest l ≡ Some (t ∷ ts) → All (λ x. t ≤ x.start) (phases p s) → IsMove p (Next l) × (earliest p (Next l) ≤ t) × Legal (placed p (Next l) t) (record { rest = slice_set s.rest l ts; groups = s.groups }) × (finish (placed p (Next l) t) (record { rest = slice_set s.rest l ts; groups = s.groups }) ≡ finish p s)
-  law_next l t ts starts_at least =
-      let b = within_get s.rest l (t ∷ ts) starts_at in
-      let e = lg.shape.luns in
-      let x = get_within p.luns l (omega arith) in
-      at_state x.0 x.1
-    where
-      at_state : (x : LunState) → slice_get p.luns l ≡ Some x → IsMove p (Next l) × (earliest p (Next l) ≤ t) × Legal (placed p (Next l) t) (record { rest = slice_set s.rest l ts; groups = s.groups }) × (finish (placed p (Next l) t) (record { rest = slice_set s.rest l ts; groups = s.groups }) ≡ finish p s)
-      at_state (Free since) at = let z = lg.shape.no_rest l since (t ∷ ts) at starts_at in cc
-      at_state (Running g n r) at =
-          let perm = next_phases p s ip lg l g n r t ts at starts_at in
-          let bus = All-perm (λ x. p.bus_free ≤ x.start) perm lg.from_bus_free in
-          let order = lg.rest_waits l g n r (t ∷ ts) at starts_at in
-          ((g, n, r, at), rw at (omega (arith, bus.0, order.0)), rw at (next_legal p s ip lg l g n r t ts at starts_at least), rw at (latest_without p.bus_free _ (next_phase p s ip lg l g n r t ts at starts_at) (phases p s) _ perm bus.0 refl))
+  -- the phase of least start is that of a move
+  pub first_of : (move : Move) (start : ℕ) (left : Schedule) → ComesNext p s move start left → FirstMove p s move start left
+  first_of (Next l) start left next = let b = next.begins in subst (FirstMove p s (Next l) start) (sym b.2) (next_first l start b.0 b.1 next.least)
+  first_of (Start ms) start left next =
+      let b = next.begins in
+      let g : Placed = record { members = ms; starts = start ∷ b.0 } in
+      let perm : Perm s.groups (g ∷ (b.1 ++ b.2)) = subst (λ (gs : List Placed). Perm gs (g ∷ (b.1 ++ b.2))) (sym b.3) (to_front b.1 g b.2) in
+      subst (FirstMove p s (Start ms) start) (sym b.4) (begun_first ms start b.0 (b.1 ++ b.2) perm next.least)
 
   -- the least phase is the first one of its group
-  in_rest : (l : ℕ) (x : LunState) (us : List ℕ) (y : Phase) → slice_get p.luns l ≡ Some x → slice_get s.rest l ≡ Some us → Has (phases_left p.timing l x us) y → All (λ z. y.start ≤ z.start) (phases p s) → FirstMove p s
+  in_rest : (l : ℕ) (x : LunState) (us : List ℕ) (y : Phase) → slice_get p.luns l ≡ Some x → slice_get s.rest l ≡ Some us → Has (phases_left p.timing l x us) y → All (λ z. y.start ≤ z.start) (phases p s) → NextPhase p s
   in_rest l (Free since) us y at starts_at h least = absurd h
   in_rest l (Running g n r) [] y at starts_at h least = absurd h
   in_rest l (Running g n r) (t ∷ ts) y at starts_at h least =
       let here = of_rest (λ z. y.start ≤ z.start) l _ (t ∷ ts) at starts_at least in
       let e = is_head l (group_spans p.timing g) (length g) n r t ts y (lg.rest_waits l g n r (t ∷ ts) at starts_at) h here.0 in
-      next_first l g n r t ts at starts_at (subst (λ i. All (λ z. i ≤ z.start) (phases p s)) e least)
+      (Next l, t, record { rest = slice_set s.rest l ts; groups = s.groups }, record { begins = (ts, starts_at, refl); least = subst (λ (i : ℕ). All (λ z. i ≤ z.start) (phases p s)) e least })
 
-  in_group : (h : Placed) (us : List ℕ) (y : Phase) → h.starts ≡ us → Has s.groups h → Has (group_phases p.timing h) y → All (λ z. y.start ≤ z.start) (phases p s) → FirstMove p s
-  in_group h [] y e here i least = absurd (subst (λ u. Has (phases_from (lun_of h.members) (group_spans p.timing h.members) (length h.members) 0 u) y) e i)
+  in_group : (h : Placed) (us : List ℕ) (y : Phase) → h.starts ≡ us → Has s.groups h → Has (group_phases p.timing h) y → All (λ z. y.start ≤ z.start) (phases p s) → NextPhase p s
+  in_group h [] y e here i least = absurd (subst (λ (u : List ℕ). Has (phases_from (lun_of h.members) (group_spans p.timing h.members) (length h.members) 0 u) y) e i)
   in_group h (t ∷ ts) y e here i least =
       let spans = group_spans p.timing h.members in
       let k = length h.members in
-      let i' = subst (λ u. Has (phases_from (lun_of h.members) spans k 0 u) y) e i in
+      let i' = subst (λ (u : List ℕ). Has (phases_from (lun_of h.members) spans k 0 u) y) e i in
       let w = subst (InOrder spans k 0 0) e (All-has _ s.groups h lg.waits here) in
-      let low = subst (λ u. All (λ z. y.start ≤ z.start) (phases_from (lun_of h.members) spans k 0 u)) e (of_group (λ z. y.start ≤ z.start) h here least) in
+      let low = subst (λ (u : List ℕ). All (λ z. y.start ≤ z.start) (phases_from (lun_of h.members) spans k 0 u)) e (of_group (λ z. y.start ≤ z.start) h here least) in
       let q = is_head (lun_of h.members) spans k 0 0 t ts y w i' low.0 in
-      let out = taken_out s.groups h here in
-      let perm = subst (λ u. Perm s.groups (record { members = h.members; starts = u } ∷ out.0)) e out.1 in
-      begun_first h.members t ts out.0 perm (subst (λ j. All (λ z. j ≤ z.start) (phases p s)) q least)
+      let cut = cut_at s.groups h here in
+      let g : Placed = record { members = h.members; starts = t ∷ ts } in
+      let same : h ≡ g = ap (λ (u : List ℕ). record { members = h.members; starts = u }) e in (
+        Start h.members,
+        t,
+        record { rest = slice_set s.rest (lun_of h.members) ts; groups = cut.0 ++ cut.1 },
+        record { begins = (ts, cut.0, cut.1, cut.2 ∙ ap (λ (z : Placed). cut.0 ++ z ∷ cut.1) same, refl); least = subst (λ (j : ℕ). All (λ z. j ≤ z.start) (phases p s)) q least },
+      )
 
-  pub first_move : 1 ≤ length (phases p s) → FirstMove p s
-  first_move some =
+  pub next_of : 1 ≤ length (phases p s) → NextPhase p s
+  next_of some =
       let y = least_phase (phases p s) some in
       elim (Has-append_cases (rest_phases p.timing 0 p.luns s.rest) _ y.0 y.1) [
-        | inl h ↦ (let a = has_at p.timing 0 p.luns s.rest y.0 h in let e : 0 + a.0 ≡ a.0 = omega arith in in_rest a.0 a.1 a.2 y.0 a.3 a.4 (subst (λ l. Has (phases_left p.timing l a.1 a.2) y.0) e a.5) y.2)
+        | inl h ↦ (let a = has_at p.timing 0 p.luns s.rest y.0 h in let e : 0 + a.0 ≡ a.0 = omega arith in in_rest a.0 a.1 a.2 y.0 a.3 a.4 (subst (λ (l : ℕ). Has (phases_left p.timing l a.1 a.2) y.0) e a.5) y.2)
         | inr h ↦ (let a = Has-flat_map (group_phases p.timing) s.groups y.0 h in in_group a.0 a.0.starts y.0 refl a.1 a.2 y.2)
       ]
 
@@ -257,13 +255,10 @@ run_of zero p s ip lg e =
     let none = nil_from_length (phases p s) e in
     ([], (none_left p s ip lg (rw none tt), rw none refl))
 run_of (suc n) p s ip lg e =
-    let f = first_move p s ip lg (omega arith) in
-    let p' = placed p f.move f.start in
-    let size = length_perm f.others in
-    let bus = All-perm (λ x. p.bus_free ≤ x.start) f.others lg.from_bus_free in
-    let r = run_of n p' f.left (kept p f.move f.start ip f.is_move) f.legal (omega arith) in
-    let same : finish p' f.left ≡ finish p s = latest_without p.bus_free p'.bus_free f.phase (phases p s) (phases p' f.left) f.others bus.0 f.ends in
-    (record { move = f.move; start = f.start } ∷ r.0, (f.is_move, f.on_time, subst (Run p' r.0) same r.1))
+    let (move, start, left, next) = next_of p s ip lg (omega arith) in
+    let f = first_of p s ip lg move start left next in
+    let r = run_of n (placed p move start) left (kept p move start ip f.is_move) f.legal (omega (arith, f.one_fewer)) in
+    (record { move = move; start = start } ∷ r.0, (f.is_move, f.on_time, subst (Run (placed p move start) r.0) f.same_finish r.1))
 
 -- a legal schedule is a run
 pub legal_run : (p : Problem) (s : Schedule) → IsProblem p → Legal p s → (steps : List Step) × Run p steps (finish p s)

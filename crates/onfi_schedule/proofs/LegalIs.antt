@@ -1,19 +1,20 @@
--- The words of the functions that test the conditions say that a schedule is legal.
-use Rattle.std.proofs.Common.{◌≡◌, ℕ, zero, suc, ◌≤◌, ◌↔◌, ◌⊎◌, List, [], ◌∷◌, Some, inl, inr, refl, sym, ◌∙◌, subst, arith}
+-- The words of the functions that look for a broken condition say that a schedule is legal.
+use Rattle.std.proofs.Common.{◌≡◌, ℕ, zero, suc, ◌≤◌, ◌⊎◌, List, [], ◌∷◌, Some, inl, inr, refl, sym, ◌∙◌, subst, arith}
 use Rattle.std.specs.Prelude.{slice_get}
 use Rattle.onfi_timing.specs.declared.timing.Timing.{Timing}
 use Rattle.onfi_request.specs.declared.want.Want.{Want}
-use Rattle.onfi_group.specs.declared.rules.Rules.{Rules}
-use Rattle.onfi_group.specs.Words.{Has, number}
-use Rattle.onfi_group.specs.Group.{lun_of}
+use Rattle.std.specs.List.{AllByRecursion as All}
+use Rattle.onfi_group.specs.Words.{Has, Pairs, number}
+use Rattle.onfi_group.specs.Group.{IsGroup}
 use Rattle.onfi_problem.specs.Problem.{Problem, IsProblem, has_id}
 use Rattle.onfi_problem.specs.Left.{InLimits}
 use Rattle.onfi_problem.specs.declared.lun_state.LunState.{LunState}
 use Rattle.onfi_problem.specs.declared.lun_state.LunState.TheVariants.{Free, Running}
 use Rattle.onfi_problem.proofs.Perm.{All-has, All-each, All-weaker, All-flat_map}
 use Rattle.onfi_problem.proofs.Wants.{Pairs-weaker, number_has, some_with_id, one_with_id}
-use Rattle.onfi_schedule.specs.Schedule.{Placed, Schedule, IsSchedule, Legal, all_members, rest_of, phases_left, group_phases, Before, StartsFrom, KeepsBlockOrder}
-use Rattle.onfi_schedule.specs.Conditions.{HasShape, KeepsBus, KeepsWaits, KeepsTurns, KeepsGroups, EachRest, StateFits, StateWaits, LeftFirst, FromSince, HoldsOnce, InBlockOrder, start_count}
+use Rattle.onfi_schedule.specs.Schedule.{Placed, Schedule, IsSchedule, Legal, all_members, KeepsBlockOrder}
+use Rattle.onfi_schedule.specs.Conditions.{HasShape, KeepsBus, KeepsWaits, KeepsTurns, EachRest, StateFits, StateWaits, LeftFirst, FromSince, HoldsOnce, InBlockOrder, start_count}
+use Rattle.onfi_schedule.proofs.Rests.{RunningFirst, FromFree, At}
 use Rattle.onfi_schedule.proofs.Room.{id_count_is, members_among, few_starts}
 
 -- at one LUN, and from each
@@ -34,11 +35,24 @@ each_from P (x ∷ luns) (us ∷ rest) h = (h 0 x us refl refl, each_from P luns
 none_or_some : (n : ℕ) → (n ≡ 0) ⊎ (1 ≤ n)
 none_or_some n = grind arith
 
-module _ (p : Problem) (s : Schedule) (ip : IsProblem p) where
-  fits_of : IsSchedule p s → (i : ℕ) (state : LunState) (ts : List ℕ) → slice_get p.luns i ≡ Some state → slice_get s.rest i ≡ Some ts → StateFits state ts
-  fits_of sh i (Free since) ts e k = sh.no_rest i since ts e k
-  fits_of sh i (Running g n r) ts e k = sh.rest i g n r ts e k
+-- LUN by LUN
+pub fits_of : (p : Problem) (s : Schedule) → IsSchedule p s → (j : ℕ) → At StateFits p.luns s.rest j
+fits_of p s sh j (Free since) ts e k = sh.no_rest j since ts e k
+fits_of p s sh j (Running g n r) ts e k = sh.rest j g n r ts e k
 
+pub waits_of : (p : Problem) (s : Schedule) → Legal p s → (j : ℕ) → At (StateWaits p.timing) p.luns s.rest j
+waits_of p s lg j (Free since) ts e k = tt
+waits_of p s lg j (Running g n r) ts e k = lg.rest_waits j g n r ts e k
+
+pub left_from : (timing : Timing) (luns : List LunState) (rest : List (List ℕ)) (g : Placed) → RunningFirst timing luns rest g → LeftFirst timing luns rest g
+left_from timing luns rest g h (Free since) ts e k = tt
+left_from timing luns rest g h (Running group n r) ts e k = h group n r ts e k
+
+pub since_from : (luns : List LunState) (g : Placed) → FromFree luns g → FromSince luns g
+since_from luns g h (Free since) e = h since e
+since_from luns g h (Running group n r) e = tt
+
+module _ (p : Problem) (s : Schedule) (ip : IsProblem p) where
   -- no other member has the id of a want
   once_of : HasShape p.luns p.wants s → (id : ℕ) → number (has_id id) (all_members s.groups) ≡ number (has_id id) p.wants
   once_of sh id =
@@ -71,32 +85,14 @@ module _ (p : Problem) (s : Schedule) (ip : IsProblem p) where
     once = once_of sh;
   }
 
-  shape_from : IsSchedule p s → HasShape p.luns p.wants s
+  pub shape_from : IsSchedule p s → HasShape p.luns p.wants s
   shape_from sh = record {
     luns = sh.luns;
-    rest = each_from StateFits p.luns s.rest (fits_of sh);
+    rest = each_from StateFits p.luns s.rest (fits_of p s sh);
     starts = sh.starts;
     members = All-flat_map (Has p.wants) (λ g. g.members) s.groups sh.wants_only;
     once = All-each (HoldsOnce s.groups) p.wants (λ w k. id_count_is s.groups w.id ∙ sh.once w.id ∙ one_with_id p.wants w ip.ids k);
   }
-
-  waits_of : Legal p s → (i : ℕ) (state : LunState) (ts : List ℕ) → slice_get p.luns i ≡ Some state → slice_get s.rest i ≡ Some ts → StateWaits p.timing state ts
-  waits_of lg i (Free since) ts e k = tt
-  waits_of lg i (Running g n r) ts e k = lg.rest_waits i g n r ts e k
-
-  abbrev RunningFirst : Placed → Type 0
-  RunningFirst g = (group : List Want) (next ready : ℕ) (starts : List ℕ) → slice_get p.luns (lun_of g.members) ≡ Some (Running group next ready) → rest_of s (lun_of g.members) ≡ Some starts → Before (phases_left p.timing (lun_of g.members) (Running group next ready) starts) (group_phases p.timing g)
-
-  left_from : (g : Placed) → RunningFirst g → LeftFirst p.timing p.luns s.rest g
-  left_from g h (Free since) ts e k = tt
-  left_from g h (Running group n r) ts e k = h group n r ts e k
-
-  abbrev Since : Placed → Type 0
-  Since g = (since : ℕ) → slice_get p.luns (lun_of g.members) ≡ Some (Free since) → StartsFrom since g.starts
-
-  since_from : (g : Placed) → Since g → FromSince p.luns g
-  since_from g h (Free since) e = h since e
-  since_from g h (Running group n r) e = tt
 
   order_to : (a b : Want) → InBlockOrder p.timing s.groups a b → KeepsBlockOrder p.timing s.groups a b
   order_to a b o el eb g h hg hh ma mb = All-has _ s.groups h (All-has _ s.groups g (o.holders_end el eb) hg ma) hh mb
@@ -104,45 +100,32 @@ module _ (p : Problem) (s : Schedule) (ip : IsProblem p) where
   order_from : (a b : Want) → KeepsBlockOrder p.timing s.groups a b → InBlockOrder p.timing s.groups a b
   order_from a b o = record { holders_end = λ el eb. All-each _ s.groups (λ g hg ma. All-each _ s.groups (λ h hh mb. o el eb g h hg hh ma mb)) }
 
-  legal_to : HasShape p.luns p.wants s → KeepsBus p.timing p.bus_free p.luns s → KeepsWaits p.timing p.luns s → KeepsTurns p.timing p.luns s → KeepsGroups p.timing p.rules p.wants s → Legal p s
-  legal_to sh bus waits turns groups = record {
+  pub legal_to : HasShape p.luns p.wants s → All (λ g. IsGroup p.rules g.members) s.groups → KeepsBus p.timing p.bus_free p.luns s → KeepsWaits p.timing p.luns s → KeepsTurns p.timing p.luns s → Pairs (InBlockOrder p.timing s.groups) p.wants → Legal p s
+  legal_to sh groups bus waits turns order = record {
     shape = shape_to sh;
     from_bus_free = bus.from_bus_free;
     no_overlap = bus.no_overlap;
     rest_waits = λ i g n r ts e k. each_at (StateWaits p.timing) p.luns s.rest i (Running g n r) ts waits.rest_waits e k;
     waits = waits.groups_wait;
-    running_first = All-weaker (LeftFirst p.timing p.luns s.rest) RunningFirst (λ g h group n r ts e k. h (Running group n r) ts e k) s.groups turns.left_first;
+    running_first = All-weaker (LeftFirst p.timing p.luns s.rest) (RunningFirst p.timing p.luns s.rest) (λ g h group n r ts e k. h (Running group n r) ts e k) s.groups turns.left_first;
     turns = turns.turns;
-    from_since = All-weaker (FromSince p.luns) Since (λ g h since e. h (Free since) e) s.groups turns.from_since;
-    block_order = Pairs-weaker _ _ order_to p.wants groups.block_order;
-    group = groups.group;
+    from_since = All-weaker (FromSince p.luns) (FromFree p.luns) (λ g h since e. h (Free since) e) s.groups turns.from_since;
+    block_order = Pairs-weaker _ _ order_to p.wants order;
+    group = groups;
   }
 
-  waits_from : Legal p s → KeepsWaits p.timing p.luns s
-  waits_from lg = record { rest_waits = each_from (StateWaits p.timing) p.luns s.rest (waits_of lg); groups_wait = lg.waits }
+  pub waits_from : Legal p s → KeepsWaits p.timing p.luns s
+  waits_from lg = record { rest_waits = each_from (StateWaits p.timing) p.luns s.rest (waits_of p s lg); groups_wait = lg.waits }
 
-  turns_from : Legal p s → KeepsTurns p.timing p.luns s
+  pub turns_from : Legal p s → KeepsTurns p.timing p.luns s
   turns_from lg = record {
-    left_first = All-weaker RunningFirst (LeftFirst p.timing p.luns s.rest) left_from s.groups lg.running_first;
+    left_first = All-weaker (RunningFirst p.timing p.luns s.rest) (LeftFirst p.timing p.luns s.rest) (left_from p.timing p.luns s.rest) s.groups lg.running_first;
     turns = lg.turns;
-    from_since = All-weaker Since (FromSince p.luns) since_from s.groups lg.from_since;
+    from_since = All-weaker (FromFree p.luns) (FromSince p.luns) (since_from p.luns) s.groups lg.from_since;
   }
 
-  groups_from : Legal p s → KeepsGroups p.timing p.rules p.wants s
-  groups_from lg = record { block_order = Pairs-weaker _ _ order_from p.wants lg.block_order; group = lg.group }
-
-abbrev pub Keeps : Timing → Rules → ℕ → List LunState → List Want → Schedule → Type 0
-Keeps timing rules bus_free luns wants s = KeepsBus timing bus_free luns s × KeepsWaits timing luns s × KeepsTurns timing luns s × KeepsGroups timing rules wants s
-
--- once the shape is right, what is tested further says that the schedule is legal
-pub legal_is : (p : Problem) (s : Schedule) (timing : Timing) (rules : Rules) (bus_free : ℕ) (luns : List LunState) (wants : List Want) → IsProblem p → timing ≡ p.timing → rules ≡ p.rules → bus_free ≡ p.bus_free → luns ≡ p.luns → wants ≡ p.wants → HasShape luns wants s → Keeps timing rules bus_free luns wants s ↔ Legal p s
-legal_is p s timing rules bus_free luns wants ip et er eb el ew shape =
-    let sh : HasShape p.luns p.wants s = rw (← el, ← ew) shape in
-    rw (et, er, eb, el, ew)
-    (λ h. legal_to p s ip sh h.0 h.1 h.2 h.3, λ lg. (record { from_bus_free = lg.from_bus_free; no_overlap = lg.no_overlap }, waits_from p s ip lg, turns_from p s ip lg, groups_from p s ip lg))
-
-pub legal_shape : (p : Problem) (s : Schedule) (luns : List LunState) (wants : List Want) → IsProblem p → luns ≡ p.luns → wants ≡ p.wants → Legal p s → HasShape luns wants s
-legal_shape p s luns wants ip el ew lg = rw (el, ew) (shape_from p s ip lg.shape)
+  pub block_order_from : Legal p s → Pairs (InBlockOrder p.timing s.groups) p.wants
+  block_order_from lg = Pairs-weaker _ _ order_from p.wants lg.block_order
 
 -- a legal schedule has few starts
 pub few_starts_of : (p : Problem) (s : Schedule) → InLimits p → Legal p s → start_count s.groups ≤ 16

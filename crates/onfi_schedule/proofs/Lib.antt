@@ -1,4 +1,3 @@
-pub mod AtPlace
 pub mod Appending
 pub mod Chains
 pub mod Rests
@@ -9,6 +8,8 @@ pub mod Waiting
 pub mod Named
 pub mod LegalIs
 pub mod Room
+pub mod Found
+pub mod Overlaps
 pub mod First
 pub mod Begin
 pub mod Least

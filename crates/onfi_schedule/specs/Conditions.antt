@@ -3,24 +3,18 @@ use Rattle.std.specs.Prelude.{◌≡◌, ℕ, ◌+◌, ◌*◌, ◌^◌, ◌≤�
 use Rattle.std.specs.List.{AllByRecursion as Each, flat_map}
 use Rattle.onfi_timing.specs.declared.timing.Timing.{Timing}
 use Rattle.onfi_request.specs.declared.want.Want.{Want}
-use Rattle.onfi_group.specs.declared.rules.Rules.{Rules}
 use Rattle.onfi_group.specs.Words.{Has, Pairs, total, number}
-use Rattle.onfi_group.specs.Group.{lun_of, group_spans, IsGroup}
+use Rattle.onfi_group.specs.Group.{lun_of, group_spans}
 use Rattle.onfi_problem.specs.Problem.{has_id}
 use Rattle.onfi_problem.specs.declared.lun_state.LunState.{LunState}
 use Rattle.onfi_problem.specs.declared.lun_state.LunState.TheVariants.{Free, Running}
 use Rattle.onfi_problem.specs.declared.moves.Lun.{Lun}
 use Rattle.onfi_problem.specs.Position.{state_of}
-use Rattle.onfi_schedule.specs.declared.chain.Chain.{Chain}
-use Rattle.onfi_schedule.specs.Schedule.{Placed, Schedule, Phase, end_of, phases_from, phases_left, rest_phases, group_phases, InOrder, Apart, Before, StartsFrom, TakeTurns}
+use Rattle.onfi_schedule.specs.Schedule.{Placed, Schedule, Phase, end_of, phases_left, rest_phases, group_phases, InOrder, Apart, Before, StartsFrom, TakeTurns}
 
 -- the end fits 64 bits
 abbrev pub EndsInTime : Phase → Type 0
 EndsInTime x = end_of x < 2 ^ 64
-
--- the phases of a chain at these starts
-abbrev pub chain_phases : Chain → List ℕ → List Phase
-chain_phases c starts = phases_from c.lun c.spans c.members c.next starts
 
 -- a LUN that runs a group names one that is there
 abbrev pub Names : List (List Want) → Lun → Type 0
@@ -120,8 +114,3 @@ pub record KeepsTurns (timing : Timing) (luns : List LunState) (s : Schedule) : 
   pub left_first : Each (LeftFirst timing luns s.rest) s.groups
   pub turns : Pairs (TakeTurns timing) s.groups
   pub from_since : Each (FromSince luns) s.groups
-
--- groups are groups by the rules, and keep the order of wants on a block
-pub record KeepsGroups (timing : Timing) (rules : Rules) (wants : List Want) (s : Schedule) : Type 0 where
-  pub block_order : Pairs (InBlockOrder timing s.groups) wants
-  pub group : Each (λ g. IsGroup rules g.members) s.groups

@@ -4,7 +4,7 @@ ghost use Rattle.std.specs.Prelude.{◌≡◌};
 ghost use Rattle.onfi_schedule.specs.Schedule.{Legal, finish};
 
 use crate::schedule::Schedule;
-use crate::{chain, legality, phases};
+use crate::{finding, slots};
 use onfi_problem::Problem;
 
 /// When the last phase of a legal schedule ends, or from when on the bus is free where no phase is left, in ns.
@@ -13,7 +13,7 @@ pub fn finish(problem: &Problem, schedule: &Schedule) -> u64
     ensures { result ≡ finish problem.now.problem schedule.now }
 {
     let bus_free = problem.bus_free();
-    let (luns, table) = legality::luns_and_groups(problem);
-    let phases = chain::all_phases(&problem.timing(), table, luns, schedule);
-    phases::latest(bus_free, phases.as_slice())
+    let (luns, table) = finding::luns_and_groups(problem);
+    let slots = slots::all_slots(&problem.timing(), table, luns, schedule);
+    slots::latest(bus_free, slots.as_slice())
 }

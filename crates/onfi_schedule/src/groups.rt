@@ -1,20 +1,103 @@
-//! The groups of a schedule.
+//! Groups by the rules.
 
-ghost use Rattle.std.specs.Prelude.{◌↔◌, IsTrue};
+ghost use Rattle.std.specs.Prelude.{◌≡◌, ◌≤◌, ◌↔◌, IsNone, IfSome, length};
 ghost use Rattle.std.specs.List.{AllByRecursion as Each};
 ghost use Rattle.onfi_group.specs.Group.{IsGroup};
+ghost use Rattle.onfi_schedule.specs.Breaks.{condition_of, is_a_group};
 
+use crate::breach::{Breach, Difference};
 use crate::placed::Placed;
 use onfi_group::{Rules, is_group};
+use onfi_request::Want;
+use onfi_timing::Kind;
 
-/// Whether each is a group by the rules.
-pub(crate) fn all_groups(rules: &Rules, groups: &[Placed]) -> bool
-    ensures { IsTrue result ↔ Each (λ g. IsGroup rules.now g.members) groups.now }
+// What members share, and these two don't.
+fn difference(rules: &Rules, first: &Want, member: &Want) -> Option<Difference> {
+    if member.kind != first.kind {
+        Some(Difference::Kind)
+    } else if member.lun != first.lun {
+        Some(Difference::Lun)
+    } else if first.kind != Kind::Erase && member.page != first.page {
+        Some(Difference::Page)
+    } else if rules.strict && member.block >> rules.plane_bits != first.block >> rules.plane_bits {
+        Some(Difference::Block)
+    } else {
+        None
+    }
+}
+
+// The first member that differs from the first one in what members share.
+fn mixed(rules: &Rules, members: &[Want]) -> Option<Breach>
+    ensures about { IfSome result (λ b. condition_of b ≡ is_a_group) }
 {
-    for group in groups {
-        if !is_group(rules, group.members().members()) {
-            return false;
+    let first = members.first()?;
+    for member in members {
+        if let Some(difference) = difference(rules, first, member) {
+            return Some(Breach::MixedGroup {
+                first: first.id,
+                request: member.id,
+                difference,
+            });
         }
     }
-    true
+    None
+}
+
+// The first member whose plane isn't above that of the one before it.
+fn plane_order(members: &[Want]) -> Option<Breach>
+    ensures about { IfSome result (λ b. condition_of b ≡ is_a_group) }
+{
+    for at in 1..members.len() {
+        if members[at].plane <= members[at - 1].plane {
+            return Some(Breach::PlaneOrder {
+                before: members[at - 1].id,
+                request: members[at].id,
+            });
+        }
+    }
+    None
+}
+
+// What is wrong with members that are no group: where they are of one kind and page and their planes rise, the device
+// runs no such requests on several planes.
+fn fault_of(rules: &Rules, members: &[Want]) -> Breach
+    requires some { 1 ≤ length members.now }
+    ensures about { condition_of result ≡ is_a_group }
+{
+    if let Some(breach) = mixed(rules, members) {
+        return breach;
+    }
+    if let Some(breach) = plane_order(members) {
+        return breach;
+    }
+    Breach::SinglePlane {
+        first: members[0].id,
+        request: members[members.len() - 1].id,
+    }
+}
+
+fn group_fault(rules: &Rules, group: &Placed) -> Option<Breach>
+    ensures none { IsNone result ↔ IsGroup rules.now group.now.members }
+    ensures about { IfSome result (λ b. condition_of b ≡ is_a_group) }
+{
+    let members = group.members().members();
+    if is_group(rules, members) {
+        None
+    } else {
+        Some(fault_of(rules, members))
+    }
+}
+
+/// Requests that the rules don't let run as one operation.
+pub(crate) fn no_group(rules: &Rules, groups: &[Placed]) -> Option<Breach>
+    ensures none { IsNone result ↔ Each (λ g. IsGroup rules.now g.members) groups.now }
+    ensures about { IfSome result (λ b. condition_of b ≡ is_a_group) }
+{
+    for group in groups {
+        let breach = group_fault(rules, group);
+        if breach.is_some() {
+            return breach;
+        }
+    }
+    None
 }

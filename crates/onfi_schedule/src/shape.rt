@@ -1,82 +1,138 @@
-//! The shape of a schedule: each want in exactly one group, each phase with one start.
+//! The shape of a schedule: each request in exactly one group, each phase with one start.
 
-ghost use Rattle.std.specs.Prelude.{◌≡◌, ◌*◌, ◌≤◌, ◌↔◌, IsTrue, length};
-ghost use Rattle.std.specs.List.{AllByRecursion as Each};
+ghost use Rattle.std.specs.Prelude.{◌≡◌, ◌≤◌, ◌↔◌, IsNone, IfSome, IsTrue, length};
+ghost use Rattle.std.specs.List.{AllByRecursion as Each, Any};
 ghost use Rattle.onfi_group.specs.Words.{Has, number};
-ghost use Rattle.onfi_problem.specs.Problem.{has_id};
+ghost use Rattle.onfi_problem.specs.Problem.{Problem, has_id};
 ghost use Rattle.onfi_problem.specs.Position.{state_of};
-ghost use Rattle.onfi_schedule.specs.Conditions.{Names, EachRest, StateFits, StartsFit, MembersAmong, HoldsOnce, HasShape, id_count, states_of};
+ghost use Rattle.onfi_schedule.specs.Conditions.{Names, EachRest, StateFits, StartsFit, MembersAmong, HoldsOnce, id_count, states_of};
+ghost use Rattle.onfi_schedule.specs.Schedule.{Schedule};
+ghost use Rattle.onfi_schedule.specs.Tells.{Tells, IsUnknown};
+ghost use Rattle.onfi_schedule.specs.Breaks.{condition_of, lun_count, rest_counts, start_counts, known_requests, each_once};
 
+use crate::breach::Breach;
 use crate::placed::Placed;
-use crate::schedule::Schedule;
 use crate::starts::Starts;
-use crate::turns;
 use onfi_group::Group;
 use onfi_problem::Lun;
 use onfi_request::Want;
 
-fn left_fits(table: &[Group], lun: &Lun, starts: &Starts) -> bool
-    requires named { Names table.now lun.now }
-    ensures { IsTrue result ↔ StateFits (state_of table.now lun.now) starts.now }
+/// A LUN that isn't there, or that the schedule leaves out.
+pub(crate) fn lun_count(count: usize, rest: &[Starts]) -> Option<Breach>
+    requires some { 1 ≤ count }
+    ensures none { IsNone result ↔ (length rest.now ≡ count) }
+    ensures about { IfSome result (λ b. condition_of b ≡ lun_count) }
+    ensures told { (p : Problem) (s : Schedule) → length p.luns ≡ count → s.rest ≡ rest.now → IfSome result (Tells p s) }
 {
-    let starts = starts.as_slice();
-    if lun.next == 0 {
-        return starts.is_empty();
+    let scheduled = rest.len();
+    if scheduled == count {
+        None
+    } else if scheduled < count {
+        Some(Breach::MissingLun { lun: scheduled })
+    } else {
+        Some(Breach::ForeignLun { last: count - 1 })
     }
-    let group = &table[lun.place as usize];
-    lun.next as usize + starts.len() == 2 * group.len()
 }
 
-fn rest_fits(table: &[Group], luns: &[Lun], rest: &[Starts]) -> bool
+fn left_count(table: &[Group], at: u8, lun: &Lun, starts: &Starts) -> Option<Breach>
+    requires named { Names table.now lun.now }
+    ensures none { IsNone result ↔ StateFits (state_of table.now lun.now) starts.now }
+    ensures about { IfSome result (λ b. condition_of b ≡ rest_counts) }
+{
+    let starts = starts.as_slice().len();
+    if lun.next == 0 {
+        return if starts == 0 {
+            None
+        } else {
+            Some(Breach::RestOfFreeLun { lun: at })
+        };
+    }
+    let phases = 2 * table[lun.place as usize].len();
+    let over = lun.next as usize;
+    if over + starts == phases {
+        return None;
+    }
+    Some(Breach::RestCount {
+        lun: at,
+        starts,
+        left: phases.saturating_sub(over),
+    })
+}
+
+/// A LUN with other starts than its running group has phases left.
+pub(crate) fn rest_count(table: &[Group], luns: &[Lun], rest: &[Starts]) -> Option<Breach>
+    requires few { length luns.now ≤ 8 }
     requires length { length rest.now ≡ length luns.now }
     requires named { Each (Names table.now) luns.now }
-    ensures { IsTrue result ↔ EachRest StateFits (states_of table.now luns.now) rest.now }
+    ensures none { IsNone result ↔ EachRest StateFits (states_of table.now luns.now) rest.now }
+    ensures about { IfSome result (λ b. condition_of b ≡ rest_counts) }
 {
     for (at, lun) in luns.iter().enumerate() {
-        if !left_fits(table, lun, &rest[at]) {
-            return false;
+        let breach = left_count(table, at as u8, lun, &rest[at]);
+        if breach.is_some() {
+            return breach;
         }
     }
-    true
+    None
 }
 
-fn group_fits(group: &Placed) -> bool
-    ensures { IsTrue result ↔ StartsFit group.now }
-{
-    group.starts().as_slice().len() == 2 * group.members().len()
-}
-
-fn groups_fit(groups: &[Placed]) -> bool
-    ensures { IsTrue result ↔ Each StartsFit groups.now }
+/// A group with other starts than it has phases.
+pub(crate) fn start_count(groups: &[Placed]) -> Option<Breach>
+    ensures none { IsNone result ↔ Each StartsFit groups.now }
+    ensures about { IfSome result (λ b. condition_of b ≡ start_counts) }
+    ensures told { (p : Problem) (s : Schedule) → s.groups ≡ groups.now → IfSome result (Tells p s) }
 {
     for group in groups {
-        if !group_fits(group) {
-            return false;
+        let starts = group.starts().as_slice().len();
+        let members = group.members().members();
+        let phases = 2 * members.len();
+        if starts != phases {
+            return Some(Breach::StartCount {
+                request: members[0].id,
+                starts,
+                phases,
+            });
         }
     }
-    true
+    None
 }
 
-fn among(wants: &[Want], members: &[Want]) -> bool
-    ensures { IsTrue result ↔ Each (Has wants.now) members.now }
+/// Whether the want is one of them.
+pub(crate) fn holds(wants: &[Want], want: &Want) -> bool
+    ensures { IsTrue result ↔ Has wants.now want.now }
+{
+    for other in wants {
+        if other == want {
+            return true;
+        }
+    }
+    false
+}
+
+fn unknown_among(wants: &[Want], members: &[Want]) -> Option<u64>
+    ensures none { IsNone result ↔ Each (Has wants.now) members.now }
+    ensures told { IfSome result (λ id. Any (IsUnknown wants.now id) members.now) }
 {
     for member in members {
-        if !turns::holds(wants, member) {
-            return false;
+        if !holds(wants, member) {
+            return Some(member.id);
         }
     }
-    true
+    None
 }
 
-fn all_among(wants: &[Want], groups: &[Placed]) -> bool
-    ensures { IsTrue result ↔ Each (MembersAmong wants.now) groups.now }
+/// A request of the schedule that the problem doesn't have.
+pub(crate) fn unknown(wants: &[Want], groups: &[Placed]) -> Option<Breach>
+    ensures none { IsNone result ↔ Each (MembersAmong wants.now) groups.now }
+    ensures about { IfSome result (λ b. condition_of b ≡ known_requests) }
+    ensures told { (p : Problem) (s : Schedule) → p.wants ≡ wants.now → s.groups ≡ groups.now → IfSome result (Tells p s) }
 {
     for group in groups {
-        if !among(wants, group.members().members()) {
-            return false;
+        if let Some(request) = unknown_among(wants, group.members().members()) {
+            return Some(Breach::UnknownRequest { request });
         }
     }
-    true
+    None
 }
 
 fn count_in(members: &[Want], id: u64) -> usize
@@ -102,27 +158,21 @@ fn count_in_all(groups: &[Placed], id: u64) -> usize
     count
 }
 
-fn each_once(groups: &[Placed], wants: &[Want]) -> bool
-    ensures { IsTrue result ↔ Each (HoldsOnce groups.now) wants.now }
+/// A request in no group, or in several.
+pub(crate) fn missing_or_repeated(groups: &[Placed], wants: &[Want]) -> Option<Breach>
+    ensures none { IsNone result ↔ Each (HoldsOnce groups.now) wants.now }
+    ensures about { IfSome result (λ b. condition_of b ≡ each_once) }
+    ensures told { (p : Problem) (s : Schedule) → p.wants ≡ wants.now → s.groups ≡ groups.now → IfSome result (Tells p s) }
 {
     for want in wants {
-        if count_in_all(groups, want.id) != 1 {
-            return false;
+        let request = want.id;
+        let times = count_in_all(groups, request);
+        if times == 0 {
+            return Some(Breach::MissingRequest { request });
+        }
+        if times != 1 {
+            return Some(Breach::RepeatedRequest { request, times });
         }
     }
-    true
-}
-
-/// Whether a schedule has each want in exactly one group, and for each phase one start.
-pub(crate) fn has_shape(table: &[Group], luns: &[Lun], wants: &[Want], schedule: &Schedule) -> bool
-    requires named { Each (Names table.now) luns.now }
-    ensures { IsTrue result ↔ HasShape (states_of table.now luns.now) wants.now schedule.now }
-{
-    let rest = schedule.rest();
-    let groups = schedule.groups();
-    rest.len() == luns.len()
-        && rest_fits(table, luns, rest)
-        && groups_fit(groups)
-        && all_among(wants, groups)
-        && each_once(groups, wants)
+    None
 }

@@ -1,46 +1,67 @@
 //! New groups on LUNs that are free.
 
-ghost use Rattle.std.specs.Prelude.{◌↔◌, IsTrue, List};
+ghost use Rattle.std.specs.Prelude.{◌≡◌, ◌↔◌, IsNone, IfSome, List};
 ghost use Rattle.std.specs.List.{AllByRecursion as Each};
-ghost use Rattle.onfi_schedule.specs.Schedule.{StartsFrom};
 ghost use Rattle.onfi_request.specs.declared.want.Want.{Want};
 ghost use Rattle.onfi_problem.specs.Position.{state_of};
 ghost use Rattle.onfi_schedule.specs.Conditions.{StateSince, FromSince, states_of};
+ghost use Rattle.onfi_schedule.specs.Breaks.{condition_of, lun_is_free};
 
+use crate::breach::Breach;
 use crate::placed::Placed;
+use crate::slots::Work;
 use onfi_group::Group;
 use onfi_problem::Lun;
+use onfi_timing::Timing;
 
-fn starts_from(floor: u64, starts: &[u64]) -> bool
-    ensures { IsTrue result ↔ StartsFrom floor starts.now }
+fn before_free(timing: &Timing, lun: &Lun, group: &Placed) -> Option<Breach>
+    ensures none { (table : List (List Want)) → IsNone result ↔ StateSince (state_of table lun.now) group.now.starts }
+    ensures about { IfSome result (λ b. condition_of b ≡ lun_is_free) }
 {
-    starts.is_empty() || starts[0] >= floor
+    let starts = group.starts().as_slice();
+    if lun.next != 0 || starts.is_empty() || starts[0] >= lun.time {
+        return None;
+    }
+    let members = group.members();
+    Some(Breach::LunNotFree {
+        phase: Work::of_new(timing, members).name(members.members(), 0),
+        lun: members.lun(),
+        start: starts[0],
+        since: lun.time,
+    })
 }
 
-fn free_since(lun: &Lun, starts: &[u64]) -> bool
-    ensures { (table : List (List Want)) → IsTrue result ↔ StateSince (state_of table lun.now) starts.now }
-{
-    lun.next != 0 || starts_from(lun.time, starts)
-}
-
-fn from_since(table: &[Group], luns: &[Lun], group: &Placed) -> bool
-    ensures { IsTrue result ↔ FromSince (states_of table.now luns.now) group.now }
+fn group_before_free(
+    timing: &Timing,
+    table: &[Group],
+    luns: &[Lun],
+    group: &Placed,
+) -> Option<Breach>
+    ensures none { IsNone result ↔ FromSince (states_of table.now luns.now) group.now }
+    ensures about { IfSome result (λ b. condition_of b ≡ lun_is_free) }
 {
     let place = group.members().lun() as usize;
     if place >= luns.len() {
-        return true;
+        return None;
     }
-    free_since(&luns[place], group.starts().as_slice())
+    before_free(timing, &luns[place], group)
 }
 
-/// Whether no new group starts before its LUN is free.
-pub(crate) fn all_from_since(table: &[Group], luns: &[Lun], groups: &[Placed]) -> bool
-    ensures { IsTrue result ↔ Each (FromSince (states_of table.now luns.now)) groups.now }
+/// A group that starts before its LUN is free.
+pub(crate) fn lun_not_free(
+    timing: &Timing,
+    table: &[Group],
+    luns: &[Lun],
+    groups: &[Placed],
+) -> Option<Breach>
+    ensures none { IsNone result ↔ Each (FromSince (states_of table.now luns.now)) groups.now }
+    ensures about { IfSome result (λ b. condition_of b ≡ lun_is_free) }
 {
     for group in groups {
-        if !from_since(table, luns, group) {
-            return false;
+        let breach = group_before_free(timing, table, luns, group);
+        if breach.is_some() {
+            return breach;
         }
     }
-    true
+    None
 }

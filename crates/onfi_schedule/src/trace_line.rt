@@ -9,7 +9,7 @@ use std::alloc::{AllocError, Global};
 
 /// The part of an operation that a phase is.
 #[derive(Clone, Copy)]
-pub(crate) enum Part {
+pub(crate) enum LinePart {
     /// The command with its address and data.
     Command,
     /// The data output, or the status.
@@ -24,7 +24,7 @@ pub(crate) struct TraceLine {
     pub(crate) lun: u8,
     /// Whether its group is a new one; else it ran on the LUN before.
     pub(crate) is_new: bool,
-    pub(crate) part: Part,
+    pub(crate) part: LinePart,
     pub(crate) want: Want,
     /// Whether it is the command of the last plane of its group.
     pub(crate) last: bool,
@@ -119,35 +119,35 @@ fn kind_word(kind: Kind) -> &'static str
     }
 }
 
-fn part_word(part: Part) -> &'static str
+fn part_word(part: LinePart) -> &'static str
     ensures { result.now ≡ part_word part }
 {
     match part {
-        Part::Command => "cmd",
-        Part::Post => "post",
+        LinePart::Command => "cmd",
+        LinePart::Post => "post",
     }
 }
 
-fn opener_word(kind: Kind, part: Part) -> &'static str
+fn opener_word(kind: Kind, part: LinePart) -> &'static str
     ensures { result.now ≡ opener_word kind part }
 {
     match (part, kind) {
-        (Part::Command, Kind::Read) => "00",
-        (Part::Command, Kind::Program) => "80",
-        (Part::Command, Kind::Erase) => "60",
-        (Part::Post, Kind::Read) => "06",
-        (Part::Post, _) => "78",
+        (LinePart::Command, Kind::Read) => "00",
+        (LinePart::Command, Kind::Program) => "80",
+        (LinePart::Command, Kind::Erase) => "60",
+        (LinePart::Post, Kind::Read) => "06",
+        (LinePart::Post, _) => "78",
     }
 }
 
-fn closer_word(kind: Kind, part: Part, last: bool) -> &'static str
+fn closer_word(kind: Kind, part: LinePart, last: bool) -> &'static str
     ensures { result.now ≡ closer_word kind part last }
 {
     match (part, kind) {
-        (Part::Command, Kind::Read) => if last { "30" } else { "32" },
-        (Part::Command, Kind::Program) => if last { "10" } else { "11" },
-        (Part::Command, Kind::Erase) => if last { "D0" } else { "D1" },
-        (Part::Post, Kind::Read) => "E0",
-        (Part::Post, _) => "-",
+        (LinePart::Command, Kind::Read) => if last { "30" } else { "32" },
+        (LinePart::Command, Kind::Program) => if last { "10" } else { "11" },
+        (LinePart::Command, Kind::Erase) => if last { "D0" } else { "D1" },
+        (LinePart::Post, Kind::Read) => "E0",
+        (LinePart::Post, _) => "-",
     }
 }

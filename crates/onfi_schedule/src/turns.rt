@@ -1,177 +1,203 @@
-//! The order of groups on one LUN and on one block.
+//! The order of groups on one LUN.
 
-ghost use Rattle.std.specs.Prelude.{◌≡◌, ◌↔◌, IsTrue, length};
+ghost use Rattle.std.specs.Prelude.{◌≡◌, ◌↔◌, IsNone, IfSome, IsTrue, length};
 ghost use Rattle.std.specs.List.{AllByRecursion as Each};
-ghost use Rattle.onfi_group.specs.Words.{Has, Pairs};
-ghost use Rattle.onfi_schedule.specs.Schedule.{Before, group_phases, TakeTurns};
-ghost use Rattle.onfi_schedule.specs.Conditions.{Names, states_of, LeftFirst, EndsBefore, HoldersEnd, InBlockOrder};
+ghost use Rattle.onfi_group.specs.Words.{Pairs};
+ghost use Rattle.onfi_group.specs.Group.{lun_of};
+ghost use Rattle.onfi_problem.specs.Position.{state_of};
+ghost use Rattle.onfi_schedule.specs.Schedule.{Before, phases_left, group_phases, TakeTurns};
+ghost use Rattle.onfi_schedule.specs.Conditions.{Names, states_of, LeftFirst};
+ghost use Rattle.onfi_schedule.specs.Breaks.{condition_of, running_first, takes_turns};
+ghost use Rattle.onfi_schedule.specs.Slots.{phases_in, EndsFirst};
 
-use crate::chain::{self, Phases};
-use crate::phases;
+use crate::breach::Breach;
 use crate::placed::Placed;
+use crate::slot::Slot;
+use crate::slots::{self, GroupSlots};
 use crate::starts::Starts;
 use arrayvec::ArrayVec;
 use onfi_group::Group;
 use onfi_problem::Lun;
-use onfi_request::Want;
 use onfi_timing::Timing;
 
-fn phases_of(timing: &Timing, group: &Placed) -> Phases
-    ensures { result.items ≡ group_phases timing.now group.now }
+/// The phases of a new group.
+pub(crate) fn slots_of(timing: &Timing, group: &Placed) -> GroupSlots
+    ensures { phases_in result.items ≡ group_phases timing.now group.now }
 {
-    let mut phases = ArrayVec::new();
-    chain::push_group(
-        &mut phases,
-        timing,
-        group.members(),
-        group.starts().as_slice(),
-    );
-    phases
+    let mut slots = ArrayVec::new();
+    let starts = group.starts().as_slice();
+    slots::push_group(&mut slots, timing, group.members(), starts);
+    slots
 }
 
-/// Whether the one group has ended when the other starts.
-fn is_before(timing: &Timing, group: &Placed, other: &Placed) -> bool
-    ensures { IsTrue result ↔ Before (group_phases timing.now group.now) (group_phases timing.now other.now) }
-{
-    let earlier = phases_of(timing, group);
-    let later = phases_of(timing, other);
-    phases::all_before(earlier.as_slice(), later.as_slice())
-}
-
-fn take_turns(timing: &Timing, group: &Placed, other: &Placed) -> bool
-    ensures { IsTrue result ↔ TakeTurns timing.now group.now other.now }
-{
-    group.members().lun() != other.members().lun()
-        || is_before(timing, group, other)
-        || is_before(timing, other, group)
-}
-
-fn takes_turns(timing: &Timing, group: &Placed, others: &[Placed]) -> bool
-    ensures { IsTrue result ↔ Each (TakeTurns timing.now group.now) others.now }
+// Whether the phase has ended when any of the others starts.
+fn ends_before(slot: &Slot, others: &[Slot]) -> bool
+    ensures { IsTrue result ↔ EndsFirst slot.now.phase (phases_in others.now) }
 {
     for other in others {
-        if !take_turns(timing, group, other) {
+        if !slot.phase.ends_by(other.phase.start) {
             return false;
         }
     }
     true
 }
 
-/// Whether of two new groups on one LUN one has ended when the other starts.
-pub(crate) fn all_take_turns(timing: &Timing, groups: &[Placed]) -> bool
-    ensures { IsTrue result ↔ Pairs (TakeTurns timing.now) groups.now }
+/// Whether the ones have ended when any of the others starts.
+pub(crate) fn are_before(slots: &[Slot], others: &[Slot]) -> bool
+    ensures { IsTrue result ↔ Before (phases_in slots.now) (phases_in others.now) }
 {
-    for (at, group) in groups.iter().enumerate() {
-        if !takes_turns(timing, group, &groups[at + 1..]) {
+    for slot in slots {
+        if !ends_before(slot, others) {
             return false;
         }
     }
     true
 }
 
-fn left_first(
+/// The phase of least start.
+pub(crate) fn first_slot(slots: &[Slot]) -> Slot {
+    let mut first = slots.first().copied().unwrap_or_default();
+    for slot in slots {
+        if slot.phase.start < first.phase.start {
+            first = *slot;
+        }
+    }
+    first
+}
+
+// That the group starts before that of the left phases, which runs on its LUN, has ended.
+fn running_left(own: &[Slot], left: &[Slot]) -> Breach
+    ensures { condition_of result ≡ running_first }
+{
+    let first = first_slot(own);
+    Breach::RunningGroupLeft {
+        phase: first.name,
+        lun: first.phase.lun,
+        start: first.phase.start,
+        end: slots::latest(0, left),
+    }
+}
+
+fn before_end_of(
+    timing: &Timing,
+    table: &[Group],
+    lun: &Lun,
+    starts: &Starts,
+    group: &Placed,
+) -> Option<Breach>
+    requires named { Names table.now lun.now }
+    ensures none { IsNone result ↔ Before (phases_left timing.now (lun_of group.now.members) (state_of table.now lun.now) starts.now) (group_phases timing.now group.now) }
+    ensures about { IfSome result (λ b. condition_of b ≡ running_first) }
+{
+    let mut left: GroupSlots = ArrayVec::new();
+    slots::push_left(&mut left, timing, table, group.members().lun(), lun, starts);
+    let own = slots_of(timing, group);
+    if are_before(left.as_slice(), own.as_slice()) {
+        return None;
+    }
+    Some(running_left(own.as_slice(), left.as_slice()))
+}
+
+fn before_left(
     timing: &Timing,
     table: &[Group],
     luns: &[Lun],
     rest: &[Starts],
     group: &Placed,
-) -> bool
+) -> Option<Breach>
     requires length { length rest.now ≡ length luns.now }
     requires named { Each (Names table.now) luns.now }
-    ensures { IsTrue result ↔ LeftFirst timing.now (states_of table.now luns.now) rest.now group.now }
+    ensures none { IsNone result ↔ LeftFirst timing.now (states_of table.now luns.now) rest.now group.now }
+    ensures about { IfSome result (λ b. condition_of b ≡ running_first) }
 {
-    let at = group.members().lun();
-    let place = at as usize;
+    let place = group.members().lun() as usize;
     if place >= luns.len() {
-        return true;
+        return None;
     }
-    let mut left = ArrayVec::new();
-    chain::push_left(&mut left, timing, table, at, &luns[place], &rest[place]);
-    let own = phases_of(timing, group);
-    phases::all_before(left.as_slice(), own.as_slice())
+    before_end_of(timing, table, &luns[place], &rest[place], group)
 }
 
-/// Whether what runs on the LUN of a new group has ended when the new one starts.
-pub(crate) fn all_left_first(
+/// A group that starts before the running group of its LUN has ended.
+pub(crate) fn running_not_over(
     timing: &Timing,
     table: &[Group],
     luns: &[Lun],
     rest: &[Starts],
     groups: &[Placed],
-) -> bool
+) -> Option<Breach>
     requires length { length rest.now ≡ length luns.now }
     requires named { Each (Names table.now) luns.now }
-    ensures { IsTrue result ↔ Each (LeftFirst timing.now (states_of table.now luns.now) rest.now) groups.now }
+    ensures none { IsNone result ↔ Each (LeftFirst timing.now (states_of table.now luns.now) rest.now) groups.now }
+    ensures about { IfSome result (λ b. condition_of b ≡ running_first) }
 {
     for group in groups {
-        if !left_first(timing, table, luns, rest, group) {
-            return false;
+        let breach = before_left(timing, table, luns, rest, group);
+        if breach.is_some() {
+            return breach;
         }
     }
-    true
+    None
 }
 
-/// Whether the want is one of them.
-pub(crate) fn holds(wants: &[Want], want: &Want) -> bool
-    ensures { IsTrue result ↔ Has wants.now want.now }
+// That the one group starts while the other one has their LUN.
+fn taken(own: &[Slot], holder: u64, held: &[Slot]) -> Breach
+    ensures { condition_of result ≡ takes_turns }
 {
-    for other in wants {
-        if other == want {
-            return true;
+    let first = first_slot(own);
+    Breach::LunTaken {
+        phase: first.name,
+        lun: first.phase.lun,
+        start: first.phase.start,
+        holder,
+        from: first_slot(held).phase.start,
+        to: slots::latest(0, held),
+    }
+}
+
+fn without_turn(timing: &Timing, group: &Placed, other: &Placed) -> Option<Breach>
+    ensures none { IsNone result ↔ TakeTurns timing.now group.now other.now }
+    ensures about { IfSome result (λ b. condition_of b ≡ takes_turns) }
+{
+    if group.members().lun() != other.members().lun() {
+        return None;
+    }
+    let one = slots_of(timing, group);
+    let two = slots_of(timing, other);
+    let (one, two) = (one.as_slice(), two.as_slice());
+    if are_before(one, two) || are_before(two, one) {
+        return None;
+    }
+    let breach = if first_slot(one).phase.start < first_slot(two).phase.start {
+        taken(two, group.members().members()[0].id, one)
+    } else {
+        taken(one, other.members().members()[0].id, two)
+    };
+    Some(breach)
+}
+
+fn without_turn_among(timing: &Timing, group: &Placed, others: &[Placed]) -> Option<Breach>
+    ensures none { IsNone result ↔ Each (TakeTurns timing.now group.now) others.now }
+    ensures about { IfSome result (λ b. condition_of b ≡ takes_turns) }
+{
+    for other in others {
+        let breach = without_turn(timing, group, other);
+        if breach.is_some() {
+            return breach;
         }
     }
-    false
+    None
 }
 
-fn ends_before(timing: &Timing, group: &Placed, want: &Want, groups: &[Placed]) -> bool
-    ensures { IsTrue result ↔ EndsBefore timing.now group.now want.now groups.now }
+/// A group that starts while another one has its LUN.
+pub(crate) fn lun_taken(timing: &Timing, groups: &[Placed]) -> Option<Breach>
+    ensures none { IsNone result ↔ Pairs (TakeTurns timing.now) groups.now }
+    ensures about { IfSome result (λ b. condition_of b ≡ takes_turns) }
 {
-    for other in groups {
-        if holds(other.members().members(), want) && !is_before(timing, group, other) {
-            return false;
+    for (at, group) in groups.iter().enumerate() {
+        let breach = without_turn_among(timing, group, &groups[at + 1..]);
+        if breach.is_some() {
+            return breach;
         }
     }
-    true
-}
-
-fn holders_end(timing: &Timing, groups: &[Placed], first: &Want, second: &Want) -> bool
-    ensures { IsTrue result ↔ HoldersEnd timing.now groups.now first.now second.now groups.now }
-{
-    for group in groups {
-        if holds(group.members().members(), first) && !ends_before(timing, group, second, groups) {
-            return false;
-        }
-    }
-    true
-}
-
-fn keep_order(timing: &Timing, groups: &[Placed], first: &Want, second: &Want) -> bool
-    ensures { IsTrue result ↔ InBlockOrder timing.now groups.now first.now second.now }
-{
-    first.lun != second.lun
-        || first.block != second.block
-        || holders_end(timing, groups, first, second)
-}
-
-fn keeps_order(timing: &Timing, groups: &[Placed], want: &Want, later: &[Want]) -> bool
-    ensures { IsTrue result ↔ Each (InBlockOrder timing.now groups.now want.now) later.now }
-{
-    for other in later {
-        if !keep_order(timing, groups, want, other) {
-            return false;
-        }
-    }
-    true
-}
-
-/// Whether of two wants on one block the group of the earlier has ended when that of the later starts.
-pub(crate) fn keeps_block_order(timing: &Timing, groups: &[Placed], wants: &[Want]) -> bool
-    ensures { IsTrue result ↔ Pairs (InBlockOrder timing.now groups.now) wants.now }
-{
-    for (at, want) in wants.iter().enumerate() {
-        if !keeps_order(timing, groups, want, &wants[at + 1..]) {
-            return false;
-        }
-    }
-    true
+    None
 }

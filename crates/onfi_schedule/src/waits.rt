@@ -1,84 +1,118 @@
 //! The waits between the phases of a group.
 
-ghost use Rattle.std.specs.Prelude.{◌≡◌, ◌+◌, ◌^◌, ◌<◌, ◌↔◌, IsTrue, length};
+ghost use Rattle.std.specs.Prelude.{◌≡◌, ◌+◌, ◌^◌, ◌<◌, ◌≤◌, ◌↔◌, IsNone, IfSome, length};
 ghost use Rattle.std.specs.List.{AllByRecursion as Each};
 ghost use Rattle.onfi_problem.specs.Position.{state_of};
 ghost use Rattle.onfi_schedule.specs.Schedule.{InOrder};
 ghost use Rattle.onfi_schedule.specs.Conditions.{Names, EachRest, StateWaits, GroupWaits, states_of};
+ghost use Rattle.onfi_schedule.specs.Breaks.{condition_of, keeps_waits};
 
+use crate::breach::Breach;
 use crate::placed::Placed;
+use crate::slots::Work;
 use crate::starts::Starts;
 use onfi_group::Group;
 use onfi_problem::Lun;
-use onfi_timing::{Spans, Timing};
+use onfi_request::Want;
+use onfi_timing::Timing;
 
-/// Whether each phase starts at least its wait after the end of the one before it, the first at `floor` or later.
-fn in_order(spans: &Spans, members: usize, next: usize, floor: u64, starts: &[u64]) -> bool
+// That phase `number` of these members starts before its LUN is ready for it.
+fn not_ready(work: &Work, members: &[Want], number: usize, start: u64, ready: u64) -> Breach
+    ensures { condition_of result ≡ keeps_waits }
+{
+    let phase = work.name(members, number);
+    let lun = work.lun;
+    if number <= work.next {
+        return Breach::NotReady {
+            phase,
+            lun,
+            start,
+            ready,
+        };
+    }
+    Breach::WaitTooShort {
+        phase,
+        before: work.name(members, number - 1),
+        lun,
+        start,
+        ready,
+    }
+}
+
+// A phase of these members that starts before the wait behind the one before it is over, or the first one before `floor`.
+fn in_group(work: &Work, members: &[Want], floor: u64, starts: &[u64]) -> Option<Breach>
     requires starts { Each (λ t. t < 2 ^ 63) starts.now }
-    requires phases { next + length starts.now < 2 ^ 60 }
-    ensures { IsTrue result ↔ InOrder spans.now members next floor starts.now }
+    requires phases { work.now.next + length starts.now < 2 ^ 60 }
+    ensures none { IsNone result ↔ InOrder work.now.spans (length members.now) work.now.next floor starts.now }
+    ensures about { IfSome result (λ b. condition_of b ≡ keeps_waits) }
 {
     let mut floor = floor;
-    let mut phase = next;
+    let mut number = work.next;
     for start in starts {
         if *start < floor {
-            return false;
+            return Some(not_ready(work, members, number, *start, floor));
         }
-        let ended = *start + spans.phase_length(members, phase);
-        phase += 1;
-        floor = ended + spans.wait_before(members, phase);
+        let ended = *start + work.spans.phase_length(members.len(), number);
+        number += 1;
+        floor = ended + work.spans.wait_before(members.len(), number);
     }
-    true
+    None
 }
 
-fn left_waits(timing: &Timing, table: &[Group], lun: &Lun, starts: &Starts) -> bool
+fn in_left(timing: &Timing, table: &[Group], at: u8, lun: &Lun, starts: &Starts) -> Option<Breach>
     requires named { Names table.now lun.now }
-    ensures { IsTrue result ↔ StateWaits timing.now (state_of table.now lun.now) starts.now }
+    ensures none { IsNone result ↔ StateWaits timing.now (state_of table.now lun.now) starts.now }
+    ensures about { IfSome result (λ b. condition_of b ≡ keeps_waits) }
 {
     if lun.next == 0 {
-        return true;
+        return None;
     }
     let group = &table[lun.place as usize];
-    let spans = timing.spans(group.kind());
-    in_order(
-        &spans,
-        group.len(),
-        lun.next as usize,
-        lun.time,
-        starts.as_slice(),
-    )
+    let work = Work::of_running(timing, group, at, lun);
+    in_group(&work, group.members(), lun.time, starts.as_slice())
 }
 
-/// Whether what is left of each running group keeps its waits.
-pub(crate) fn rest_waits(timing: &Timing, table: &[Group], luns: &[Lun], rest: &[Starts]) -> bool
+/// A phase of a running group that starts too early.
+pub(crate) fn in_rest(
+    timing: &Timing,
+    table: &[Group],
+    luns: &[Lun],
+    rest: &[Starts],
+) -> Option<Breach>
+    requires few { length luns.now ≤ 8 }
     requires length { length rest.now ≡ length luns.now }
     requires named { Each (Names table.now) luns.now }
-    ensures { IsTrue result ↔ EachRest (StateWaits timing.now) (states_of table.now luns.now) rest.now }
+    ensures none { IsNone result ↔ EachRest (StateWaits timing.now) (states_of table.now luns.now) rest.now }
+    ensures about { IfSome result (λ b. condition_of b ≡ keeps_waits) }
 {
     for (at, lun) in luns.iter().enumerate() {
-        if !left_waits(timing, table, lun, &rest[at]) {
-            return false;
+        let breach = in_left(timing, table, at as u8, lun, &rest[at]);
+        if breach.is_some() {
+            return breach;
         }
     }
-    true
+    None
 }
 
-fn one_waits(timing: &Timing, group: &Placed) -> bool
-    ensures { IsTrue result ↔ GroupWaits timing.now group.now }
+fn in_new(timing: &Timing, group: &Placed) -> Option<Breach>
+    ensures none { IsNone result ↔ GroupWaits timing.now group.now }
+    ensures about { IfSome result (λ b. condition_of b ≡ keeps_waits) }
 {
     let members = group.members();
-    let spans = timing.spans(members.kind());
-    in_order(&spans, members.len(), 0, 0, group.starts().as_slice())
+    let work = Work::of_new(timing, members);
+    in_group(&work, members.members(), 0, group.starts().as_slice())
 }
 
-/// Whether all new groups keep their waits.
-pub(crate) fn groups_wait(timing: &Timing, groups: &[Placed]) -> bool
-    ensures { IsTrue result ↔ Each (GroupWaits timing.now) groups.now }
+/// A phase of a new group that starts too early.
+pub(crate) fn in_groups(timing: &Timing, groups: &[Placed]) -> Option<Breach>
+    ensures none { IsNone result ↔ Each (GroupWaits timing.now) groups.now }
+    ensures about { IfSome result (λ b. condition_of b ≡ keeps_waits) }
 {
     for group in groups {
-        if !one_waits(timing, group) {
-            return false;
+        let breach = in_new(timing, group);
+        if breach.is_some() {
+            return breach;
         }
     }
-    true
+    None
 }

@@ -1,4 +1,0 @@
-use Rattle.onfi_breach.proofs.groups.mixed.Given as goal
-
-abbrev pub invariant-loop-member : goal.invariant-loop-member
-invariant-loop-member l = Unit {0}

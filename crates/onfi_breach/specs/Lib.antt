@@ -1,3 +1,0 @@
-pub mod Breaks
-pub mod Slots
-pub mod Tells
