@@ -11,25 +11,18 @@ use onfi_group::Rules;
 use onfi_lun::{BatchFault, run_batch};
 use onfi_planner::plan;
 use onfi_problem::{LunState, Problem};
-use onfi_request::{Answer, Item, Reply, Request, RequestFault, Want, check};
+use onfi_request::{Answer, Item, Reply, Want, check};
 use onfi_samples::{request_of, sample_geometry, sample_timing};
 use onfi_timing::Kind;
 use std::alloc::{AllocError, Global};
 use std::process::Abort;
 
 /// An operation: its kind, LUN, block and page, and the byte that a program fills its page with.
-#[derive(Clone, Copy, Debug)]
-pub(crate) struct Op(
-    pub(crate) Kind,
-    pub(crate) u8,
-    pub(crate) u16,
-    pub(crate) u16,
-    pub(crate) u8,
-);
+type Op = (Kind, u8, u16, u16, u8);
 
 /// What a reply tells; `All` where each byte of a page is that one.
 #[derive(Clone, Copy, Debug, PartialEq, Eq)]
-pub(crate) enum Told {
+enum Told {
     Done,
     Failed,
     All(u8),
@@ -38,19 +31,13 @@ pub(crate) enum Told {
 
 /// Which calls of the chip go wrong.
 #[derive(Clone, Copy, Debug)]
-pub(crate) struct Trouble<'a> {
-    pub(crate) faults: &'a [Fault],
-    pub(crate) calls: &'a [u32],
-    pub(crate) statuses: &'a [u32],
+struct Trouble<'a> {
+    faults: &'a [Fault],
+    calls: &'a [u32],
+    statuses: &'a [u32],
 }
 
-pub(crate) const NONE: Trouble<'static> = Trouble {
-    faults: &[],
-    calls: &[],
-    statuses: &[],
-};
-
-pub(crate) fn told_by(reply: &Reply) -> (u64, Told) {
+fn told_by(reply: &Reply) -> (u64, Told) {
     let told = match &reply.answer {
         Answer::Done => Told::Done,
         Answer::Failed => Told::Failed,
@@ -62,28 +49,20 @@ pub(crate) fn told_by(reply: &Reply) -> (u64, Told) {
     (reply.place, told)
 }
 
-pub(crate) fn request_for(
-    alloc: Global,
-    geometry: &Geometry,
-    op: &Op,
-) -> Result<Request, AllocError> {
-    let place = Place {
-        lun: op.1,
-        block: op.2,
-        page: op.3,
-    };
-    request_of(alloc, geometry, op.0, place, op.4)
-}
-
 /// All of host 0, in that order.
 fn items_of(alloc: Global, geometry: &Geometry, ops: &[Op]) -> Result<Vec<Item>, AllocError> {
     let mut items = Vec::new(alloc);
     let mut serial = 0u32;
-    for op in ops {
+    for (kind, lun, block, page, byte) in ops {
+        let place = Place {
+            lun: *lun,
+            block: *block,
+            page: *page,
+        };
         items.push(Item {
             host: 0,
             serial,
-            request: request_for(alloc, geometry, op)?,
+            request: request_of(alloc, geometry, *kind, place, *byte)?,
         })?;
         serial = serial.wrapping_add(1);
     }
@@ -173,158 +152,137 @@ fn drive(
     ))
 }
 
-/// A device whose pages of a block are programmed in any order, or from the first on.
-fn geometry_of(any_order: bool) -> Geometry {
-    let mut geometry = sample_geometry();
-    geometry.any_page_order = any_order;
-    geometry
-}
+/// The second program or erase of block 4.
+const TORN_ERASE: Fault = Fault {
+    lun: 0,
+    block: 4,
+    number: 1,
+};
 
-/// These replies come, in this order.
-fn gives(
-    rt: &impl Abort,
-    alloc: Global,
-    any_order: bool,
-    ops: &[Op],
-    trouble: Trouble,
-    wants: &[(u64, Told)],
-) -> Result<(), AllocError> {
-    let replies = drive(rt, alloc, &geometry_of(any_order), ops, trouble)?.expect(rt, "replies");
-    assert_eq!(rt; replies.len(), wants.len());
-    for (reply, want) in replies.iter().zip(wants.iter()) {
-        assert_eq!(rt; told_by(reply), *want, "{ops:?}");
-    }
-    Ok(())
-}
-
-fn fault_of(
-    rt: &impl Abort,
-    alloc: Global,
-    ops: &[Op],
-    trouble: Trouble,
-) -> Result<Option<BatchFault>, AllocError> {
-    Ok(drive(rt, alloc, &sample_geometry(), ops, trouble)?.err())
-}
+/// The first of block 1.
+const TORN_PLANE: Fault = Fault {
+    lun: 0,
+    block: 1,
+    number: 0,
+};
 
 const ERASED_BETWEEN: [Op; 3] = [
-    Op(Kind::Program, 0, 4, 0, 0xA5),
-    Op(Kind::Erase, 0, 4, 0, 0),
-    Op(Kind::Read, 0, 4, 0, 0),
+    (Kind::Program, 0, 4, 0, 0xA5),
+    (Kind::Erase, 0, 4, 0, 0),
+    (Kind::Read, 0, 4, 0, 0),
+];
+
+const DOWNWARDS: [Op; 3] = [
+    (Kind::Program, 0, 4, 3, 0xA5),
+    (Kind::Program, 0, 4, 2, 0x5A),
+    (Kind::Read, 0, 4, 2, 0),
+];
+
+/// Whether pages are programmed in any order, the operations, what fails, and the replies in their order.
+type Row = (
+    bool,
+    &'static [Op],
+    &'static [Fault],
+    &'static [(u64, Told)],
+);
+
+const ROWS: [Row; 7] = [
+    (
+        false,
+        &ERASED_BETWEEN,
+        &[],
+        &[(0, Told::Done), (1, Told::Done), (2, Told::All(0xFF))],
+    ),
+    (
+        false,
+        &ERASED_BETWEEN,
+        &[TORN_ERASE],
+        &[(0, Told::Done), (1, Told::Failed), (2, Told::All(0))],
+    ),
+    (
+        false,
+        &[
+            (Kind::Program, 0, 4, 0, 0xA5),
+            (Kind::Program, 0, 4, 0, 0x5A),
+            (Kind::Read, 0, 4, 0, 0),
+        ],
+        &[],
+        &[(0, Told::Done), (1, Told::Failed), (2, Told::All(0xA5))],
+    ),
+    (
+        false,
+        &DOWNWARDS,
+        &[],
+        &[(0, Told::Done), (1, Told::Failed), (2, Told::All(0xFF))],
+    ),
+    (
+        true,
+        &DOWNWARDS,
+        &[],
+        &[(0, Told::Done), (1, Told::Done), (2, Told::All(0x5A))],
+    ),
+    (
+        false,
+        &[
+            (Kind::Program, 0, 0, 0, 0x11),
+            (Kind::Program, 0, 1, 0, 0x22),
+            (Kind::Read, 0, 1, 0, 0),
+        ],
+        &[TORN_PLANE],
+        &[(0, Told::Done), (1, Told::Failed), (2, Told::All(0))],
+    ),
+    (
+        false,
+        &[(Kind::Erase, 0, 0, 0, 0), (Kind::Read, 1, 0, 0, 0)],
+        &[],
+        &[(1, Told::All(0xFF)), (0, Told::Done)],
+    ),
 ];
 
 #[test]
-fn one_block_goes_in_order(rt: HostRuntime) -> Result<(), AllocError> {
-    let replies = [(0, Told::Done), (1, Told::Done), (2, Told::All(0xFF))];
-    gives(&rt, rt.alloc(), false, &ERASED_BETWEEN, NONE, &replies)?;
-    let twice = [
-        Op(Kind::Program, 0, 4, 0, 0xA5),
-        Op(Kind::Program, 0, 4, 0, 0x5A),
-        Op(Kind::Read, 0, 4, 0, 0),
-    ];
-    let replies = [(0, Told::Done), (1, Told::Failed), (2, Told::All(0xA5))];
-    gives(&rt, rt.alloc(), false, &twice, NONE, &replies)
-}
-
-#[test]
-fn pages_go_in_order_where_the_device_asks(rt: HostRuntime) -> Result<(), AllocError> {
-    let downwards = [
-        Op(Kind::Program, 0, 4, 3, 0xA5),
-        Op(Kind::Program, 0, 4, 2, 0x5A),
-        Op(Kind::Read, 0, 4, 2, 0),
-    ];
-    let replies = [(0, Told::Done), (1, Told::Failed), (2, Told::All(0xFF))];
-    gives(&rt, rt.alloc(), false, &downwards, NONE, &replies)?;
-    let replies = [(0, Told::Done), (1, Told::Done), (2, Told::All(0x5A))];
-    gives(&rt, rt.alloc(), true, &downwards, NONE, &replies)
-}
-
-/// The chip fails the program or the erase of that number of a block of LUN 0.
-pub(crate) fn torn<'a>(faults: &'a [Fault]) -> Trouble<'a> {
-    Trouble {
-        faults,
-        calls: &[],
-        statuses: &[],
+fn a_batch_gives_its_replies_in_order_of_post(rt: HostRuntime) -> Result<(), AllocError> {
+    for (any_order, ops, faults, wants) in &ROWS {
+        let mut geometry = sample_geometry();
+        geometry.any_page_order = *any_order;
+        let trouble = Trouble {
+            faults,
+            calls: &[],
+            statuses: &[],
+        };
+        let replies = drive(&rt, rt.alloc(), &geometry, ops, trouble)?.expect(&rt, "replies");
+        assert_eq!(rt; replies.len(), wants.len());
+        for (reply, want) in replies.iter().zip(wants.iter()) {
+            assert_eq!(rt; told_by(reply), *want, "{ops:?}");
+        }
     }
+    Ok(())
 }
 
 #[test]
-fn a_failed_program_is_told_to_its_plane(rt: HostRuntime) -> Result<(), AllocError> {
-    let fault = Fault {
-        lun: 0,
-        block: 1,
-        number: 0,
-    };
-    let ops = [
-        Op(Kind::Program, 0, 0, 0, 0x11),
-        Op(Kind::Program, 0, 1, 0, 0x22),
-        Op(Kind::Read, 0, 1, 0, 0),
-    ];
-    let replies = [(0, Told::Done), (1, Told::Failed), (2, Told::All(0x00))];
-    gives(&rt, rt.alloc(), false, &ops, torn(&[fault]), &replies)
-}
-
-#[test]
-fn a_failed_erase_tears_the_block(rt: HostRuntime) -> Result<(), AllocError> {
-    let fault = Fault {
-        lun: 0,
-        block: 4,
-        number: 1,
-    };
-    let replies = [(0, Told::Done), (1, Told::Failed), (2, Told::All(0x00))];
-    gives(
-        &rt,
-        rt.alloc(),
-        false,
-        &ERASED_BETWEEN,
-        torn(&[fault]),
-        &replies,
-    )
-}
-
-#[test]
-fn replies_come_in_order_of_post(rt: HostRuntime) -> Result<(), AllocError> {
-    let ops = [Op(Kind::Erase, 0, 0, 0, 0), Op(Kind::Read, 1, 0, 0, 0)];
-    let replies = [(1, Told::All(0xFF)), (0, Told::Done)];
-    gives(&rt, rt.alloc(), false, &ops, NONE, &replies)
-}
-
-#[test]
-fn a_failing_bus_ends_the_batch(rt: HostRuntime) -> Result<(), AllocError> {
-    for call in 0..7 {
+fn a_failing_chip_ends_the_batch(rt: HostRuntime) -> Result<(), AllocError> {
+    for (call, status, lun, want) in [
+        (0, 9, 0, Some(BatchFault::Bus)),
+        (1, 9, 0, Some(BatchFault::Bus)),
+        (2, 9, 0, Some(BatchFault::Bus)),
+        (3, 9, 0, Some(BatchFault::Bus)),
+        (4, 9, 0, Some(BatchFault::Bus)),
+        (5, 9, 0, Some(BatchFault::Bus)),
+        (6, 9, 0, None),
+        (9, 0, 0, Some(BatchFault::NotReady(0))),
+        (9, 1, 1, Some(BatchFault::NotReady(1))),
+    ] {
+        let ops = [
+            (Kind::Program, lun, 4, 0, 0xA5),
+            (Kind::Erase, lun, 4, 0, 0),
+            (Kind::Read, lun, 4, 0, 0),
+        ];
         let trouble = Trouble {
             faults: &[],
             calls: &[call],
-            statuses: &[],
+            statuses: &[status],
         };
-        let want = if call < 6 {
-            Some(BatchFault::Bus)
-        } else {
-            None
-        };
-        let told = fault_of(&rt, rt.alloc(), &ERASED_BETWEEN, trouble)?;
-        assert_eq!(rt; told, want, "call {call}");
+        let told = drive(&rt, rt.alloc(), &sample_geometry(), &ops, trouble)?.err();
+        assert_eq!(rt; told, want, "{call} {status}");
     }
-    Ok(())
-}
-
-#[test]
-fn a_lun_that_is_not_ready_is_named(rt: HostRuntime) -> Result<(), AllocError> {
-    let trouble = Trouble {
-        faults: &[],
-        calls: &[],
-        statuses: &[0],
-    };
-    for lun in 0..2 {
-        let told = fault_of(&rt, rt.alloc(), &[Op(Kind::Erase, lun, 0, 0, 0)], trouble)?;
-        assert_eq!(rt; told, Some(BatchFault::NotReady(lun)));
-    }
-    Ok(())
-}
-
-#[test]
-fn a_block_that_is_not_there_is_refused(rt: HostRuntime) -> Result<(), AllocError> {
-    let geometry = sample_geometry();
-    let request = request_for(rt.alloc(), &geometry, &Op(Kind::Read, 1, 1000, 3, 0))?;
-    assert_eq!(rt; check(&geometry, &request).err(), Some(RequestFault::Block));
     Ok(())
 }

@@ -1,12 +1,18 @@
-use crate::batch::{NONE, Op, Told, request_for, told_by};
-use crate::bench::Bench;
-use crate::setup::two_channels;
+ghost use Rattle.std.specs.Prelude.{◌≡◌, ◌<◌};
+
+use onfi_addr::Place;
+use onfi_cert::Token;
 use onfi_chip::SimChip;
+use onfi_core::Setup;
+use onfi_group::Rules;
+use onfi_plan::{Certificate, Plan, Planner, PlannerFault};
 use onfi_planners::PlainPlanner;
+use onfi_problem::Problem;
 use onfi_queue::Host;
 use onfi_reply::Inbox;
-use onfi_samples::sample_geometry;
-use onfi_seq::{Gate, Sequencer, Turn};
+use onfi_request::Answer;
+use onfi_samples::{request_of, sample_geometry, sample_timing};
+use onfi_seq::{Ends, Gate, Sequencer, Turn};
 use onfi_timing::Kind;
 use std::alloc::{AllocError, Global};
 use std::sync::Wait;
@@ -14,7 +20,40 @@ use std::sync::atomic::{AtomicBool, Ordering};
 use std::thread;
 use std::thread::Threads;
 
-const READ: Op = Op(Kind::Read, 0, 0, 0, 0);
+// Plans as the plain search does, and tells no more than that nothing ends before 0.
+#[derive(Clone, Copy)]
+struct Modest;
+
+impl Planner for Modest {
+    ghost use Rattle.std.specs.Prelude.{false};
+    ghost use Rattle.onfi_plan.specs.Certificate.{IsPlain};
+
+    ghost exact = { false };
+
+    ghost certifies = { IsPlain };
+
+    fn plan(&self, alloc: Global, problem: &Problem, limit: u32) -> Result<Plan, PlannerFault> {
+        let plan = PlainPlanner.plan(alloc, problem, limit)?;
+        let Ok(tokens) = Vec::from_slice(alloc, &[Token::Bus]) else {
+            return Err(PlannerFault::Memory);
+        };
+        Ok(Plan {
+            schedule: plan.schedule,
+            finish: plan.finish,
+            below: 0,
+            cert: Certificate::Plain(tokens),
+            opened: plan.opened,
+            reopened: plan.reopened,
+        })
+    }
+}
+
+// A page of block 0 of LUN 0.
+const PLACE: Place = Place {
+    lun: 0,
+    block: 0,
+    page: 0,
+};
 
 // What the threads of two channels and of a host tell each other: whether channel 0 may begin, whether its gate gave up
 // before, and whether the host has ended.
@@ -58,13 +97,16 @@ impl Gate for Hold<'_> {
     }
 }
 
-// Makes turns until nothing is left to do and the host has ended.
+// What a planning came to: its finish, before when nothing ends, and whether its certificate is the planner's own.
+type Planned = Option<(u64, u64, bool)>;
+
+// Makes turns until nothing is left to do and the host has ended; the last planning.
 fn serve<R: Wait>(
     rt: &R,
     alloc: Global,
-    mut sequencer: Sequencer<PlainPlanner, SimChip>,
+    mut sequencer: Sequencer<Modest, SimChip>,
     signals: &Signals,
-) {
+) -> Planned {
     let mut gate = Hold { signals };
     for _ in rt.forever() {
         let turn = sequencer.turn(rt, alloc, &mut gate, u64::MAX);
@@ -73,33 +115,61 @@ fn serve<R: Wait>(
         }
         thread::yield_now();
     }
+    let (_, plan) = sequencer.last()?;
+    let own = plan.cert.tokens()? == [Token::Bus].as_slice();
+    Some((plan.finish, plan.below, own))
 }
 
 // The ends that hosts have on a channel.
 #[derive(Drop)]
-pub(crate) struct HostEnds {
-    pub(crate) hosts: [Host; 4],
-    pub(crate) inboxes: [Inbox; 4],
+struct HostEnds {
+    hosts: [Host; 4],
+    inboxes: [Inbox; 4],
+}
+
+// A channel of a setup with its sequencer, over a simulated chip.
+fn open(
+    alloc: Global,
+    setup: Setup,
+    channel: u8,
+) -> Result<(Sequencer<Modest, SimChip>, HostEnds), AllocError>
+    requires hosts { setup.hosts ≡ 4 }
+    requires channel { channel < setup.channels }
+{
+    let (faults, calls, statuses) = (Vec::new(alloc), Vec::new(alloc), Vec::new(alloc));
+    let chip = SimChip::new(alloc, setup.geometry, setup.timing, faults, calls, statuses)?;
+    let ends = Ends::open(alloc, &setup, channel)?;
+    let Ends {
+        intake,
+        posters,
+        hosts,
+        inboxes,
+    } = ends;
+    let sequencer = Sequencer::open(alloc, setup, channel, Modest, chip, intake, posters)?;
+    Ok((sequencer, HostEnds { hosts, inboxes }))
 }
 
 impl HostEnds {
     // Host 0 sends a read; whether it was taken.
     fn send<R: Wait>(&mut self, rt: &R, alloc: Global) -> bool {
-        match request_for(alloc, &sample_geometry(), &READ) {
+        match request_of(alloc, &sample_geometry(), Kind::Read, PLACE, 0) {
             Ok(request) => self.hosts[0].submit(rt, request).is_ok(),
             Err(AllocError) => false,
         }
     }
 
-    // Place and answer of the next reply to host 0.
-    fn receive<R: Wait>(&mut self, rt: &R) -> (u64, Told) {
+    // Whether the next reply to host 0 has an erased page.
+    fn receive<R: Wait>(&mut self, rt: &R) -> bool {
         for _ in rt.forever() {
             if let Some(reply) = self.inboxes[0].collect(rt) {
-                return told_by(&reply);
+                return match &reply.answer {
+                    Answer::Read(bytes) => bytes.as_slice().iter().all(|byte| *byte == 0xFF),
+                    Answer::Done | Answer::Failed => false,
+                };
             }
             thread::yield_now();
         }
-        unreachable!()
+        false
     }
 }
 
@@ -110,15 +180,15 @@ fn visit<R: Wait>(
     mut held: HostEnds,
     mut other: HostEnds,
     signals: &Signals,
-) -> [Option<(u64, Told)>; 2] {
-    let mut told = [None; 2];
+) -> [bool; 2] {
+    let mut told = [false; 2];
     if other.send(rt, alloc) {
-        told[1] = Some(other.receive(rt));
+        told[1] = other.receive(rt);
     }
     let is_sent = held.send(rt, alloc);
     signals.let_go.store(true, Ordering::SeqCst);
     if is_sent {
-        told[0] = Some(held.receive(rt));
+        told[0] = held.receive(rt);
     }
     signals.ended.store(true, Ordering::SeqCst);
     told
@@ -128,33 +198,45 @@ fn visit<R: Wait>(
 fn serve_other<R: Threads + Wait + Sync>(
     rt: &R,
     alloc: Global,
-    sequencer: Sequencer<PlainPlanner, SimChip>,
+    sequencer: Sequencer<Modest, SimChip>,
     held: HostEnds,
     other: HostEnds,
     signals: &Signals,
-) -> [Option<(u64, Told)>; 2] {
-    let (_, told) = thread::join(
+) -> (Planned, [bool; 2]) {
+    thread::join(
         rt,
         || serve(rt, alloc, sequencer, signals),
         || visit(rt, alloc, held, other, signals),
-    );
-    told
+    )
 }
 
 #[test]
 fn a_held_channel_holds_up_no_other(rt: HostRuntime) -> Result<(), AllocError> {
     let alloc = rt.alloc();
-    let setup = two_channels(&rt, true, 1, 1, 1_000);
-    let (first, held) = Bench::open(alloc, setup, 0, NONE)?.into_parts();
-    let (second, other) = Bench::open(alloc, setup, 1, NONE)?.into_parts();
+    let rules = Rules::new(true, true, false, 1);
+    let setup = Setup::new(
+        sample_geometry(),
+        sample_timing(),
+        rules,
+        2,
+        4,
+        8,
+        1,
+        1,
+        1_000,
+    );
+    let setup = setup.expect(&rt, "in range");
+    let (first, held) = open(alloc, setup, 0)?;
+    let (second, other) = open(alloc, setup, 1)?;
     let signals = Signals::new();
     let shared = &signals;
-    let (_, told) = thread::join(
+    let (planned, (planned_beside, told)) = thread::join(
         &rt,
         || serve(&rt, alloc, first, shared),
         || serve_other(&rt, alloc, second, held, other, shared),
     );
     assert!(rt; !signals.gave_up.load(Ordering::SeqCst));
-    assert_eq!(rt; told, [Some((0, Told::All(0xFF))); 2]);
+    assert_eq!(rt; told, [true; 2]);
+    assert_eq!(rt; [planned, planned_beside], [Some((36_240, 0, true)); 2]);
     Ok(())
 }

@@ -1,39 +1,10 @@
-//! Tests of the queues, the core, the batches and the sequencer of a channel, through their public calls, on the sample device.
+//! Tests of what no program of the gate calls: batches on a chip, choices of requests, a planner of one's own, a channel that is
+//! held. Cores and sequencers are tried by rows, in `tests/calls`.
 #![tactic(auto)]
 
 #[cfg(test)]
 mod batch;
 #[cfg(test)]
-mod bench;
-#[cfg(test)]
 mod choosing;
 #[cfg(test)]
-mod half;
-#[cfg(test)]
 mod held;
-#[cfg(test)]
-mod last;
-#[cfg(test)]
-mod machine;
-#[cfg(test)]
-mod moments;
-#[cfg(test)]
-mod passing;
-#[cfg(test)]
-mod phases;
-#[cfg(test)]
-mod plain;
-#[cfg(test)]
-mod planners;
-#[cfg(test)]
-mod play;
-#[cfg(test)]
-mod queue;
-#[cfg(test)]
-mod reply;
-#[cfg(test)]
-mod sequencer;
-#[cfg(test)]
-mod setup;
-#[cfg(test)]
-mod twins;

@@ -1,12 +1,6 @@
 use crate::page::{changed, read, sample_page};
 use onfi_addr::{Geometry, GeometryFault, Place};
 use onfi_samples::sample_geometry;
-use std::process::Abort;
-
-/// The fault of the sample page with these bytes changed.
-fn fault_with(rt: &impl Abort, changes: &[(u8, u8)]) -> Option<GeometryFault> {
-    Geometry::of(&read(rt, changed(sample_page(), changes))).err()
-}
 
 fn place(lun: u8, block: u16, page: u16) -> Place {
     Place { lun, block, page }
@@ -46,30 +40,6 @@ fn rows_without_a_place(rt: HostRuntime) {
     }
     for place in [place(0, 1000, 0), place(2, 0, 0), place(0, 0, 64)] {
         assert!(rt; !geometry.is_in_range(&place), "{place:?}");
-    }
-}
-
-/// Changes of the sample page, each with the first of its faults.
-const FAULTS: [(&[(u8, u8)], Option<GeometryFault>); 13] = [
-    (&[(8, 0x40)], Some(GeometryFault::NoStatusEnhanced)),
-    (&[(8, 0x08)], Some(GeometryFault::NoColumnEnhanced)),
-    (&[(6, 0x48)], Some(GeometryFault::NoMultiLun)),
-    (&[(100, 0x00)], Some(GeometryFault::LunCount)),
-    (&[(100, 0x09)], Some(GeometryFault::LunCount)),
-    (&[(113, 0x03)], Some(GeometryFault::PlaneBits)),
-    (&[(92, 0x00)], Some(GeometryFault::Zero)),
-    (&[(101, 0x22)], Some(GeometryFault::RowTooWide)),
-    (&[(101, 0x13)], Some(GeometryFault::ColumnTooWide)),
-    (&[(6, 0x4B), (8, 0x40)], Some(GeometryFault::WideBus)),
-    (&[(6, 0x48), (100, 1)], None),
-    (&[(93, 0x20), (101, 0x24)], Some(GeometryFault::TooLarge)),
-    (&[(93, 0x20)], Some(GeometryFault::RowTooWide)),
-];
-
-#[test]
-fn the_first_of_the_faults(rt: HostRuntime) {
-    for (changes, fault) in FAULTS {
-        assert_eq!(rt; fault_with(&rt, changes), fault, "{changes:?}");
     }
 }
 

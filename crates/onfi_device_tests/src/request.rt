@@ -1,5 +1,6 @@
 use onfi_addr::Place;
-use onfi_request::{Answer, Basis, Bytes, Reply, Request, RequestFault, check};
+use onfi_chip::decode_status;
+use onfi_request::{Answer, Bytes, Request, RequestFault, check};
 use onfi_samples::sample_geometry;
 use onfi_timing::Kind;
 
@@ -49,17 +50,8 @@ fn the_first_fault_is_told(rt: HostRuntime) {
 }
 
 #[test]
-fn bytes_are_shown_as_given(rt: HostRuntime) {
-    let bytes = Bytes::of(vec![in rt.alloc(); 1, 2, 3].expect(&rt, "memory"));
-    assert_eq!(rt; bytes.as_slice(), [1, 2, 3].as_slice());
-    let reply = Reply {
-        host: 3,
-        serial: 0,
-        place: 7,
-        answer: Answer::Read(bytes),
-        basis: Basis::new(),
-    };
-    assert!(rt;
-        matches!(&reply.answer, Answer::Read(read) if read.as_slice() == [1, 2, 3].as_slice())
-    );
+fn status_bytes_tell_answers(rt: HostRuntime) {
+    assert!(rt; matches!(decode_status(0xE0), Some(Answer::Done)));
+    assert!(rt; matches!(decode_status(0x41), Some(Answer::Failed)));
+    assert!(rt; decode_status(0xA1).is_none());
 }

@@ -79,22 +79,6 @@ fn a_status_goes_before_program_data(rt: HostRuntime) -> Result<(), Fail> {
     Ok(())
 }
 
-// With 3 ns more the status goes first: 3 + 911 + 461 = 1,375.
-#[test]
-fn a_slack_lets_the_status_go_first(rt: HostRuntime) -> Result<(), Fail> {
-    let alloc = rt.alloc();
-    let problem = with_status_due(alloc)?;
-    let plan = plan_known(alloc, &problem, 1000)?;
-    let weights = Weights {
-        wants: [1; 8],
-        running: [[1; 4]; 8],
-    };
-    let better = improve(alloc, &problem, &plan.schedule, &weights, 3, 1500)?;
-    assert_eq!(rt; better.finish, 911);
-    assert_eq!(rt; better.cost, 1375);
-    Ok(())
-}
-
 // Without a node the plan is told as it was.
 #[test]
 fn no_node_leaves_the_plan(rt: HostRuntime) -> Result<(), Fail> {

@@ -2,10 +2,7 @@ use crate::early::{timing, with_status_due};
 use onfi_early::{Weights, cost_of, slack_of};
 use onfi_group::Rules;
 use onfi_plan::{Planner, PlannerFault};
-use onfi_planners::{
-    BestSoFarPlanner, ChosenEarly, ChosenPlanner, EarlyPlanner, PlainPlanner, RememberingPlanner,
-    SlackPlanner, Weighing,
-};
+use onfi_planners::{ChosenEarly, ChosenPlanner, EarlyPlanner, PlainPlanner, Weighing};
 use onfi_problem::{LunState, Problem};
 use onfi_request::Want;
 use onfi_timing::Kind;
@@ -25,50 +22,6 @@ fn told(
     };
     let cost = cost_of(problem, &plan.schedule, &equal);
     Ok((cost, plan.finish, plan.below))
-}
-
-// All three requests count alike: 908 + 8 + 461.
-#[test]
-fn a_plan_of_each_planner_is_made_better(rt: HostRuntime) -> Result<(), Fail> {
-    let alloc = rt.alloc();
-    let problem = with_status_due(alloc)?;
-    let weighing = Weighing::Equal;
-    let plain = EarlyPlanner {
-        planner: PlainPlanner,
-        weighing,
-    };
-    assert!(rt; told(alloc, &plain, &problem) == Ok((1377, 908, 908)));
-    let remembering = EarlyPlanner {
-        planner: RememberingPlanner,
-        weighing,
-    };
-    assert!(rt; told(alloc, &remembering, &problem) == Ok((1377, 908, 908)));
-    let best = EarlyPlanner {
-        planner: BestSoFarPlanner,
-        weighing,
-    };
-    assert!(rt; told(alloc, &best, &problem) == Ok((1377, 908, 908)));
-    Ok(())
-}
-
-// Four thousandths of 908 are 3 whole ns, which let the status go first: 3 + 911 + 461.
-#[test]
-fn a_plan_ends_later_by_a_slack(rt: HostRuntime) -> Result<(), Fail> {
-    let alloc = rt.alloc();
-    let problem = with_status_due(alloc)?;
-    let slack = SlackPlanner {
-        planner: RememberingPlanner,
-        weighing: Weighing::Equal,
-        per_mille: 4,
-    };
-    assert!(rt; told(alloc, &slack, &problem) == Ok((1375, 911, 908)));
-    let less = SlackPlanner {
-        planner: RememberingPlanner,
-        weighing: Weighing::Equal,
-        per_mille: 3,
-    };
-    assert!(rt; told(alloc, &less, &problem) == Ok((1377, 908, 908)));
-    Ok(())
 }
 
 #[test]

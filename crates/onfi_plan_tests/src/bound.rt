@@ -3,10 +3,9 @@ use onfi_bound::{
     Bound, BoundAt, Commands, Loads, NodeBounds, bus, closing, die, lead, reaches, trail,
 };
 use onfi_group::Rules;
-use onfi_problem::{LunState, Problem, ProblemFault};
-use onfi_request::Want;
+use onfi_problem::{Problem, ProblemFault};
 use onfi_samples::sample_timing;
-use onfi_timing::{Kind, Spans, Timing};
+use onfi_timing::Kind;
 use std::alloc::Global;
 use std::test::Fail;
 
@@ -120,69 +119,5 @@ fn bounds_behind_a_move(rt: HostRuntime) -> Result<(), Fail> {
     assert_eq!(rt; bounds.after(&problem, status).commands, bounds.commands);
     assert!(rt; bounds.bus_reaches_after(&problem, status, 122440));
     assert!(rt; !bounds.bus_reaches_after(&problem, status, 122441));
-    Ok(())
-}
-
-#[test]
-fn nothing_is_left(rt: HostRuntime) -> Result<(), Fail> {
-    let luns = [LunState::Free { since: 9 }];
-    let rules = Rules::new(true, true, false, 1);
-    let problem = Problem::new(rt.alloc(), sample_timing(), rules, 7, &luns, &[])?;
-    assert_eq!(rt; (bus(&problem), lead(&problem)), (7, 7));
-    assert_eq!(rt; trail(&problem), None);
-    assert_eq!(rt; die_of(&problem, 0), Some(7));
-    assert!(rt; !reaches(&problem, Bound::Trail, 0));
-    Ok(())
-}
-
-// The die bound of two wants of this kind, blocks and pages, where groups are strict or not.
-fn die_of_two(
-    alloc: Global,
-    timing: Timing,
-    strict: bool,
-    kind: Kind,
-    block: u16,
-    page: u16,
-) -> Result<Option<u64>, ProblemFault> {
-    let second = Want {
-        page,
-        ..want(1, kind, 0, block)
-    };
-    let wants = [want(0, kind, 0, 0), second];
-    let rules = Rules::new(true, true, strict, 1);
-    let problem = Problem::new(alloc, timing, rules, 0, &[free()], &wants)?;
-    Ok(die_of(&problem, 0))
-}
-
-// Beside a want of block 0 and page 0.
-#[test]
-fn strict_groups_share_less(rt: HostRuntime) -> Result<(), Fail> {
-    let alloc = rt.alloc();
-    for (strict, kind, block, page, bound) in [
-        (false, Kind::Read, 1, 0, 47980),
-        (true, Kind::Read, 1, 0, 47980),
-        (false, Kind::Read, 3, 0, 47980),
-        (true, Kind::Read, 3, 0, 72480),
-        (false, Kind::Read, 1, 1, 72480),
-        (false, Kind::Read, 2, 0, 72480),
-        (false, Kind::Erase, 3, 0, 1501460),
-        (true, Kind::Erase, 3, 0, 3000960),
-        (true, Kind::Erase, 1, 0, 1501460),
-        (false, Kind::Program, 1, 0, 222860),
-    ] {
-        let found = die_of_two(alloc, sample_timing(), strict, kind, block, page)?;
-        assert_eq!(rt; found, Some(bound), "{kind:?} of block {block}");
-    }
-    Ok(())
-}
-
-#[test]
-fn a_gap_over_the_array_is_not_waited_for(rt: HostRuntime) -> Result<(), Fail> {
-    let timing = Timing {
-        read: Spans::new(140, 30100, 25100, 11000)?,
-        ..sample_timing()
-    };
-    let found = die_of_two(rt.alloc(), timing, false, Kind::Read, 1, 0)?;
-    assert_eq!(rt; found, Some(72480));
     Ok(())
 }

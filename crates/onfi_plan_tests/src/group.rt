@@ -3,7 +3,7 @@ ghost use Rattle.std.specs.List.{AllByRecursion as Each};
 ghost use Rattle.onfi_group.specs.Words.{Pairs};
 
 use crate::sample::want;
-use onfi_group::{Group, Rules, candidates, is_group, startable};
+use onfi_group::{Group, Rules, candidates, startable};
 use onfi_request::Want;
 use onfi_timing::Kind;
 use std::alloc::{AllocError, Global};
@@ -35,11 +35,11 @@ fn are(groups: &[Group], numbers: &[u64]) -> bool {
 }
 
 // Whether LUN 0 may start these groups, and no more.
-fn starts(alloc: Global, strict: bool, wants: &[Want], numbers: &[u64]) -> Result<bool, AllocError>
+fn starts(alloc: Global, wants: &[Want], numbers: &[u64]) -> Result<bool, AllocError>
     requires few { length wants.now ≤ 8 }
     requires planes { Each (λ w. w.plane ≤ 3) wants.now }
 {
-    let rules = Rules::new(true, true, strict, 1);
+    let rules = Rules::new(true, true, false, 1);
     let groups = startable(alloc, wants, 0, &rules)?;
     Ok(are(groups.as_slice(), numbers))
 }
@@ -59,7 +59,7 @@ fn gives(alloc: Global, wants: &[Want], numbers: &[u64]) -> Result<bool, AllocEr
 fn groups_of_a_lun(rt: HostRuntime) -> Result<(), Fail> {
     let alloc = rt.alloc();
     let reads = [want(1, READ, 0, 1), want(2, READ, 0, 0)];
-    assert!(rt; starts(alloc, false, &reads, &[1, 2, 21])?);
+    assert!(rt; starts(alloc, &reads, &[1, 2, 21])?);
     assert!(rt; gives(alloc, &reads, &[1, 2, 21])?);
     let of_another = startable(alloc, &reads, 1, &Rules::new(true, true, false, 1))?;
     assert!(rt; of_another.is_empty());
@@ -68,81 +68,11 @@ fn groups_of_a_lun(rt: HostRuntime) -> Result<(), Fail> {
         want(2, READ, 0, 0),
         want(3, READ, 0, 1),
     ];
-    assert!(rt; starts(alloc, false, &later_of_a_block, &[1, 3])?);
+    assert!(rt; starts(alloc, &later_of_a_block, &[1, 3])?);
     assert!(rt; gives(alloc, &later_of_a_block, &[1, 2, 3, 23])?);
     let first = want(1, READ, 0, 0);
     let equal_ids = [first, want(1, READ, 0, 1), first];
-    assert!(rt; starts(alloc, false, &equal_ids, &[1, 1, 11])?);
-    Ok(())
-}
-
-#[test]
-fn strict_groups_are_beside_each_other(rt: HostRuntime) -> Result<(), Fail> {
-    let strict = Rules::new(true, true, true, 1);
-    for kind in [Kind::Read, Kind::Program, Kind::Erase] {
-        let far = [want(1, kind, 0, 0), want(2, kind, 0, 3)];
-        assert!(rt; is_group(&Rules::new(true, true, false, 1), &far));
-        assert!(rt; !is_group(&strict, &far));
-        assert!(rt; starts(rt.alloc(), false, &far, &[1, 2, 12])?);
-        assert!(rt; starts(rt.alloc(), true, &far, &[1, 2])?);
-        assert!(rt; is_group(&strict, &[want(1, kind, 0, 2), far[1]]));
-    }
-    Ok(())
-}
-
-#[test]
-fn members_share_kind_lun_and_page(rt: HostRuntime) {
-    let any = Rules::new(true, true, false, 1);
-    let writes = Rules::new(false, true, false, 1);
-    let reads = Rules::new(true, false, false, 1);
-    let read = want(1, READ, 0, 0);
-    let other = want(2, READ, 0, 1);
-    let programs = [want(1, PROGRAM, 0, 0), want(2, PROGRAM, 0, 1)];
-    for (rules, members, is) in [
-        (any, [read, other].as_slice(), true),
-        (any, [read].as_slice(), true),
-        (any, [].as_slice(), false),
-        (any, [other, read].as_slice(), false),
-        (any, [read, Want { page: 1, ..other }].as_slice(), false),
-        (any, [read, want(2, PROGRAM, 0, 1)].as_slice(), false),
-        (any, [read, want(2, READ, 1, 1)].as_slice(), false),
-        (writes, [read, other].as_slice(), false),
-        (writes, programs.as_slice(), true),
-        (reads, programs.as_slice(), false),
-    ] {
-        assert_eq!(rt; is_group(&rules, members), is, "{rules:?} {members:?}");
-    }
-}
-
-// An erase of a block of a LUN of four planes.
-fn erase(id: u64, block: u16) -> Want
-    ensures id { result.id ≡ id }
-    ensures plane { result.plane ≤ 3 }
-{
-    Want {
-        plane: (block % 4) as u8,
-        ..want(id, Kind::Erase, 0, block)
-    }
-}
-
-#[test]
-fn eight_wants_give_80_groups(rt: HostRuntime) -> Result<(), Fail> {
-    let rules = Rules::new(true, true, false, 2);
-    let wants = [
-        erase(1, 0),
-        erase(2, 1),
-        erase(3, 2),
-        erase(4, 3),
-        erase(5, 4),
-        erase(6, 5),
-        erase(7, 6),
-        erase(8, 7),
-    ];
-    let groups = startable(rt.alloc(), &wants, 0, &rules)?;
-    assert_eq!(rt; groups.len(), 80);
-    let groups = candidates(rt.alloc(), &wants, 0, &rules)?;
-    assert_eq!(rt; groups.len(), 80);
-    assert_eq!(rt; groups[79].members(), &wants[4..8]);
+    assert!(rt; starts(alloc, &equal_ids, &[1, 1, 11])?);
     Ok(())
 }
 

@@ -7,9 +7,8 @@ use onfi_group::Group;
 use onfi_problem::LunState;
 use onfi_request::Want;
 use onfi_samples::want_of;
-use onfi_schedule::{Placed, Schedule, Starts};
 use onfi_timing::Kind;
-use std::alloc::{AllocError, Global};
+use std::alloc::Global;
 
 /// A want of page 0 of a block.
 pub(crate) fn want(id: u64, kind: Kind, lun: u8, block: u16) -> Want
@@ -36,34 +35,4 @@ pub(crate) fn running(alloc: Global, want: Want, ready: u64) -> LunState {
         next: 1,
         ready,
     }
-}
-
-fn starts(alloc: Global, times: &[u64]) -> Starts {
-    let mut starts = Starts::new(alloc);
-    for time in times {
-        if starts.as_slice().len() < 8 && *time < 1 << 63 {
-            starts.push(*time);
-        }
-    }
-    starts
-}
-
-/// The schedule whose running groups, one a LUN, and whose groups of one want or two start so.
-pub(crate) fn schedule(
-    alloc: Global,
-    rest: &[&[u64]],
-    groups: &[(&[Want], &[u64])],
-) -> Result<Schedule, AllocError> {
-    let mut left = Vec::new(alloc);
-    for times in rest {
-        left.push(starts(alloc, times))?;
-    }
-    let mut placed = Vec::new(alloc);
-    for (members, times) in groups {
-        if members.len() == 1 || members.len() == 2 {
-            let group = Group::of(alloc, members);
-            placed.push(Placed::new(group, starts(alloc, times)))?;
-        }
-    }
-    Ok(Schedule::new(left, placed))
 }

@@ -1,7 +1,6 @@
 use crate::sample::{free, want};
-use onfi_cert::{LunNumber, Token};
 use onfi_group::Rules;
-use onfi_planner::{NoGate, PartGate, PlanFault, plan, plan_split};
+use onfi_planner::{PartGate, plan, plan_split};
 use onfi_problem::{Problem, ProblemFault};
 use onfi_samples::sample_timing;
 use onfi_timing::{Kind, Spans, Timing};
@@ -107,42 +106,16 @@ fn the_second_part_begins_while_the_first_waits(rt: HostRuntime) -> Result<(), F
 #[test]
 fn the_gate_is_told_of_each_part_once(rt: HostRuntime) -> Result<(), Fail> {
     let problem = reads_apart(rt.alloc())?;
+    let alone = plan(rt.alloc(), &problem, 7)?;
     for workers in 1..9usize {
         let gate = Counting::new();
         let planned = plan_split(&rt, rt.alloc(), &problem, 4, workers, &gate)?;
-        assert_eq!(rt; planned.finish, 72480);
+        assert_eq!(rt; planned.finish, alone.finish);
+        assert!(rt;
+            planned.cert.as_slice() == alone.cert.as_slice(),
+            "by {workers}"
+        );
         assert_eq!(rt; gate.counts(), [1, 1, 1, 0], "by {workers}");
-    }
-    Ok(())
-}
-
-#[test]
-fn any_number_of_workers_gives_the_plan_of_one_search(rt: HostRuntime) -> Result<(), Fail> {
-    let problem = reads_apart(rt.alloc())?;
-    let alone = plan(rt.alloc(), &problem, 7)?;
-    for workers in 1..9usize {
-        let split = plan_split(&rt, rt.alloc(), &problem, 4, workers, &NoGate)?;
-        assert_eq!(rt; split.finish, alone.finish);
-        assert!(rt;
-            split.cert.as_slice() == alone.cert.as_slice(),
-            "by {workers}"
-        );
-        assert!(rt; alone.opened <= split.opened, "by {workers}");
-    }
-    let bound = [Token::Die(LunNumber::of(0))];
-    assert!(rt; alone.cert.as_slice() == bound.as_slice());
-    Ok(())
-}
-
-#[test]
-fn a_part_with_more_nodes_than_the_limit_is_over(rt: HostRuntime) -> Result<(), Fail> {
-    let problem = reads_apart(rt.alloc())?;
-    for workers in 1..9usize {
-        let over = plan_split(&rt, rt.alloc(), &problem, 3, workers, &NoGate);
-        assert!(rt;
-            matches!(over, Err(PlanFault::Over { opened: 3 })),
-            "by {workers}"
-        );
     }
     Ok(())
 }

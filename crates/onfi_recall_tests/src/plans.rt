@@ -3,7 +3,7 @@ ghost use Rattle.std.specs.Prelude.{◌≡◌, ◌≤◌};
 use onfi_addr::Place;
 use onfi_group::{Group, Rules};
 use onfi_known::{check_known_text, check_known_within};
-use onfi_planner::{PlanFault, plan};
+use onfi_planner::plan;
 use onfi_problem::{LunState, Problem, ProblemFault};
 use onfi_recall::{plan_known, plan_within};
 use onfi_request::Want;
@@ -94,28 +94,6 @@ fn a_tree_is_walked_once_more_where_a_sooner_finish_was_found(rt: HostRuntime) -
     assert!(rt; text.starts_with(b"ONFICERT 3 remember\nB"));
     let checked = check_known_text(alloc, &problem, &planned.schedule, text);
     assert_eq!(rt; checked, Ok(92_120));
-    Ok(())
-}
-
-#[test]
-fn the_root_of_one_read_is_the_only_node(rt: HostRuntime) -> Result<(), Fail> {
-    let alloc = rt.alloc();
-    let luns = [LunState::Free { since: 0 }];
-    let rules = Rules::new(true, true, false, 1);
-    let wants = [want(0, Kind::Read, 0, 0)];
-    let problem = Problem::new(alloc, sample_timing(), rules, 0, &luns, &wants)?;
-    let planned = plan_known(alloc, &problem, 1)?;
-    assert_eq!(rt; planned.finish, 36_240);
-    assert_eq!(rt; (planned.opened, planned.reopened), (1, 0));
-    Ok(())
-}
-
-#[test]
-fn a_search_that_needs_more_nodes_is_over(rt: HostRuntime) -> Result<(), Fail> {
-    let alloc = rt.alloc();
-    let problem = six_reads(alloc)?;
-    let over = plan_known(alloc, &problem, 100);
-    assert!(rt; matches!(over, Err(PlanFault::Over { opened: 100 })));
     Ok(())
 }
 

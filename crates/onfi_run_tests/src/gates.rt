@@ -141,26 +141,7 @@ fn two_channels_make_their_turns_at_once(rt: HostRuntime) {
     assert!(rt; text.as_slice() == told.as_slice());
 }
 
-// With one node each of the two can be planned alone, and not both. No gate sees what a host did, so the run is made until
-// the channel finds both in its queue: the search is over then with no phase left. Else both are answered.
-#[test]
-fn a_search_over_its_limit_ends_a_run(rt: HostRuntime) {
-    let rows = "op,0,0,read,0,0,0\nop,0,0,program,1,0,0,*A5\n";
-    for _ in 0..1_000 {
-        let planner = ChosenPlanner::Plain;
-        let (status, text) = meet(&rt, rt.alloc(), planner, 1, rows).expect(&rt, "a meeting");
-        if status == 6 {
-            assert!(rt; text.as_slice() == b"over,0,1\nclosed\n".as_slice());
-            return;
-        }
-        assert_eq!(rt; status, 0);
-        let told = b"reply,0,0,0,read,*FF\nreply,0,0,1,done\nclosed\n";
-        assert!(rt; text.as_slice() == told.as_slice());
-    }
-    panic!(rt; "the host was never ahead of its channel");
-}
-
-// The same operations are answered always where the best plan so far is taken.
+// With one node each of the two can be planned alone, and not both, but by the best plan so far.
 #[test]
 fn a_run_by_the_best_plans_so_far_is_never_over(rt: HostRuntime) {
     let rows = "op,0,0,read,0,0,0\nop,0,0,program,1,0,0,*A5\n";

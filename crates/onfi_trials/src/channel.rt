@@ -4,225 +4,216 @@ ghost use Rattle.onfi_chip.specs.SimChip.{chip_in};
 ghost use Rattle.onfi_core.specs.Queues.{IsFresh};
 
 use crate::ended::Ended;
+use crate::rows::{Row, Word, capped_u8, capped_u16};
+use crate::saying::{say_outcome, say_plan};
+use crate::stage::Stage;
 use onfi_addr::Place;
 use onfi_chip::SimChip;
-use onfi_core::{Core, Event, Outcome, Setup};
-use onfi_group::Rules;
-use onfi_planners::PlainPlanner;
-use onfi_request::{Answer, Reply, Request};
-use onfi_samples::{request_of, sample_geometry, sample_timing};
+use onfi_core::{Core, CoreFault, Event, Outcome, Setup};
+use onfi_planners::ChosenPlanner;
+use onfi_request::Request;
+use onfi_samples::{request_of, sample_geometry};
 use onfi_timing::Kind;
 use std::alloc::{AllocError, Global};
+use std::marker::Model;
 
-/// What happens to channel 0, for host 0.
-#[derive(Clone, Copy)]
-enum Act {
-    Read,
-    Program,
-    Accept,
-    /// On channel 1, which isn't there.
-    AcceptElsewhere,
-    Plan,
-    Bus,
-    Post,
-    Collect,
-}
-
-/// A read from its submission to its collection, each refusal on the way, then another read, and a program, which leaves
-/// something.
-const ACTS: [Act; 29] = [
-    Act::Read,
-    Act::Read,
-    Act::Accept,
-    Act::Accept,
-    Act::Bus,
-    Act::Plan,
-    Act::Plan,
-    Act::Post,
-    Act::Bus,
-    Act::Bus,
-    Act::Bus,
-    Act::Post,
-    Act::Collect,
-    Act::Collect,
-    Act::AcceptElsewhere,
-    Act::Read,
-    Act::Accept,
-    Act::Plan,
-    Act::Bus,
-    Act::Bus,
-    Act::Post,
-    Act::Collect,
-    Act::Program,
-    Act::Accept,
-    Act::Plan,
-    Act::Bus,
-    Act::Bus,
-    Act::Post,
-    Act::Collect,
-];
-
-/// A request of page 0 of block 0 of LUN 0.
-pub(crate) fn page_0(alloc: Global, kind: Kind) -> Result<Request, AllocError> {
+/// The request of a row.
+pub(crate) fn request_in(alloc: Global, kind: Kind, row: &Row) -> Result<Request, AllocError> {
+    let [lun, block, page, byte, ..] = row.numbers;
     let place = Place {
-        lun: 0,
-        block: 0,
-        page: 0,
+        lun: capped_u8(lun),
+        block: capped_u16(block),
+        page: capped_u16(page),
     };
-    request_of(alloc, &sample_geometry(), kind, place, 0xA5)
+    request_of(alloc, &sample_geometry(), kind, place, capped_u8(byte))
 }
 
-fn submission(alloc: Global, kind: Kind) -> Result<Event, AllocError> {
-    let request = page_0(alloc, kind)?;
-    Ok(Event::Submit {
-        host: 0,
-        channel: 0,
-        request,
-    })
-}
-
-fn event_of(alloc: Global, act: Act) -> Result<Event, AllocError> {
-    Ok(match act {
-        Act::Read => submission(alloc, Kind::Read)?,
-        Act::Program => submission(alloc, Kind::Program)?,
-        Act::Accept => Event::Accept { channel: 0 },
-        Act::AcceptElsewhere => Event::Accept { channel: 1 },
-        Act::Plan => Event::Plan { channel: 0 },
-        Act::Bus => Event::Bus { channel: 0 },
-        Act::Post => Event::Post {
-            channel: 0,
-            host: 0,
+/// The event of a row; none where it has none.
+fn event_of(alloc: Global, row: &Row) -> Result<Option<Event>, AllocError> {
+    let first = capped_u8(row.numbers[0]);
+    Ok(Some(match row.word {
+        Word::Submit(kind) => Event::Submit {
+            host: capped_u8(row.numbers[4]),
+            channel: capped_u8(row.numbers[5]),
+            request: request_in(alloc, kind, row)?,
         },
-        Act::Collect => Event::Collect {
+        Word::Accept => Event::Accept { channel: first },
+        Word::Plan => Event::Plan { channel: first },
+        Word::Bus => Event::Bus { channel: first },
+        Word::Wait => Event::Wait {
             channel: 0,
-            host: 0,
+            moment: row.numbers[0],
         },
-    })
+        Word::Ready => Event::Ready {
+            channel: 0,
+            lun: first,
+        },
+        Word::Post => Event::Post {
+            channel: 0,
+            host: first,
+        },
+        Word::Collect => Event::Collect {
+            channel: 0,
+            host: first,
+        },
+        _ => return Ok(None),
+    }))
 }
 
-pub(crate) fn say_reply(rt: &impl Print, reply: &Reply) -> Result<(), Ended> {
-    let (place, serial) = (reply.place, reply.serial);
-    match &reply.answer {
-        Answer::Read(bytes) => {
-            let bytes = bytes.as_slice();
-            println!(rt;
-                "reply {place} {serial} {} bytes of {:?}",
-                bytes.len(),
-                bytes.first()
-            )?;
+/// A core of one channel.
+#[derive(Drop)]
+struct Played {
+    alloc: Global,
+    core: Core<ChosenPlanner, SimChip>,
+}
+
+impl Model for Played {
+    ghost use Rattle.std.specs.Prelude.{ℕ, ◌≡◌};
+
+    ghost Value = { ℕ };
+
+    ghost view = { λ p. p.core.0.channels };
+
+    ghost invariant = { λ p. p.core.0.channels ≡ 1 };
+}
+
+impl Played {
+    fn open(alloc: Global, setup: Setup, stage: Stage) -> Result<Played, CoreFault> {
+        let planner = stage.planner;
+        let Ok(chips) = fresh_chips(alloc, setup, stage) else {
+            return Err(CoreFault::Memory);
+        };
+        let core = Core::open(alloc, setup, planner, chips)?;
+        if setup.channels != 1 {
+            return Err(CoreFault::Chips);
         }
-        Answer::Done => println!(rt; "reply {place} {serial} done")?,
-        Answer::Failed => println!(rt; "reply {place} {serial} failed")?,
+        Ok(Played { alloc, core })
     }
-    Ok(())
-}
 
-fn say_outcome(rt: &impl Print, outcome: &Outcome) -> Result<(), Ended> {
-    match outcome {
-        Outcome::Collected(reply) => say_reply(rt, reply),
-        Outcome::SubmitFull(request) => {
-            println!(rt; "full, and back comes a request of {:?}", request.kind)?;
-            Ok(())
+    /// What a row tells to do, so many times.
+    fn play(&mut self, rt: &impl Print, row: &Row, times: u64) -> Result<(), Ended> {
+        for _time in 0..times {
+            match row.word {
+                Word::Batch => self.set_batch(row.numbers[0])?,
+                Word::Last => say_plan(rt, self.core.last(0))?,
+                _ => self.step(rt, row)?,
+            }
         }
-        outcome => {
-            println!(rt; "{outcome:?}")?;
-            Ok(())
+        Ok(())
+    }
+
+    fn set_batch(&mut self, batch: u64) -> Result<(), Ended> {
+        if batch < 1 || batch > 8 {
+            return Err(Ended::NoTrial);
         }
+        self.core.set_batch(0, batch as u8);
+        Ok(())
     }
-}
 
-/// One channel of the sample device, with room for so many items, and for one reply to each of its hosts.
-pub(crate) fn setup(hosts: u8, items: u16) -> Result<Setup, Ended>
-    ensures { IfOk result (λ setup. (setup.channels ≡ 1) × (setup.hosts ≡ hosts)) }
-{
-    let rules = Rules::new(true, true, false, 1);
-    let (geometry, timing) = (sample_geometry(), sample_timing());
-    match Setup::new(geometry, timing, rules, 1, hosts, 8, items, 1, 1_000) {
-        Ok(setup) => Ok(setup),
-        Err(_) => Err(Ended::NoTrial),
+    /// One event; once more where memory was refused.
+    fn step(&mut self, rt: &impl Print, row: &Row) -> Result<(), Ended> {
+        for _try in 0..2u8 {
+            let Ok(event) = event_of(self.alloc, row) else {
+                println!(rt; "memory")?;
+                continue;
+            };
+            let Some(event) = event else {
+                return Err(Ended::NoTrial);
+            };
+            match self.core.step(self.alloc, event) {
+                Outcome::Memory(_) => println!(rt; "memory")?,
+                outcome => return say_outcome(rt, &outcome),
+            }
+        }
+        Err(Ended::Memory)
     }
-}
 
-/// A chip of the setup as it is opened.
-pub(crate) fn fresh_chip(alloc: Global, setup: Setup) -> Result<SimChip, AllocError>
-    ensures { IfOk result (λ chip. IsFresh setup (chip_in chip)) }
-{
-    let (faults, calls, statuses) = (Vec::new(alloc), Vec::new(alloc), Vec::new(alloc));
-    SimChip::new(alloc, setup.geometry, setup.timing, faults, calls, statuses)
+    /// The events in one call, which does nothing where the room for its answer is refused; then it is made once more.
+    fn run(&mut self, rt: &impl Print, rows: &[Row]) -> Result<(), Ended> {
+        for _try in 0..2u8 {
+            let Ok(events) = events_of(self.alloc, rows) else {
+                println!(rt; "memory")?;
+                continue;
+            };
+            let Ok(outcomes) = self.core.run(self.alloc, events) else {
+                println!(rt; "memory")?;
+                continue;
+            };
+            for outcome in outcomes.as_slice() {
+                say_outcome(rt, outcome)?;
+            }
+            return Ok(());
+        }
+        Err(Ended::Memory)
+    }
 }
 
 /// The chip of its one channel.
-fn fresh_chips(alloc: Global, setup: Setup) -> Result<Vec<SimChip>, AllocError>
+fn fresh_chips(alloc: Global, setup: Setup, stage: Stage) -> Result<Vec<SimChip>, AllocError>
     ensures { IfOk result (λ chips. Each (λ chip. IsFresh setup (chip_in chip)) chips.items) }
 {
     let mut chips = Vec::new(alloc);
-    chips.push(fresh_chip(alloc, setup)?)?;
+    chips.push(stage.into_chip(alloc, setup)?)?;
     Ok(chips)
 }
 
-fn open_core(alloc: Global) -> Result<Core<PlainPlanner, SimChip>, Ended> {
-    let setup = setup(1, 1)?;
-    let chips = fresh_chips(alloc, setup)?;
-    match Core::open(alloc, setup, PlainPlanner, chips) {
-        Ok(core) => Ok(core),
-        Err(_) => Err(Ended::Memory),
-    }
-}
-
-/// One event; once more where memory was refused.
-fn step(
-    rt: &impl Print,
-    alloc: Global,
-    core: &mut Core<PlainPlanner, SimChip>,
-    act: Act,
-) -> Result<(), Ended> {
-    for _try in 0..2u8 {
-        let Ok(event) = event_of(alloc, act) else {
-            println!(rt; "memory")?;
-            continue;
-        };
-        match core.step(alloc, event) {
-            Outcome::Memory(_) => println!(rt; "memory")?,
-            outcome => return say_outcome(rt, &outcome),
-        }
-    }
-    Err(Ended::Memory)
-}
-
-/// The events one by one, each told.
-pub(crate) fn step_by_step(rt: &impl Print, alloc: Global) -> Result<(), Ended> {
-    let mut core = open_core(alloc)?;
-    for act in ACTS {
-        step(rt, alloc, &mut core, act)?;
-    }
-    Ok(())
-}
-
-/// What is sent and accepted: events that take no memory.
-fn first_events(alloc: Global) -> Result<Vec<Event>, AllocError> {
+fn events_of(alloc: Global, rows: &[Row]) -> Result<Vec<Event>, AllocError> {
     let mut events = Vec::new(alloc);
-    for act in [Act::Read, Act::Read, Act::Accept, Act::Accept, Act::Bus] {
-        events.push(event_of(alloc, act)?)?;
+    for row in rows {
+        if let Some(event) = event_of(alloc, row)? {
+            events.push(event)?;
+        }
     }
     Ok(events)
 }
 
-/// The first events in one call, which does nothing where the room for its answer is refused; then it is made once more.
-pub(crate) fn run_events(rt: &impl Print, alloc: Global) -> Result<(), Ended> {
-    let mut core = open_core(alloc)?;
-    for _try in 0..2u8 {
-        let Ok(events) = first_events(alloc) else {
-            println!(rt; "memory")?;
-            continue;
-        };
-        let Ok(outcomes) = core.run(alloc, events) else {
-            println!(rt; "memory")?;
-            continue;
-        };
-        for outcome in outcomes.as_slice() {
-            say_outcome(rt, outcome)?;
+/// A core as its first rows say, and the rows behind these; none where it didn't open, which is told then.
+fn open_core<'a>(
+    rt: &impl Print,
+    alloc: Global,
+    rows: &'a [Row],
+) -> Result<Option<(Played, &'a [Row])>, Ended> {
+    let (stage, place) = Stage::of(alloc, rows)?;
+    let (Some(open), Some(rest)) = (rows.get(place), rows.get(place.saturating_add(1)..)) else {
+        return Err(Ended::NoTrial);
+    };
+    let setup = match stage.setup(open) {
+        Ok(setup) => setup,
+        Err(fault) => {
+            println!(rt; "{fault:?}")?;
+            return Ok(None);
         }
-        return Ok(());
+    };
+    match Played::open(alloc, setup, stage) {
+        Ok(played) => Ok(Some((played, rest))),
+        Err(CoreFault::Memory) => Err(Ended::Memory),
+        Err(fault) => {
+            println!(rt; "{fault:?}")?;
+            Ok(None)
+        }
     }
-    Err(Ended::Memory)
+}
+
+/// The events of the rows one by one, each told.
+pub(crate) fn step_by_step(rt: &impl Print, alloc: Global, rows: &[Row]) -> Result<(), Ended> {
+    let Some((mut played, rest)) = open_core(rt, alloc, rows)? else {
+        return Ok(());
+    };
+    let mut before = None;
+    for row in rest {
+        match (row.word, before) {
+            (Word::Again, Some(before)) => played.play(rt, before, row.numbers[0])?,
+            _ => played.play(rt, row, 1)?,
+        }
+        before = Some(row);
+    }
+    Ok(())
+}
+
+/// The events of the rows in one call.
+pub(crate) fn run_events(rt: &impl Print, alloc: Global, rows: &[Row]) -> Result<(), Ended> {
+    match open_core(rt, alloc, rows)? {
+        Some((mut played, rest)) => played.run(rt, rest),
+        None => Ok(()),
+    }
 }

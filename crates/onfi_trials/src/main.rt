@@ -6,15 +6,20 @@ mod channel;
 mod ended;
 mod judging;
 mod planning;
+mod rows;
 mod sample;
+mod saying;
 mod serving;
+mod stage;
 
 use crate::channel::{run_events, step_by_step};
 use crate::ended::Ended;
 use crate::judging::{judge_text, judge_tokens};
 use crate::planning::{plan_apart, plan_in_parts, plan_remembering, plan_running};
-use crate::serving::{drain_at_once, serve_reads};
+use crate::rows::read_rows;
+use crate::serving::serve;
 use std::alloc::Global;
+use std::io::Input;
 use std::process::ExitCode;
 use std::sync::Wait;
 use std::thread::Threads;
@@ -32,7 +37,7 @@ fn name_of(rt: &(impl std::rt::Env + AllocGlobal)) -> Result<String, Ended> {
 }
 
 /// Makes the calls of the trial with this name.
-fn try_calls<R: Print + Threads + Wait + Sync>(
+fn try_calls<R: Input + Print + Threads + Wait + Sync>(
     rt: &R,
     alloc: Global,
     name: &str,
@@ -44,16 +49,15 @@ fn try_calls<R: Print + Threads + Wait + Sync>(
         "remembering" => plan_remembering(rt, alloc),
         "tokens" => judge_tokens(rt, alloc),
         "text" => judge_text(rt, alloc),
-        "channel" => step_by_step(rt, alloc),
-        "events" => run_events(rt, alloc),
-        "turns" => serve_reads(rt, alloc),
-        "drain" => drain_at_once(rt, alloc),
+        "core" => step_by_step(rt, alloc, read_rows(rt, alloc)?.as_slice()),
+        "events" => run_events(rt, alloc, read_rows(rt, alloc)?.as_slice()),
+        "sequencer" => serve(rt, alloc, read_rows(rt, alloc)?.as_slice()),
         _ => Err(Ended::NoTrial),
     }
 }
 
 fn tried(
-    rt: &(impl std::rt::Env + AllocGlobal + Print + Threads + Wait + Sync),
+    rt: &(impl std::rt::Env + AllocGlobal + Input + Print + Threads + Wait + Sync),
 ) -> Result<(), Ended> {
     let name = name_of(rt)?;
     try_calls(rt, rt.alloc(), name.as_str())
@@ -68,7 +72,7 @@ fn main(rt: HostRuntime) -> ExitCode {
         }
         Err(Ended::NoTrial) => {
             let _ = rt.eprintln(
-                "usage: onfi_trials apart|running|parts|remembering|tokens|text|channel|events|turns|drain",
+                "usage: onfi_trials apart|running|parts|remembering|tokens|text|core|events|sequencer",
             );
             ExitCode::from(5)
         }

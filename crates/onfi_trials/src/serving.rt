@@ -1,10 +1,14 @@
 ghost use Rattle.std.specs.Prelude.{◌≡◌, ◌<◌};
 
-use crate::channel::{fresh_chip, page_0, say_reply, setup};
+use crate::channel::request_in;
 use crate::ended::Ended;
+use crate::rows::{Row, Word, capped_u8};
+use crate::saying::{say_plan, say_reply};
+use crate::stage::Stage;
 use onfi_chip::SimChip;
-use onfi_planners::PlainPlanner;
-use onfi_queue::Host;
+use onfi_core::Setup;
+use onfi_planners::ChosenPlanner;
+use onfi_queue::{Host, SubmitFault};
 use onfi_reply::Inbox;
 use onfi_request::{Reply, Request};
 use onfi_seq::{Drained, Ends, Gate, Sequencer, Turn};
@@ -13,13 +17,25 @@ use std::alloc::Global;
 use std::marker::Model;
 use std::sync::Wait;
 
-/// Holds no channel.
+/// Sees that each turn of its channel is told once, by its number.
 #[derive(Drop)]
-struct NoGate;
-
-impl Gate for NoGate {
-    fn before(&mut self, _channel: u8, _turn: u64) {}
+struct Watch {
+    channel: u8,
+    begun: u64,
+    missed: bool,
 }
+
+impl Gate for Watch {
+    fn before(&mut self, channel: u8, turn: u64) {
+        if (channel, turn) != (self.channel, self.begun) {
+            self.missed = true;
+        }
+        self.begun = self.begun.saturating_add(1);
+    }
+}
+
+/// The moment of who has no clock.
+const NO_CLOCK: u64 = u64::MAX;
 
 /// A channel with its sequencer, over a simulated chip, and the ends of its four hosts. All are used from one thread.
 ///
@@ -27,9 +43,10 @@ impl Gate for NoGate {
 #[derive(Drop)]
 struct Served {
     alloc: Global,
-    sequencer: Sequencer<PlainPlanner, SimChip>,
+    sequencer: Sequencer<ChosenPlanner, SimChip>,
     hosts: [Host; 4],
     inboxes: [Inbox; 4],
+    gate: Watch,
 }
 
 impl Model for Served {
@@ -44,50 +61,127 @@ impl Model for Served {
 }
 
 impl Served {
-    /// With room for one reply to each host.
-    fn open(alloc: Global) -> Result<Served, Ended> {
-        let setup = setup(4, 4)?;
-        let chip = fresh_chip(alloc, setup)?;
-        let ends = Ends::open(alloc, &setup, 0)?;
+    fn open(alloc: Global, setup: Setup, channel: u8, stage: Stage) -> Result<Served, Ended>
+        requires hosts { setup.hosts ≡ 4 }
+        requires channel { channel < setup.channels }
+    {
+        let planner = stage.planner;
+        let chip = stage.into_chip(alloc, setup)?;
+        let ends = Ends::open(alloc, &setup, channel)?;
         let Ends {
             intake,
             posters,
             hosts,
             inboxes,
         } = ends;
-        let sequencer = Sequencer::open(alloc, setup, 0, PlainPlanner, chip, intake, posters)?;
+        let sequencer = Sequencer::open(alloc, setup, channel, planner, chip, intake, posters)?;
+        let gate = Watch {
+            channel,
+            begun: 0,
+            missed: false,
+        };
         Ok(Served {
             alloc,
             sequencer,
             hosts,
             inboxes,
+            gate,
         })
     }
 
-    /// The host submits operations of page 0.
-    fn submit_all<R: Wait>(&mut self, rt: &R, host: usize, kinds: &[Kind]) -> Result<(), Ended>
-        requires { host < 4 }
-    {
-        for kind in kinds {
-            self.submit(rt, host, *kind)?;
+    /// What a row tells to do, so many times.
+    fn play<R: Print + Wait>(&mut self, rt: &R, row: &Row, times: u64) -> Result<(), Ended> {
+        let [first, second, ..] = row.numbers;
+        for _time in 0..times {
+            match row.word {
+                Word::Submit(kind) => self.send(rt, kind, row)?,
+                Word::Turn => self.turn(rt, NO_CLOCK)?,
+                Word::TurnAt => self.turn(rt, first)?,
+                Word::Turns => self.turns(rt)?,
+                Word::Drain => self.drain(rt, first, NO_CLOCK)?,
+                Word::DrainAt => self.drain(rt, first, second)?,
+                Word::Collect => self.say_replies(rt, first)?,
+                Word::Unanswered => self.say_unanswered(rt)?,
+                Word::Last => say_plan(rt, self.sequencer.last())?,
+                Word::Batch => self.set_batch(first)?,
+                _ => return Err(Ended::NoTrial),
+            }
         }
         Ok(())
     }
 
-    fn submit<R: Wait>(&mut self, rt: &R, host: usize, kind: Kind) -> Result<(), Ended>
+    /// A host submits the request of a row, and its serial is told, or why it isn't taken; once more where memory was
+    /// refused.
+    fn send<R: Print + Wait>(&mut self, rt: &R, kind: Kind, row: &Row) -> Result<(), Ended> {
+        let host = row.numbers[4] as usize;
+        for _try in 0..2u8 {
+            let Ok(request) = request_in(self.alloc, kind, row) else {
+                println!(rt; "memory")?;
+                continue;
+            };
+            if host >= 4 {
+                return Err(Ended::NoTrial);
+            }
+            match self.submit(rt, host, request) {
+                Ok(serial) => println!(rt; "serial {serial}")?,
+                Err((fault, request)) => {
+                    println!(rt; "{fault:?}, and back comes a request of {:?}", request.kind)?;
+                }
+            }
+            return Ok(());
+        }
+        Err(Ended::Memory)
+    }
+
+    fn submit<R: Wait>(
+        &mut self,
+        rt: &R,
+        host: usize,
+        request: Request,
+    ) -> Result<u32, (SubmitFault, Request)>
         requires { host < 4 }
     {
-        let request = page_0(self.alloc, kind)?;
         let end = &mut self.hosts[host];
         submit_by(rt, end, request)
     }
 
-    /// A turn, told; once more where memory was refused.
-    fn turn<R: Print + Wait>(&mut self, rt: &R) -> Result<Turn, Ended> {
+    fn set_batch(&mut self, batch: u64) -> Result<(), Ended> {
+        if batch < 1 || batch > 8 {
+            return Err(Ended::NoTrial);
+        }
+        self.sequencer.set_batch(batch as u8);
+        Ok(())
+    }
+
+    /// A turn at that moment, told.
+    fn turn<R: Print + Wait>(&mut self, rt: &R, now: u64) -> Result<(), Ended> {
+        let turn = self.next_turn(rt, now)?;
+        println!(rt; "{turn:?}")?;
+        Ok(())
+    }
+
+    /// Turns up to one that is none of these: how many items they accepted, how many replies they posted, and the last.
+    fn turns<R: Print + Wait>(&mut self, rt: &R) -> Result<(), Ended> {
+        let (mut accepted, mut posted) = (0u32, 0u32);
+        for _turn in 0..1_000u32 {
+            match self.next_turn(rt, NO_CLOCK)? {
+                Turn::Accepted => accepted = accepted.saturating_add(1),
+                Turn::Posted => posted = posted.saturating_add(1),
+                Turn::Planned | Turn::Phase => {}
+                last => {
+                    println!(rt; "{accepted} accepted, {posted} posted, {last:?}")?;
+                    return Ok(());
+                }
+            }
+        }
+        Err(Ended::NoTrial)
+    }
+
+    /// A turn at that moment; once more where memory was refused.
+    fn next_turn<R: Print + Wait>(&mut self, rt: &R, now: u64) -> Result<Turn, Ended> {
         for _try in 0..2u8 {
-            let turn = self.make_turn(rt);
+            let turn = self.make_turn(rt, now);
             if turn != Turn::Memory {
-                println!(rt; "{turn:?}")?;
                 return Ok(turn);
             }
             self.say_memory(rt)?;
@@ -107,18 +201,8 @@ impl Served {
         Ok(())
     }
 
-    fn make_turn<R: Wait>(&mut self, rt: &R) -> Turn {
-        self.sequencer.turn(rt, self.alloc, &mut NoGate, u64::MAX)
-    }
-
-    /// Turns until nothing is left to do but to post to hosts that don't collect.
-    fn turn_by_turn<R: Print + Wait>(&mut self, rt: &R) -> Result<(), Ended> {
-        for _turn in 0..100u8 {
-            if self.turn(rt)? == Turn::PostFull {
-                return Ok(());
-            }
-        }
-        Err(Ended::NoTrial)
+    fn make_turn<R: Wait>(&mut self, rt: &R, now: u64) -> Turn {
+        self.sequencer.turn(rt, self.alloc, &mut self.gate, now)
     }
 
     /// Host and serial of each item that waits for its reply; once more where memory was refused.
@@ -136,11 +220,12 @@ impl Served {
         Err(Ended::Memory)
     }
 
-    /// Drains the channel; once more where memory was refused. Its turns are spent only where each answers Memory.
-    fn drain<R: Print + Wait>(&mut self, rt: &R) -> Result<(), Ended> {
+    /// Drains the channel, told; once more where memory was refused, which may also spend its turns.
+    fn drain<R: Print + Wait>(&mut self, rt: &R, turns: u64, now: u64) -> Result<(), Ended> {
         for _try in 0..2u8 {
-            match self.make_draining(rt) {
-                Drained::Memory | Drained::TurnsSpent => println!(rt; "memory")?,
+            match self.make_draining(rt, turns, now) {
+                Drained::Memory => println!(rt; "memory")?,
+                Drained::TurnsSpent if turns > 0 => println!(rt; "memory")?,
                 end => {
                     println!(rt; "{end:?}")?;
                     return Ok(());
@@ -150,24 +235,25 @@ impl Served {
         Err(Ended::Memory)
     }
 
-    fn make_draining<R: Wait>(&mut self, rt: &R) -> Drained {
+    fn make_draining<R: Wait>(&mut self, rt: &R, turns: u64, now: u64) -> Drained {
         self.sequencer.drain(
             rt,
             self.alloc,
-            &mut NoGate,
-            u64::MAX,
+            &mut self.gate,
+            now,
             &self.hosts,
             &mut self.inboxes,
-            100,
+            turns,
         )
     }
 
     /// All that the host's inbox gives.
-    fn say_replies<R: Print + Wait>(&mut self, rt: &R, host: usize) -> Result<(), Ended>
-        requires { host < 4 }
-    {
+    fn say_replies<R: Print + Wait>(&mut self, rt: &R, host: u64) -> Result<(), Ended> {
+        if host >= 4 {
+            return Err(Ended::NoTrial);
+        }
         for _reply in 0..100u8 {
-            match self.collect(rt, host) {
+            match self.collect(rt, host as usize) {
                 Some(reply) => say_reply(rt, &reply)?,
                 None => break,
             }
@@ -182,46 +268,53 @@ impl Served {
         inbox.collect(rt)
     }
 
-    /// Drains the channel, and tells what hosts 0 and 1 collect and what went through it.
-    fn drain_and_close<R: Print + Wait>(mut self, rt: &R) -> Result<(), Ended> {
-        self.drain(rt)?;
-        self.say_replies(rt, 0)?;
-        self.say_replies(rt, 1)?;
+    /// Closes the channel, and tells what went through it, and whether its gate missed a turn.
+    fn close<R: Print + Wait>(self, rt: &R) -> Result<(), Ended> {
         let Served {
             sequencer,
             hosts,
             inboxes,
+            gate,
             ..
         } = self;
         let closed = sequencer.close(rt, hosts, inboxes);
         println!(rt; "{closed:?}")?;
+        if gate.missed {
+            println!(rt; "its gate missed a turn")?;
+        }
         Ok(())
     }
 }
 
-fn submit_by<R: Wait>(rt: &R, host: &mut Host, request: Request) -> Result<(), Ended>
+fn submit_by<R: Wait>(
+    rt: &R,
+    host: &mut Host,
+    request: Request,
+) -> Result<u32, (SubmitFault, Request)>
     ensures { (host.new.queue ≡ host.old.queue) × (host.new.number ≡ host.old.number) }
 {
-    match host.submit(rt, request) {
-        Ok(_) => Ok(()),
-        Err(_) => Err(Ended::NoTrial),
+    host.submit(rt, request)
+}
+
+/// The calls of the rows one by one, each told, and then a closing.
+pub(crate) fn serve<R: Print + Wait>(rt: &R, alloc: Global, rows: &[Row]) -> Result<(), Ended> {
+    let (stage, place) = Stage::of(alloc, rows)?;
+    let (Some(open), Some(rest)) = (rows.get(place), rows.get(place.saturating_add(1)..)) else {
+        return Err(Ended::NoTrial);
+    };
+    let channel = capped_u8(open.numbers[6]);
+    let setup = match stage.setup(open) {
+        Ok(setup) if setup.hosts == 4 && channel < setup.channels => setup,
+        _ => return Err(Ended::NoTrial),
+    };
+    let mut served = Served::open(alloc, setup, channel, stage)?;
+    let mut before = None;
+    for row in rest {
+        match (row.word, before) {
+            (Word::Again, Some(before)) => served.play(rt, before, row.numbers[0])?,
+            _ => served.play(rt, row, 1)?,
+        }
+        before = Some(row);
     }
-}
-
-/// Three reads of host 0 and one of host 1, who don't collect; then the channel is drained.
-pub(crate) fn serve_reads<R: Print + Wait>(rt: &R, alloc: Global) -> Result<(), Ended> {
-    let mut served = Served::open(alloc)?;
-    served.submit_all(rt, 0, &[Kind::Read; 3])?;
-    served.submit_all(rt, 1, &[Kind::Read])?;
-    served.turn_by_turn(rt)?;
-    served.say_unanswered(rt)?;
-    served.drain_and_close(rt)
-}
-
-/// An erase and a program of host 0 and a read of host 1: all turns are those of the draining.
-pub(crate) fn drain_at_once<R: Print + Wait>(rt: &R, alloc: Global) -> Result<(), Ended> {
-    let mut served = Served::open(alloc)?;
-    served.submit_all(rt, 0, &[Kind::Erase, Kind::Program])?;
-    served.submit_all(rt, 1, &[Kind::Read])?;
-    served.drain_and_close(rt)
+    served.close(rt)
 }

@@ -1,6 +1,6 @@
 use Rattle.std.proofs.Common.{sym, arith}
 use Rattle.onfi_check.specs.Tree.{ByBus, Closed}
-use Rattle.onfi_channel_tests.proofs.planners.ModestPlanner.plan.Goals as goal
+use Rattle.onfi_channel_tests.proofs.held.ModestPlanner.plan.Goals as goal
 
 pub returns-clause-shown : goal.returns-clause-shown
 returns-clause-shown c = (Closed ByBus, sym c.in-Ok.ensures.items, omega arith)

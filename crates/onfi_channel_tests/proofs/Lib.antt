@@ -1,2 +1,0 @@
-pub mod Erases
-mod OneMember

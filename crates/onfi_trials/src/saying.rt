@@ -1,0 +1,89 @@
+//! What is printed of plans and replies.
+
+use crate::ended::Ended;
+use onfi_core::Outcome;
+use onfi_plan::Plan;
+use onfi_problem::Problem;
+use onfi_request::{Answer, Reply, Request};
+use onfi_schedule::Placed;
+
+/// The byte that all are, where they are one.
+fn only_byte(bytes: &[u8]) -> Option<u8> {
+    let first = bytes.first()?;
+    for byte in bytes {
+        if byte != first {
+            return None;
+        }
+    }
+    Some(*first)
+}
+
+pub(crate) fn say_reply(rt: &impl Print, reply: &Reply) -> Result<(), Ended> {
+    let (place, serial) = (reply.place, reply.serial);
+    match &reply.answer {
+        Answer::Read(bytes) => {
+            let bytes = bytes.as_slice();
+            println!(rt;
+                "reply {place} {serial} {} bytes of {:?}",
+                bytes.len(),
+                only_byte(bytes)
+            )?;
+        }
+        Answer::Done => println!(rt; "reply {place} {serial} done")?,
+        Answer::Failed => println!(rt; "reply {place} {serial} failed")?,
+    }
+    Ok(())
+}
+
+fn say_return(rt: &impl Print, why: &str, request: &Request) -> Result<(), Ended> {
+    println!(rt; "{why}, and back comes a request of {:?}", request.kind)?;
+    Ok(())
+}
+
+pub(crate) fn say_outcome(rt: &impl Print, outcome: &Outcome) -> Result<(), Ended> {
+    match outcome {
+        Outcome::Collected(reply) => say_reply(rt, reply),
+        Outcome::SubmitFull(request) => say_return(rt, "full", request),
+        Outcome::NoSuch(Some(request)) => say_return(rt, "no such host", request),
+        Outcome::Refused(fault, request) => {
+            println!(rt; "{fault:?}, and back comes a request of {:?}", request.kind)?;
+            Ok(())
+        }
+        outcome => {
+            println!(rt; "{outcome:?}")?;
+            Ok(())
+        }
+    }
+}
+
+fn say_group(rt: &impl Print, placed: &Placed) -> Result<(), Ended> {
+    println!(rt; "group {:?}", placed.starts().as_slice())?;
+    for member in placed.members().members() {
+        println!(rt; "member {}", member.id)?;
+    }
+    Ok(())
+}
+
+/// The wants of a plan's problem, when it ends and before when nothing does, its starts and its certificate.
+pub(crate) fn say_plan(rt: &impl Print, last: Option<(&Problem, &Plan)>) -> Result<(), Ended> {
+    let Some((_, plan)) = last else {
+        println!(rt; "no plan")?;
+        return Ok(());
+    };
+    println!(rt; "finish {} below {}", plan.finish, plan.below)?;
+    for starts in plan.schedule.rest() {
+        println!(rt; "rest {:?}", starts.as_slice())?;
+    }
+    for placed in plan.schedule.groups() {
+        say_group(rt, placed)?;
+    }
+    match plan.cert.tokens() {
+        Some(tokens) => {
+            for token in tokens {
+                println!(rt; "{token:?}")?;
+            }
+        }
+        None => println!(rt; "a certificate that remembers states")?,
+    }
+    Ok(())
+}

@@ -1,0 +1,134 @@
+//! What the first rows of a trial say of a channel.
+
+ghost use Rattle.std.specs.Prelude.{IfOk};
+ghost use Rattle.onfi_chip.specs.SimChip.{chip_in};
+ghost use Rattle.onfi_core.specs.Queues.{IsFresh};
+
+use crate::ended::Ended;
+use crate::rows::{Row, Word, capped_u8, capped_u16, capped_u32};
+use onfi_chip::{ArrayTime, SimChip};
+use onfi_core::{Choice, Setup, SetupFault};
+use onfi_die::Fault;
+use onfi_group::Rules;
+use onfi_planners::ChosenPlanner;
+use onfi_samples::{sample_geometry, sample_timing};
+use onfi_timing::{Spans, Timing};
+use std::alloc::{AllocError, Global};
+
+/// A channel of the sample device before it opens.
+#[derive(Drop)]
+pub(crate) struct Stage {
+    together: bool,
+    timing: Timing,
+    choice: Choice,
+    pub(crate) planner: ChosenPlanner,
+    faults: Vec<Fault>,
+    calls: Vec<u32>,
+    statuses: Vec<u32>,
+    times: Vec<ArrayTime>,
+}
+
+/// The greatest length of a phase or of a wait, in ns.
+const LONGEST: u64 = (1 << 50) - 1;
+
+impl Stage {
+    fn new(alloc: Global) -> Stage {
+        Stage {
+            together: true,
+            timing: sample_timing(),
+            choice: Choice::InOrder,
+            planner: ChosenPlanner::Plain,
+            faults: Vec::new(alloc),
+            calls: Vec::new(alloc),
+            statuses: Vec::new(alloc),
+            times: Vec::new(alloc),
+        }
+    }
+
+    /// What the rows say, up to the one that opens the channel; and its place.
+    pub(crate) fn of(alloc: Global, rows: &[Row]) -> Result<(Stage, usize), Ended> {
+        let mut stage = Stage::new(alloc);
+        for (place, row) in rows.iter().enumerate() {
+            match row.word {
+                Word::Open => return Ok((stage, place)),
+                Word::Fault | Word::ChipFail | Word::NotReady | Word::Array => {
+                    stage.take_trouble(row)?;
+                }
+                word => stage.take(word)?,
+            }
+        }
+        Err(Ended::NoTrial)
+    }
+
+    fn take(&mut self, word: Word) -> Result<(), Ended> {
+        match word {
+            Word::Apart => self.together = false,
+            Word::Longest => self.timing = longest()?,
+            Word::ByLun => self.choice = Choice::ByLun,
+            Word::ReadsFirst => self.choice = Choice::ReadsFirst,
+            Word::Remembering => self.planner = ChosenPlanner::Remembering,
+            Word::Best => self.planner = ChosenPlanner::BestSoFar,
+            _ => return Err(Ended::NoTrial),
+        }
+        Ok(())
+    }
+
+    fn take_trouble(&mut self, row: &Row) -> Result<(), AllocError> {
+        let [first, second, third, ..] = row.numbers;
+        match row.word {
+            Word::Fault => self.faults.push(Fault {
+                lun: capped_u8(first),
+                block: capped_u16(second),
+                number: capped_u32(third),
+            })?,
+            Word::ChipFail => self.calls.push(capped_u32(first))?,
+            Word::NotReady => self.statuses.push(capped_u32(first))?,
+            _ => self.times.push(ArrayTime {
+                lun: capped_u8(first),
+                number: capped_u32(second),
+                length: third,
+            })?,
+        }
+        Ok(())
+    }
+
+    /// The setup of the row that opens the channel.
+    pub(crate) fn setup(&self, open: &Row) -> Result<Setup, SetupFault> {
+        let [channels, hosts, batch, submit_cap, post_cap, limit, _] = open.numbers;
+        let setup = Setup::new(
+            sample_geometry(),
+            self.timing,
+            Rules::new(true, self.together, false, 1),
+            capped_u8(channels),
+            capped_u8(hosts),
+            capped_u8(batch),
+            capped_u16(submit_cap),
+            capped_u16(post_cap),
+            capped_u32(limit),
+        )?;
+        Ok(setup.with_choice(self.choice))
+    }
+
+    /// The chip of the setup, as it is opened.
+    pub(crate) fn into_chip(self, alloc: Global, setup: Setup) -> Result<SimChip, AllocError>
+        ensures { IfOk result (λ chip. IsFresh setup (chip_in chip)) }
+    {
+        let (geometry, timing) = (setup.geometry, setup.timing);
+        let Stage {
+            faults,
+            calls,
+            statuses,
+            times,
+            ..
+        } = self;
+        let chip = SimChip::new(alloc, geometry, timing, faults, calls, statuses)?;
+        Ok(chip.with_array_times(times))
+    }
+}
+
+fn longest() -> Result<Timing, Ended> {
+    match Spans::new(LONGEST, 0, LONGEST, LONGEST) {
+        Ok(spans) => Ok(Timing::new(spans, spans, spans)),
+        Err(_) => Err(Ended::NoTrial),
+    }
+}
