@@ -1,18 +1,17 @@
-ghost use Rattle.std.specs.Prelude.{◌≡◌, ◌≢◌, ◌+◌, ◌<◌, ◌^◌, ◌↔◌, ℕ, IfOk, IfErr, OnOk, List, [], false, length};
+ghost use Rattle.std.specs.Prelude.{◌≡◌, ◌≢◌, ◌+◌, ◌<◌, ◌^◌, ◌↔◌, ℕ, IfOk, IfErr, OnOk, List, [], length};
 ghost use Rattle.onfi_schedule.specs.Schedule.{Schedule as AnySchedule, Legal, Optimal, finish};
 ghost use Rattle.onfi_request.specs.declared.want.Want.{Want};
+ghost use Rattle.onfi_cert.specs.Reading.{Line};
 ghost use Rattle.onfi_known.specs.Faults.{IsKnownFault, IsTextFault, IsTokenFault, OfTokens};
 ghost use Rattle.onfi_known.specs.Laws.{NoneBefore};
 ghost use Rattle.onfi_known.specs.Proves.{ProvesTokens};
 ghost use Rattle.onfi_known.specs.Text.{IsCertificate};
 ghost use Rattle.onfi_known.specs.Within.{IsReading};
-ghost use Rattle.onfi_known.specs.Word.{ahead_of};
 ghost use Rattle.onfi_known.specs.declared.token.Token.{Token as OneToken};
 
 use crate::fault::{KnownFault, KnownTextFault};
 use crate::header::header_of;
-use crate::token::Token;
-use crate::tokens::Tokens;
+use crate::token::{Token, Tokens};
 use crate::walk::read_whole;
 use onfi_cert::{Numbered, TokenList, TokenSource};
 use onfi_problem::Problem;
@@ -102,13 +101,16 @@ pub(crate) fn read_to_end(
     tokens: &mut Numbered<Tokens>,
 ) -> Result<(), KnownTextFault>
     requires few { tokens.old.place + length tokens.old.source.tokens < 2 ^ 64 }
-    ensures ok { OnOk result ((text bytes : List ℕ) → IsReading text strict bytes tokens.old.place tokens.old.source → IsCertificate text problem.now.problem.rules.strict (ahead_of false bytes).tokens) }
-    ensures fault { IfErr result (λ f. (all : List Want) (s : AnySchedule) (text bytes : List ℕ) → IsReading text strict bytes tokens.old.place tokens.old.source → IsTextFault all problem.now.problem s text f) }
+    ensures ok { OnOk result ((text : List ℕ) (whole : Line OneToken) → IsReading text strict whole tokens.old.place tokens.old.source → IsCertificate text problem.now.problem.rules.strict whole.tokens) }
+    ensures fault { IfErr result (λ f. (all : List Want) (s : AnySchedule) (text : List ℕ) (whole : Line OneToken) → IsReading text strict whole tokens.old.place tokens.old.source → IsTextFault all problem.now.problem s text f) }
     ensures text { IfErr result (λ f. (fault : KnownFault) → f ≢ KnownTextFault.Cert fault) }
 {
     tokens.read_on();
-    if !tokens.source.is_at_end() {
+    if tokens.source.finish().is_err() {
         return Err(KnownTextFault::BadToken(tokens.place));
+    }
+    if tokens.place == 0 {
+        return Err(KnownTextFault::BadToken(0));
     }
     if strict != problem.rules().strict {
         return Err(KnownTextFault::Option);
