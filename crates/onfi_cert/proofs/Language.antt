@@ -1,17 +1,16 @@
 -- Kinds of tokens whose spellings can be told apart.
-use Rattle.std.proofs.Common.{◌≡◌, ◌≤◌, ℕ, List, [], ◌∷◌, ◌++◌, get_or, refl, sym, ap, ◌∙◌, subst, arith}
+use Rattle.std.proofs.Common.{◌≡◌, ℕ, List, [], ◌∷◌, ◌++◌, get_or, refl, sym, ap, ◌∙◌, subst}
 use Rattle.std.specs.Prelude.{IfSome, Option, Some, None, ◌≢◌, false}
 use Rattle.std.proofs.lemmas.Bool.{false≢true}
 use Rattle.onfi_cert.specs.Word.{NoToken, behind_word, is_separator, word}
 use Rattle.onfi_cert.proofs.Words.{Ends, Plain, word-append, behind_word-append, word-behind_word}
 
 -- no spelling has a space or LF in it, each spells its token, and what spells a token has that spelling
-pub record IsLanguage {T : Type 0} (Kept : T → Type 0) (spelling : T → List ℕ) (token_of : List ℕ → Option T) (most : ℕ) : Type 0 where
+pub record IsLanguage {T : Type 0} (Kept : T → Type 0) (spelling : T → List ℕ) (token_of : List ℕ → Option T) : Type 0 where
   pub plain : (t : T) → Kept t → Plain (spelling t)
   pub again : (t : T) → Kept t → token_of (spelling t) ≡ Some t
   pub sound : (w : List ℕ) → IfSome (token_of w) (λ t. Kept t × (spelling t ≡ w))
   pub no_empty : token_of [] ≡ None
-  pub some : 1 ≤ most
 
 -- what is so of whatever is found is so of what was found
 pub found_is : {T : Type 0} (P : T → Type 0) (o : Option T) (t : T) → o ≡ Some t → IfSome o P → P t
@@ -20,7 +19,7 @@ found_is P o t e h = subst (λ x. IfSome x P) e h
 pub other_front : (a b : ℕ) (x y : List ℕ) → a ≢ b → a ∷ x ≢ b ∷ y
 other_front a b x y other e = other (ap (λ l. get_or l 0 0) e)
 
-module _ {T : Type 0} {Kept : T → Type 0} {spelling : T → List ℕ} {token_of : List ℕ → Option T} {most : ℕ} (l : IsLanguage Kept spelling token_of most) where
+module _ {T : Type 0} {Kept : T → Type 0} {spelling : T → List ℕ} {token_of : List ℕ → Option T} (l : IsLanguage Kept spelling token_of) where
   pub no_token : (w : List ℕ) → token_of w ≡ None → NoToken Kept spelling w
   no_token w e t h spelled =
       let again = l.again t h in
@@ -35,7 +34,8 @@ module _ {T : Type 0} {Kept : T → Type 0} {spelling : T → List ℕ} {token_o
       known (Some t) e = let s = found_is _ (token_of w) t e (l.sound w) in absurd (h t s.0 s.1)
 
   -- the word in front is this token's
-  pub token_in_front : (t : T) (text rest : List ℕ) → Kept t → Ends rest → text ≡ spelling t ++ rest → (token_of (word text) ≡ Some t) × (behind_word text ≡ rest)
+  pub token_in_front : (t : T) (text rest : List ℕ) → Kept t → Ends rest → text ≡ spelling t ++ rest
+      → (token_of (word text) ≡ Some t) × (behind_word text ≡ rest)
   token_in_front t text rest h ends e = (
     ap (λ x. token_of (word x)) e ∙ ap token_of (word-append (spelling t) rest (l.plain t h) ends) ∙ l.again t h,
     ap behind_word e ∙ behind_word-append (spelling t) rest (l.plain t h) ends,
@@ -53,4 +53,4 @@ module _ {T : Type 0} {Kept : T → Type 0} {spelling : T → List ℕ} {token_o
     where
       by_bytes : (w : List ℕ) → spelling t ≡ w → Plain w → w ++ rest ≢ 10 ∷ []
       by_bytes [] e p = absurd (no_token [] l.no_empty t h e)
-      by_bytes (b ∷ bs) e p = other_front b 10 (bs ++ rest) [] (λ q. let seen : is_separator 10 ≡ false = subst (λ x. is_separator x ≡ false) q p.0 in absurd (false≢true (sym seen)))
+      by_bytes (b ∷ bs) e p = other_front b 10 (bs ++ rest) [] (λ q. absurd (false≢true (sym (subst (λ x. is_separator x ≡ false) q p.0))))

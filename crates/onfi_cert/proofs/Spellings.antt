@@ -1,12 +1,11 @@
 -- Which words are tokens.
-use Rattle.std.proofs.Common.{◌≡◌, ◌<◌, ◌≤◌, ℕ, ◌+◌, ◌-◌, ◌*◌, ◌/◌, ◌%◌, List, [], ◌∷◌, ◌++◌, Bool, true, false, cond, refl, sym, ap, ◌∙◌, subst, arith, inl, inr}
+use Rattle.std.proofs.Common.{◌≡◌, ◌<◌, ◌≤◌, ℕ, ◌+◌, ◌-◌, ◌*◌, ◌/◌, ◌%◌, List, [], ◌∷◌, Bool, true, false, cond, refl, sym, ap, subst, arith, inl, inr}
 use Rattle.std.specs.Prelude.{IfSome, Option, Some, None, ◌==◌, ◌&&◌, nat_le}
 use Rattle.std.proofs.lemmas.Bool.{cases_lt, lt-ltb, le-ltb, le-leb, leb-true, eqb-true, ne_eqb, and_parts}
 use Rattle.onfi_cert.specs.declared.token.Token.{Token}
 use Rattle.onfi_cert.specs.declared.token.Token.TheVariants as tk
 use Rattle.onfi_cert.specs.Text.{InRange, digit, number, spelling}
 use Rattle.onfi_cert.specs.Word.{is_separator, is_within, letter_token, lun_at, lun_token, narrow, numbered, token_of, wide}
-use Rattle.onfi_cert.specs.declared.limits.TheConstants.{MOST_TOKENS}
 use Rattle.onfi_cert.proofs.Language.{IsLanguage}
 use Rattle.onfi_cert.proofs.Words.{Plain}
 
@@ -144,5 +143,5 @@ token_of_sound (c ∷ d ∷ []) = numbered_sound c d
 token_of_sound (c ∷ d ∷ e ∷ []) = either _ (c == 66) _ _ (at_letter Spells c 66 (wide d e) (d ∷ e ∷ []) (wide_sound d e)) (λ _. tt)
 token_of_sound (c ∷ d ∷ e ∷ f ∷ more) = tt
 
-pub language : IsLanguage InRange spelling token_of MOST_TOKENS
-language = record { plain = λ t h. plain t; again = spelling_again; sound = token_of_sound; no_empty = refl; some = omega arith }
+pub language : IsLanguage InRange spelling token_of
+language = record { plain = λ t h. plain t; again = spelling_again; sound = token_of_sound; no_empty = refl }

@@ -8,50 +8,43 @@ use Rattle.onfi_cert.specs.declared.fault.LineFault.TheVariants as fault
 use Rattle.onfi_cert.specs.Word.{NoToken, behind_word, word}
 use Rattle.onfi_cert.specs.Reading.{Line}
 use Rattle.onfi_cert.specs.Ahead.{ahead_of, found, from, later, next_of, step, token_in, walk, walked}
-use Rattle.onfi_cert.proofs.Fronted.{fronted_of, fronted_ends}
+use Rattle.onfi_cert.specs.Text.{fronted_of}
+use Rattle.onfi_cert.proofs.Fronted.{fronted_ends}
 use Rattle.onfi_cert.proofs.Language.{IsLanguage, front_token, no_token, no_token_of, token_in_front}
 use Rattle.onfi_cert.proofs.Words.{Ends, behind_word_ends}
 
 module _ {T : Type 0} (token_of : List ℕ → Option T) (most : ℕ) where
-  walk_at : (place : ℕ) (text : List ℕ) → place ≤ most
-      → walk token_of most (most + 1 - place) place text ≡ walked (step token_of most place text) (walk token_of most (most + 1 - (place + 1)) (place + 1))
-  unfolding walk
-  walk_at place text h =
+  abbrev behind : ℕ → List ℕ → Line T
+  behind place text = walk token_of most (most + 1 - (place + 1)) (place + 1) text
+
+  ahead_is : (place : ℕ) (text : List ℕ) {r : Result (Option (T × List ℕ)) LineFault} {line : Line T} → place ≤ most
+      → r ≡ step token_of most place (from place text) → ahead_of token_of most place text ≡ line → line ≡ walked r (behind place)
+  unfolding ahead_of walk
+  ahead_is place text h e same =
       let more : most + 1 - place ≡ suc (most + 1 - (place + 1)) = omega arith in
-      ap (λ n. walk token_of most n place text) more
+      sym same ∙ ap (λ n. walk token_of most n place (from place text)) more ∙ ap (λ s. walked s (behind place)) (sym e)
 
-  ahead_is : (place : ℕ) (text : List ℕ) (r : Result (Option (T × List ℕ)) LineFault) (line : Line T) → place ≤ most → r ≡ step token_of most place (from place text)
-      → ahead_of token_of most place text ≡ line → line ≡ walked r (walk token_of most (most + 1 - (place + 1)) (place + 1))
-  unfolding ahead_of
-  ahead_is place text r line h e same =
-      sym same ∙ walk_at place (from place text) h ∙ ap (λ s. walked s (walk token_of most (most + 1 - (place + 1)) (place + 1))) (sym e)
-
-  later_is : (place : ℕ) (rest : List ℕ) → ahead_of token_of most (place + 1) rest ≡ walk token_of most (most + 1 - (place + 1)) (place + 1) rest
+  later_is : (place : ℕ) (rest : List ℕ) → ahead_of token_of most (place + 1) rest ≡ behind place rest
   unfolding ahead_of
   later_is place rest =
       let same : from (place + 1) rest ≡ rest = rw (ne_eqb (place + 1) 0 (λ e. omega arith)) in
-      ap (λ t. walk token_of most (most + 1 - (place + 1)) (place + 1) t) same
+      ap (behind place) same
 
   -- a token is given
-  pub gives_token : (place : ℕ) (text : List ℕ) (t : T) (rest : List ℕ) (line : Line T) → place ≤ most → Ok (Some (t, rest)) ≡ step token_of most place (from place text)
+  pub gives_token : (place : ℕ) (text : List ℕ) {rest : List ℕ} {t : T} {line : Line T} → place ≤ most
+      → Ok (Some (t, rest)) ≡ step token_of most place (from place text)
       → ahead_of token_of most place text ≡ line → (Ok (Some t) ≡ next_of line) × (ahead_of token_of most (place + 1) rest ≡ later line)
-  gives_token place text t rest line h e same =
-      let is = ahead_is place text _ line h e same in
-      (sym (ap next_of is), later_is place rest ∙ sym (ap later is))
+  gives_token place text {rest} h e same = let is = ahead_is place text h e same in (sym (ap next_of is), later_is place rest ∙ sym (ap later is))
 
   -- the end is told
-  pub gives_end : (place : ℕ) (text : List ℕ) (line : Line T) → place ≤ most → Ok None ≡ step token_of most place (from place text)
+  pub gives_end : (place : ℕ) (text : List ℕ) {line : Line T} → place ≤ most → Ok None ≡ step token_of most place (from place text)
       → ahead_of token_of most place text ≡ line → (Ok None ≡ next_of line) × (line ≡ later line)
-  gives_end place text line h e same =
-      let is = ahead_is place text _ line h e same in
-      (sym (ap next_of is), is ∙ sym (ap later is))
+  gives_end place text h e same = let is = ahead_is place text h e same in (sym (ap next_of is), is ∙ sym (ap later is))
 
   -- a fault is told
-  pub gives_fault : (place : ℕ) (text : List ℕ) (e : LineFault) (line : Line T) → place ≤ most → Err e ≡ step token_of most place (from place text)
-      → ahead_of token_of most place text ≡ line → (Err e ≡ next_of line) × (line ≡ later line)
-  gives_fault place text f line h e same =
-      let is = ahead_is place text _ line h e same in
-      (sym (ap next_of is), is ∙ sym (ap later is))
+  pub gives_fault : (place : ℕ) (text : List ℕ) {fault : LineFault} {line : Line T} → place ≤ most → Err fault ≡ step token_of most place (from place text)
+      → ahead_of token_of most place text ≡ line → (Err fault ≡ next_of line) × (line ≡ later line)
+  gives_fault place text h e same = let is = ahead_is place text h e same in (sym (ap next_of is), is ∙ sym (ap later is))
 
 -- what is wrong behind n tokens
 pub data Wrong {T : Type 0} (Kept : T → Type 0) (spelling : T → List ℕ) (most n : ℕ) (tail : List ℕ) : Type 0 where
@@ -72,11 +65,12 @@ pub record Sound {T : Type 0} (Kept : T → Type 0) (spelling : T → List ℕ) 
   pub spelled : text ≡ fronted_of spelling l.tokens ++ tail
   pub stops : Stops Kept spelling most (place + length l.tokens) l.fault tail
 
-module _ {T : Type 0} {Kept : T → Type 0} {spelling : T → List ℕ} {token_of : List ℕ → Option T} {most : ℕ} (k : IsLanguage Kept spelling token_of most) where
+module _ {T : Type 0} {Kept : T → Type 0} {spelling : T → List ℕ} {token_of : List ℕ → Option T} (k : IsLanguage Kept spelling token_of) (most : ℕ) where
   abbrev Is : ℕ → List ℕ → Line T → Type 0
   Is place text line = Sound Kept spelling most place text line
 
-  stopped : (place : ℕ) (text : List ℕ) (e : Option LineFault) → place ≤ most → Stops Kept spelling most place e text → Is place text (record { tokens = []; fault = e })
+  stopped : (place : ℕ) (text : List ℕ) (e : Option LineFault) → place ≤ most → Stops Kept spelling most place e text
+      → Is place text (record { tokens = []; fault = e })
   stopped place text e h s =
       let same : place ≡ place + 0 = omega arith in
       record {
@@ -122,7 +116,8 @@ module _ {T : Type 0} {Kept : T → Type 0} {spelling : T → List ℕ} {token_o
             subst Q (sym (le-ltb place most above)) (stopped place (32 ∷ rest) (Some fault.TooLong) h (full, (rest, refl)))
       ])
 
-  at_end : (place b : ℕ) (rest : List ℕ) (next : List ℕ → Line T) → place ≤ most → b ≡ 10 → Is place (b ∷ rest) (walked (step token_of most place (b ∷ rest)) next)
+  at_end : (place b : ℕ) (rest : List ℕ) (next : List ℕ → Line T) → place ≤ most → b ≡ 10
+      → Is place (b ∷ rest) (walked (step token_of most place (b ∷ rest)) next)
   at_end place b [] next h e =
       let P : ℕ → Type 0 = λ x. Is place (x ∷ []) (walked (step token_of most place (x ∷ [])) next) in
       subst P (sym e) (stopped place (10 ∷ []) None h refl)
@@ -139,8 +134,8 @@ module _ {T : Type 0} {Kept : T → Type 0} {spelling : T → List ℕ} {token_o
   walk_sound (suc n) place (b ∷ rest) all h (inr e) =
       let P : ℕ → Type 0 = λ x. Is place (x ∷ rest) (walked (step token_of most place (x ∷ rest)) (walk token_of most n (place + 1))) in
       let below : place + 1 + n ≡ most + 1 = omega arith in
-      subst P (sym e)
-      (at_space place rest (walk token_of most n (place + 1)) h (λ room. walk_sound n (place + 1) (behind_word rest) below (omega arith) (behind_word_ends rest)))
+      let next = walk token_of most n (place + 1) in
+      subst P (sym e) (at_space place rest next h (λ room. walk_sound n (place + 1) (behind_word rest) below (omega arith) (behind_word_ends rest)))
 
   stops_end : (n : ℕ) (e : Option LineFault) (tail : List ℕ) → Stops Kept spelling most n e tail → Ends tail
   stops_end n None tail s = subst Ends (sym s) (inl refl)
@@ -202,6 +197,8 @@ module _ {T : Type 0} {Kept : T → Type 0} {spelling : T → List ℕ} {token_o
       let further = subst (λ m. Stops Kept spelling most m e tail) count s in
       let ends = fronted_ends spelling ts tail (stops_end _ e tail s) in
       let next = walk token_of most n (place + 1) in
-      let rest = walk_complete ts n (place + 1) e tail below (All-tail Kept t ts h) (omega arith) further in
-      token_again place t ((spelling t ++ fronted_of spelling ts) ++ tail) (fronted_of spelling ts ++ tail) next (record { tokens = ts; fault = e }) (omega arith)
-      (All-head Kept t ts h) ends (append_assoc (spelling t) (fronted_of spelling ts) tail) rest
+      let read = walk_complete ts n (place + 1) e tail below (All-tail Kept t ts h) (omega arith) further in
+      let rest = fronted_of spelling ts ++ tail in
+      let whole = append_assoc (spelling t) (fronted_of spelling ts) tail in
+      let kept = All-head Kept t ts h in
+      token_again place t ((spelling t ++ fronted_of spelling ts) ++ tail) rest next (record { tokens = ts; fault = e }) (omega arith) kept ends whole read

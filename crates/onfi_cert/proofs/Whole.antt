@@ -9,13 +9,12 @@ use Rattle.onfi_cert.specs.declared.fault.CertTextFault.TheVariants as fault
 use Rattle.onfi_cert.specs.declared.fault.LineFault.{LineFault}
 use Rattle.onfi_cert.specs.declared.fault.LineFault.TheVariants as in_line
 use Rattle.onfi_cert.specs.declared.limits.TheConstants.{MOST_TOKENS}
-use Rattle.onfi_cert.specs.Text.{InRange, IsCertificate, header, joined_of, line, line_of, text_of}
-use Rattle.onfi_cert.specs.Word.{NoToken}
-use Rattle.onfi_cert.specs.Reading.{BeginsWithNeither, EndsBy, Holds, HoldsLine, IsFaultOf, Line, NoHeader, Reads, cert_fault, spaced}
+use Rattle.onfi_cert.specs.Text.{InRange, IsCertificate, fronted_of, header, joined_of, line, line_of, text_of}
+use Rattle.onfi_cert.specs.Reading.{BeginsWithNeither, EndsBy, Holds, HoldsLine, IsFaultOf, Line, Reads, cert_fault, led}
 use Rattle.onfi_cert.specs.Reading.IsWrongAfter.{no_token, no_end, goes_on}
-use Rattle.onfi_cert.specs.Ahead.{ahead_of, led, walk}
-use Rattle.onfi_cert.proofs.Fronted.{fronted_of, fronted_line}
-use Rattle.onfi_cert.proofs.Language.{IsLanguage, first_byte, no_token as no_token_spelled, other_front}
+use Rattle.onfi_cert.specs.Ahead.{ahead_of, walk}
+use Rattle.onfi_cert.proofs.Fronted.{fronted_line}
+use Rattle.onfi_cert.proofs.Language.{IsLanguage, first_byte, other_front}
 use Rattle.onfi_cert.proofs.Spellings.{language}
 use Rattle.onfi_cert.proofs.Words.{Ends}
 use Rattle.onfi_cert.proofs.Walking.{Stops, cut, on, bad, walk_sound, walk_complete}
@@ -34,12 +33,6 @@ led_ends (b ∷ []) =
     ]
 led_ends (b ∷ c ∷ rest) = inr refl
 
--- what stands behind no token
-nothing_before : (bytes tail : List ℕ) → 32 ∷ bytes ≡ tail → (tail ≡ 10 ∷ []) ⊎ ((tail ≡ []) ⊎ ((b : ℕ) × ((more : List ℕ) × (tail ≡ 10 ∷ b ∷ more)))) → ⊥
-nothing_before bytes tail e (inl f) = other_front 32 10 bytes [] (λ q. omega arith) (e ∙ f)
-nothing_before bytes tail e (inr (inl f)) = cc
-nothing_before bytes tail e (inr (inr (b, (more, f)))) = other_front 32 10 bytes (b ∷ more) (λ q. omega arith) (e ∙ f)
-
 cut_front : (x : ℕ) (xs ys : List ℕ) → x ∷ xs ≡ x ∷ ys → xs ≡ ys
 cut_front x xs ys e = cc
 
@@ -52,104 +45,50 @@ is_lf (b ∷ []) =
     ]
 is_lf (b ∷ c ∷ rest) = inr (λ e. cc)
 
--- a line that isn't LF alone
-led_by : (bytes front rest : List ℕ) → bytes ≢ 10 ∷ [] → 32 ∷ bytes ≡ front ++ rest → led bytes ≡ front ++ rest
-led_by bytes front rest other e = led_other bytes other ∙ e
-
-module _ {T : Type 0} {Kept : T → Type 0} {spelling : T → List ℕ} {token_of : List ℕ → Option T} {most : ℕ} (k : IsLanguage Kept spelling token_of most) where
-  abbrev fronted : List T → List ℕ
-  fronted ts = fronted_of spelling ts
-
+module _ {T : Type 0} {Kept : T → Type 0} {spelling : T → List ℕ} {token_of : List ℕ → Option T} (k : IsLanguage Kept spelling token_of) (most : ℕ) where
   abbrev joined : List T → List ℕ
   joined ts = joined_of spelling ts
-
-  abbrev StopsAt : ℕ → Option LineFault → List ℕ → Type 0
-  StopsAt n e tail = Stops Kept spelling most n e tail
-
-  abbrev EndsWith : List T → List ℕ → Option LineFault → Type 0
-  EndsWith ts bytes e = EndsBy Kept spelling most ts bytes e
-
-  fronted_spaced : (ts : List T) (more : List ℕ) → fronted ts ++ 32 ∷ more ≡ 32 ∷ (spaced spelling ts ++ more)
-  fronted_spaced [] more = refl
-  fronted_spaced (t ∷ ts) more =
-      append_assoc (32 ∷ spelling t) (fronted ts) (32 ∷ more)
-      ∙ ap (λ x. 32 ∷ (spelling t ++ x)) (fronted_spaced ts more)
-      ∙ ap (λ x. 32 ∷ x) (sym (append_assoc (spelling t) (32 ∷ []) (spaced spelling ts ++ more)))
-      ∙ ap (λ x. 32 ∷ x) (sym (append_assoc (spelling t ++ 32 ∷ []) (spaced spelling ts) more))
 
   -- no line of tokens begins with LF
   not_empty : (t : T) (ts : List T) (more : List ℕ) → Kept t → joined (t ∷ ts) ++ more ≢ 10 ∷ []
   not_empty t [] more h e = first_byte k t more h e
   not_empty t (u ∷ ts) more h e = first_byte k t ((32 ∷ joined (u ∷ ts)) ++ more) h (sym (append_assoc (spelling t) (32 ∷ joined (u ∷ ts)) more) ∙ e)
 
-  not_spaced : (t : T) (ts : List T) (more : List ℕ) → Kept t → spaced spelling (t ∷ ts) ++ more ≢ 10 ∷ []
-  not_spaced t ts more h e =
-      first_byte k t (((32 ∷ []) ++ spaced spelling ts) ++ more) h
-      (sym (ap (λ x. x ++ more) (append_assoc (spelling t) (32 ∷ []) (spaced spelling ts)) ∙ append_assoc (spelling t) ((32 ∷ []) ++ spaced spelling ts) more) ∙ e)
+  -- a whole line, and the same with a space in front of each token
+  to_line : (bytes : List ℕ) (ts : List T) → led bytes ≡ fronted_of spelling ts ++ 10 ∷ [] → bytes ≡ line_of spelling ts
+  to_line bytes ts e = by_lf ts (is_lf bytes) e
+    where
+      by_lf : (us : List T) → (bytes ≡ 10 ∷ []) ⊎ (bytes ≢ 10 ∷ []) → led bytes ≡ fronted_of spelling us ++ 10 ∷ [] → bytes ≡ line_of spelling us
+      by_lf [] (inl f) g = f
+      by_lf [] (inr n) g = absurd (other_front 32 10 bytes [] (λ q. omega arith) (sym (led_other bytes n) ∙ g))
+      by_lf (t ∷ us) (inl f) g = absurd (other_front 10 32 [] ((spelling t ++ fronted_of spelling us) ++ 10 ∷ []) (λ q. omega arith) (sym (ap led f) ∙ g))
+      by_lf (t ∷ us) (inr n) g = cut_front 32 bytes (line_of spelling (t ∷ us)) (sym (led_other bytes n) ∙ g ∙ fronted_line spelling t us (10 ∷ []))
 
-  -- a line that holds nothing but LF
-  empty_ends : (ts : List T) (e : Option LineFault) (tail : List ℕ) → 10 ∷ [] ≡ fronted ts ++ tail → StopsAt (length ts) e tail → EndsWith ts (10 ∷ []) e
-  empty_ends (t ∷ ts) e tail same s = absurd (other_front 10 32 [] ((spelling t ++ fronted ts) ++ tail) (λ q. omega arith) same)
-  empty_ends [] None tail same s = refl
-  empty_ends [] (Some (in_line.BadToken p)) tail same (at, cut e) = cc
-  empty_ends [] (Some (in_line.BadToken p)) tail same (at, on b more e) = cc
-  empty_ends [] (Some (in_line.BadToken p)) tail same (at, bad more e none h) = absurd (other_front 10 32 [] more (λ q. omega arith) (same ∙ e))
-  empty_ends [] (Some in_line.TooLong) tail same s = absurd (let some = k.some in omega (arith, s.0))
+  from_line : (ts : List T) → All Kept ts → led (line_of spelling ts) ≡ fronted_of spelling ts ++ 10 ∷ []
+  from_line [] h = refl
+  from_line (t ∷ ts) h =
+      led_other (line_of spelling (t ∷ ts)) (not_empty t ts (10 ∷ []) (All-head Kept t ts h)) ∙ sym (fronted_line spelling t ts (10 ∷ []))
 
-  behind_tokens : (bytes : List ℕ) (t : T) (ts : List T) (tail rest : List ℕ) → 32 ∷ bytes ≡ fronted (t ∷ ts) ++ tail → tail ≡ rest → bytes ≡ joined (t ∷ ts) ++ rest
-  behind_tokens bytes t ts tail rest e f =
-      cut_front 32 bytes (joined (t ∷ ts) ++ rest) (e ∙ fronted_line spelling t ts tail ∙ ap (λ x. 32 ∷ (joined (t ∷ ts) ++ x)) f)
-
-  behind_space : (bytes : List ℕ) (ts : List T) (tail more : List ℕ) → 32 ∷ bytes ≡ fronted ts ++ tail → tail ≡ 32 ∷ more → bytes ≡ spaced spelling ts ++ more
-  behind_space bytes ts tail more e f =
-      cut_front 32 bytes (spaced spelling ts ++ more) (e ∙ ap (λ x. fronted ts ++ x) f ∙ fronted_spaced ts more)
-
-  other_ends : (bytes : List ℕ) (ts : List T) (e : Option LineFault) (tail : List ℕ) → bytes ≢ 10 ∷ [] → 32 ∷ bytes ≡ fronted ts ++ tail → StopsAt (length ts) e tail
-      → EndsWith ts bytes e
-  other_ends bytes [] None tail other same s = absurd (nothing_before bytes tail same (inl s))
-  other_ends bytes (t ∷ ts) None tail other same s = behind_tokens bytes t ts tail (10 ∷ []) same s
-  other_ends bytes [] (Some (in_line.BadToken p)) tail other same (at, cut e) = absurd (nothing_before bytes tail same (inr (inl e)))
-  other_ends bytes (t ∷ ts) (Some (in_line.BadToken p)) tail other same (at, cut e) =
-      (at, no_end (behind_tokens bytes t ts tail [] same e ∙ append-nil (joined (t ∷ ts))))
-  other_ends bytes [] (Some (in_line.BadToken p)) tail other same (at, on b more e) = absurd (nothing_before bytes tail same (inr (inr (b, (more, e)))))
-  other_ends bytes (t ∷ ts) (Some (in_line.BadToken p)) tail other same (at, on b more e) =
-      (at, goes_on b more (behind_tokens bytes t ts tail (10 ∷ b ∷ more) same e ∙ sym (append_assoc (joined (t ∷ ts)) (10 ∷ []) (b ∷ more))))
-  other_ends bytes ts (Some (in_line.BadToken p)) tail other same (at, bad more e none h) = (at, no_token more (behind_space bytes ts tail more same e) none h other)
-  other_ends bytes ts (Some in_line.TooLong) tail other same s = (s.0, (s.1.0, behind_space bytes ts tail s.1.0 same s.1.1))
+  at_tail : (bytes : List ℕ) (ts : List T) {tail rest : List ℕ} → led bytes ≡ fronted_of spelling ts ++ tail → tail ≡ rest → led bytes ≡ fronted_of spelling ts ++ rest
+  at_tail bytes ts same e = same ∙ ap (λ x. fronted_of spelling ts ++ x) e
 
   -- how a line ends, from how its walk stops
-  ends_by : (bytes : List ℕ) (ts : List T) (e : Option LineFault) (tail : List ℕ) → led bytes ≡ fronted ts ++ tail → StopsAt (length ts) e tail → EndsWith ts bytes e
-  ends_by bytes ts e tail same s =
-      elim (is_lf bytes) [
-        | inl f ↦ let P : List ℕ → Type 0 = λ x. EndsWith ts x e in
-            subst P (sym f) (empty_ends ts e tail (sym (ap led f) ∙ same) s)
-        | inr n ↦ other_ends bytes ts e tail n (sym (led_other bytes n) ∙ same) s
-      ]
-
-  abbrev StopsBy : List T → List ℕ → Option LineFault → Type 0
-  StopsBy ts bytes e = (tail : List ℕ) × (led bytes ≡ fronted ts ++ tail) × StopsAt (length ts) e tail
-
-  joined_by : (t : T) (ts : List T) (bytes rest : List ℕ) → Kept t → bytes ≡ joined (t ∷ ts) ++ rest → led bytes ≡ fronted (t ∷ ts) ++ rest
-  joined_by t ts bytes rest h e =
-      led_by bytes (fronted (t ∷ ts)) rest (λ f. not_empty t ts rest h (sym e ∙ f)) (ap (λ x. 32 ∷ x) e ∙ sym (fronted_line spelling t ts rest))
+  ends_by : (bytes : List ℕ) (ts : List T) (e : Option LineFault) (tail : List ℕ) → led bytes ≡ fronted_of spelling ts ++ tail
+      → Stops Kept spelling most (length ts) e tail → EndsBy Kept spelling most ts bytes e
+  ends_by bytes ts None tail same s = to_line bytes ts (at_tail bytes ts same s)
+  ends_by bytes ts (Some (in_line.BadToken p)) tail same (at, cut e) = (at, no_end (at_tail bytes ts same e ∙ append-nil (fronted_of spelling ts)))
+  ends_by bytes ts (Some (in_line.BadToken p)) tail same (at, on b more e) = (at, goes_on b more (at_tail bytes ts same e))
+  ends_by bytes ts (Some (in_line.BadToken p)) tail same (at, bad more e none h) = (at, no_token more (at_tail bytes ts same e) none h)
+  ends_by bytes ts (Some in_line.TooLong) tail same s = (s.0, (s.1.0, at_tail bytes ts same s.1.1))
 
   -- how its walk stops, from how a line ends
-  stops_by : (ts : List T) (bytes : List ℕ) (e : Option LineFault) → All Kept ts → EndsWith ts bytes e → StopsBy ts bytes e
-  stops_by [] bytes None h same = (10 ∷ [], ap led same, refl)
-  stops_by (t ∷ ts) bytes None h same = (10 ∷ [], joined_by t ts bytes (10 ∷ []) (All-head Kept t ts h) same, refl)
-  stops_by ts bytes (Some (in_line.BadToken p)) h (at, no_token rest same none room other) =
-      (32 ∷ rest, led_by bytes (fronted ts) (32 ∷ rest) other (ap (λ x. 32 ∷ x) same ∙ sym (fronted_spaced ts rest)), (at, bad rest refl none room))
-  stops_by [] bytes (Some (in_line.BadToken p)) h (at, no_end same) = (32 ∷ [], ap led same, (at, bad [] refl (no_token_spelled k [] k.no_empty) k.some))
-  stops_by (t ∷ ts) bytes (Some (in_line.BadToken p)) h (at, no_end same) =
-      ([], joined_by t ts bytes [] (All-head Kept t ts h) (same ∙ sym (append-nil (joined (t ∷ ts)))), (at, cut refl))
-  stops_by [] bytes (Some (in_line.BadToken p)) h (at, goes_on b more same) =
-      (32 ∷ 10 ∷ b ∷ more, ap led same, (at, bad (10 ∷ b ∷ more) refl (no_token_spelled k [] k.no_empty) k.some))
-  stops_by (t ∷ ts) bytes (Some (in_line.BadToken p)) h (at, goes_on b more same) =
-      (10 ∷ b ∷ more, joined_by t ts bytes (10 ∷ b ∷ more) (All-head Kept t ts h) (same ∙ append_assoc (joined (t ∷ ts)) (10 ∷ []) (b ∷ more)), (at, on b more refl))
-  stops_by [] bytes (Some in_line.TooLong) h s = absurd (let some = k.some in omega (arith, s.0))
-  stops_by (t ∷ ts) bytes (Some in_line.TooLong) h s =
-      let other : bytes ≢ 10 ∷ [] = λ f. not_spaced t ts s.1.0 (All-head Kept t ts h) (sym s.1.1 ∙ f) in
-      (32 ∷ s.1.0, led_by bytes (fronted (t ∷ ts)) (32 ∷ s.1.0) other (ap (λ x. 32 ∷ x) s.1.1 ∙ sym (fronted_spaced (t ∷ ts) s.1.0)), (s.0, (s.1.0, refl)))
+  stops_by : (ts : List T) (bytes : List ℕ) (e : Option LineFault) → All Kept ts → EndsBy Kept spelling most ts bytes e
+      → (tail : List ℕ) × (led bytes ≡ fronted_of spelling ts ++ tail) × Stops Kept spelling most (length ts) e tail
+  stops_by ts bytes None h same = (10 ∷ [], ap led same ∙ from_line ts h, refl)
+  stops_by ts bytes (Some (in_line.BadToken p)) h (at, no_token rest same none room) = (32 ∷ rest, same, (at, bad rest refl none room))
+  stops_by ts bytes (Some (in_line.BadToken p)) h (at, no_end same) = ([], same ∙ sym (append-nil (fronted_of spelling ts)), (at, cut refl))
+  stops_by ts bytes (Some (in_line.BadToken p)) h (at, goes_on b more same) = (10 ∷ b ∷ more, same, (at, on b more refl))
+  stops_by ts bytes (Some in_line.TooLong) h s = (32 ∷ s.1.0, s.1.1, (s.0, (s.1.0, refl)))
 
   all_ahead : (bytes : List ℕ) → ahead_of token_of most 0 bytes ≡ walk token_of most (most + 1) 0 (led bytes)
   unfolding ahead_of
@@ -159,7 +98,7 @@ module _ {T : Type 0} {Kept : T → Type 0} {spelling : T → List ℕ} {token_o
   pub start_holds : (head : Bool → List ℕ) (strict : Bool) (text bytes : List ℕ) → text ≡ head strict ++ bytes
       → HoldsLine head Kept spelling most text strict (ahead_of token_of most 0 bytes)
   start_holds head strict text bytes e =
-      let s = walk_sound k (most + 1) 0 (led bytes) (omega arith) (omega arith) (led_ends bytes) in
+      let s = walk_sound k most (most + 1) 0 (led bytes) (omega arith) (omega arith) (led_ends bytes) in
       let l = walk token_of most (most + 1) 0 (led bytes) in
       let count : 0 + length l.tokens ≡ length l.tokens = omega arith in
       subst (HoldsLine head Kept spelling most text strict) (sym (all_ahead bytes)) (record {
@@ -167,17 +106,18 @@ module _ {T : Type 0} {Kept : T → Type 0} {spelling : T → List ℕ} {token_o
         few = omega (arith, s.few);
         bytes = bytes;
         spelled = e;
-        ends = ends_by bytes l.tokens l.fault s.tail s.spelled (subst (λ n. StopsAt n l.fault s.tail) count s.stops);
+        ends = ends_by bytes l.tokens l.fault s.tail s.spelled (subst (λ n. Stops Kept spelling most n l.fault s.tail) count s.stops);
       })
 
-  held : (a : Line T) (bytes : List ℕ) → All Kept a.tokens → length a.tokens ≤ most → EndsWith a.tokens bytes a.fault → ahead_of token_of most 0 bytes ≡ a
+  held : (a : Line T) (bytes : List ℕ) → All Kept a.tokens → length a.tokens ≤ most → EndsBy Kept spelling most a.tokens bytes a.fault
+      → ahead_of token_of most 0 bytes ≡ a
   held a bytes h few ends =
       let ts = a.tokens in
       let s = stops_by ts bytes a.fault h ends in
       let count : length ts ≡ 0 + length ts = omega arith in
       all_ahead bytes
       ∙ ap (walk token_of most (most + 1) 0) s.1
-      ∙ walk_complete k ts (most + 1) 0 a.fault s.0 (omega arith) h (omega arith) (subst (λ n. StopsAt n a.fault s.0) count s.2)
+      ∙ walk_complete k most ts (most + 1) 0 a.fault s.0 (omega arith) h (omega arith) (subst (λ n. Stops Kept spelling most n a.fault s.0) count s.2)
 
   -- a text holds one thing, where one header isn't the beginning of the other
   pub holds_once : (head : Bool → List ℕ) (text : List ℕ) (s r : Bool) (a b : Line T)
@@ -194,7 +134,7 @@ same_header true false x y e = absurd (let differ : 50 ≡ 49 = ap (λ l. get_or
 same_header false true x y e = absurd (let differ : 49 ≡ 50 = ap (λ l. get_or l 9 0) e in omega arith)
 
 one_line : (text : List ℕ) (s r : Bool) (a b : Line Token) → Holds text s a → Holds text r b → (s ≡ r) × (a ≡ b)
-one_line text s r a b h j = holds_once language header text s r a b same_header h j
+one_line text s r a b h j = holds_once language MOST_TOKENS header text s r a b same_header h j
 
 abbrev whole : List Token → Line Token
 whole tokens = record { tokens = tokens; fault = None }
@@ -208,7 +148,8 @@ one_certificate text s r ts us c d =
     (same.0, ap (λ (a : Line Token). a.tokens) same.1)
 
 -- what the text holds, where this is its fault
-fault_holds : (text : List ℕ) (strict : Bool) (a : Line Token) (e : CertTextFault) → Holds text strict a → IsFaultOf text e → option_map cert_fault a.fault ≡ Some e
+fault_holds : (text : List ℕ) (strict : Bool) (a : Line Token) (e : CertTextFault) → Holds text strict a → IsFaultOf text e
+    → option_map cert_fault a.fault ≡ Some e
 fault_holds text strict a e h (inl (at, none)) = absurd (none strict h.bytes h.spelled)
 fault_holds text strict a e h (inr (r, b, j, f)) = ap (λ (x : Line Token). option_map cert_fault x.fault) (one_line text strict r a b h j).1 ∙ f
 
@@ -225,7 +166,8 @@ one_fault text e f (inl (at, none)) (inl (there, _)) = at ∙ sym there
 one_fault text e f (inl (at, none)) (inr (r, b, j, g)) = absurd (none r j.bytes j.spelled)
 one_fault text e f (inr (r, b, j, g)) k = same_some _ _ (sym g ∙ fault_holds text r b f j k)
 
-pub neither : (plain strict text : List ℕ) → ((rest : List ℕ) → text ≢ plain ++ rest) → ((rest : List ℕ) → text ≢ strict ++ rest) → BeginsWithNeither (λ option. cond option strict plain) text
+pub neither : (plain strict text : List ℕ) → ((rest : List ℕ) → text ≢ plain ++ rest) → ((rest : List ℕ) → text ≢ strict ++ rest)
+    → BeginsWithNeither (λ option. cond option strict plain) text
 neither plain strict text one other true = other
 neither plain strict text one other false = one
 
@@ -235,7 +177,8 @@ read_again strict tokens h few (Ok r) c =
     let same = one_certificate (text_of strict tokens) r.0 strict r.1 tokens c (record { in_range = h; few = few; spelled = refl }) in
     inl (ap₂ (λ s ts. Ok (s, ts)) same.0 same.1)
 read_again strict tokens h few (Err e) (inl m) = inr (ap Err m)
-read_again strict tokens h few (Err e) (inr f) = absurd (no_fault (text_of strict tokens) strict tokens e (record { in_range = h; few = few; spelled = refl }) f)
+read_again strict tokens h few (Err e) (inr f) =
+    absurd (no_fault (text_of strict tokens) strict tokens e (record { in_range = h; few = few; spelled = refl }) f)
 
 -- an answer of `read` to the text of these tokens
 pub again : (text : List ℕ) {X : Type 0} (items : X → List Token) (r : Result (Bool × X) CertTextFault) → IfOk r (λ p. IsCertificate text p.0 (items p.1))

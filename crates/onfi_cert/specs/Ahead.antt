@@ -2,7 +2,7 @@
 use Rattle.std.specs.Prelude.{ℕ, zero, suc, ◌+◌, ◌-◌, ◌≤◌, ◌==◌, ⊤, List, [], ◌∷◌, Option, Some, None, Result, Ok, Err, drop, nat_lt, if◌then◌else◌}
 use Rattle.onfi_cert.specs.declared.fault.LineFault.{LineFault}
 use Rattle.onfi_cert.specs.declared.fault.LineFault.TheVariants as fault
-use Rattle.onfi_cert.specs.Reading.{Line}
+use Rattle.onfi_cert.specs.Reading.{Line, led}
 use Rattle.onfi_cert.specs.Word.{behind_word, word}
 
 -- the first of these tokens, else how they end
@@ -43,12 +43,6 @@ step token_of most place (b ∷ []) =
 step token_of most place (b ∷ c ∷ rest) =
     if b == 32 then (if nat_lt place most then token_in token_of place (c ∷ rest) else Err fault.TooLong)
     else Err (fault.BadToken place)
-
--- a line of tokens with a space in front of the first too
-abbrev pub led : List ℕ → List ℕ
-led [] = 32 ∷ []
-led (b ∷ []) = if b == 10 then b ∷ [] else 32 ∷ b ∷ []
-led (b ∷ c ∷ rest) = 32 ∷ b ∷ c ∷ rest
 
 -- the bytes that stand behind `place` tokens, with a space in front of each token
 abbrev pub from : ℕ → List ℕ → List ℕ

@@ -4,7 +4,6 @@ use Rattle.std.specs.Prelude.{ℕ, ◌+◌, ◌-◌, ◌*◌, ◌==◌, ◌&&◌
 use Rattle.std.specs.List.{before_first, position_or_len}
 use Rattle.onfi_cert.specs.declared.token.Token.{Token}
 use Rattle.onfi_cert.specs.declared.token.Token.TheVariants as tk
-use Rattle.onfi_cert.specs.Text.{InRange, spelling}
 
 -- a space or LF
 abbrev pub is_separator : ℕ → Bool

@@ -1,7 +1,8 @@
 //! From a line to its next token.
 ghost use Rattle.std.specs.Prelude.{◌≡◌, ◌<◌, ◌∷◌, IfOk, IfErr, IsSome, option_map};
 ghost use Rattle.std.specs.Result.{result_map_both};
-ghost use Rattle.onfi_cert.specs.Ahead.{IsUpTo, from, led, step};
+ghost use Rattle.onfi_cert.specs.Ahead.{IsUpTo, from, step};
+ghost use Rattle.onfi_cert.specs.Reading.{led};
 
 use crate::fault::LineFault;
 use crate::spelled::Spelled;

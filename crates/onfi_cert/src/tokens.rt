@@ -1,5 +1,5 @@
 //! A reader of the text of a certificate.
-ghost use Rattle.std.specs.Prelude.{◌≡◌, ◌≤◌, None, Some, IfOk, IfErr, OnOk, option_map};
+ghost use Rattle.std.specs.Prelude.{◌≡◌, None, Some, IfOk, IfErr, OnOk, option_map};
 ghost use Rattle.std.specs.Result.{result_map_both};
 ghost use Rattle.onfi_cert.specs.Ahead.{IsUpTo, later, next_of};
 ghost use Rattle.onfi_cert.specs.Reading.{Holds, NoHeader, cert_fault};

@@ -1,5 +1,5 @@
 -- Which words are tokens.
-use Rattle.std.proofs.Common.{rules, ◌≡◌, ◌<◌, ◌≤◌, ℕ, zero, suc, ◌+◌, ◌^◌, List, [], ◌∷◌, ◌++◌, Bool, true, false, not, cond, length, get_or, take, drop, refl, sym, ap, ◌∙◌, arith, append_assoc, length-append}
+use Rattle.std.proofs.Common.{rules, ◌≡◌, ◌<◌, ℕ, zero, suc, ◌+◌, ◌^◌, List, [], ◌∷◌, ◌++◌, Bool, true, false, not, cond, length, get_or, take, drop, refl, sym, ap, ◌∙◌, arith, append_assoc, length-append}
 use Rattle.std.specs.Prelude.{IfSome, Option, Some, None, ◌==◌, ◌&&◌, nat_lt, option_map, option_and_then, position, decimal}
 use Rattle.std.specs.Char.{is_ascii_digit}
 use Rattle.std.specs.List.{list_all, position_or_len, before_first, after_first}
@@ -217,5 +217,5 @@ token_of_sound (c ∷ more) =
     (λ _. either _ (c == 82) _ _ (at_letter Spells c 82 (again_token more) more (again_sound more))
     (λ _. mapped (Spells (c ∷ more)) of_plain (plain_token_of (c ∷ more)) (λ t e. plain_spells t (c ∷ more) (found_is (PlainSpells (c ∷ more)) (plain_token_of (c ∷ more)) t e (plain_token_of_sound (c ∷ more))))))
 
-pub language : (most : ℕ) → 1 ≤ most → IsLanguage InRange spelling token_of most
-language most some = record { plain = plain; again = spelling_again; sound = token_of_sound; no_empty = refl; some = some }
+pub language : IsLanguage InRange spelling token_of
+language = record { plain = plain; again = spelling_again; sound = token_of_sound; no_empty = refl }

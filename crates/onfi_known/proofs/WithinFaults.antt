@@ -64,7 +64,8 @@ within_memory_alone all p s below tokens (Known f) legal le accepted is = ap Kno
 pub within_memory_alone_of_text : (all : List Want) (p : Problem) (s : Schedule) (below : ℕ) (text : List ℕ) (tokens : List Token) (fault : WithinTextFault) → IsCertificate text p.rules.strict tokens → Legal p s → below ≤ finish p s → ProvesTokens all tokens p below → IsWithinTextFault all p s below text fault → fault ≡ in_text.Known (Cert Memory)
 within_memory_alone_of_text all p s below text tokens in_text.Above certificate legal le accepted (others, other, is) = let sooner = is.1 in absurd (omega arith)
 within_memory_alone_of_text all p s below text tokens (in_text.Known Header) certificate legal le accepted is = absurd (no_certificate text p.rules.strict tokens is certificate)
-within_memory_alone_of_text all p s below text tokens (in_text.Known (BadToken place)) certificate legal le accepted is = absurd (no_bad_token text place p.rules.strict tokens is certificate)
+within_memory_alone_of_text all p s below text tokens (in_text.Known (BadToken place)) certificate legal le accepted is =
+    absurd (no_bad_token text place p.rules.strict tokens is certificate)
 within_memory_alone_of_text all p s below text tokens (in_text.Known Option) certificate legal le accepted (others, strict, other, differs) = absurd (differs (one_certificate text strict p.rules.strict others tokens other certificate).0)
 within_memory_alone_of_text all p s below text tokens (in_text.Known (Cert f)) certificate legal le accepted (others, other, is) =
     let same = one_certificate text p.rules.strict p.rules.strict others tokens other certificate in

@@ -100,11 +100,13 @@ IsKnownFault all p s tokens Illegal = Legal p s → ⊥
 IsKnownFault all p s tokens Memory = Legal p s
 IsKnownFault all p s tokens fault = Legal p s × (ProvesTokens all tokens p (finish p s) → ⊥) × IsTokenFault all p (finish p s) tokens [] fault
 
--- no token stands at this place behind the text's header, or the text goes wrong behind so many; one without tokens has none at place 0
+-- a line has no token at this place, or goes wrong behind so many; one without tokens has none at place 0
+abbrev pub IsWrongAt : ℕ → Line Token → Type 0
+IsWrongAt place line = (line.fault ≡ Some (of.BadToken place)) ⊎ ((line.fault ≡ None) × (line.tokens ≡ []) × (place ≡ 0))
+
+-- .. the line behind the text's header
 abbrev pub HasNoToken : List ℕ → ℕ → Type 0
-HasNoToken text place =
-    (strict : Bool) × (line : Line Token) × Holds text strict line
-    × ((line.fault ≡ Some (of.BadToken place)) ⊎ ((line.fault ≡ None) × (line.tokens ≡ []) × (place ≡ 0)))
+HasNoToken text place = (strict : Bool) × (line : Line Token) × Holds text strict line × IsWrongAt place line
 
 -- why the text doesn't show it: it is no certificate, has the other option, or its tokens don't show it
 abbrev pub IsTextFault : List Want → Problem → Schedule → List ℕ → KnownTextFault → Type 0

@@ -1,5 +1,5 @@
 //! From a word to its token.
-ghost use Rattle.std.specs.Prelude.{◌≡◌, ◌^◌, ◌<◌, ◌==◌, IfSome, option_map, position, length};
+ghost use Rattle.std.specs.Prelude.{◌≡◌, ◌^◌, ◌<◌, ◌==◌, IfSome, position, length};
 ghost use Rattle.onfi_known.specs.Word.{has_leading_zero, number, of_plain, again_token, window_token, token_of};
 
 use crate::token::{MOST_KNOWN, Token};

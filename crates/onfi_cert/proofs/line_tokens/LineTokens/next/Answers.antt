@@ -6,29 +6,19 @@ pub overflow_add-self : goal.overflow_add-self
 overflow_add-self g c = let fits = g.met.T.Spelled.fits in search rules
 
 pub returns-in-Ok-Some-clause-given : goal.returns-in-Ok-Some-clause-given
-returns-in-Ok-Some-clause-given g c =
-    let read = rw c.in-Ok-Some.field-0-is at c.in-Ok-Some.ensures.exact in
-    (gives_token g.T.Spelled.token_of g.T.Spelled.MOST c.self.inside.place c.self.inside.rest.now _ _ c.args.self.now c.self.invariant read c.self.view_is).0
+returns-in-Ok-Some-clause-given g c = (gives_token _ _ _ _ c.self.invariant (rw c.in-Ok-Some.field-0-is at c.in-Ok-Some.ensures.exact) c.self.view_is).0
 
 pub returns-in-Ok-Some-clause-left : goal.returns-in-Ok-Some-clause-left
-returns-in-Ok-Some-clause-left g c =
-    let read = rw c.in-Ok-Some.field-0-is at c.in-Ok-Some.ensures.exact in
-    (gives_token g.T.Spelled.token_of g.T.Spelled.MOST c.self.inside.place c.self.inside.rest.now _ _ c.args.self.now c.self.invariant read c.self.view_is).1
+returns-in-Ok-Some-clause-left g c = (gives_token _ _ _ _ c.self.invariant (rw c.in-Ok-Some.field-0-is at c.in-Ok-Some.ensures.exact) c.self.view_is).1
 
 pub returns-in-Ok-None-clause-given : goal.returns-in-Ok-None-clause-given
-returns-in-Ok-None-clause-given g c =
-    let read = rw c.in-Ok-None.field-0-is at c.in-Ok-None.ensures.exact in
-    (gives_end g.T.Spelled.token_of g.T.Spelled.MOST c.self.inside.place c.self.inside.rest.now c.args.self.now c.self.invariant read c.self.view_is).0
+returns-in-Ok-None-clause-given g c = (gives_end _ _ _ _ c.self.invariant (rw c.in-Ok-None.field-0-is at c.in-Ok-None.ensures.exact) c.self.view_is).0
 
 pub returns-in-Ok-None-clause-left : goal.returns-in-Ok-None-clause-left
-returns-in-Ok-None-clause-left g c =
-    let read = rw c.in-Ok-None.field-0-is at c.in-Ok-None.ensures.exact in
-    (gives_end g.T.Spelled.token_of g.T.Spelled.MOST c.self.inside.place c.self.inside.rest.now c.args.self.now c.self.invariant read c.self.view_is).1
+returns-in-Ok-None-clause-left g c = (gives_end _ _ _ _ c.self.invariant (rw c.in-Ok-None.field-0-is at c.in-Ok-None.ensures.exact) c.self.view_is).1
 
 pub returns-in-Err-clause-given : goal.returns-in-Err-clause-given
-returns-in-Err-clause-given g c =
-    (gives_fault g.T.Spelled.token_of g.T.Spelled.MOST c.self.inside.place c.self.inside.rest.now _ c.args.self.now c.self.invariant c.in-Err.ensures.exact c.self.view_is).0
+returns-in-Err-clause-given g c = (gives_fault _ _ _ _ c.self.invariant c.in-Err.ensures.exact c.self.view_is).0
 
 pub returns-in-Err-clause-left : goal.returns-in-Err-clause-left
-returns-in-Err-clause-left g c =
-    (gives_fault g.T.Spelled.token_of g.T.Spelled.MOST c.self.inside.place c.self.inside.rest.now _ c.args.self.now c.self.invariant c.in-Err.ensures.exact c.self.view_is).1
+returns-in-Err-clause-left g c = (gives_fault _ _ _ _ c.self.invariant c.in-Err.ensures.exact c.self.view_is).1
