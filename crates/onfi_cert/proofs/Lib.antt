@@ -1,5 +1,6 @@
 pub mod Ahead
 pub mod Fronted
+pub mod Language
 pub mod Put
 pub mod Spellings
 pub mod Walking

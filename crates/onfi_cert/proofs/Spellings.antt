@@ -1,12 +1,13 @@
 -- Which words are tokens.
-use Rattle.std.proofs.Common.{◌≡◌, ◌<◌, ◌≤◌, ℕ, ◌+◌, ◌-◌, ◌*◌, ◌/◌, ◌%◌, List, [], ◌∷◌, ◌++◌, Bool, true, false, cond, refl, sym, ap, ◌∙◌, subst, arith, inl, inr}
+use Rattle.std.proofs.Common.{◌≡◌, ◌<◌, ◌≤◌, ℕ, ◌+◌, ◌-◌, ◌*◌, ◌/◌, ◌%◌, List, [], ◌∷◌, Bool, true, false, cond, refl, sym, ap, subst, arith, inl, inr}
 use Rattle.std.specs.Prelude.{IfSome, Option, Some, None, ◌==◌, ◌&&◌, nat_le}
 use Rattle.std.proofs.lemmas.Bool.{cases_lt, lt-ltb, le-ltb, le-leb, leb-true, eqb-true, ne_eqb, and_parts}
 use Rattle.onfi_cert.specs.declared.token.Token.{Token}
 use Rattle.onfi_cert.specs.declared.token.Token.TheVariants as tk
 use Rattle.onfi_cert.specs.Text.{InRange, digit, number, spelling}
-use Rattle.onfi_cert.specs.Word.{is_separator, is_within, letter_token, lun_at, lun_token, narrow, numbered, token_of, wide, word, behind_word, NoToken}
-use Rattle.onfi_cert.proofs.Words.{Ends, Plain, word-append, behind_word-append, word-behind_word}
+use Rattle.onfi_cert.specs.Word.{is_separator, is_within, letter_token, lun_at, lun_token, narrow, numbered, token_of, wide}
+use Rattle.onfi_cert.proofs.Language.{IsLanguage}
+use Rattle.onfi_cert.proofs.Words.{Plain}
 
 within : (low b high : ℕ) → low ≤ b → b ≤ high → is_within low b high ≡ true
 within low b high h k = rw (le-leb low b h, le-leb b high k)
@@ -65,10 +66,6 @@ spelling_again tk.End h = refl
 
 abbrev pub Spells : List ℕ → Token → Type 0
 Spells w t = InRange t × (spelling t ≡ w)
-
--- what is so of whatever is found is so of what was found
-pub found_is : {T : Type 0} (P : T → Type 0) (o : Option T) (t : T) → o ≡ Some t → IfSome o P → P t
-found_is P o t e h = subst (λ x. IfSome x P) e h
 
 -- what a test chooses is so where each of the two is
 pub either : {T : Type 0} (P : T → Type 0) (b : Bool) (x y : Option T) → (b ≡ true → IfSome x P) → (b ≡ false → IfSome y P) → IfSome (cond b x y) P
@@ -146,28 +143,5 @@ token_of_sound (c ∷ d ∷ []) = numbered_sound c d
 token_of_sound (c ∷ d ∷ e ∷ []) = either _ (c == 66) _ _ (at_letter Spells c 66 (wide d e) (d ∷ e ∷ []) (wide_sound d e)) (λ _. tt)
 token_of_sound (c ∷ d ∷ e ∷ f ∷ more) = tt
 
-pub no_token : (w : List ℕ) → token_of w ≡ None → NoToken w
-no_token w e t h spelled =
-    let again = spelling_again t h in
-    let found : token_of w ≡ Some t = ap token_of (sym spelled) ∙ again in
-    cc
-
-pub no_token_of : (w : List ℕ) → NoToken w → token_of w ≡ None
-no_token_of w h = known (token_of w) refl
-  where
-    known : (o : Option Token) → token_of w ≡ o → token_of w ≡ None
-    known None e = e
-    known (Some t) e = let s = found_is (Spells w) (token_of w) t e (token_of_sound w) in absurd (h t s.0 s.1)
-
--- the word in front is this token's
-pub token_in_front : (t : Token) (text rest : List ℕ) → InRange t → Ends rest → text ≡ spelling t ++ rest → (token_of (word text) ≡ Some t) × (behind_word text ≡ rest)
-token_in_front t text rest h ends e = (
-  ap (λ x. token_of (word x)) e ∙ ap token_of (word-append (spelling t) rest (plain t) ends) ∙ spelling_again t h,
-  ap behind_word e ∙ behind_word-append (spelling t) rest (plain t) ends,
-)
-
--- so the text begins with its spelling
-pub front_token : (t : Token) (text : List ℕ) → token_of (word text) ≡ Some t → InRange t × (text ≡ spelling t ++ behind_word text)
-front_token t text e =
-    let s = found_is (Spells (word text)) (token_of (word text)) t e (token_of_sound (word text)) in
-    (s.0, sym (word-behind_word text) ∙ ap (λ w. w ++ behind_word text) (sym s.1))
+pub language : IsLanguage InRange spelling token_of
+language = record { plain = λ t h. plain t; again = spelling_again; sound = token_of_sound; no_empty = refl }

@@ -1,59 +1,23 @@
 -- A whole text: its header, and the line behind it.
-use Rattle.std.proofs.Common.{◌≡◌, ◌⊎◌, ◌≤◌, inl, inr, ℕ, ◌+◌, List, [], ◌∷◌, ◌++◌, Bool, true, false, cond, length, drop, get_or, refl, sym, ap, ◌∙◌, subst, arith, append_assoc, append-nil, ap₂}
-use Rattle.std.specs.Prelude.{Option, Some, None, Result, Ok, Err, All, ◌≢◌, IfOk, IfErr, MatchResult}
+use Rattle.std.proofs.Common.{◌≡◌, ◌⊎◌, ◌≤◌, inl, inr, ℕ, ◌+◌, ◌-◌, List, [], ◌∷◌, ◌++◌, Bool, true, false, cond, length, drop, get_or, refl, sym, ap, ◌∙◌, subst, arith, append_assoc, append-nil, ap₂}
+use Rattle.std.specs.Prelude.{Option, Some, None, Result, Ok, Err, All, ◌≢◌, IfOk, IfErr, MatchResult, option_map}
 use Rattle.std.proofs.lemmas.Bool.{cases_eq, ne_eqb, eq-eqb}
+use Rattle.std.proofs.lemmas.List.Elements.{All-head}
 use Rattle.onfi_cert.specs.declared.token.Token.{Token}
-use Rattle.onfi_cert.specs.declared.token.Token.TheVariants as tk
 use Rattle.onfi_cert.specs.declared.fault.CertTextFault.{CertTextFault}
 use Rattle.onfi_cert.specs.declared.fault.CertTextFault.TheVariants as fault
+use Rattle.onfi_cert.specs.declared.fault.LineFault.{LineFault}
+use Rattle.onfi_cert.specs.declared.fault.LineFault.TheVariants as in_line
 use Rattle.onfi_cert.specs.declared.limits.TheConstants.{MOST_TOKENS}
-use Rattle.onfi_cert.specs.Text.{InRange, IsCertificate, digit, header, joined, line, number, spelling, text_of}
-use Rattle.onfi_cert.specs.Word.{NoToken}
-use Rattle.onfi_cert.specs.Reading.{Ahead, BeginsWithNeither, EndsBy, Holds, IsFaultOf, NoHeader, Reads, spaced}
+use Rattle.onfi_cert.specs.Text.{InRange, IsCertificate, fronted_of, header, joined_of, line, line_of, text_of}
+use Rattle.onfi_cert.specs.Reading.{BeginsWithNeither, EndsBy, Holds, HoldsLine, IsFaultOf, Line, Reads, cert_fault, led}
 use Rattle.onfi_cert.specs.Reading.IsWrongAfter.{no_token, no_end, goes_on}
-use Rattle.onfi_cert.specs.Ahead.{ahead_of, led, walk}
+use Rattle.onfi_cert.specs.Ahead.{ahead_of, walk}
 use Rattle.onfi_cert.proofs.Fronted.{fronted_line}
+use Rattle.onfi_cert.proofs.Language.{IsLanguage, first_byte, other_front}
+use Rattle.onfi_cert.proofs.Spellings.{language}
 use Rattle.onfi_cert.proofs.Words.{Ends}
-use Rattle.onfi_cert.proofs.Walking.{Stops, cut, on, bad, fronted, walk_sound, walk_complete}
-
-fronted_spaced : (ts : List Token) (more : List ℕ) → fronted ts ++ 32 ∷ more ≡ 32 ∷ (spaced ts ++ more)
-fronted_spaced [] more = refl
-fronted_spaced (t ∷ ts) more =
-    append_assoc (32 ∷ spelling t) (fronted ts) (32 ∷ more)
-    ∙ ap (λ x. 32 ∷ (spelling t ++ x)) (fronted_spaced ts more)
-    ∙ ap (λ x. 32 ∷ x) (sym (append_assoc (spelling t) (32 ∷ []) (spaced ts ++ more)))
-    ∙ ap (λ x. 32 ∷ x) (sym (append_assoc (spelling t ++ 32 ∷ []) (spaced ts) more))
-
-other_front : (a b : ℕ) (x y : List ℕ) → a ≢ b → a ∷ x ≢ b ∷ y
-other_front a b x y other e = other (ap (λ l. get_or l 0 0) e)
-
-first_byte : (t : Token) (rest : List ℕ) → spelling t ++ rest ≢ 10 ∷ []
-first_byte (tk.Branch n) rest = other_front 66 10 (number n ++ rest) [] (λ q. omega arith)
-first_byte tk.Bus rest = other_front 85 10 rest [] (λ q. omega arith)
-first_byte tk.Lead rest = other_front 76 10 rest [] (λ q. omega arith)
-first_byte tk.Trail rest = other_front 84 10 rest [] (λ q. omega arith)
-first_byte (tk.Die l) rest = other_front 68 10 (digit l ∷ rest) [] (λ q. omega arith)
-first_byte (tk.Yield l) rest = other_front 89 10 (digit l ∷ rest) [] (λ q. omega arith)
-first_byte tk.End rest = other_front 88 10 rest [] (λ q. omega arith)
-
--- no line of tokens begins with LF
-not_empty : (t : Token) (ts : List Token) (more : List ℕ) → joined (t ∷ ts) ++ more ≢ 10 ∷ []
-not_empty t [] more e = first_byte t more e
-not_empty t (u ∷ ts) more e = first_byte t ((32 ∷ joined (u ∷ ts)) ++ more) (sym (append_assoc (spelling t) (32 ∷ joined (u ∷ ts)) more) ∙ e)
-
-not_spaced : (t : Token) (ts : List Token) (more : List ℕ) → spaced (t ∷ ts) ++ more ≢ 10 ∷ []
-not_spaced t ts more e =
-    first_byte t (((32 ∷ []) ++ spaced ts) ++ more)
-    (sym (ap (λ x. x ++ more) (append_assoc (spelling t) (32 ∷ []) (spaced ts)) ∙ append_assoc (spelling t) ((32 ∷ []) ++ spaced ts) more) ∙ e)
-
-no_word : NoToken []
-no_word (tk.Branch n) h e = cc
-no_word tk.Bus h e = cc
-no_word tk.Lead h e = cc
-no_word tk.Trail h e = cc
-no_word (tk.Die l) h e = cc
-no_word (tk.Yield l) h e = cc
-no_word tk.End h e = cc
+use Rattle.onfi_cert.proofs.Walking.{Stops, cut, on, bad, walk_sound, walk_complete}
 
 led_other : (bytes : List ℕ) → bytes ≢ 10 ∷ [] → led bytes ≡ 32 ∷ bytes
 led_other [] h = refl
@@ -69,47 +33,8 @@ led_ends (b ∷ []) =
     ]
 led_ends (b ∷ c ∷ rest) = inr refl
 
--- a line that holds nothing but LF
-empty_ends : (ts : List Token) (e : Option CertTextFault) (tail : List ℕ) → 10 ∷ [] ≡ fronted ts ++ tail → Stops (length ts) e tail → EndsBy ts (10 ∷ []) e
-empty_ends (t ∷ ts) e tail same s = absurd (other_front 10 32 [] ((spelling t ++ fronted ts) ++ tail) (λ q. omega arith) same)
-empty_ends [] None tail same s = refl
-empty_ends [] (Some (fault.BadToken p)) tail same (at, cut e) = cc
-empty_ends [] (Some (fault.BadToken p)) tail same (at, on b more e) = cc
-empty_ends [] (Some (fault.BadToken p)) tail same (at, bad more e none h) = absurd (other_front 10 32 [] more (λ q. omega arith) (same ∙ e))
-empty_ends [] (Some fault.TooLong) tail same s = absurd (omega (arith, s.0))
-empty_ends [] (Some fault.Header) tail same s = s
-empty_ends [] (Some fault.Memory) tail same s = s
-
--- what stands behind no token
-nothing_before : (bytes tail : List ℕ) → 32 ∷ bytes ≡ tail → (tail ≡ 10 ∷ []) ⊎ ((tail ≡ []) ⊎ ((b : ℕ) × ((more : List ℕ) × (tail ≡ 10 ∷ b ∷ more)))) → ⊥
-nothing_before bytes tail e (inl f) = other_front 32 10 bytes [] (λ q. omega arith) (e ∙ f)
-nothing_before bytes tail e (inr (inl f)) = cc
-nothing_before bytes tail e (inr (inr (b, (more, f)))) = other_front 32 10 bytes (b ∷ more) (λ q. omega arith) (e ∙ f)
-
 cut_front : (x : ℕ) (xs ys : List ℕ) → x ∷ xs ≡ x ∷ ys → xs ≡ ys
 cut_front x xs ys e = cc
-
-behind_tokens : (bytes : List ℕ) (t : Token) (ts : List Token) (tail rest : List ℕ) → 32 ∷ bytes ≡ fronted (t ∷ ts) ++ tail → tail ≡ rest → bytes ≡ joined (t ∷ ts) ++ rest
-behind_tokens bytes t ts tail rest e f =
-    cut_front 32 bytes (joined (t ∷ ts) ++ rest) (e ∙ fronted_line spelling t ts tail ∙ ap (λ x. 32 ∷ (joined (t ∷ ts) ++ x)) f)
-
-behind_space : (bytes : List ℕ) (ts : List Token) (tail more : List ℕ) → 32 ∷ bytes ≡ fronted ts ++ tail → tail ≡ 32 ∷ more → bytes ≡ spaced ts ++ more
-behind_space bytes ts tail more e f =
-    cut_front 32 bytes (spaced ts ++ more) (e ∙ ap (λ x. fronted ts ++ x) f ∙ fronted_spaced ts more)
-
-other_ends : (bytes : List ℕ) (ts : List Token) (e : Option CertTextFault) (tail : List ℕ) → bytes ≢ 10 ∷ [] → 32 ∷ bytes ≡ fronted ts ++ tail → Stops (length ts) e tail → EndsBy ts bytes e
-other_ends bytes [] None tail other same s = absurd (nothing_before bytes tail same (inl s))
-other_ends bytes (t ∷ ts) None tail other same s = behind_tokens bytes t ts tail (10 ∷ []) same s
-other_ends bytes [] (Some (fault.BadToken p)) tail other same (at, cut e) = absurd (nothing_before bytes tail same (inr (inl e)))
-other_ends bytes (t ∷ ts) (Some (fault.BadToken p)) tail other same (at, cut e) =
-    (at, no_end (behind_tokens bytes t ts tail [] same e ∙ append-nil (joined (t ∷ ts))))
-other_ends bytes [] (Some (fault.BadToken p)) tail other same (at, on b more e) = absurd (nothing_before bytes tail same (inr (inr (b, (more, e)))))
-other_ends bytes (t ∷ ts) (Some (fault.BadToken p)) tail other same (at, on b more e) =
-    (at, goes_on b more (behind_tokens bytes t ts tail (10 ∷ b ∷ more) same e ∙ sym (append_assoc (joined (t ∷ ts)) (10 ∷ []) (b ∷ more))))
-other_ends bytes ts (Some (fault.BadToken p)) tail other same (at, bad more e none h) = (at, no_token more (behind_space bytes ts tail more same e) none h other)
-other_ends bytes ts (Some fault.TooLong) tail other same s = (s.0, (s.1.0, behind_space bytes ts tail s.1.0 same s.1.1))
-other_ends bytes ts (Some fault.Header) tail other same s = s
-other_ends bytes ts (Some fault.Memory) tail other same s = s
 
 is_lf : (bytes : List ℕ) → (bytes ≡ 10 ∷ []) ⊎ (bytes ≢ 10 ∷ [])
 is_lf [] = inr (λ e. cc)
@@ -120,82 +45,87 @@ is_lf (b ∷ []) =
     ]
 is_lf (b ∷ c ∷ rest) = inr (λ e. cc)
 
--- how a line ends, from how its walk stops
-pub ends_by : (bytes : List ℕ) (ts : List Token) (e : Option CertTextFault) (tail : List ℕ) → led bytes ≡ fronted ts ++ tail → Stops (length ts) e tail → EndsBy ts bytes e
-ends_by bytes ts e tail same s =
-    elim (is_lf bytes) [
-      | inl f ↦ let P : List ℕ → Type 0 = λ x. EndsBy ts x e in
-          subst P (sym f) (empty_ends ts e tail (sym (ap led f) ∙ same) s)
-      | inr n ↦ other_ends bytes ts e tail n (sym (led_other bytes n) ∙ same) s
-    ]
+module _ {T : Type 0} {Kept : T → Type 0} {spelling : T → List ℕ} {token_of : List ℕ → Option T} (k : IsLanguage Kept spelling token_of) (most : ℕ) where
+  abbrev joined : List T → List ℕ
+  joined ts = joined_of spelling ts
 
-pub record StopsBy (ts : List Token) (bytes : List ℕ) (e : Option CertTextFault) : Type 0 where
-  pub tail : List ℕ
-  pub spelled : led bytes ≡ fronted ts ++ tail
-  pub stops : Stops (length ts) e tail
+  -- no line of tokens begins with LF
+  not_empty : (t : T) (ts : List T) (more : List ℕ) → Kept t → joined (t ∷ ts) ++ more ≢ 10 ∷ []
+  not_empty t [] more h e = first_byte k t more h e
+  not_empty t (u ∷ ts) more h e = first_byte k t ((32 ∷ joined (u ∷ ts)) ++ more) h (sym (append_assoc (spelling t) (32 ∷ joined (u ∷ ts)) more) ∙ e)
 
--- a line that isn't LF alone
-led_by : (bytes front rest : List ℕ) → bytes ≢ 10 ∷ [] → 32 ∷ bytes ≡ front ++ rest → led bytes ≡ front ++ rest
-led_by bytes front rest other e = led_other bytes other ∙ e
+  -- a whole line, and the same with a space in front of each token
+  to_line : (bytes : List ℕ) (ts : List T) → led bytes ≡ fronted_of spelling ts ++ 10 ∷ [] → bytes ≡ line_of spelling ts
+  to_line bytes ts e = by_lf ts (is_lf bytes) e
+    where
+      by_lf : (us : List T) → (bytes ≡ 10 ∷ []) ⊎ (bytes ≢ 10 ∷ []) → led bytes ≡ fronted_of spelling us ++ 10 ∷ [] → bytes ≡ line_of spelling us
+      by_lf [] (inl f) g = f
+      by_lf [] (inr n) g = absurd (other_front 32 10 bytes [] (λ q. omega arith) (sym (led_other bytes n) ∙ g))
+      by_lf (t ∷ us) (inl f) g = absurd (other_front 10 32 [] ((spelling t ++ fronted_of spelling us) ++ 10 ∷ []) (λ q. omega arith) (sym (ap led f) ∙ g))
+      by_lf (t ∷ us) (inr n) g = cut_front 32 bytes (line_of spelling (t ∷ us)) (sym (led_other bytes n) ∙ g ∙ fronted_line spelling t us (10 ∷ []))
 
-joined_by : (t : Token) (ts : List Token) (bytes rest : List ℕ) → bytes ≡ joined (t ∷ ts) ++ rest → led bytes ≡ fronted (t ∷ ts) ++ rest
-joined_by t ts bytes rest e =
-    led_by bytes (fronted (t ∷ ts)) rest (λ f. not_empty t ts rest (sym e ∙ f)) (ap (λ x. 32 ∷ x) e ∙ sym (fronted_line spelling t ts rest))
+  from_line : (ts : List T) → All Kept ts → led (line_of spelling ts) ≡ fronted_of spelling ts ++ 10 ∷ []
+  from_line [] h = refl
+  from_line (t ∷ ts) h =
+      led_other (line_of spelling (t ∷ ts)) (not_empty t ts (10 ∷ []) (All-head Kept t ts h)) ∙ sym (fronted_line spelling t ts (10 ∷ []))
 
--- how its walk stops, from how a line ends
-pub stops_by : (ts : List Token) (bytes : List ℕ) (e : Option CertTextFault) → EndsBy ts bytes e → StopsBy ts bytes e
-stops_by [] bytes None same = record { tail = 10 ∷ []; spelled = ap led same; stops = refl }
-stops_by (t ∷ ts) bytes None same = record { tail = 10 ∷ []; spelled = joined_by t ts bytes (10 ∷ []) same; stops = refl }
-stops_by ts bytes (Some (fault.BadToken p)) (at, no_token rest same none h other) = record {
-  tail = 32 ∷ rest;
-  spelled = led_by bytes (fronted ts) (32 ∷ rest) other (ap (λ x. 32 ∷ x) same ∙ sym (fronted_spaced ts rest));
-  stops = (at, bad rest refl none h);
-}
-stops_by [] bytes (Some (fault.BadToken p)) (at, no_end same) = record { tail = 32 ∷ []; spelled = ap led same; stops = (at, bad [] refl no_word (omega arith)) }
-stops_by (t ∷ ts) bytes (Some (fault.BadToken p)) (at, no_end same) = record {
-  tail = [];
-  spelled = joined_by t ts bytes [] (same ∙ sym (append-nil (joined (t ∷ ts))));
-  stops = (at, cut refl);
-}
-stops_by [] bytes (Some (fault.BadToken p)) (at, goes_on b more same) =
-    record { tail = 32 ∷ 10 ∷ b ∷ more; spelled = ap led same; stops = (at, bad (10 ∷ b ∷ more) refl no_word (omega arith)) }
-stops_by (t ∷ ts) bytes (Some (fault.BadToken p)) (at, goes_on b more same) = record {
-  tail = 10 ∷ b ∷ more;
-  spelled = joined_by t ts bytes (10 ∷ b ∷ more) (same ∙ append_assoc (joined (t ∷ ts)) (10 ∷ []) (b ∷ more));
-  stops = (at, on b more refl);
-}
-stops_by [] bytes (Some fault.TooLong) s = absurd (omega (arith, s.0))
-stops_by (t ∷ ts) bytes (Some fault.TooLong) s = record {
-  tail = 32 ∷ s.1.0;
-  spelled = led_by bytes (fronted (t ∷ ts)) (32 ∷ s.1.0) (λ f. not_spaced t ts s.1.0 (sym s.1.1 ∙ f)) (ap (λ x. 32 ∷ x) s.1.1 ∙ sym (fronted_spaced (t ∷ ts) s.1.0));
-  stops = (s.0, (s.1.0, refl));
-}
-stops_by ts bytes (Some fault.Header) s = absurd s
-stops_by ts bytes (Some fault.Memory) s = absurd s
+  at_tail : (bytes : List ℕ) (ts : List T) {tail rest : List ℕ} → led bytes ≡ fronted_of spelling ts ++ tail → tail ≡ rest → led bytes ≡ fronted_of spelling ts ++ rest
+  at_tail bytes ts same e = same ∙ ap (λ x. fronted_of spelling ts ++ x) e
 
--- what stands behind a header is what the text holds
-pub start_holds : (strict : Bool) (text bytes : List ℕ) → text ≡ header strict ++ bytes → Holds text (ahead_of strict 0 bytes)
-unfolding ahead_of
-start_holds strict text bytes e =
-    let s = walk_sound (MOST_TOKENS + 1) 0 (led bytes) (omega arith) (omega arith) (led_ends bytes) in
-    let l = walk (MOST_TOKENS + 1) 0 (led bytes) in
-    let count : 0 + length l.0 ≡ length l.0 = omega arith in
-    record {
-      in_range = s.in_range;
-      few = omega (arith, s.few);
-      bytes = bytes;
-      spelled = e;
-      ends = ends_by bytes l.0 l.1 s.tail s.spelled (subst (λ n. Stops n l.1 s.tail) count s.stops);
-    }
+  -- how a line ends, from how its walk stops
+  ends_by : (bytes : List ℕ) (ts : List T) (e : Option LineFault) (tail : List ℕ) → led bytes ≡ fronted_of spelling ts ++ tail
+      → Stops Kept spelling most (length ts) e tail → EndsBy Kept spelling most ts bytes e
+  ends_by bytes ts None tail same s = to_line bytes ts (at_tail bytes ts same s)
+  ends_by bytes ts (Some (in_line.BadToken p)) tail same (at, cut e) = (at, no_end (at_tail bytes ts same e ∙ append-nil (fronted_of spelling ts)))
+  ends_by bytes ts (Some (in_line.BadToken p)) tail same (at, on b more e) = (at, goes_on b more (at_tail bytes ts same e))
+  ends_by bytes ts (Some (in_line.BadToken p)) tail same (at, bad more e none h) = (at, no_token more (at_tail bytes ts same e) none h)
+  ends_by bytes ts (Some in_line.TooLong) tail same s = (s.0, (s.1.0, at_tail bytes ts same s.1.1))
 
-held : (strict : Bool) (ts : List Token) (e : Option CertTextFault) (bytes : List ℕ) → All InRange ts → length ts ≤ MOST_TOKENS → EndsBy ts bytes e
-    → ahead_of strict 0 bytes ≡ record { strict = strict; tokens = ts; fault = e }
-unfolding ahead_of
-held strict ts e bytes h few ends =
-    let s = stops_by ts bytes e ends in
-    let count : length ts ≡ 0 + length ts = omega arith in
-    let read = walk_complete ts (MOST_TOKENS + 1) 0 e s.tail (omega arith) h (omega arith) (subst (λ n. Stops n e s.tail) count s.stops) in
-    ap (λ (p : List Token × Option CertTextFault). record { strict = strict; tokens = p.0; fault = p.1 }) (ap (walk (MOST_TOKENS + 1) 0) s.spelled ∙ read)
+  -- how its walk stops, from how a line ends
+  stops_by : (ts : List T) (bytes : List ℕ) (e : Option LineFault) → All Kept ts → EndsBy Kept spelling most ts bytes e
+      → (tail : List ℕ) × (led bytes ≡ fronted_of spelling ts ++ tail) × Stops Kept spelling most (length ts) e tail
+  stops_by ts bytes None h same = (10 ∷ [], ap led same ∙ from_line ts h, refl)
+  stops_by ts bytes (Some (in_line.BadToken p)) h (at, no_token rest same none room) = (32 ∷ rest, same, (at, bad rest refl none room))
+  stops_by ts bytes (Some (in_line.BadToken p)) h (at, no_end same) = ([], same ∙ sym (append-nil (fronted_of spelling ts)), (at, cut refl))
+  stops_by ts bytes (Some (in_line.BadToken p)) h (at, goes_on b more same) = (10 ∷ b ∷ more, same, (at, on b more refl))
+  stops_by ts bytes (Some in_line.TooLong) h s = (32 ∷ s.1.0, s.1.1, (s.0, (s.1.0, refl)))
+
+  all_ahead : (bytes : List ℕ) → ahead_of token_of most 0 bytes ≡ walk token_of most (most + 1) 0 (led bytes)
+  unfolding ahead_of
+  all_ahead bytes = let room : most + 1 - 0 ≡ most + 1 = omega arith in ap (λ n. walk token_of most n 0 (led bytes)) room
+
+  -- what stands behind a header is what the text holds
+  pub start_holds : (head : Bool → List ℕ) (strict : Bool) (text bytes : List ℕ) → text ≡ head strict ++ bytes
+      → HoldsLine head Kept spelling most text strict (ahead_of token_of most 0 bytes)
+  start_holds head strict text bytes e =
+      let s = walk_sound k most (most + 1) 0 (led bytes) (omega arith) (omega arith) (led_ends bytes) in
+      let l = walk token_of most (most + 1) 0 (led bytes) in
+      let count : 0 + length l.tokens ≡ length l.tokens = omega arith in
+      subst (HoldsLine head Kept spelling most text strict) (sym (all_ahead bytes)) (record {
+        in_range = s.in_range;
+        few = omega (arith, s.few);
+        bytes = bytes;
+        spelled = e;
+        ends = ends_by bytes l.tokens l.fault s.tail s.spelled (subst (λ n. Stops Kept spelling most n l.fault s.tail) count s.stops);
+      })
+
+  held : (a : Line T) (bytes : List ℕ) → All Kept a.tokens → length a.tokens ≤ most → EndsBy Kept spelling most a.tokens bytes a.fault
+      → ahead_of token_of most 0 bytes ≡ a
+  held a bytes h few ends =
+      let ts = a.tokens in
+      let s = stops_by ts bytes a.fault h ends in
+      let count : length ts ≡ 0 + length ts = omega arith in
+      all_ahead bytes
+      ∙ ap (walk token_of most (most + 1) 0) s.1
+      ∙ walk_complete k most ts (most + 1) 0 a.fault s.0 (omega arith) h (omega arith) (subst (λ n. Stops Kept spelling most n a.fault s.0) count s.2)
+
+  -- a text holds one thing, where one header isn't the beginning of the other
+  pub holds_once : (head : Bool → List ℕ) (text : List ℕ) (s r : Bool) (a b : Line T)
+      → ((x y : Bool) (xs ys : List ℕ) → head x ++ xs ≡ head y ++ ys → (x ≡ y) × (xs ≡ ys))
+      → HoldsLine head Kept spelling most text s a → HoldsLine head Kept spelling most text r b → (s ≡ r) × (a ≡ b)
+  holds_once head text s r a b apart h j =
+      let same = apart s r h.bytes j.bytes (sym h.spelled ∙ j.spelled) in
+      (same.0, sym (held a h.bytes h.in_range h.few h.ends) ∙ ap (ahead_of token_of most 0) same.1 ∙ held b j.bytes j.in_range j.few j.ends)
 
 same_header : (s r : Bool) (x y : List ℕ) → header s ++ x ≡ header r ++ y → (s ≡ r) × (x ≡ y)
 same_header true true x y e = (refl, ap (drop 18) e)
@@ -203,61 +133,41 @@ same_header false false x y e = (refl, ap (drop 11) e)
 same_header true false x y e = absurd (let differ : 50 ≡ 49 = ap (λ l. get_or l 9 0) e in omega arith)
 same_header false true x y e = absurd (let differ : 49 ≡ 50 = ap (λ l. get_or l 9 0) e in omega arith)
 
--- a text holds one thing
-pub holds_once : (text : List ℕ) (a b : Ahead) → Holds text a → Holds text b → a ≡ b
-holds_once text a b h k =
-    let same = same_header a.strict b.strict h.bytes k.bytes (sym h.spelled ∙ k.spelled) in
-    sym (held a.strict a.tokens a.fault h.bytes h.in_range h.few h.ends)
-    ∙ ap₂ (λ s x. ahead_of s 0 x) same.0 same.1
-    ∙ held b.strict b.tokens b.fault k.bytes k.in_range k.few k.ends
+one_line : (text : List ℕ) (s r : Bool) (a b : Line Token) → Holds text s a → Holds text r b → (s ≡ r) × (a ≡ b)
+one_line text s r a b h j = holds_once language MOST_TOKENS header text s r a b same_header h j
 
-abbrev pub whole : Bool → List Token → Ahead
-whole strict tokens = record { strict = strict; tokens = tokens; fault = None }
+abbrev whole : List Token → Line Token
+whole tokens = record { tokens = tokens; fault = None }
 
-pub certificate_holds : (text : List ℕ) (strict : Bool) (tokens : List Token) → IsCertificate text strict tokens → Holds text (whole strict tokens)
+certificate_holds : (text : List ℕ) (strict : Bool) (tokens : List Token) → IsCertificate text strict tokens → Holds text strict (whole tokens)
 certificate_holds text strict tokens c = record { in_range = c.in_range; few = c.few; bytes = line tokens; spelled = c.spelled; ends = refl }
 
 pub one_certificate : (text : List ℕ) (s r : Bool) (ts us : List Token) → IsCertificate text s ts → IsCertificate text r us → (s ≡ r) × (ts ≡ us)
 one_certificate text s r ts us c d =
-    let same = holds_once text (whole s ts) (whole r us) (certificate_holds text s ts c) (certificate_holds text r us d) in
-    (ap (λ (a : Ahead). a.strict) same, ap (λ (a : Ahead). a.tokens) same)
+    let same = one_line text s r (whole ts) (whole us) (certificate_holds text s ts c) (certificate_holds text r us d) in
+    (same.0, ap (λ (a : Line Token). a.tokens) same.1)
 
 -- what the text holds, where this is its fault
-fault_holds : (text : List ℕ) (a : Ahead) (e : CertTextFault) → Holds text a → IsFaultOf text e → a.fault ≡ Some e
-fault_holds text a fault.Header h none = absurd (none a.strict h.bytes h.spelled)
-fault_holds text a (fault.BadToken p) h f = ap (λ (b : Ahead). b.fault) (holds_once text a f.0 h f.1.0) ∙ f.1.1
-fault_holds text a fault.TooLong h f = ap (λ (b : Ahead). b.fault) (holds_once text a f.0 h f.1.0) ∙ f.1.1
-fault_holds text a fault.Memory h f = ap (λ (b : Ahead). b.fault) (holds_once text a f.0 h f.1.0) ∙ f.1.1
+fault_holds : (text : List ℕ) (strict : Bool) (a : Line Token) (e : CertTextFault) → Holds text strict a → IsFaultOf text e
+    → option_map cert_fault a.fault ≡ Some e
+fault_holds text strict a e h (inl (at, none)) = absurd (none strict h.bytes h.spelled)
+fault_holds text strict a e h (inr (r, b, j, f)) = ap (λ (x : Line Token). option_map cert_fault x.fault) (one_line text strict r a b h j).1 ∙ f
 
 pub no_fault : (text : List ℕ) (strict : Bool) (tokens : List Token) (e : CertTextFault) → IsCertificate text strict tokens → IsFaultOf text e → ⊥
 no_fault text strict tokens e c f =
-    let known = fault_holds text (whole strict tokens) e (certificate_holds text strict tokens c) f in
+    let known = fault_holds text strict (whole tokens) e (certificate_holds text strict tokens c) f in
     absurd (let differ : None ≡ Some e = known in cc)
-
--- a fault that stands behind a header
-pub fault_of : (text : List ℕ) (a : Ahead) (e : CertTextFault) → Holds text a → a.fault ≡ Some e → IsFaultOf text e
-fault_of text a fault.Header h e = absurd (subst (EndsBy a.tokens h.bytes) e h.ends)
-fault_of text a (fault.BadToken p) h e = (a, (h, e))
-fault_of text a fault.TooLong h e = (a, (h, e))
-fault_of text a fault.Memory h e = (a, (h, e))
-
--- the header, or what stands behind it
-one_header : (text : List ℕ) (f : CertTextFault) → NoHeader text → IsFaultOf text f → fault.Header ≡ f
-one_header text fault.Header none k = refl
-one_header text (fault.BadToken p) none k = absurd (none k.0.strict k.1.0.bytes k.1.0.spelled)
-one_header text fault.TooLong none k = absurd (none k.0.strict k.1.0.bytes k.1.0.spelled)
-one_header text fault.Memory none k = absurd (none k.0.strict k.1.0.bytes k.1.0.spelled)
 
 same_some : (e f : CertTextFault) → Some e ≡ Some f → e ≡ f
 same_some e f h = cc
 
 pub one_fault : (text : List ℕ) (e f : CertTextFault) → IsFaultOf text e → IsFaultOf text f → e ≡ f
-one_fault text fault.Header f none k = one_header text f none k
-one_fault text (fault.BadToken p) f h k = same_some _ _ (sym h.1.1 ∙ fault_holds text h.0 f h.1.0 k)
-one_fault text fault.TooLong f h k = same_some _ _ (sym h.1.1 ∙ fault_holds text h.0 f h.1.0 k)
-one_fault text fault.Memory f h k = same_some _ _ (sym h.1.1 ∙ fault_holds text h.0 f h.1.0 k)
+one_fault text e f (inl (at, none)) (inl (there, _)) = at ∙ sym there
+one_fault text e f (inl (at, none)) (inr (r, b, j, g)) = absurd (none r j.bytes j.spelled)
+one_fault text e f (inr (r, b, j, g)) k = same_some _ _ (sym g ∙ fault_holds text r b f j k)
 
-pub neither : (plain strict text : List ℕ) → ((rest : List ℕ) → text ≢ plain ++ rest) → ((rest : List ℕ) → text ≢ strict ++ rest) → BeginsWithNeither (λ option. cond option strict plain) text
+pub neither : (plain strict text : List ℕ) → ((rest : List ℕ) → text ≢ plain ++ rest) → ((rest : List ℕ) → text ≢ strict ++ rest)
+    → BeginsWithNeither (λ option. cond option strict plain) text
 neither plain strict text one other true = other
 neither plain strict text one other false = one
 
@@ -267,7 +177,8 @@ read_again strict tokens h few (Ok r) c =
     let same = one_certificate (text_of strict tokens) r.0 strict r.1 tokens c (record { in_range = h; few = few; spelled = refl }) in
     inl (ap₂ (λ s ts. Ok (s, ts)) same.0 same.1)
 read_again strict tokens h few (Err e) (inl m) = inr (ap Err m)
-read_again strict tokens h few (Err e) (inr f) = absurd (no_fault (text_of strict tokens) strict tokens e (record { in_range = h; few = few; spelled = refl }) f)
+read_again strict tokens h few (Err e) (inr f) =
+    absurd (no_fault (text_of strict tokens) strict tokens e (record { in_range = h; few = few; spelled = refl }) f)
 
 -- an answer of `read` to the text of these tokens
 pub again : (text : List ℕ) {X : Type 0} (items : X → List Token) (r : Result (Bool × X) CertTextFault) → IfOk r (λ p. IsCertificate text p.0 (items p.1))

@@ -1,6 +1,6 @@
 -- The one text of a list of tokens.
 use Rattle.std.specs.Prelude.{ℕ, ◌+◌, ◌/◌, ◌%◌, ◌≤◌, ◌<◌, ◌≡◌, List, [], ◌∷◌, ◌++◌, ⊤, Bool, All, map, length, nat_lt, codes, if◌then◌else◌}
-use Rattle.std.specs.List.{join_with_byte}
+use Rattle.std.specs.List.{flat_map, join_with_byte}
 use Rattle.onfi_cert.specs.declared.token.Token.{Token}
 use Rattle.onfi_cert.specs.declared.token.Token.TheVariants as tk
 use Rattle.onfi_cert.specs.declared.limits.TheConstants.{MOST_TOKENS}
@@ -37,7 +37,11 @@ spelling tk.End = codes "X"
 abbrev pub joined_of : {T : Type 0} → (T → List ℕ) → List T → List ℕ
 joined_of spelling tokens = join_with_byte 32 (map spelling tokens)
 
--- .. and LF behind them
+-- .. with a space in front of each
+abbrev pub fronted_of : {T : Type 0} → (T → List ℕ) → List T → List ℕ
+fronted_of spelling tokens = flat_map (λ t. 32 ∷ spelling t) tokens
+
+-- .. joined, and LF behind them
 abbrev pub line_of : {T : Type 0} → (T → List ℕ) → List T → List ℕ
 line_of spelling tokens = joined_of spelling tokens ++ 10 ∷ []
 

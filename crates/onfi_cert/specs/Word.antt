@@ -4,7 +4,6 @@ use Rattle.std.specs.Prelude.{ℕ, ◌+◌, ◌-◌, ◌*◌, ◌==◌, ◌&&◌
 use Rattle.std.specs.List.{before_first, position_or_len}
 use Rattle.onfi_cert.specs.declared.token.Token.{Token}
 use Rattle.onfi_cert.specs.declared.token.Token.TheVariants as tk
-use Rattle.onfi_cert.specs.Text.{InRange, spelling}
 
 -- a space or LF
 abbrev pub is_separator : ℕ → Bool
@@ -18,9 +17,9 @@ word text = before_first is_separator text
 abbrev pub behind_word : List ℕ → List ℕ
 behind_word text = drop (position_or_len is_separator text) text
 
--- no token has this spelling
-abbrev pub NoToken : List ℕ → Type 0
-NoToken bytes = (token : Token) → InRange token → spelling token ≢ bytes
+-- no token of a kind has this spelling
+abbrev pub NoToken : {T : Type 0} → (T → Type 0) → (T → List ℕ) → List ℕ → Type 0
+NoToken {T} Kept spelling bytes = (token : T) → Kept token → spelling token ≢ bytes
 
 abbrev pub is_within : ℕ → ℕ → ℕ → Bool
 is_within low b high = nat_le low b && nat_le b high

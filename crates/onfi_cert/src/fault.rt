@@ -19,3 +19,13 @@ pub enum CertTextFault {
     #[error("out of memory")]
     Memory,
 }
+
+/// Why the bytes behind a header are no line of tokens of a kind.
+#[derive(Clone, Copy)]
+pub enum LineFault {
+    /// No token stands at this place, counted from 0; or so many good tokens stand there and the line does not end
+    /// with one LF behind them.
+    BadToken(usize),
+    /// A space stands behind the last token that a line may have.
+    TooLong,
+}

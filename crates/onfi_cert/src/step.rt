@@ -1,57 +1,61 @@
-//! From a text to its next token.
-ghost use Rattle.std.specs.Prelude.{◌≡◌, ◌<◌, IfOk, IsSome, option_map};
+//! From a line to its next token.
+ghost use Rattle.std.specs.Prelude.{◌≡◌, ◌<◌, ◌∷◌, IfOk, IfErr, IsSome, option_map};
 ghost use Rattle.std.specs.Result.{result_map_both};
-ghost use Rattle.onfi_cert.specs.Ahead.{from, led, step, token_in};
+ghost use Rattle.onfi_cert.specs.Ahead.{IsUpTo, from, step};
+ghost use Rattle.onfi_cert.specs.Reading.{led};
 
-use crate::fault::CertTextFault;
-use crate::limits::MOST_TOKENS;
-use crate::token::Token;
-use crate::word::{cut_word, token_of};
+use crate::fault::LineFault;
+use crate::spelled::Spelled;
+use crate::word::cut_word;
 
-/// The token in front of a text, and what stands behind it.
+/// The token behind `place` others, behind the space in front of it, and what stands behind it.
 // Inlined, so that the rest of the text stays in registers: a text is read twice as fast.
 #[inline(always)]
-fn token_in(place: u32, text: &[u8]) -> Result<Option<(Token, &[u8])>, CertTextFault>
-    ensures { result_map_both (option_map (λ p. (p.0, p.1.now))) (λ e. e) result ≡ token_in place text.now }
+fn token_in<T: Spelled>(place: usize, text: &[u8]) -> Result<Option<(T, &[u8])>, LineFault>
+    ensures exact { result_map_both (option_map (λ p. (p.0, p.1.now))) (λ e. e) result ≡ step T.token_of T.MOST place (32 ∷ text.now) }
+    ensures room { IfOk result (λ found. IsSome found → place < T.MOST) }
+    ensures place { IfErr result (IsUpTo place) }
 {
+    if place >= T::MOST {
+        return Err(LineFault::TooLong);
+    }
     let (word, rest) = cut_word(text);
-    match token_of(word) {
+    match T::token_of(word) {
         Some(token) => Ok(Some((token, rest))),
-        None => Err(CertTextFault::BadToken(place)),
+        None => Err(LineFault::BadToken(place)),
     }
 }
 
 /// The first token of a line.
-fn first(line: &[u8]) -> Result<Option<(Token, &[u8])>, CertTextFault>
-    ensures { result_map_both (option_map (λ p. (p.0, p.1.now))) (λ e. e) result ≡ step 0 (led line.now) }
+fn first<T: Spelled>(line: &[u8]) -> Result<Option<(T, &[u8])>, LineFault>
+    ensures exact { result_map_both (option_map (λ p. (p.0, p.1.now))) (λ e. e) result ≡ step T.token_of T.MOST 0 (led line.now) }
+    ensures room { IfOk result (λ found. IsSome found → 0 < T.MOST) }
+    ensures place { IfErr result (IsUpTo 0) }
 {
-    match line {
-        [b'\n'] => Ok(None),
-        _ => token_in(0, line),
+    if let [b'\n'] = line {
+        return Ok(None);
     }
+    token_in(0, line)
 }
 
-/// The token behind `place` others, where the text goes on with the space between them.
-fn following(place: u32, rest: &[u8]) -> Result<Option<(Token, &[u8])>, CertTextFault>
-    ensures exact { result_map_both (option_map (λ p. (p.0, p.1.now))) (λ e. e) result ≡ step place rest.now }
-    ensures room { IfOk result (λ found. IsSome found → place < MOST_TOKENS) }
+/// The token behind `place` others, where the line goes on with the space between them.
+fn following<T: Spelled>(place: usize, rest: &[u8]) -> Result<Option<(T, &[u8])>, LineFault>
+    ensures exact { result_map_both (option_map (λ p. (p.0, p.1.now))) (λ e. e) result ≡ step T.token_of T.MOST place rest.now }
+    ensures room { IfOk result (λ found. IsSome found → place < T.MOST) }
+    ensures place { IfErr result (IsUpTo place) }
 {
     match rest {
         [b'\n'] => Ok(None),
-        [b' ', more @ ..] => {
-            if place >= MOST_TOKENS {
-                return Err(CertTextFault::TooLong);
-            }
-            token_in(place, more)
-        }
-        _ => Err(CertTextFault::BadToken(place)),
+        [b' ', more @ ..] => token_in(place, more),
+        _ => Err(LineFault::BadToken(place)),
     }
 }
 
-/// The token behind `place` others and what stands behind it, or None at the end of the text.
-pub(crate) fn step(place: u32, rest: &[u8]) -> Result<Option<(Token, &[u8])>, CertTextFault>
-    ensures exact { result_map_both (option_map (λ p. (p.0, p.1.now))) (λ e. e) result ≡ step place (from place rest.now) }
-    ensures room { IfOk result (λ found. IsSome found → place < MOST_TOKENS) }
+/// The token behind `place` others and what stands behind it, or None at the end of the line.
+pub(crate) fn step<T: Spelled>(place: usize, rest: &[u8]) -> Result<Option<(T, &[u8])>, LineFault>
+    ensures exact { result_map_both (option_map (λ p. (p.0, p.1.now))) (λ e. e) result ≡ step T.token_of T.MOST place (from place rest.now) }
+    ensures room { IfOk result (λ found. IsSome found → place < T.MOST) }
+    ensures place { IfErr result (IsUpTo place) }
 {
     if place == 0 {
         first(rest)

@@ -1,37 +1,34 @@
 //! A reader of the text of a certificate.
-ghost use Rattle.std.specs.Prelude.{◌≡◌, None, Some, IfOk, IfErr, OnOk};
-ghost use Rattle.onfi_cert.specs.Ahead.{later, next_of};
-ghost use Rattle.onfi_cert.specs.Reading.{Holds, NoHeader};
+ghost use Rattle.std.specs.Prelude.{◌≡◌, None, Some, IfOk, IfErr, OnOk, option_map};
+ghost use Rattle.std.specs.Result.{result_map_both};
+ghost use Rattle.onfi_cert.specs.Ahead.{IsUpTo, later, next_of};
+ghost use Rattle.onfi_cert.specs.Reading.{Holds, NoHeader, cert_fault};
 
-use crate::fault::CertTextFault;
+use crate::fault::{CertTextFault, LineFault};
 use crate::header::header_of;
+use crate::limits::MOST_TOKENS;
+use crate::line_tokens::LineTokens;
 use crate::source::TokenSource;
-use crate::step::step;
 use crate::token::Token;
-use std::marker::Model;
 
 /// A reader that gives the tokens of a text one by one, without memory.
-///
-/// Contracts see what is still ahead: the option of the header, the good tokens, and the end or the fault behind them.
 #[derive(Drop)]
 pub struct Tokens<'a> {
-    strict: bool,
-    place: u32,
-    /// What stands behind the tokens that were given: the space in front of the next one, or LF.
-    rest: &'a [u8],
+    /// The option of the header.
+    pub strict: bool,
+    /// What is ahead: the good tokens, and the end or the fault behind them.
+    pub line: LineTokens<'a, Token>,
 }
 
-impl<'a> Model for Tokens<'a> {
-    ghost use Rattle.std.specs.Prelude.{◌≤◌};
-    ghost use Rattle.onfi_cert.specs.Reading.{Ahead};
-    ghost use Rattle.onfi_cert.specs.Ahead.{ahead_of};
-    ghost use Rattle.onfi_cert.specs.declared.limits.TheConstants.{MOST_TOKENS};
-
-    ghost Value = { Ahead };
-
-    ghost view = { λ t. ahead_of t.strict t.place t.rest.now };
-
-    ghost invariant = { λ t. t.place ≤ MOST_TOKENS };
+// The fault of a text, from that of the line behind its header.
+fn cert_fault(fault: LineFault) -> CertTextFault
+    requires { IsUpTo MOST_TOKENS fault }
+    ensures { result ≡ cert_fault fault }
+{
+    match fault {
+        LineFault::BadToken(place) => CertTextFault::BadToken(place as u32),
+        LineFault::TooLong => CertTextFault::TooLong,
+    }
 }
 
 impl<'a> Tokens<'a> {
@@ -40,14 +37,13 @@ impl<'a> Tokens<'a> {
     /// # Errors
     /// `Header` exactly where the text begins with neither header line. Faults behind the header are told by `next`.
     pub fn new(text: &'a [u8]) -> Result<Tokens<'a>, CertTextFault>
-        ensures ok { IfOk result (λ tokens. Holds text.now tokens) }
+        ensures ok { IfOk result (λ tokens. Holds text.now tokens.strict tokens.line) }
         ensures err { IfErr result (λ e. (e ≡ CertTextFault.Header) × NoHeader text.now) }
     {
         match header_of(text) {
-            Some((strict, rest)) => Ok(Tokens {
+            Some((strict, bytes)) => Ok(Tokens {
                 strict,
-                place: 0,
-                rest,
+                line: LineTokens::new(bytes),
             }),
             None => Err(CertTextFault::Header),
         }
@@ -66,17 +62,13 @@ impl<'a> Tokens<'a> {
     /// What `read` answers of this text, behind the tokens in front of the fault: `BadToken` with the number of these
     /// tokens, or `TooLong`. At its end and at a fault the reader stays where it is.
     pub fn next(&mut self) -> Result<Option<Token>, CertTextFault>
-        ensures given { result ≡ next_of self.old }
-        ensures left { self.new ≡ later self.old }
+        ensures given { result ≡ result_map_both (λ token. token) cert_fault (next_of self.old.line) }
+        ensures left { self.new.line ≡ later self.old.line }
+        ensures strict { self.new.strict ≡ self.old.strict }
     {
-        match step(self.place, self.rest) {
-            Ok(Some((token, rest))) => {
-                self.place += 1;
-                self.rest = rest;
-                Ok(Some(token))
-            }
-            Ok(None) => Ok(None),
-            Err(fault) => Err(fault),
+        match self.line.next() {
+            Ok(token) => Ok(token),
+            Err(fault) => Err(cert_fault(fault)),
         }
     }
 
@@ -85,28 +77,30 @@ impl<'a> Tokens<'a> {
     /// # Errors
     /// The fault of the text behind the tokens that are left: `BadToken` or `TooLong`.
     pub fn finish(&mut self) -> Result<(), CertTextFault>
-        ensures ok { OnOk result (self.old.fault ≡ None) }
-        ensures err { IfErr result (λ e. self.old.fault ≡ Some e) }
+        ensures ok { OnOk result (self.old.line.fault ≡ None) }
+        ensures err { IfErr result (λ e. option_map cert_fault self.old.line.fault ≡ Some e) }
     {
-        while let Some(_) = self.next()? {}
-        Ok(())
+        match self.line.finish() {
+            Ok(()) => Ok(()),
+            Err(fault) => Err(cert_fault(fault)),
+        }
     }
 }
 
 impl<'a> TokenSource for Tokens<'a> {
     ghost use Rattle.std.specs.Prelude.{Option};
-    ghost use Rattle.onfi_cert.specs.declared.fault.CertTextFault.{CertTextFault};
+    ghost use Rattle.onfi_cert.specs.declared.fault.LineFault.{LineFault};
 
     type Token = Token;
 
-    ghost Behind = { Option CertTextFault };
+    ghost Behind = { Option LineFault };
 
-    ghost left = { λ t. t.tokens };
+    ghost left = { λ t. t.line.tokens };
 
-    ghost behind = { λ t. t.fault };
+    ghost behind = { λ t. t.line.fault };
 
     /// The next good token; None at the end of the text and at its fault, which `finish` tells.
     fn next(&mut self) -> Option<Token> {
-        Tokens::next(self).unwrap_or(None)
+        TokenSource::next(&mut self.line)
     }
 }

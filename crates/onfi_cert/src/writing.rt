@@ -8,6 +8,7 @@ use crate::limits::MOST_TOKENS;
 use crate::spelled::Spelled;
 use crate::token::Token;
 use crate::width::Width;
+use crate::word::token_of;
 use std::alloc::{AllocError, Global};
 
 fn put_width(out: &mut Vec<u8>, width: Width) -> Result<(), AllocError>
@@ -23,10 +24,21 @@ fn put_width(out: &mut Vec<u8>, width: Width) -> Result<(), AllocError>
 
 impl Spelled for Token {
     ghost use Rattle.onfi_cert.specs.Text.{InRange, spelling as spelling_of};
+    ghost use Rattle.onfi_cert.specs.Word.{token_of as token_of_word};
+    ghost use Rattle.onfi_cert.specs.declared.limits.TheConstants.{MOST_TOKENS};
+    ghost use Rattle.std.proofs.Common.{lit<};
+
+    const MOST: usize = MOST_TOKENS as usize;
+
+    ghost MOST = { MOST_TOKENS };
 
     ghost spelling = { spelling_of };
 
+    ghost token_of = { token_of_word };
+
     ghost Kept = { InRange };
+
+    ghost fits = { lit< tt };
 
     fn put(self, out: &mut Vec<u8>) -> Result<(), AllocError> {
         match self {
@@ -41,6 +53,10 @@ impl Spelled for Token {
             Token::Yield(lun) => out.extend_from_slice(&[b'Y', b'0' + lun.get()]),
             Token::End => out.extend_from_slice(b"X"),
         }
+    }
+
+    fn token_of(word: &[u8]) -> Option<Token> {
+        token_of(word)
     }
 }
 

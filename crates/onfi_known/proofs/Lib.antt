@@ -5,10 +5,9 @@ pub mod Refused
 pub mod Marks
 pub mod Yielding
 pub mod Spelled
-pub mod Ahead
 pub mod Sound
 pub mod Keeping
 pub mod Walking
 pub mod Placing
-pub mod TextReading
+pub mod Reading
 pub mod WithinFaults

@@ -1,5 +1,5 @@
 -- What is accepted is refused for no cause but memory.
-use Rattle.std.proofs.Common.{◌≡◌, ℕ, List, Bool, refl, sym, ap, ◌∙◌, subst}
+use Rattle.std.proofs.Common.{◌≡◌, ℕ, List, refl, ap, subst}
 use Rattle.onfi_request.specs.declared.want.Want.{Want}
 use Rattle.onfi_problem.specs.Problem.{Problem}
 use Rattle.onfi_schedule.specs.Schedule.{Schedule, Legal, finish}
@@ -10,9 +10,8 @@ use Rattle.onfi_known.specs.declared.fault.KnownTextFault.TheVariants.{Header, B
 use Rattle.onfi_known.specs.declared.token.Token.{Token}
 use Rattle.onfi_known.specs.Faults.{IsKnownFault, IsTextFault}
 use Rattle.onfi_known.specs.Proves.{ProvesTokens}
-use Rattle.onfi_known.specs.Text.{IsCertificate, line}
-use Rattle.onfi_known.specs.Word.{Ahead}
-use Rattle.onfi_known.proofs.Ahead.{line_read, no_certificate, reads}
+use Rattle.onfi_known.specs.Text.{IsCertificate}
+use Rattle.onfi_known.proofs.Reading.{no_bad_token, no_certificate, one_certificate}
 
 pub memory_alone : (all : List Want) (p : Problem) (s : Schedule) (tokens : List Token) (fault : KnownFault) → Legal p s → ProvesTokens all tokens p (finish p s) → IsKnownFault all p s tokens fault → fault ≡ Memory
 memory_alone all p s tokens Illegal legal accepted is = absurd (is legal)
@@ -29,15 +28,9 @@ memory_alone all p s tokens (OtherLeft at) legal accepted is = absurd (is.1 acce
 memory_alone all p s tokens (Sooner at) legal accepted is = absurd (is.1 accepted)
 memory_alone all p s tokens (TooMany at) legal accepted is = absurd (is.1 accepted)
 
--- a text is that of one option and one list of tokens
-pub one_certificate : (text : List ℕ) (r s : Bool) (ts us : List Token) → IsCertificate text r ts → IsCertificate text s us → (r ≡ s) × (ts ≡ us)
-one_certificate text r s ts us c d =
-    let read = reads text r s (line ts) us c.spelled d in
-    (read.0, ap (λ (a : Ahead). a.tokens) (sym (line_read ts c.some c.in_range) ∙ read.1))
-
 pub memory_alone_of_text : (all : List Want) (p : Problem) (s : Schedule) (text : List ℕ) (tokens : List Token) (fault : KnownTextFault) → IsCertificate text p.rules.strict tokens → Legal p s → ProvesTokens all tokens p (finish p s) → IsTextFault all p s text fault → fault ≡ Cert Memory
 memory_alone_of_text all p s text tokens Header certificate legal accepted is = absurd (no_certificate text p.rules.strict tokens is certificate)
-memory_alone_of_text all p s text tokens (BadToken place) certificate legal accepted is = absurd (is.1 p.rules.strict tokens certificate)
+memory_alone_of_text all p s text tokens (BadToken place) certificate legal accepted is = absurd (no_bad_token text place p.rules.strict tokens is certificate)
 memory_alone_of_text all p s text tokens OtherOption certificate legal accepted (others, strict, other, differs) = absurd (differs (one_certificate text strict p.rules.strict others tokens other certificate).0)
 memory_alone_of_text all p s text tokens (Cert f) certificate legal accepted (others, other, is) =
     let same = one_certificate text p.rules.strict p.rules.strict others tokens other certificate in

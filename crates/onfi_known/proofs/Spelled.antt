@@ -14,9 +14,10 @@ use Rattle.std.proofs.Math.Seq.{take-append_seam}
 use Rattle.onfi_timing.specs.Decimal.{is_number, number_of}
 use Rattle.onfi_cert.specs.declared.token.Token.{Token as PlainToken}
 use Rattle.onfi_cert.specs.declared.token.Token.TheVariants as plain_tk
-use Rattle.onfi_cert.specs.Word.{word, behind_word, token_of as plain_token_of}
-use Rattle.onfi_cert.proofs.Spellings.{at_letter, either, found_is, Spells as PlainSpells, plain as is_plain, spelling_again as plain_spelling_again, token_of_sound as plain_token_of_sound}
-use Rattle.onfi_cert.proofs.Words.{Ends, Plain, word-append, behind_word-append, word-behind_word}
+use Rattle.onfi_cert.specs.Word.{token_of as plain_token_of}
+use Rattle.onfi_cert.proofs.Language.{IsLanguage, found_is}
+use Rattle.onfi_cert.proofs.Spellings.{at_letter, either, Spells as PlainSpells, plain as is_plain, spelling_again as plain_spelling_again, token_of_sound as plain_token_of_sound}
+use Rattle.onfi_cert.proofs.Words.{Plain}
 use Rattle.onfi_known.specs.declared.token.Token.{Token}
 use Rattle.onfi_known.specs.declared.token.Token.TheVariants as tk
 use Rattle.onfi_known.specs.declared.token.TheConstants.{MOST_KNOWN}
@@ -216,15 +217,5 @@ token_of_sound (c ∷ more) =
     (λ _. either _ (c == 82) _ _ (at_letter Spells c 82 (again_token more) more (again_sound more))
     (λ _. mapped (Spells (c ∷ more)) of_plain (plain_token_of (c ∷ more)) (λ t e. plain_spells t (c ∷ more) (found_is (PlainSpells (c ∷ more)) (plain_token_of (c ∷ more)) t e (plain_token_of_sound (c ∷ more))))))
 
--- the word in front is this token's
-pub token_in_front : (t : Token) (text rest : List ℕ) → InRange t → Ends rest → text ≡ spelling t ++ rest → (token_of (word text) ≡ Some t) × (behind_word text ≡ rest)
-token_in_front t text rest h ends e = (
-  ap (λ x. token_of (word x)) e ∙ ap token_of (word-append (spelling t) rest (plain t h) ends) ∙ spelling_again t h,
-  ap behind_word e ∙ behind_word-append (spelling t) rest (plain t h) ends,
-)
-
--- so the text begins with its spelling
-pub front_token : (t : Token) (text : List ℕ) → token_of (word text) ≡ Some t → InRange t × (text ≡ spelling t ++ behind_word text)
-front_token t text e =
-    let s = found_is (Spells (word text)) (token_of (word text)) t e (token_of_sound (word text)) in
-    (s.0, sym (word-behind_word text) ∙ ap (λ w. w ++ behind_word text) (sym s.1))
+pub language : IsLanguage InRange spelling token_of
+language = record { plain = plain; again = spelling_again; sound = token_of_sound; no_empty = refl }

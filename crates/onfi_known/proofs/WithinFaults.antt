@@ -17,8 +17,7 @@ use Rattle.onfi_known.specs.Faults.{IsTextFault, IsTokenFault, OfTokens}
 use Rattle.onfi_known.specs.Proves.{ProvesTokens}
 use Rattle.onfi_known.specs.Text.{IsCertificate}
 use Rattle.onfi_known.specs.Within.{IsWithinFault, IsWithinTextFault}
-use Rattle.onfi_known.proofs.Ahead.{no_certificate}
-use Rattle.onfi_known.proofs.Refused.{one_certificate}
+use Rattle.onfi_known.proofs.Reading.{no_bad_token, no_certificate, one_certificate}
 
 pub within_fault : (all : List Want) (p : Problem) (s : Schedule) (below : ℕ) (tokens : List Token) (f : KnownFault) → Legal p s → below ≤ finish p s → OfTokens f (ProvesTokens all tokens p below → ⊥) → IsTokenFault all p below tokens [] f → IsWithinFault all p s below tokens (Known f)
 within_fault all p s below tokens Illegal legal le refused kind = absurd refused
@@ -65,7 +64,8 @@ within_memory_alone all p s below tokens (Known f) legal le accepted is = ap Kno
 pub within_memory_alone_of_text : (all : List Want) (p : Problem) (s : Schedule) (below : ℕ) (text : List ℕ) (tokens : List Token) (fault : WithinTextFault) → IsCertificate text p.rules.strict tokens → Legal p s → below ≤ finish p s → ProvesTokens all tokens p below → IsWithinTextFault all p s below text fault → fault ≡ in_text.Known (Cert Memory)
 within_memory_alone_of_text all p s below text tokens in_text.Above certificate legal le accepted (others, other, is) = let sooner = is.1 in absurd (omega arith)
 within_memory_alone_of_text all p s below text tokens (in_text.Known Header) certificate legal le accepted is = absurd (no_certificate text p.rules.strict tokens is certificate)
-within_memory_alone_of_text all p s below text tokens (in_text.Known (BadToken place)) certificate legal le accepted is = absurd (is.1 p.rules.strict tokens certificate)
+within_memory_alone_of_text all p s below text tokens (in_text.Known (BadToken place)) certificate legal le accepted is =
+    absurd (no_bad_token text place p.rules.strict tokens is certificate)
 within_memory_alone_of_text all p s below text tokens (in_text.Known Option) certificate legal le accepted (others, strict, other, differs) = absurd (differs (one_certificate text strict p.rules.strict others tokens other certificate).0)
 within_memory_alone_of_text all p s below text tokens (in_text.Known (Cert f)) certificate legal le accepted (others, other, is) =
     let same = one_certificate text p.rules.strict p.rules.strict others tokens other certificate in

@@ -1,10 +1,11 @@
 -- What a fault says.
-use Rattle.std.specs.Prelude.{◌≡◌, ◌≢◌, ℕ, ◌+◌, ◌≤◌, ◌⊎◌, Bool, false, List, [], ◌∷◌, ◌++◌, length}
+use Rattle.std.specs.Prelude.{◌≡◌, ◌≢◌, ℕ, ◌+◌, ◌≤◌, ◌⊎◌, Bool, List, [], ◌∷◌, Some, None, length}
 use Rattle.std.specs.List.{AllByRecursion as Each}
 use Rattle.onfi_request.specs.declared.want.Want.{Want}
 use Rattle.onfi_problem.specs.Problem.{Problem}
 use Rattle.onfi_schedule.specs.Schedule.{Schedule, Legal, finish}
-use Rattle.onfi_cert.specs.Reading.{BeginsWithNeither}
+use Rattle.onfi_cert.specs.declared.fault.LineFault.TheVariants as of
+use Rattle.onfi_cert.specs.Reading.{BeginsWithNeither, Line}
 use Rattle.onfi_demand.specs.declared.demand.Demand.{Demand as Kept}
 use Rattle.onfi_known.specs.declared.fault.KnownFault.{KnownFault}
 use Rattle.onfi_known.specs.declared.fault.KnownFault.TheVariants.{Illegal, Short, Trailing, Width, BoundLow, YieldNoFit, YieldLoop, NotEnd, Memory, Unknown, OtherLeft, Sooner, TooMany}
@@ -16,8 +17,7 @@ use Rattle.onfi_known.specs.declared.token.Token.{Token}
 use Rattle.onfi_known.specs.declared.token.Token.TheVariants as tk
 use Rattle.onfi_known.specs.declared.token.TheConstants.{MOST_KNOWN}
 use Rattle.onfi_known.specs.Proves.{Proves, ProvesTokens}
-use Rattle.onfi_known.specs.Text.{IsCertificate, header}
-use Rattle.onfi_known.specs.Word.{ahead_of}
+use Rattle.onfi_known.specs.Text.{Holds, IsCertificate, header}
 pub use Rattle.onfi_check.specs.Reading.{ReadOn}
 pub use Rattle.onfi_check.specs.Faults.{IsAt}
 
@@ -100,13 +100,17 @@ IsKnownFault all p s tokens Illegal = Legal p s → ⊥
 IsKnownFault all p s tokens Memory = Legal p s
 IsKnownFault all p s tokens fault = Legal p s × (ProvesTokens all tokens p (finish p s) → ⊥) × IsTokenFault all p (finish p s) tokens [] fault
 
--- so many good tokens stand behind the text's header
-abbrev pub HasGood : List ℕ → ℕ → Type 0
-HasGood text count = (strict : Bool) × (bytes : List ℕ) × (text ≡ header strict ++ bytes) × (count ≡ length (ahead_of false bytes).tokens)
+-- a line has no token at this place, or goes wrong behind so many; one without tokens has none at place 0
+abbrev pub IsWrongAt : ℕ → Line Token → Type 0
+IsWrongAt place line = (line.fault ≡ Some (of.BadToken place)) ⊎ ((line.fault ≡ None) × (line.tokens ≡ []) × (place ≡ 0))
+
+-- .. the line behind the text's header
+abbrev pub HasNoToken : List ℕ → ℕ → Type 0
+HasNoToken text place = (strict : Bool) × (line : Line Token) × Holds text strict line × IsWrongAt place line
 
 -- why the text doesn't show it: it is no certificate, has the other option, or its tokens don't show it
 abbrev pub IsTextFault : List Want → Problem → Schedule → List ℕ → KnownTextFault → Type 0
 IsTextFault all p s text Header = NoHeader text
-IsTextFault all p s text (BadToken place) = HasGood text place × ((strict : Bool) (tokens : List Token) → IsCertificate text strict tokens → ⊥)
+IsTextFault all p s text (BadToken place) = HasNoToken text place
 IsTextFault all p s text OtherOption = (tokens : List Token) × (strict : Bool) × IsCertificate text strict tokens × (strict ≢ p.rules.strict)
 IsTextFault all p s text (Cert f) = (tokens : List Token) × IsCertificate text p.rules.strict tokens × IsKnownFault all p s tokens f

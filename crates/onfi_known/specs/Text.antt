@@ -1,5 +1,6 @@
 -- The one text of a list of tokens.
 use Rattle.std.specs.Prelude.{ℕ, ◌^◌, ◌≤◌, ◌<◌, ◌≡◌, List, [], ◌∷◌, ◌++◌, ⊤, Bool, All, length, codes, decimal, if◌then◌else◌}
+use Rattle.onfi_cert.specs.Reading.{HoldsLine, Line}
 use Rattle.onfi_cert.specs.Text.{digit, number as digits, line_of}
 use Rattle.onfi_known.specs.declared.token.Token.{Token}
 use Rattle.onfi_known.specs.declared.token.Token.TheVariants as tk
@@ -35,6 +36,14 @@ line tokens = line_of spelling tokens
 
 abbrev pub header : Bool → List ℕ
 header strict = if strict then codes "ONFICERT 4 strict remember\n" else codes "ONFICERT 3 remember\n"
+
+-- there are fewer tokens than bytes, so a text meets no limit
+abbrev pub MOST : ℕ
+MOST = 18446744073709551615
+
+-- a text with the header of this option holds these good tokens, and then ends well or by this fault
+abbrev pub Holds : List ℕ → Bool → Line Token → Type 0
+Holds text strict line = HoldsLine header InRange spelling MOST text strict line
 
 -- the text of these tokens under this option; there is at least one
 pub record IsCertificate (text : List ℕ) (strict : Bool) (tokens : List Token) : Type 0 where

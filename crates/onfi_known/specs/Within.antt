@@ -1,8 +1,9 @@
 -- Schedules that end no sooner than a number before which none ends, and what is told where one doesn't.
-use Rattle.std.specs.Prelude.{◌≡◌, ℕ, ◌+◌, ◌≤◌, ◌<◌, Bool, false, List, [], ◌++◌, length}
+use Rattle.std.specs.Prelude.{◌≡◌, ℕ, ◌+◌, ◌≤◌, ◌<◌, ◌^◌, Bool, List, [], length}
 use Rattle.onfi_request.specs.declared.want.Want.{Want}
 use Rattle.onfi_problem.specs.Problem.{Problem}
 use Rattle.onfi_schedule.specs.Schedule.{Schedule, Legal, finish}
+use Rattle.onfi_cert.specs.Reading.{Line}
 use Rattle.onfi_known.specs.declared.fault.KnownFault.TheVariants.{Illegal, Memory}
 use Rattle.onfi_known.specs.declared.fault.KnownTextFault.TheVariants.{Cert}
 use Rattle.onfi_known.specs.declared.fault.WithinFault.{WithinFault}
@@ -12,8 +13,7 @@ use Rattle.onfi_known.specs.declared.fault.WithinTextFault.TheVariants as in_tex
 use Rattle.onfi_known.specs.declared.token.Token.{Token}
 use Rattle.onfi_known.specs.Faults.{IsTextFault, IsTokenFault}
 use Rattle.onfi_known.specs.Proves.{ProvesTokens}
-use Rattle.onfi_known.specs.Text.{IsCertificate, header}
-use Rattle.onfi_known.specs.Word.{Ahead, ahead_of}
+use Rattle.onfi_known.specs.Text.{Holds, IsCertificate}
 
 -- the schedule is legal, and ends before `below`
 abbrev pub EndsBefore : Problem → Schedule → ℕ → Type 0
@@ -32,8 +32,9 @@ IsWithinTextFault all p s below text in_text.Above = (tokens : List Token) × Is
 IsWithinTextFault all p s below text (in_text.Known (Cert fault)) = (tokens : List Token) × IsCertificate text p.rules.strict tokens × IsWithinFault all p s below tokens (Known fault)
 IsWithinTextFault all p s below text (in_text.Known fault) = IsTextFault all p s text fault
 
--- a text with this option and these bytes behind its header, of which the tokens before a place were read
-pub record IsReading (text : List ℕ) (strict : Bool) (bytes : List ℕ) (place : ℕ) (ahead : Ahead) : Type 0 where
-  pub header_is : text ≡ header strict ++ bytes
-  pub behind_is : ahead.behind ≡ (ahead_of false bytes).behind
-  pub counted : place + length ahead.tokens ≡ length (ahead_of false bytes).tokens
+-- a text of which the tokens before a place were read, with this option and this line behind its header
+pub record IsReading (text : List ℕ) (strict : Bool) (whole : Line Token) (place : ℕ) (left : Line Token) : Type 0 where
+  pub holds : Holds text strict whole
+  pub short : length text < 2 ^ 64
+  pub fault_is : left.fault ≡ whole.fault
+  pub counted : place + length left.tokens ≡ length whole.tokens

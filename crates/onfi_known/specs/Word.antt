@@ -1,10 +1,10 @@
 -- Words of a text, and the tokens that they spell. What a token looks like is said by `spelling` alone; here stands
 -- the way back, for the readers' own contracts.
-use Rattle.std.specs.Prelude.{ℕ, zero, suc, ◌+◌, ◌==◌, ◌^◌, length, List, [], ◌∷◌, Bool, false, Option, Some, None, option_map, option_and_then, take, drop, position, nat_lt, if◌then◌else◌}
+use Rattle.std.specs.Prelude.{ℕ, ◌+◌, ◌==◌, ◌^◌, List, [], ◌∷◌, Bool, false, Option, Some, None, option_map, option_and_then, take, drop, position, nat_lt, if◌then◌else◌}
 use Rattle.onfi_timing.specs.Decimal.{number_of}
 use Rattle.onfi_cert.specs.declared.token.Token.{Token as PlainToken}
 use Rattle.onfi_cert.specs.declared.token.Token.TheVariants as plain
-use Rattle.onfi_cert.specs.Word.{word, behind_word, token_of as plain_token_of}
+use Rattle.onfi_cert.specs.Word.{token_of as plain_token_of}
 use Rattle.onfi_known.specs.declared.token.Token.{Token}
 use Rattle.onfi_known.specs.declared.token.Token.TheVariants as tk
 use Rattle.onfi_known.specs.declared.token.TheConstants.{MOST_KNOWN}
@@ -49,38 +49,3 @@ token_of (letter ∷ more) =
     if letter == 87 then window_token more
     else if letter == 82 then again_token more
     else option_map of_plain (plain_token_of (letter ∷ more))
-
--- what is ahead of a reader: tokens, and the bytes behind them
-pub record Ahead : Type 0 where
-  pub tokens : List Token
-  pub behind : List ℕ
-
-abbrev pub found : List ℕ → Option Token → Option (Token × List ℕ)
-found rest None = None
-found rest (Some t) = Some (t, rest)
-
--- the token in front of a text, and what stands behind it
-abbrev pub token_in : List ℕ → Option (Token × List ℕ)
-token_in text = found (behind_word text) (token_of (word text))
-
--- the same where a space stands before the token
-abbrev pub next_in : List ℕ → Option (Token × List ℕ)
-next_in [] = None
-next_in (b ∷ text) = if b == 32 then token_in text else None
-
--- a text with a space before each token, where the first has none
-abbrev pub led : Bool → List ℕ → List ℕ
-led begun text = if begun then text else 32 ∷ text
-
-abbrev pub taken : List ℕ → Option (Token × List ℕ) → (List ℕ → Ahead) → Ahead
-taken text None next = record { tokens = []; behind = text }
-taken text (Some p) next = record { tokens = p.0 ∷ (next p.1).tokens; behind = (next p.1).behind }
-
--- the tokens in front of a text, fewer than `room`
-unfoldable pub walk : ℕ → List ℕ → Ahead
-walk zero text = record { tokens = []; behind = text }
-walk (suc room) text = taken text (next_in text) (walk room)
-
--- what is ahead of a reader that stands before this text, at its begin or behind a token
-unfoldable pub ahead_of : Bool → List ℕ → Ahead
-ahead_of begun text = walk (length text + 1) (led begun text)

@@ -1,18 +1,17 @@
-ghost use Rattle.std.specs.Prelude.{◌≡◌, ◌≢◌, ◌+◌, ◌<◌, ◌^◌, ◌↔◌, ℕ, IfOk, IfErr, OnOk, List, [], false, length};
+ghost use Rattle.std.specs.Prelude.{◌≡◌, ◌≢◌, ◌+◌, ◌<◌, ◌^◌, ◌↔◌, ℕ, IfOk, IfErr, IfSome, IfNone, OnOk, List, [], length};
 ghost use Rattle.onfi_schedule.specs.Schedule.{Schedule as AnySchedule, Legal, Optimal, finish};
 ghost use Rattle.onfi_request.specs.declared.want.Want.{Want};
-ghost use Rattle.onfi_known.specs.Faults.{IsKnownFault, IsTextFault, IsTokenFault, OfTokens};
+ghost use Rattle.onfi_cert.specs.Reading.{Line};
+ghost use Rattle.onfi_known.specs.Faults.{IsKnownFault, IsTextFault, IsTokenFault, NoHeader, OfTokens};
 ghost use Rattle.onfi_known.specs.Laws.{NoneBefore};
 ghost use Rattle.onfi_known.specs.Proves.{ProvesTokens};
 ghost use Rattle.onfi_known.specs.Text.{IsCertificate};
 ghost use Rattle.onfi_known.specs.Within.{IsReading};
-ghost use Rattle.onfi_known.specs.Word.{ahead_of};
 ghost use Rattle.onfi_known.specs.declared.token.Token.{Token as OneToken};
 
 use crate::fault::{KnownFault, KnownTextFault};
 use crate::header::header_of;
-use crate::token::Token;
-use crate::tokens::Tokens;
+use crate::token::{Token, Tokens};
 use crate::walk::read_whole;
 use onfi_cert::{Numbered, TokenList, TokenSource};
 use onfi_problem::Problem;
@@ -91,6 +90,20 @@ pub fn check_known(
     check_source(alloc, problem, schedule, &mut tokens)
 }
 
+/// A reader of the tokens of a text, with the option of its header, or None where it has no header.
+pub(crate) fn open_text(text: &[u8]) -> Option<(bool, Numbered<Tokens>)>
+    ensures text { IfSome result (λ r. IsReading text.now r.0 r.1.source 0 r.1.source) }
+    ensures first { IfSome result (λ r. r.1.place ≡ 0) }
+    ensures few { IfSome result (λ r. length r.1.source.tokens < 2 ^ 64) }
+    ensures none { IfNone result (NoHeader text.now) }
+{
+    let _few = text.len();
+    match header_of(text) {
+        Some((strict, bytes)) => Some((strict, Numbered::of(Tokens::new(bytes)))),
+        None => None,
+    }
+}
+
 /// Reads a text on to its end behind a check of its tokens: whether it is a certificate with the option of the
 /// problem's rules, where `strict` is that of its header.
 ///
@@ -102,13 +115,18 @@ pub(crate) fn read_to_end(
     tokens: &mut Numbered<Tokens>,
 ) -> Result<(), KnownTextFault>
     requires few { tokens.old.place + length tokens.old.source.tokens < 2 ^ 64 }
-    ensures ok { OnOk result ((text bytes : List ℕ) → IsReading text strict bytes tokens.old.place tokens.old.source → IsCertificate text problem.now.problem.rules.strict (ahead_of false bytes).tokens) }
-    ensures fault { IfErr result (λ f. (all : List Want) (s : AnySchedule) (text bytes : List ℕ) → IsReading text strict bytes tokens.old.place tokens.old.source → IsTextFault all problem.now.problem s text f) }
+    ensures ok { OnOk result ((text : List ℕ) (whole : Line OneToken) → IsReading text strict whole tokens.old.place tokens.old.source
+        → IsCertificate text problem.now.problem.rules.strict whole.tokens) }
+    ensures fault { IfErr result (λ f. (all : List Want) (s : AnySchedule) (text : List ℕ) (whole : Line OneToken)
+        → IsReading text strict whole tokens.old.place tokens.old.source → IsTextFault all problem.now.problem s text f) }
     ensures text { IfErr result (λ f. (fault : KnownFault) → f ≢ KnownTextFault.Cert fault) }
 {
     tokens.read_on();
-    if !tokens.source.is_at_end() {
+    if tokens.source.finish().is_err() {
         return Err(KnownTextFault::BadToken(tokens.place));
+    }
+    if tokens.place == 0 {
+        return Err(KnownTextFault::BadToken(0));
     }
     if strict != problem.rules().strict {
         return Err(KnownTextFault::Option);
@@ -134,11 +152,9 @@ pub fn check_known_text(
     ensures accepted { IfOk result (λ e. (tokens : List OneToken) × IsCertificate text.now problem.now.problem.rules.strict tokens × ProvesTokens problem.now.all tokens problem.now.problem e) }
     ensures fault { IfErr result (IsTextFault problem.now.all problem.now.problem schedule.now text.now) }
 {
-    let _few = text.len();
-    let Some((strict, bytes)) = header_of(text) else {
+    let Some((strict, mut tokens)) = open_text(text) else {
         return Err(KnownTextFault::Header);
     };
-    let mut tokens = Numbered::of(Tokens::new(bytes));
     let checked = check_source(alloc, problem, schedule, &mut tokens);
     read_to_end(problem, strict, &mut tokens)?;
     match checked {

@@ -1,6 +1,6 @@
 //! The tokens of a certificate that remembers states.
 
-use onfi_cert::{LunNumber, Width};
+use onfi_cert::{LineTokens, LunNumber, Width};
 
 /// How many nodes are remembered at most; greater numbers aren't spelled.
 pub const MOST_KNOWN: u32 = 1_048_576;
@@ -31,3 +31,6 @@ pub enum Token {
     /// `R<number>`: the open node that ended as that number closes it, counted from 0.
     Again(u32),
 }
+
+/// A reader that gives the tokens behind a header one by one, without memory.
+pub type Tokens<'a> = LineTokens<'a, Token>;

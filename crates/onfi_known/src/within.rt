@@ -8,11 +8,9 @@ ghost use Rattle.onfi_known.specs.Text.{IsCertificate};
 ghost use Rattle.onfi_known.specs.Within.{EndsBefore, IsWithinFault, IsWithinTextFault};
 ghost use Rattle.onfi_known.specs.declared.token.Token.{Token as OneToken};
 
-use crate::checking::{read_source, read_to_end};
+use crate::checking::{open_text, read_source, read_to_end};
 use crate::fault::{KnownFault, KnownTextFault, WithinFault, WithinTextFault};
-use crate::header::header_of;
 use crate::token::Token;
-use crate::tokens::Tokens;
 use onfi_cert::{Numbered, TokenList, TokenSource};
 use onfi_problem::Problem;
 use onfi_schedule::{Schedule, finish, legal};
@@ -103,11 +101,9 @@ pub fn check_known_within(
     ensures accepted { OnOk result ((tokens : List OneToken) × IsCertificate text.now problem.now.problem.rules.strict tokens × ProvesTokens problem.now.all tokens problem.now.problem below) }
     ensures fault { IfErr result (IsWithinTextFault problem.now.all problem.now.problem schedule.now below text.now) }
 {
-    let _few = text.len();
-    let Some((strict, bytes)) = header_of(text) else {
+    let Some((strict, mut tokens)) = open_text(text) else {
         return Err(WithinTextFault::Known(KnownTextFault::Header));
     };
-    let mut tokens = Numbered::of(Tokens::new(bytes));
     let checked = check_source_within(alloc, problem, schedule, below, &mut tokens);
     if let Err(fault) = read_to_end(problem, strict, &mut tokens) {
         return Err(WithinTextFault::Known(fault));

@@ -1,9 +1,9 @@
 //! From a word to its token.
-ghost use Rattle.std.specs.Prelude.{◌≡◌, ◌^◌, ◌<◌, ◌==◌, IfSome, option_map, position, length};
-ghost use Rattle.onfi_known.specs.Word.{has_leading_zero, number, of_plain, again_token, window_token, token_of, token_in};
+ghost use Rattle.std.specs.Prelude.{◌≡◌, ◌^◌, ◌<◌, ◌==◌, IfSome, position, length};
+ghost use Rattle.onfi_known.specs.Word.{has_leading_zero, number, of_plain, again_token, window_token, token_of};
 
 use crate::token::{MOST_KNOWN, Token};
-use onfi_cert::{Token as PlainToken, cut_word, token_of as plain_token_of};
+use onfi_cert::{Token as PlainToken, token_of as plain_token_of};
 use onfi_timing::read_number;
 
 // Whether there are more digits than one, the first a zero.
@@ -71,8 +71,8 @@ fn window_token(text: &[u8]) -> Option<Token>
     Some(Token::Window { start, tail })
 }
 
-// The token that a word spells.
-fn token_of(word: &[u8]) -> Option<Token>
+/// The token that a word spells.
+pub(crate) fn token_of(word: &[u8]) -> Option<Token>
     ensures { result ≡ token_of word.now }
 {
     match word {
@@ -80,12 +80,4 @@ fn token_of(word: &[u8]) -> Option<Token>
         [b'R', more @ ..] => again_token(more),
         _ => Some(of_plain(plain_token_of(word)?)),
     }
-}
-
-/// The token in front of a text, and what stands behind it.
-pub(crate) fn token_in(text: &[u8]) -> Option<(Token, &[u8])>
-    ensures { option_map (λ p. (p.0, p.1.now)) result ≡ token_in text.now }
-{
-    let (word, rest) = cut_word(text);
-    Some((token_of(word)?, rest))
 }

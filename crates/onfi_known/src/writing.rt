@@ -4,6 +4,7 @@ ghost use Rattle.onfi_known.specs.Text.{header, line};
 
 use crate::header::header;
 use crate::token::Token;
+use crate::word::token_of;
 use itoa::Buffer;
 use onfi_cert::{Spelled, Token as PlainToken, text_behind};
 use std::alloc::{AllocError, Global};
@@ -18,9 +19,19 @@ fn put_number(out: &mut Vec<u8>, letter: &[u8], number: u64) -> Result<(), Alloc
 }
 
 impl Spelled for Token {
-    ghost use Rattle.onfi_known.specs.Text.{spelling as spelling_of};
+    ghost use Rattle.std.proofs.Common.{lit<};
+    ghost use Rattle.onfi_known.specs.Text.{MOST, spelling as spelling_of};
+    ghost use Rattle.onfi_known.specs.Word.{token_of as token_of_word};
+
+    const MOST: usize = usize::MAX;
+
+    ghost MOST = { MOST };
 
     ghost spelling = { spelling_of };
+
+    ghost token_of = { token_of_word };
+
+    ghost fits = { lit< tt };
 
     fn put(self, out: &mut Vec<u8>) -> Result<(), AllocError> {
         match self {
@@ -37,6 +48,10 @@ impl Spelled for Token {
             }
             Token::Again(number) => put_number(out, b"R", number as u64),
         }
+    }
+
+    fn token_of(word: &[u8]) -> Option<Token> {
+        token_of(word)
     }
 }
 

@@ -1,44 +1,35 @@
-use Rattle.std.proofs.Common.{IfErr, rules, false, ◌^◌, arith, ◌∙◌, subst}
-use Rattle.onfi_known.specs.declared.fault.WithinFault.TheVariants.{Known}
+use Rattle.std.proofs.Common.{IfErr, arith, subst}
 use Rattle.onfi_known.specs.Within.{IsWithinFault}
-use Rattle.onfi_known.specs.Proves.{ProvesTokens}
-use Rattle.onfi_known.specs.Word.{Ahead, ahead_of}
-use Rattle.onfi_known.proofs.Ahead.{few_ahead}
-use Rattle.onfi_known.proofs.TextReading.{reading}
+use Rattle.onfi_known.proofs.Reading.{read_on}
 use Rattle.onfi_known.proofs.WithinFaults.{text_fault}
 use Rattle.onfi_known.proofs.within.check_known_within.Goals as goal
 
-pub check_source_within-checked-requires-clause-few : goal.check_source_within-checked-requires-clause-few
-check_source_within-checked-requires-clause-few c = few_ahead c.args.text.now c.in-Some.strict c.in-Some.bytes.now c.of-tokens.result.source (2 ^ 64) c.in-Some.ensures.some (c.of-tokens.ensures.source ∙ c.new.ensures) (search rules)
-
 pub read_to_end-requires : goal.read_to_end-requires
-read_to_end-requires c =
-    let few = few_ahead c.args.text.now c.in-Some.strict c.in-Some.bytes.now c.of-tokens.result.source (2 ^ 64) c.in-Some.ensures.some (c.of-tokens.ensures.source ∙ c.new.ensures) (search rules) in
-    let counted = c.check_source_within-checked.ensures.counted in
-    omega arith
+read_to_end-requires c = let counted = c.check_source_within-checked.ensures.counted in let few = c.in-Some.ensures.few in omega arith
 
 pub returns-in-Err-clause-fault : goal.returns-in-Err-clause-fault
 returns-in-Err-clause-fault c =
-    let r = reading c.args.text.now c.in-Some.strict c.in-Some.bytes.now c.of-tokens.result.source c.check_source_within-checked.new.tokens.source c.check_source_within-checked.new.tokens.place c.in-Some.ensures.some (c.of-tokens.ensures.source ∙ c.new.ensures) c.check_source_within-checked.ensures.behind c.check_source_within-checked.ensures.counted in
-    text_fault c.args.problem.now.all c.args.problem.now.problem c.args.schedule.now c.args.below c.args.text.now c.in-Err.fault (c.in-Err.ensures.fault c.args.problem.now.all c.args.schedule.now c.args.text.now c.in-Some.bytes.now r) c.in-Err.ensures.text
+    let r = read_on c.in-Some.ensures.text c.check_source_within-checked.ensures.behind c.check_source_within-checked.ensures.counted in
+    let fault = c.in-Err.ensures.fault c.args.problem.now.all c.args.schedule.now c.args.text.now c.in-Some.tokens.source r in
+    text_fault c.args.problem.now.all c.args.problem.now.problem c.args.schedule.now c.args.below c.args.text.now c.in-Err.fault fault c.in-Err.ensures.text
 
 pub returns-in-Ok-clause-accepted : goal.returns-in-Ok-clause-accepted
 returns-in-Ok-clause-accepted c =
-    let from = c.of-tokens.ensures.source ∙ c.new.ensures in
-    let r = reading c.args.text.now c.in-Some.strict c.in-Some.bytes.now c.of-tokens.result.source c.check_source_within-checked.new.tokens.source c.check_source_within-checked.new.tokens.place c.in-Some.ensures.some from c.check_source_within-checked.ensures.behind c.check_source_within-checked.ensures.counted in
-    ((ahead_of false c.in-Some.bytes.now).tokens, c.in_default-read_to_end.ensures.ok c.args.text.now c.in-Some.bytes.now r, subst (λ (a : Ahead). ProvesTokens c.args.problem.now.all a.tokens c.args.problem.now.problem c.args.below) from c.in-Ok.ensures.accepted)
+    let r = read_on c.in-Some.ensures.text c.check_source_within-checked.ensures.behind c.check_source_within-checked.ensures.counted in
+    (c.in-Some.tokens.source.tokens, c.in_default-read_to_end.ensures.ok c.args.text.now c.in-Some.tokens.source r, c.in-Ok.ensures.accepted)
 
 pub returns-in-Err-Known-clause-fault : goal.returns-in-Err-Known-clause-fault
 returns-in-Err-Known-clause-fault c =
-    let from = c.of-tokens.ensures.source ∙ c.new.ensures in
-    let r = reading c.args.text.now c.in-Some.strict c.in-Some.bytes.now c.of-tokens.result.source c.check_source_within-checked.new.tokens.source c.check_source_within-checked.new.tokens.place c.in-Some.ensures.some from c.check_source_within-checked.ensures.behind c.check_source_within-checked.ensures.counted in
-    let fault = subst (λ z. IfErr z (IsWithinFault c.args.problem.now.all c.args.problem.now.problem c.args.schedule.now c.args.below c.of-tokens.result.source.tokens)) c.in-Err-Known.is c.check_source_within-checked.ensures.fault in
-    let kind = subst (IsWithinFault c.args.problem.now.all c.args.problem.now.problem c.args.schedule.now c.args.below c.of-tokens.result.source.tokens) (rw c.in-Err-Known.is at c.in-Err-Known.field-0-is) fault in
-    ((ahead_of false c.in-Some.bytes.now).tokens, c.in_default-read_to_end.ensures.ok c.args.text.now c.in-Some.bytes.now r, subst (λ (a : Ahead). IsWithinFault c.args.problem.now.all c.args.problem.now.problem c.args.schedule.now c.args.below a.tokens (Known c.in-Err-Known.fault)) from kind)
+    let r = read_on c.in-Some.ensures.text c.check_source_within-checked.ensures.behind c.check_source_within-checked.ensures.counted in
+    let Is = IsWithinFault c.args.problem.now.all c.args.problem.now.problem c.args.schedule.now c.args.below c.in-Some.tokens.source.tokens in
+    let fault = subst (λ z. IfErr z Is) c.in-Err-Known.is c.check_source_within-checked.ensures.fault in
+    let kind = subst Is (rw c.in-Err-Known.is at c.in-Err-Known.field-0-is) fault in
+    (c.in-Some.tokens.source.tokens, c.in_default-read_to_end.ensures.ok c.args.text.now c.in-Some.tokens.source r, kind)
 
 pub returns-in-Err-Above-clause-fault : goal.returns-in-Err-Above-clause-fault
 returns-in-Err-Above-clause-fault c =
-    let r = reading c.args.text.now c.in-Some.strict c.in-Some.bytes.now c.of-tokens.result.source c.check_source_within-checked.new.tokens.source c.check_source_within-checked.new.tokens.place c.in-Some.ensures.some (c.of-tokens.ensures.source ∙ c.new.ensures) c.check_source_within-checked.ensures.behind c.check_source_within-checked.ensures.counted in
-    let fault = subst (λ z. IfErr z (IsWithinFault c.args.problem.now.all c.args.problem.now.problem c.args.schedule.now c.args.below c.of-tokens.result.source.tokens)) c.in-Err-Above.is c.check_source_within-checked.ensures.fault in
-    let kind = subst (IsWithinFault c.args.problem.now.all c.args.problem.now.problem c.args.schedule.now c.args.below c.of-tokens.result.source.tokens) (rw c.in-Err-Above.is at c.in-Err-Above.field-0-is) fault in
-    ((ahead_of false c.in-Some.bytes.now).tokens, c.in_default-read_to_end.ensures.ok c.args.text.now c.in-Some.bytes.now r, kind)
+    let r = read_on c.in-Some.ensures.text c.check_source_within-checked.ensures.behind c.check_source_within-checked.ensures.counted in
+    let Is = IsWithinFault c.args.problem.now.all c.args.problem.now.problem c.args.schedule.now c.args.below c.in-Some.tokens.source.tokens in
+    let fault = subst (λ z. IfErr z Is) c.in-Err-Above.is c.check_source_within-checked.ensures.fault in
+    let kind = subst Is (rw c.in-Err-Above.is at c.in-Err-Above.field-0-is) fault in
+    (c.in-Some.tokens.source.tokens, c.in_default-read_to_end.ensures.ok c.args.text.now c.in-Some.tokens.source r, kind)
