@@ -37,7 +37,6 @@ pub bus_asks : BusLaw
 bus_asks p e le = record {
   holds = λ q s iq m steps f run.
       let a = bus_bound steps q f iq run in
-      let b = m.bus in
       let c = same_commands p q s in
       let d = same_posts p q s in
       omega arith;
@@ -49,8 +48,6 @@ trail_asks p e t is le = record {
   holds = λ q s iq m steps f run.
       let u = trail_alike p q t s is in
       let a = trail_bound steps q f (q.bus_free + u.0) iq u.2 run in
-      let b = m.bus in
-      let c = u.1 in
       omega arith;
   meets = record { bus = omega arith; luns = λ l h. omega arith };
 }
@@ -117,7 +114,6 @@ least_above [] e v a h = cc
 least_above (x ∷ []) e v a h = let q : x ≡ v = cc in let b = a.0 in omega arith
 least_above (x ∷ y ∷ xs) e v a h =
     let q : least_with x (Some (least_with y (least xs))) ≡ v = cc in
-    let b = a.0 in
     let c = least_above (y ∷ xs) e (least_with y (least xs)) a.1 refl in
     omega arith
 

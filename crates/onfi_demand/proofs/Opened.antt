@@ -123,7 +123,6 @@ spans p q m b =
     let y = b.there (earliest q m) in
     let xb = x.bus in
     let yb = y.bus in
-    let xo = x.own in
     record { lasts = omega arith; waits = omega arith; ends = yb; ends_here = xb; goes_on = y.own }
 
 -- where each LUN goes on as late as is asked, what is left behind a move meets the demand there
@@ -131,8 +130,6 @@ behind_meets : (p q : Problem) (m : Move) (d : Demand) (needs : ℕ → ℕ) →
 behind_meets p q m d needs ip iq s mv goes asks =
     let b = both_move p q m s mv in
     let k = spans p q m b in
-    let lasts = k.lasts in
-    let ends = k.ends in
     let own = goes (move_lun m) (move_has q m mv) in
     let ask = asks (move_lun m) (left_there p (move_lun m) ip (same_has p q (move_lun m) s ∙ move_has q m mv)) in
     let is = asked_own p m d in
@@ -140,10 +137,6 @@ behind_meets p q m d needs ip iq s mv goes asks =
   where
     met : (b : BothMove p q m) → Spans p q m b.long b.wait → (l : ℕ) → has_left (after q m) l ≡ true → d.lun l ≤ may_go (after q m) l
     met b k l h =
-        let lasts = k.lasts in
-        let waits = k.waits in
-        let ends = k.ends in
-        let go = k.goes_on in
         let own = goes (move_lun m) (move_has q m mv) in
         let ask = asks (move_lun m) (left_there p (move_lun m) ip (same_has p q (move_lun m) s ∙ move_has q m mv)) in
         let is = asked_own p m d in
@@ -173,11 +166,6 @@ pub asked_is_met : AskedLaw
 asked_is_met p m d l ip mv meets h =
     let b = both_move p p m (same_self p) mv in
     let k = spans p p m b in
-    let lasts = k.lasts in
-    let waits = k.waits in
-    let ends = k.ends in
-    let go = k.goes_on in
-    let bus = meets.bus in
     elim (same_place l (move_lun m)) [
       | inl e ↦ (
           let own = own_met b k in
@@ -199,10 +187,6 @@ asked_is_met p m d l ip mv meets h =
   where
     own_met : (b : BothMove p p m) → Spans p p m b.long b.wait → of_own p m d ≤ earliest p m
     own_met b k =
-        let lasts = k.lasts in
-        let waits = k.waits in
-        let ends = k.ends in
-        let go = k.goes_on in
         elim (cases_Bool (has_left (after p m) (move_lun m))) [
           | inl t ↦ (let le = meets.luns (move_lun m) t in rw t (omega arith))
           | inr t ↦ rw t (omega arith)
@@ -210,8 +194,6 @@ asked_is_met p m d l ip mv meets h =
 
     through : (b : BothMove p p m) → Spans p p m b.long b.wait → (i : ℕ) → through_bus p m d i ≤ earliest p m
     through b k i =
-        let lasts = k.lasts in
-        let ends = k.ends in
         elim (same_place i (move_lun m)) [
           | inl e ↦ rw (eq-eqb i (move_lun m) e) (omega arith)
           | inr n ↦ elim (cases_Bool (nat_le (d.lun i) (after p m).bus_free)) [
@@ -235,8 +217,6 @@ at_earliest p m t (s ∷ steps) f ip mv le run =
     sooner b l h =
         let x = b.here (earliest p m) in
         let y = b.here t in
-        let xb = x.bus in
-        let yb = y.bus in
         elim (same_place l (move_lun m)) [
           | inl e ↦ (let xo = x.own in let yo = y.own in rw e (omega arith))
           | inr d ↦ (let xo = ap free_from (x.others l d) in let yo = ap free_from (y.others l d) in omega arith)
@@ -263,8 +243,6 @@ module _ (p : Problem) (e : ℕ) (moves : List Move) (needs : ℕ → ℕ) (ip :
       let q = retiming p needs in
       let b = both_move p q n same_needs nv in
       let k = spans p q n b in
-      let lasts = k.lasts in
-      let ends = k.ends in
       let fit = g.fits n (moves_here n nv) at in
       let a = goes (move_lun n) (move_has q n nv) in
       let c = goes (move_lun m) (move_has q m mv) in
@@ -291,7 +269,6 @@ module _ (p : Problem) (e : ℕ) (moves : List Move) (needs : ℕ → ℕ) (ip :
             let there = (both_move q p g.move (back_same p q same_needs) (All-has (IsMove p) moves g.move are.moves_only g.has_move)).is_move in
             let r = yielding q s.move g.move s.start g.lun f steps iq mv on_time run g.other there g.of_lun (fitting s.move g mv) in
             let le = child_bounded r.move r.is_move (g.shows r.move (moves_here r.move r.is_move) r.of_lun) r.steps r.finish r.run in
-            let le' = r.no_later in
             omega arith)
       ]
 

@@ -52,8 +52,6 @@ sooner_behind : (p q : Problem) (m : Move) (t : ℕ) → IsProblem q → (b : Bo
 sooner_behind p q m t iq b s mv late l has =
     let x = b.here t in
     let y = b.there t in
-    let xb = x.bus in
-    let yb = y.bus in
     elim (same_place l (move_lun m)) [
       | inl e ↦ (let xo = x.own in let yo = y.own in rw e (omega arith))
       | inr d ↦ (

@@ -49,10 +49,6 @@ shape_of p lun (KeptRest kind k n) limits h = go (slice_get p.luns lun) refl h
     go (Some (Free a)) e q = cc
     go (Some (Running g n' r)) e q =
         let i = limits.problem.running lun g n' r e in
-        let some = i.group.some in
-        let few = i.group.few in
-        let started = i.started in
-        let unfinished = i.unfinished in
         let same_size : length g ≡ k = cc in
         let same_next : n' ≡ n = cc in
         (omega arith, omega arith, omega arith, omega arith)

@@ -1,5 +1,5 @@
 -- A move keeps a problem in its limits.
-use Rattle.std.proofs.Common.{◌≡◌, ℕ, zero, suc, ◌+◌, ◌*◌, ◌-◌, ◌^◌, ◌≤◌, ◌<◌, List, [], ◌∷◌, length, Some, get_or, refl, sym, ap, ◌∙◌, subst, arith}
+use Rattle.std.proofs.Common.{◌≡◌, ℕ, zero, suc, ◌+◌, ◌*◌, ◌-◌, ◌^◌, ◌≤◌, ◌<◌, List, [], ◌∷◌, length, Some, get_or, refl, sym, ap, ◌∙◌, subst, arith, mul-le-mul_left}
 use Rattle.std.specs.Prelude.{slice_get, slice_set, max}
 use Rattle.std.proofs.lemmas.Bool.{lt-ltb}
 use Rattle.onfi_timing.specs.declared.spans.Spans.{Spans}
@@ -46,8 +46,7 @@ set_in b c (Free a ∷ luns) (suc l) y = let e = set_in b c luns l y in omega ar
 set_in b c (Running g n r ∷ luns) (suc l) y = let e = set_in b c luns l y in omega arith
 
 pub times_le : (j a b : ℕ) → a ≤ b → j * a ≤ j * b
-times_le zero a b h = omega arith
-times_le (suc j) a b h = let e = times_le j a b h in omega arith
+times_le j a b h = mul-le-mul_left j h
 
 pub group_waits : (spans : Spans) (k : ℕ) → 1 ≤ k → waits_left spans k 0 ≤ k * max spans.gap spans.array
 group_waits spans zero h = absurd (omega arith)
