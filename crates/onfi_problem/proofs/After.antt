@@ -108,10 +108,7 @@ module _ (timing : Timing) (rules : Rules) (bus_free : ℕ) (luns : List Lun) (a
   finds_next l d (g, n, r, at) =
       let q = runs_by groups luns l d g n r at in
       let i = k.limits.problem.running l g n r at in
-      let some = i.group.some in
-      let next = i.unfinished in
       let e : length (slice_index_or groups (get_or luns l d).place []) ≡ length g = ap length q.group in
-      let a = q.next in
       record {
         place = in_table groups (get_or luns l d).place (omega arith);
         start = small_start (get_or luns l d) l _ r at refl q.time;

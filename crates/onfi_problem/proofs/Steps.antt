@@ -90,8 +90,6 @@ module _ (timing : Timing) (rules : Rules) (bus_free : ℕ) (luns : List Lun) (a
       let e = place_is n (omega arith) in
       let s : suc n ≡ n + 1 = omega arith in
       let o = t.own n (omega arith) in
-      let r = o.rising in
-      let w = o.within in
       let a = length-append (owned own can n) (own n) in
       let d = length-drop (slice_index first n) groups in
       let l = length-take (slice_index first (n + 1) - slice_index first n) (drop (slice_index first n) groups) in
@@ -100,7 +98,6 @@ module _ (timing : Timing) (rules : Rules) (bus_free : ℕ) (luns : List Lun) (a
   pub places_few : (n : ℕ) → n ≤ length luns → slice_index first n ≤ 88
   places_few n h =
       let e = place_is n h in
-      let o = t.opened in
       let f = owned_few all own can k.few planes n (λ l i. listed l (omega arith)) in
       omega arith
 
