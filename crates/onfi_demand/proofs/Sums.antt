@@ -120,14 +120,19 @@ die_idle p l [] (Some (Free a)) h = refl
 die_idle p l (w ∷ ws) None h = cc
 die_idle p l (w ∷ ws) (Some (Free a)) h = cc
 
-abbrev work_rest : Timing → Rules → List Want → Option LunLeft → ℕ
-work_rest timing rules ws (Some (Rest kind k i)) = commands_left k i * (spans_of timing kind).cmd + posts_left k i * (spans_of timing kind).post + waits_left (spans_of timing kind) k i + wants_work timing rules ws
-work_rest timing rules ws _ = wants_work timing rules ws
-
-work_by : (timing : Timing) (rules : Rules) (ws : List Want) (o : Option LunState) → work_at timing rules ws o ≡ work_rest timing rules ws (option_map left_on o)
-work_by timing rules ws None = refl
-work_by timing rules ws (Some (Free a)) = refl
-work_by timing rules ws (Some (Running g n r)) = refl
-
 pub work_alike : (timing : Timing) (rules : Rules) (ws : List Want) (a b : Option LunState) → option_map left_on a ≡ option_map left_on b → work_at timing rules ws a ≡ work_at timing rules ws b
-work_alike timing rules ws a b e = work_by timing rules ws a ∙ (ap (work_rest timing rules ws) e ∙ sym (work_by timing rules ws b))
+work_alike timing rules ws None None e = refl
+work_alike timing rules ws None (Some (Free b)) e = refl
+work_alike timing rules ws None (Some (Running g n r)) e = cc
+work_alike timing rules ws (Some (Free a)) None e = refl
+work_alike timing rules ws (Some (Free a)) (Some (Free b)) e = refl
+work_alike timing rules ws (Some (Free a)) (Some (Running g n r)) e = cc
+work_alike timing rules ws (Some (Running g n r)) None e = cc
+work_alike timing rules ws (Some (Running g n r)) (Some (Free b)) e = cc
+work_alike timing rules ws (Some (Running g n r)) (Some (Running g' n' r')) e =
+    let k : Rest (kind_of g) (length g) n ≡ Rest (kind_of g') (length g') n' = cc in
+    ap (λ z. chain_rest timing z + wants_work timing rules ws) k
+  where
+    chain_rest : Timing → LunLeft → ℕ
+    chain_rest timing Idle = 0
+    chain_rest timing (Rest kind k i) = commands_left k i * (spans_of timing kind).cmd + posts_left k i * (spans_of timing kind).post + waits_left (spans_of timing kind) k i
