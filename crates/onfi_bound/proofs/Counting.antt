@@ -20,6 +20,7 @@ use Rattle.onfi_problem.specs.Left.{commands_left, command_time, want_command, a
 use Rattle.onfi_problem.specs.declared.moves.Lun.{Lun}
 use Rattle.onfi_problem.specs.Position.{state_of, waiting_of}
 use Rattle.onfi_problem.proofs.After.{runs_by}
+use Rattle.onfi_problem.proofs.Lists.{total_by}
 use Rattle.onfi_problem.proofs.LunAfter.{lun_after_running, lun_after_free}
 use Rattle.onfi_problem.proofs.Totals.{total_set, startable_total}
 use Rattle.onfi_problem.proofs.Wants.{total-append}
@@ -210,11 +211,7 @@ module _ (p : Problem) (groups : List (List Want)) (luns : List Lun) (states : m
 
   -- the counts of all running groups
   pub luns_counted : (kind : Kind) → total (λ x. commands_on kind (state_of groups x)) luns ≡ total (commands_on kind) p.luns
-  luns_counted kind = total-map (commands_on kind) luns ∙ ap (total (commands_on kind)) states
-    where
-      total-map : (f : LunState → ℕ) (xs : List Lun) → total (λ x. f (state_of groups x)) xs ≡ total f (map (state_of groups) xs)
-      total-map f [] = refl
-      total-map f (x ∷ xs) = let h = total-map f xs in omega arith
+  luns_counted kind = total_by (λ x. commands_on kind (state_of groups x)) (commands_on kind) (state_of groups) (λ x. refl) luns ∙ ap (total (commands_on kind)) states
 
 -- one more want in a sum
 pub counted_one : (a b t u f : ℕ) → a ≡ b + f → b ≡ t → u ≡ t + f → a ≡ u

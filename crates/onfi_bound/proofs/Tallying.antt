@@ -28,7 +28,7 @@ use Rattle.onfi_bound.specs.Bounds.{on_lun, wants_work, least, least_with, earli
 use Rattle.onfi_bound.specs.Parts.{chain_of, is_kind, has_kind, AreSums}
 use Rattle.onfi_bound.specs.Loads.{IsLoad, IsLeast, commands_to_post, IsChainAt, IsTally}
 use Rattle.onfi_bound.proofs.DieBound.{no_work}
-use Rattle.onfi_bound.proofs.Parts.{next_kind}
+use Rattle.onfi_bound.proofs.Parts.{next_kind, own_commands, own_posts}
 use Rattle.onfi_bound.proofs.Whole.{die_working, die_nothing}
 use Rattle.onfi_bound.proofs.Ends.{bus_small, die_small}
 use Rattle.onfi_bound.proofs.Counting.{any_cons}
@@ -41,14 +41,6 @@ or_more false b c = refl
 from_of : (timing : Timing) (x : LunState) → (chain_of timing x).from ≡ free_from (Some x)
 from_of timing (Free since) = refl
 from_of timing (Running g n r) = refl
-
-commands_of : (timing : Timing) (x : LunState) → (chain_of timing x).commands ≡ command_time timing x
-commands_of timing (Free since) = refl
-commands_of timing (Running g n r) = refl
-
-posts_of : (timing : Timing) (x : LunState) → (chain_of timing x).posts ≡ post_time timing x
-posts_of timing (Free since) = refl
-posts_of timing (Running g n r) = refl
 
 -- how long to the first post
 post_of : (timing : Timing) (rules : Rules) (x : LunState) (ws : List Want) (first work : ℕ) → IsLeast (commands_to_post timing ws) first → work ≡ wants_work timing rules ws → ((chain_of timing x).running ≡ true) ⊎ (1 ≤ work) → to_post timing ws x ≡ Some (if (chain_of timing x).running then (chain_of timing x).commands + (chain_of timing x).waits else first)
@@ -97,8 +89,8 @@ pub tally_room : (p : Problem) (lun : ℕ) (t : Tally) (chain : Chain) → InLim
 tally_room p lun t chain lim (x, at, q) h =
     let d = drop_next p.luns lun x at in
     let b = bus_small p lim in
-    let c1 : chain.commands ≡ command_time p.timing x = ap (λ (c : Chain). c.commands) q ∙ commands_of p.timing x in
-    let c2 : chain.posts ≡ post_time p.timing x = ap (λ (c : Chain). c.posts) q ∙ posts_of p.timing x in
+    let c1 : chain.commands ≡ command_time p.timing x = ap (λ (c : Chain). c.commands) q ∙ own_commands p.timing x in
+    let c2 : chain.posts ≡ post_time p.timing x = ap (λ (c : Chain). c.posts) q ∙ own_posts p.timing x in
     let a1 : t.sums.commands + (command_time p.timing x + total (command_time p.timing) (drop (lun + 1) p.luns)) ≡ all_commands p = rw d at h.commands in
     let a2 : t.sums.posts + (post_time p.timing x + total (post_time p.timing) (drop (lun + 1) p.luns)) ≡ all_posts p = rw d at h.posts in
     (omega arith, omega arith)
@@ -108,8 +100,8 @@ pub tally_more : (p : Problem) (lun post : ℕ) (load : Load) (chain : Chain) (t
 tally_more p lun post load chain t t' h (x, at, q) small b so commands posts kinds is first done =
     let d = drop_next p.luns lun x at in
     let rest = drop (lun + 1) p.luns in
-    let c1 : chain.commands ≡ command_time p.timing x = ap (λ (c : Chain). c.commands) q ∙ commands_of p.timing x in
-    let c2 : chain.posts ≡ post_time p.timing x = ap (λ (c : Chain). c.posts) q ∙ posts_of p.timing x in
+    let c1 : chain.commands ≡ command_time p.timing x = ap (λ (c : Chain). c.commands) q ∙ own_commands p.timing x in
+    let c2 : chain.posts ≡ post_time p.timing x = ap (λ (c : Chain). c.posts) q ∙ own_posts p.timing x in
     let a1 : t.sums.commands + (command_time p.timing x + total (command_time p.timing) rest) ≡ all_commands p = rw d at so.commands in
     let a2 : t.sums.posts + (post_time p.timing x + total (post_time p.timing) rest) ≡ all_posts p = rw d at so.posts in
     let b' : ((chain_of p.timing x).running ≡ true) ⊎ (1 ≤ get_or load.work lun 0) = rw q at b in

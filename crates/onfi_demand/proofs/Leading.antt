@@ -29,11 +29,8 @@ use Rattle.onfi_demand.specs.declared.left.LunLeft.TheVariants.{Idle as KeptIdle
 use Rattle.onfi_demand.specs.declared.left.LunWork.{LunWork}
 use Rattle.onfi_problem.proofs.Wants.{total-append}
 
-total_append : {A : Type 0} (f : A → ℕ) (xs : List A) (x : A) → total f (xs ++ x ∷ []) ≡ total f xs + f x
-total_append f xs x = omega (arith, total-append f xs (x ∷ []))
-
 pub posts_yes : (timing : Timing) (marks : List Bool) (ws : List Want) (i : ℕ) (d : Want) (sum : ℕ) → i < length ws → get_or marks i false ≡ true → sum ≡ total (want_post timing) (waiting_of marks (take i ws)) → sum + (spans_of timing (get_or ws i d).kind).post ≡ total (want_post timing) (waiting_of marks (take (i + 1) ws))
-posts_yes timing marks ws i d sum h m e = rw (waiting_yes marks ws i d h m) (let a = total_append (want_post timing) (waiting_of marks (take i ws)) (get_or ws i d) in omega arith)
+posts_yes timing marks ws i d sum h m e = rw (waiting_yes marks ws i d h m) (let a = total-append (want_post timing) (waiting_of marks (take i ws)) (get_or ws i d ∷ []) in omega arith)
 
 pub posts_no : (timing : Timing) (marks : List Bool) (ws : List Want) (i sum : ℕ) → get_or marks i false ≡ false → sum ≡ total (want_post timing) (waiting_of marks (take i ws)) → sum ≡ total (want_post timing) (waiting_of marks (take (i + 1) ws))
 posts_no timing marks ws i sum m e = e ∙ sym (ap (total (want_post timing)) (waiting_no marks ws i m))

@@ -187,21 +187,19 @@ module _ (p : Problem) (own : ℕ → List (List Want)) (can : List Want → Boo
   in_starts : (gs : List (List Want)) (g : List Want) → Has gs g → can g ≡ true → Has (starts_of own can gs) (Start g)
   in_starts gs g h k = Has-map (λ x. Start x) (filter can gs) g (Has-filter can gs g h k)
 
-  in_from : (l i : ℕ) (luns : List LunState) (x : LunState) (m : Move) → slice_get luns i ≡ Some x → Has (lun_moves own can (l + i) x) m → Has (moves_from own can l luns) m
-  in_from l i [] x m e h = cc
-  in_from l zero (y ∷ luns) x m e h =
-      let q : y ≡ x = cc in let z : l + 0 ≡ l = omega arith in
-      Has-append_left (lun_moves own can l y) (moves_from own can (l + 1) luns) m (subst (λ s. Has (lun_moves own can l s) m) (sym q) (subst (λ n. Has (lun_moves own can n x) m) z h))
-  in_from l (suc i) (y ∷ luns) x m e h =
-      let z : l + suc i ≡ l + 1 + i = omega arith in
-      Has-append_right (lun_moves own can l y) (moves_from own can (l + 1) luns) m (in_from (l + 1) i luns x m e (subst (λ n. Has (lun_moves own can n x) m) z h))
+  in_from : (l i lun : ℕ) (luns : List LunState) (x : LunState) (m : Move) → l + i ≡ lun → slice_get luns i ≡ Some x → Has (lun_moves own can lun x) m → Has (moves_from own can l luns) m
+  in_from l i lun [] x m e at h = cc
+  in_from l zero lun (y ∷ luns) x m e at h =
+      let same : y ≡ x = cc in
+      let here : l ≡ lun = omega arith in
+      Has-append_left (lun_moves own can l y) (moves_from own can (l + 1) luns) m (rw (here, same) h)
+  in_from l (suc i) lun (y ∷ luns) x m e at h = Has-append_right (lun_moves own can l y) (moves_from own can (l + 1) luns) m (in_from (l + 1) i lun luns x m (omega arith) at h)
 
   each_move : (m : Move) → IsMove p m → Has (moves_from own can 0 p.luns) m
-  each_move (Next l) (g, n, r, at) = let z : 0 + l ≡ l = omega arith in in_from 0 l p.luns (Running g n r) (Next l) at (inl (ap (λ n. Next n) z))
+  each_move (Next l) (g, n, r, at) = in_from 0 l l p.luns (Running g n r) (Next l) (omega arith) at (inl refl)
   each_move (Start g) (since, at, st) =
       let f = full g (within_get p.luns (lun_of g) _ at) st in
-      let z : lun_of g ≡ 0 + lun_of g = omega arith in
-      in_from 0 (lun_of g) p.luns (Free since) (Start g) at (subst (λ n. Has (starts_of own can (own n)) (Start g)) z (in_starts (own (lun_of g)) g f.0 f.1))
+      in_from 0 (lun_of g) (lun_of g) p.luns (Free since) (Start g) (omega arith) at (in_starts (own (lun_of g)) g f.0 f.1)
 
   lun_order : (l : ℕ) (x : LunState) → slice_get p.luns l ≡ Some x → Pairs (ComesBefore p) (lun_moves own can l x)
   lun_order l (Free since) at =
