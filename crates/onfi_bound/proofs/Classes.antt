@@ -85,18 +85,19 @@ group_above rules ms = if rules.strict then above_planes_of rules ms else 0
 abbrev Other : Kind → ℕ → ℕ → Kind → ℕ → ℕ → Type 0
 Other kind page above kind' page' above' = (same_kind kind' kind ≡ false) ⊎ ((page' ≢ page) ⊎ (above' ≢ above))
 
+pub not_in : (rules : Rules) (kind : Kind) (page above : ℕ) (w : Want) → Other w.kind (page_class w) (above_class rules w) kind page above → in_class rules kind page above w ≡ false
+not_in rules kind page above w (inl k) = rw k refl
+not_in rules kind page above w (inr (inl d)) = elim (cases_Bool (same_kind kind w.kind)) [ inl k ↦ rw (k, ne_eqb (page_class w) page (λ e. d (sym e))) refl | inr k ↦ rw k refl ]
+not_in rules kind page above w (inr (inr d)) = elim (cases_Bool (same_kind kind w.kind)) [
+  | inl k ↦ elim (cases_Bool (page_class w == page)) [ inl q ↦ rw (k, q, ne_eqb (above_class rules w) above (λ e. d (sym e))) refl | inr q ↦ rw (k, q) refl ]
+  | inr k ↦ rw k refl
+]
+
 none_in : (rules : Rules) (kind : Kind) (page above : ℕ) (kind' : Kind) (page' above' : ℕ) (ms : List Want) → InClass rules kind page above ms → Other kind page above kind' page' above' → number (in_class rules kind' page' above') ms ≡ 0
 none_in rules kind page above kind' page' above' [] h d = refl
 none_in rules kind page above kind' page' above' (m ∷ ms) h d =
     let r = none_in rules kind page above kind' page' above' ms h.1 d in
-    let no : in_class rules kind' page' above' m ≡ false = elim d [
-      | inl k ↦ (let q : same_kind kind' m.kind ≡ false = rw h.0.0 k in rw q refl)
-      | inr (inl p) ↦ elim (cases_Bool (same_kind kind' m.kind)) [ inl q ↦ rw (q, ne_eqb (page_class m) page' (λ e. p (sym e ∙ h.0.1))) refl | inr q ↦ rw q refl ]
-      | inr (inr a) ↦ elim (cases_Bool (same_kind kind' m.kind)) [
-        | inl q ↦ elim (cases_Bool (page_class m == page')) [ inl u ↦ rw (q, u, ne_eqb (above_class rules m) above' (λ e. a (sym e ∙ h.0.2))) refl | inr u ↦ rw (q, u) refl ]
-        | inr q ↦ rw q refl
-      ]
-    ] in
+    let no = not_in rules kind' page' above' m (rw (h.0.1, h.0.2, h.0.0) d) in
     rw no (omega arith)
 
 all_in : (rules : Rules) (kind : Kind) (page above : ℕ) (ms : List Want) → InClass rules kind page above ms → number (in_class rules kind page above) ms ≡ length ms

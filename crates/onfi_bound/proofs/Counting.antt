@@ -15,11 +15,12 @@ use Rattle.onfi_group.specs.Group.{kind_of, lun_of, group_spans}
 use Rattle.onfi_problem.specs.declared.lun_state.LunState.{LunState}
 use Rattle.onfi_problem.specs.declared.lun_state.LunState.TheVariants.{Free, Running}
 use Rattle.onfi_problem.specs.Problem.{Problem, IsProblem}
-use Rattle.onfi_problem.specs.Moves.{Move, Next, Start, IsMove, after, earliest, next_ran, lun_after, without}
+use Rattle.onfi_problem.specs.Moves.{Move, Next, Start, IsMove, after, earliest, next_ran, lun_after, without, placed, ran}
 use Rattle.onfi_problem.specs.Left.{commands_left, command_time, want_command, all_commands, InLimits}
 use Rattle.onfi_problem.specs.declared.moves.Lun.{Lun}
 use Rattle.onfi_problem.specs.Position.{state_of, waiting_of}
 use Rattle.onfi_problem.proofs.After.{runs_by}
+use Rattle.onfi_problem.proofs.Lists.{total_by}
 use Rattle.onfi_problem.proofs.LunAfter.{lun_after_running, lun_after_free}
 use Rattle.onfi_problem.proofs.Totals.{total_set, startable_total}
 use Rattle.onfi_problem.proofs.Wants.{total-append}
@@ -49,7 +50,7 @@ of_one_kind kind k (m ∷ ms) a =
     (more_of (same_kind kind k) (length ms) (length (m ∷ ms)) (total (one_of kind) ms) (omega arith) h)
 
 -- what is left of a LUN behind a phase
-running_after : (kind : Kind) (timing : Timing) (g : List Want) (n c : ℕ) → 1 ≤ length g → commands_on kind (lun_after timing g n c) ≡ (if same_kind kind (kind_of g) then length g - (n + 1) else 0)
+pub running_after : (kind : Kind) (timing : Timing) (g : List Want) (n c : ℕ) → 1 ≤ length g → commands_on kind (lun_after timing g n c) ≡ (if same_kind kind (kind_of g) then length g - (n + 1) else 0)
 running_after kind timing g n c some =
     elim (cases_lt (n + 1) (2 * length g)) [
       | inl a ↦ rw (lun_after_running timing g n c a) refl
@@ -63,29 +64,34 @@ taken true k n t t' w h = elim (cases_lt n k) [ inl a ↦ rw (lt-ltb n k a) (ome
 taken false k n t t' w h = elim (cases_lt n k) [ inl a ↦ rw (lt-ltb n k a) (omega arith) | inr a ↦ rw (le-ltb n k a) (omega arith) ]
 
 -- the next phase of a running group takes one where it is a command
-pub next_counts : (p : Problem) (lun : ℕ) (g : List Want) (n r : ℕ) (kind : Kind) → 1 ≤ length g → slice_get p.luns lun ≡ Some (Running g n r) → commands_of (after p (Next lun)) kind + (if nat_lt n (length g) then (if same_kind kind (kind_of g) then 1 else 0) else 0) ≡ commands_of p kind
-next_counts p lun g n r kind some at =
-    let ended = max p.bus_free r + phase_length (group_spans p.timing g) (length g) n in
+pub next_takes : (p : Problem) (lun : ℕ) (g : List Want) (n r t : ℕ) (kind : Kind) → 1 ≤ length g → slice_get p.luns lun ≡ Some (Running g n r)
+    → commands_of (ran p lun g n t) kind + (if nat_lt n (length g) then (if same_kind kind (kind_of g) then 1 else 0) else 0) ≡ commands_of p kind
+next_takes p lun g n r t kind some at =
+    let ended = t + phase_length (group_spans p.timing g) (length g) n in
     let state = lun_after p.timing g n ended in
-    let t = total_set (commands_on kind) p.luns lun (Running g n r) state at in
+    let s = total_set (commands_on kind) p.luns lun (Running g n r) state at in
     let e = running_after kind p.timing g n ended some in
-    rw at (taken (same_kind kind (kind_of g)) (length g) n (total (commands_on kind) p.luns) (total (commands_on kind) (slice_set p.luns lun state)) (total (one_of kind) p.wants) (t ∙ ap (λ z. total (commands_on kind) p.luns + z) e))
+    taken (same_kind kind (kind_of g)) (length g) n (total (commands_on kind) p.luns) (total (commands_on kind) (slice_set p.luns lun state)) (total (one_of kind) p.wants) (s ∙ ap (λ z. total (commands_on kind) p.luns + z) e)
 
 begun : (b : Bool) (k t t' w w' : ℕ) → 1 ≤ k → t' + 0 ≡ t + (if b then k - (0 + 1) else 0) → w ≡ (if b then k else 0) + w' → t' + w' + (if b then 1 else 0) ≡ t + w
 begun true k t t' w w' some h q = omega arith
 begun false k t t' w w' some h q = omega arith
 
 -- .. and so does the first phase of a new group
-pub start_counts : (p : Problem) (g : List Want) (kind : Kind) → IsProblem p → IsMove p (Start g) → commands_of (after p (Start g)) kind + (if same_kind kind (kind_of g) then 1 else 0) ≡ commands_of p kind
-start_counts p g kind ip (since, at, st) =
-    let ended = earliest p (Start g) + phase_length (group_spans p.timing g) (length g) 0 in
+pub start_takes : (p : Problem) (g : List Want) (t : ℕ) (kind : Kind) → IsProblem p → IsMove p (Start g)
+    → commands_of (placed p (Start g) t) kind + (if same_kind kind (kind_of g) then 1 else 0) ≡ commands_of p kind
+start_takes p g t kind ip (since, at, st) =
+    let ended = t + phase_length (group_spans p.timing g) (length g) 0 in
     let state = lun_after p.timing g 0 ended in
-    let t = total_set (commands_on kind) p.luns (lun_of g) (Free since) state at in
+    let s = total_set (commands_on kind) p.luns (lun_of g) (Free since) state at in
     let e = running_after kind p.timing g 0 ended st.group.some in
     let w = startable_total (one_of kind) p g ip st in
     let q = of_one_kind kind (kind_of g) g st.group.kind in
     begun (same_kind kind (kind_of g)) (length g) (total (commands_on kind) p.luns) (total (commands_on kind) (slice_set p.luns (lun_of g) state)) (total (one_of kind) p.wants) (total (one_of kind) (without g p.wants)) st.group.some
-    (t ∙ ap (λ z. total (commands_on kind) p.luns + z) e) (w ∙ ap (λ z. z + total (one_of kind) (without g p.wants)) q)
+    (s ∙ ap (λ z. total (commands_on kind) p.luns + z) e) (w ∙ ap (λ z. z + total (one_of kind) (without g p.wants)) q)
+
+pub start_counts : (p : Problem) (g : List Want) (kind : Kind) → IsProblem p → IsMove p (Start g) → commands_of (after p (Start g)) kind + (if same_kind kind (kind_of g) then 1 else 0) ≡ commands_of p kind
+start_counts p g kind ip im = start_takes p g (earliest p (Start g)) kind ip im
 
 -- so many commands of a kind beside others
 longer : (timing : Timing) (k : Kind) (m t r p e : ℕ) → t ≡ r * timing.read.cmd + p * timing.program.cmd + e * timing.erase.cmd → m * (spans_of timing k).cmd + t ≡ ((if same_kind Read k then m else 0) + r) * timing.read.cmd + ((if same_kind Program k then m else 0) + p) * timing.program.cmd + ((if same_kind Erase k then m else 0) + e) * timing.erase.cmd
@@ -143,25 +149,20 @@ next_some kind (Running g n r) = elim (cases_Bool (same_kind kind (kind_of g))) 
   | inr s ↦ rw s refl
 ]
 
-luns_some : (kind : Kind) (luns : List LunState) → list_any (commands_next kind) luns ≡ nat_lt 0 (total (commands_on kind) luns)
-luns_some kind [] = refl
-luns_some kind (x ∷ luns) = any_cons (commands_next kind) x luns ∙ (rw (next_some kind x, luns_some kind luns) (some_of (commands_on kind x) (total (commands_on kind) luns)))
-
 want_some : (b : Bool) → b ≡ nat_lt 0 (if b then 1 else 0)
 want_some true = refl
 want_some false = refl
 
-wants_some : (kind : Kind) (ws : List Want) → list_any (λ w. same_kind kind w.kind) ws ≡ nat_lt 0 (total (one_of kind) ws)
-wants_some kind [] = refl
-wants_some kind (w ∷ ws) =
-    any_cons (λ v. same_kind kind v.kind) w ws ∙
-    (ap (λ z. if z then true else list_any (λ v. same_kind kind v.kind) ws) (want_some (same_kind kind w.kind)) ∙
-    (ap (λ z. if nat_lt 0 (one_of kind w) then true else z) (wants_some kind ws) ∙ some_of (one_of kind w) (total (one_of kind) ws)))
+-- something passes where there is some of what it counts for
+any_total : {A : Type 0} (test : A → Bool) (f : A → ℕ) → ((x : A) → test x ≡ nat_lt 0 (f x)) → (xs : List A) → list_any test xs ≡ nat_lt 0 (total f xs)
+any_total test f h [] = refl
+any_total test f h (x ∷ xs) = any_cons test x xs ∙ rw (h x, any_total test f h xs) (some_of (f x) (total f xs))
 
 pub commands_some : (p : Problem) (kind : Kind) → nat_lt 0 (commands_of p kind) ≡ has_command p kind
 commands_some p kind =
-    sym (ap (λ z. if z then true else list_any (λ w. same_kind kind w.kind) p.wants) (luns_some kind p.luns) ∙
-    (ap (λ z. if nat_lt 0 (total (commands_on kind) p.luns) then true else z) (wants_some kind p.wants) ∙ some_of (total (commands_on kind) p.luns) (total (one_of kind) p.wants)))
+    let luns = any_total (commands_next kind) (commands_on kind) (next_some kind) p.luns in
+    let wants = any_total (λ w. same_kind kind w.kind) (one_of kind) (λ w. want_some (same_kind kind w.kind)) p.wants in
+    rw (luns, wants) (sym (some_of (total (commands_on kind) p.luns) (total (one_of kind) p.wants)))
 
 pub kinds_some : (p : Problem) (counts : Commands) → AreCommands p counts → (kind : Kind) → has_kind (record { read = nat_lt 0 counts.read; program = nat_lt 0 counts.program; erase = nat_lt 0 counts.erase }) kind ≡ has_command p kind
 kinds_some p counts h Read = ap (nat_lt 0) (h Read) ∙ commands_some p Read
@@ -194,7 +195,7 @@ module _ (p : Problem) (groups : List (List Want)) (luns : List Lun) (states : m
   named_next lun d group lim (g, n, r, at) same kind =
       let q = runs_by groups luns lun d g n r (subst (λ z. slice_get z lun ≡ Some (Running g n r)) (sym states) at) in
       let e : group ≡ g = sym same ∙ q.group in
-      rw (e, q.next) (next_counts p lun g n r kind (lim.problem.running lun g n r at).group.some at)
+      rw (e, q.next, at) (next_takes p lun g n r (max p.bus_free r) kind (lim.problem.running lun g n r at).group.some at)
 
   pub next_command : (lun : ℕ) (d : Lun) (group : List Want) → InLimits p → IsMove p (Next lun) → slice_index_or groups (get_or luns lun d).place [] ≡ group → (get_or luns lun d).next < length group → (kind : Kind) → commands_of (after p (Next lun)) kind + (if same_kind kind (kind_of group) then 1 else 0) ≡ commands_of p kind
   next_command lun d group lim im same lt kind = let h = named_next lun d group lim im same kind in rw (lt-ltb (get_or luns lun d).next (length group) lt) at h
@@ -210,11 +211,7 @@ module _ (p : Problem) (groups : List (List Want)) (luns : List Lun) (states : m
 
   -- the counts of all running groups
   pub luns_counted : (kind : Kind) → total (λ x. commands_on kind (state_of groups x)) luns ≡ total (commands_on kind) p.luns
-  luns_counted kind = total-map (commands_on kind) luns ∙ ap (total (commands_on kind)) states
-    where
-      total-map : (f : LunState → ℕ) (xs : List Lun) → total (λ x. f (state_of groups x)) xs ≡ total f (map (state_of groups) xs)
-      total-map f [] = refl
-      total-map f (x ∷ xs) = let h = total-map f xs in omega arith
+  luns_counted kind = total_by (λ x. commands_on kind (state_of groups x)) (commands_on kind) (state_of groups) (λ x. refl) luns ∙ ap (total (commands_on kind)) states
 
 -- one more want in a sum
 pub counted_one : (a b t u f : ℕ) → a ≡ b + f → b ≡ t → u ≡ t + f → a ≡ u

@@ -13,10 +13,10 @@ use Rattle.onfi_request.specs.declared.want.Want.{Want}
 use Rattle.onfi_group.specs.declared.rules.Rules.{Rules}
 use Rattle.onfi_group.specs.Words.{number}
 use Rattle.onfi_problem.specs.Left.{want_command, want_post}
-use Rattle.onfi_problem.proofs.Wants.{total-append}
+use Rattle.onfi_problem.proofs.Wants.{total-append, filter_shorter}
 use Rattle.onfi_bound.specs.Bounds.{on_lun, sum_upto, same_kind, page_class, above_class, in_class, on_plane, deepest, class_waits, waits_of, kind_waits, wants_work}
 use Rattle.onfi_bound.specs.Parts.{plane_counts, added_wait}
-use Rattle.onfi_bound.proofs.Classes.{same_kind_is, same_kind_self, deepest_in}
+use Rattle.onfi_bound.proofs.Classes.{same_kind_is, same_kind_self, deepest_in, not_in}
 use Rattle.onfi_bound.proofs.Steps.{one_kind}
 
 -- one more want on the LUN, or on another
@@ -77,10 +77,6 @@ number_few : (test : Want → Bool) (ws : List Want) → number test ws ≤ leng
 number_few test [] = omega arith
 number_few test (w ∷ ws) = let e = number_few test ws in elim (cases_Bool (test w)) [ inl k ↦ rw k (omega arith) | inr k ↦ rw k (omega arith) ]
 
-on_lun_few : (lun : ℕ) (ws : List Want) → length (on_lun lun ws) ≤ length ws
-on_lun_few lun [] = omega arith
-on_lun_few lun (w ∷ ws) = let e = on_lun_few lun ws in elim (cases_Bool (w.lun == lun)) [ inl k ↦ rw k (omega arith) | inr k ↦ rw k (omega arith) ]
-
 count_few : (rules : Rules) (w : Want) (ws : List Want) (n : ℕ) → get_or (plane_counts rules w ws) n 0 ≤ length ws
 count_few rules w ws zero = number_few _ ws
 count_few rules w ws (suc zero) = number_few _ ws
@@ -91,7 +87,7 @@ count_few rules w ws (suc (suc (suc (suc n)))) = omega arith
 pub counts_fit : (rules : Rules) (w : Want) (before : List Want) (i n : ℕ) (counts : List ℕ) → counts ≡ plane_counts rules w (on_lun w.lun (take i before)) → get_or counts n 0 ≤ i
 counts_fit rules w before i n counts a =
     let b = count_few rules w (on_lun w.lun (take i before)) n in
-    let c = on_lun_few w.lun (take i before) in
+    let c = filter_shorter (λ v. v.lun == w.lun) (take i before) in
     let d = length-take i before in
     rw a (omega arith)
 
@@ -147,52 +143,40 @@ module _ (timing : Timing) (rules : Rules) (ws : List Want) (w : Want) (plane : 
   own : in_class rules w.kind page above w ≡ true
   own = rw (same_kind_self w.kind, eq-eqb page page refl, eq-eqb above above refl) refl
 
-  not_own : (kind : Kind) (page' above' : ℕ) → (same_kind kind w.kind ≡ false) ⊎ ((page' ≢ page) ⊎ (above' ≢ above)) → in_class rules kind page' above' w ≡ false
-  not_own kind page' above' (inl k) = rw k refl
-  not_own kind page' above' (inr (inl d)) = elim (cases_Bool (same_kind kind w.kind)) [ inl k ↦ rw (k, ne_eqb page page' (λ e. d (sym e))) refl | inr k ↦ rw k refl ]
-  not_own kind page' above' (inr (inr d)) = elim (cases_Bool (same_kind kind w.kind)) [
-    | inl k ↦ elim (cases_Bool (page == page')) [ inl q ↦ rw (k, q, ne_eqb above above' (λ e. d (sym e))) refl | inr q ↦ rw (k, q) refl ]
-    | inr k ↦ rw k refl
-  ]
-
   same_waits : (kind : Kind) (page' above' : ℕ) → (same_kind kind w.kind ≡ false) ⊎ ((page' ≢ page) ⊎ (above' ≢ above)) → waits_of timing rules (ws ++ w ∷ []) kind page' above' ≡ waits_of timing rules ws kind page' above'
   same_waits kind page' above' d =
-      let out = not_own kind page' above' d in
+      let out = not_in rules kind page' above' w d in
       let n : number (in_class rules kind page' above') (ws ++ w ∷ []) ≡ number (in_class rules kind page' above') ws = (let q = number_more (in_class rules kind page' above') ws w in let z : number (in_class rules kind page' above') (ws ++ w ∷ []) ≡ number (in_class rules kind page' above') ws + 0 = q ∙ rw out refl in omega arith) in
       let a = λ (q : ℕ). none_more_on rules kind page' above' q ws w out in
       rw (n, a 0, a 1, a 2, a 3) refl
 
-  deeper : (n : ℕ) → w.plane ≡ n → n ≤ 3 → count n ≡ deepest rules w.kind page above ws → deepest rules w.kind page above (ws ++ w ∷ []) ≡ deepest rules w.kind page above ws + 1
-  deeper n e le h =
-      let a : (q : ℕ) → number (on_plane rules w.kind page above q) (ws ++ w ∷ []) ≡ count q + (if n == q then 1 else 0) = λ q. one_more_on rules w.kind page above q ws w own ∙ rw e refl in
-      rw (a 0, a 1, a 2, a 3) (go n le h)
-    where
-      go : (n : ℕ) → n ≤ 3 → count n ≡ deepest rules w.kind page above ws → max (max (count 0 + (if n == 0 then 1 else 0)) (count 1 + (if n == 1 then 1 else 0))) (max (count 2 + (if n == 2 then 1 else 0)) (count 3 + (if n == 3 then 1 else 0))) ≡ deepest rules w.kind page above ws + 1
-      go zero le h = omega arith
-      go (suc zero) le h = omega arith
-      go (suc (suc zero)) le h = omega arith
-      go (suc (suc (suc zero))) le h = omega arith
-      go (suc (suc (suc (suc n)))) le h = absurd (omega arith)
+  -- the greatest count once the want is on that plane too
+  abbrev deepest_with : ℕ → ℕ
+  deepest_with n = max (max (count 0 + (if n == 0 then 1 else 0)) (count 1 + (if n == 1 then 1 else 0))) (max (count 2 + (if n == 2 then 1 else 0)) (count 3 + (if n == 3 then 1 else 0)))
 
-  as_deep : (n : ℕ) → w.plane ≡ n → n ≤ 3 → count n ≢ deepest rules w.kind page above ws → deepest rules w.kind page above (ws ++ w ∷ []) ≡ deepest rules w.kind page above ws
-  as_deep n e le h =
-      let a : (q : ℕ) → number (on_plane rules w.kind page above q) (ws ++ w ∷ []) ≡ count q + (if n == q then 1 else 0) = λ q. one_more_on rules w.kind page above q ws w own ∙ rw e refl in
-      rw (a 0, a 1, a 2, a 3) (go n le h)
-    where
-      go : (n : ℕ) → n ≤ 3 → count n ≢ deepest rules w.kind page above ws → max (max (count 0 + (if n == 0 then 1 else 0)) (count 1 + (if n == 1 then 1 else 0))) (max (count 2 + (if n == 2 then 1 else 0)) (count 3 + (if n == 3 then 1 else 0))) ≡ deepest rules w.kind page above ws
-      go zero le h = omega arith
-      go (suc zero) le h = omega arith
-      go (suc (suc zero)) le h = omega arith
-      go (suc (suc (suc zero))) le h = omega arith
-      go (suc (suc (suc (suc n)))) le h = absurd (omega arith)
+  -- it is greater by one where the want's plane was the deepest
+  abbrev Deepens : ℕ → ℕ → Type 0
+  Deepens n now = (count n ≡ deepest rules w.kind page above ws → now ≡ deepest rules w.kind page above ws + 1) × (count n ≢ deepest rules w.kind page above ws → now ≡ deepest rules w.kind page above ws)
+
+  deepens : (n : ℕ) → n ≤ 3 → Deepens n (deepest_with n)
+  deepens zero le = ((λ h. omega arith), (λ h. omega arith))
+  deepens (suc zero) le = ((λ h. omega arith), (λ h. omega arith))
+  deepens (suc (suc zero)) le = ((λ h. omega arith), (λ h. omega arith))
+  deepens (suc (suc (suc zero))) le = ((λ h. omega arith), (λ h. omega arith))
+  deepens (suc (suc (suc (suc n)))) le = absurd (omega arith)
+
+  depth : Deepens w.plane (deepest rules w.kind page above (ws ++ w ∷ []))
+  depth =
+      let a = λ (q : ℕ). one_more_on rules w.kind page above q ws w own in
+      rw (a 0, a 1, a 2, a 3) (deepens w.plane plane)
 
   own_waits : waits_of timing rules (ws ++ w ∷ []) w.kind page above ≡ added_wait (spans_of timing w.kind) rules ws w + waits_of timing rules ws w.kind page above
   own_waits =
       let n : number (in_class rules w.kind page above) (ws ++ w ∷ []) ≡ number (in_class rules w.kind page above) ws + 1 = number_more (in_class rules w.kind page above) ws w ∙ rw own refl in
       let few = deepest_in rules w.kind page above ws in
       elim (cases_eq (count w.plane) (deepest rules w.kind page above ws)) [
-        | inl e ↦ rw (n, deeper w.plane refl plane e, eq-eqb (count w.plane) (deepest rules w.kind page above ws) e) (class_more (spans_of timing w.kind) (number (in_class rules w.kind page above) ws) (deepest rules w.kind page above ws) few)
-        | inr d ↦ rw (n, as_deep w.plane refl plane d, ne_eqb (count w.plane) (deepest rules w.kind page above ws) d) (class_wider (spans_of timing w.kind) (number (in_class rules w.kind page above) ws) (deepest rules w.kind page above ws) few)
+        | inl e ↦ rw (n, depth.0 e, eq-eqb (count w.plane) (deepest rules w.kind page above ws) e) (class_more (spans_of timing w.kind) (number (in_class rules w.kind page above) ws) (deepest rules w.kind page above ws) few)
+        | inr d ↦ rw (n, depth.1 d, ne_eqb (count w.plane) (deepest rules w.kind page above ws) d) (class_wider (spans_of timing w.kind) (number (in_class rules w.kind page above) ws) (deepest rules w.kind page above ws) few)
       ]
 
   kind_more : (kind : Kind) → page < 2 ^ 16 → above < 2 ^ 16 → kind_waits timing rules (ws ++ w ∷ []) kind ≡ (if same_kind kind w.kind then added_wait (spans_of timing w.kind) rules ws w else 0) + kind_waits timing rules ws kind

@@ -15,7 +15,7 @@ use Rattle.onfi_timing.specs.Phases.{phase_length, wait_before}
 use Rattle.onfi_schedule.specs.Runs.{Step, Run}
 use Rattle.onfi_problem.specs.Left.{commands_left, posts_left, post_time, waits_left, want_post, all_posts}
 use Rattle.onfi_bound.specs.Bounds.{on_lun, least, least_with, plus_each, to_post, post_starts, lead, bus}
-use Rattle.onfi_problem.proofs.Perm.{All-has, All-back, All-weaker, Has-map}
+use Rattle.onfi_problem.proofs.Perm.{All-has, All-weaker, Has-map, Has-append_right, Has-append_cases}
 use Rattle.onfi_problem.proofs.Places.{get_set_same, get_set_other, same_place}
 use Rattle.onfi_problem.proofs.Wants.{Has-filter}
 use Rattle.onfi_problem.proofs.Totals.{total_set, total_same, startable_total, startable_wanted}
@@ -43,7 +43,7 @@ least_all (x ∷ xs) e h = go (λ d q. least_all xs d q) (least xs) refl
         let i : min x d ≡ e = cc in
         (omega arith, All-weaker _ _ (λ y l. omega arith) xs (rec d q))
 
-least_has : (xs : List ℕ) (v : ℕ) → Has xs v → (b : ℕ) × (least xs ≡ Some b) × (b ≤ v)
+pub least_has : (xs : List ℕ) (v : ℕ) → Has xs v → (b : ℕ) × (least xs ≡ Some b) × (b ≤ v)
 least_has [] v h = absurd h
 least_has (x ∷ xs) v h = let a = least_all (x ∷ xs) (least_with x (least xs)) refl in (least_with x (least xs), refl, All-has (λ y. least_with x (least xs) ≤ y) (x ∷ xs) v a h)
 
@@ -51,18 +51,44 @@ least_has (x ∷ xs) v h = let a = least_all (x ∷ xs) (least_with x (least xs)
 Starts : Problem → ℕ → Type 0
 Starts p e = (lun : ℕ) (x : LunState) (b : ℕ) → slice_get p.luns lun ≡ Some x → to_post p.timing (on_lun lun p.wants) x ≡ Some b → e ≤ may_go p lun + b
 
-pub starts_all : (p : Problem) (e first : ℕ) (luns : List LunState) → All (λ v. e ≤ v) (post_starts p first luns) → (lun : ℕ) (x : LunState) (b : ℕ) → slice_get luns lun ≡ Some x → to_post p.timing (on_lun (first + lun) p.wants) x ≡ Some b → e ≤ may_go p (first + lun) + b
-starts_all p e first [] a lun x b h k = cc
-starts_all p e first (y ∷ luns) a zero x b h k =
-    let z : first + 0 ≡ first = omega arith in
-    let q : y ≡ x = cc in
-    let k' : to_post p.timing (on_lun first p.wants) y ≡ Some b = rw (q, ← z) k in
-    let a' : All (λ v. e ≤ v) (plus_each (may_go p first) (Some b) ++ post_starts p (first + 1) luns) = rw k' at a in
-    rw z a'.0
-starts_all p e first (y ∷ luns) a (suc lun) x b h k =
-    let z : first + 1 + lun ≡ first + suc lun = omega arith in
-    let rest = All-back (λ v. e ≤ v) (plus_each (may_go p first) (to_post p.timing (on_lun first p.wants) y)) (post_starts p (first + 1) luns) a in
-    subst (λ i. e ≤ may_go p i + b) z (starts_all p e (first + 1) luns rest lun x b h (subst (λ i. to_post p.timing (on_lun i p.wants) x ≡ Some b) (sym z) k))
+-- a first post that is listed
+pub record IsFirstPost (p : Problem) (v : ℕ) : Type 0 where
+  pub lun : ℕ
+  pub state : LunState
+  pub wait : ℕ
+  pub at : slice_get p.luns lun ≡ Some state
+  pub post : to_post p.timing (on_lun lun p.wants) state ≡ Some wait
+  pub is : v ≡ may_go p lun + wait
+
+in_starts : (p : Problem) (first i lun b : ℕ) (luns : List LunState) (x : LunState) → first + i ≡ lun → slice_get luns i ≡ Some x → to_post p.timing (on_lun lun p.wants) x ≡ Some b
+    → Has (post_starts p first luns) (may_go p lun + b)
+in_starts p first i lun b [] x e h k = cc
+in_starts p first zero lun b (y ∷ luns) x e h k =
+    let here : first ≡ lun = omega arith in
+    let same : y ≡ x = cc in
+    let k' : to_post p.timing (on_lun lun p.wants) y ≡ Some b = rw same k in
+    rw (here, k') (inl refl)
+in_starts p first (suc i) lun b (y ∷ luns) x e h k =
+    Has-append_right (plus_each (may_go p first) (to_post p.timing (on_lun first p.wants) y)) (post_starts p (first + 1) luns) _ (in_starts p (first + 1) i lun b luns x (omega arith) h k)
+
+pub starts_have : (p : Problem) (lun : ℕ) (x : LunState) (b : ℕ) → slice_get p.luns lun ≡ Some x → to_post p.timing (on_lun lun p.wants) x ≡ Some b → Has (post_starts p 0 p.luns) (may_go p lun + b)
+starts_have p lun x b h k = in_starts p 0 lun lun b p.luns x (omega arith) h k
+
+start_in : (p : Problem) (first v : ℕ) (luns : List LunState) → ((i lun : ℕ) (x : LunState) → first + i ≡ lun → slice_get luns i ≡ Some x → slice_get p.luns lun ≡ Some x)
+    → Has (post_starts p first luns) v → IsFirstPost p v
+start_in p first v [] h k = absurd k
+start_in p first v (y ∷ luns) h k = elim (Has-append_cases (plus_each (may_go p first) (to_post p.timing (on_lun first p.wants) y)) (post_starts p (first + 1) luns) v k) [
+  | inl a ↦ here (to_post p.timing (on_lun first p.wants) y) refl a
+  | inr a ↦ start_in p (first + 1) v luns (λ i lun x e q. h (suc i) lun x (omega arith) q) a
+]
+  where
+    here : (o : Option ℕ) → to_post p.timing (on_lun first p.wants) y ≡ o → Has (plus_each (may_go p first) o) v → IsFirstPost p v
+    here None q a = absurd a
+    here (Some b) q (inl e) = record { lun = first; state = y; wait = b; at = h 0 first y (omega arith) refl; post = q; is = sym e }
+    here (Some b) q (inr a) = absurd a
+
+pub start_of : (p : Problem) (v : ℕ) → Has (post_starts p 0 p.luns) v → IsFirstPost p v
+start_of p v k = start_in p 0 v p.luns (λ i lun x e q. let z : i ≡ lun = omega arith in subst (λ j. slice_get p.luns j ≡ Some x) z q) k
 
 -- the posts that are left, with this phase
 posts_step : (p : Problem) (l : ℕ) (g : List Want) (n t : ℕ) (x : LunState) (wants : List Want) → slice_get p.luns l ≡ Some x → 1 ≤ length g → post_time p.timing x + total (want_post p.timing) p.wants ≡ posts_left (length g) n * (group_spans p.timing g).post + total (want_post p.timing) wants → all_posts p + posts_left (length g) (n + 1) * (group_spans p.timing g).post ≡ all_posts (ran_with p l g n t wants) + posts_left (length g) n * (group_spans p.timing g).post
@@ -209,4 +235,4 @@ lead_bound (s ∷ steps) p f ip run = go (least (post_starts p 0 p.luns)) refl
   where
     go : (o : Option ℕ) → least (post_starts p 0 p.luns) ≡ o → lead p ≤ f
     go None q = rw q (bus_at (s ∷ steps) p f ip run)
-    go (Some e) q = rw q (lead_run steps p f e s ip (λ lun x b h k. let z : 0 + lun ≡ lun = omega arith in subst (λ i. e ≤ may_go p i + b) z (starts_all p e 0 p.luns (least_all _ e q) lun x b h (subst (λ i. to_post p.timing (on_lun i p.wants) x ≡ Some b) (sym z) k))) run)
+    go (Some e) q = rw q (lead_run steps p f e s ip (λ lun x b h k. All-has (λ v. e ≤ v) (post_starts p 0 p.luns) (may_go p lun + b) (least_all _ e q) (starts_have p lun x b h k)) run)

@@ -19,6 +19,7 @@ use Rattle.onfi_bound.specs.declared.load.Load.{Load}
 use Rattle.onfi_bound.specs.Bounds.{least, least_with, on_lun, wants_work, page_class, above_class}
 use Rattle.onfi_bound.specs.Parts.{added_wait, has_kind}
 use Rattle.onfi_bound.specs.Loads.{IsLeast, IsLoad, IsShortLoad, IsLoadBefore, AreLoads, AreLoadsBefore, commands_to_post}
+use Rattle.onfi_problem.proofs.Perm.{All-weaker}
 use Rattle.onfi_bound.proofs.DieBound.{no_work}
 use Rattle.onfi_bound.proofs.Counts.{on_lun_with, on_lun_without, work_with}
 
@@ -169,12 +170,10 @@ pub before_next : (x : Position) (number : ℕ) (load : Load) → IsLoadBefore x
 before_next x number load h = record { takes = h.takes; before = λ i a k. h.before i (omega arith) k }
 
 pub all_before_next : (x : Position) (number : ℕ) (loads : List Load) → AreLoadsBefore x number loads → AreLoadsBefore x (number + 1) loads
-all_before_next x number [] h = tt
-all_before_next x number (load ∷ loads) h = (before_next x number load h.0, all_before_next x number loads h.1)
+all_before_next x number loads h = All-weaker _ (IsLoadBefore x (number + 1)) (before_next x number) loads h
 
 pub loads_of : (x : Position) (number : ℕ) (loads : List Load) → AreLoadsBefore x number loads → AreLoads x loads
-loads_of x number [] h = tt
-loads_of x number (load ∷ loads) h = (h.0.takes.takes, loads_of x number loads h.1)
+loads_of x number loads h = All-weaker (IsLoadBefore x number) _ (λ load k. k.takes.takes) loads h
 
 -- a move leaves what was prepared
 pub loads_after : (x : Position) (m : KeptMove) (loads : List Load) → IsMove x.problem (move_of x.groups m) → AreLoads x loads → AreLoads (moved x m) loads

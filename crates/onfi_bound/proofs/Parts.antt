@@ -1,5 +1,5 @@
 -- What is read from the parts of a problem.
-use Rattle.std.proofs.Common.{◌≡◌, ℕ, suc, ◌+◌, ◌*◌, ◌-◌, ◌^◌, ◌≤◌, ◌<◌, inl, inr, Bool, true, false, if◌then◌else◌, List, [], ◌∷◌, length, map, Some, refl, ◌∙◌, subst, arith, get_or}
+use Rattle.std.proofs.Common.{◌≡◌, ℕ, suc, ◌+◌, ◌*◌, ◌-◌, ◌^◌, ◌≤◌, ◌<◌, inl, inr, Bool, true, false, if◌then◌else◌, List, [], ◌∷◌, length, map, Some, refl, sym, ◌∙◌, subst, arith, get_or}
 use Rattle.std.specs.Prelude.{slice_get, ◌==◌, nat_lt, max}
 use Rattle.std.specs.List.{AllByRecursion as All, list_any}
 use Rattle.std.proofs.lemmas.Bool.{cases_Bool, cases_lt, ne_eqb, lt-ltb, le-ltb}
@@ -21,7 +21,7 @@ use Rattle.onfi_bound.specs.Bounds.{same_kind, commands_next, has_command}
 use Rattle.onfi_bound.specs.Parts.{chain_of, IsShort, is_kind}
 use Rattle.onfi_bound.proofs.Classes.{times_left}
 use Rattle.onfi_problem.proofs.After.{in_table}
-use Rattle.onfi_problem.proofs.Lists.{all_at}
+use Rattle.onfi_problem.proofs.Lists.{all_at, total_by, any_by}
 
 placed_from : (groups : List (List Want)) (luns : List Lun) → ((l : ℕ) (g : List Want) (n r : ℕ) → slice_get (map (state_of groups) luns) l ≡ Some (Running g n r) → 1 ≤ length g) → All (λ lun. 1 ≤ lun.next → lun.place < length groups) luns
 placed_from groups [] h = tt
@@ -59,15 +59,19 @@ pub chains_short : (p : Problem) (chains : List Chain) → InLimits p → chains
 chains_short p chains lim e = rw e (short_from p.timing p.luns (short_at p lim))
 
 -- sums over chains
-pub chain_commands : (timing : Timing) (luns : List LunState) → total (λ (c : Chain). c.commands) (map (chain_of timing) luns) ≡ total (command_time timing) luns
-chain_commands timing [] = refl
-chain_commands timing (Free since ∷ luns) = let e = chain_commands timing luns in omega arith
-chain_commands timing (Running g n r ∷ luns) = let e = chain_commands timing luns in omega arith
+pub own_commands : (timing : Timing) (x : LunState) → (chain_of timing x).commands ≡ command_time timing x
+own_commands timing (Free since) = refl
+own_commands timing (Running g n r) = refl
 
-pub chain_posts : (timing : Timing) (luns : List LunState) → total (λ (c : Chain). c.posts) (map (chain_of timing) luns) ≡ total (post_time timing) luns
-chain_posts timing [] = refl
-chain_posts timing (Free since ∷ luns) = let e = chain_posts timing luns in omega arith
-chain_posts timing (Running g n r ∷ luns) = let e = chain_posts timing luns in omega arith
+pub own_posts : (timing : Timing) (x : LunState) → (chain_of timing x).posts ≡ post_time timing x
+own_posts timing (Free since) = refl
+own_posts timing (Running g n r) = refl
+
+chain_commands : (timing : Timing) (luns : List LunState) → total (λ (c : Chain). c.commands) (map (chain_of timing) luns) ≡ total (command_time timing) luns
+chain_commands timing luns = sym (total_by (command_time timing) (λ (c : Chain). c.commands) (chain_of timing) (λ x. sym (own_commands timing x)) luns)
+
+chain_posts : (timing : Timing) (luns : List LunState) → total (λ (c : Chain). c.posts) (map (chain_of timing) luns) ≡ total (post_time timing) luns
+chain_posts timing luns = sym (total_by (post_time timing) (λ (c : Chain). c.posts) (chain_of timing) (λ x. sym (own_posts timing x)) luns)
 
 pub next_kind : (timing : Timing) (kind : Kind) (x : LunState) → is_kind kind (chain_of timing x).command ≡ commands_next kind x
 next_kind timing kind (Free since) = refl
@@ -77,8 +81,7 @@ next_kind timing kind (Running g n r) = elim (cases_Bool (nat_lt n (length g))) 
 ]
 
 pub chain_kinds : (timing : Timing) (kind : Kind) (luns : List LunState) → list_any (λ (c : Chain). is_kind kind c.command) (map (chain_of timing) luns) ≡ list_any (commands_next kind) luns
-chain_kinds timing kind [] = refl
-chain_kinds timing kind (x ∷ luns) = rw (next_kind timing kind x, chain_kinds timing kind luns) refl
+chain_kinds timing kind luns = sym (any_by (commands_next kind) (λ (c : Chain). is_kind kind c.command) (chain_of timing) (λ x. sym (next_kind timing kind x)) luns)
 
 -- what the code reads is what is left
 pub chains_are : (p : Problem) (timing : Timing) (groups groups' : List (List Want)) (luns : List Lun) (chains : List Chain) → timing ≡ p.timing → groups ≡ groups' → map (state_of groups') luns ≡ p.luns → chains ≡ map (chain_of timing) (map (state_of groups) luns) → chains ≡ map (chain_of p.timing) p.luns

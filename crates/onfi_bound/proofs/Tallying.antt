@@ -28,8 +28,8 @@ use Rattle.onfi_bound.specs.Bounds.{on_lun, wants_work, least, least_with, earli
 use Rattle.onfi_bound.specs.Parts.{chain_of, is_kind, has_kind, AreSums}
 use Rattle.onfi_bound.specs.Loads.{IsLoad, IsLeast, commands_to_post, IsChainAt, IsTally}
 use Rattle.onfi_bound.proofs.DieBound.{no_work}
-use Rattle.onfi_bound.proofs.Parts.{next_kind}
-use Rattle.onfi_bound.proofs.Whole.{die_working, die_idle}
+use Rattle.onfi_bound.proofs.Parts.{next_kind, own_commands, own_posts}
+use Rattle.onfi_bound.proofs.Whole.{die_working, die_nothing}
 use Rattle.onfi_bound.proofs.Ends.{bus_small, die_small}
 use Rattle.onfi_bound.proofs.Counting.{any_cons}
 
@@ -41,14 +41,6 @@ or_more false b c = refl
 from_of : (timing : Timing) (x : LunState) → (chain_of timing x).from ≡ free_from (Some x)
 from_of timing (Free since) = refl
 from_of timing (Running g n r) = refl
-
-commands_of : (timing : Timing) (x : LunState) → (chain_of timing x).commands ≡ command_time timing x
-commands_of timing (Free since) = refl
-commands_of timing (Running g n r) = refl
-
-posts_of : (timing : Timing) (x : LunState) → (chain_of timing x).posts ≡ post_time timing x
-posts_of timing (Free since) = refl
-posts_of timing (Running g n r) = refl
 
 -- how long to the first post
 post_of : (timing : Timing) (rules : Rules) (x : LunState) (ws : List Want) (first work : ℕ) → IsLeast (commands_to_post timing ws) first → work ≡ wants_work timing rules ws → ((chain_of timing x).running ≡ true) ⊎ (1 ≤ work) → to_post timing ws x ≡ Some (if (chain_of timing x).running then (chain_of timing x).commands + (chain_of timing x).waits else first)
@@ -82,9 +74,6 @@ done_more p lun before done so here more l k = elim (cases_lt l lun) [
 pub all_below : (p : Problem) (e done : ℕ) → ((l : ℕ) → l < length p.luns → die p l ≤ max done p.bus_free) → done < e → p.bus_free < e → (l : ℕ) → l < length p.luns → die p l < e
 all_below p e done so d b l k = let h = so l k in omega arith
 
-pub bus_free_first : (p : Problem) → p.bus_free ≤ bus p
-bus_free_first p = omega arith
-
 -- when a LUN is done that has something left
 pub done_is : (p : Problem) (lun : ℕ) (load : Load) (chain : Chain) → IsLoad p.timing p.rules p.wants load → IsChainAt p lun chain → lun < 8 → (chain.running ≡ true) ⊎ (1 ≤ get_or load.work lun 0) → max p.bus_free chain.from + chain.commands + chain.posts + chain.waits + get_or load.work lun 0 ≡ die p lun
 done_is p lun load chain h at small b = die_working p lun chain (get_or load.work lun 0) at (h.work lun small) b
@@ -100,8 +89,8 @@ pub tally_room : (p : Problem) (lun : ℕ) (t : Tally) (chain : Chain) → InLim
 tally_room p lun t chain lim (x, at, q) h =
     let d = drop_next p.luns lun x at in
     let b = bus_small p lim in
-    let c1 : chain.commands ≡ command_time p.timing x = ap (λ (c : Chain). c.commands) q ∙ commands_of p.timing x in
-    let c2 : chain.posts ≡ post_time p.timing x = ap (λ (c : Chain). c.posts) q ∙ posts_of p.timing x in
+    let c1 : chain.commands ≡ command_time p.timing x = ap (λ (c : Chain). c.commands) q ∙ own_commands p.timing x in
+    let c2 : chain.posts ≡ post_time p.timing x = ap (λ (c : Chain). c.posts) q ∙ own_posts p.timing x in
     let a1 : t.sums.commands + (command_time p.timing x + total (command_time p.timing) (drop (lun + 1) p.luns)) ≡ all_commands p = rw d at h.commands in
     let a2 : t.sums.posts + (post_time p.timing x + total (post_time p.timing) (drop (lun + 1) p.luns)) ≡ all_posts p = rw d at h.posts in
     (omega arith, omega arith)
@@ -111,8 +100,8 @@ pub tally_more : (p : Problem) (lun post : ℕ) (load : Load) (chain : Chain) (t
 tally_more p lun post load chain t t' h (x, at, q) small b so commands posts kinds is first done =
     let d = drop_next p.luns lun x at in
     let rest = drop (lun + 1) p.luns in
-    let c1 : chain.commands ≡ command_time p.timing x = ap (λ (c : Chain). c.commands) q ∙ commands_of p.timing x in
-    let c2 : chain.posts ≡ post_time p.timing x = ap (λ (c : Chain). c.posts) q ∙ posts_of p.timing x in
+    let c1 : chain.commands ≡ command_time p.timing x = ap (λ (c : Chain). c.commands) q ∙ own_commands p.timing x in
+    let c2 : chain.posts ≡ post_time p.timing x = ap (λ (c : Chain). c.posts) q ∙ own_posts p.timing x in
     let a1 : t.sums.commands + (command_time p.timing x + total (command_time p.timing) rest) ≡ all_commands p = rw d at so.commands in
     let a2 : t.sums.posts + (post_time p.timing x + total (post_time p.timing) rest) ≡ all_posts p = rw d at so.posts in
     let b' : ((chain_of p.timing x).running ≡ true) ⊎ (1 ≤ get_or load.work lun 0) = rw q at b in
@@ -134,10 +123,7 @@ tally_more p lun post load chain t t' h (x, at, q) small b so commands posts kin
 
 -- a LUN with nothing left
 pub idle_done : (p : Problem) (lun : ℕ) (load : Load) (chain : Chain) → IsLoad p.timing p.rules p.wants load → IsChainAt p lun chain → lun < 8 → chain.running ≡ false → get_or load.work lun 0 ≡ 0 → p.bus_free ≡ die p lun
-idle_done p lun load chain h (x, at, q) small idle z =
-    let w : wants_work p.timing p.rules (on_lun lun p.wants) ≡ 0 = sym (h.work lun small) ∙ z in
-    let i : (chain_of p.timing x).running ≡ false = sym (ap (λ (c : Chain). c.running) q) ∙ idle in
-    rw at (sym (die_idle p lun x (on_lun lun p.wants) i w))
+idle_done p lun load chain h at small idle z = die_nothing p lun chain (get_or load.work lun 0) at (h.work lun small) idle z
 
 pub tally_idle : (p : Problem) (lun : ℕ) (load : Load) (chain : Chain) (t t' : Tally) → IsLoad p.timing p.rules p.wants load → IsChainAt p lun chain → lun < 8 → chain.running ≡ false → get_or load.work lun 0 ≡ 0 → IsTally p lun t → t'.sums ≡ t.sums → t'.first ≡ t.first → ((l : ℕ) → l < lun + 1 → die p l ≤ max t'.done p.bus_free) → IsTally p (lun + 1) t'
 tally_idle p lun load chain t t' h (x, at, q) small idle z so sums first done =

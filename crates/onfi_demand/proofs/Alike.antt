@@ -1,5 +1,5 @@
 -- What has the same left has the same moves, which leave the same.
-use Rattle.std.proofs.Common.{◌≡◌, ◌≢◌, ℕ, ◌+◌, ◌*◌, ◌≤◌, ◌<◌, inl, inr, List, [], ◌∷◌, length, map, Option, Some, None, refl, sym, ap, ◌∙◌, subst, arith}
+use Rattle.std.proofs.Common.{◌≡◌, ◌≢◌, ℕ, ◌+◌, ◌*◌, ◌≤◌, ◌<◌, inl, inr, Bool, true, false, List, [], ◌∷◌, length, map, Option, Some, None, refl, sym, ap, ◌∙◌, subst, arith}
 use Rattle.std.specs.Prelude.{slice_get, slice_set}
 use Rattle.std.specs.Option.{option_map}
 use Rattle.std.proofs.lemmas.Bool.{cases_lt}
@@ -20,7 +20,7 @@ use Rattle.onfi_problem.proofs.Lists.{map_set}
 use Rattle.onfi_schedule.proofs.Exchange.{not_member}
 use Rattle.onfi_bound.specs.Bounds.{on_lun}
 use Rattle.onfi_bound.proofs.DieBound.{on_lun_other}
-use Rattle.onfi_demand.specs.Left.{Idle, Rest, left_on, SameLeft, has_left_at, has_left}
+use Rattle.onfi_demand.specs.Left.{LunLeft, Idle, Rest, left_on, SameLeft, has_left_at, has_left}
 
 abbrev pub Alike : List LunState → List LunState → Type 0
 Alike xs ys = map left_on xs ≡ map left_on ys
@@ -155,28 +155,22 @@ pub both_move : (p q : Problem) (m : Move) → SameLeft p q → IsMove q m → B
 both_move p q m s = of_same (λ z. IsMove z m → BothMove p z m) p q s (both_times p.timing p.rules m p.wants p.bus_free q.bus_free p.luns q.luns s.luns)
 
 -- something is left to both or to neither
+abbrev has_rest : List Want → Option LunLeft → Bool
+has_rest wants (Some (Rest kind k n)) = true
+has_rest (w ∷ wants) _ = true
+has_rest [] _ = false
+
+has_by : (ws : List Want) (o : Option LunState) → has_left_at ws o ≡ has_rest ws (option_map left_on o)
+has_by ws (Some (Running g n r)) = refl
+has_by [] None = refl
+has_by [] (Some (Free a)) = refl
+has_by (w ∷ ws) None = refl
+has_by (w ∷ ws) (Some (Free a)) = refl
+
 pub same_has : (p q : Problem) (l : ℕ) → SameLeft p q → has_left p l ≡ has_left q l
-same_has p q l s = rw s.wants (go (on_lun l q.wants) (slice_get p.luns l) (slice_get q.luns l) (alike_at p.luns q.luns l s.luns))
-  where
-    go : (ws : List Want) (a b : Option LunState) → option_map left_on a ≡ option_map left_on b → has_left_at ws a ≡ has_left_at ws b
-    go [] None None e = refl
-    go [] None (Some (Free b)) e = refl
-    go [] None (Some (Running g n r)) e = cc
-    go [] (Some (Free a)) None e = refl
-    go [] (Some (Free a)) (Some (Free b)) e = refl
-    go [] (Some (Free a)) (Some (Running g n r)) e = cc
-    go [] (Some (Running g n r)) None e = cc
-    go [] (Some (Running g n r)) (Some (Free b)) e = cc
-    go [] (Some (Running g n r)) (Some (Running g' n' r')) e = refl
-    go (w ∷ ws) None None e = refl
-    go (w ∷ ws) None (Some (Free b)) e = refl
-    go (w ∷ ws) None (Some (Running g n r)) e = refl
-    go (w ∷ ws) (Some (Free a)) None e = refl
-    go (w ∷ ws) (Some (Free a)) (Some (Free b)) e = refl
-    go (w ∷ ws) (Some (Free a)) (Some (Running g n r)) e = refl
-    go (w ∷ ws) (Some (Running g n r)) None e = refl
-    go (w ∷ ws) (Some (Running g n r)) (Some (Free b)) e = refl
-    go (w ∷ ws) (Some (Running g n r)) (Some (Running g' n' r')) e = refl
+same_has p q l s =
+    let ws = on_lun l q.wants in
+    rw s.wants (has_by ws (slice_get p.luns l) ∙ (ap (has_rest ws) (alike_at p.luns q.luns l s.luns) ∙ sym (has_by ws (slice_get q.luns l))))
 
 -- a move leaves the other LUNs what they had
 pub other_has : (p : Problem) (m : Move) (t l : ℕ) → IsProblem p → IsMove p m → l ≢ move_lun m → has_left (placed p m t) l ≡ has_left p l

@@ -361,8 +361,6 @@ within_head go r q x h = elim (cases_Bool (nat_le r (go + x.from))) [
 -- the phase is within: the others stand behind it
 taken : (p p' : Problem) (j t r q : ℕ) → (s : Stepped p p' j t r q) → may_go p j ≤ t → r ≤ may_go p j → window p r q ≤ s.phase.length + window p' (r + s.phase.length) q
 taken p p' j t r q s late h =
-    let bus = s.bus in
-    let own = s.own in
     let one = one_below (may_go p j) r q s.phase in
     let all = within_all (may_go p' j) (may_go p' j) r (r + s.phase.length) q (phases_left_on p' j) (omega arith) in
     let sum = sum_but_one (length p.luns) j s.phase.length (λ l. within (may_go p l) r q (phases_left_on p l)) (λ l. within (may_go p' l) (r + s.phase.length) q (phases_left_on p' l))
@@ -372,7 +370,6 @@ taken p p' j t r q s late h =
 -- it isn't: all that was within still is
 left_out : (p p' : Problem) (j t r q : ℕ) → (s : Stepped p p' j t r q) → may_go p j ≤ t → one (may_go p j) r q s.phase ≡ 0 → p.bus_free ≤ p'.bus_free → window p r q ≤ window p' r q
 left_out p p' j t r q s late none bus =
-    let own = s.own in
     let sum = sum_but_one (length p.luns) j 0 (λ l. within (may_go p l) r q (phases_left_on p l)) (λ l. within (may_go p' l) r q (phases_left_on p' l))
     (λ l d. let e = s.others l d in let b = s.later l d in rw e (within_sooner (may_go p l) (may_go p' l) r q (phases_left_on p l) (omega arith))) (omega arith) in
     rw (s.luns) (omega arith)
@@ -384,8 +381,6 @@ window_below p (s ∷ steps) f r q ip some (mv, on_time, run) =
     let ip' = kept p s.move s.start ip mv in
     let j = move_lun s.move in
     let st = stepped p s.move s.start r q ip mv on_time in
-    let bus = st.bus in
-    let here = st.here in
     elim (cases_Bool (is_within (may_go p j) r q st.phase)) [
       | inl k ↦ (
           let head = within_head (may_go p j) r q st.phase k in

@@ -11,14 +11,15 @@ use Rattle.onfi_problem.specs.declared.lun_state.LunState.TheVariants.{Free, Run
 use Rattle.onfi_problem.specs.Problem.{Problem, IsProblem}
 use Rattle.onfi_problem.specs.Moves.{may_go}
 use Rattle.onfi_problem.specs.Left.{all_posts}
-use Rattle.onfi_problem.proofs.Perm.{All-append}
+use Rattle.onfi_group.specs.Words.{Has}
+use Rattle.onfi_problem.proofs.Perm.{All-has, All-each}
 use Rattle.onfi_problem.proofs.Places.{same_place}
 use Rattle.onfi_bound.specs.Bounds.{lead, die, least, least_with, plus_each, to_post, post_starts, on_lun}
 use Rattle.onfi_bound.proofs.BusBound.{bus_bound}
-use Rattle.onfi_bound.proofs.LeadBound.{lead_bound, least_all, starts_all}
+use Rattle.onfi_bound.proofs.LeadBound.{lead_bound, least_all, least_has, starts_have, start_of}
 use Rattle.onfi_bound.proofs.TrailBound.{trail_bound}
 use Rattle.onfi_bound.proofs.DieBound.{die_bound}
-use Rattle.onfi_demand.specs.Left.{left_on, SameLeft, has_left_at, has_left}
+use Rattle.onfi_demand.specs.Left.{LunLeft, left_on, SameLeft, has_left_at, has_left}
 use Rattle.onfi_demand.specs.Demand.{Meets, Bounded, Holds, of_bus, of_one, of_luns, before_post, lead_at, lead_demand}
 use Rattle.onfi_demand.specs.Laws.{Asks, BusLaw, LeadLaw, TrailLaw, DieLaw, EndLaw}
 use Rattle.onfi_demand.proofs.Alike.{Alike, alike_at, of_same, with_times, same_has, same_luns}
@@ -37,7 +38,6 @@ pub bus_asks : BusLaw
 bus_asks p e le = record {
   holds = λ q s iq m steps f run.
       let a = bus_bound steps q f iq run in
-      let b = m.bus in
       let c = same_commands p q s in
       let d = same_posts p q s in
       omega arith;
@@ -49,8 +49,6 @@ trail_asks p e t is le = record {
   holds = λ q s iq m steps f run.
       let u = trail_alike p q t s is in
       let a = trail_bound steps q f (q.bus_free + u.0) iq u.2 run in
-      let b = m.bus in
-      let c = u.1 in
       omega arith;
   meets = record { bus = omega arith; luns = λ l h. omega arith };
 }
@@ -87,62 +85,23 @@ die_asks p e lun within le = elim (cases_Bool (has_left p lun)) [
   | inr h ↦ rw h (let b = die_idle p lun (on_lun lun p.wants) (slice_get p.luns lun) h in bus_asks_all p e (omega arith))
 ]
 
--- the first posts, by LUN
-all_starts : (p : Problem) (e i : ℕ) (luns : List LunState) → ((l : ℕ) (x : LunState) (b : ℕ) → slice_get luns l ≡ Some x → to_post p.timing (on_lun (i + l) p.wants) x ≡ Some b → e ≤ may_go p (i + l) + b) → All (λ v. e ≤ v) (post_starts p i luns)
-all_starts p e i [] h = tt
-all_starts p e i (x ∷ luns) h = All-append (λ v. e ≤ v) (plus_each (may_go p i) (to_post p.timing (on_lun i p.wants) x)) (post_starts p (i + 1) luns) (one (to_post p.timing (on_lun i p.wants) x) refl) (all_starts p e (i + 1) luns later)
-  where
-    here : i + 0 ≡ i
-    here = omega arith
-
-    one : (o : Option ℕ) → to_post p.timing (on_lun i p.wants) x ≡ o → All (λ v. e ≤ v) (plus_each (may_go p i) o)
-    one None k = tt
-    one (Some b) k = (subst (λ j. e ≤ may_go p j + b) here (h 0 x b refl (subst (λ j. to_post p.timing (on_lun j p.wants) x ≡ Some b) (sym here) k)), tt)
-
-    later : (l : ℕ) (y : LunState) (b : ℕ) → slice_get luns l ≡ Some y → to_post p.timing (on_lun (i + 1 + l) p.wants) y ≡ Some b → e ≤ may_go p (i + 1 + l) + b
-    later l y b at k =
-        let z : i + suc l ≡ i + 1 + l = omega arith in
-        subst (λ j. e ≤ may_go p j + b) z (h (suc l) y b at (subst (λ j. to_post p.timing (on_lun j p.wants) y ≡ Some b) (sym z) k))
-
-starts_at : (p : Problem) (e : ℕ) (luns : List LunState) → All (λ v. e ≤ v) (post_starts p 0 luns) → (l : ℕ) (x : LunState) (b : ℕ) → slice_get luns l ≡ Some x → to_post p.timing (on_lun l p.wants) x ≡ Some b → e ≤ may_go p l + b
-starts_at p e luns a l x b at k =
-    let z : 0 + l ≡ l = omega arith in
-    subst (λ j. e ≤ may_go p j + b) z (starts_all p e 0 luns a l x b at (subst (λ j. to_post p.timing (on_lun j p.wants) x ≡ Some b) (sym z) k))
-
-all_starts_at : (p : Problem) (e : ℕ) (luns : List LunState) → ((l : ℕ) (x : LunState) (b : ℕ) → slice_get luns l ≡ Some x → to_post p.timing (on_lun l p.wants) x ≡ Some b → e ≤ may_go p l + b) → All (λ v. e ≤ v) (post_starts p 0 luns)
-all_starts_at p e luns h = all_starts p e 0 luns (λ l x b at k. let z : 0 + l ≡ l = omega arith in subst (λ j. e ≤ may_go p j + b) (sym z) (h l x b at (subst (λ j. to_post p.timing (on_lun j p.wants) x ≡ Some b) z k)))
-
 least_above : (xs : List ℕ) (e v : ℕ) → All (λ x. e ≤ x) xs → least xs ≡ Some v → e ≤ v
 least_above [] e v a h = cc
 least_above (x ∷ []) e v a h = let q : x ≡ v = cc in let b = a.0 in omega arith
 least_above (x ∷ y ∷ xs) e v a h =
     let q : least_with x (Some (least_with y (least xs))) ≡ v = cc in
-    let b = a.0 in
     let c = least_above (y ∷ xs) e (least_with y (least xs)) a.1 refl in
     omega arith
 
--- a first post is there for both or for neither
-starts_alike : (p q : Problem) (i : ℕ) (xs ys : List LunState) → p.timing ≡ q.timing → p.wants ≡ q.wants → Alike xs ys → length (post_starts p i xs) ≡ length (post_starts q i ys)
-starts_alike p q i [] [] t w h = refl
-starts_alike p q i [] (y ∷ ys) t w h = cc
-starts_alike p q i (x ∷ xs) [] t w h = cc
-starts_alike p q i (x ∷ xs) (y ∷ ys) t w h =
-    let head : left_on x ≡ left_on y = cc in
-    let tail : Alike xs ys = cc in
-    let rest = starts_alike p q (i + 1) xs ys t w tail in
-    let same : to_post p.timing (on_lun i p.wants) x ≡ to_post q.timing (on_lun i q.wants) y = rw (t, w) (post_alike q.timing (on_lun i q.wants) x y head) in
-    rw same (one (to_post q.timing (on_lun i q.wants) y) rest)
-  where
-    one : (o : Option ℕ) → length (post_starts p (i + 1) xs) ≡ length (post_starts q (i + 1) ys) → length (plus_each (may_go p i) o ++ post_starts p (i + 1) xs) ≡ length (plus_each (may_go q i) o ++ post_starts q (i + 1) ys)
-    one None r = r
-    one (Some b) r = ap suc r
+least_listed : (xs : List ℕ) (v : ℕ) → least xs ≡ Some v → (x : ℕ) × Has xs x
+least_listed [] v h = cc
+least_listed (x ∷ xs) v h = (x, inl refl)
 
-some_least : (xs ys : List ℕ) (v : ℕ) → length xs ≡ length ys → least xs ≡ Some v → (u : ℕ) × (least ys ≡ Some u)
-some_least [] ys v e h = cc
-some_least (x ∷ xs) [] v e h = absurd (omega arith)
-some_least (x ∷ xs) (y ∷ ys) v e h = (least_with y (least ys), refl)
+pub some_state : (o : Option LunState) (l : LunLeft) → option_map left_on o ≡ Some l → (x : LunState) × (o ≡ Some x) × (left_on x ≡ l)
+some_state None l h = cc
+some_state (Some x) l h = (x, refl, cc)
 
-post_has : (timing : Timing) (ws : List Want) (x : LunState) (b : ℕ) → to_post timing ws x ≡ Some b → has_left_at ws (Some x) ≡ true
+pub post_has : (timing : Timing) (ws : List Want) (x : LunState) (b : ℕ) → to_post timing ws x ≡ Some b → has_left_at ws (Some x) ≡ true
 post_has timing ws (Running g n r) b h = refl
 post_has timing [] (Free a) b h = cc
 post_has timing (w ∷ ws) (Free a) b h = refl
@@ -161,7 +120,7 @@ lead_some p e first is le = record { holds = λ q s. of_same (λ z. IsProblem z 
       where
         go : (o : Option ℕ) → to_post p.timing (on_lun l p.wants) x ≡ o → before_post (e - all_posts p) o ≤ may_go p l
         go None k = omega arith
-        go (Some b) k = let a = starts_at p first p.luns (least_all (post_starts p 0 p.luns) first is) l x b at k in omega arith
+        go (Some b) k = let a = All-has (λ v. first ≤ v) (post_starts p 0 p.luns) (may_go p l + b) (least_all (post_starts p 0 p.luns) first is) (starts_have p l x b at k) in omega arith
 
     met : (l : ℕ) → has_left p l ≡ true → lead_at p e (on_lun l p.wants) (slice_get p.luns l) ≤ may_go p l
     met l h = met_at l (slice_get p.luns l) refl
@@ -169,8 +128,15 @@ lead_some p e first is le = record { holds = λ q s. of_same (λ z. IsProblem z 
     bounded : (q : Problem) → SameLeft p q → IsProblem (with_times p.timing p.rules p.wants q.bus_free q.luns) → Meets (with_times p.timing p.rules p.wants q.bus_free q.luns) (of_luns (λ l. lead_at p e (on_lun l p.wants) (slice_get p.luns l))) → Bounded (with_times p.timing p.rules p.wants q.bus_free q.luns) e
     bounded q s iz m steps f run =
         let z = with_times p.timing p.rules p.wants q.bus_free q.luns in
-        let all = all_starts_at z (e - all_posts p) q.luns (λ l y b at k. let d = m.luns l (subst (λ o. has_left_at (on_lun l p.wants) o ≡ true) (sym at) (post_has p.timing (on_lun l p.wants) y b k)) in let v = lead_at_is p e l (on_lun l p.wants) (slice_get p.luns l) y b (alike_at p.luns q.luns l s.luns ∙ ap (option_map left_on) at) k in omega arith) in
-        let u = some_least (post_starts p 0 p.luns) (post_starts z 0 q.luns) first (starts_alike p z 0 p.luns q.luns refl refl s.luns) is in
+        let all = All-each (λ v. e - all_posts p ≤ v) (post_starts z 0 q.luns) (λ v h.
+            let t = start_of z v h in
+            let d = m.luns t.lun (subst (λ o. has_left_at (on_lun t.lun p.wants) o ≡ true) (sym t.at) (post_has p.timing (on_lun t.lun p.wants) t.state t.wait t.post)) in
+            let w = lead_at_is p e t.lun (on_lun t.lun p.wants) (slice_get p.luns t.lun) t.state t.wait (alike_at p.luns q.luns t.lun s.luns ∙ ap (option_map left_on) t.at) t.post in
+            omega arith) in
+        let one = least_listed (post_starts p 0 p.luns) first is in
+        let t = start_of p one.0 one.1 in
+        let y = some_state (slice_get q.luns t.lun) (left_on t.state) (sym (alike_at p.luns q.luns t.lun s.luns) ∙ ap (option_map left_on) t.at) in
+        let u = least_has (post_starts z 0 q.luns) _ (starts_have z t.lun y.0 t.wait y.1 (post_alike p.timing (on_lun t.lun p.wants) y.0 t.state y.2 ∙ t.post)) in
         let above = least_above (post_starts z 0 q.luns) (e - all_posts p) u.0 all u.1 in
         let there = u.1 in
         let value : lead z ≡ u.0 + all_posts z = rw there refl in

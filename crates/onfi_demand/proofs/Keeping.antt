@@ -11,9 +11,6 @@ pub small_same : (p q : Problem) → SameLeft p q → IsSmall p → IsSmall q
 small_same p q s small =
     let luns = same_luns p q s in
     let wants = ap (λ ws. length ws) s.wants in
-    let a = small.wants in
-    let b = small.some_luns in
-    let c = small.few_luns in
     record { wants = omega arith; some_luns = omega arith; few_luns = omega arith }
 
 -- a LUN with something left is one of eight

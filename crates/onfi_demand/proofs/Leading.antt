@@ -2,12 +2,12 @@
 use Rattle.std.proofs.Common.{◌≡◌, ℕ, zero, suc, ◌+◌, ◌-◌, ◌≤◌, ◌<◌, inl, inr, Bool, true, false, List, [], ◌∷◌, ◌++◌, length, map, get_or, take, Option, Some, None, refl, sym, ap, ◌∙◌, subst, arith}
 use Rattle.std.specs.Prelude.{slice_get}
 use Rattle.std.specs.Option.{option_map}
-use Rattle.std.proofs.lemmas.Bool.{cases_lt}
+use Rattle.std.proofs.lemmas.Bool.{cases_lt, false≢true}
 use Rattle.std.proofs.lemmas.Option.{get_or_from_slice_get, slice_get_past}
 use Rattle.onfi_timing.specs.declared.timing.Timing.{Timing}
 use Rattle.onfi_timing.specs.Kinds.{spans_of}
 use Rattle.onfi_request.specs.declared.want.Want.{Want}
-use Rattle.onfi_group.specs.Words.{total}
+use Rattle.onfi_group.specs.Words.{Has, total}
 use Rattle.onfi_problem.specs.declared.lun_state.LunState.{LunState}
 use Rattle.onfi_problem.specs.declared.lun_state.LunState.TheVariants.{Free, Running}
 use Rattle.onfi_problem.specs.Left.{post_time, want_post, all_posts}
@@ -16,6 +16,8 @@ use Rattle.onfi_problem.specs.Problem.{Problem}
 use Rattle.onfi_problem.specs.Moves.{may_go}
 use Rattle.onfi_problem.proofs.Places.{get_within, within_get}
 use Rattle.onfi_bound.specs.Bounds.{on_lun, least, least_with, plus_each, to_post, post_starts}
+use Rattle.onfi_bound.proofs.LeadBound.{least_has, starts_have, start_of}
+pub use Rattle.onfi_demand.proofs.Bounding.{some_state, post_has}
 use Rattle.onfi_bound.proofs.Steps.{waiting_yes, waiting_no, summed}
 use Rattle.onfi_demand.specs.Left.{LunLeft, Idle, left_on, has_left, has_left_at}
 use Rattle.onfi_demand.specs.Demand.{before_post, lead_at, lead_demand, of_bus}
@@ -27,18 +29,11 @@ use Rattle.onfi_demand.specs.declared.left.LunLeft.TheVariants.{Idle as KeptIdle
 use Rattle.onfi_demand.specs.declared.left.LunWork.{LunWork}
 use Rattle.onfi_problem.proofs.Wants.{total-append}
 
-total_append : {A : Type 0} (f : A → ℕ) (xs : List A) (x : A) → total f (xs ++ x ∷ []) ≡ total f xs + f x
-total_append f xs x = omega (arith, total-append f xs (x ∷ []))
-
 pub posts_yes : (timing : Timing) (marks : List Bool) (ws : List Want) (i : ℕ) (d : Want) (sum : ℕ) → i < length ws → get_or marks i false ≡ true → sum ≡ total (want_post timing) (waiting_of marks (take i ws)) → sum + (spans_of timing (get_or ws i d).kind).post ≡ total (want_post timing) (waiting_of marks (take (i + 1) ws))
-posts_yes timing marks ws i d sum h m e = rw (waiting_yes marks ws i d h m) (let a = total_append (want_post timing) (waiting_of marks (take i ws)) (get_or ws i d) in omega arith)
+posts_yes timing marks ws i d sum h m e = rw (waiting_yes marks ws i d h m) (let a = total-append (want_post timing) (waiting_of marks (take i ws)) (get_or ws i d ∷ []) in omega arith)
 
 pub posts_no : (timing : Timing) (marks : List Bool) (ws : List Want) (i sum : ℕ) → get_or marks i false ≡ false → sum ≡ total (want_post timing) (waiting_of marks (take i ws)) → sum ≡ total (want_post timing) (waiting_of marks (take (i + 1) ws))
 posts_no timing marks ws i sum m e = e ∙ sym (ap (total (want_post timing)) (waiting_no marks ws i m))
-
-pub some_state : (o : Option LunState) (l : LunLeft) → option_map left_on o ≡ Some l → (x : LunState) × (o ≡ Some x) × (left_on x ≡ l)
-some_state None l h = cc
-some_state (Some x) l h = (x, refl, cc)
 
 -- one running group more
 pub rest_more : (p : Problem) (timing : Timing) (i sum next : ℕ) (left : KeptLeft) → timing ≡ p.timing → i < length p.luns → option_map left_on (slice_get p.luns i) ≡ Some (left_of left) → ((x : LunState) → left_on x ≡ left_of left → next ≡ post_time timing x) → sum ≡ total (post_time p.timing) (take i p.luns) → sum + next ≡ total (post_time p.timing) (take (i + 1) p.luns)
@@ -64,46 +59,16 @@ post_left timing ws (Running g n r) h = (_, refl)
 post_left timing [] (Free a) h = cc
 post_left timing (w ∷ ws) (Free a) h = (_, refl)
 
-post_none : (timing : Timing) (ws : List Want) (x : LunState) → has_left_at ws (Some x) ≡ false → to_post timing ws x ≡ None
-post_none timing ws (Running g n r) h = cc
-post_none timing [] (Free a) h = refl
-post_none timing (w ∷ ws) (Free a) h = cc
-
-starts_none : (p : Problem) (i : ℕ) (luns : List LunState) → ((l : ℕ) (x : LunState) → slice_get luns l ≡ Some x → has_left_at (on_lun (i + l) p.wants) (Some x) ≡ false) → post_starts p i luns ≡ []
-starts_none p i [] h = refl
-starts_none p i (x ∷ luns) h =
-    let z : i + 0 ≡ i = omega arith in
-    let here = post_none p.timing (on_lun i p.wants) x (subst (λ j. has_left_at (on_lun j p.wants) (Some x) ≡ false) z (h 0 x refl)) in
-    rw here (starts_none p (i + 1) luns (λ l y at. let s : i + suc l ≡ i + 1 + l = omega arith in subst (λ j. has_left_at (on_lun j p.wants) (Some y) ≡ false) s (h (suc l) y at)))
-
-starts_some : (p : Problem) (i l : ℕ) (luns : List LunState) (x : LunState) → slice_get luns l ≡ Some x → has_left_at (on_lun (i + l) p.wants) (Some x) ≡ true → 1 ≤ length (post_starts p i luns)
-starts_some p i l [] x at h = cc
-starts_some p i zero (y ∷ luns) x at h =
-    let z : i + 0 ≡ i = omega arith in
-    let q : y ≡ x = cc in
-    let b = post_left p.timing (on_lun i p.wants) y (subst (λ s. has_left_at (on_lun i p.wants) (Some s) ≡ true) (sym q) (subst (λ j. has_left_at (on_lun j p.wants) (Some x) ≡ true) z h)) in
-    let is = b.1 in
-    rw is (omega arith)
-starts_some p i (suc l) (y ∷ luns) x at h =
-    let z : i + suc l ≡ i + 1 + l = omega arith in
-    let e = starts_some p (i + 1) l luns x at (subst (λ j. has_left_at (on_lun j p.wants) (Some x) ≡ true) z h) in
-    go (to_post p.timing (on_lun i p.wants) y) e
-  where
-    go : (o : Option ℕ) → 1 ≤ length (post_starts p (i + 1) luns) → 1 ≤ length (plus_each (may_go p i) o ++ post_starts p (i + 1) luns)
-    go None e = e
-    go (Some b) e = omega arith
-
-least_some : (xs : List ℕ) → 1 ≤ length xs → (v : ℕ) × (least xs ≡ Some v)
-least_some [] h = absurd (omega arith)
-least_some (x ∷ xs) h = (least_with x (least xs), refl)
+none_listed : (xs : List ℕ) → ((v : ℕ) → Has xs v → ⊥) → xs ≡ []
+none_listed [] h = refl
+none_listed (x ∷ xs) h = absurd (h x (inl refl))
 
 -- the numbers of the LUNs, where something is left on some
 pub lead_kept : (p : Problem) (e k : ℕ) (d : Kept) (luns : List ℕ) → k < length p.luns → has_left p k ≡ true → d.bus ≡ 0 → d.luns ≡ luns → ((l : ℕ) → l < length p.luns → get_or luns l 0 ≡ lead_at p e (on_lun l p.wants) (slice_get p.luns l)) → ((l : ℕ) → length p.luns ≤ l → get_or luns l 0 ≡ 0) → IsKept d (lead_demand p e)
 lead_kept p e k d luns within h bus same value rest =
     let x = get_within p.luns k within in
-    let z : 0 + k ≡ k = omega arith in
-    let s = starts_some p 0 k p.luns x.0 x.1 (subst (λ j. has_left_at (on_lun j p.wants) (Some x.0) ≡ true) (sym z) (subst (λ o. has_left_at (on_lun k p.wants) o ≡ true) x.1 h)) in
-    let v = least_some (post_starts p 0 p.luns) s in
+    let b = post_left p.timing (on_lun k p.wants) x.0 (subst (λ o. has_left_at (on_lun k p.wants) o ≡ true) x.1 h) in
+    let v = least_has (post_starts p 0 p.luns) _ (starts_have p k x.0 b.0 x.1 b.1) in
     rw v.1 (record { bus = bus; luns = λ l small. rw same (at l) })
   where
     at : (l : ℕ) → get_or luns l 0 ≡ lead_at p e (on_lun l p.wants) (slice_get p.luns l)
@@ -111,5 +76,8 @@ lead_kept p e k d luns within h bus same value rest =
 
 pub lead_idle : (p : Problem) (e : ℕ) (d : Kept) → IsKept d (of_bus e) → ((l : ℕ) → l < length p.luns → has_left p l ≡ false) → IsKept d (lead_demand p e)
 lead_idle p e d kept h =
-    let none = starts_none p 0 p.luns (λ l x at. let z : l ≡ 0 + l = omega arith in subst (λ j. has_left_at (on_lun j p.wants) (Some x) ≡ false) z (subst (λ o. has_left_at (on_lun l p.wants) o ≡ false) at (h l (within_get p.luns l x at)))) in
+    let none = none_listed (post_starts p 0 p.luns) (λ v k.
+        let t = start_of p v k in
+        let left = subst (λ o. has_left_at (on_lun t.lun p.wants) o ≡ false) t.at (h t.lun (within_get p.luns t.lun t.state t.at)) in
+        false≢true (sym left ∙ post_has p.timing (on_lun t.lun p.wants) t.state t.wait t.post)) in
     rw none kept

@@ -20,7 +20,7 @@ use Rattle.onfi_demand.specs.Left.{left_on, SameLeft, has_left_at, has_left}
 use Rattle.onfi_demand.specs.Demand.{Demand, Meets, Bounded, Holds, of_luns, greatest, length_of, wait_of, through_bus, of_own, asked}
 use Rattle.onfi_demand.specs.Laws.{Shows, GivesWay, OpenLaw, AskedLaw}
 use Rattle.onfi_demand.proofs.Alike.{BothMove, both_move, back_same, same_has, other_has}
-use Rattle.onfi_demand.proofs.Sooner.{move_has, done_alike, run_sooner, sooner_runs}
+use Rattle.onfi_demand.proofs.Sooner.{move_has, done_alike, sooner_behind, run_sooner, sooner_runs}
 
 pub same_self : (p : Problem) → SameLeft p p
 same_self p = record { timing = refl; rules = refl; luns = refl; wants = refl }
@@ -123,7 +123,6 @@ spans p q m b =
     let y = b.there (earliest q m) in
     let xb = x.bus in
     let yb = y.bus in
-    let xo = x.own in
     record { lasts = omega arith; waits = omega arith; ends = yb; ends_here = xb; goes_on = y.own }
 
 -- where each LUN goes on as late as is asked, what is left behind a move meets the demand there
@@ -131,8 +130,6 @@ behind_meets : (p q : Problem) (m : Move) (d : Demand) (needs : ℕ → ℕ) →
 behind_meets p q m d needs ip iq s mv goes asks =
     let b = both_move p q m s mv in
     let k = spans p q m b in
-    let lasts = k.lasts in
-    let ends = k.ends in
     let own = goes (move_lun m) (move_has q m mv) in
     let ask = asks (move_lun m) (left_there p (move_lun m) ip (same_has p q (move_lun m) s ∙ move_has q m mv)) in
     let is = asked_own p m d in
@@ -140,10 +137,6 @@ behind_meets p q m d needs ip iq s mv goes asks =
   where
     met : (b : BothMove p q m) → Spans p q m b.long b.wait → (l : ℕ) → has_left (after q m) l ≡ true → d.lun l ≤ may_go (after q m) l
     met b k l h =
-        let lasts = k.lasts in
-        let waits = k.waits in
-        let ends = k.ends in
-        let go = k.goes_on in
         let own = goes (move_lun m) (move_has q m mv) in
         let ask = asks (move_lun m) (left_there p (move_lun m) ip (same_has p q (move_lun m) s ∙ move_has q m mv)) in
         let is = asked_own p m d in
@@ -173,11 +166,6 @@ pub asked_is_met : AskedLaw
 asked_is_met p m d l ip mv meets h =
     let b = both_move p p m (same_self p) mv in
     let k = spans p p m b in
-    let lasts = k.lasts in
-    let waits = k.waits in
-    let ends = k.ends in
-    let go = k.goes_on in
-    let bus = meets.bus in
     elim (same_place l (move_lun m)) [
       | inl e ↦ (
           let own = own_met b k in
@@ -199,10 +187,6 @@ asked_is_met p m d l ip mv meets h =
   where
     own_met : (b : BothMove p p m) → Spans p p m b.long b.wait → of_own p m d ≤ earliest p m
     own_met b k =
-        let lasts = k.lasts in
-        let waits = k.waits in
-        let ends = k.ends in
-        let go = k.goes_on in
         elim (cases_Bool (has_left (after p m) (move_lun m))) [
           | inl t ↦ (let le = meets.luns (move_lun m) t in rw t (omega arith))
           | inr t ↦ rw t (omega arith)
@@ -210,8 +194,6 @@ asked_is_met p m d l ip mv meets h =
 
     through : (b : BothMove p p m) → Spans p p m b.long b.wait → (i : ℕ) → through_bus p m d i ≤ earliest p m
     through b k i =
-        let lasts = k.lasts in
-        let ends = k.ends in
         elim (same_place i (move_lun m)) [
           | inl e ↦ rw (eq-eqb i (move_lun m) e) (omega arith)
           | inr n ↦ elim (cases_Bool (nat_le (d.lun i) (after p m).bus_free)) [
@@ -229,18 +211,13 @@ at_earliest p m t [] f ip mv le (done, end) =
     ((after p m).bus_free, omega arith, (done_alike (after p m) (placed p m t) (b.left (earliest p m) t) done, refl))
 at_earliest p m t (s ∷ steps) f ip mv le run =
     let b = both_move p p m (same_self p) mv in
-    (f, omega arith, run_sooner steps (after p m) (placed p m t) s f (kept p m t ip mv) (b.left (earliest p m) t) (sooner b) run)
-  where
-    sooner : (b : BothMove p p m) (l : ℕ) → has_left (placed p m t) l ≡ true → may_go (after p m) l ≤ may_go (placed p m t) l
-    sooner b l h =
-        let x = b.here (earliest p m) in
-        let y = b.here t in
-        let xb = x.bus in
-        let yb = y.bus in
-        elim (same_place l (move_lun m)) [
-          | inl e ↦ (let xo = x.own in let yo = y.own in rw e (omega arith))
-          | inr d ↦ (let xo = ap free_from (x.others l d) in let yo = ap free_from (y.others l d) in omega arith)
-        ]
+    let sooner = sooner_behind p p m (earliest p m) t ip b (λ l h. omega arith) mv le le in
+    (f, omega arith, run_sooner steps (after p m) (placed p m t) s f (kept p m t ip mv) (b.left (earliest p m) t) sooner run)
+
+-- where there is a move something is left, also to what has the same left
+some_left : (p q : Problem) → SameLeft p q → (ms : List Move) → 1 ≤ length ms → All (IsMove p) ms → IsDone q → ⊥
+some_left p q s [] n all done = omega arith
+some_left p q s (m ∷ ms) n all done = not_done q m done (both_move q p m (back_same p q s) all.0).is_move
 
 module _ (p : Problem) (e : ℕ) (moves : List Move) (needs : ℕ → ℕ) (ip : IsProblem p) (are : AreMoves p moves) (shows : (m : Move) → Has moves m → Shows e p needs m ⊎ GivesWay e p moves needs m) where
   same_needs : SameLeft p (retiming p needs)
@@ -263,8 +240,6 @@ module _ (p : Problem) (e : ℕ) (moves : List Move) (needs : ℕ → ℕ) (ip :
       let q = retiming p needs in
       let b = both_move p q n same_needs nv in
       let k = spans p q n b in
-      let lasts = k.lasts in
-      let ends = k.ends in
       let fit = g.fits n (moves_here n nv) at in
       let a = goes (move_lun n) (move_has q n nv) in
       let c = goes (move_lun m) (move_has q m mv) in
@@ -275,11 +250,7 @@ module _ (p : Problem) (e : ℕ) (moves : List Move) (needs : ℕ → ℕ) (ip :
   needs_bounded bounded some q s iq meets steps f run =
       let z = retiming p needs in
       let zq : SameLeft z q = record { timing = s.timing; rules = s.rules; luns = sym (same_needs.luns) ∙ s.luns; wants = s.wants } in
-      bounded steps f (sooner_runs z q steps f iq zq (some_left moves some are.moves_only) (λ l h. let k = goes l (same_has z q l zq ∙ h) in let le = meets.luns l h in omega arith) run)
-    where
-      some_left : (ms : List Move) → 1 ≤ length ms → All (IsMove p) ms → IsDone q → ⊥
-      some_left [] n all done = omega arith
-      some_left (m ∷ ms) n all done = not_done q m done (both_move q p m (back_same p q s) all.0).is_move
+      bounded steps f (sooner_runs z q steps f iq zq (some_left p q s moves some are.moves_only) (λ l h. let k = goes l (same_has z q l zq ∙ h) in let le = meets.luns l h in omega arith) run)
 
   step_bounded : (s : Step) (steps : List Step) (f : ℕ) → Run (retiming p needs) (s ∷ steps) f → e ≤ f
   step_bounded s steps f (mv, on_time, run) =
@@ -291,17 +262,12 @@ module _ (p : Problem) (e : ℕ) (moves : List Move) (needs : ℕ → ℕ) (ip :
             let there = (both_move q p g.move (back_same p q same_needs) (All-has (IsMove p) moves g.move are.moves_only g.has_move)).is_move in
             let r = yielding q s.move g.move s.start g.lun f steps iq mv on_time run g.other there g.of_lun (fitting s.move g mv) in
             let le = child_bounded r.move r.is_move (g.shows r.move (moves_here r.move r.is_move) r.of_lun) r.steps r.finish r.run in
-            let le' = r.no_later in
             omega arith)
       ]
 
 pub open_asks : OpenLaw
 open_asks p e moves needs ip are some shows = needs_bounded p e moves needs ip are shows bounded some
   where
-    done_there : (ms : List Move) → 1 ≤ length ms → All (IsMove p) ms → IsDone (retiming p needs) → ⊥
-    done_there [] n all done = omega arith
-    done_there (m ∷ ms) n all done = not_done (retiming p needs) m done (both_move (retiming p needs) p m (back_same p (retiming p needs) (retiming_same p needs)) all.0).is_move
-
     bounded : Bounded (retiming p needs) e
-    bounded [] f (done, end) = absurd (done_there moves some are.moves_only done)
+    bounded [] f (done, end) = absurd (some_left p (retiming p needs) (retiming_same p needs) moves some are.moves_only done)
     bounded (s ∷ steps) f run = step_bounded p e moves needs ip are shows s steps f run

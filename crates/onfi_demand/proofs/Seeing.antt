@@ -45,8 +45,6 @@ needed_append go r q n (x ∷ xs) ys = let e = needed_append go r q n xs ys in o
 pub sees_append : (look : Look) (before middle behind : Seen) (xs ys : List PhaseLeft) → Sees look before xs middle → Sees look middle ys behind → Sees look before (xs ++ ys) behind
 sees_append look before middle behind xs ys a b =
     let w = within_append look.go look.window.start look.window.tail xs ys in
-    let al = a.length in
-    let bl = b.length in
     record {
       length = omega arith;
       needs = λ n.

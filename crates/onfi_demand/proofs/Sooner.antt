@@ -19,10 +19,6 @@ use Rattle.onfi_bound.proofs.LeadBound.{some_member}
 use Rattle.onfi_demand.specs.Left.{SameLeft, has_left_at, has_left}
 use Rattle.onfi_demand.proofs.Alike.{running_alike, both_move, BothMove, other_has}
 
-pub has_running : (ws : List Want) (g : List Want) (n r : ℕ) → has_left_at ws (Some (Running g n r)) ≡ true
-has_running [] g n r = refl
-has_running (w ∷ ws) g n r = refl
-
 has_want : (ws : List Want) (w : Want) (o : Option LunState) → Has ws w → has_left_at ws o ≡ true
 has_want [] w o h = absurd h
 has_want (v ∷ ws) w Option.None h = refl
@@ -31,7 +27,7 @@ has_want (v ∷ ws) w (Some (Running g n r)) h = refl
 
 -- a LUN with a move has something left
 pub move_has : (p : Problem) (m : Move) → IsMove p m → has_left p (move_lun m) ≡ true
-move_has p (Next l) (g, n, r, at) = rw at (has_running (on_lun l p.wants) g n r)
+move_has p (Next l) (g, n, r, at) = rw at refl
 move_has p (Start ms) (since, at, st) =
     let m = some_member ms st.group.some in
     let wanted = first_has (on_block m.0) p.wants m.0 (All-has (IsFirst p.wants) ms m.0 st.first m.1) in
@@ -48,18 +44,16 @@ done_alike p q s done = record {
 abbrev pub Sooner : Problem → Problem → Type 0
 Sooner p q = (lun : ℕ) → has_left q lun ≡ true → may_go p lun ≤ may_go q lun
 
-sooner_behind : (p q : Problem) (m : Move) (t : ℕ) → IsProblem q → (b : BothMove p q m) → Sooner p q → IsMove q m → earliest q m ≤ t → Sooner (placed p m t) (placed q m t)
-sooner_behind p q m t iq b s mv late l has =
+pub sooner_behind : (p q : Problem) (m : Move) (t u : ℕ) → IsProblem q → (b : BothMove p q m) → Sooner p q → IsMove q m → earliest q m ≤ u → t ≤ u → Sooner (placed p m t) (placed q m u)
+sooner_behind p q m t u iq b s mv late le l has =
     let x = b.here t in
-    let y = b.there t in
-    let xb = x.bus in
-    let yb = y.bus in
+    let y = b.there u in
     elim (same_place l (move_lun m)) [
-      | inl e ↦ (let xo = x.own in let yo = y.own in rw e (omega arith))
+      | inl e ↦ rw e (omega arith)
       | inr d ↦ (
           let xo = ap free_from (x.others l d) in
           let yo = ap free_from (y.others l d) in
-          let le = s l (sym (other_has q m t l iq mv d) ∙ has) in
+          let before = s l (sym (other_has q m u l iq mv d) ∙ has) in
           omega arith)
     ]
 
@@ -72,7 +66,7 @@ run_sooner [] p q s f iq same sooner (mv, on_time, (done, end)) =
 run_sooner (s' ∷ steps) p q s f iq same sooner (mv, on_time, run) =
     let b = both_move p q s.move same mv in
     let le = sooner (move_lun s.move) (move_has q s.move mv) in
-    let rest = run_sooner steps (placed p s.move s.start) (placed q s.move s.start) s' f (kept q s.move s.start iq mv) (b.left s.start s.start) (sooner_behind p q s.move s.start iq b sooner mv on_time) run in
+    let rest = run_sooner steps (placed p s.move s.start) (placed q s.move s.start) s' f (kept q s.move s.start iq mv) (b.left s.start s.start) (sooner_behind p q s.move s.start s.start iq b sooner mv on_time (omega arith)) run in
     (b.is_move, omega arith, rest)
 
 pub sooner_runs : (p q : Problem) (steps : List Step) (f : ℕ) → IsProblem q → SameLeft p q → (IsDone q → ⊥) → Sooner p q → Run q steps f → Run p steps f

@@ -17,22 +17,15 @@ use Rattle.onfi_problem.specs.Problem.{Problem}
 use Rattle.onfi_problem.specs.Moves.{may_go}
 use Rattle.onfi_problem.specs.Left.{commands_left, posts_left, waits_left, command_time, post_time, chain_time, want_command, want_post, all_commands, all_posts}
 use Rattle.onfi_bound.specs.Bounds.{least, to_post, commands_next, same_kind, has_command, behind_commands, trail, trail_from, wants_work, die_at}
+use Rattle.onfi_problem.proofs.Lists.{total_by, any_by}
 use Rattle.onfi_demand.specs.Left.{LunLeft, Idle, Rest, left_on, SameLeft, has_left_at}
 use Rattle.onfi_demand.proofs.Alike.{Alike, of_same}
 
-total_by : (f : LunState → ℕ) (g : LunLeft → ℕ) → ((x : LunState) → f x ≡ g (left_on x)) → (xs : List LunState) → total f xs ≡ total g (map left_on xs)
-total_by f g h [] = refl
-total_by f g h (x ∷ xs) = let a = h x in let b = total_by f g h xs in omega arith
-
 total_alike : (f : LunState → ℕ) (g : LunLeft → ℕ) → ((x : LunState) → f x ≡ g (left_on x)) → (xs ys : List LunState) → Alike xs ys → total f xs ≡ total f ys
-total_alike f g h xs ys e = total_by f g h xs ∙ (ap (total g) e ∙ sym (total_by f g h ys))
-
-any_by : (f : LunState → Bool) (g : LunLeft → Bool) → ((x : LunState) → f x ≡ g (left_on x)) → (xs : List LunState) → list_any f xs ≡ list_any g (map left_on xs)
-any_by f g h [] = refl
-any_by f g h (x ∷ xs) = rw (h x, any_by f g h xs) refl
+total_alike f g h xs ys e = total_by f g left_on h xs ∙ (ap (total g) e ∙ sym (total_by f g left_on h ys))
 
 any_alike : (f : LunState → Bool) (g : LunLeft → Bool) → ((x : LunState) → f x ≡ g (left_on x)) → (xs ys : List LunState) → Alike xs ys → list_any f xs ≡ list_any f ys
-any_alike f g h xs ys e = any_by f g h xs ∙ (ap (list_any g) e ∙ sym (any_by f g h ys))
+any_alike f g h xs ys e = any_by f g left_on h xs ∙ (ap (list_any g) e ∙ sym (any_by f g left_on h ys))
 
 command_rest : Timing → LunLeft → ℕ
 command_rest timing Idle = 0
@@ -120,19 +113,14 @@ die_idle p l [] (Some (Free a)) h = refl
 die_idle p l (w ∷ ws) None h = cc
 die_idle p l (w ∷ ws) (Some (Free a)) h = cc
 
+abbrev work_rest : Timing → Rules → List Want → Option LunLeft → ℕ
+work_rest timing rules ws (Some (Rest kind k i)) = commands_left k i * (spans_of timing kind).cmd + posts_left k i * (spans_of timing kind).post + waits_left (spans_of timing kind) k i + wants_work timing rules ws
+work_rest timing rules ws _ = wants_work timing rules ws
+
+work_by : (timing : Timing) (rules : Rules) (ws : List Want) (o : Option LunState) → work_at timing rules ws o ≡ work_rest timing rules ws (option_map left_on o)
+work_by timing rules ws None = refl
+work_by timing rules ws (Some (Free a)) = refl
+work_by timing rules ws (Some (Running g n r)) = refl
+
 pub work_alike : (timing : Timing) (rules : Rules) (ws : List Want) (a b : Option LunState) → option_map left_on a ≡ option_map left_on b → work_at timing rules ws a ≡ work_at timing rules ws b
-work_alike timing rules ws None None e = refl
-work_alike timing rules ws None (Some (Free b)) e = refl
-work_alike timing rules ws None (Some (Running g n r)) e = cc
-work_alike timing rules ws (Some (Free a)) None e = refl
-work_alike timing rules ws (Some (Free a)) (Some (Free b)) e = refl
-work_alike timing rules ws (Some (Free a)) (Some (Running g n r)) e = cc
-work_alike timing rules ws (Some (Running g n r)) None e = cc
-work_alike timing rules ws (Some (Running g n r)) (Some (Free b)) e = cc
-work_alike timing rules ws (Some (Running g n r)) (Some (Running g' n' r')) e =
-    let k : Rest (kind_of g) (length g) n ≡ Rest (kind_of g') (length g') n' = cc in
-    ap (λ z. chain_rest timing z + wants_work timing rules ws) k
-  where
-    chain_rest : Timing → LunLeft → ℕ
-    chain_rest timing Idle = 0
-    chain_rest timing (Rest kind k i) = commands_left k i * (spans_of timing kind).cmd + posts_left k i * (spans_of timing kind).post + waits_left (spans_of timing kind) k i
+work_alike timing rules ws a b e = work_by timing rules ws a ∙ (ap (work_rest timing rules ws) e ∙ sym (work_by timing rules ws b))

@@ -75,8 +75,6 @@ window_asks p e r q ip w = record {
       let n = e - (window p r q + q) in
       let luns : length p.luns ≡ length z.luns = same_luns p z s in
       let more : window p r q ≤ window z n q = subst (λ i. window p r q ≤ sum_of i (λ l. within (may_go z l) (e - (window p r q + q)) q (phases_left_on z l))) luns (sum_below (length p.luns) _ _ (λ l. on_lun_more z s l (λ h. meets.luns l h))) in
-      let some = w.some in
-      let reaches = w.reaches in
       let b = window_below z steps f n q iz (omega arith) run in
       omega arith;
   meets = record { bus = omega arith; luns = λ l h. let reaches = w.reaches in needed_below (may_go p l) r q (e - (window p r q + q)) (phases_left_on p l) (omega arith) };

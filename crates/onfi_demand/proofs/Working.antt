@@ -17,6 +17,7 @@ use Rattle.onfi_problem.proofs.Lists.{map_found}
 use Rattle.onfi_problem.proofs.Places.{get_within}
 use Rattle.onfi_problem.proofs.Perm.{append_nil}
 use Rattle.onfi_bound.specs.Bounds.{on_lun}
+use Rattle.onfi_bound.proofs.Counting.{within_luns}
 use Rattle.onfi_bound.proofs.Loading.{waits_at}
 use Rattle.onfi_bound.proofs.Parts.{placed}
 use Rattle.onfi_bound.proofs.Steps.{all_at, waiting_yes, waiting_no}
@@ -28,11 +29,8 @@ use Rattle.onfi_demand.specs.declared.left.LunLeft.TheVariants.{Idle as KeptIdle
 abbrev pub no_lun : Lun
 no_lun = record { next = 0; place = 0; time = 0 }
 
-pub lun_within : (p : Problem) (groups : List (List Want)) (luns : List Lun) (lun : ℕ) → map (state_of groups) luns ≡ p.luns → lun < length p.luns → lun < length luns
-lun_within p groups luns lun e h = let a = ap length e in let b = length-map luns (state_of groups) in omega arith
-
 pub place_there : (p : Problem) (groups gs : List (List Want)) (luns : List Lun) (lun : ℕ) → InLimits p → map (state_of groups) luns ≡ p.luns → gs ≡ groups → lun < length p.luns → 1 ≤ (get_or luns lun no_lun).next → (get_or luns lun no_lun).place < length gs
-place_there p groups gs luns lun limits e g h = rw g (all_at (λ (x : Lun). 1 ≤ x.next → x.place < length groups) luns lun no_lun (lun_within p groups luns lun e h) (placed p groups luns limits e))
+place_there p groups gs luns lun limits e g h = rw g (all_at (λ (x : Lun). 1 ≤ x.next → x.place < length groups) luns lun no_lun (within_luns p groups luns e lun h) (placed p groups luns limits e))
 
 pub state_at : (p : Problem) (groups gs : List (List Want)) (luns : List Lun) (lun : ℕ) (left : KeptLeft) → map (state_of groups) luns ≡ p.luns → lun < length p.luns → gs ≡ groups → left_of left ≡ left_on (state_of gs (get_or luns lun no_lun)) → option_map left_on (slice_get p.luns lun) ≡ Some (left_of left)
 state_at p groups gs luns lun left e h g q =
@@ -49,10 +47,6 @@ shape_of p lun (KeptRest kind k n) limits h = go (slice_get p.luns lun) refl h
     go (Some (Free a)) e q = cc
     go (Some (Running g n' r)) e q =
         let i = limits.problem.running lun g n' r e in
-        let some = i.group.some in
-        let few = i.group.few in
-        let started = i.started in
-        let unfinished = i.unfinished in
         let same_size : length g ≡ k = cc in
         let same_next : n' ≡ n = cc in
         (omega arith, omega arith, omega arith, omega arith)

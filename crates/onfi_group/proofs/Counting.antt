@@ -1,181 +1,98 @@
--- How many groups a LUN's wants give: on each plane one of them or none.
-use Rattle.std.proofs.Common.{◌≡◌, ◌≢◌, ℕ, ◌+◌, ◌-◌, ◌*◌, ◌≤◌, ◌⊎◌, inl, inr, Bool, true, false, List, [], ◌∷◌, ◌++◌, length, refl, sym, ◌∙◌, subst, arith, mul-le-mul}
-use Rattle.std.specs.Prelude.{◌==◌, if◌then◌else◌}
-use Rattle.std.specs.List.{list_all, AllByRecursion as All}
-use Rattle.std.proofs.lemmas.Bool.{cases_Bool, cases_lt, ne_eqb, false≢true}
+-- How many groups so many wants form: on each plane one of them or none, so eight wants give at most 80.
+use Rattle.std.proofs.Common.{◌≡◌, ◌≢◌, ℕ, ◌+◌, ◌-◌, ◌*◌, ◌≤◌, ◌<◌, ◌⊎◌, inl, inr, List, [], ◌∷◌, ◌++◌, length, map, refl, ap, subst, arith, mul-le-mul}
+use Rattle.std.specs.Prelude.{◌==◌}
+use Rattle.std.specs.List.{AllByRecursion as All, filter}
+use Rattle.std.proofs.lemmas.Bool.{cases_eq, cases_lt, eq-eqb}
+use Rattle.std.proofs.lemmas.Bool.Decides.{nat_tests}
+use Rattle.std.proofs.lemmas.List.{length-append, length-map}
 use Rattle.onfi_request.specs.declared.want.Want.{Want}
 use Rattle.onfi_group.specs.declared.rules.Rules.{Rules}
-use Rattle.onfi_group.specs.Words.{number}
-use Rattle.onfi_group.specs.Joining.{joined, AreJoined, none, kept, left}
+use Rattle.onfi_group.specs.Words.{Has, Pairs}
+use Rattle.onfi_group.specs.Group.{on_block, mask_of}
+use Rattle.onfi_group.specs.Listing.{IsCandidate, AreCandidates, AreStartable, first_mask}
 use Rattle.onfi_group.proofs.Rising.{PlanesRise}
-use Rattle.onfi_group.proofs.Lists.{All-has, All-both, All-each}
-use Rattle.onfi_group.proofs.Placing.{Has-joined_want, Has-joined_member, apart, one_is_group}
+use Rattle.onfi_group.proofs.Lists.{All-has, All-each, All-weaker, Has-append_left, Has-append_right, Has-map, Has-filter, Pairs-weaker, first_has}
+pub use Rattle.onfi_group.proofs.Lists.{number-append}
 
--- whether all members are on planes that pass
-abbrev within : (ℕ → Bool) → List Want → Bool
-within passes g = list_all (λ m. passes m.plane) g
+-- the others beside one of them
+removed : {A : Type 0} (ys : List A) (x : A) → Has ys x → (rest : List A) × (length ys ≡ 1 + length rest) × ((z : A) → Has ys z → (x ≡ z) ⊎ Has rest z)
+removed [] x h = absurd h
+removed (y ∷ ys) x (inl e) = (ys, omega arith, λ z k. subst (λ w. (w ≡ z) ⊎ Has ys z) e k)
+removed (y ∷ ys) x (inr h) =
+    let r = removed ys x h in
+    let long = r.1 in
+    (y ∷ r.0, omega arith, λ z k. elim k [ inl e ↦ inr (inl e) | inr q ↦ elim (r.2 z q) [ inl e ↦ inl e | inr i ↦ inr (inr i) ] ])
 
--- the planes that pass, but for one
-abbrev but : ℕ → (ℕ → Bool) → ℕ → Bool
-but plane passes p = if p == plane then false else passes p
+-- of distinct things there are no more than of those among which they are
+distinct_within : {A : Type 0} (xs ys : List A) → Pairs (λ a b. a ≢ b) xs → All (Has ys) xs → length xs ≤ length ys
+distinct_within [] ys d h = omega arith
+distinct_within (x ∷ xs) ys d h =
+    let r = removed ys x h.0 in
+    let long = r.1 in
+    let rest = All-each (Has r.0) xs (λ z k. elim (r.2 z (All-has (Has ys) xs z h.1 k)) [ inl e ↦ absurd (All-has _ xs z d.0 k e) | inr i ↦ i ]) in
+    let e = distinct_within xs r.0 d.1 rest in
+    omega arith
 
--- one of so many wants or none, on a plane that passes
-abbrev choices : Bool → ℕ → ℕ
-choices passes n = if passes then n + 1 else 1
+-- each of the lists as it is, and with each of the wants before it
+abbrev extended : List Want → List (List Want) → List (List Want)
+extended [] gs = gs
+extended (v ∷ vs) gs = map (λ g. v ∷ g) gs ++ extended vs gs
 
--- .. on each of the four
-abbrev room : (ℕ → Bool) → ℕ → ℕ → ℕ → ℕ → ℕ
-room passes a b c d = choices (passes 0) a * choices (passes 1) b * (choices (passes 2) c * choices (passes 3) d)
+length_extended : (vs : List Want) (gs : List (List Want)) → length (extended vs gs) ≡ (1 + length vs) * length gs
+length_extended [] gs = omega arith
+length_extended (v ∷ vs) gs =
+    let e = length_extended vs gs in
+    let a = length-append (map (λ (g : List Want). v ∷ g) gs) (extended vs gs) in
+    let m = length-map gs (λ (g : List Want). v ∷ g) in
+    omega arith
 
--- the groups are at most what so many wants on each plane give, whichever planes pass
-pub record IsCounted (most : ℕ) (groups : List (List Want)) : Type 0 where
-  pub a : ℕ
-  pub b : ℕ
-  pub c : ℕ
-  pub d : ℕ
-  pub wants : a + b + c + d ≤ most
-  pub room : (passes : ℕ → Bool) → number (within passes) ([] ∷ groups) ≤ room passes a b c d
+old_extended : (vs : List Want) (gs : List (List Want)) (g : List Want) → Has gs g → Has (extended vs gs) g
+old_extended [] gs g h = h
+old_extended (v ∷ vs) gs g h = Has-append_right (map (λ h. v ∷ h) gs) (extended vs gs) g (old_extended vs gs g h)
 
-pub number-append : {A : Type 0} (test : A → Bool) (xs ys : List A) → number test (xs ++ ys) ≡ number test xs + number test ys
-number-append test [] ys = omega arith
-number-append test (x ∷ xs) ys = let e = number-append test xs ys in omega arith
+new_extended : (vs : List Want) (gs : List (List Want)) (v : Want) (g : List Want) → Has vs v → Has gs g → Has (extended vs gs) (v ∷ g)
+new_extended [] gs v g h k = absurd h
+new_extended (x ∷ vs) gs v g (inl e) k = Has-append_left (map (λ h. x ∷ h) gs) (extended vs gs) (v ∷ g) (subst (λ z. Has (map (λ h. x ∷ h) gs) (z ∷ g)) e (Has-map (λ h. x ∷ h) gs g k))
+new_extended (x ∷ vs) gs v g (inr h) k = Has-append_right (map (λ h. x ∷ h) gs) (extended vs gs) (v ∷ g) (new_extended vs gs v g h k)
 
-all_within : (passes : ℕ → Bool) (g : List Want) → within passes g ≡ true → All (λ m. passes m.plane ≡ true) g
-all_within passes [] h = tt
-all_within passes (m ∷ ms) h = elim (cases_Bool (passes m.plane)) [
-  | inl k ↦ (let q : within passes ms ≡ true = rw k at h in (k, all_within passes ms q))
-  | inr k ↦ (let q : false ≡ true = rw k at h in absurd (false≢true q))
-]
+abbrev on_plane : ℕ → List Want → List Want
+on_plane p ws = filter (λ w. w.plane == p) ws
 
-within_all : (passes : ℕ → Bool) (g : List Want) → All (λ m. passes m.plane ≡ true) g → within passes g ≡ true
-within_all passes [] h = refl
-within_all passes (m ∷ ms) h = rw h.0 (within_all passes ms h.1)
+-- members of the list, planes rising from p on
+record IsChosen (ws : List Want) (p : ℕ) (g : List Want) : Type 0 where
+  rising : PlanesRise g
+  listed : All (Has ws) g
+  above : All (λ m. p ≤ m.plane) g
 
--- a group of planes that pass is the want and others on other planes
-without_plane : (passes : ℕ → Bool) (w : Want) (g : List Want) → PlanesRise (joined w g) → within passes (joined w g) ≡ true → (passes w.plane ≡ true) × (within (but w.plane passes) g ≡ true)
-without_plane passes w g r h =
-    let each = all_within passes (joined w g) h in (
-      All-has (λ m. passes m.plane ≡ true) (joined w g) w each (Has-joined_want w g),
-      within_all (but w.plane passes) g (All-both {A = Want} (λ m. m.plane ≢ w.plane) (λ m. passes m.plane ≡ true) (λ m. but w.plane passes m.plane ≡ true) (λ m other yes. rw (ne_eqb m.plane w.plane other) yes) g
-          (apart w g r) (All-each (λ m. passes m.plane ≡ true) g (λ m k. All-has (λ x. passes x.plane ≡ true) (joined w g) m each (Has-joined_member w g m k)))),
-    )
-
-joined_number : {rules : Rules} {w : Want} {gs more : List (List Want)} (passes : ℕ → Bool) → AreJoined rules w gs more → number (within passes) more ≤ number (within (but w.plane passes)) gs
-joined_number passes none = omega arith
-joined_number {rules} {w} passes (kept g gs more k r) =
-    let rest = joined_number passes r in
-    elim (cases_Bool (within passes (joined w g))) [
-      | inl q ↦ (let o = without_plane passes w g k.planes q in rw (q, o.1) (omega arith))
-      | inr q ↦ rw q (omega arith)
-    ]
-joined_number passes (left g gs more k r) = let rest = joined_number passes r in omega arith
-
-none_passes : {rules : Rules} {w : Want} {gs more : List (List Want)} (passes : ℕ → Bool) → passes w.plane ≡ false → AreJoined rules w gs more → number (within passes) more ≡ 0
-none_passes passes blocked none = refl
-none_passes {rules} {w} passes blocked (kept g gs more k r) =
-    let rest = none_passes passes blocked r in
-    elim (cases_Bool (within passes (joined w g))) [
-      | inl q ↦ (let o = without_plane passes w g k.planes q in absurd (false≢true (sym blocked ∙ o.0)))
-      | inr q ↦ rw q (omega arith)
-    ]
-none_passes passes blocked (left g gs more k r) = none_passes passes blocked r
-
--- the want on a plane makes one choice more there
-abbrev Adds : (ℕ → Bool) → ℕ → ℕ → ℕ → ℕ → ℕ → ℕ → Type 0
-Adds passes a b c d new p = (passes p ≡ true → new ≤ room (but p passes) a b c d) × (passes p ≡ false → new ≡ 0)
-
-adds_0 : (passes : ℕ → Bool) (a b c d old new : ℕ) → old ≤ room passes a b c d → Adds passes a b c d new 0 → old + new ≤ room passes (a + 1) b c d
-adds_0 passes a b c d old new h s = elim (cases_Bool (passes 0)) [
-  | inl k ↦ (let q = s.0 k in let h' = rw k at h in rw k (omega arith))
-  | inr k ↦ (let q = s.1 k in let h' = rw k at h in rw k (omega arith))
-]
-
-adds_1 : (passes : ℕ → Bool) (a b c d old new : ℕ) → old ≤ room passes a b c d → Adds passes a b c d new 1 → old + new ≤ room passes a (b + 1) c d
-adds_1 passes a b c d old new h s = elim (cases_Bool (passes 1)) [
-  | inl k ↦ (let q = s.0 k in let h' = rw k at h in rw k (omega arith))
-  | inr k ↦ (let q = s.1 k in let h' = rw k at h in rw k (omega arith))
-]
-
-adds_2 : (passes : ℕ → Bool) (a b c d old new : ℕ) → old ≤ room passes a b c d → Adds passes a b c d new 2 → old + new ≤ room passes a b (c + 1) d
-adds_2 passes a b c d old new h s = elim (cases_Bool (passes 2)) [
-  | inl k ↦ (let q = s.0 k in let h' = rw k at h in rw k (omega arith))
-  | inr k ↦ (let q = s.1 k in let h' = rw k at h in rw k (omega arith))
-]
-
-adds_3 : (passes : ℕ → Bool) (a b c d old new : ℕ) → old ≤ room passes a b c d → Adds passes a b c d new 3 → old + new ≤ room passes a b c (d + 1)
-adds_3 passes a b c d old new h s = elim (cases_Bool (passes 3)) [
-  | inl k ↦ (let q = s.0 k in let h' = rw k at h in rw k (omega arith))
-  | inr k ↦ (let q = s.1 k in let h' = rw k at h in rw k (omega arith))
-]
-
-which_plane : (p : ℕ) → p ≤ 3 → (p ≡ 0) ⊎ (p ≡ 1) ⊎ (p ≡ 2) ⊎ (p ≡ 3)
-which_plane p h = grind arith
-
-new_adds : (rules : Rules) (w : Want) (groups more : List (List Want)) (n : ℕ) (k : IsCounted n groups) → AreJoined rules w groups more → (passes : ℕ → Bool) → Adds passes k.a k.b k.c k.d (number (within passes) ((w ∷ []) ∷ more)) w.plane
-new_adds rules w groups more n k j passes =
-    let whole = kept [] groups more (one_is_group rules w) j in (
-      (λ yes. let few = joined_number passes whole in let room = k.room (but w.plane passes) in omega arith),
-      (λ blocked. none_passes passes blocked whole),
-    )
-
-pub counted_grown : (rules : Rules) (w : Want) (groups more : List (List Want)) (n : ℕ) → IsCounted n groups → AreJoined rules w groups more → w.plane ≤ 3 → IsCounted (n + 1) (groups ++ (w ∷ []) ∷ more)
-counted_grown rules w groups more n k j h =
-    let new = new_adds rules w groups more n k j in
-    let whole = λ (passes : ℕ → Bool). number-append (within passes) ([] ∷ groups) ((w ∷ []) ∷ more) in
-    elim (which_plane w.plane h) [
-      | inl e ↦ record {
-        a = k.a + 1;
-        b = k.b;
-        c = k.c;
-        d = k.d;
-        wants = let q = k.wants in omega arith;
-        room = λ passes. rw (whole passes) (adds_0 passes k.a k.b k.c k.d _ _ (k.room passes) (subst (Adds passes k.a k.b k.c k.d (number (within passes) ((w ∷ []) ∷ more))) e (new passes)));
-      }
-      | inr (inl e) ↦ record {
-        a = k.a;
-        b = k.b + 1;
-        c = k.c;
-        d = k.d;
-        wants = let q = k.wants in omega arith;
-        room = λ passes. rw (whole passes) (adds_1 passes k.a k.b k.c k.d _ _ (k.room passes) (subst (Adds passes k.a k.b k.c k.d (number (within passes) ((w ∷ []) ∷ more))) e (new passes)));
-      }
-      | inr (inr (inl e)) ↦ record {
-        a = k.a;
-        b = k.b;
-        c = k.c + 1;
-        d = k.d;
-        wants = let q = k.wants in omega arith;
-        room = λ passes. rw (whole passes) (adds_2 passes k.a k.b k.c k.d _ _ (k.room passes) (subst (Adds passes k.a k.b k.c k.d (number (within passes) ((w ∷ []) ∷ more))) e (new passes)));
-      }
-      | inr (inr (inr e)) ↦ record {
-        a = k.a;
-        b = k.b;
-        c = k.c;
-        d = k.d + 1;
-        wants = let q = k.wants in omega arith;
-        room = λ passes. rw (whole passes) (adds_3 passes k.a k.b k.c k.d _ _ (k.room passes) (subst (Adds passes k.a k.b k.c k.d (number (within passes) ((w ∷ []) ∷ more))) e (new passes)));
-      }
+in_extended : (ws : List Want) (p : ℕ) (gs : List (List Want)) → ((h : List Want) → IsChosen ws (p + 1) h → Has gs h) → (g : List Want) → IsChosen ws p g → Has (extended (on_plane p ws) gs) g
+in_extended ws p gs f [] c = old_extended (on_plane p ws) gs [] (f [] (record { rising = tt; listed = tt; above = tt }))
+in_extended ws p gs f (m ∷ ms) c =
+    let low = c.above.0 in
+    let later = All-weaker _ (λ (x : Want). p + 1 ≤ x.plane) (λ x (h : m.plane < x.plane). omega arith) ms c.rising.0 in
+    elim (cases_eq m.plane p) [
+      | inl e ↦ (
+          let rest = f ms (record { rising = c.rising.1; listed = c.listed.1; above = later }) in
+          new_extended (on_plane p ws) gs m ms (Has-filter (λ (w : Want). w.plane == p) ws m c.listed.0 (eq-eqb m.plane p e)) rest)
+      | inr d ↦ old_extended (on_plane p ws) gs (m ∷ ms) (f (m ∷ ms) (record { rising = c.rising; listed = c.listed; above = (omega arith, later) }))
     ]
 
-pub counted_more : (n : ℕ) (groups : List (List Want)) → IsCounted n groups → IsCounted (n + 1) groups
-counted_more n groups k = record { a = k.a; b = k.b; c = k.c; d = k.d; wants = let q = k.wants in omega arith; room = k.room }
+abbrev choices : List Want → List (List Want)
+choices ws = extended (on_plane 0 ws) (extended (on_plane 1 ws) (extended (on_plane 2 ws) (extended (on_plane 3 ws) ([] ∷ []))))
 
-one_choice : (b : Bool) → choices b 0 ≡ 1
-one_choice true = refl
-one_choice false = refl
+none_above : (ws : List Want) → All (λ w. w.plane ≤ 3) ws → (g : List Want) → IsChosen ws 4 g → Has ([] ∷ []) g
+none_above ws planes [] c = inl refl
+none_above ws planes (m ∷ ms) c = let a = c.above.0 in let b = All-has (λ (w : Want). w.plane ≤ 3) ws m planes c.listed.0 in absurd (omega arith)
 
-pub counted_none : IsCounted 0 []
-counted_none = record {
-  a = 0;
-  b = 0;
-  c = 0;
-  d = 0;
-  wants = omega arith;
-  room = λ passes. rw (one_choice (passes 0), one_choice (passes 1), one_choice (passes 2), one_choice (passes 3)) (omega arith);
-}
+in_choices : (ws : List Want) → All (λ w. w.plane ≤ 3) ws → (g : List Want) → IsChosen ws 0 g → Has (choices ws) g
+in_choices ws planes =
+    in_extended ws 0 _ (in_extended ws 1 _ (in_extended ws 2 _ (in_extended ws 3 ([] ∷ []) (none_above ws planes))))
+
+planes_sum : (ws : List Want) → length (on_plane 0 ws) + length (on_plane 1 ws) + length (on_plane 2 ws) + length (on_plane 3 ws) ≤ length ws
+planes_sum [] = omega arith
+planes_sum (w ∷ ws) = let e = planes_sum ws in grind (arith, nat_tests)
 
 -- a product is at most the square of half the sum
-pub half_squared : (x y : ℕ) → 4 * (x * y) ≤ (x + y) * (x + y)
+half_squared : (x y : ℕ) → 4 * (x * y) ≤ (x + y) * (x + y)
 half_squared x y = elim (cases_lt x y) [
   | inl l ↦ (let k = y - x in let e : y ≡ x + k = omega arith in rw e (omega arith))
   | inr l ↦ (let k = x - y in let e : x ≡ y + k = omega arith in rw e (omega arith))
@@ -190,21 +107,37 @@ product_bound x y s t h k few =
     let both : (4 * x) * (4 * y) ≤ (s * s) * (t * t) = mul-le-mul h k in
     omega arith
 
-at_most_81 : (a b c d : ℕ) → a + b + c + d ≤ 8 → (a + 1) * (b + 1) * ((c + 1) * (d + 1)) ≤ 81
-at_most_81 a b c d h = product_bound ((a + 1) * (b + 1)) ((c + 1) * (d + 1)) (a + 1 + (b + 1)) (c + 1 + (d + 1)) (half_squared (a + 1) (b + 1)) (half_squared (c + 1) (d + 1)) (omega arith)
+at_most_81 : (a b c d : ℕ) → a + b + c + d ≤ 8 → (1 + a) * (1 + b) * ((1 + c) * (1 + d)) ≤ 81
+at_most_81 a b c d h = product_bound ((1 + a) * (1 + b)) ((1 + c) * (1 + d)) (1 + a + (1 + b)) (1 + c + (1 + d)) (half_squared (1 + a) (1 + b)) (half_squared (1 + c) (1 + d)) (omega arith)
 
-all_pass : (g : List Want) → within (λ p. true) g ≡ true
-all_pass [] = refl
-all_pass (m ∷ ms) = all_pass ms
+length_choices : (ws : List Want) → length ws ≤ 8 → length (choices ws) ≤ 81
+length_choices ws few =
+    let s = planes_sum ws in
+    let m = at_most_81 (length (on_plane 0 ws)) (length (on_plane 1 ws)) (length (on_plane 2 ws)) (length (on_plane 3 ws)) (omega arith) in
+    rw (length_extended, length_extended, length_extended, length_extended) (omega arith)
 
-number_all : (gs : List (List Want)) → number (within (λ p. true)) gs ≡ length gs
-number_all [] = refl
-number_all (g ∷ gs) = let e = number_all gs in rw (all_pass g) (omega arith)
+-- a group of these wants
+abbrev pub IsChoice : List Want → List Want → Type 0
+IsChoice ws g = (1 ≤ length g) × PlanesRise g × All (Has ws) g
 
--- eight wants give at most 80 groups
-pub at_most_80 : (n : ℕ) (groups : List (List Want)) → n ≤ 8 → IsCounted n groups → length groups ≤ 80
-at_most_80 n groups few k =
-    let room = k.room (λ p. true) in
-    let all = number_all groups in
-    let most = at_most_81 k.a k.b k.c k.d (let wants = k.wants in omega arith) in
+-- eight wants on four planes give at most 80 groups
+pub few_groups : (ws : List Want) (gs : List (List Want)) → length ws ≤ 8 → All (λ w. w.plane ≤ 3) ws → All (IsChoice ws) gs → Pairs (λ a b. a ≢ b) gs → length gs ≤ 80
+few_groups ws gs few planes h d =
+    let none_of = All-weaker (IsChoice ws) (λ g. [] ≢ g) (λ g k e. let n : 0 ≡ length g = ap length e in let s = k.0 in omega arith) gs h in
+    let start = in_choices ws planes [] (record { rising = tt; listed = tt; above = tt }) in
+    let each = All-weaker (IsChoice ws) (Has (choices ws)) (λ g k. in_choices ws planes g (record { rising = k.1; listed = k.2; above = All-each (λ m. 0 ≤ m.plane) g (λ m z. omega arith) })) gs h in
+    let w = distinct_within ([] ∷ gs) (choices ws) (none_of, d) (start, each) in
+    let l = length_choices ws few in
     omega arith
+
+-- what stands at different places is different
+pub apart_by : {A : Type 0} (place : A → ℕ) (xs : List A) → Pairs (λ a b. place a < place b) xs → Pairs (λ a b. a ≢ b) xs
+apart_by place xs h = Pairs-weaker _ _ (λ a b lt e. let q = ap place e in omega arith) xs h
+
+pub few_candidates : (rules : Rules) (wants : List Want) (lun : ℕ) (groups : List (List Want)) → length wants ≤ 8 → All (λ w. w.plane ≤ 3) wants → AreCandidates rules wants lun groups → length groups ≤ 80
+few_candidates rules wants lun groups few planes c =
+    few_groups wants groups few planes (All-weaker (IsCandidate rules wants lun) (IsChoice wants) (λ g i. (i.group.some, i.group.planes, i.listed)) groups c.only) (apart_by (mask_of wants) groups c.order)
+
+pub few_startable : (rules : Rules) (wants : List Want) (lun : ℕ) (groups : List (List Want)) → length wants ≤ 8 → All (λ w. w.plane ≤ 3) wants → AreStartable rules wants lun groups → length groups ≤ 80
+few_startable rules wants lun groups few planes s =
+    few_groups wants groups few planes (All-weaker _ (IsChoice wants) (λ g i. (i.0.group.some, i.0.group.planes, All-weaker _ (Has wants) (λ m f. first_has (on_block m) wants m f) g i.0.first)) groups s.only) (apart_by (first_mask wants) groups s.order)

@@ -2,18 +2,18 @@
 use Rattle.std.proofs.Common.{◌≡◌, ◌≢◌, ℕ, zero, suc, ◌+◌, ◌^◌, ◌<◌, ◌≤◌, inl, inr, true, false, List, [], ◌∷◌, length, take, get_or, Some, refl, sym, ap, ◌∙◌, subst, arith}
 use Rattle.std.specs.Prelude.{nat_lt}
 use Rattle.std.specs.List.{list_any, AllByRecursion as All}
-use Rattle.std.proofs.lemmas.Bool.{cases_Bool, eq-eqb, ne_eqb, false≢true}
+use Rattle.std.proofs.lemmas.Bool.{cases_Bool, eq-eqb, false≢true}
 use Rattle.std.proofs.lemmas.List.{take_all}
 use Rattle.onfi_request.specs.declared.want.Want.{Want}
 use Rattle.onfi_group.specs.declared.rules.Rules.{Rules}
 use Rattle.onfi_group.specs.Words.{Has, Pairs, total}
-use Rattle.onfi_group.specs.Group.{IsFirst, IsStartable, lun_of, on_block, is_member, mask_from, mask_of}
+use Rattle.onfi_group.specs.Group.{IsFirst, IsStartable, lun_of, on_block, mask_from, mask_of}
 use Rattle.onfi_group.specs.Joining.{joined, HasGrown}
 use Rattle.onfi_group.specs.Listing.{AreStartable, first_place, first_mask}
-use Rattle.onfi_group.proofs.Lists.{All-weaker, All-both, All-has, All-each, Has-get, Has-taken_more, Has-taken_last, Has-taken_cases}
-use Rattle.onfi_group.proofs.Growing.{Listed, Adds, SameSort, listed_grown, listed_same, listed_none}
-use Rattle.onfi_group.proofs.Counting.{IsCounted, counted_grown, counted_more, counted_none}
-use Rattle.onfi_group.proofs.Masks.{power, mask_none}
+use Rattle.onfi_group.proofs.Lists.{All-weaker, All-both, All-has, All-each, first_has}
+use Rattle.onfi_group.proofs.Growing.{Seen, AreSeen, seen_grown, seen_same, lun_of_seen}
+use Rattle.onfi_group.proofs.Masks.{mask_none, mask_adds}
+use Rattle.onfi_group.proofs.Placing.{joined_front}
 use Rattle.onfi_group.proofs.Rising.{PlanesRise}
 
 pub on_own_block : (w : Want) → on_block w w ≡ true
@@ -48,107 +48,45 @@ first_within (x ∷ xs) (suc i) m k f = elim (cases_Bool (on_block m x)) [
   | inr q ↦ inr (first_within xs i m (rw q at k) (rw q at f))
 ]
 
-first_there : (ws : List Want) (m : Want) → IsFirst ws m → Has ws m
-first_there [] m f = cc
-first_there (x ∷ xs) m f = elim (cases_Bool (on_block m x)) [
-  | inl q ↦ (let s : Some x ≡ Some m = rw q at f in let e : x ≡ m = cc in inl e)
-  | inr q ↦ inr (first_there xs m (rw q at f))
-]
-
 total_joined : (f : Want → ℕ) (w : Want) (g : List Want) → total f (joined w g) ≡ total f g + f w
 total_joined f w [] = omega arith
 total_joined f w (m ∷ ms) = let e = total_joined f w ms in elim (cases_Bool (nat_lt m.plane w.plane)) [ inl k ↦ rw k (omega arith) | inr k ↦ rw k (omega arith) ]
 
--- among the first so many wants, of that LUN, and the first of its block
-abbrev pub Opens : List Want → ℕ → ℕ → Want → Type 0
-Opens wants lun i x = Has (take i wants) x × IsFirst wants x × (x.lun ≡ lun)
-
-opens_adds : (wants : List Want) (lun i : ℕ) (d : Want) → i < length wants → (get_or wants i d).lun ≡ lun → IsFirst wants (get_or wants i d) → Adds (get_or wants i d) (Opens wants lun i) (Opens wants lun (i + 1))
-opens_adds wants lun i d h same first = record {
-  old = λ x s. (Has-taken_more wants i d x h s.0, s.1, s.2);
-  new = (Has-taken_last wants i d h, first, same);
-  only = λ x s. elim (Has-taken_cases wants i d x h s.0) [ inl k ↦ inl (k, s.1, s.2) | inr e ↦ inr e ];
-}
-
-opens_other : (wants : List Want) (lun i : ℕ) (d : Want) → i < length wants → (get_or wants i d).lun ≢ lun → SameSort (Opens wants lun i) (Opens wants lun (i + 1))
-opens_other wants lun i d h other = record {
-  there = λ x s. (Has-taken_more wants i d x h s.0, s.1, s.2);
-  back = λ x s. elim (Has-taken_cases wants i d x h s.0) [ inl k ↦ (k, s.1, s.2) | inr e ↦ absurd (other (ap (λ w. w.lun) e ∙ s.2)) ];
-}
-
-opens_behind : (wants : List Want) (lun i : ℕ) (d : Want) → i < length wants → list_any (on_block (get_or wants i d)) (take i wants) ≡ true → SameSort (Opens wants lun i) (Opens wants lun (i + 1))
-opens_behind wants lun i d h behind = record {
-  there = λ x s. (Has-taken_more wants i d x h s.0, s.1, s.2);
-  back = λ x s. elim (Has-taken_cases wants i d x h s.0) [
-    | inl k ↦ (k, s.1, s.2)
-    | inr e ↦ (first_within wants i x (subst (λ w. list_any (on_block w) (take i wants) ≡ true) e behind) s.1, s.1, s.2)
-  ];
-}
-
 -- the groups that may be started of the first so many wants
-pub record Opened (rules : Rules) (wants : List Want) (at i : ℕ) (groups : List (List Want)) : Type 0 where
-  pub listed : Listed rules (Opens wants at i) (first_mask wants) (2 ^ i) groups
-  pub counted : IsCounted i groups
+abbrev pub Opened : Rules → List Want → ℕ → ℕ → List (List Want) → Type 0
+Opened rules wants lun i groups = AreSeen rules (IsFirst wants) (first_mask wants) wants lun i groups
 
-pub opened_grown : (rules : Rules) (wants : List Want) (lun i : ℕ) (d : Want) (groups new : List (List Want)) → All (λ w. w.plane ≤ 3) wants → i < length wants
-    → (get_or wants i d).lun ≡ lun → list_any (on_block (get_or wants i d)) (take i wants) ≡ false → Opened rules wants lun i groups → HasGrown rules (get_or wants i d) groups new → Opened rules wants lun (i + 1) new
-opened_grown rules wants lun i d groups new planes h same none_before o g =
-    let w = get_or wants i d in
-    let first = first_at wants i d w h refl none_before in
-    record {
-      listed = rw (g.1, power i) (listed_grown rules w (Opens wants lun i) (Opens wants lun (i + 1)) (first_mask wants) (2 ^ i) groups g.0 o.listed (opens_adds wants lun i d h same first.first) g.2 refl
-          (λ x s. rw first.at at (total_joined (λ m. 2 ^ first_place wants m) w x)));
-      counted = rw g.1 (counted_grown rules w groups g.0 i o.counted g.2 (All-has (λ w. w.plane ≤ 3) wants w planes (Has-get wants i d h)));
-    }
-
-opened_same : (rules : Rules) (wants : List Want) (lun i : ℕ) (groups : List (List Want)) → SameSort (Opens wants lun i) (Opens wants lun (i + 1)) → Opened rules wants lun i groups → Opened rules wants lun (i + 1) groups
-opened_same rules wants lun i groups s o = record {
-  listed = listed_same rules (Opens wants lun i) (Opens wants lun (i + 1)) (first_mask wants) (2 ^ i) (2 ^ (i + 1)) groups o.listed s (let e = power i in omega arith);
-  counted = counted_more i groups o.counted;
-}
+pub opened_grown : (rules : Rules) (wants : List Want) (lun i : ℕ) (d : Want) (groups new : List (List Want)) → i < length wants
+    → (get_or wants i d).lun ≡ lun → list_any (on_block (get_or wants i d)) (take i wants) ≡ false
+    → Opened rules wants lun i groups → HasGrown rules (get_or wants i d) groups new → Opened rules wants lun (i + 1) new
+opened_grown rules wants lun i d groups new h same none_before o g =
+    let first = first_at wants i d (get_or wants i d) h refl none_before in
+    seen_grown rules (IsFirst wants) (first_mask wants) wants lun i d groups new refl h same first.first
+    (λ x s. rw first.at at (total_joined (λ m. 2 ^ first_place wants m) (get_or wants i d) x)) o g
 
 pub opened_other : (rules : Rules) (wants : List Want) (lun i : ℕ) (d : Want) (groups : List (List Want)) → i < length wants → (get_or wants i d).lun ≢ lun → Opened rules wants lun i groups → Opened rules wants lun (i + 1) groups
-opened_other rules wants lun i d groups h other = opened_same rules wants lun i groups (opens_other wants lun i d h other)
+opened_other rules wants lun i d groups h other o =
+    seen_same rules (IsFirst wants) (first_mask wants) wants lun i d groups h (λ x e f at. absurd (other (ap (λ w. w.lun) e ∙ at))) o
 
 pub opened_behind : (rules : Rules) (wants : List Want) (lun i : ℕ) (d : Want) (groups : List (List Want)) → i < length wants → list_any (on_block (get_or wants i d)) (take i wants) ≡ true → Opened rules wants lun i groups → Opened rules wants lun (i + 1) groups
-opened_behind rules wants lun i d groups h behind = opened_same rules wants lun i groups (opens_behind wants lun i d h behind)
-
-lun_of_opens : (wants : List Want) (lun i : ℕ) (g : List Want) → 1 ≤ length g → All (Opens wants lun i) g → lun_of g ≡ lun
-lun_of_opens wants lun i [] some h = absurd (omega arith)
-lun_of_opens wants lun i (x ∷ xs) some h = h.0.2
+opened_behind rules wants lun i d groups h behind o =
+    seen_same rules (IsFirst wants) (first_mask wants) wants lun i d groups h
+    (λ x e f at. first_within wants i x (subst (λ w. list_any (on_block w) (take i wants) ≡ true) e behind) f) o
 
 pub opened_all : (rules : Rules) (wants : List Want) (lun i : ℕ) (groups : List (List Want)) → length wants ≤ i → Opened rules wants lun i groups → AreStartable rules wants lun groups
 opened_all rules wants lun i groups whole o =
     let e = take_all i wants whole in
+    let Of = Seen (IsFirst wants) wants lun i in
     record {
-      only = All-weaker _ (λ g. IsStartable rules wants g × (lun_of g ≡ lun)) (λ g h. (record { group = h.0; first = All-weaker (Opens wants lun i) (IsFirst wants) (λ x s. s.1) g h.1 }, lun_of_opens wants lun i g h.0.some h.1)) groups o.listed.only;
-      each = λ g s at. o.listed.each g s.group (All-each (Opens wants lun i) g (λ x k.
+      only = All-weaker _ (λ g. IsStartable rules wants g × (lun_of g ≡ lun)) (λ g h. (
+        record { group = h.0; first = All-weaker Of (IsFirst wants) (λ x s. s.1) g h.1 },
+        lun_of_seen rules (IsFirst wants) (first_mask wants) wants lun i g h.0.some h.1,
+      )) groups o.only;
+      each = λ g s at. o.each g s.group (All-each Of g (λ x k.
           let first = All-has (IsFirst wants) g x s.first k in
-          (rw e (first_there wants x first), first, All-has (λ m. m.lun ≡ lun_of g) g x s.group.lun k ∙ at)));
-      order = o.listed.order.1;
+          (rw e (first_has (on_block x) wants x first), first, All-has (λ m. m.lun ≡ lun_of g) g x s.group.lun k ∙ at)));
+      order = o.order.1;
     }
-
--- a want alone in the list by its id
-not_there : (g : List Want) (w : Want) → All (λ m. m.id ≢ w.id) g → is_member g w ≡ false
-not_there [] w h = refl
-not_there (m ∷ ms) w h = rw (ne_eqb m.id w.id h.0) (not_there ms w h.1)
-
-mask_without : (g ws : List Want) (w : Want) (place : ℕ) → All (λ x. w.id < x.id) ws → mask_from (w ∷ g) place ws ≡ mask_from g place ws
-mask_without g [] w place h = refl
-mask_without g (x ∷ xs) w place h = let lt = h.0 in rw (ne_eqb w.id x.id (λ e. omega arith), mask_without g xs w (place + 1) h.1) refl
-
--- a member more is its own bit more
-mask_first : (ws : List Want) (i : ℕ) (d : Want) (g : List Want) (place : ℕ) → i < length ws → Pairs (λ a b. a.id < b.id) ws → All (λ m. m.id ≢ (get_or ws i d).id) g
-    → mask_from (get_or ws i d ∷ g) place ws ≡ 2 ^ (place + i) + mask_from g place ws
-mask_first [] i d g place h rise other = absurd (omega arith)
-mask_first (x ∷ xs) zero d g place h rise other =
-    let at : place + 0 ≡ place = omega arith in
-    rw (eq-eqb x.id x.id refl, not_there g x other, mask_without g xs x (place + 1) rise.0, at) (omega arith)
-mask_first (x ∷ xs) (suc i) d g place h rise other =
-    let lt : x.id < (get_or xs i d).id = All-has (λ y. x.id < y.id) xs (get_or xs i d) rise.0 (Has-get xs i d (omega arith)) in
-    let rest = mask_first xs i d g (place + 1) (omega arith) rise.1 other in
-    let at : place + 1 + i ≡ place + suc i = omega arith in
-    rw (ne_eqb (get_or xs i d).id x.id (λ e. omega arith), rest, at) (omega arith)
 
 -- where the first want on a block stands
 record StandsAt (wants : List Want) (m : Want) : Type 0 where
@@ -162,7 +100,7 @@ stands_at (x ∷ xs) m f = elim (cases_Bool (on_block m x)) [
   | inr q ↦ (let r = stands_at xs m (rw q at f) in let lt = r.within in let e : 1 + first_place xs m ≡ suc (first_place xs m) = omega arith in record { within = rw q (omega arith); stands = rw (q, e) r.stands })
 ]
 
-same_by_id : (ws : List Want) (a b : Want) → Pairs (λ a b. a.id < b.id) ws → Has ws a → Has ws b → a.id ≡ b.id → a ≡ b
+pub same_by_id : (ws : List Want) (a b : Want) → Pairs (λ a b. a.id < b.id) ws → Has ws a → Has ws b → a.id ≡ b.id → a ≡ b
 same_by_id [] a b r h k e = absurd h
 same_by_id (x ∷ xs) a b r (inl h) (inl k) e = sym h ∙ k
 same_by_id (x ∷ xs) a b r (inl h) (inr k) e = let lt = All-has (λ y. x.id < y.id) xs b r.0 k in let same : x.id ≡ a.id = ap (λ z. z.id) h in absurd (omega arith)
@@ -171,7 +109,7 @@ same_by_id (x ∷ xs) a b r (inr h) (inr k) e = same_by_id xs a b r.1 h k e
 
 other_ids : (wants : List Want) (m : Want) (ms : List Want) → Pairs (λ a b. a.id < b.id) wants → Has wants m → All (λ x. m.plane < x.plane) ms → All (IsFirst wants) ms → All (λ x. x.id ≢ m.id) ms
 other_ids wants m ms ids there planes firsts = All-both (λ x. m.plane < x.plane) (IsFirst wants) (λ x. x.id ≢ m.id) (λ x lt f e.
-    let same = same_by_id wants x m ids (first_there wants x f) there e in
+    let same = same_by_id wants x m ids (first_has (on_block x) wants x f) there e in
     let plane : x.plane ≡ m.plane = ap (λ z. z.plane) same in
     omega arith) ms planes firsts
 
@@ -180,12 +118,12 @@ pub same_mask : (wants g : List Want) → Pairs (λ a b. a.id < b.id) wants → 
 same_mask wants [] ids f r = mask_none wants 0
 same_mask wants (m ∷ ms) ids f r =
     let s = stands_at wants m f.0 in
-    let others = other_ids wants m ms ids (first_there wants m f.0) r.0 f.1 in
+    let others = other_ids wants m ms ids (first_has (on_block m) wants m f.0) r.0 f.1 in
     let at : 0 + first_place wants m ≡ first_place wants m = omega arith in
-    let e = mask_first wants (first_place wants m) m ms 0 s.within ids (subst (λ z. All (λ x. x.id ≢ z.id) ms) (sym s.stands) others) in
-    let e' : mask_from (m ∷ ms) 0 wants ≡ 2 ^ (0 + first_place wants m) + mask_from ms 0 wants = subst (λ z. mask_from (z ∷ ms) 0 wants ≡ 2 ^ (0 + first_place wants m) + mask_from ms 0 wants) s.stands e in
+    let e = mask_adds wants (first_place wants m) m ms 0 s.within ids (subst (λ z. All (λ x. x.id ≢ z.id) ms) (sym s.stands) others) in
+    let e' = subst (λ z. mask_from (joined z ms) 0 wants ≡ mask_from ms 0 wants + 2 ^ (0 + first_place wants m)) s.stands e in
     let rest = same_mask wants ms ids f.1 r.1 in
-    e' ∙ rw (at, rest) refl
+    rw (joined_front m ms r.0, rest, at) at e' ∙ omega arith
 
 Pairs-along : {A : Type 0} (P : A → Type 0) (R S : A → A → Type 0) → ((a b : A) → P a → P b → R a b → S a b) → (xs : List A) → All P xs → Pairs R xs → Pairs S xs
 Pairs-along P R S f [] h r = tt

@@ -1,14 +1,14 @@
 -- How a list of groups grows by one want.
-use Rattle.std.proofs.Common.{◌≡◌, ℕ, ◌+◌, ◌<◌, ◌≤◌, ◌⊎◌, inl, inr, List, [], ◌∷◌, ◌++◌, length, take, get_or, append_assoc, refl, sym, ap, ◌∙◌, subst, arith}
+use Rattle.std.proofs.Common.{◌≡◌, ℕ, ◌+◌, ◌^◌, ◌<◌, ◌≤◌, ◌⊎◌, inl, inr, List, [], ◌∷◌, ◌++◌, length, take, get_or, append_assoc, refl, sym, ap, ◌∙◌, subst, arith, add-one, pow-suc}
 use Rattle.std.specs.List.{AllByRecursion as All}
 use Rattle.std.proofs.Math.ListN.{get_or-append}
 use Rattle.std.proofs.lemmas.List.{take_more}
 use Rattle.onfi_request.specs.declared.want.Want.{Want}
 use Rattle.onfi_group.specs.declared.rules.Rules.{Rules}
 use Rattle.onfi_group.specs.Words.{Has, Pairs}
-use Rattle.onfi_group.specs.Group.{IsGroup}
-use Rattle.onfi_group.specs.Joining.{joined, AreJoined, none, kept, left}
-use Rattle.onfi_group.proofs.Lists.{All-append, All-weaker, All-both, All-has, All-each, Has-append_left, Has-append_right, Pairs-append}
+use Rattle.onfi_group.specs.Group.{IsGroup, lun_of}
+use Rattle.onfi_group.specs.Joining.{joined, AreJoined, none, kept, left, HasGrown}
+use Rattle.onfi_group.proofs.Lists.{All-append, All-weaker, All-both, All-has, All-each, Has-append_left, Has-append_right, Has-taken_more, Has-taken_last, Has-taken_cases, Pairs-append}
 use Rattle.onfi_group.proofs.Placing.{All-joined, Without, taken_out, part_is_group, one_is_group}
 
 -- one more list that makes a group
@@ -158,3 +158,44 @@ no_group rules Sort empty (x ∷ xs) i h = empty x h.0
 
 pub listed_none : (rules : Rules) (Sort : Want → Type 0) (place : List Want → ℕ) (limit : ℕ) → ((x : Want) → Sort x → ⊥) → place [] < limit → Listed rules Sort place limit []
 listed_none rules Sort place limit empty lt = record { only = tt; each = no_group rules Sort empty; order = (tt, tt); below = (lt, tt) }
+
+pub power : (n : ℕ) → 2 ^ (n + 1) ≡ 2 ^ n + 2 ^ n
+power n = rw (add-one, pow-suc) (omega arith)
+
+-- among the first so many wants, of some sort and of that LUN
+abbrev pub Seen : (Want → Type 0) → List Want → ℕ → ℕ → Want → Type 0
+Seen Sort wants lun i x = Has (take i wants) x × Sort x × (x.lun ≡ lun)
+
+-- the groups of those, want by want
+module _ (rules : Rules) (Sort : Want → Type 0) (place : List Want → ℕ) (wants : List Want) (lun : ℕ) where
+  abbrev pub AreSeen : ℕ → List (List Want) → Type 0
+  AreSeen i groups = Listed rules (Seen Sort wants lun i) place (2 ^ i) groups
+
+  pub seen_none : place [] ≡ 0 → AreSeen 0 []
+  seen_none e = listed_none rules (Seen Sort wants lun 0) place 1 (λ x s. s.0) (omega arith)
+
+  pub seen_grown : (i : ℕ) (d : Want) (groups new : List (List Want)) → place [] ≡ 0 → i < length wants
+      → (get_or wants i d).lun ≡ lun → Sort (get_or wants i d)
+      → ((g : List Want) → All (Seen Sort wants lun i) g → place (joined (get_or wants i d) g) ≡ place g + 2 ^ i)
+      → AreSeen i groups → HasGrown rules (get_or wants i d) groups new → AreSeen (i + 1) new
+  seen_grown i d groups new empty h same sort step a g =
+      let adds : Adds (get_or wants i d) (Seen Sort wants lun i) (Seen Sort wants lun (i + 1)) = record {
+        old = λ x s. (Has-taken_more wants i d x h s.0, s.1, s.2);
+        new = (Has-taken_last wants i d h, sort, same);
+        only = λ x s. elim (Has-taken_cases wants i d x h s.0) [ inl k ↦ inl (k, s.1, s.2) | inr e ↦ inr e ];
+      } in
+      rw (g.1, power i) (listed_grown rules (get_or wants i d) (Seen Sort wants lun i) (Seen Sort wants lun (i + 1)) place (2 ^ i) groups g.0 a adds g.2 empty step)
+
+  -- the next want isn't of the sort, or is the same as one before it
+  pub seen_same : (i : ℕ) (d : Want) (groups : List (List Want)) → i < length wants
+      → ((x : Want) → get_or wants i d ≡ x → Sort x → x.lun ≡ lun → Has (take i wants) x) → AreSeen i groups → AreSeen (i + 1) groups
+  seen_same i d groups h there a =
+      let same : SameSort (Seen Sort wants lun i) (Seen Sort wants lun (i + 1)) = record {
+        there = λ x s. (Has-taken_more wants i d x h s.0, s.1, s.2);
+        back = λ x s. (elim (Has-taken_cases wants i d x h s.0) [ inl k ↦ k | inr e ↦ there x e s.1 s.2 ], s.1, s.2);
+      } in
+      listed_same rules (Seen Sort wants lun i) (Seen Sort wants lun (i + 1)) place (2 ^ i) (2 ^ (i + 1)) groups a same (let e = power i in omega arith)
+
+  pub lun_of_seen : (i : ℕ) (g : List Want) → 1 ≤ length g → All (Seen Sort wants lun i) g → lun_of g ≡ lun
+  lun_of_seen i [] some h = absurd (omega arith)
+  lun_of_seen i (x ∷ xs) some h = h.0.2

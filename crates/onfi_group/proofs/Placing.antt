@@ -29,7 +29,7 @@ joined_here : (w m : Want) (ms : List Want) → w.plane ≤ m.plane → joined w
 joined_here w m ms h = rw (le-ltb m.plane w.plane h) refl
 
 -- before all others where they are on higher planes
-joined_front : (w : Want) (ms : List Want) → All (λ x. w.plane < x.plane) ms → joined w ms ≡ w ∷ ms
+pub joined_front : (w : Want) (ms : List Want) → All (λ x. w.plane < x.plane) ms → joined w ms ≡ w ∷ ms
 joined_front w [] h = refl
 joined_front w (m ∷ ms) h = let q = h.0 in joined_here w m ms (omega arith)
 

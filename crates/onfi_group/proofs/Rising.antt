@@ -3,6 +3,7 @@ use Rattle.std.proofs.Common.{◌≡◌, ℕ, zero, suc, ◌-◌, ◌<◌, ◌�
 use Rattle.std.specs.List.{AllByRecursion as All}
 use Rattle.onfi_request.specs.declared.want.Want.{Want}
 use Rattle.onfi_group.specs.Words.{Pairs}
+use Rattle.onfi_group.proofs.Lists.{All-weaker}
 
 abbrev pub Rises : (Want → ℕ) → List Want → Type 0
 Rises of wants = Pairs (λ a b. of a < of b) wants
@@ -11,14 +12,10 @@ abbrev pub PlanesRise : List Want → Type 0
 PlanesRise members = Rises (λ w. w.plane) members
 
 module _ (of : Want → ℕ) where
-  above_all : (a b : Want) (xs : List Want) → of a < of b → All (λ x. of b < of x) xs → All (λ x. of a < of x) xs
-  above_all a b [] h k = tt
-  above_all a b (x ∷ xs) h k = (let q = k.0 in omega arith, above_all a b xs h k.1)
-
   rest_rises : (xs : List Want) (i : ℕ) (d : Want) → suc i < length xs → of (get_or xs i d) < of (get_or xs (suc i) d) → Rises of (drop i xs) ↔ Rises of (drop (suc i) xs)
   rest_rises [] i d h lt = absurd (omega arith)
   rest_rises (a ∷ []) i d h lt = absurd (omega arith)
-  rest_rises (a ∷ b ∷ xs) zero d h lt = ((λ r. r.1), (λ r. ((lt, above_all a b xs lt r.0), r)))
+  rest_rises (a ∷ b ∷ xs) zero d h lt = ((λ r. r.1), (λ r. ((lt, All-weaker (λ x. of b < of x) (λ x. of a < of x) (λ x k. omega arith) xs r.0), r)))
   rest_rises (a ∷ b ∷ xs) (suc i) d h lt = rest_rises (b ∷ xs) i d (omega arith) lt
 
   falls_somewhere : (xs : List Want) (i : ℕ) (d : Want) → suc i < length xs → of (get_or xs (suc i) d) ≤ of (get_or xs i d) → Rises of (drop i xs) → ⊥

@@ -108,10 +108,7 @@ module _ (timing : Timing) (rules : Rules) (bus_free : ℕ) (luns : List Lun) (a
   finds_next l d (g, n, r, at) =
       let q = runs_by groups luns l d g n r at in
       let i = k.limits.problem.running l g n r at in
-      let some = i.group.some in
-      let next = i.unfinished in
       let e : length (slice_index_or groups (get_or luns l d).place []) ≡ length g = ap length q.group in
-      let a = q.next in
       record {
         place = in_table groups (get_or luns l d).place (omega arith);
         start = small_start (get_or luns l d) l _ r at refl q.time;
@@ -146,31 +143,19 @@ module _ (timing : Timing) (rules : Rules) (bus_free : ℕ) (luns : List Lun) (a
   pub start_kept : (l place : ℕ) (y : Position) → IsMove now.problem (Start (slice_index_or groups place [])) → y ≡ moved now (KeptStart l place) → IsKept y
   start_kept l place y im e = moved_kept now y (Start (slice_index_or groups place [])) k im (ap (λ (z : Position). z.problem) e) (ap (λ (z : Position). z.all) e)
 
-  pub next_undone : (l : ℕ) (d : Lun) → IsMove now.problem (Next l) → restored (moved now (KeptNext l)) (record { lun = l; state = get_or luns l d; bus_free = bus_free; waiting = marks }) ≡ now
-  next_undone l d (g, n, r, at) =
+  -- what a move changed, put back, is what there was
+  undone : (m : KeptMove) (d : Lun) → IsMove now.problem (move_of groups m) → move_lun (move_of groups m) ≡ lun_named m → restored (moved now m) (record { lun = lun_named m; state = get_or luns (lun_named m) d; bus_free = bus_free; waiting = marks }) ≡ now
+  undone (KeptNext l) d (g, n, r, at) i =
       let e = map_found (state_of groups) luns l d _ at in
       rw at (rw e (ap (λ (z : List LunState). placed_at (problem_of timing rules bus_free z (waiting_of marks all))) (set_back now.problem.luns l _ _ at)))
-
-  pub start_undone : (l place : ℕ) (d : Lun) → IsMove now.problem (Start (slice_index_or groups place [])) → lun_of (slice_index_or groups place []) ≡ l → restored (moved now (KeptStart l place)) (record { lun = l; state = get_or luns l d; bus_free = bus_free; waiting = marks }) ≡ now
-  start_undone l place d (since, at, st) i =
+  undone (KeptStart l place) d (since, at, st) i =
       let at' : slice_get now.problem.luns l ≡ Some (Free since) = subst (λ z. slice_get now.problem.luns z ≡ Some (Free since)) i at in
       let e = map_found (state_of groups) luns l d _ at' in
       rw (e, i) (ap (λ (z : List LunState). placed_at (problem_of timing rules bus_free z (waiting_of marks all))) (set_back now.problem.luns l _ _ at'))
 
-  pub next_within : (l : ℕ) → IsMove now.problem (Next l) → l < length (moved now (KeptNext l)).problem.luns
-  next_within l (g, n, r, at) = let w = within_get now.problem.luns l _ at in rw at (rw length_set w)
-
-  pub start_within : (l place : ℕ) → IsMove now.problem (Start (slice_index_or groups place [])) → lun_of (slice_index_or groups place []) ≡ l → l < length (moved now (KeptStart l place)).problem.luns
-  start_within l place (since, at, st) i = let w = within_get now.problem.luns (lun_of (slice_index_or groups place [])) _ at in rw length_set (rw i at w)
-
-  -- what a move changed, put back, is what there was
-  undone : (m : KeptMove) (d : Lun) → IsMove now.problem (move_of groups m) → move_lun (move_of groups m) ≡ lun_named m → restored (moved now m) (record { lun = lun_named m; state = get_or luns (lun_named m) d; bus_free = bus_free; waiting = marks }) ≡ now
-  undone (KeptNext lun) d im i = next_undone lun d im
-  undone (KeptStart lun place) d im i = start_undone lun place d im i
-
   lun_within : (m : KeptMove) → IsMove now.problem (move_of groups m) → move_lun (move_of groups m) ≡ lun_named m → lun_named m < length (moved now m).problem.luns
-  lun_within (KeptNext lun) im i = next_within lun im
-  lun_within (KeptStart lun place) im i = start_within lun place im i
+  lun_within (KeptNext l) (g, n, r, at) i = let w = within_get now.problem.luns l _ at in rw at (rw length_set w)
+  lun_within (KeptStart l place) (since, at, st) i = let w = within_get now.problem.luns (lun_of (slice_index_or groups place [])) _ at in rw length_set (rw i at w)
 
   -- a move of the position that is kept so, made
   pub made : (x new : Position) (m n : KeptMove) (read : List Lun) (l : ℕ) (d : Lun) → now ≡ x → IsMove x.problem (move_of x.groups m) → move_lun (move_of x.groups m) ≡ lun_named m → m ≡ n → new ≡ moved x n → l ≡ lun_named m → read ≡ luns → IsUndo x new (record { lun = l; state = get_or read l d; bus_free = bus_free; waiting = marks })

@@ -4,7 +4,6 @@ pub mod Steps
 pub mod StartMarks
 pub mod Ordered
 pub mod Firsts
-pub mod Count
 pub mod Listed
 pub mod Sums
 pub mod Marks

@@ -1,5 +1,5 @@
 -- A move keeps a problem in its limits.
-use Rattle.std.proofs.Common.{◌≡◌, ℕ, zero, suc, ◌+◌, ◌*◌, ◌-◌, ◌^◌, ◌≤◌, ◌<◌, List, [], ◌∷◌, length, Some, get_or, refl, sym, ap, ◌∙◌, subst, arith}
+use Rattle.std.proofs.Common.{◌≡◌, ℕ, zero, suc, ◌+◌, ◌*◌, ◌-◌, ◌^◌, ◌≤◌, ◌<◌, List, [], ◌∷◌, length, Some, get_or, refl, sym, ap, ◌∙◌, subst, arith, mul-le-mul_left}
 use Rattle.std.specs.Prelude.{slice_get, slice_set, max}
 use Rattle.std.proofs.lemmas.Bool.{lt-ltb}
 use Rattle.onfi_timing.specs.declared.spans.Spans.{Spans}
@@ -19,35 +19,31 @@ use Rattle.onfi_problem.proofs.Waits.{one_wait, chain_after, free_after}
 use Rattle.onfi_problem.proofs.Kept.{kept, kept_small}
 use Rattle.std.proofs.lemmas.Option.{get_or_from_slice_get}
 
+-- one LUN more to wait for
+latest_with : (t : ℕ) (x : LunState) (luns : List LunState) → latest_wait t (x ∷ luns) ≡ max (free_from (Some x)) (latest_wait t luns)
+latest_with t (Free a) luns = refl
+latest_with t (Running g n r) luns = refl
+
 bus_in : (b : ℕ) (luns : List LunState) → b ≤ latest_wait b luns
 bus_in b [] = omega arith
-bus_in b (Free a ∷ luns) = let e = bus_in b luns in omega arith
-bus_in b (Running g n r ∷ luns) = let e = bus_in b luns in omega arith
+bus_in b (x ∷ luns) = let e = bus_in b luns in let q = latest_with b x luns in omega arith
 
 lun_in : (b : ℕ) (luns : List LunState) (l : ℕ) (x : LunState) → slice_get luns l ≡ Some x → free_from (Some x) ≤ latest_wait b luns
 lun_in b [] l x h = cc
-lun_in b (Free a ∷ luns) zero x h = let e : Free a ≡ x = cc in rw (← e) (omega arith)
-lun_in b (Running g n r ∷ luns) zero x h = let e : Running g n r ≡ x = cc in rw (← e) (omega arith)
-lun_in b (Free a ∷ luns) (suc l) x h = let e = lun_in b luns l x h in omega arith
-lun_in b (Running g n r ∷ luns) (suc l) x h = let e = lun_in b luns l x h in omega arith
+lun_in b (y ∷ luns) zero x h = let e : y ≡ x = cc in let q = latest_with b y luns in rw (← e) (omega arith)
+lun_in b (y ∷ luns) (suc l) x h = let e = lun_in b luns l x h in let q = latest_with b y luns in omega arith
 
 later_bus : (b c : ℕ) (luns : List LunState) → latest_wait c luns ≤ max c (latest_wait b luns)
 later_bus b c [] = omega arith
-later_bus b c (Free a ∷ luns) = let e = later_bus b c luns in omega arith
-later_bus b c (Running g n r ∷ luns) = let e = later_bus b c luns in omega arith
+later_bus b c (x ∷ luns) = let e = later_bus b c luns in let p = latest_with b x luns in let q = latest_with c x luns in omega arith
 
 set_in : (b c : ℕ) (luns : List LunState) (l : ℕ) (y : LunState) → latest_wait c (slice_set luns l y) ≤ max c (max (latest_wait b luns) (free_from (Some y)))
 set_in b c [] l y = omega arith
-set_in b c (Free a ∷ luns) zero (Free d) = let e = later_bus b c luns in omega arith
-set_in b c (Free a ∷ luns) zero (Running g n r) = let e = later_bus b c luns in omega arith
-set_in b c (Running g' n' r' ∷ luns) zero (Free d) = let e = later_bus b c luns in omega arith
-set_in b c (Running g' n' r' ∷ luns) zero (Running g n r) = let e = later_bus b c luns in omega arith
-set_in b c (Free a ∷ luns) (suc l) y = let e = set_in b c luns l y in omega arith
-set_in b c (Running g n r ∷ luns) (suc l) y = let e = set_in b c luns l y in omega arith
+set_in b c (x ∷ luns) zero y = let e = later_bus b c luns in let p = latest_with b x luns in let q = latest_with c y luns in omega arith
+set_in b c (x ∷ luns) (suc l) y = let e = set_in b c luns l y in let p = latest_with b x luns in let q = latest_with c x (slice_set luns l y) in omega arith
 
 pub times_le : (j a b : ℕ) → a ≤ b → j * a ≤ j * b
-times_le zero a b h = omega arith
-times_le (suc j) a b h = let e = times_le j a b h in omega arith
+times_le j a b h = mul-le-mul_left j h
 
 pub group_waits : (spans : Spans) (k : ℕ) → 1 ≤ k → waits_left spans k 0 ≤ k * max spans.gap spans.array
 group_waits spans zero h = absurd (omega arith)

@@ -32,7 +32,6 @@ own_stays rules all groups own first lun k n h o =
     let b : k + 1 ≢ lun + 1 = λ e. omega arith in
     let r = range_stays groups own (slice_index first k) (slice_index first (k + 1)) o.rising o.within in
     let l = length-append groups own in
-    let w = o.within in
     let p = get_or-set_other first (lun + 1) k n 0 a in
     let q = get_or-set_other first (lun + 1) (k + 1) n 0 b in
     record { rising = rw (p, q) o.rising; within = rw q (omega arith); candidates = rw (p, q, r) o.candidates }

@@ -11,15 +11,28 @@ use Rattle.onfi_problem.specs.declared.lun_state.LunState.{LunState}
 use Rattle.onfi_problem.specs.declared.lun_state.LunState.TheVariants.{Free, Running}
 use Rattle.onfi_problem.specs.Problem.{Problem}
 use Rattle.onfi_problem.specs.Moves.{Move, Next, Start, IsMove, move_lun, ComesBefore, AreMoves}
-use Rattle.onfi_problem.proofs.Perm.{All-append, All-has, All-each, Has-append_left, Has-append_right}
+use Rattle.onfi_problem.proofs.Perm.{All-append, All-has, All-each, All-weaker, Has-append_left, Has-append_right, Has-map}
 use Rattle.onfi_problem.proofs.Places.{within_get}
-use Rattle.onfi_problem.proofs.Count.{few_groups}
+use Rattle.onfi_group.proofs.Counting.{IsChoice, few_groups}
 pub use Rattle.onfi_group.proofs.Lists.{Pairs-append}
-use Rattle.onfi_problem.proofs.Wants.{filter_shorter}
+use Rattle.onfi_group.proofs.Lists.{Pairs-each}
+use Rattle.onfi_problem.proofs.Wants.{filter_shorter, Has-filter}
 
 module _ (own : ℕ → List (List Want)) (can : List Want → Bool) where
   abbrev starts_of : List (List Want) → List Move
   starts_of gs = map (λ g. Start g) (filter can gs)
+
+  -- what holds of those that can be started
+  All-started : (P : Move → Type 0) (gs : List (List Want)) → All (λ g. can g ≡ true → P (Start g)) gs → All P (starts_of gs)
+  All-started P [] h = tt
+  All-started P (g ∷ gs) h = elim (cases_Bool (can g)) [ inl k ↦ rw k (h.0 k, All-started P gs h.1) | inr k ↦ rw k (All-started P gs h.1) ]
+
+  Pairs-started : (R : Move → Move → Type 0) (gs : List (List Want)) → Pairs (λ g h. can g ≡ true → can h ≡ true → R (Start g) (Start h)) gs → Pairs R (starts_of gs)
+  Pairs-started R [] h = tt
+  Pairs-started R (g ∷ gs) h = elim (cases_Bool (can g)) [
+    | inl k ↦ rw k (All-started (R (Start g)) gs (All-weaker _ _ (λ x f. f k) gs h.0), Pairs-started R gs h.1)
+    | inr k ↦ rw k (Pairs-started R gs h.1)
+  ]
 
   -- a running LUN has its next phase, a free one those of its groups that can be started
   abbrev pub lun_moves : ℕ → LunState → List Move
@@ -116,12 +129,12 @@ module _ (own : ℕ → List (List Want)) (can : List Want → Bool) where
 
 -- groups of a LUN each, none twice
 pub record IsListed (wants : List Want) (at : ℕ) (groups : List (List Want)) : Type 0 where
-  pub chosen : All (λ g. (1 ≤ length g) × Pairs (λ a b. a.plane < b.plane) g × All (Has wants) g) groups
+  pub chosen : All (IsChoice wants) groups
   pub lun : All (λ g. lun_of g ≡ at) groups
   pub once : Pairs (λ a b. a ≢ b) groups
 
 module _ (wants : List Want) (own : ℕ → List (List Want)) (can : List Want → Bool) (few : length wants ≤ 8) (planes : All (λ w. w.plane ≤ 3) wants) where
-  owned_groups : (n : ℕ) → ((l : ℕ) → l < n → IsListed wants l (own l)) → All (λ g. (1 ≤ length g) × Pairs (λ a b. a.plane < b.plane) g × All (Has wants) g) (owned own can n)
+  owned_groups : (n : ℕ) → ((l : ℕ) → l < n → IsListed wants l (own l)) → All (IsChoice wants) (owned own can n)
   owned_groups zero f = tt
   owned_groups (suc n) f = All-append _ (owned own can n) (own n) (owned_groups n (λ l h. f l (omega arith))) (f n (omega arith)).chosen
 
@@ -149,18 +162,10 @@ module _ (p : Problem) (own : ℕ → List (List Want)) (can : List Want → Boo
     (right : (l : ℕ) (g : List Want) → l < length p.luns → Has (own l) g → can g ≡ true → (lun_of g ≡ l) × IsStartable p.rules p.wants g)
     (full : (g : List Want) → lun_of g < length p.luns → IsStartable p.rules p.wants g → Has (own (lun_of g)) g × (can g ≡ true))
     (sorted : (l : ℕ) → l < length p.luns → Pairs (λ g h. can g ≡ true → can h ≡ true → mask_of p.wants g < mask_of p.wants h) (own l)) where
-  all_starts : (l since : ℕ) (gs : List (List Want)) → ((g : List Want) → Has gs g → Has (own l) g) → slice_get p.luns l ≡ Some (Free since) → All (λ m. IsMove p m × (move_lun m ≡ l)) (starts_of own can gs)
-  all_starts l since [] i at = tt
-  all_starts l since (g ∷ gs) i at = elim (cases_Bool (can g)) [
-    | inl k ↦ (
-        let r = right l g (within_get p.luns l _ at) (i g (inl refl)) k in
-        let at' : slice_get p.luns (lun_of g) ≡ Some (Free since) = subst (λ z. slice_get p.luns z ≡ Some (Free since)) (sym r.0) at in
-        rw k (((since, at', r.1), r.0), all_starts l since gs (λ h q. i h (inr q)) at))
-    | inr k ↦ rw k (all_starts l since gs (λ h q. i h (inr q)) at)
-  ]
-
   lun_only : (l : ℕ) (x : LunState) → slice_get p.luns l ≡ Some x → All (λ m. IsMove p m × (move_lun m ≡ l)) (lun_moves own can l x)
-  lun_only l (Free since) at = all_starts l since (own l) (λ g h. h) at
+  lun_only l (Free since) at = All-started own can (λ m. IsMove p m × (move_lun m ≡ l)) (own l) (All-each _ (own l) (λ g i k.
+      let r = right l g (within_get p.luns l _ at) i k in
+      ((since, subst (λ z. slice_get p.luns z ≡ Some (Free since)) (sym r.0) at, r.1), r.0)))
   lun_only l (Running g n r) at = (((g, n, r, at), refl), tt)
 
   abbrev Placed : ℕ → List LunState → Type 0
@@ -180,44 +185,26 @@ module _ (p : Problem) (own : ℕ → List (List Want)) (can : List Want → Boo
       (All-each _ (moves_from own can (l + 1) luns) (λ m k. let a = All-has _ (moves_from own can (l + 1) luns) m (only (l + 1) luns (placed_next l x luns h)) k in let e = a.1 in (a.0, omega arith)))
 
   in_starts : (gs : List (List Want)) (g : List Want) → Has gs g → can g ≡ true → Has (starts_of own can gs) (Start g)
-  in_starts [] g h k = absurd h
-  in_starts (x ∷ gs) g (inl e) k = let k' : can x ≡ true = ap can e ∙ k in rw k' (inl (ap (λ z. Start z) e))
-  in_starts (x ∷ gs) g (inr h) k = elim (cases_Bool (can x)) [ inl j ↦ rw j (inr (in_starts gs g h k)) | inr j ↦ rw j (in_starts gs g h k) ]
+  in_starts gs g h k = Has-map (λ x. Start x) (filter can gs) g (Has-filter can gs g h k)
 
-  in_from : (l i : ℕ) (luns : List LunState) (x : LunState) (m : Move) → slice_get luns i ≡ Some x → Has (lun_moves own can (l + i) x) m → Has (moves_from own can l luns) m
-  in_from l i [] x m e h = cc
-  in_from l zero (y ∷ luns) x m e h =
-      let q : y ≡ x = cc in let z : l + 0 ≡ l = omega arith in
-      Has-append_left (lun_moves own can l y) (moves_from own can (l + 1) luns) m (subst (λ s. Has (lun_moves own can l s) m) (sym q) (subst (λ n. Has (lun_moves own can n x) m) z h))
-  in_from l (suc i) (y ∷ luns) x m e h =
-      let z : l + suc i ≡ l + 1 + i = omega arith in
-      Has-append_right (lun_moves own can l y) (moves_from own can (l + 1) luns) m (in_from (l + 1) i luns x m e (subst (λ n. Has (lun_moves own can n x) m) z h))
+  in_from : (l i lun : ℕ) (luns : List LunState) (x : LunState) (m : Move) → l + i ≡ lun → slice_get luns i ≡ Some x → Has (lun_moves own can lun x) m → Has (moves_from own can l luns) m
+  in_from l i lun [] x m e at h = cc
+  in_from l zero lun (y ∷ luns) x m e at h =
+      let same : y ≡ x = cc in
+      let here : l ≡ lun = omega arith in
+      Has-append_left (lun_moves own can l y) (moves_from own can (l + 1) luns) m (rw (here, same) h)
+  in_from l (suc i) lun (y ∷ luns) x m e at h = Has-append_right (lun_moves own can l y) (moves_from own can (l + 1) luns) m (in_from (l + 1) i lun luns x m (omega arith) at h)
 
   each_move : (m : Move) → IsMove p m → Has (moves_from own can 0 p.luns) m
-  each_move (Next l) (g, n, r, at) = let z : 0 + l ≡ l = omega arith in in_from 0 l p.luns (Running g n r) (Next l) at (inl (ap (λ n. Next n) z))
+  each_move (Next l) (g, n, r, at) = in_from 0 l l p.luns (Running g n r) (Next l) (omega arith) at (inl refl)
   each_move (Start g) (since, at, st) =
       let f = full g (within_get p.luns (lun_of g) _ at) st in
-      let z : lun_of g ≡ 0 + lun_of g = omega arith in
-      in_from 0 (lun_of g) p.luns (Free since) (Start g) at (subst (λ n. Has (starts_of own can (own n)) (Start g)) z (in_starts (own (lun_of g)) g f.0 f.1))
-
-  later_starts : (l : ℕ) (g : List Want) (gs : List (List Want)) → l < length p.luns → ((h : List Want) → Has gs h → Has (own l) h) → lun_of g ≡ l → can g ≡ true → All (λ h. can g ≡ true → can h ≡ true → mask_of p.wants g < mask_of p.wants h) gs → All (ComesBefore p (Start g)) (starts_of own can gs)
-  later_starts l g [] w i e k a = tt
-  later_starts l g (h ∷ gs) w i e k a = elim (cases_Bool (can h)) [
-    | inl j ↦ (
-        let r = right l h w (i h (inl refl)) j in
-        rw j (inr (e ∙ sym r.0, a.0 k j), later_starts l g gs w (λ q z. i q (inr z)) e k a.1))
-    | inr j ↦ rw j (later_starts l g gs w (λ q z. i q (inr z)) e k a.1)
-  ]
-
-  starts_order : (l : ℕ) (gs : List (List Want)) → l < length p.luns → ((h : List Want) → Has gs h → Has (own l) h) → Pairs (λ g h. can g ≡ true → can h ≡ true → mask_of p.wants g < mask_of p.wants h) gs → Pairs (ComesBefore p) (starts_of own can gs)
-  starts_order l [] w i s = tt
-  starts_order l (g ∷ gs) w i s = elim (cases_Bool (can g)) [
-    | inl k ↦ (let r = right l g w (i g (inl refl)) k in rw k (later_starts l g gs w (λ h q. i h (inr q)) r.0 k s.0, starts_order l gs w (λ h q. i h (inr q)) s.1))
-    | inr k ↦ rw k (starts_order l gs w (λ h q. i h (inr q)) s.1)
-  ]
+      in_from 0 (lun_of g) (lun_of g) p.luns (Free since) (Start g) (omega arith) at (in_starts (own (lun_of g)) g f.0 f.1)
 
   lun_order : (l : ℕ) (x : LunState) → slice_get p.luns l ≡ Some x → Pairs (ComesBefore p) (lun_moves own can l x)
-  lun_order l (Free since) at = let w = within_get p.luns l _ at in starts_order l (own l) w (λ g h. h) (sorted l w)
+  lun_order l (Free since) at =
+      let w = within_get p.luns l _ at in
+      Pairs-started own can (ComesBefore p) (own l) (Pairs-each _ _ (own l) (sorted l w) (λ g h i j lt a b. inr ((right l g w i a).0 ∙ sym (right l h w j b).0, lt a b)))
   lun_order l (Running g n r) at = (tt, tt)
 
   order : (l : ℕ) (luns : List LunState) → Placed l luns → Pairs (ComesBefore p) (moves_from own can l luns)

@@ -3,7 +3,7 @@ use Rattle.std.proofs.Common.{◌≡◌, ℕ, ◌+◌, inl, inr, List, [], ◌�
 use Rattle.std.specs.List.{AllByRecursion as All, flat_map}
 pub use Rattle.std.proofs.Common.{append-nil as append_nil}
 use Rattle.onfi_group.specs.Words.{Has, Pairs, total}
-pub use Rattle.onfi_group.proofs.Lists.{All-append, All-weaker, All-has, All-each, Has-append_left, Has-append_right, Has-append_cases, All-both}
+pub use Rattle.onfi_group.proofs.Lists.{All-append, All-weaker, All-has, All-each, Has-append_left, Has-append_right, Has-append_cases, Has-map, All-both}
 
 pub data Perm {A : Type 0} : List A → List A → Type 0 where
   none : Perm [] []
@@ -89,11 +89,6 @@ All-front P (x ∷ xs) ys h = (h.0, All-front P xs ys h.1)
 pub All-back : {A : Type 0} (P : A → Type 0) (xs ys : List A) → All P (xs ++ ys) → All P ys
 All-back P [] ys h = h
 All-back P (x ∷ xs) ys h = All-back P xs ys h.1
-
-pub Has-map : {A B : Type 0} (f : A → B) (xs : List A) (x : A) → Has xs x → Has (map f xs) (f x)
-Has-map f [] x h = absurd h
-Has-map f (y ∷ xs) x (inl e) = inl (ap f e)
-Has-map f (y ∷ xs) x (inr h) = inr (Has-map f xs x h)
 
 -- without one of them
 pub taken_out : {A : Type 0} (xs : List A) (x : A) → Has xs x → (ys : List A) × Perm xs (x ∷ ys)

@@ -38,7 +38,6 @@ module _ (p : Problem) (groups : List (List Want)) (luns : List Lun) (states : m
   next_place l d lim (g, n, r, at) =
       let q = runs_by groups luns l d g n r (at_kept l _ at) in
       let i = lim.problem.running l g n r at in
-      let some = i.group.some in
       let e = ap length q.group in
       in_table groups (get_or luns l d).place (omega arith)
 

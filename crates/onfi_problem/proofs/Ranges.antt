@@ -3,7 +3,8 @@ use Rattle.std.proofs.Common.{◌≡◌, ℕ, zero, suc, ◌+◌, ◌-◌, ◌�
 use Rattle.std.specs.Prelude.{slice_range, slice_index_or}
 use Rattle.std.specs.List.{filter, AllByRecursion as All}
 use Rattle.std.proofs.lemmas.Bool.{cases_Bool}
-use Rattle.std.proofs.lemmas.List.{take_more, map_push, append_assoc, length-append, length-map, length-drop, length-take, get_or-drop, get_or-take}
+use Rattle.std.proofs.lemmas.List.Elements.{filter-append}
+use Rattle.std.proofs.lemmas.List.{take_more, map_push, append-nil, append_assoc, length-append, length-map, length-drop, length-take, get_or-drop, get_or-take}
 use Rattle.onfi_request.specs.declared.want.Want.{Want}
 use Rattle.onfi_problem.specs.declared.moves.Move.{Move as KeptMove}
 use Rattle.onfi_problem.specs.declared.moves.Move.TheVariants.{Start as KeptStart}
@@ -24,12 +25,10 @@ range_more xs from place d h k =
     ap (λ n. take n (drop from xs)) e ∙ (take_more (drop from xs) (place - from) d s ∙ ap (λ z. take (place - from) (drop from xs) ++ z ∷ []) g)
 
 filter_yes : {A : Type 0} (test : A → Bool) (xs : List A) (y : A) → test y ≡ true → filter test (xs ++ y ∷ []) ≡ filter test xs ++ y ∷ []
-filter_yes test [] y h = rw h refl
-filter_yes test (x ∷ xs) y h = elim (cases_Bool (test x)) [ inl k ↦ rw k (ap (λ z. x ∷ z) (filter_yes test xs y h)) | inr k ↦ rw k (filter_yes test xs y h) ]
+filter_yes test xs y h = filter-append test xs (y ∷ []) ∙ rw h refl
 
 filter_no : {A : Type 0} (test : A → Bool) (xs : List A) (y : A) → test y ≡ false → filter test (xs ++ y ∷ []) ≡ filter test xs
-filter_no test [] y h = rw h refl
-filter_no test (x ∷ xs) y h = elim (cases_Bool (test x)) [ inl k ↦ rw k (ap (λ z. x ∷ z) (filter_no test xs y h)) | inr k ↦ rw k (filter_no test xs y h) ]
+filter_no test xs y h = filter-append test xs (y ∷ []) ∙ rw h (append-nil (filter test xs))
 
 filter_part : {A : Type 0} (test : A → Bool) (xs : List A) (a b : ℕ) → a ≤ b → length (filter test (take a xs)) ≤ length (filter test (take b xs))
 filter_part test xs zero b h = omega arith

@@ -233,7 +233,6 @@ module _ (all g : List Want) (marks : List Bool) (rising : Rising all) (listed :
   none_ahead r t w h a =
       let x = ahead_by g w a in
       let least = first_least left x.of w r (first_each left g x.of t x.has) h x.block in
-      let lt = x.earlier in
       omega arith
 
   -- members wait

@@ -19,15 +19,13 @@ use Rattle.onfi_problem.specs.Moves.{AreMoves, Next}
 use Rattle.onfi_problem.specs.Position.{Position, waiting_of, state_of, move_of, moves_of}
 use Rattle.onfi_problem.specs.Kept.{IsKept, IsTable, position_of}
 use Rattle.onfi_problem.specs.Starts.{can_start, starts, IsNamed}
-use Rattle.onfi_problem.proofs.Perm.{All-append, All-has, All-each, All-weaker}
+use Rattle.onfi_problem.proofs.Perm.{All-append, All-has, All-weaker}
+use Rattle.onfi_group.proofs.Lists.{Pairs-each}
+use Rattle.onfi_group.proofs.Counting.{IsChoice, apart_by}
 use Rattle.onfi_problem.specs.StartMarks.{start_marks, are_met}
 use Rattle.onfi_problem.proofs.StartMarks.{met_starts}
 use Rattle.onfi_problem.proofs.Firsts.{startable_of, candidate_of, passes, startable_order}
 use Rattle.onfi_problem.proofs.Ordered.{moves_from, lun_moves, owned, few_moves, room_more, from_more, table_moves, IsListed, owned_few}
-
-Pairs-each : {A : Type 0} (R Q : A → A → Type 0) (xs : List A) → Pairs R xs → ((x y : A) → Has xs x → Has xs y → R x y → Q x y) → Pairs Q xs
-Pairs-each R Q [] h f = tt
-Pairs-each R Q (x ∷ xs) h f = (All-each (Q x) xs (λ y k. f x y (inl refl) (inr k) (All-has (R x) xs y h.0 k)), Pairs-each R Q xs h.1 (λ a b i j. f a b (inr i) (inr j)))
 
 -- the groups of the table that a LUN's wants can form
 abbrev pub own_groups : List (List Want) → List ℕ → ℕ → List (List Want)
@@ -68,9 +66,9 @@ module _ (timing : Timing) (rules : Rules) (bus_free : ℕ) (luns : List Lun) (a
   listed l h =
       let c = (t.own l h).candidates in
       record {
-        chosen = All-weaker (IsCandidate rules all l) _ (λ g i. (i.group.some, i.group.planes, i.listed)) (own l) c.only;
+        chosen = All-weaker (IsCandidate rules all l) (IsChoice all) (λ g i. (i.group.some, i.group.planes, i.listed)) (own l) c.only;
         lun = All-weaker (IsCandidate rules all l) _ (λ g i. i.lun) (own l) c.only;
-        once = Pairs-each _ _ (own l) c.order (λ a b i j lt e. let q : mask_of all a ≡ mask_of all b = ap (mask_of all) e in omega arith);
+        once = apart_by (mask_of all) (own l) c.order;
       }
 
   planes : All (λ w. w.plane ≤ 3) all
@@ -92,8 +90,6 @@ module _ (timing : Timing) (rules : Rules) (bus_free : ℕ) (luns : List Lun) (a
       let e = place_is n (omega arith) in
       let s : suc n ≡ n + 1 = omega arith in
       let o = t.own n (omega arith) in
-      let r = o.rising in
-      let w = o.within in
       let a = length-append (owned own can n) (own n) in
       let d = length-drop (slice_index first n) groups in
       let l = length-take (slice_index first (n + 1) - slice_index first n) (drop (slice_index first n) groups) in
@@ -102,7 +98,6 @@ module _ (timing : Timing) (rules : Rules) (bus_free : ℕ) (luns : List Lun) (a
   pub places_few : (n : ℕ) → n ≤ length luns → slice_index first n ≤ 88
   places_few n h =
       let e = place_is n h in
-      let o = t.opened in
       let f = owned_few all own can k.few planes n (λ l i. listed l (omega arith)) in
       omega arith
 

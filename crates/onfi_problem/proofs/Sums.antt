@@ -2,6 +2,7 @@
 use Rattle.std.proofs.Common.{◌≡◌, ℕ, zero, suc, ◌+◌, ◌<◌, List, [], ◌∷◌, length, get_or, take, Some, refl, ap, subst, arith}
 use Rattle.std.specs.Prelude.{max, slice_get}
 use Rattle.std.proofs.lemmas.List.{take_more}
+use Rattle.std.proofs.lemmas.Option.{get_or_from_slice_get}
 use Rattle.onfi_request.specs.declared.want.Want.{Want}
 use Rattle.onfi_group.specs.declared.rules.Rules.{Rules}
 use Rattle.onfi_group.specs.Words.{total}
@@ -10,6 +11,7 @@ use Rattle.onfi_problem.specs.declared.lun_state.LunState.TheVariants.{Free, Run
 use Rattle.onfi_problem.specs.Problem.{IsRunning}
 use Rattle.onfi_problem.specs.Left.{latest_wait}
 use Rattle.onfi_problem.specs.Checks.{IsLun, AreLuns, time_of}
+use Rattle.onfi_problem.proofs.Places.{within_get}
 use Rattle.onfi_problem.proofs.Wants.{total-append}
 
 pub total_more : {A : Type 0} (f : A → ℕ) (xs : List A) (i : ℕ) (d : A) → i < length xs → total f (take (i + 1) xs) ≡ total f (take i xs) + f (get_or xs i d)
@@ -26,15 +28,15 @@ pub latest_more : (t : ℕ) (xs : List LunState) (i : ℕ) (d : LunState) → i 
 latest_more t xs i d h = let e : suc i ≡ i + 1 = omega arith in subst (λ n. latest_wait t (take n xs) ≡ max (latest_wait t (take i xs)) (time_of (get_or xs i d))) e (latest_suc t xs i d h)
 
 -- what each LUN does is tested one after the other
+pub lun_at : (rules : Rules) (at : ℕ) (luns : List LunState) (i : ℕ) (d : LunState) → AreLuns rules at luns → i < length luns → IsLun rules (at + i) (get_or luns i d)
+lun_at rules at [] i d a h = absurd (omega arith)
+lun_at rules at (x ∷ luns) zero d a h = let z : at ≡ at + 0 = omega arith in subst (λ n. IsLun rules n x) z a.0
+lun_at rules at (x ∷ luns) (suc i) d a h = let z : at + 1 + i ≡ at + suc i = omega arith in subst (λ n. IsLun rules n (get_or luns i d)) z (lun_at rules (at + 1) luns i d a.1 (omega arith))
+
 pub luns_run : (rules : Rules) (at : ℕ) (luns : List LunState) → AreLuns rules at luns → (lun : ℕ) (g : List Want) (n r : ℕ) → slice_get luns lun ≡ Some (Running g n r) → IsRunning rules (at + lun) g n
-luns_run rules at [] h lun g n r e = cc
-luns_run rules at (Free since ∷ luns) h zero g n r e = cc
-luns_run rules at (Running g' n' r' ∷ luns) h zero g n r e =
-    let a : g' ≡ g = cc in let b : n' ≡ n = cc in let z : at ≡ at + 0 = omega arith in
-    subst (λ i. IsRunning rules i g n) z (rw (← a, ← b) h.0)
-luns_run rules at (x ∷ luns) h (suc lun) g n r e =
-    let z : at + 1 + lun ≡ at + suc lun = omega arith in
-    subst (λ i. IsRunning rules i g n) z (luns_run rules (at + 1) luns h.1 lun g n r e)
+luns_run rules at luns h lun g n r e =
+    let x = Running g n r in
+    subst (IsLun rules (at + lun)) (get_or_from_slice_get luns lun x x e) (lun_at rules at luns lun x h (within_get luns lun x e))
 
 pub run_luns : (rules : Rules) (at : ℕ) (luns : List LunState) → ((lun : ℕ) (g : List Want) (n r : ℕ) → slice_get luns lun ≡ Some (Running g n r) → IsRunning rules (at + lun) g n) → AreLuns rules at luns
 run_luns rules at [] h = tt
@@ -47,11 +49,6 @@ run_luns rules at (x ∷ luns) h = (first x (λ g n r e. let z : at + 0 ≡ at =
 -- a sum so far, and one element more
 pub one_more : {A : Type 0} (f : A → ℕ) (xs : List A) (i : ℕ) (d : A) (t r : ℕ) → i < length xs → t ≡ total f (take i xs) → r ≡ f (get_or xs i d) → t + r ≡ total f (take (i + 1) xs)
 one_more f xs i d t r h e q = let m = total_more f xs i d h in omega arith
-
-pub lun_at : (rules : Rules) (at : ℕ) (luns : List LunState) (i : ℕ) (d : LunState) → AreLuns rules at luns → i < length luns → IsLun rules (at + i) (get_or luns i d)
-lun_at rules at [] i d a h = absurd (omega arith)
-lun_at rules at (x ∷ luns) zero d a h = let z : at ≡ at + 0 = omega arith in subst (λ n. IsLun rules n x) z a.0
-lun_at rules at (x ∷ luns) (suc i) d a h = let z : at + 1 + i ≡ at + suc i = omega arith in subst (λ n. IsLun rules n (get_or luns i d)) z (lun_at rules (at + 1) luns i d a.1 (omega arith))
 
 pub luns_of : (rules : Rules) (luns : List LunState) → ((lun : ℕ) (g : List Want) (n r : ℕ) → slice_get luns lun ≡ Some (Running g n r) → IsRunning rules lun g n) → AreLuns rules 0 luns
 luns_of rules luns h = run_luns rules 0 luns (λ lun g n r e. let z : lun ≡ 0 + lun = omega arith in subst (λ i. IsRunning rules i g n) z (h lun g n r e))

@@ -33,7 +33,6 @@ one_without f (w ∷ ws) m r (inl e) =
     all_kept : (vs : List Want) (m : Want) → All (λ v. m.id < v.id) vs → filter (λ w. not (m.id == w.id)) vs ≡ vs
     all_kept [] m h = refl
     all_kept (v ∷ vs) m h =
-        let lt = h.0 in
         elim (cases_Bool (m.id == v.id)) [
           | inl k ↦ (let e = eqb-true m.id v.id k in absurd (omega arith))
           | inr k ↦ rw k (ap (λ us. v ∷ us) (all_kept vs m h.1))

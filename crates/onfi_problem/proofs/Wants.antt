@@ -3,6 +3,7 @@ use Rattle.std.proofs.Common.{◌≡◌, ℕ, ◌+◌, ◌≤◌, ◌<◌, inl, 
 use Rattle.std.specs.Prelude.{not, ◌==◌, slice_get}
 use Rattle.std.specs.List.{AllByRecursion as All, filter, list_any}
 use Rattle.std.proofs.lemmas.Bool.{eqb-true, cases_Bool, false≢true}
+use Rattle.std.proofs.lemmas.List.Sums.{length-filter, count_by-le-length}
 use Rattle.std.proofs.lemmas.Bool.Decides.{nat_tests}
 use Rattle.onfi_request.specs.declared.want.Want.{Want}
 use Rattle.onfi_group.specs.Words.{Has, Pairs, number, total}
@@ -10,22 +11,14 @@ use Rattle.onfi_problem.specs.Problem.{has_id}
 use Rattle.onfi_group.specs.Group.{is_member}
 use Rattle.onfi_problem.specs.Moves.{without}
 use Rattle.onfi_problem.proofs.Perm.{All-has, All-each, Has-append_left, Has-append_right}
+pub use Rattle.onfi_group.proofs.Lists.{total-append, Has-filter, Pairs-weaker, first_has}
+pub use Rattle.onfi_group.proofs.Firsts.{same_by_id}
 
 abbrev pub Rising : List Want → Type 0
 Rising ws = Pairs (λ a b. a.id < b.id) ws
 
-pub total-append : {A : Type 0} (f : A → ℕ) (xs ys : List A) → total f (xs ++ ys) ≡ total f xs + total f ys
-total-append f [] ys = omega arith
-total-append f (x ∷ xs) ys = let e = total-append f xs ys in omega arith
-
-pub Has-filter : {A : Type 0} (test : A → Bool) (xs : List A) (x : A) → Has xs x → test x ≡ true → Has (filter test xs) x
-Has-filter test [] x h e = absurd h
-Has-filter test (y ∷ ys) x (inl q) e = let k : test y ≡ true = ap test q ∙ e in rw k (inl q)
-Has-filter test (y ∷ ys) x (inr h) e = elim (cases_Bool (test y)) [ inl k ↦ rw k (inr (Has-filter test ys x h e)) | inr k ↦ rw k (Has-filter test ys x h e) ]
-
 pub filter_shorter : {A : Type 0} (test : A → Bool) (xs : List A) → length (filter test xs) ≤ length xs
-filter_shorter test [] = omega arith
-filter_shorter test (x ∷ xs) = let e = filter_shorter test xs in elim (cases_Bool (test x)) [ inl k ↦ rw k (omega arith) | inr k ↦ rw k (omega arith) ]
+filter_shorter test xs = omega (arith, length-filter test xs, count_by-le-length test xs)
 
 pub All-filter : {A : Type 0} (P : A → Type 0) (test : A → Bool) (xs : List A) → All P xs → All P (filter test xs)
 All-filter P test [] h = tt
@@ -34,22 +27,6 @@ All-filter P test (y ∷ ys) h = elim (cases_Bool (test y)) [ inl k ↦ rw k (h.
 pub Pairs-filter : {A : Type 0} (R : A → A → Type 0) (test : A → Bool) (xs : List A) → Pairs R xs → Pairs R (filter test xs)
 Pairs-filter R test [] h = tt
 Pairs-filter R test (y ∷ ys) h = elim (cases_Bool (test y)) [ inl k ↦ rw k (All-filter (R y) test ys h.0, Pairs-filter R test ys h.1) | inr k ↦ rw k (Pairs-filter R test ys h.1) ]
-
-pub Pairs-weaker : {A : Type 0} (R Q : A → A → Type 0) → ((x y : A) → R x y → Q x y) → (xs : List A) → Pairs R xs → Pairs Q xs
-Pairs-weaker R Q f [] h = tt
-Pairs-weaker R Q f (y ∷ ys) h = (weaker ys h.0, Pairs-weaker R Q f ys h.1)
-  where
-    weaker : (zs : List _) → All (R y) zs → All (Q y) zs
-    weaker [] k = tt
-    weaker (z ∷ zs) k = (f y z k.0, weaker zs k.1)
-
--- ids tell wants apart
-pub same_by_id : (ws : List Want) (a b : Want) → Rising ws → Has ws a → Has ws b → a.id ≡ b.id → a ≡ b
-same_by_id [] a b r h k e = absurd h
-same_by_id (w ∷ ws) a b r (inl h) (inl k) e = sym h ∙ k
-same_by_id (w ∷ ws) a b r (inl h) (inr k) e = let q = All-has _ ws b r.0 k in let i : w.id ≡ a.id = ap (λ x. x.id) h in absurd (omega arith)
-same_by_id (w ∷ ws) a b r (inr h) (inl k) e = let q = All-has _ ws a r.0 h in let i : w.id ≡ b.id = ap (λ x. x.id) k in absurd (omega arith)
-same_by_id (w ∷ ws) a b r (inr h) (inr k) e = same_by_id ws a b r.1 h k e
 
 none_with_id : (ws : List Want) (id : ℕ) → All (λ w. id < w.id) ws → number (has_id id) ws ≡ 0
 none_with_id [] id h = refl
@@ -99,14 +76,6 @@ pub number_has : (ws : List Want) (w : Want) → Has ws w → 1 ≤ number (has_
 number_has [] w h = absurd h
 number_has (v ∷ ws) w (inl e) = let i : v.id ≡ w.id = ap (λ x. x.id) e in grind (arith, nat_tests)
 number_has (v ∷ ws) w (inr h) = let n = number_has ws w h in omega arith
-
--- the first that passes a test is there
-pub first_has : (test : Want → Bool) (ws : List Want) (m : Want) → slice_get (filter test ws) 0 ≡ Some m → Has ws m
-first_has test [] m h = cc
-first_has test (w ∷ ws) m h = elim (cases_Bool (test w)) [
-  | inl k ↦ (let q : slice_get (w ∷ filter test ws) 0 ≡ Some m = rw k at h in inl (cc))
-  | inr k ↦ (let q : slice_get (filter test ws) 0 ≡ Some m = rw k at h in inr (first_has test ws m q))
-]
 
 -- a group of wants and the others are all wants
 module _ (wants members others : List Want) (rising : Rising wants) (wants_only : All (Has wants) (members ++ others)) (once : (id : ℕ) → number (has_id id) (members ++ others) ≡ number (has_id id) wants) where
