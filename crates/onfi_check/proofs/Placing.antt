@@ -1,5 +1,5 @@
 -- Where the tokens stand of which a fault tells.
-use Rattle.std.proofs.Common.{◌≡◌, ◌≢◌, ℕ, ◌+◌, ◌<◌, inl, inr, List, [], ◌∷◌, ◌++◌, length, refl, sym, ap, ◌∙◌, subst, arith, append_assoc, length-append}
+use Rattle.std.proofs.Common.{◌≡◌, ◌≢◌, ℕ, ◌+◌, ◌<◌, ◌⊎◌, inl, inr, List, [], ◌∷◌, ◌++◌, length, refl, sym, ap, ◌∙◌, subst, arith, append_assoc, length-append}
 use Rattle.std.specs.Prelude.{Result, Ok, Err, OnOk, IfErr}
 use Rattle.onfi_problem.specs.Problem.{Problem}
 use Rattle.onfi_cert.specs.declared.token.Token.{Token}
@@ -47,6 +47,15 @@ bound_of Trail nb ny ne = inr (inr (inl refl))
 bound_of (Die lun) nb ny ne = inr (inr (inr (lun, refl)))
 bound_of (Yield lun) nb ny ne = absurd (ny lun refl)
 bound_of End nb ny ne = absurd (ne refl)
+
+-- a bus or a trail token is that of a bound, and no yield or branch
+pub leaf_bound : (token : Token) → (token ≡ Bus) ⊎ (token ≡ Trail) → IsBound token
+leaf_bound token (inl e) = inl e
+leaf_bound token (inr e) = inr (inr (inl e))
+
+pub leaf_closes : (token : Token) → (token ≡ Bus) ⊎ (token ≡ Trail) → ((lun : ℕ) → token ≢ Yield lun) × ((width : ℕ) → token ≢ Branch width)
+leaf_closes token (inl e) = ((λ lun q. cc), λ width q. cc)
+leaf_closes token (inr e) = ((λ lun q. cc), λ width q. cc)
 
 pub ok_more : {A : Type 0} (result : Result A CertFault) (first next last : ℕ) (tokens left rest : List Token) → ReadOn first next tokens left → OnOk result (ReadOn next last left rest) → OnOk result (ReadOn first last tokens rest)
 ok_more (Ok x) first next last tokens left rest a b = read_more first next last tokens left rest a b
