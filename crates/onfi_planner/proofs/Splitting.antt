@@ -30,7 +30,7 @@ use Rattle.onfi_planner.specs.Planning.{Found, IsOver, IsRoot, run_of}
 use Rattle.onfi_planner.proofs.Beginning.{first_is_run}
 use Rattle.onfi_planner.proofs.Grown.{Grown, accepts_sooner, grown_accepts, grown_width}
 use Rattle.onfi_planner.proofs.Growing.{map_length}
-use Rattle.onfi_planner.proofs.Halfway.{Pairs-cross, none_some, no_moves, not_before_itself, steps_same, luns_of}
+use Rattle.onfi_planner.proofs.Halfway.{Pairs-cross, none_some, no_moves, not_before_itself, steps_same}
 use Rattle.onfi_planner.proofs.Opening.{Done, opened}
 use Rattle.onfi_planner.proofs.Paths.{Among, among_all, among_more, among_none, among_skip, node_one}
 use Rattle.onfi_check.proofs.Sound.{sound}
@@ -73,17 +73,17 @@ found_one x first limit (s ∷ steps) (p ∷ found) part a (inr h) = found_one x
 
 module _ (x : Position) (yields : List (Option ℕ)) (first limit : ℕ) where
   -- behind a move that doesn't yield nothing ends before e
-  done_parts : (e : ℕ) (items : List KeptMove) (found : List Part) → All (λ s. move_lun (move_of x.groups s) ≡ lun_named s) items → All (λ part. e ≤ part.best.finish) found → AreFound x first limit (parts_of yields items) found → Done x.problem yields e (moves_of x.groups items)
+  done_parts : (e : ℕ) (items : List KeptMove) (found : List Part) → All (IsNamed x.groups) items → All (λ part. e ≤ part.best.finish) found → AreFound x first limit (parts_of yields items) found → Done x.problem yields e (moves_of x.groups items)
   done_parts e [] found luns least a = tt
   done_parts e (s ∷ items) found luns least a = go (λ found least a. done_parts e items found luns.1 least a) (yield_at yields (lun_named s)) refl found least a
     where
       go : ((found : List Part) → All (λ part. e ≤ part.best.finish) found → AreFound x first limit (parts_of yields items) found → Done x.problem yields e (moves_of x.groups items)) → (o : Option ℕ) → yield_at yields (lun_named s) ≡ o → (found : List Part) → All (λ part. e ≤ part.best.finish) found → AreFound x first limit (if is_some o then parts_of yields items else s ∷ parts_of yields items) found → Done x.problem yields e (moves_of x.groups (s ∷ items))
       go rest None q [] least a = absurd a
       go rest None q (part ∷ found) least a = ((λ n steps f run. let h = a.0.least steps f run in let l = least.0 in omega arith), rest found least.1 a.1)
-      go rest (Some lun) q found least a = ((λ n. absurd (none_some _ lun (ap (yield_at yields) luns.0 ∙ q) n)), rest found least a)
+      go rest (Some lun) q found least a = ((λ n. absurd (none_some _ lun (ap (yield_at yields) luns.0.lun ∙ q) n)), rest found least a)
 
   -- the trees of the parts, and the yields between them
-  grown_parts : (e : ℕ) (items : List KeptMove) (found : List Part) → All (λ s. move_lun (move_of x.groups s) ≡ lun_named s) items → All (λ part. e ≤ part.best.finish) found → AreFound x first limit (parts_of yields items) found → (f : Forest) × Grown x.problem yields e (moves_of x.groups items) f × (nodes_below f ≡ opened_by found) × EachWithin limit f
+  grown_parts : (e : ℕ) (items : List KeptMove) (found : List Part) → All (IsNamed x.groups) items → All (λ part. e ≤ part.best.finish) found → AreFound x first limit (parts_of yields items) found → (f : Forest) × Grown x.problem yields e (moves_of x.groups items) f × (nodes_below f ≡ opened_by found) × EachWithin limit f
   grown_parts e [] [] luns least a = (NoMore, tt, refl, tt)
   grown_parts e [] (part ∷ found) luns least a = absurd a
   grown_parts e (s ∷ items) found luns least a = go (λ found least a. grown_parts e items found luns.1 least a) (yield_at yields (lun_named s)) refl found least a
@@ -97,7 +97,7 @@ module _ (x : Position) (yields : List (Option ℕ)) (first limit : ℕ) where
           (Child tree f, (accepts_sooner tree (moved x s).problem part.best.finish e least.0 accepted, g), omega arith, (omega arith, small))
       go rest (Some lun) q found least a =
           let (f, g, n, small) = rest found least a in
-          (Yields lun f, (ap (yield_at yields) luns.0 ∙ q, g), n, small)
+          (Yields lun f, (ap (yield_at yields) luns.0.lun ∙ q, g), n, small)
 
   -- the nodes of the parts are nodes of the whole
   among_parts : (front : List Move) (n : ℕ) (items : List KeptMove) (found : List Part) → IsOpen first x.problem → All (IsMove x.problem) (moves_of x.groups items) → Pairs (ComesBefore x.problem) (front ++ moves_of x.groups items) → Among first x.problem front n → AreFound x first limit (parts_of yields items) found → Among first x.problem (front ++ moves_of x.groups items) (n + opened_by found)
@@ -133,7 +133,7 @@ some_move x (s ∷ items) steps first ip are run o = omega arith
 pub record Split (x : Position) (items : List KeptMove) (yields : List (Option ℕ)) (first limit : ℕ) (steps : List Step) (found : List Part) : Type 0 where
   pub problem : IsProblem x.problem
   pub moves : AreMoves x.problem (moves_of x.groups items)
-  pub luns : All (λ s. move_lun (move_of x.groups s) ≡ lun_named s) items
+  pub luns : All (IsNamed x.groups) items
   pub yields_are : AreYields x.problem (moves_of x.groups items) yields
   pub open_root : IsOpen first x.problem
   pub first_run : IsFirstRun x.problem steps first
@@ -144,25 +144,23 @@ split_nodes x items yields first limit steps found w =
     let none : 0 + opened_by found ≡ opened_by found = omega arith in
     among_all first x.problem (moves_of x.groups items) (opened_by found) (subst (Among first x.problem (moves_of x.groups items)) none (among_parts x yields first limit [] 0 items found w.open_root w.moves.moves_only w.moves.order (among_none first x.problem) w.parts))
 
-pub split_opens : (x : Position) (items : List KeptMove) (yields : List (Option ℕ)) (first limit e opened : ℕ) (steps : List Step) (found : List Part) → Split x items yields first limit steps found → All (λ part. e ≤ part.best.finish) found → opened ≡ 1 + opened_by found → OpensNodes x.problem e opened
-split_opens x items yields first limit e opened steps found w least n =
-    let (f, g, k, small) = grown_parts x yields first limit e items found w.luns least w.parts in
-    let some = some_move x items steps first w.problem w.moves w.first_run w.open_root in
-    let l = map_length x items in
-    record {
-      accepted = (Opened f, grown_accepts x.problem yields e (moves_of x.groups items) f w.moves (omega arith) w.yields_are g, omega arith);
-      first = first;
-      first_run = (steps, w.first_run);
-      there = subst (HasNodes first x.problem) (sym n) (split_nodes x items yields first limit steps found w);
-    }
-
--- .. in which no part has more nodes than the limit
+-- the parts make a tree in which no part has more nodes than the limit
 pub split_parts : (x : Position) (items : List KeptMove) (yields : List (Option ℕ)) (first limit e opened : ℕ) (steps : List Step) (found : List Part) → Split x items yields first limit steps found → All (λ part. e ≤ part.best.finish) found → opened ≡ 1 + opened_by found → HasPartsWithin x.problem e opened limit
 split_parts x items yields first limit e opened steps found w least n =
     let (f, g, k, small) = grown_parts x yields first limit e items found w.luns least w.parts in
     let some = some_move x items steps first w.problem w.moves w.first_run w.open_root in
     let l = map_length x items in
     (Opened f, grown_accepts x.problem yields e (moves_of x.groups items) f w.moves (omega arith) w.yields_are g, omega arith, small)
+
+pub split_opens : (x : Position) (items : List KeptMove) (yields : List (Option ℕ)) (first limit e opened : ℕ) (steps : List Step) (found : List Part) → Split x items yields first limit steps found → All (λ part. e ≤ part.best.finish) found → opened ≡ 1 + opened_by found → OpensNodes x.problem e opened
+split_opens x items yields first limit e opened steps found w least n =
+    let (tree, accepts, k, small) = split_parts x items yields first limit e opened steps found w least n in
+    record {
+      accepted = (tree, accepts, k);
+      first = first;
+      first_run = (steps, w.first_run);
+      there = subst (HasNodes first x.problem) (sym n) (split_nodes x items yields first limit steps found w);
+    }
 
 -- the parts together have more nodes than that
 pub split_over : (x : Position) (items : List KeptMove) (yields : List (Option ℕ)) (first limit n opened : ℕ) (steps : List Step) (found : List Part) → Split x items yields first limit steps found → opened ≡ 1 + opened_by found → opened ≡ n + 1 → HasMoreNodes x.problem n
@@ -198,7 +196,7 @@ split_found x items yields limit found old new w small le least one =
         subst (λ (b : Best). Run x.problem (run_of x.groups b.steps.items) b.finish) e (p.run (omega arith))
 
 -- the branches are those of a forest
-grown_branches : (x : Position) (yields : List (Option ℕ)) (e : ℕ) (items : List KeptMove) (branches : List (Vec Token Global)) → All (λ s. move_lun (move_of x.groups s) ≡ lun_named s) items → AreBranches x e yields items (map (λ v. v.items) branches) → (f : Forest) × Grown x.problem yields e (moves_of x.groups items) f × (flat_map (λ v. v.items) branches ≡ preorders f)
+grown_branches : (x : Position) (yields : List (Option ℕ)) (e : ℕ) (items : List KeptMove) (branches : List (Vec Token Global)) → All (IsNamed x.groups) items → AreBranches x e yields items (map (λ v. v.items) branches) → (f : Forest) × Grown x.problem yields e (moves_of x.groups items) f × (flat_map (λ v. v.items) branches ≡ preorders f)
 grown_branches x yields e [] [] luns a = (NoMore, tt, refl)
 grown_branches x yields e [] (v ∷ branches) luns a = absurd a
 grown_branches x yields e (s ∷ items) [] luns a = absurd a
@@ -208,19 +206,14 @@ grown_branches x yields e (s ∷ items) (v ∷ branches) luns a = go (grown_bran
     go (f, g, k) None q (tree, t, accepted) =
         (Child tree f, (accepted, g), ap (λ z. z ++ flat_map (λ v. v.items) branches) t ∙ ap (λ z. preorder tree ++ z) k)
     go (f, g, k) (Some lun) q t =
-        (Yields lun f, (ap (yield_at yields) luns.0 ∙ q, g), ap (λ z. z ++ flat_map (λ v. v.items) branches) t ∙ ap (λ z. Yield lun ∷ z) k)
+        (Yields lun f, (ap (yield_at yields) luns.0.lun ∙ q, g), ap (λ z. z ++ flat_map (λ v. v.items) branches) t ∙ ap (λ z. Yield lun ∷ z) k)
 
-pub joined_accepted : (x : Position) (yields : List (Option ℕ)) (e n : ℕ) (items : List KeptMove) (branches : List (Vec Token Global)) (tokens : List Token) → AreMoves x.problem (moves_of x.groups items) → All (λ s. move_lun (move_of x.groups s) ≡ lun_named s) items → 1 ≤ length items → AreYields x.problem (moves_of x.groups items) yields → AreBranches x e yields items (map (λ v. v.items) branches) → n ≡ length items → tokens ≡ Branch n ∷ flat_map (λ v. v.items) branches → AcceptsTokens tokens x.problem e
+pub joined_accepted : (x : Position) (yields : List (Option ℕ)) (e n : ℕ) (items : List KeptMove) (branches : List (Vec Token Global)) (tokens : List Token) → AreMoves x.problem (moves_of x.groups items) → All (IsNamed x.groups) items → 1 ≤ length items → AreYields x.problem (moves_of x.groups items) yields → AreBranches x e yields items (map (λ v. v.items) branches) → n ≡ length items → tokens ≡ Branch n ∷ flat_map (λ v. v.items) branches → AcceptsTokens tokens x.problem e
 joined_accepted x yields e n items branches tokens are luns some ay a q t =
     let (f, g, k) = grown_branches x yields e items branches luns a in
     let l = map_length x items in
     let w : n ≡ width f = q ∙ sym (grown_width x.problem yields e (moves_of x.groups items) f g ∙ l) in
     (Opened f, sym (t ∙ (ap (λ z. Branch z ∷ flat_map (λ v. v.items) branches) w ∙ ap (λ z. Branch (width f) ∷ z) k)), grown_accepts x.problem yields e (moves_of x.groups items) f are (omega arith) ay g)
-
--- what all moves are, of each as it is kept
-pub moves_each : (x : Position) (items : List KeptMove) → All (IsMove x.problem) (moves_of x.groups items) → All (λ s. IsMove x.problem (move_of x.groups s)) items
-moves_each x [] a = tt
-moves_each x (s ∷ items) a = (a.0, moves_each x items a.1)
 
 -- the moves listed so far that don't yield
 pub parts_more : (yields : List (Option ℕ)) (steps : List KeptMove) (s : KeptMove) → yield_at yields (lun_named s) ≡ None → parts_of yields (steps ++ s ∷ []) ≡ parts_of yields steps ++ s ∷ []
@@ -273,10 +266,13 @@ branches_length x e yields (s ∷ steps) (v ∷ branches) a = let h = branches_l
 pub closed_accepted : (p : Problem) (e : ℕ) (t : Token) (tokens : List Token) → tokens ≡ t ∷ [] → (c : Closing) × (token_of c ≡ t) × Closes p e c → AcceptsTokens tokens p e
 closed_accepted p e t tokens q (c, k, a) = (Closed c, ap (λ z. z ∷ []) k ∙ sym q, a)
 
+opened_append : (front : List Part) (part : Part) (behind : List Part) → opened_by (front ++ part ∷ behind) ≡ opened_by front + part.opened + opened_by behind
+opened_append [] part behind = omega arith
+opened_append (p ∷ front) part behind = let h = opened_append front part behind in omega arith
+
 -- one more part
 pub opened_more : (found : List Part) (part : Part) → opened_by (found ++ part ∷ []) ≡ opened_by found + part.opened
-opened_more [] part = omega arith
-opened_more (p ∷ found) part = let h = opened_more found part in omega arith
+opened_more found part = let h = opened_append found part [] in omega arith
 
 pub opened_few : (most : ℕ) (found : List Part) → All (λ part. part.opened ≤ most) found → opened_by found ≤ most * length found
 opened_few most [] a = omega arith
@@ -291,10 +287,6 @@ found_all g f x first limit steps found a l h = all_given g f (IsPart x first li
 
 pub branches_all : {F : Type 0} (g : Shared F (ℕ × Unit {0}) (Result (Vec Token Global) Stop)) (f : F) (x : Position) (e : ℕ) (yields : List (Option ℕ)) (steps : List KeptMove) (branches : List (Vec Token Global)) → GivesFrom g f 0 branches → length branches ≡ length steps → ((k : ℕ) (d : KeptMove) (v : Vec Token Global) → k < length steps → Gives g f k v → IsBranch x e (get_or steps k d) (yield_at yields (lun_named (get_or steps k d))) v.items) → AreBranches x e yields steps (map (λ v. v.items) branches)
 branches_all g f x e yields steps branches a l h = all_given g f (λ s v. IsBranch x e s (yield_at yields (lun_named s)) v.items) (λ steps branches. AreBranches x e yields steps (map (λ v. v.items) branches)) tt (λ s steps v branches is are. (is, are)) steps 0 branches a l (λ k d v lt b. let z : 0 + k ≡ k = omega arith in h k d v lt (subst (λ k. Gives g f k v) z b))
-
-opened_append : (front : List Part) (part : Part) (behind : List Part) → opened_by (front ++ part ∷ behind) ≡ opened_by front + part.opened + opened_by behind
-opened_append [] part behind = omega arith
-opened_append (p ∷ front) part behind = let h = opened_append front part behind in omega arith
 
 -- as many nodes as 87 parts have
 pub opened_small : (found front : List Part) (part : Part) (behind : List Part) (opened : ℕ) → found ≡ front ++ part ∷ behind → All (λ part. part.opened ≤ 1048576) found → length found ≤ 87 → opened ≡ 1 + opened_by front → opened + part.opened ≤ 91226113
@@ -336,7 +328,7 @@ pub split_made : (x : Position) (root : Root) (items moves slice parts : List Ke
 split_made x root items moves slice parts yields limit found r e are named ay o q p a = record {
   problem = r.limits.problem;
   moves = steps_same x items moves e are;
-  luns = subst (All (λ s. move_lun (move_of x.groups s) ≡ lun_named s)) (sym e) (luns_of x.groups moves named);
+  luns = subst (All (IsNamed x.groups)) (sym e) named;
   yields_are = ay;
   open_root = o;
   first_run = r.first_run;

@@ -3,8 +3,8 @@ use Rattle.std.proofs.Common.{◌≡◌, ℕ, ◌+◌, ◌-◌, Bool, List, inl,
 use Rattle.std.proofs.lemmas.Bool.{cases_Bool}
 use Rattle.onfi_cert.specs.declared.token.Token.{Token}
 use Rattle.onfi_problem.specs.Problem.{Problem, IsProblem}
-use Rattle.onfi_schedule.specs.Schedule.{Schedule, Optimal, finish}
-use Rattle.onfi_schedule.specs.Runs.{Run, schedule_of}
+use Rattle.onfi_schedule.specs.Schedule.{Schedule, Legal, Optimal, finish}
+use Rattle.onfi_schedule.specs.Runs.{Step, Run, schedule_of}
 use Rattle.onfi_check.specs.Tree.{Accepts, AcceptsTokens}
 use Rattle.onfi_schedule.proofs.RunLegal.{run_legal}
 use Rattle.onfi_check.proofs.Sound.{certified}
@@ -81,8 +81,11 @@ some_opened p finish e n o =
     let some = some_nodes tree in
     omega arith
 
-pub best_plan : (x : Position) (best : Best) (s : Schedule) (tokens : List Token) → IsProblem x.problem → Found x best → AcceptsTokens tokens x.problem best.finish → s ≡ schedule_of x.problem (run_of x.groups best.steps.items) → Optimal x.problem s × (finish x.problem s ≡ best.finish) × AreRising s.groups
-best_plan x best s tokens ip f (tree, t, a) e =
-    let l = run_legal (run_of x.groups best.steps.items) x.problem best.finish ip f.run in
-    let o = certified x.problem (schedule_of x.problem (run_of x.groups best.steps.items)) tree ip l.0 (subst (Accepts tree x.problem) (sym l.1) a) in
-    (subst (Optimal x.problem) (sym e) o, ap (finish x.problem) e ∙ l.1, subst (λ (z : Schedule). AreRising z.groups) (sym e) (run_rises (run_of x.groups best.steps.items) x.problem best.finish f.run))
+-- what the schedule of a run is
+pub legal_plan : (p : Problem) (steps : List Step) (s : Schedule) (f : ℕ) → IsProblem p → Run p steps f → s ≡ schedule_of p steps → Legal p s × (finish p s ≡ f) × AreRising s.groups
+legal_plan p steps s f ip run e =
+    let l = run_legal steps p f ip run in
+    (subst (Legal p) (sym e) l.0, ap (finish p) e ∙ l.1, subst (λ (z : Schedule). AreRising z.groups) (sym e) (run_rises steps p f run))
+
+pub optimal_plan : (p : Problem) (s : Schedule) (tokens : List Token) (e : ℕ) → IsProblem p → Legal p s → finish p s ≡ e → AcceptsTokens tokens p e → Optimal p s
+optimal_plan p s tokens e ip legal ends (tree, t, a) = certified p s tree ip legal (subst (Accepts tree p) (sym ends) a)
