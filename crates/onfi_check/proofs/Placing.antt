@@ -107,14 +107,6 @@ pub err_yield : {A : Type 0} (result : Result A CertFault) (standing : Standing)
 err_yield (Ok x) standing j l place told lun token tokens behind left ts n t h = tt
 err_yield (Err f) standing j l place told lun token tokens behind left ts n t h = subst (λ z. FaultFits place z left f) (sym ts) (yield_fits standing j l place told lun token behind left f n t h)
 
-pub err_here : {A : Type 0} (result : Result A CertFault) (place told : ℕ) (token : Token) (tokens behind left : List Token) → tokens ≡ token ∷ behind → told ≡ place → IfErr result (FaultFits told (token ∷ behind) left) → IfErr result (FaultFits place tokens left)
-err_here (Ok x) place told token tokens behind left ts n h = tt
-err_here (Err f) place told token tokens behind left ts n h = subst (λ z. FaultFits place z left f) (sym ts) (subst (λ z. FaultFits z (token ∷ behind) left f) n h)
-
-pub err_each : {A : Type 0} (result : Result A CertFault) (place : ℕ) (token : Token) (behind left : List Token) → IfErr result (λ fault. (behind left : List Token) → FaultFits place (token ∷ behind) left fault) → IfErr result (FaultFits place (token ∷ behind) left)
-err_each (Ok x) place token behind left h = tt
-err_each (Err f) place token behind left h = h behind left
-
 -- the whole
 pub no_tree : (p : Problem) (e : ℕ) (tokens : List Token) → ((rest : List Token) → Begins p e tokens rest → ⊥) → NoTree p e tokens
 no_tree p e tokens none tree rest accepted t = none rest (tree, t, accepted)

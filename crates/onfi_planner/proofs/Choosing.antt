@@ -1,7 +1,7 @@
 -- Choosing the move that goes first among those of a list.
 use Rattle.std.proofs.Common.{◌≡◌, ℕ, zero, suc, ◌+◌, ◌≤◌, ◌<◌, ◌⊎◌, inl, inr, true, false, List, [], ◌∷◌, ◌++◌, length, map, take, drop, get_or, refl, sym, ap, ◌∙◌, subst, arith}
 use Rattle.std.specs.List.{AllByRecursion as All}
-use Rattle.std.proofs.lemmas.List.{take_all, drop_more}
+use Rattle.std.proofs.lemmas.List.{take_more, map-append, take_all, drop_more}
 use Rattle.std.proofs.lemmas.Bool.{cases_eq, cases_lt, eq-eqb, ne_eqb, lt-ltb, le-ltb, false≢true}
 use Rattle.onfi_request.specs.declared.want.Want.{Want}
 use Rattle.onfi_group.specs.Words.{Has, Pairs}
@@ -13,7 +13,7 @@ use Rattle.onfi_problem.specs.Starts.{IsNamed}
 use Rattle.onfi_problem.proofs.Perm.{All-append, All-has, All-weaker}
 use Rattle.onfi_check.specs.First.{wants_started, starts_before, GoesFirst, IsFirstChoice}
 use Rattle.onfi_group.proofs.Lists.{Has-get}
-use Rattle.onfi_check.proofs.LastEnds.{move_at, one_more}
+use Rattle.onfi_check.proofs.LastEnds.{move_at}
 
 -- what a comparison says
 abbrev Sooner : Problem → Move → Move → Type 0
@@ -67,6 +67,10 @@ chosen_begin p groups (m ∷ moves) d h are = record {
   before = (inl refl, All-weaker _ _ (λ n k. inr k) (moves_of groups moves) are.order.0);
 }
 
+one_more : (groups : List (List Want)) (moves : List KeptMove) (i : ℕ) (s d : KeptMove) → get_or moves i d ≡ s → i < length moves → moves_of groups (take (i + 1) moves) ≡ moves_of groups (take i moves) ++ move_of groups s ∷ []
+one_more groups moves i s d e h =
+    ap (moves_of groups) (take_more moves i d h) ∙ (map-append (move_of groups) (take i moves) (get_or moves i d ∷ []) ∙ ap (λ z. moves_of groups (take i moves) ++ move_of groups z ∷ []) e)
+
 next_is : (groups : List (List Want)) (moves : List KeptMove) (i : ℕ) (s d : KeptMove) → get_or moves i d ≡ s → i < length moves → moves_of groups (drop i moves) ≡ move_of groups s ∷ moves_of groups (drop (i + 1) moves)
 next_is groups moves i s d e h = ap (moves_of groups) (drop_more moves i d h ∙ ap (λ z. z ∷ drop (i + 1) moves) e)
 
@@ -86,7 +90,7 @@ chosen_kept p groups moves i choice s d e h b c =
     let le = is_not_later p (move_of groups s) (move_of groups choice) b in
     record {
       has = c.has;
-      first = subst (All (OrFirst p (move_of groups choice))) (sym (one_more groups moves i d h ∙ ap (λ z. moves_of groups (take i moves) ++ move_of groups z ∷ []) e)) (All-append _ (moves_of groups (take i moves)) (move_of groups s ∷ []) c.first (now rest.0 le, tt));
+      first = subst (All (OrFirst p (move_of groups choice))) (sym (one_more groups moves i s d e h)) (All-append _ (moves_of groups (take i moves)) (move_of groups s ∷ []) c.first (now rest.0 le, tt));
       before = rest.1;
     }
   where
@@ -105,7 +109,7 @@ chosen_new p groups moves i choice s d e h are b c =
     let behind = pairs_behind (ComesBefore p) groups (move_of groups) moves i d h are.order in
     record {
       has = subst (Has moves) e (Has-get moves i d h);
-      first = subst (All (OrFirst p (move_of groups s))) (sym (one_more groups moves i d h ∙ ap (λ z. moves_of groups (take i moves) ++ move_of groups z ∷ []) e)) (All-append _ (moves_of groups (take i moves)) (move_of groups s ∷ []) (All-weaker _ _ (λ n q. inr (later n q k)) (moves_of groups (take i moves)) c.first) (inl refl, tt));
+      first = subst (All (OrFirst p (move_of groups s))) (sym (one_more groups moves i s d e h)) (All-append _ (moves_of groups (take i moves)) (move_of groups s ∷ []) (All-weaker _ _ (λ n q. inr (later n q k)) (moves_of groups (take i moves)) c.first) (inl refl, tt));
       before = subst (λ z. All (OrBefore p (move_of groups s)) (moves_of groups z)) (sym (drop_same moves i)) (subst (λ z. All (OrBefore p (move_of groups z)) (moves_of groups (drop (suc i) moves))) e (All-weaker _ _ (λ n q. inr q) (moves_of groups (drop (suc i) moves)) behind));
     }
   where

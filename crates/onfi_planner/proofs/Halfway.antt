@@ -5,6 +5,7 @@ use Rattle.std.specs.Option.{is_some}
 use Rattle.std.specs.List.{AllByRecursion as All}
 use Rattle.std.proofs.lemmas.List.{take_all}
 use Rattle.std.proofs.lemmas.Bool.{false≢true}
+use Rattle.onfi_request.specs.declared.want.Want.{Want}
 use Rattle.onfi_problem.specs.Moves.{Move, IsMove, move_lun, AreMoves, ComesBefore}
 use Rattle.onfi_group.specs.Words.{Has, Pairs}
 use Rattle.onfi_problem.specs.Problem.{Problem, IsProblem}
@@ -13,7 +14,7 @@ use Rattle.onfi_cert.specs.declared.token.Token.{Token}
 use Rattle.onfi_check.specs.Tree.{Closing, Closes, token_of, AtEnd, Forest, Closed, Opened, NoMore, Child, Yields}
 use Rattle.onfi_problem.specs.Starts.{IsNamed}
 use Rattle.onfi_problem.proofs.Lists.{All-map, all_at}
-use Rattle.onfi_problem.proofs.Perm.{All-append, All-has, Has-append_right}
+use Rattle.onfi_problem.proofs.Perm.{All-append, All-has, All-weaker, Has-append_right}
 use Rattle.onfi_check.proofs.Sound.{sound}
 use Rattle.onfi_problem.specs.declared.moves.Move.{Move as KeptMove}
 use Rattle.onfi_problem.specs.declared.moves.Move.TheVariants.{Next}
@@ -24,6 +25,7 @@ use Rattle.onfi_check.specs.Nodes.{IsOpen, HasNodes, nodes_below}
 use Rattle.onfi_planner.specs.Planning.{Bounded, run_of, Searched, HasOpened, IsOver}
 use Rattle.onfi_planner.proofs.Paths.{Among, node_one, among_none, among_more, among_skip, among_all}
 use Rattle.onfi_planner.proofs.Opening.{Done, done_sooner, opened}
+use Rattle.onfi_planner.proofs.Turns.{some_of}
 use Rattle.onfi_planner.proofs.Grown.{Grown, joined, grown_joined, grown_sooner, grown_accepts, nodes_joined}
 use Rattle.onfi_check.proofs.LastEnds.{move_at}
 pub use Rattle.onfi_check.proofs.LastEnds.{one_more}
@@ -39,8 +41,6 @@ pub listed : (x : Position) (items moves : List KeptMove) → items ≡ moves �
 listed x items moves e are named = subst (Listed x) (sym e) (record { are = are; named = named })
 
 pub record Halfway (x : Position) (items : List KeptMove) (yields : List (Option ℕ)) (i : ℕ) (old best : Best) (improved : Bool) (began count limit : ℕ) : Type 0 where
-  pub listed : Listed x items
-  pub open_at : IsOpen old.finish x.problem
   pub sooner : best.finish ≤ old.finish
   pub done : Done x.problem yields best.finish (moves_of x.groups (take i items))
   pub run : improved ≡ true → Run x.problem (run_of x.groups best.steps.items) best.finish
@@ -50,10 +50,8 @@ pub record Halfway (x : Position) (items : List KeptMove) (yields : List (Option
   pub nodes : (f : ℕ) → old.finish ≤ f → Among f x.problem (moves_of x.groups (take i items)) (count - (began + 1))
   pub grown : (f : Forest) × Grown x.problem yields best.finish (moves_of x.groups (take i items)) f × (nodes_below f ≡ count - (began + 1))
 
-pub started : (x : Position) (items : List KeptMove) (yields : List (Option ℕ)) (best : Best) (began limit : ℕ) → Listed x items → IsOpen best.finish x.problem → began + 1 ≤ limit → Halfway x items yields 0 best best false began (began + 1) limit
-started x items yields best began limit l o h = record {
-  listed = l;
-  open_at = o;
+pub started : (x : Position) (items : List KeptMove) (yields : List (Option ℕ)) (best : Best) (began limit : ℕ) → began + 1 ≤ limit → Halfway x items yields 0 best best false began (began + 1) limit
+started x items yields best began limit h = record {
   sooner = omega arith;
   done = tt;
   run = λ e. absurd (false≢true e);
@@ -103,16 +101,14 @@ one_grown x items yields i e n more all s m last l g sum (f, h, k) =
       omega arith,
     )
 
-pub skipped : (x : Position) (items : List KeptMove) (yields : List (Option ℕ)) (i : ℕ) (old best : Best) (improved : Bool) (began count limit l : ℕ) (d : KeptMove) → i < length items → yield_at yields (lun_named (get_or items i d)) ≡ Some l
+pub skipped : (x : Position) (items : List KeptMove) (yields : List (Option ℕ)) (i : ℕ) (old best : Best) (improved : Bool) (began count limit l : ℕ) (d : KeptMove) → Listed x items → i < length items → yield_at yields (lun_named (get_or items i d)) ≡ Some l
     → Halfway x items yields i old best improved began count limit → Halfway x items yields (i + 1) old best improved began count limit
-skipped x items yields i old best improved began count limit l d h y w =
+skipped x items yields i old best improved began count limit l d all h y w =
     let s = get_or items i d in
     let m = one_more x.groups items i d h in
-    let y' : yield_at yields (move_lun (move_of x.groups s)) ≡ Some l = ap (yield_at yields) (all_at (IsNamed x.groups) items i d h w.listed.named).lun ∙ y in
+    let y' : yield_at yields (move_lun (move_of x.groups s)) ≡ Some l = ap (yield_at yields) (all_at (IsNamed x.groups) items i d h all.named).lun ∙ y in
     let sum : count - (began + 1) + 0 ≡ count - (began + 1) = omega arith in
     record {
-      listed = w.listed;
-      open_at = w.open_at;
       sooner = w.sooner;
       done = subst (Done x.problem yields best.finish) (sym m) (All-append _ (moves_of x.groups (take i items)) (move_of x.groups s ∷ []) w.done ((λ q. absurd (none_some _ l y' q)), tt));
       run = w.run;
@@ -123,10 +119,10 @@ skipped x items yields i old best improved began count limit l d h y w =
       grown = one_grown x items yields i best.finish (count - (began + 1)) 0 (count - (began + 1)) s m (Yields l NoMore) refl (y', tt) sum w.grown;
     }
 
-pub visited : (x : Position) (items : List KeptMove) (yields : List (Option ℕ)) (i : ℕ) (old best best' : Best) (improved improved' : Bool) (began count count' limit : ℕ) (d : KeptMove) → i < length items → Halfway x items yields i old best improved began count limit
+pub visited : (x : Position) (items : List KeptMove) (yields : List (Option ℕ)) (i : ℕ) (old best best' : Best) (improved improved' : Bool) (began count count' limit : ℕ) (d : KeptMove) → Listed x items → IsOpen old.finish x.problem → i < length items → Halfway x items yields i old best improved began count limit
     → best'.finish ≤ best.finish → Bounded (moved x (get_or items i d)).problem best'.finish → HasOpened (moved x (get_or items i d)).problem best.finish best'.finish count count' → count' ≤ limit
     → (improved' ≡ true → Run x.problem (run_of x.groups best'.steps.items) best'.finish) → (improved' ≡ false → best' ≡ old) → Halfway x items yields (i + 1) old best' improved' began count' limit
-visited x items yields i old best best' improved improved' began count count' limit d h w le b more lim run kept =
+visited x items yields i old best best' improved improved' began count count' limit d all o h w le b more lim run kept =
     let s = get_or items i d in
     let m = one_more x.groups items i d h in
     let so = w.sooner in
@@ -134,8 +130,6 @@ visited x items yields i old best best' improved improved' began count count' li
     let mo' = more.more in
     let sum : count - (began + 1) + (count' - count) ≡ count' - (began + 1) = omega arith in
     record {
-      listed = w.listed;
-      open_at = w.open_at;
       sooner = omega arith;
       done = subst (Done x.problem yields best'.finish) (sym m) (All-append _ (moves_of x.groups (take i items)) (move_of x.groups s ∷ []) (done_sooner x.problem yields best.finish best'.finish (moves_of x.groups (take i items)) le w.done) ((λ q. b), tt));
       run = run;
@@ -143,7 +137,7 @@ visited x items yields i old best best' improved improved' began count count' li
       more = omega arith;
       within = lim;
       nodes = λ f k.
-          let a = among_more f x.problem (moves_of x.groups (take i items)) (move_of x.groups s) (count - (began + 1)) (count' - count) (w.nodes f k) (open_later old.finish f x.problem k w.open_at) (move_at x.problem x.groups items i d h w.listed.are.moves_only) (new_move x items i d w.listed.are h) (more.nodes f (omega arith)) in
+          let a = among_more f x.problem (moves_of x.groups (take i items)) (move_of x.groups s) (count - (began + 1)) (count' - count) (w.nodes f k) (open_later old.finish f x.problem k o) (move_at x.problem x.groups items i d h all.are.moves_only) (new_move x items i d all.are h) (more.nodes f (omega arith)) in
           subst (λ z. Among f x.problem z (count' - (began + 1))) (sym m) (subst (Among f x.problem (moves_of x.groups (take i items) ++ move_of x.groups s ∷ [])) sum a);
       grown =
           let (child, a, k) = more.accepted in
@@ -152,9 +146,9 @@ visited x items yields i old best best' improved improved' began count count' li
           one_grown x items yields i best'.finish (count - (began + 1)) (count' - count) (count' - (began + 1)) s m (Child child NoMore) z (a, tt) sum (front, grown_sooner x.problem yields best.finish best'.finish (moves_of x.groups (take i items)) front le g, q);
     }
 
-pub given_up : (x : Position) (items : List KeptMove) (yields : List (Option ℕ)) (i : ℕ) (old best : Best) (improved : Bool) (began count count' limit : ℕ) (d : KeptMove) → i < length items → Halfway x items yields i old best improved began count limit
+pub given_up : (x : Position) (items : List KeptMove) (yields : List (Option ℕ)) (i : ℕ) (old best : Best) (improved : Bool) (began count count' limit : ℕ) (d : KeptMove) → Listed x items → IsOpen old.finish x.problem → i < length items → Halfway x items yields i old best improved began count limit
     → IsOver (moved x (get_or items i d)).problem best.finish count count' limit → IsOver x.problem old.finish began count' limit
-given_up x items yields i old best improved began count count' limit d h w over =
+given_up x items yields i old best improved began count count' limit d all o h w over =
     let s = get_or items i d in
     let so = w.sooner in
     let mo = w.more in
@@ -163,24 +157,24 @@ given_up x items yields i old best improved began count count' limit d h w over 
     record {
       limit = over.limit;
       nodes = λ f k.
-          let a = among_more f x.problem (moves_of x.groups (take i items)) (move_of x.groups s) (count - (began + 1)) (limit - count + 1) (w.nodes f k) (open_later old.finish f x.problem k w.open_at) (move_at x.problem x.groups items i d h w.listed.are.moves_only) (new_move x items i d w.listed.are h) (over.nodes f (omega arith)) in
+          let a = among_more f x.problem (moves_of x.groups (take i items)) (move_of x.groups s) (count - (began + 1)) (limit - count + 1) (w.nodes f k) (open_later old.finish f x.problem k o) (move_at x.problem x.groups items i d h all.are.moves_only) (new_move x items i d all.are h) (over.nodes f (omega arith)) in
           subst (HasNodes f x.problem) sum (among_all f x.problem _ _ a);
     }
 
-pub ended : (x : Position) (items : List KeptMove) (yields : List (Option ℕ)) (i : ℕ) (old best : Best) (improved : Bool) (began count limit : ℕ) → IsProblem x.problem → AreYields x.problem (moves_of x.groups items) yields → 1 ≤ length items → length items ≤ i
+pub ended : (x : Position) (items : List KeptMove) (yields : List (Option ℕ)) (i : ℕ) (old best : Best) (improved : Bool) (began count limit : ℕ) → IsProblem x.problem → Listed x items → AreYields x.problem (moves_of x.groups items) yields → 1 ≤ length items → length items ≤ i
     → Halfway x items yields i old best improved began count limit → Searched x old best improved
-ended x items yields i old best improved began count limit ip ay some h w =
-    let m = move_at x.problem x.groups items 0 (Next 0) some w.listed.are.moves_only in
+ended x items yields i old best improved began count limit ip all ay some h w =
+    let m = move_at x.problem x.groups items 0 (Next 0) some all.are.moves_only in
     record {
       sooner = w.sooner;
-      least = opened x.problem (moves_of x.groups items) yields best.finish _ ip w.listed.are m ay (subst (λ z. Done x.problem yields best.finish (moves_of x.groups z)) (take_all i items h) w.done);
+      least = opened x.problem (moves_of x.groups items) yields best.finish _ ip all.are m ay (subst (λ z. Done x.problem yields best.finish (moves_of x.groups z)) (take_all i items h) w.done);
       run = w.run;
       kept = w.kept;
     }
 
-pub ended_count : (x : Position) (items : List KeptMove) (yields : List (Option ℕ)) (i : ℕ) (old best : Best) (improved : Bool) (began count limit : ℕ) → AreYields x.problem (moves_of x.groups items) yields → 1 ≤ length items → length items ≤ i
+pub ended_count : (x : Position) (items : List KeptMove) (yields : List (Option ℕ)) (i : ℕ) (old best : Best) (improved : Bool) (began count limit : ℕ) → Listed x items → AreYields x.problem (moves_of x.groups items) yields → 1 ≤ length items → length items ≤ i
     → Halfway x items yields i old best improved began count limit → HasOpened x.problem old.finish best.finish began count
-ended_count x items yields i old best improved began count limit ay some h w =
+ended_count x items yields i old best improved began count limit listed ay some h w =
     let long = map_length x items in
     let mo = w.more in
     let sum : 1 + (count - (began + 1)) ≡ count - began = omega arith in
@@ -189,7 +183,7 @@ ended_count x items yields i old best improved began count limit ay some h w =
     record {
       more = omega arith;
       nodes = λ f k. subst (HasNodes f x.problem) sum (among_all f x.problem _ _ (w.nodes f k));
-      accepted = (Opened front, grown_accepts x.problem yields best.finish (moves_of x.groups items) front w.listed.are (omega arith) ay all, omega arith);
+      accepted = (Opened front, grown_accepts x.problem yields best.finish (moves_of x.groups items) front listed.are (omega arith) ay all, omega arith);
     }
 
 -- a node that is opened, and nothing below it
@@ -237,14 +231,14 @@ done_node x [] old new ip are z e n o =
 done_node x (s ∷ items) old new ip are z e n o = absurd (omega arith)
 
 pub yields_some : (yields : List (Option ℕ)) (j j' : ℕ) → j ≡ j' → is_some (get_or yields j None) ≡ true → (l : ℕ) × (yield_at yields j' ≡ Some l)
-yields_some yields j j' e n = go (get_or yields j None) refl
-  where
-    go : (o : Option ℕ) → get_or yields j None ≡ o → (l : ℕ) × (yield_at yields j' ≡ Some l)
-    go None q = absurd (false≢true (sym (ap is_some q) ∙ n))
-    go (Some l) q = (l, subst (λ z. get_or yields z None ≡ Some l) e q)
+yields_some yields j j' e n = let (l, q) = some_of (get_or yields j None) n in (l, subst (λ z. get_or yields z None ≡ Some l) e q)
 
 pub steps_same : (x : Position) (a b : List KeptMove) → a ≡ b → AreMoves x.problem (moves_of x.groups b) → AreMoves x.problem (moves_of x.groups a)
 steps_same x a b e h = subst (λ z. AreMoves x.problem (moves_of x.groups z)) (sym e) h
+
+-- the moves name their LUNs
+pub luns_of : (groups : List (List Want)) (items : List KeptMove) → All (IsNamed groups) items → All (λ s. move_lun (move_of groups s) ≡ lun_named s) items
+luns_of groups items named = All-weaker (IsNamed groups) (λ s. move_lun (move_of groups s) ≡ lun_named s) (λ s n. n.lun) items named
 
 pub some_items : (items : List KeptMove) → false ≡ (length items == 0) → 1 ≤ length items
 some_items [] h = absurd (false≢true h)

@@ -30,7 +30,7 @@ use Rattle.onfi_planner.specs.Planning.{Found, IsOver, IsRoot, run_of}
 use Rattle.onfi_planner.proofs.Beginning.{first_is_run}
 use Rattle.onfi_planner.proofs.Grown.{Grown, accepts_sooner, grown_accepts, grown_width}
 use Rattle.onfi_planner.proofs.Growing.{map_length}
-use Rattle.onfi_planner.proofs.Halfway.{Pairs-cross, none_some, no_moves, not_before_itself, steps_same}
+use Rattle.onfi_planner.proofs.Halfway.{Pairs-cross, none_some, no_moves, not_before_itself, steps_same, luns_of}
 use Rattle.onfi_planner.proofs.Opening.{Done, opened}
 use Rattle.onfi_planner.proofs.Paths.{Among, among_all, among_more, among_none, among_skip, node_one}
 use Rattle.onfi_check.proofs.Sound.{sound}
@@ -73,17 +73,17 @@ found_one x first limit (s ∷ steps) (p ∷ found) part a (inr h) = found_one x
 
 module _ (x : Position) (yields : List (Option ℕ)) (first limit : ℕ) where
   -- behind a move that doesn't yield nothing ends before e
-  done_parts : (e : ℕ) (items : List KeptMove) (found : List Part) → All (IsNamed x.groups) items → All (λ part. e ≤ part.best.finish) found → AreFound x first limit (parts_of yields items) found → Done x.problem yields e (moves_of x.groups items)
+  done_parts : (e : ℕ) (items : List KeptMove) (found : List Part) → All (λ s. move_lun (move_of x.groups s) ≡ lun_named s) items → All (λ part. e ≤ part.best.finish) found → AreFound x first limit (parts_of yields items) found → Done x.problem yields e (moves_of x.groups items)
   done_parts e [] found luns least a = tt
   done_parts e (s ∷ items) found luns least a = go (λ found least a. done_parts e items found luns.1 least a) (yield_at yields (lun_named s)) refl found least a
     where
       go : ((found : List Part) → All (λ part. e ≤ part.best.finish) found → AreFound x first limit (parts_of yields items) found → Done x.problem yields e (moves_of x.groups items)) → (o : Option ℕ) → yield_at yields (lun_named s) ≡ o → (found : List Part) → All (λ part. e ≤ part.best.finish) found → AreFound x first limit (if is_some o then parts_of yields items else s ∷ parts_of yields items) found → Done x.problem yields e (moves_of x.groups (s ∷ items))
       go rest None q [] least a = absurd a
       go rest None q (part ∷ found) least a = ((λ n steps f run. let h = a.0.least steps f run in let l = least.0 in omega arith), rest found least.1 a.1)
-      go rest (Some lun) q found least a = ((λ n. absurd (none_some _ lun (ap (yield_at yields) luns.0.lun ∙ q) n)), rest found least a)
+      go rest (Some lun) q found least a = ((λ n. absurd (none_some _ lun (ap (yield_at yields) luns.0 ∙ q) n)), rest found least a)
 
   -- the trees of the parts, and the yields between them
-  grown_parts : (e : ℕ) (items : List KeptMove) (found : List Part) → All (IsNamed x.groups) items → All (λ part. e ≤ part.best.finish) found → AreFound x first limit (parts_of yields items) found → (f : Forest) × Grown x.problem yields e (moves_of x.groups items) f × (nodes_below f ≡ opened_by found) × EachWithin limit f
+  grown_parts : (e : ℕ) (items : List KeptMove) (found : List Part) → All (λ s. move_lun (move_of x.groups s) ≡ lun_named s) items → All (λ part. e ≤ part.best.finish) found → AreFound x first limit (parts_of yields items) found → (f : Forest) × Grown x.problem yields e (moves_of x.groups items) f × (nodes_below f ≡ opened_by found) × EachWithin limit f
   grown_parts e [] [] luns least a = (NoMore, tt, refl, tt)
   grown_parts e [] (part ∷ found) luns least a = absurd a
   grown_parts e (s ∷ items) found luns least a = go (λ found least a. grown_parts e items found luns.1 least a) (yield_at yields (lun_named s)) refl found least a
@@ -97,7 +97,7 @@ module _ (x : Position) (yields : List (Option ℕ)) (first limit : ℕ) where
           (Child tree f, (accepts_sooner tree (moved x s).problem part.best.finish e least.0 accepted, g), omega arith, (omega arith, small))
       go rest (Some lun) q found least a =
           let (f, g, n, small) = rest found least a in
-          (Yields lun f, (ap (yield_at yields) luns.0.lun ∙ q, g), n, small)
+          (Yields lun f, (ap (yield_at yields) luns.0 ∙ q, g), n, small)
 
   -- the nodes of the parts are nodes of the whole
   among_parts : (front : List Move) (n : ℕ) (items : List KeptMove) (found : List Part) → IsOpen first x.problem → All (IsMove x.problem) (moves_of x.groups items) → Pairs (ComesBefore x.problem) (front ++ moves_of x.groups items) → Among first x.problem front n → AreFound x first limit (parts_of yields items) found → Among first x.problem (front ++ moves_of x.groups items) (n + opened_by found)
@@ -133,7 +133,7 @@ some_move x (s ∷ items) steps first ip are run o = omega arith
 pub record Split (x : Position) (items : List KeptMove) (yields : List (Option ℕ)) (first limit : ℕ) (steps : List Step) (found : List Part) : Type 0 where
   pub problem : IsProblem x.problem
   pub moves : AreMoves x.problem (moves_of x.groups items)
-  pub luns : All (IsNamed x.groups) items
+  pub luns : All (λ s. move_lun (move_of x.groups s) ≡ lun_named s) items
   pub yields_are : AreYields x.problem (moves_of x.groups items) yields
   pub open_root : IsOpen first x.problem
   pub first_run : IsFirstRun x.problem steps first
@@ -196,7 +196,7 @@ split_found x items yields limit found old new w small le least one =
         subst (λ (b : Best). Run x.problem (run_of x.groups b.steps.items) b.finish) e (p.run (omega arith))
 
 -- the branches are those of a forest
-grown_branches : (x : Position) (yields : List (Option ℕ)) (e : ℕ) (items : List KeptMove) (branches : List (Vec Token Global)) → All (IsNamed x.groups) items → AreBranches x e yields items (map (λ v. v.items) branches) → (f : Forest) × Grown x.problem yields e (moves_of x.groups items) f × (flat_map (λ v. v.items) branches ≡ preorders f)
+grown_branches : (x : Position) (yields : List (Option ℕ)) (e : ℕ) (items : List KeptMove) (branches : List (Vec Token Global)) → All (λ s. move_lun (move_of x.groups s) ≡ lun_named s) items → AreBranches x e yields items (map (λ v. v.items) branches) → (f : Forest) × Grown x.problem yields e (moves_of x.groups items) f × (flat_map (λ v. v.items) branches ≡ preorders f)
 grown_branches x yields e [] [] luns a = (NoMore, tt, refl)
 grown_branches x yields e [] (v ∷ branches) luns a = absurd a
 grown_branches x yields e (s ∷ items) [] luns a = absurd a
@@ -206,9 +206,9 @@ grown_branches x yields e (s ∷ items) (v ∷ branches) luns a = go (grown_bran
     go (f, g, k) None q (tree, t, accepted) =
         (Child tree f, (accepted, g), ap (λ z. z ++ flat_map (λ v. v.items) branches) t ∙ ap (λ z. preorder tree ++ z) k)
     go (f, g, k) (Some lun) q t =
-        (Yields lun f, (ap (yield_at yields) luns.0.lun ∙ q, g), ap (λ z. z ++ flat_map (λ v. v.items) branches) t ∙ ap (λ z. Yield lun ∷ z) k)
+        (Yields lun f, (ap (yield_at yields) luns.0 ∙ q, g), ap (λ z. z ++ flat_map (λ v. v.items) branches) t ∙ ap (λ z. Yield lun ∷ z) k)
 
-pub joined_accepted : (x : Position) (yields : List (Option ℕ)) (e n : ℕ) (items : List KeptMove) (branches : List (Vec Token Global)) (tokens : List Token) → AreMoves x.problem (moves_of x.groups items) → All (IsNamed x.groups) items → 1 ≤ length items → AreYields x.problem (moves_of x.groups items) yields → AreBranches x e yields items (map (λ v. v.items) branches) → n ≡ length items → tokens ≡ Branch n ∷ flat_map (λ v. v.items) branches → AcceptsTokens tokens x.problem e
+pub joined_accepted : (x : Position) (yields : List (Option ℕ)) (e n : ℕ) (items : List KeptMove) (branches : List (Vec Token Global)) (tokens : List Token) → AreMoves x.problem (moves_of x.groups items) → All (λ s. move_lun (move_of x.groups s) ≡ lun_named s) items → 1 ≤ length items → AreYields x.problem (moves_of x.groups items) yields → AreBranches x e yields items (map (λ v. v.items) branches) → n ≡ length items → tokens ≡ Branch n ∷ flat_map (λ v. v.items) branches → AcceptsTokens tokens x.problem e
 joined_accepted x yields e n items branches tokens are luns some ay a q t =
     let (f, g, k) = grown_branches x yields e items branches luns a in
     let l = map_length x items in
@@ -328,7 +328,7 @@ pub split_made : (x : Position) (root : Root) (items moves slice parts : List Ke
 split_made x root items moves slice parts yields limit found r e are named ay o q p a = record {
   problem = r.limits.problem;
   moves = steps_same x items moves e are;
-  luns = subst (All (IsNamed x.groups)) (sym e) named;
+  luns = subst (All (λ s. move_lun (move_of x.groups s) ≡ lun_named s)) (sym e) (luns_of x.groups moves named);
   yields_are = ay;
   open_root = o;
   first_run = r.first_run;

@@ -4,9 +4,10 @@ use Rattle.std.specs.List.{AllByRecursion as All, flat_map}
 use Rattle.std.proofs.lemmas.Bool.{eqb-true}
 use Rattle.std.proofs.lemmas.Result.{IfOk-at_ok}
 use Rattle.onfi_cert.specs.declared.token.Token.TheVariants.{Branch}
-use Rattle.onfi_problem.specs.Starts.{IsNamed}
+use Rattle.onfi_problem.specs.Moves.{move_lun}
+use Rattle.onfi_problem.specs.Position.{move_of, lun_named}
 use Rattle.onfi_planner.proofs.Growing.{no_end}
-use Rattle.onfi_planner.proofs.Halfway.{steps_same, some_items}
+use Rattle.onfi_planner.proofs.Halfway.{steps_same, luns_of, some_items}
 use Rattle.onfi_planner.proofs.Splitting.{closed_accepted, branches_length, joined_accepted}
 use Rattle.onfi_planner.proofs.Turns.{if_ok}
 use Rattle.onfi_planner.proofs.branches.write_parts.Goals as goal
@@ -30,9 +31,9 @@ returns g c =
     let x = c.args.root.now.problem in
     let items = c.as_slice-steps.result.now in
     let are = steps_same x items _ c.as_slice-steps.ensures.value c.steps-moves.ensures.moves in
-    let named = subst (All (IsNamed x.groups)) (sym c.as_slice-steps.ensures.value) c.steps-moves.ensures.named in
+    let luns = subst (λ z. All (λ s. move_lun (move_of x.groups s) ≡ lun_named s) z) (sym c.as_slice-steps.ensures.value) (luns_of x.groups c.steps-moves.result c.steps-moves.ensures.named) in
     let some = some_items items (c.if-is_empty.ensures ∙ ap (λ z. length z == 0) (sym c.as_slice-steps.ensures.value)) in
     let (yields, ay, branches) = c.in_ok-branches.ensures in
     if_ok c.join.result (λ tokens e.
     let t = IfOk-at_ok _ e c.join.ensures in
-    joined_accepted x yields c.args.root.now.best.finish c.of-width.result items c.in_ok-branches.branches.items tokens.items are named some ay branches c.of-width.ensures (t ∙ ap (λ z. Branch c.of-width.result ∷ flat_map (λ v. v.items) z) c.as_slice.ensures.value))
+    joined_accepted x yields c.args.root.now.best.finish c.of-width.result items c.in_ok-branches.branches.items tokens.items are luns some ay branches c.of-width.ensures (t ∙ ap (λ z. Branch c.of-width.result ∷ flat_map (λ v. v.items) z) c.as_slice.ensures.value))

@@ -48,7 +48,7 @@ search-visit-requires t c =
     let x = c.args.problem.now in
     let items = c.as_slice-steps.result.now in
     let e = c.loop-step.invariant.problem in
-    let all = c.loop-step.invariant.half.listed in
+    let all = c.loop-step.invariant.listed in
     let m = move_at x.problem x.groups items c.loop-step.step-index (Next 0) c.loop-step-test.true all.are.moves_only in
     let named = all_at (IsNamed x.groups) items c.loop-step.step-index (Next 0) c.loop-step-test.true all.named in
     let w : work c.loop-step.problem.problem ≡ work x.problem = ap (λ (z : Position). work z.problem) e in (
@@ -78,7 +78,7 @@ search-returns-in_err-visit-clause-over t c =
     let items = c.as_slice-steps.result.now in
     let i = c.loop-step.step-index in
     let s = get_or items i (Next 0) in
-    rw (p.1, p.2) (λ q. given_up x items c.yields_of-yields.result i c.args.best.now c.loop-step.best c.loop-step.improved c.args.opened.now c.loop-step.opened c.visit.new.opened c.args.limit (Next 0) c.loop-step-test.true c.loop-step.invariant.half
+    rw (p.1, p.2) (λ q. given_up x items c.yields_of-yields.result i c.args.best.now c.loop-step.best c.loop-step.improved c.args.opened.now c.loop-step.opened c.visit.new.opened c.args.limit (Next 0) c.loop-step.invariant.listed c.loop-step.invariant.open_at c.loop-step-test.true c.loop-step.invariant.half
     (subst (λ (z : Position). IsOver (moved z s).problem c.loop-step.best.finish c.loop-step.opened c.visit.new.opened c.args.limit) c.loop-step.invariant.problem (c.in_err-visit.ensures.over q)))
 
 pub search-loop-step-preserved-then-is_some-2 : goal.search-loop-step-preserved-then-is_some-2
@@ -92,7 +92,9 @@ search-loop-step-preserved-then-is_some-2 t c =
     let l = yields_some c.yields_of-yields.result c.lun.result (lun_named s) c.lun.ensures (sym c.if-is_some-2.ensures) in
     record {
       problem = e;
-      half = skipped x items c.yields_of-yields.result i c.args.best.now c.loop-step.best c.loop-step.improved c.args.opened.now c.loop-step.opened c.args.limit l.0 (Next 0) c.loop-step-test.true l.1 h;
+      listed = c.loop-step.invariant.listed;
+      open_at = c.loop-step.invariant.open_at;
+      half = skipped x items c.yields_of-yields.result i c.args.best.now c.loop-step.best c.loop-step.improved c.args.opened.now c.loop-step.opened c.args.limit l.0 (Next 0) c.loop-step.invariant.listed c.loop-step-test.true l.1 h;
     }
 
 pub search-loop-step-preserved : goal.search-loop-step-preserved
@@ -101,6 +103,8 @@ search-loop-step-preserved t c =
     let items = c.as_slice-steps.result.now in
     let i = c.loop-step.step-index in
     let s = get_or items i (Next 0) in
+    let all = c.loop-step.invariant.listed in
+    let o = c.loop-step.invariant.open_at in
     let h = c.loop-step.invariant.half in
     let e = c.loop-step.invariant.problem in
     let v = c.in_ok-visit.ensures in
@@ -111,7 +115,9 @@ search-loop-step-preserved t c =
       | search-then-branch w ↦ (
           rw w.improved-is (record {
             problem = v.problem ∙ e;
-            half = visited x items c.yields_of-yields.result i c.args.best.now c.loop-step.best best c.loop-step.improved true c.args.opened.now c.loop-step.opened c.visit.new.opened c.args.limit (Next 0) c.loop-step-test.true h
+            listed = all;
+            open_at = o;
+            half = visited x items c.yields_of-yields.result i c.args.best.now c.loop-step.best best c.loop-step.improved true c.args.opened.now c.loop-step.opened c.visit.new.opened c.args.limit (Next 0) all o c.loop-step-test.true h
                 v.sooner least more v.within
                 (λ q. subst (λ (z : Position). Run z.problem (run_of z.groups best.steps.items) best.finish) e (v.run w.if-branch.true))
                 (λ q. absurd (false≢true (sym q)));
@@ -120,7 +126,9 @@ search-loop-step-preserved t c =
           let k = v.kept w.if-branch.false in
           rw w.improved-is (record {
             problem = v.problem ∙ e;
-            half = visited x items c.yields_of-yields.result i c.args.best.now c.loop-step.best best c.loop-step.improved c.loop-step.improved c.args.opened.now c.loop-step.opened c.visit.new.opened c.args.limit (Next 0) c.loop-step-test.true h
+            listed = all;
+            open_at = o;
+            half = visited x items c.yields_of-yields.result i c.args.best.now c.loop-step.best best c.loop-step.improved c.loop-step.improved c.args.opened.now c.loop-step.opened c.visit.new.opened c.args.limit (Next 0) all o c.loop-step-test.true h
                 v.sooner least more v.within
                 (λ q. subst (λ (b : Best). Run x.problem (run_of x.groups b.steps.items) b.finish) (sym k) (h.run q))
                 (λ q. k ∙ h.kept q);
@@ -132,14 +140,14 @@ search-returns-clause-found t c =
     let x = c.args.problem.now in
     let items = c.as_slice-steps.result.now in
     let ay = c.yields_of-yields.ensures.yields in
-    ended x items _ _ _ _ _ _ _ _ c.requires.limits.problem ay (some_items items (c.if-is_empty.ensures ∙ ap (λ z. length z == 0) (sym c.as_slice-steps.ensures.value))) c.loop-step-test.false c.loop-step.invariant.half
+    ended x items _ _ _ _ _ _ _ _ c.requires.limits.problem c.loop-step.invariant.listed ay (some_items items (c.if-is_empty.ensures ∙ ap (λ z. length z == 0) (sym c.as_slice-steps.ensures.value))) c.loop-step-test.false c.loop-step.invariant.half
 
 pub search-returns-clause-opened : goal.search-returns-clause-opened
 search-returns-clause-opened t c =
     let x = c.args.problem.now in
     let items = c.as_slice-steps.result.now in
     let ay = c.yields_of-yields.ensures.yields in
-    ended_count x items _ _ _ _ _ _ _ _ ay (some_items items (c.if-is_empty.ensures ∙ ap (λ z. length z == 0) (sym c.as_slice-steps.ensures.value))) c.loop-step-test.false c.loop-step.invariant.half
+    ended_count x items _ _ _ _ _ _ _ _ c.loop-step.invariant.listed ay (some_items items (c.if-is_empty.ensures ∙ ap (λ z. length z == 0) (sym c.as_slice-steps.ensures.value))) c.loop-step-test.false c.loop-step.invariant.half
 
 pub visit-search-requires : goal.visit-search-requires
 visit-search-requires t c =
@@ -171,10 +179,12 @@ pub visit-returns-in-Ok-clause-problem : goal.visit-returns-in-Ok-clause-problem
 visit-returns-in-Ok-clause-problem t c = handed_back c.args.problem.now _ c.search.new.problem _ c.advance-undo.result c.in_ok-improved.ensures.problem c.advance-undo.ensures.undo c.undo.ensures
 
 pub search-loop-step-init : goal.search-loop-step-init
-search-loop-step-init t c =
-    let all = listed c.args.problem.now c.as_slice-steps.result.now _ c.as_slice-steps.ensures.value c.list_steps.ensures.moves c.list_steps.ensures.named in
-    let opens = open_node c.args.problem.now c.args.best.now.finish c.closing_token.result _ (sym c.if-is_some.ensures) c.closing_token.ensures in
-    record { problem = refl; half = started c.args.problem.now c.as_slice-steps.result.now c.yields_of-yields.result c.args.best.now c.args.opened.now c.args.limit all opens (omega (arith, c.if-opened-limit.false)) }
+search-loop-step-init t c = record {
+  problem = refl;
+  listed = listed c.args.problem.now c.as_slice-steps.result.now _ c.as_slice-steps.ensures.value c.list_steps.ensures.moves c.list_steps.ensures.named;
+  open_at = open_node c.args.problem.now c.args.best.now.finish c.closing_token.result _ (sym c.if-is_some.ensures) c.closing_token.ensures;
+  half = started c.args.problem.now c.as_slice-steps.result.now c.yields_of-yields.result c.args.best.now c.args.opened.now c.args.limit (omega (arith, c.if-opened-limit.false));
+}
 
 pub search-last_ends-ends-requires-clause-moves : goal.search-last_ends-ends-requires-clause-moves
 search-last_ends-ends-requires-clause-moves t c = (steps_same c.args.problem.now c.as_slice-steps.result.now _ c.as_slice-steps.ensures.value c.list_steps.ensures.moves).moves_only
@@ -183,4 +193,4 @@ pub search-last_ends-ends-requires-clause-named : goal.search-last_ends-ends-req
 search-last_ends-ends-requires-clause-named t c = subst (All (IsNamed c.args.problem.now.groups)) (sym c.as_slice-steps.ensures.value) c.list_steps.ensures.named
 
 pub search-bounds-yields-lun : goal.search-bounds-yields-lun
-search-bounds-yields-lun t c = subst (λ l. l < 8) (sym c.lun.ensures) (all_at (IsNamed c.args.problem.now.groups) c.as_slice-steps.result.now c.loop-step.step-index (Next 0) c.loop-step-test.true c.loop-step.invariant.half.listed.named).few
+search-bounds-yields-lun t c = subst (λ l. l < 8) (sym c.lun.ensures) (all_at (IsNamed c.args.problem.now.groups) c.as_slice-steps.result.now c.loop-step.step-index (Next 0) c.loop-step-test.true c.loop-step.invariant.listed.named).few
