@@ -55,7 +55,7 @@ pub fn best_of_rules(
     ensures sooner { IfOk result (λ best. best.finish ≤ first.finish) }
 {
     let luns_first = schedule_by(alloc, problem, loads, Rule::LunsFirst)?;
-    let mut best = no_later(first, luns_first);
+    let mut best = sooner(luns_first, first);
     for rule in RULES {
         if loads.closing(problem, best.finish).is_some() {
             return Ok(best);
@@ -81,22 +81,11 @@ fn schedule_by(
     Ok(Best { finish, steps })
 }
 
-// The one of two that ends first; the other of equals.
-fn no_later(best: Best, other: Best) -> Best
-    ensures run { (problem : Position) → IsRunOf problem best → IsRunOf problem other → IsRunOf problem result }
-    ensures sooner { result.finish ≤ best.finish }
-{
-    if other.finish <= best.finish {
-        other
-    } else {
-        best
-    }
-}
-
 // The one of two that ends first; the first of equals.
 fn sooner(best: Best, other: Best) -> Best
     ensures run { (problem : Position) → IsRunOf problem best → IsRunOf problem other → IsRunOf problem result }
     ensures sooner { result.finish ≤ best.finish }
+    ensures no_later { result.finish ≤ other.finish }
 {
     if other.finish < best.finish {
         other
