@@ -1,7 +1,5 @@
 //! What a run costs at least behind each move of a node. No sum wraps: all times of a problem are below 2^62 ns.
 
-ghost use Rattle.std.specs.Prelude.{◌<◌, ◌≤◌, ◌^◌};
-
 use crate::aim::Aim;
 use crate::line::Line;
 use crate::rest::{Posts, Rest, commands_left};
@@ -9,23 +7,12 @@ use onfi_group::Group;
 use onfi_problem::{Move, Problem};
 use onfi_timing::Kind;
 
-/// What all posts of a problem cost at least, each phase as early as its LUN and the bus let it.
-pub fn least_cost(problem: &Problem, aim: &Aim) -> u128 {
-    let bus_free = problem.bus_free();
-    let mut cost = 0u128;
-    for (lun, state) in problem.luns().iter().enumerate() {
-        let rest = Rest::of(problem, aim, lun as u8, *state);
-        cost = cost.wrapping_add(rest.cost_from(rest.ready.max(bus_free)));
-    }
-    cost
-}
-
 /// What is left to each LUN at a node, and room for what is left behind a move.
 #[derive(Drop)]
 pub struct Floor {
     luns: [Rest; 8],
-    /// What all posts cost at least.
-    cost: u128,
+    /// What all posts cost at least, each phase as early as its LUN and the bus let it.
+    pub cost: u128,
     reads: Line,
     programs: Line,
     erases: Line,

@@ -1,12 +1,12 @@
 -- A walk between two children of a node.
-use Rattle.std.proofs.Common.{◌≡◌, ◌≢◌, ℕ, zero, suc, ◌+◌, ◌-◌, ◌≤◌, ◌<◌, inl, inr, Bool, true, false, List, [], ◌∷◌, ◌++◌, length, map, take, get_or, refl, sym, ap, ◌∙◌, subst, arith, append_assoc}
+use Rattle.std.proofs.Common.{◌≡◌, ◌≢◌, ℕ, ◌+◌, ◌-◌, ◌≤◌, ◌<◌, inl, inr, Bool, true, false, List, [], ◌∷◌, ◌++◌, length, refl, sym, ap, ◌∙◌, subst, arith, append_assoc}
 use Rattle.std.specs.Prelude.{slice_index, slice_index_or}
 use Rattle.std.proofs.lemmas.Bool.{cases_eq, cases_Bool, false≢true}
-use Rattle.onfi_group.specs.Words.{Has, Pairs}
+use Rattle.onfi_group.specs.Words.{Has}
 use Rattle.onfi_problem.specs.Problem.{IsProblem}
-use Rattle.onfi_problem.specs.Moves.{Move, IsMove, AreMoves, ComesBefore, move_lun, may_go}
+use Rattle.onfi_problem.specs.Moves.{Move, IsMove, move_lun, may_go}
 use Rattle.onfi_problem.specs.declared.moves.Move.{Move as KeptMove}
-use Rattle.onfi_problem.specs.Position.{Position, move_of, moves_of, moved}
+use Rattle.onfi_problem.specs.Position.{Position, move_of, moved}
 use Rattle.onfi_problem.proofs.Limits.{after_limits}
 use Rattle.onfi_bound.proofs.Loading.{loads_after}
 use Rattle.onfi_recall.specs.Steps.{IsStep}

@@ -30,7 +30,7 @@ use Rattle.onfi_recall.specs.declared.planned.PlannedWithin.{PlannedWithin}
 use Rattle.onfi_recall.specs.declared.search.Shown.{Shown}
 use Rattle.onfi_recall.specs.declared.planning.Searched.{Searched}
 use Rattle.onfi_recall.specs.Searched.{IsSearched}
-use Rattle.onfi_recall.specs.Text.{ProvesText, last_opened, nodes_in}
+use Rattle.onfi_recall.specs.Text.{last_opened, nodes_in}
 use Rattle.onfi_recall.specs.Walks.{AreMore, ClosesBy, HasSoMany, IsAt, IsBegun, IsBetter, IsFound, IsProved, IsRunOf, IsShown, IsTree}
 use Rattle.onfi_recall.specs.Within.{IsShownBefore, IsSought, IsWithin}
 use Rattle.onfi_recall.specs.declared.sought.Sought.{Sought}
@@ -103,9 +103,6 @@ text_is x tokens text e p is =
     let (d, behind, proves, few) = p.proves in
     record { some = some_begin e x tokens d behind (begin_of e x.all x.problem [] tokens d behind [] proves); in_range = All-from_recursion InRange tokens p.in_range; spelled = is }
 
-pub text_proves : (x : Position) (tokens : List Token) (text : List ℕ) (e : ℕ) → IsProved x tokens e → text ≡ header x.problem.rules.strict ++ line tokens → ProvesText x text e
-text_proves x tokens text e p is = (tokens, text_is x tokens text e p is, p.proves)
-
 -- the plan by a run, where tokens show that nothing ends before a number
 pub within_plan : (x : Position) (best : Best) (shown : ShownBefore) (plan : PlannedWithin) → InLimits x.problem → Legal x.problem plan.schedule → finish x.problem plan.schedule ≡ best.finish → AreRising plan.schedule.groups → IsShownBefore x best.finish shown
     → plan.finish ≡ best.finish → plan.below ≡ shown.below → plan.cert.items ≡ header x.problem.rules.strict ++ line shown.tokens.items → IsWithin x plan
@@ -117,7 +114,7 @@ within_plan x best shown plan limits legal is rising h ends below text =
       ends = is ∙ sym ends;
       rising = rising;
       below = omega arith;
-      cert = text_proves x shown.tokens.items plan.cert.items plan.below proved text;
+      cert = (shown.tokens.items, text_is x shown.tokens.items plan.cert.items plan.below proved text, proved.proves);
       greatest = λ less. subst (λ n. IsOpen (n + 1) x.problem) (sym below) (h.greatest (omega arith));
       optimal = λ e. proved_is_optimal x.all x.problem plan.schedule shown.tokens.items limits.problem limits.small legal (subst (ProvesTokens x.all shown.tokens.items x.problem) (e ∙ (ends ∙ sym is)) proved.proves);
     }

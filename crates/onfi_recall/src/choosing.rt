@@ -177,17 +177,15 @@ fn rank(problem: &Problem, work: &[u64; 8], rule: Rule, m: Move) -> u64
     let lun = m.lun();
     let wants = started_wants(problem, m);
     match rule {
-        Rule::LunsFirst => rank_of_turn(turn_of(problem, lun, m), wants),
+        // The earlier turn ranks above the later one, and then the more wants.
+        Rule::LunsFirst => turn_of(problem, lun, m)
+            .saturating_mul(16)
+            .saturating_add(wants),
         Rule::Work => work_left(problem, work, lun).saturating_add(wants),
         Rule::FewestWants => work_left(problem, work, lun).saturating_sub(wants),
         Rule::Commands => rank_of_command(is_post(problem, lun), wants, kind_rank(problem, m)),
         Rule::Posts => rank_of_post(is_post(problem, lun), wants),
     }
-}
-
-// The earlier turn ranks above the later one, and then the more wants.
-fn rank_of_turn(turn: u64, wants: u64) -> u64 {
-    turn.saturating_mul(16).saturating_add(wants)
 }
 
 // The turn of a move: the greater the number, the less it fills the bus for what it lets LUNs do.

@@ -1,12 +1,11 @@
 //! The plan of a batch.
 
-ghost use Rattle.std.specs.Prelude.{◌≡◌, ◌+◌, ◌^◌, ℕ, ◌≤◌, ◌<◌, true, false, IfOk, IfErr, OnOk};
-ghost use Rattle.onfi_problem.specs.Left.{InLimits};
+ghost use Rattle.std.specs.Prelude.{◌≡◌, ◌+◌, ℕ, ◌≤◌, ◌<◌, true, false, IfOk, IfErr, OnOk};
 ghost use Rattle.onfi_schedule.specs.Schedule.{Optimal, finish};
 ghost use Rattle.onfi_check.specs.Nodes.{HasMoreNodes};
 ghost use Rattle.onfi_planner.specs.Planning.{AreRising};
 ghost use Rattle.onfi_recall.specs.Text.{HasNodesIn, ProvesText, last_opened, nodes_in};
-ghost use Rattle.onfi_recall.specs.Walks.{AreMore, EndsSooner, HasSoMany, IsBegun, IsBetter, IsProved, IsRunOf, IsTree};
+ghost use Rattle.onfi_recall.specs.Walks.{AreMore, EndsSooner, HasSoMany, IsBegun, IsBetter, IsProved, IsTree};
 ghost use Rattle.onfi_recall.specs.Searched.{IsSearched};
 
 use crate::choosing::best_of_rules;

@@ -1,11 +1,9 @@
 //! The walk that finds the finish, and writes the certificate.
 
 ghost use Rattle.std.specs.Prelude.{◌≡◌, ◌+◌, ◌-◌, ◌≤◌, ◌<◌, true, false, [], ◌∷◌, ◌++◌, List, IfOk, OnOk, length};
-ghost use Rattle.std.specs.List.{AllByRecursion as Each};
 ghost use Rattle.onfi_group.specs.Words.{Has};
-ghost use Rattle.onfi_problem.specs.Moves.{AreMoves, Move as OneMove};
-ghost use Rattle.onfi_problem.specs.Position.{move_of, moves_of};
-ghost use Rattle.onfi_problem.specs.Starts.{IsNamed};
+ghost use Rattle.onfi_problem.specs.Moves.{Move as OneMove};
+ghost use Rattle.onfi_problem.specs.Position.{move_of};
 ghost use Rattle.onfi_check.specs.Nodes.{IsOpen};
 ghost use Rattle.onfi_demand.specs.Demand.{of_bus};
 ghost use Rattle.onfi_demand.specs.Kept.{IsKept};
