@@ -6,7 +6,7 @@ use Rattle.std.specs.List.{AllByRecursion as All}
 use Rattle.std.proofs.lemmas.List.{take_all}
 use Rattle.std.proofs.lemmas.Bool.{false≢true}
 use Rattle.onfi_request.specs.declared.want.Want.{Want}
-use Rattle.onfi_problem.specs.Moves.{Move, IsMove, move_lun, AreMoves, ComesBefore}
+use Rattle.onfi_problem.specs.Moves.{Move, move_lun, AreMoves, ComesBefore}
 use Rattle.onfi_group.specs.Words.{Has, Pairs}
 use Rattle.onfi_problem.specs.Problem.{Problem, IsProblem}
 use Rattle.onfi_schedule.specs.Runs.{Run}

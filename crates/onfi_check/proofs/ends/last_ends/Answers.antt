@@ -1,4 +1,4 @@
-use Rattle.std.proofs.Common.{◌≡◌, ◌∙◌, ◌<◌, length, sym, length-set, arith}
+use Rattle.std.proofs.Common.{◌∙◌, ◌<◌, length, sym, length-set, arith}
 use Rattle.onfi_problem.specs.declared.moves.Move.TheVariants.{Next}
 use Rattle.onfi_problem.specs.Starts.{IsNamed}
 use Rattle.onfi_check.proofs.LastEnds.{move_at, ends_more}

@@ -1,19 +1,18 @@
-use Rattle.std.proofs.Common.{◌≡◌, ◌∷◌, List, get_or, ◌^◌, refl, sym, ap, ◌∙◌, subst, arith}
+use Rattle.std.proofs.Common.{◌∷◌, List, get_or, ◌^◌, refl, sym, ◌∙◌, subst, arith}
 use Rattle.std.proofs.lemmas.Result.{err_from_is_err_and}
 use Rattle.std.specs.List.{AllByRecursion as All}
 use Rattle.onfi_problem.specs.declared.moves.Move.TheVariants.{Next}
 use Rattle.onfi_problem.specs.Moves.{IsMove, AreMoves, after}
 use Rattle.onfi_problem.specs.Position.{Position, move_of, moves_of}
 use Rattle.onfi_problem.specs.Starts.{IsNamed}
-use Rattle.std.specs.Prelude.{OnOk, IfErr}
 use Rattle.onfi_cert.specs.declared.token.Token.{Token}
-use Rattle.onfi_cert.specs.declared.token.Token.TheVariants.{Branch, Bus, Trail, Yield}
+use Rattle.onfi_cert.specs.declared.token.Token.TheVariants.{Branch}
 use Rattle.onfi_bound.specs.Commands.{AreNodeBounds}
 use Rattle.onfi_check.specs.Reading.{Begins, BeginsEach, ReadsChild, RefusesChild}
 use Rattle.onfi_check.specs.Ends.{IsAsked}
 use Rattle.onfi_check.proofs.LastEnds.{move_at}
-use Rattle.onfi_check.proofs.Walking.{lun_there, on_ok, yield_taken, yield_refused, child_taken, child_refused, none_left, fewer_left, begun, one_more_child, refused_child, all_children, closing_taken, closing_refused, branch_width, branch_taken, branch_refused}
-use Rattle.onfi_check.specs.Faults.{FaultFits, IsBranch}
+use Rattle.onfi_check.proofs.Walking.{lun_there, on_ok, yield_taken, yield_refused, child_taken, child_refused, none_left, begun, one_more_child, refused_child, all_children, closing_taken, closing_refused, branch_width, branch_taken, branch_refused}
+use Rattle.onfi_check.specs.Faults.{IsBranch}
 use Rattle.onfi_check.proofs.Placing.{err_behind, err_yield, few_on, fits_behind, here, leaf_closes, ok_more, read_more, read_none, read_one}
 use Rattle.onfi_check.proofs.walk.+read.Goals as goal
 use Rattle.onfi_bound.proofs.Steps.{all_at}
