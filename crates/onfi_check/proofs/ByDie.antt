@@ -16,7 +16,8 @@ by_die p e token lun n reached t q h = ((λ r. (ByDie n, ap Die q ∙ sym t, h.0
     back ByTrail k b = cc
     back (ByDie l) k b = let s : l ≡ lun = cc in subst (λ z. (z < length p.luns) × (e ≤ die p z)) (s ∙ sym q) b
 
-pub by_bus : (p : Problem) (e : ℕ) (token : Token) (reached : Bool) → token ≡ Bus → IsTrue reached ↔ (e ≤ bus p) → IsTrue reached ↔ ((c : Closing) × (token_of c ≡ token) × Closes p e c)
+pub by_bus : (p : Problem) (e : ℕ) (token : Token) (reached : Bool) → token ≡ Bus → IsTrue reached ↔ (e ≤ bus p)
+    → IsTrue reached ↔ ((c : Closing) × (token_of c ≡ token) × Closes p e c)
 by_bus p e token reached t h = ((λ r. (ByBus, sym t, h.0 r)), λ (c, k, b). h.1 (back c (k ∙ t) b))
   where
     back : (c : Closing) → token_of c ≡ Bus → Closes p e c → e ≤ bus p
@@ -26,7 +27,8 @@ by_bus p e token reached t h = ((λ r. (ByBus, sym t, h.0 r)), λ (c, k, b). h.1
     back ByTrail k b = cc
     back (ByDie lun) k b = cc
 
-pub by_trail : (p : Problem) (e : ℕ) (token : Token) (reached : Bool) → token ≡ Trail → IsTrue reached ↔ ((t : ℕ) × (trail p ≡ Some t) × (e ≤ t)) → IsTrue reached ↔ ((c : Closing) × (token_of c ≡ token) × Closes p e c)
+pub by_trail : (p : Problem) (e : ℕ) (token : Token) (reached : Bool) → token ≡ Trail → IsTrue reached ↔ ((t : ℕ) × (trail p ≡ Some t) × (e ≤ t))
+    → IsTrue reached ↔ ((c : Closing) × (token_of c ≡ token) × Closes p e c)
 by_trail p e token reached t h = ((λ r. (ByTrail, sym t, h.0 r)), λ (c, k, b). h.1 (back c (k ∙ t) b))
   where
     back : (c : Closing) → token_of c ≡ Trail → Closes p e c → (t : ℕ) × (trail p ≡ Some t) × (e ≤ t)

@@ -11,8 +11,8 @@ use onfi_timing::Kind;
 #[derive(Drop)]
 pub struct Floor {
     luns: [Rest; 8],
-    /// What all posts cost at least, each phase as early as its LUN and the bus let it.
-    pub cost: u128,
+    /// What all posts cost at least.
+    cost: u128,
     reads: Line,
     programs: Line,
     erases: Line,
@@ -64,6 +64,11 @@ impl Floor {
             let cost = rest.cost_from(rest.ready.max(bus_free));
             self.cost = self.cost.wrapping_add(cost);
         }
+    }
+
+    /// What all posts cost at least at the node that was looked at, each phase as early as its LUN and the bus let it.
+    pub fn cost(&self) -> u128 {
+        self.cost
     }
 
     /// A move of the node as the phase that it runs.

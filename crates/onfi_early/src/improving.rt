@@ -118,7 +118,7 @@ fn walk(
     };
     let mut floor = Floor::new(problem, aim);
     floor.look_at(problem, aim, 0);
-    if floor.cost >= cost {
+    if floor.cost() >= cost {
         return Ok(Walked {
             best,
             improved: false,

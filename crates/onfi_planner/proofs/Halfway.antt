@@ -37,7 +37,8 @@ pub record Listed (x : Position) (items : List KeptMove) : Type 0 where
   pub are : AreMoves x.problem (moves_of x.groups items)
   pub named : All (IsNamed x.groups) items
 
-pub listed : (x : Position) (items moves : List KeptMove) → items ≡ moves → AreMoves x.problem (moves_of x.groups moves) → All (IsNamed x.groups) moves → Listed x items
+pub listed : (x : Position) (items moves : List KeptMove) → items ≡ moves → AreMoves x.problem (moves_of x.groups moves) → All (IsNamed x.groups) moves
+    → Listed x items
 listed x items moves e are named = subst (Listed x) (sym e) (record { are = are; named = named })
 
 pub record Halfway (x : Position) (items : List KeptMove) (yields : List (Option ℕ)) (i : ℕ) (old best : Best) (improved : Bool) (began count limit : ℕ) : Type 0 where

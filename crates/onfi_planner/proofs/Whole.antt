@@ -49,7 +49,8 @@ nodes_opened x root e n r opened =
     }
 
 -- a search that was over
-pub more_nodes : (x : Position) (root : Root) (n limit : ℕ) → IsRoot x root → IsOver root.problem.problem root.best.finish 0 n limit → (n ≡ limit) × HasMoreNodes x.problem limit
+pub more_nodes : (x : Position) (root : Root) (n limit : ℕ) → IsRoot x root → IsOver root.problem.problem root.best.finish 0 n limit
+    → (n ≡ limit) × HasMoreNodes x.problem limit
 more_nodes x root n limit r over =
     let first = root.best in
     let o = subst (λ (z : Position). IsOver z.problem first.finish 0 n limit) r.same over in
@@ -64,10 +65,12 @@ some_opened p finish e n o =
     omega arith
 
 -- what the schedule of a run is
-pub legal_plan : (p : Problem) (steps : List Step) (s : Schedule) (f : ℕ) → IsProblem p → Run p steps f → s ≡ schedule_of p steps → Legal p s × (finish p s ≡ f) × AreRising s.groups
+pub legal_plan : (p : Problem) (steps : List Step) (s : Schedule) (f : ℕ) → IsProblem p → Run p steps f → s ≡ schedule_of p steps
+    → Legal p s × (finish p s ≡ f) × AreRising s.groups
 legal_plan p steps s f ip run e =
     let l = run_legal steps p f ip run in
     (subst (Legal p) (sym e) l.0, ap (finish p) e ∙ l.1, subst (λ (z : Schedule). AreRising z.groups) (sym e) (run_rises steps p f run))
 
-pub optimal_plan : (p : Problem) (s : Schedule) (tokens : List Token) (e : ℕ) → IsProblem p → Legal p s → finish p s ≡ e → AcceptsTokens tokens p e → Optimal p s
+pub optimal_plan : (p : Problem) (s : Schedule) (tokens : List Token) (e : ℕ) → IsProblem p → Legal p s → finish p s ≡ e → AcceptsTokens tokens p e
+    → Optimal p s
 optimal_plan p s tokens e ip legal ends (tree, t, a) = certified p s tree ip legal (subst (Accepts tree p) (sym ends) a)
