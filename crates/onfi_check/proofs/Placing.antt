@@ -1,5 +1,5 @@
 -- Where the tokens stand of which a fault tells.
-use Rattle.std.proofs.Common.{◌≡◌, ◌≢◌, ℕ, ◌+◌, ◌<◌, inl, inr, List, [], ◌∷◌, ◌++◌, length, refl, sym, ap, ◌∙◌, subst, arith, append_assoc, length-append}
+use Rattle.std.proofs.Common.{◌≡◌, ◌≢◌, ℕ, ◌+◌, ◌<◌, ◌⊎◌, inl, inr, List, [], ◌∷◌, ◌++◌, length, refl, sym, ap, ◌∙◌, subst, arith, append_assoc, length-append}
 use Rattle.std.specs.Prelude.{Result, Ok, Err, OnOk, IfErr}
 use Rattle.onfi_problem.specs.Problem.{Problem}
 use Rattle.onfi_cert.specs.declared.token.Token.{Token}
@@ -47,6 +47,15 @@ bound_of Trail nb ny ne = inr (inr (inl refl))
 bound_of (Die lun) nb ny ne = inr (inr (inr (lun, refl)))
 bound_of (Yield lun) nb ny ne = absurd (ny lun refl)
 bound_of End nb ny ne = absurd (ne refl)
+
+-- a bus or a trail token is that of a bound, and no yield or branch
+pub leaf_bound : (token : Token) → (token ≡ Bus) ⊎ (token ≡ Trail) → IsBound token
+leaf_bound token (inl e) = inl e
+leaf_bound token (inr e) = inr (inr (inl e))
+
+pub leaf_closes : (token : Token) → (token ≡ Bus) ⊎ (token ≡ Trail) → ((lun : ℕ) → token ≢ Yield lun) × ((width : ℕ) → token ≢ Branch width)
+leaf_closes token (inl e) = ((λ lun q. cc), λ width q. cc)
+leaf_closes token (inr e) = ((λ lun q. cc), λ width q. cc)
 
 pub ok_more : {A : Type 0} (result : Result A CertFault) (first next last : ℕ) (tokens left rest : List Token) → ReadOn first next tokens left → OnOk result (ReadOn next last left rest) → OnOk result (ReadOn first last tokens rest)
 ok_more (Ok x) first next last tokens left rest a b = read_more first next last tokens left rest a b
@@ -97,14 +106,6 @@ yield_fits standing j l place told lun token behind left Memory n t h = h
 pub err_yield : {A : Type 0} (result : Result A CertFault) (standing : Standing) (j l place told lun : ℕ) (token : Token) (tokens behind left : List Token) → tokens ≡ token ∷ behind → told ≡ place → token ≡ Yield lun → IfErr result (IsYieldFault standing j l told) → IfErr result (FaultFits place tokens left)
 err_yield (Ok x) standing j l place told lun token tokens behind left ts n t h = tt
 err_yield (Err f) standing j l place told lun token tokens behind left ts n t h = subst (λ z. FaultFits place z left f) (sym ts) (yield_fits standing j l place told lun token behind left f n t h)
-
-pub err_here : {A : Type 0} (result : Result A CertFault) (place told : ℕ) (token : Token) (tokens behind left : List Token) → tokens ≡ token ∷ behind → told ≡ place → IfErr result (FaultFits told (token ∷ behind) left) → IfErr result (FaultFits place tokens left)
-err_here (Ok x) place told token tokens behind left ts n h = tt
-err_here (Err f) place told token tokens behind left ts n h = subst (λ z. FaultFits place z left f) (sym ts) (subst (λ z. FaultFits z (token ∷ behind) left f) n h)
-
-pub err_each : {A : Type 0} (result : Result A CertFault) (place : ℕ) (token : Token) (behind left : List Token) → IfErr result (λ fault. (behind left : List Token) → FaultFits place (token ∷ behind) left fault) → IfErr result (FaultFits place (token ∷ behind) left)
-err_each (Ok x) place token behind left h = tt
-err_each (Err f) place token behind left h = h behind left
 
 -- the whole
 pub no_tree : (p : Problem) (e : ℕ) (tokens : List Token) → ((rest : List Token) → Begins p e tokens rest → ⊥) → NoTree p e tokens

@@ -1,4 +1,4 @@
-ghost use Rattle.std.specs.Prelude.{◌≡◌, ◌↔◌, IsTrue};
+ghost use Rattle.std.specs.Prelude.{◌≡◌, ◌⊎◌, ◌↔◌, IsTrue};
 ghost use Rattle.onfi_bound.specs.Commands.{AreNodeBounds};
 ghost use Rattle.onfi_problem.specs.Moves.{IsMove, after};
 ghost use Rattle.onfi_problem.specs.Position.{move_of};
@@ -25,26 +25,25 @@ pub(crate) fn closes(problem: &Problem, bounds: NodeBounds, token: &Token, e: u6
     }
 }
 
-/// Whether the bus token closes the node behind a move for the finish `e`, in ns, where `bounds` are those before the
-/// move. Most leaves are such or trail tokens, so the move isn't made for them.
-pub(crate) fn bus_closes_after(problem: &Problem, bounds: NodeBounds, m: Move, e: u64) -> bool
+/// Whether a bus or a trail token closes the node behind a move for the finish `e`, in ns, where `bounds` are those before the
+/// move. Most leaves are such, so the move isn't made for them.
+pub(crate) fn closes_after(
+    problem: &Problem,
+    bounds: NodeBounds,
+    token: Token,
+    m: Move,
+    e: u64,
+) -> bool
     requires bounds { AreNodeBounds problem.now.problem bounds }
+    requires leaf { (token ≡ Token.Bus) ⊎ (token ≡ Token.Trail) }
     requires step { IsMove problem.now.problem (move_of problem.now.groups m) }
     requires named { IsNamed problem.now.groups m }
-    ensures { IsTrue result ↔ ((c : Closing) × (token_of c ≡ Token.Bus) × Closes (after problem.now.problem (move_of problem.now.groups m)) e c) }
+    ensures { IsTrue result ↔ ((c : Closing) × (token_of c ≡ token) × Closes (after problem.now.problem (move_of problem.now.groups m)) e c) }
 {
-    bounds.bus_reaches_after(problem, m, e)
-}
-
-/// Whether the trail token closes the node behind a move for the finish `e`, in ns, where `bounds` are those before the
-/// move. The move isn't made.
-pub(crate) fn trail_closes_after(problem: &Problem, bounds: NodeBounds, m: Move, e: u64) -> bool
-    requires bounds { AreNodeBounds problem.now.problem bounds }
-    requires step { IsMove problem.now.problem (move_of problem.now.groups m) }
-    requires named { IsNamed problem.now.groups m }
-    ensures { IsTrue result ↔ ((c : Closing) × (token_of c ≡ Token.Trail) × Closes (after problem.now.problem (move_of problem.now.groups m)) e c) }
-{
-    bounds.commands.trail_reaches_after(problem, m, e)
+    match token {
+        Token::Bus => bounds.bus_reaches_after(problem, m, e),
+        _ => bounds.commands.trail_reaches_after(problem, m, e),
+    }
 }
 
 /// Whether nothing is left of a problem and the bus is free at `e` ns or later, which closes a node for the finish `e`.

@@ -1,7 +1,7 @@
-ghost use Rattle.std.specs.Prelude.{◌≡◌, ◌<◌, length};
+ghost use Rattle.std.specs.Prelude.{◌≡◌, length};
 ghost use Rattle.std.specs.List.{AllByRecursion as Each};
-ghost use Rattle.onfi_problem.specs.Moves.{IsMove, move_lun};
-ghost use Rattle.onfi_problem.specs.Position.{move_of, moves_of, lun_named};
+ghost use Rattle.onfi_problem.specs.Moves.{IsMove};
+ghost use Rattle.onfi_problem.specs.Position.{moves_of};
 ghost use Rattle.onfi_problem.specs.Starts.{IsNamed};
 ghost use Rattle.onfi_check.specs.Ends.{AreLastEnds, IsLastEnd, later_of};
 
@@ -11,8 +11,7 @@ use onfi_problem::{Move, Problem};
 #[inline(always)]
 pub fn last_ends(problem: &Problem, moves: &[Move]) -> [Option<u64>; 8]
     requires moves { Each (IsMove problem.now.problem) (moves_of problem.now.groups moves.now) }
-    requires luns { Each (λ m. move_lun (move_of problem.now.groups m) ≡ lun_named m) moves.now }
-    requires few { Each (λ m. lun_named m < 8) moves.now }
+    requires named { Each (IsNamed problem.now.groups) moves.now }
     ensures ends { AreLastEnds problem.now.problem (moves_of problem.now.groups moves.now) result }
     ensures length { length result ≡ 8 }
 {

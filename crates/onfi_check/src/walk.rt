@@ -1,6 +1,6 @@
 //! The walk over the tokens of a tree.
 
-ghost use Rattle.std.specs.Prelude.{◌≡◌, ◌≢◌, ℕ, ◌+◌, ◌≤◌, ◌<◌, ◌^◌, ◌∷◌, List, IfErr, OnOk, length};
+ghost use Rattle.std.specs.Prelude.{◌≡◌, ◌≢◌, ◌⊎◌, ℕ, ◌+◌, ◌≤◌, ◌<◌, ◌^◌, ◌∷◌, List, IfErr, OnOk, length};
 ghost use Rattle.onfi_problem.specs.Moves.{AreMoves, IsMove, after};
 ghost use Rattle.onfi_problem.specs.Position.{move_of, moves_of};
 ghost use Rattle.onfi_problem.specs.Starts.{IsNamed};
@@ -12,7 +12,7 @@ ghost use Rattle.onfi_check.specs.Faults.{FaultFits, IsTokenFault};
 ghost use Rattle.onfi_check.specs.Reading.{Begins, BeginsEach, ReadOn, ReadsChild, RefusesChild};
 ghost use Rattle.onfi_check.specs.Tree.{AcceptsTokens, Closes, Closing, token_of};
 
-use crate::closes::{bus_closes_after, closes, trail_closes_after};
+use crate::closes::{closes, closes_after};
 use crate::fault::CertFault;
 use crate::yields::{Standing, take_yield};
 use onfi_bound::NodeBounds;
@@ -52,44 +52,24 @@ fn read_closing(
     }
 }
 
-// Reads the bus token behind a move.
-fn read_bus(
+// Reads a bus or a trail token behind a move.
+fn read_leaf(
     problem: &Problem,
     e: u64,
     bounds: NodeBounds,
     m: Move,
+    token: Token,
     place: usize,
 ) -> Result<(), CertFault>
     requires bounds { AreNodeBounds problem.now.problem bounds }
+    requires leaf { (token ≡ Token.Bus) ⊎ (token ≡ Token.Trail) }
     requires step { IsMove problem.now.problem (move_of problem.now.groups m) }
     requires named { IsNamed problem.now.groups m }
-    ensures ok { OnOk result ((c : Closing) × (token_of c ≡ Token.Bus) × Closes (after problem.now.problem (move_of problem.now.groups m)) e c) }
-    ensures err { IfErr result (λ _. ((c : Closing) × (token_of c ≡ Token.Bus) × Closes (after problem.now.problem (move_of problem.now.groups m)) e c) → ⊥) }
-    ensures kind { IfErr result (λ fault. (behind left : List OneToken) → FaultFits place (Token.Bus ∷ behind) left fault) }
+    ensures ok { OnOk result ((c : Closing) × (token_of c ≡ token) × Closes (after problem.now.problem (move_of problem.now.groups m)) e c) }
+    ensures err { IfErr result (λ _. ((c : Closing) × (token_of c ≡ token) × Closes (after problem.now.problem (move_of problem.now.groups m)) e c) → ⊥) }
+    ensures kind { IfErr result (λ fault. (behind left : List OneToken) → FaultFits place (token ∷ behind) left fault) }
 {
-    if bus_closes_after(problem, bounds, m, e) {
-        Ok(())
-    } else {
-        Err(CertFault::BoundLow(place))
-    }
-}
-
-// Reads the trail token behind a move.
-fn read_trail(
-    problem: &Problem,
-    e: u64,
-    bounds: NodeBounds,
-    m: Move,
-    place: usize,
-) -> Result<(), CertFault>
-    requires bounds { AreNodeBounds problem.now.problem bounds }
-    requires step { IsMove problem.now.problem (move_of problem.now.groups m) }
-    requires named { IsNamed problem.now.groups m }
-    ensures ok { OnOk result ((c : Closing) × (token_of c ≡ Token.Trail) × Closes (after problem.now.problem (move_of problem.now.groups m)) e c) }
-    ensures err { IfErr result (λ _. ((c : Closing) × (token_of c ≡ Token.Trail) × Closes (after problem.now.problem (move_of problem.now.groups m)) e c) → ⊥) }
-    ensures kind { IfErr result (λ fault. (behind left : List OneToken) → FaultFits place (Token.Trail ∷ behind) left fault) }
-{
-    if trail_closes_after(problem, bounds, m, e) {
+    if closes_after(problem, bounds, token, m, e) {
         Ok(())
     } else {
         Err(CertFault::BoundLow(place))
@@ -223,8 +203,7 @@ fn read_child<S: TokenSource<Token = Token>>(
     };
     match token {
         Token::Yield(lun) => take_yield(problem, moves, standing, m.lun(), lun.get(), place),
-        Token::Bus => read_bus(problem, e, bounds, m, place),
-        Token::Trail => read_trail(problem, e, bounds, m, place),
+        Token::Bus | Token::Trail => read_leaf(problem, e, bounds, m, token, place),
         _ => read_below(problem, e, bounds, m, token, place, tokens),
     }
 }

@@ -1,24 +1,11 @@
 //! What a run costs at least behind each move of a node. No sum wraps: all times of a problem are below 2^62 ns.
 
-ghost use Rattle.std.specs.Prelude.{◌<◌, ◌≤◌, ◌^◌};
-
 use crate::aim::Aim;
 use crate::line::Line;
 use crate::rest::{Posts, Rest, commands_left};
 use onfi_group::Group;
 use onfi_problem::{Move, Problem};
 use onfi_timing::Kind;
-
-/// What all posts of a problem cost at least, each phase as early as its LUN and the bus let it.
-pub fn least_cost(problem: &Problem, aim: &Aim) -> u128 {
-    let bus_free = problem.bus_free();
-    let mut cost = 0u128;
-    for (lun, state) in problem.luns().iter().enumerate() {
-        let rest = Rest::of(problem, aim, lun as u8, *state);
-        cost = cost.wrapping_add(rest.cost_from(rest.ready.max(bus_free)));
-    }
-    cost
-}
 
 /// What is left to each LUN at a node, and room for what is left behind a move.
 #[derive(Drop)]
@@ -77,6 +64,11 @@ impl Floor {
             let cost = rest.cost_from(rest.ready.max(bus_free));
             self.cost = self.cost.wrapping_add(cost);
         }
+    }
+
+    /// What all posts cost at least at the node that was looked at, each phase as early as its LUN and the bus let it.
+    pub fn cost(&self) -> u128 {
+        self.cost
     }
 
     /// A move of the node as the phase that it runs.

@@ -1,7 +1,6 @@
 //! A plan made better.
 
 ghost use Rattle.std.specs.Prelude.{◌≡◌, ◌+◌, ◌^◌, ◌<◌, ◌≤◌, true, IfOk};
-ghost use Rattle.onfi_problem.specs.Left.{InLimits};
 ghost use Rattle.onfi_schedule.specs.Schedule.{Legal, Optimal, finish};
 ghost use Rattle.onfi_planner.specs.Planning.{AreRising};
 ghost use Rattle.onfi_recall.specs.Walks.{IsRunOf};
@@ -9,7 +8,7 @@ ghost use Rattle.onfi_early.specs.Cost.{cost};
 
 use crate::aim::Aim;
 use crate::cost::cost_of;
-use crate::floor::{Floor, least_cost};
+use crate::floor::Floor;
 use crate::seen::Seen;
 use crate::walk::{Notes, search};
 use crate::weights::Weights;
@@ -117,7 +116,9 @@ fn walk(
         finish: 0,
         steps: Vec::new(alloc),
     };
-    if least_cost(problem, aim) >= cost {
+    let mut floor = Floor::new(problem, aim);
+    floor.look_at(problem, aim, 0);
+    if floor.cost() >= cost {
         return Ok(Walked {
             best,
             improved: false,
@@ -130,7 +131,7 @@ fn walk(
         cost,
         left: limit,
         seen: Seen::new(alloc),
-        floor: Floor::new(&at, aim),
+        floor,
         lun: 0,
     };
     let improved = search(&mut at, &loads, aim, 0, &mut best, &mut notes)?;

@@ -1,6 +1,6 @@
 //! What is left to a LUN. No sum wraps: all times of a problem are below 2^62 ns.
 
-ghost use Rattle.std.specs.Prelude.{◌<◌, ◌≤◌, ◌^◌, length};
+ghost use Rattle.std.specs.Prelude.{◌<◌, ◌≤◌, ◌^◌};
 
 use crate::aim::Aim;
 use onfi_group::Group;

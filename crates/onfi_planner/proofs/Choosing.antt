@@ -13,6 +13,7 @@ use Rattle.onfi_problem.specs.Starts.{IsNamed}
 use Rattle.onfi_problem.proofs.Perm.{All-append, All-has, All-weaker}
 use Rattle.onfi_check.specs.First.{wants_started, starts_before, GoesFirst, IsFirstChoice}
 use Rattle.onfi_group.proofs.Lists.{Has-get}
+use Rattle.onfi_check.proofs.LastEnds.{move_at}
 
 -- what a comparison says
 abbrev Sooner : Problem → Move → Move → Type 0
@@ -141,7 +142,4 @@ chosen_all p groups moves i choice h are c =
     }
 
 pub item_move : (p : Problem) (groups : List (List Want)) (moves : List KeptMove) (i : ℕ) (d : KeptMove) → i < length moves → AreMoves p (moves_of groups moves) → IsMove p (move_of groups (get_or moves i d))
-item_move p groups moves i d h are = All-has (IsMove p) (moves_of groups moves) (move_of groups (get_or moves i d)) are.moves_only (moves_has groups moves (get_or moves i d) (Has-get moves i d h))
-
-pub item_named : (groups : List (List Want)) (moves : List KeptMove) (i : ℕ) (d : KeptMove) → i < length moves → All (IsNamed groups) moves → IsNamed groups (get_or moves i d)
-item_named groups moves i d h named = All-has (IsNamed groups) moves (get_or moves i d) named (Has-get moves i d h)
+item_move p groups moves i d h are = move_at p groups moves i d h are.moves_only

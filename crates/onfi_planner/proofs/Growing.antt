@@ -28,20 +28,20 @@ more_tokens : (old new new' ts : List Token) (n : ℕ) (f g : Forest) → new �
 more_tokens old new new' ts n f g h k e =
     k ∙ (ap (λ z. z ++ ts) h ∙ (append_assoc old (Branch n ∷ preorders f) ts ∙ ap (λ z. old ++ (Branch n ∷ z)) (ap (λ z. preorders f ++ z) (sym e) ∙ sym (preorders_joined f g))))
 
-pub with_child : (x : Position) (items : List KeptMove) (ys : List (Option ℕ)) (e i : ℕ) (old new new' : List Token) (s : KeptMove) → s ≡ get_or items i s → i < length items → Written (moved x s).problem e new new' → Growing x items ys e i old new → Growing x items ys e (i + 1) old new'
-with_child x items ys e i old new new' s q h (tree, k, a) (f, t, g) =
+pub with_child : (x : Position) (items : List KeptMove) (ys : List (Option ℕ)) (e i : ℕ) (old new new' : List Token) (d : KeptMove) → i < length items → Written (moved x (get_or items i d)).problem e new new' → Growing x items ys e i old new → Growing x items ys e (i + 1) old new'
+with_child x items ys e i old new new' d h (tree, k, a) (f, t, g) =
     let last = Child tree NoMore in (
       joined f last,
       more_tokens old new new' (preorder tree) (length items) f last t k (append_nil (preorder tree)),
-      subst (λ z. Grown x.problem ys e z (joined f last)) (sym (one_more x items i s q h)) (grown_joined x.problem ys e (moves_of x.groups (take i items)) (move_of x.groups s ∷ []) f last g (a, tt)),
+      subst (λ z. Grown x.problem ys e z (joined f last)) (sym (one_more x.groups items i d h)) (grown_joined x.problem ys e (moves_of x.groups (take i items)) (move_of x.groups (get_or items i d) ∷ []) f last g (a, tt)),
     )
 
-pub with_yield : (x : Position) (items : List KeptMove) (ys : List (Option ℕ)) (e i l : ℕ) (old new new' : List Token) (s : KeptMove) → s ≡ get_or items i s → i < length items → yield_at ys (move_lun (move_of x.groups s)) ≡ Some l → new' ≡ new ++ Yield l ∷ [] → Growing x items ys e i old new → Growing x items ys e (i + 1) old new'
-with_yield x items ys e i l old new new' s q h y k (f, t, g) =
+pub with_yield : (x : Position) (items : List KeptMove) (ys : List (Option ℕ)) (e i l : ℕ) (old new new' : List Token) (d : KeptMove) → i < length items → yield_at ys (move_lun (move_of x.groups (get_or items i d))) ≡ Some l → new' ≡ new ++ Yield l ∷ [] → Growing x items ys e i old new → Growing x items ys e (i + 1) old new'
+with_yield x items ys e i l old new new' d h y k (f, t, g) =
     let last = Yields l NoMore in (
       joined f last,
       more_tokens old new new' (Yield l ∷ []) (length items) f last t k refl,
-      subst (λ z. Grown x.problem ys e z (joined f last)) (sym (one_more x items i s q h)) (grown_joined x.problem ys e (moves_of x.groups (take i items)) (move_of x.groups s ∷ []) f last g (y, tt)),
+      subst (λ z. Grown x.problem ys e z (joined f last)) (sym (one_more x.groups items i d h)) (grown_joined x.problem ys e (moves_of x.groups (take i items)) (move_of x.groups (get_or items i d) ∷ []) f last g (y, tt)),
     )
 
 pub grown_up : (x : Position) (items : List KeptMove) (ys : List (Option ℕ)) (e i : ℕ) (old new : List Token) → AreMoves x.problem (moves_of x.groups items) → 1 ≤ length items → AreYields x.problem (moves_of x.groups items) ys → length items ≤ i → Growing x items ys e i old new → Written x.problem e old new

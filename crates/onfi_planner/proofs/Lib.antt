@@ -1,7 +1,6 @@
 pub mod Reaching
 pub mod Opening
 pub mod Paths
-mod Taking
 pub mod Grown
 pub mod Halfway
 pub mod Growing

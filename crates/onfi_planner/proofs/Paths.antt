@@ -4,6 +4,8 @@ use Rattle.std.specs.List.{AllByRecursion as All}
 use Rattle.onfi_problem.specs.Moves.{Move, IsMove, after}
 use Rattle.onfi_group.specs.Words.{Has, Pairs}
 use Rattle.onfi_problem.specs.Problem.{Problem}
+use Rattle.std.proofs.lemmas.List.{length-map}
+use Rattle.onfi_group.proofs.Lists.{All-has, Pairs-append}
 use Rattle.onfi_problem.proofs.Perm.{All-append, All-weaker, Has-append_left, Has-append_right}
 use Rattle.onfi_check.specs.Nodes.{IsOpen, IsNode, HasNodes}
 
@@ -45,28 +47,20 @@ apart_with : (m : Move) (paths : List (List Move)) → Pairs (λ a b. a ≢ b) p
 apart_with m [] a = tt
 apart_with m (path ∷ paths) a = (apart_one m path paths a.0, apart_with m paths a.1)
 
-Pairs-append : {A : Type 0} (R : A → A → Type 0) (xs ys : List A) → Pairs R xs → Pairs R ys → All (λ x. All (R x) ys) xs → Pairs R (xs ++ ys)
-Pairs-append R [] ys a b c = b
-Pairs-append R (x ∷ xs) ys a b c = (All-append (R x) xs ys a.0 c.0, Pairs-append R xs ys a.1 b c.1)
-
 other_first : (f : ℕ) (p : Problem) (moves : List Move) (m : Move) (path : List Move) (paths : List (List Move)) → (Has moves m → ⊥) → Below f p moves path → All (λ b. path ≢ b) (map (λ q. m ∷ q) paths)
 other_first f p moves m [] paths h b = absurd b
 other_first f p moves m (n ∷ path) [] h b = tt
 other_first f p moves m (n ∷ path) (q ∷ paths) h b = ((λ e. let e' : n ≡ m = cc in h (subst (Has moves) e' b.0)), other_first f p moves m (n ∷ path) paths h b)
 
-length_with : (m : Move) (paths : List (List Move)) → length (map (λ path. m ∷ path) paths) ≡ length paths
-length_with m [] = refl
-length_with m (path ∷ paths) = let e = length_with m paths in omega arith
-
 pub among_more : (f : ℕ) (p : Problem) (moves : List Move) (m : Move) (n k : ℕ) → Among f p moves n → IsOpen f p → IsMove p m → (Has moves m → ⊥) → HasNodes f (after p m) k → Among f p (moves ++ m ∷ []) (n + k)
 among_more f p moves m n k (paths, e, all, apart) o im h (paths', e', all', apart') =
     let news = map (λ path. m ∷ path) paths' in
     let l = length-append paths news in
-    let l' = length_with m paths' in (
+    let l' = length-map paths' (λ (path : List Move). m ∷ path) in (
       paths ++ news,
       omega arith,
       All-append _ paths news (All-weaker _ _ (below_more f p moves (m ∷ [])) paths all) (with_move f p (moves ++ m ∷ []) m paths' o im (Has-append_right moves (m ∷ []) m (inl refl)) all'),
-      Pairs-append _ paths news apart (apart_with m paths' apart') (All-weaker _ _ (λ path b. other_first f p moves m path paths' h b) paths all),
+      Pairs-append _ paths news apart (apart_with m paths' apart') (λ path q has there. All-has (λ b. path ≢ b) news q (other_first f p moves m path paths' h (All-has (Below f p moves) paths path all has)) there),
     )
 
 below_node : (f : ℕ) (p : Problem) (moves path : List Move) → Below f p moves path → IsNode f p path

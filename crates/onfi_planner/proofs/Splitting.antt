@@ -144,25 +144,23 @@ split_nodes x items yields first limit steps found w =
     let none : 0 + opened_by found ≡ opened_by found = omega arith in
     among_all first x.problem (moves_of x.groups items) (opened_by found) (subst (Among first x.problem (moves_of x.groups items)) none (among_parts x yields first limit [] 0 items found w.open_root w.moves.moves_only w.moves.order (among_none first x.problem) w.parts))
 
-pub split_opens : (x : Position) (items : List KeptMove) (yields : List (Option ℕ)) (first limit e opened : ℕ) (steps : List Step) (found : List Part) → Split x items yields first limit steps found → All (λ part. e ≤ part.best.finish) found → opened ≡ 1 + opened_by found → OpensNodes x.problem e opened
-split_opens x items yields first limit e opened steps found w least n =
-    let (f, g, k, small) = grown_parts x yields first limit e items found w.luns least w.parts in
-    let some = some_move x items steps first w.problem w.moves w.first_run w.open_root in
-    let l = map_length x items in
-    record {
-      accepted = (Opened f, grown_accepts x.problem yields e (moves_of x.groups items) f w.moves (omega arith) w.yields_are g, omega arith);
-      first = first;
-      first_run = (steps, w.first_run);
-      there = subst (HasNodes first x.problem) (sym n) (split_nodes x items yields first limit steps found w);
-    }
-
--- .. in which no part has more nodes than the limit
+-- the parts make a tree in which no part has more nodes than the limit
 pub split_parts : (x : Position) (items : List KeptMove) (yields : List (Option ℕ)) (first limit e opened : ℕ) (steps : List Step) (found : List Part) → Split x items yields first limit steps found → All (λ part. e ≤ part.best.finish) found → opened ≡ 1 + opened_by found → HasPartsWithin x.problem e opened limit
 split_parts x items yields first limit e opened steps found w least n =
     let (f, g, k, small) = grown_parts x yields first limit e items found w.luns least w.parts in
     let some = some_move x items steps first w.problem w.moves w.first_run w.open_root in
     let l = map_length x items in
     (Opened f, grown_accepts x.problem yields e (moves_of x.groups items) f w.moves (omega arith) w.yields_are g, omega arith, small)
+
+pub split_opens : (x : Position) (items : List KeptMove) (yields : List (Option ℕ)) (first limit e opened : ℕ) (steps : List Step) (found : List Part) → Split x items yields first limit steps found → All (λ part. e ≤ part.best.finish) found → opened ≡ 1 + opened_by found → OpensNodes x.problem e opened
+split_opens x items yields first limit e opened steps found w least n =
+    let (tree, accepts, k, small) = split_parts x items yields first limit e opened steps found w least n in
+    record {
+      accepted = (tree, accepts, k);
+      first = first;
+      first_run = (steps, w.first_run);
+      there = subst (HasNodes first x.problem) (sym n) (split_nodes x items yields first limit steps found w);
+    }
 
 -- the parts together have more nodes than that
 pub split_over : (x : Position) (items : List KeptMove) (yields : List (Option ℕ)) (first limit n opened : ℕ) (steps : List Step) (found : List Part) → Split x items yields first limit steps found → opened ≡ 1 + opened_by found → opened ≡ n + 1 → HasMoreNodes x.problem n
@@ -217,11 +215,6 @@ joined_accepted x yields e n items branches tokens are luns some ay a q t =
     let w : n ≡ width f = q ∙ sym (grown_width x.problem yields e (moves_of x.groups items) f g ∙ l) in
     (Opened f, sym (t ∙ (ap (λ z. Branch z ∷ flat_map (λ v. v.items) branches) w ∙ ap (λ z. Branch (width f) ∷ z) k)), grown_accepts x.problem yields e (moves_of x.groups items) f are (omega arith) ay g)
 
--- what all moves are, of each as it is kept
-pub moves_each : (x : Position) (items : List KeptMove) → All (IsMove x.problem) (moves_of x.groups items) → All (λ s. IsMove x.problem (move_of x.groups s)) items
-moves_each x [] a = tt
-moves_each x (s ∷ items) a = (a.0, moves_each x items a.1)
-
 -- the moves listed so far that don't yield
 pub parts_more : (yields : List (Option ℕ)) (steps : List KeptMove) (s : KeptMove) → yield_at yields (lun_named s) ≡ None → parts_of yields (steps ++ s ∷ []) ≡ parts_of yields steps ++ s ∷ []
 parts_more yields [] s e = rw e refl
@@ -273,10 +266,13 @@ branches_length x e yields (s ∷ steps) (v ∷ branches) a = let h = branches_l
 pub closed_accepted : (p : Problem) (e : ℕ) (t : Token) (tokens : List Token) → tokens ≡ t ∷ [] → (c : Closing) × (token_of c ≡ t) × Closes p e c → AcceptsTokens tokens p e
 closed_accepted p e t tokens q (c, k, a) = (Closed c, ap (λ z. z ∷ []) k ∙ sym q, a)
 
+opened_append : (front : List Part) (part : Part) (behind : List Part) → opened_by (front ++ part ∷ behind) ≡ opened_by front + part.opened + opened_by behind
+opened_append [] part behind = omega arith
+opened_append (p ∷ front) part behind = let h = opened_append front part behind in omega arith
+
 -- one more part
 pub opened_more : (found : List Part) (part : Part) → opened_by (found ++ part ∷ []) ≡ opened_by found + part.opened
-opened_more [] part = omega arith
-opened_more (p ∷ found) part = let h = opened_more found part in omega arith
+opened_more found part = let h = opened_append found part [] in omega arith
 
 pub opened_few : (most : ℕ) (found : List Part) → All (λ part. part.opened ≤ most) found → opened_by found ≤ most * length found
 opened_few most [] a = omega arith
@@ -291,10 +287,6 @@ found_all g f x first limit steps found a l h = all_given g f (IsPart x first li
 
 pub branches_all : {F : Type 0} (g : Shared F (ℕ × Unit {0}) (Result (Vec Token Global) Stop)) (f : F) (x : Position) (e : ℕ) (yields : List (Option ℕ)) (steps : List KeptMove) (branches : List (Vec Token Global)) → GivesFrom g f 0 branches → length branches ≡ length steps → ((k : ℕ) (d : KeptMove) (v : Vec Token Global) → k < length steps → Gives g f k v → IsBranch x e (get_or steps k d) (yield_at yields (lun_named (get_or steps k d))) v.items) → AreBranches x e yields steps (map (λ v. v.items) branches)
 branches_all g f x e yields steps branches a l h = all_given g f (λ s v. IsBranch x e s (yield_at yields (lun_named s)) v.items) (λ steps branches. AreBranches x e yields steps (map (λ v. v.items) branches)) tt (λ s steps v branches is are. (is, are)) steps 0 branches a l (λ k d v lt b. let z : 0 + k ≡ k = omega arith in h k d v lt (subst (λ k. Gives g f k v) z b))
-
-opened_append : (front : List Part) (part : Part) (behind : List Part) → opened_by (front ++ part ∷ behind) ≡ opened_by front + part.opened + opened_by behind
-opened_append [] part behind = omega arith
-opened_append (p ∷ front) part behind = let h = opened_append front part behind in omega arith
 
 -- as many nodes as 87 parts have
 pub opened_small : (found front : List Part) (part : Part) (behind : List Part) (opened : ℕ) → found ≡ front ++ part ∷ behind → All (λ part. part.opened ≤ 1048576) found → length found ≤ 87 → opened ≡ 1 + opened_by front → opened + part.opened ≤ 91226113

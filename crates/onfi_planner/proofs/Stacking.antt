@@ -1,8 +1,8 @@
 -- The schedule of a run, built from its last step on.
-use Rattle.std.proofs.Common.{◌≡◌, ℕ, zero, suc, ◌+◌, ◌*◌, ◌≤◌, ◌<◌, inl, inr, List, [], ◌∷◌, ◌++◌, length, map, take, get_or, reverse, replicate, Some, refl, sym, ap, ◌∙◌, subst, arith, append_assoc, get_or-set_same, ◌^◌}
+use Rattle.std.proofs.Common.{◌≡◌, ℕ, zero, suc, ◌+◌, ◌*◌, ◌≤◌, ◌<◌, inl, inr, List, [], ◌∷◌, ◌++◌, length, map, take, drop, get_or, reverse, replicate, Some, refl, sym, ap, ◌∙◌, subst, arith, append_assoc, get_or-set_same, ◌^◌}
 use Rattle.std.specs.Prelude.{slice_get, slice_set, slice_index_or}
 use Rattle.std.proofs.lemmas.Bool.{cases_lt}
-use Rattle.std.proofs.lemmas.List.{map-append, reverse-append, take_more, take_all, set-set}
+use Rattle.std.proofs.lemmas.List.{map-append, reverse-append, take_more, take_all, take-append-drop, drop_more, set-set}
 use Rattle.std.proofs.lemmas.Option.{get_or_from_slice_get}
 use Rattle.onfi_timing.specs.Phases.{phase_length}
 use Rattle.onfi_request.specs.declared.want.Want.{Want}
@@ -21,7 +21,6 @@ use Rattle.onfi_schedule.proofs.RunLegal.{run_legal}
 use Rattle.onfi_schedule.proofs.Exchange.{bus_after}
 use Rattle.onfi_planner.specs.declared.search.Begun.{Begun}
 use Rattle.onfi_planner.specs.Planning.{run_of, taken}
-use Rattle.onfi_planner.proofs.Taking.{split_at}
 
 -- these steps in front of a schedule
 abbrev pub stacked : Schedule → List Step → Schedule
@@ -118,9 +117,10 @@ run_split groups xs b ys =
 
 pub room_of_step : (p : Problem) (groups : List (List Want)) (steps : List Begun) (i : ℕ) (d : Begun) (f : ℕ) → IsProblem p → Run p (run_of groups steps) f → i < length steps → Room (taken groups (get_or steps i d)) (stacked (empty p) (run_of groups (take i steps))) f
 room_of_step p groups steps i d f ip run h =
-    let r = split_at steps i d h in
-    let e : run_of groups steps ≡ run_of groups r.0 ++ taken groups (get_or steps i d) ∷ run_of groups (take i steps) = ap (run_of groups) r.1 ∙ run_split groups (take i steps) (get_or steps i d) r.0 in
-    room_at (run_of groups r.0) (taken groups (get_or steps i d)) (run_of groups (take i steps)) p f ip (subst (λ z. Run p z f) e run)
+    let back = drop (i + 1) steps in
+    let whole : steps ≡ take i steps ++ get_or steps i d ∷ back = sym (take-append-drop i steps) ∙ ap (λ z. take i steps ++ z) (drop_more steps i d h) in
+    let e : run_of groups steps ≡ run_of groups back ++ taken groups (get_or steps i d) ∷ run_of groups (take i steps) = ap (run_of groups) whole ∙ run_split groups (take i steps) (get_or steps i d) back in
+    room_at (run_of groups back) (taken groups (get_or steps i d)) (run_of groups (take i steps)) p f ip (subst (λ z. Run p z f) e run)
 
 pub one_taken : (groups : List (List Want)) (steps : List Begun) (i : ℕ) (d : Begun) → i < length steps → run_of groups (take (i + 1) steps) ≡ taken groups (get_or steps i d) ∷ run_of groups (take i steps)
 one_taken groups steps i d h = ap (run_of groups) (take_more steps i d h) ∙ run_split groups (take i steps) (get_or steps i d) []

@@ -8,7 +8,7 @@ use denote.Param.Members.{Shared}
 use Rattle.onfi_group.specs.Words.{Has}
 use Rattle.onfi_planner.specs.declared.search.Stop.{Stop}
 use Rattle.onfi_planner.specs.Dealing.{dealt, Gives, GivesAll, GivesFrom}
-use Rattle.onfi_group.proofs.Lists.{Has-append_left}
+use Rattle.onfi_group.proofs.Lists.{Has-append_left, Has-append_right}
 
 pub dealt_here : (workers worker n : ℕ) → n % workers ≡ worker → dealt workers worker (suc n) ≡ dealt workers worker n ++ n ∷ []
 dealt_here workers worker n e = rw (eq-eqb (n % workers) worker e) refl
@@ -80,18 +80,17 @@ module _ {F X : Type 0} (g : Shared F (ℕ × Unit {0}) (Result X Stop)) (f : F)
 pub in_front : {F X : Type 0} (g : Shared F (ℕ × Unit {0}) (Result X Stop)) (f : F) (call n : ℕ) (x : X) (xs ys : List X) → suc call ≡ n → ys ≡ x ∷ xs → Gives g f call x → GivesFrom g f n xs → GivesFrom g f call ys
 in_front g f call n x xs ys e q a b = subst (GivesFrom g f call) (sym q) (a, subst (λ z. GivesFrom g f z xs) (sym e) b)
 
-pub has_last : {A : Type 0} (xs : List A) (x : A) → Has (xs ++ x ∷ []) x
-has_last [] x = inl refl
-has_last (y ∷ xs) x = inr (has_last xs x)
-
 pub has_place : {A : Type 0} (xs : List A) (x d : A) → Has xs x → (i : ℕ) × (i < length xs) × (get_or xs i d ≡ x)
 has_place [] x d h = absurd h
 has_place (y ∷ xs) x d (inl e) = (0, omega arith, e)
 has_place (y ∷ xs) x d (inr h) = let r = has_place xs x d h in (suc r.0, (let k = r.1 in omega arith), r.2)
 
+pub has_between : {A : Type 0} (xs : List A) (x : A) (ys : List A) → Has (xs ++ x ∷ ys) x
+has_between xs x ys = Has-append_right xs (x ∷ ys) x (inl refl)
+
 -- one more that was refused
 pub still_refused : {A S : Type 0} (xs : List (Result A S)) (x : Result A S) (first : Option S) (refusal chosen r : S) → x ≡ Err refusal → (chosen ≡ refusal) ⊎ (first ≡ Some chosen) → Some chosen ≡ Some r → ((s : S) → first ≡ Some s → Has xs (Err s)) → Has (xs ++ x ∷ []) (Err r)
-still_refused xs x first refusal chosen r e (inl q) s h = let k : x ≡ Err r = cc in subst (Has (xs ++ x ∷ [])) k (has_last xs x)
+still_refused xs x first refusal chosen r e (inl q) s h = let k : x ≡ Err r = cc in subst (Has (xs ++ x ∷ [])) k (has_between xs x [])
 still_refused xs x first refusal chosen r e (inr q) s h = Has-append_left xs (x ∷ []) (Err r) (h r (q ∙ s))
 
 -- and one that was done
@@ -122,7 +121,3 @@ none_of (Some a) e = absurd (false≢true (sym e))
 pub some_of : {A : Type 0} (o : Option A) → is_some o ≡ true → (a : A) × (o ≡ Some a)
 some_of None e = absurd (false≢true e)
 some_of (Some a) e = (a, refl)
-
-pub has_between : {A : Type 0} (xs : List A) (x : A) (ys : List A) → Has (xs ++ x ∷ ys) x
-has_between [] x ys = inl refl
-has_between (y ∷ xs) x ys = inr (has_between xs x ys)

@@ -1,18 +1,16 @@
 -- A search and what it is written as make an optimal plan.
-use Rattle.std.proofs.Common.{◌≡◌, ℕ, ◌+◌, ◌-◌, Bool, List, inl, inr, sym, ap, ◌∙◌, subst, arith, ◌<◌, ◌≤◌, ◌^◌}
+use Rattle.std.proofs.Common.{◌≡◌, ℕ, ◌+◌, ◌-◌, Bool, List, inl, inr, sym, ap, ◌∙◌, subst, arith, ◌≤◌}
 use Rattle.std.proofs.lemmas.Bool.{cases_Bool}
 use Rattle.onfi_cert.specs.declared.token.Token.{Token}
 use Rattle.onfi_problem.specs.Problem.{Problem, IsProblem}
-use Rattle.onfi_schedule.specs.Schedule.{Schedule, Optimal, finish}
-use Rattle.onfi_schedule.specs.Runs.{Run, schedule_of}
+use Rattle.onfi_schedule.specs.Schedule.{Schedule, Legal, Optimal, finish}
+use Rattle.onfi_schedule.specs.Runs.{Step, Run, schedule_of}
 use Rattle.onfi_check.specs.Tree.{Accepts, AcceptsTokens}
 use Rattle.onfi_schedule.proofs.RunLegal.{run_legal}
 use Rattle.onfi_check.proofs.Sound.{certified}
 use Rattle.onfi_planner.specs.declared.search.Best.{Best}
 use Rattle.onfi_planner.specs.declared.root.Root.{Root}
 use Rattle.onfi_problem.specs.Position.{Position}
-use Rattle.onfi_problem.specs.Left.{InLimits}
-use Rattle.onfi_check.specs.First.{IsFirstRun}
 use Rattle.onfi_check.specs.Nodes.{HasNodes, HasTreeOf, HasMoreNodes, OpensNodes}
 use Rattle.onfi_planner.specs.Planning.{Searched, HasOpened, IsOver, Found, IsRoot, run_of, AreRising}
 use Rattle.onfi_planner.proofs.Rising.{run_rises}
@@ -25,27 +23,10 @@ still_run x old new improved r s = elim (cases_Bool improved) [
   | inr k ↦ (let q = s.kept k in subst (λ (b : Best). Run x.problem (run_of x.groups b.steps.items) b.finish) (sym q) r)
 ]
 
--- a search that begins with the first schedule of a problem
-pub record Ready (x now : Position) (first : Best) : Type 0 where
-  pub same : now ≡ x
-  pub limits : InLimits x.problem
-  pub first_run : IsFirstRun x.problem (run_of x.groups first.steps.items) first.finish
-  pub small : first.finish < 2 ^ 62
-
-pub ready : (x at now : Position) (first : Best) → at ≡ x → now ≡ at → InLimits at.problem → IsFirstRun at.problem (run_of at.groups first.steps.items) first.finish → first.finish < 2 ^ 62 → Ready x now first
-ready x at now first e e' limits run small = record {
-  same = e' ∙ e;
-  limits = subst (λ (z : Position). InLimits z.problem) e limits;
-  first_run = subst (λ (z : Position). IsFirstRun z.problem (run_of z.groups first.steps.items) first.finish) e run;
-  small = small;
-}
-
-pub root_ready : (x : Position) (root : Root) → IsRoot x root → Ready x root.problem root.best
-root_ready x root r = record { same = r.same; limits = r.limits; first_run = r.first_run; small = r.small }
-
 -- what the search found
-pub found : (x now : Position) (first best : Best) (improved : Bool) → Ready x now first → Searched now first best improved → Found x best
-found x now first best improved r s =
+pub root_found : (x : Position) (root : Root) (best : Best) (improved : Bool) → IsRoot x root → Searched root.problem root.best best improved → Found x best
+root_found x root best improved r s =
+    let first = root.best in
     let s' = subst (λ (z : Position). Searched z first best improved) r.same s in
     let le = s'.sooner in
     let small = r.small in
@@ -55,8 +36,9 @@ found x now first best improved r s =
       small = omega arith;
     }
 
-pub nodes_opened : (x now : Position) (first : Best) (e n : ℕ) → Ready x now first → HasOpened now.problem first.finish e 0 n → OpensNodes x.problem e n
-nodes_opened x now first e n r opened =
+pub nodes_opened : (x : Position) (root : Root) (e n : ℕ) → IsRoot x root → HasOpened root.problem.problem root.best.finish e 0 n → OpensNodes x.problem e n
+nodes_opened x root e n r opened =
+    let first = root.best in
     let o = subst (λ (z : Position). HasOpened z.problem first.finish e 0 n) r.same opened in
     let z : n - 0 ≡ n = omega arith in
     record {
@@ -67,9 +49,10 @@ nodes_opened x now first e n r opened =
     }
 
 -- a search that was over
-pub more_nodes : (x now : Position) (first : Best) (n limit : ℕ) → Ready x now first → IsOver now.problem first.finish 0 n limit →
-    (n ≡ limit) × HasMoreNodes x.problem limit
-more_nodes x now first n limit r over =
+pub more_nodes : (x : Position) (root : Root) (n limit : ℕ) → IsRoot x root → IsOver root.problem.problem root.best.finish 0 n limit
+    → (n ≡ limit) × HasMoreNodes x.problem limit
+more_nodes x root n limit r over =
+    let first = root.best in
     let o = subst (λ (z : Position). IsOver z.problem first.finish 0 n limit) r.same over in
     let z : limit - 0 + 1 ≡ limit + 1 = omega arith in
     let nodes = subst (HasNodes first.finish x.problem) z (o.nodes first.finish (omega arith)) in
@@ -81,8 +64,13 @@ some_opened p finish e n o =
     let some = some_nodes tree in
     omega arith
 
-pub best_plan : (x : Position) (best : Best) (s : Schedule) (tokens : List Token) → IsProblem x.problem → Found x best → AcceptsTokens tokens x.problem best.finish → s ≡ schedule_of x.problem (run_of x.groups best.steps.items) → Optimal x.problem s × (finish x.problem s ≡ best.finish) × AreRising s.groups
-best_plan x best s tokens ip f (tree, t, a) e =
-    let l = run_legal (run_of x.groups best.steps.items) x.problem best.finish ip f.run in
-    let o = certified x.problem (schedule_of x.problem (run_of x.groups best.steps.items)) tree ip l.0 (subst (Accepts tree x.problem) (sym l.1) a) in
-    (subst (Optimal x.problem) (sym e) o, ap (finish x.problem) e ∙ l.1, subst (λ (z : Schedule). AreRising z.groups) (sym e) (run_rises (run_of x.groups best.steps.items) x.problem best.finish f.run))
+-- what the schedule of a run is
+pub legal_plan : (p : Problem) (steps : List Step) (s : Schedule) (f : ℕ) → IsProblem p → Run p steps f → s ≡ schedule_of p steps
+    → Legal p s × (finish p s ≡ f) × AreRising s.groups
+legal_plan p steps s f ip run e =
+    let l = run_legal steps p f ip run in
+    (subst (Legal p) (sym e) l.0, ap (finish p) e ∙ l.1, subst (λ (z : Schedule). AreRising z.groups) (sym e) (run_rises steps p f run))
+
+pub optimal_plan : (p : Problem) (s : Schedule) (tokens : List Token) (e : ℕ) → IsProblem p → Legal p s → finish p s ≡ e → AcceptsTokens tokens p e
+    → Optimal p s
+optimal_plan p s tokens e ip legal ends (tree, t, a) = certified p s tree ip legal (subst (Accepts tree p) (sym ends) a)

@@ -3,7 +3,8 @@
 ghost use Rattle.std.specs.Prelude.{◌≡◌, ℕ, ◌^◌, ◌<◌, [], ◌∷◌, length, replicate, slice_index_or, slice_set, IfOk};
 ghost use Rattle.onfi_problem.specs.Left.{InLimits};
 ghost use Rattle.onfi_schedule.specs.Runs.{Run, schedule_of};
-ghost use Rattle.onfi_planner.specs.Planning.{run_of};
+ghost use Rattle.onfi_schedule.specs.Schedule.{Legal, finish};
+ghost use Rattle.onfi_planner.specs.Planning.{AreRising, run_of};
 
 use crate::search::Begun;
 use onfi_problem::{Move, Problem};
@@ -22,7 +23,10 @@ pub fn schedule_of(
 ) -> Result<Schedule, AllocError>
     requires limits { InLimits problem.now.problem }
     requires run { (f : ℕ) × (f < 2 ^ 63) × Run problem.now.problem (run_of problem.now.groups steps.now) f }
-    ensures { IfOk result (λ s. s ≡ schedule_of problem.now.problem (run_of problem.now.groups steps.now)) }
+    ensures is { IfOk result (λ s. s ≡ schedule_of problem.now.problem (run_of problem.now.groups steps.now)) }
+    ensures legal { IfOk result (Legal problem.now.problem) }
+    ensures rising { IfOk result (λ s. AreRising s.groups) }
+    ensures finish { IfOk result (λ s. (f : ℕ) → Run problem.now.problem (run_of problem.now.groups steps.now) f → finish problem.now.problem s ≡ f) }
 {
     let mut rest = no_starts(alloc, problem.lun_count())?;
     let mut groups = Vec::new(alloc);

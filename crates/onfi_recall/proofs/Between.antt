@@ -1,12 +1,12 @@
 -- A walk between two children of a node.
-use Rattle.std.proofs.Common.{◌≡◌, ◌≢◌, ℕ, zero, suc, ◌+◌, ◌-◌, ◌≤◌, ◌<◌, inl, inr, Bool, true, false, List, [], ◌∷◌, ◌++◌, length, map, take, get_or, refl, sym, ap, ◌∙◌, subst, arith, append_assoc}
+use Rattle.std.proofs.Common.{◌≡◌, ◌≢◌, ℕ, ◌+◌, ◌-◌, ◌≤◌, ◌<◌, inl, inr, Bool, true, false, List, [], ◌∷◌, ◌++◌, length, refl, sym, ap, ◌∙◌, subst, arith, append_assoc}
 use Rattle.std.specs.Prelude.{slice_index, slice_index_or}
 use Rattle.std.proofs.lemmas.Bool.{cases_eq, cases_Bool, false≢true}
-use Rattle.onfi_group.specs.Words.{Has, Pairs}
+use Rattle.onfi_group.specs.Words.{Has}
 use Rattle.onfi_problem.specs.Problem.{IsProblem}
-use Rattle.onfi_problem.specs.Moves.{Move, IsMove, AreMoves, ComesBefore, move_lun, may_go}
+use Rattle.onfi_problem.specs.Moves.{Move, IsMove, move_lun, may_go}
 use Rattle.onfi_problem.specs.declared.moves.Move.{Move as KeptMove}
-use Rattle.onfi_problem.specs.Position.{Position, move_of, moves_of, moved}
+use Rattle.onfi_problem.specs.Position.{Position, move_of, moved}
 use Rattle.onfi_problem.proofs.Limits.{after_limits}
 use Rattle.onfi_bound.proofs.Loading.{loads_after}
 use Rattle.onfi_recall.specs.Steps.{IsStep}
@@ -21,7 +21,7 @@ use Rattle.onfi_known.specs.Proves.{Children, MayYield, none, tree, yielded}
 use Rattle.onfi_known.specs.Text.{InRange}
 use Rattle.onfi_check.specs.Nodes.{IsOpen}
 use Rattle.onfi_planner.specs.declared.search.Best.{Best}
-use Rattle.onfi_planner.proofs.Halfway.{open_later, not_before_itself}
+use Rattle.onfi_planner.proofs.Halfway.{open_later}
 use Rattle.onfi_planner.proofs.Paths.{Among, among_none, among_more, among_skip}
 use Rattle.onfi_recall.specs.declared.notes.Notes.{Notes}
 use Rattle.onfi_recall.specs.declared.standing.Standing.{Standing}
@@ -29,17 +29,6 @@ use Rattle.onfi_recall.specs.declared.yields.Soonest.{Soonest}
 use Rattle.onfi_recall.specs.Text.{nodes_in}
 use Rattle.onfi_recall.specs.Walks.{Awaits, Growing, Halfway, HasWritten, IsAt, IsRunOf, IsSoonest, Visited}
 use Rattle.onfi_recall.proofs.Waiting.{yields_here, yields_same}
-use Rattle.onfi_problem.proofs.Lists.{All-map, all_at}
-
-fresh : {A B : Type 0} (R : B → B → Type 0) (f : A → B) (xs : List A) (i : ℕ) (d : A) → ((m : B) → R m m → ⊥) → i < length xs → Pairs R (map f xs) → Has (map f (take i xs)) (f (get_or xs i d)) → ⊥
-fresh R f [] i d irr h p k = absurd (omega arith)
-fresh R f (x ∷ xs) zero d irr h p k = absurd k
-fresh R f (x ∷ xs) (suc i) d irr h p (inl e) = irr (f (get_or xs i d)) (subst (λ z. R z (f (get_or xs i d))) e (all_at (λ y. R (f x) (f y)) xs i d (omega arith) (All-map f (R (f x)) xs p.0)))
-fresh R f (x ∷ xs) (suc i) d irr h p (inr k) = fresh R f xs i d irr (omega arith) p.1 k
-
--- no move is listed twice
-pub new_move : (x : Position) (items : List KeptMove) (i : ℕ) (d : KeptMove) → AreMoves x.problem (moves_of x.groups items) → i < length items → Has (moves_of x.groups (take i items)) (move_of x.groups (get_or items i d)) → ⊥
-new_move x items i d are h k = fresh (ComesBefore x.problem) (move_of x.groups) items i d (not_before_itself x.problem) h are.order k
 
 -- behind a step a walk goes on
 pub at_moved : (x : Position) (step : KeptMove) (loads : Loads) (best : Best) (notes : Notes) → IsStep x step → IsAt x loads best notes → IsAt (moved x step) loads best notes

@@ -9,6 +9,7 @@ use Rattle.onfi_known.proofs.Sound.{proved_is_below}
 use Rattle.onfi_planner.specs.Planning.{run_of}
 use Rattle.onfi_planner.specs.declared.search.Best.{Best}
 use Rattle.onfi_planner.proofs.Halfway.{open_later}
+use Rattle.onfi_planner.proofs.Whole.{legal_plan}
 use Rattle.onfi_recall.specs.Searched.{IsSearched}
 use Rattle.onfi_recall.specs.Walks.{AreMore, HasSoMany, IsBetter, IsProved, IsRunOf}
 use Rattle.onfi_recall.specs.Within.{IsGap, IsShownBefore}
@@ -16,13 +17,13 @@ use Rattle.onfi_recall.specs.declared.gap.Gap.{Gap}
 use Rattle.onfi_recall.specs.declared.planning.Searched.{Searched}
 use Rattle.onfi_recall.specs.declared.planning.Walked.{Walked}
 use Rattle.onfi_recall.specs.declared.within.ShownBefore.{ShownBefore}
-use Rattle.onfi_recall.proofs.Tree.{legal_plan}
 
 -- a run doesn't end before what is shown
 shown_first : (x : Position) (best : Best) (tokens : List Token) (e : ℕ) → InLimits x.problem → IsRunOf x best → IsProved x tokens e → e ≤ best.finish
 shown_first x best tokens e limits run p =
-    let s = schedule_of x.problem (run_of x.groups best.steps.items) in
-    let l = legal_plan x best s limits run refl in
+    let steps = run_of x.groups best.steps.items in
+    let s = schedule_of x.problem steps in
+    let l = legal_plan x.problem steps s best.finish limits.problem run refl in
     let ends = l.1 in
     let le = proved_is_below x.all x.problem tokens e limits.problem limits.small p.proves s l.0 in
     omega arith

@@ -1,8 +1,8 @@
-mod Steps
+pub mod Steps
 mod Closed
 mod Again
 mod Waiting
 mod Between
-mod Node
+pub mod Node
 mod Tree
 mod Gaps

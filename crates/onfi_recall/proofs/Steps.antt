@@ -6,7 +6,8 @@ use Rattle.onfi_problem.specs.declared.moves.Move.{Move as KeptMove}
 use Rattle.onfi_problem.specs.Position.{Position, lun_named, move_of, moved, moves_of}
 use Rattle.onfi_problem.specs.Starts.{IsNamed}
 use Rattle.onfi_problem.proofs.Kept.{lun_there, placed_luns}
-use Rattle.onfi_planner.proofs.Choosing.{item_move, item_named}
+use Rattle.onfi_problem.proofs.Lists.{all_at}
+use Rattle.onfi_planner.proofs.Choosing.{item_move}
 use Rattle.onfi_recall.specs.Steps.{IsStep}
 
 -- its LUN is there
@@ -18,7 +19,7 @@ pub step_at : (x : Position) (items listed : List KeptMove) (i : ℕ) (d : KeptM
 step_at x items listed i d e are named h =
     let are' = subst (λ z. AreMoves x.problem (moves_of x.groups z)) (sym e) are in
     let named' = subst (All (IsNamed x.groups)) (sym e) named in
-    record { move = item_move x.problem x.groups listed i d h are'; named = item_named x.groups listed i d h named' }
+    record { move = item_move x.problem x.groups listed i d h are'; named = all_at (IsNamed x.groups) listed i d h named' }
 
 -- .. also behind the step
 pub there_behind : (x : Position) (m : KeptMove) (lun : ℕ) → IsStep x m → lun ≡ lun_named m → lun < length (moved x m).problem.luns

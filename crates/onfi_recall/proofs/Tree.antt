@@ -8,9 +8,7 @@ use Rattle.onfi_problem.specs.Problem.{Problem}
 use Rattle.onfi_problem.specs.Left.{InLimits}
 use Rattle.onfi_problem.specs.Position.{Position}
 use Rattle.onfi_problem.proofs.Perm.{append_nil}
-use Rattle.onfi_schedule.specs.Schedule.{Schedule, Legal, Optimal, finish}
-use Rattle.onfi_schedule.specs.Runs.{schedule_of}
-use Rattle.onfi_schedule.proofs.RunLegal.{run_legal}
+use Rattle.onfi_schedule.specs.Schedule.{Legal, finish}
 use Rattle.onfi_known.specs.declared.token.Token.{Token}
 use Rattle.onfi_known.specs.Proves.{Proves, ProvesTokens, closed}
 use Rattle.onfi_known.specs.Text.{InRange, IsCertificate, header, line}
@@ -21,7 +19,6 @@ use Rattle.onfi_check.specs.Nodes.{HasMoreNodes, IsOpen}
 use Rattle.onfi_planner.specs.declared.fault.PlanFault.TheVariants.{Over}
 use Rattle.onfi_planner.specs.declared.search.Best.{Best}
 use Rattle.onfi_planner.proofs.Paths.{nodes_none}
-use Rattle.onfi_planner.proofs.Rising.{run_rises}
 use Rattle.onfi_planner.specs.declared.root.Root.{Root}
 use Rattle.onfi_planner.proofs.Beginning.{first_is_run}
 use Rattle.onfi_group.specs.Words.{Pairs}
@@ -33,7 +30,7 @@ use Rattle.onfi_recall.specs.declared.planned.PlannedWithin.{PlannedWithin}
 use Rattle.onfi_recall.specs.declared.search.Shown.{Shown}
 use Rattle.onfi_recall.specs.declared.planning.Searched.{Searched}
 use Rattle.onfi_recall.specs.Searched.{IsSearched}
-use Rattle.onfi_recall.specs.Text.{ProvesText, last_opened, nodes_in}
+use Rattle.onfi_recall.specs.Text.{last_opened, nodes_in}
 use Rattle.onfi_recall.specs.Walks.{AreMore, ClosesBy, HasSoMany, IsAt, IsBegun, IsBetter, IsFound, IsProved, IsRunOf, IsShown, IsTree}
 use Rattle.onfi_recall.specs.Within.{IsShownBefore, IsSought, IsWithin}
 use Rattle.onfi_recall.specs.declared.sought.Sought.{Sought}
@@ -45,9 +42,6 @@ still_better x old new improved f = record {
   run = λ r. elim (cases_Bool improved) [ inl q ↦ f.run q | inr q ↦ subst (IsRunOf x) (sym (f.kept q)) r ];
   found = λ less. elim (cases_Bool improved) [ inl q ↦ f.run q | inr q ↦ (let same = ap (λ (z : Best). z.finish) (f.kept q) in absurd (omega arith)) ];
 }
-
-pub better_same : (x : Position) (best : Best) → IsBetter x best best
-better_same x best = record { sooner = omega arith; run = λ r. r; found = λ less. absurd (omega arith) }
 
 -- the tokens of a walk that found nothing sooner
 walk_proved : (x : Position) (old new : Best) (before behind : Notes) (shown : Shown) → IsShown x old new before.opened before behind shown → before.opened ≡ 0 → before.limit ≤ 1048576 → before.records.nodes.items ≡ [] → before.cert.tokens.items ≡ [] → behind.cut ≡ false → new.finish ≡ before.cert.finish → IsProved x behind.cert.tokens.items new.finish
@@ -109,35 +103,20 @@ text_is x tokens text e p is =
     let (d, behind, proves, few) = p.proves in
     record { some = some_begin e x tokens d behind (begin_of e x.all x.problem [] tokens d behind [] proves); in_range = All-from_recursion InRange tokens p.in_range; spelled = is }
 
-pub text_proves : (x : Position) (tokens : List Token) (text : List ℕ) (e : ℕ) → IsProved x tokens e → text ≡ header x.problem.rules.strict ++ line tokens → ProvesText x text e
-text_proves x tokens text e p is = (tokens, text_is x tokens text e p is, p.proves)
-
--- what the schedule of a run is
-pub legal_plan : (x : Position) (best : Best) (s : Schedule) → InLimits x.problem → IsRunOf x best → s ≡ schedule_of x.problem (run_of x.groups best.steps.items) → Legal x.problem s × (finish x.problem s ≡ best.finish) × AreRising s.groups
-legal_plan x best s limits run e =
-    let l = run_legal (run_of x.groups best.steps.items) x.problem best.finish limits.problem run in
-    (subst (Legal x.problem) (sym e) l.0, ap (finish x.problem) e ∙ l.1, subst (λ (z : Schedule). AreRising z.groups) (sym e) (run_rises (run_of x.groups best.steps.items) x.problem best.finish run))
-
-pub best_plan : (x : Position) (best : Best) (s : Schedule) (tokens : List Token) → InLimits x.problem → IsRunOf x best → IsProved x tokens best.finish → s ≡ schedule_of x.problem (run_of x.groups best.steps.items) → Optimal x.problem s × (finish x.problem s ≡ best.finish) × AreRising s.groups
-best_plan x best s tokens limits run p e =
-    let l = legal_plan x best s limits run e in
-    (proved_is_optimal x.all x.problem s tokens limits.problem limits.small l.0 (subst (ProvesTokens x.all tokens x.problem) (sym l.1) p.proves), l.1, l.2)
-
 -- the plan by a run, where tokens show that nothing ends before a number
-pub within_plan : (x : Position) (best : Best) (shown : ShownBefore) (plan : PlannedWithin) → InLimits x.problem → IsRunOf x best → IsShownBefore x best.finish shown
-    → plan.schedule ≡ schedule_of x.problem (run_of x.groups best.steps.items) → plan.finish ≡ best.finish → plan.below ≡ shown.below → plan.cert.items ≡ header x.problem.rules.strict ++ line shown.tokens.items → IsWithin x plan
-within_plan x best shown plan limits run h is ends below text =
-    let l = legal_plan x best plan.schedule limits run is in
+pub within_plan : (x : Position) (best : Best) (shown : ShownBefore) (plan : PlannedWithin) → InLimits x.problem → Legal x.problem plan.schedule → finish x.problem plan.schedule ≡ best.finish → AreRising plan.schedule.groups → IsShownBefore x best.finish shown
+    → plan.finish ≡ best.finish → plan.below ≡ shown.below → plan.cert.items ≡ header x.problem.rules.strict ++ line shown.tokens.items → IsWithin x plan
+within_plan x best shown plan limits legal is rising h ends below text =
     let le = h.within in
     let proved = subst (IsProved x shown.tokens.items) (sym below) h.proved in
     record {
-      legal = l.0;
-      ends = l.1 ∙ sym ends;
-      rising = l.2;
+      legal = legal;
+      ends = is ∙ sym ends;
+      rising = rising;
       below = omega arith;
-      cert = text_proves x shown.tokens.items plan.cert.items plan.below proved text;
+      cert = (shown.tokens.items, text_is x shown.tokens.items plan.cert.items plan.below proved text, proved.proves);
       greatest = λ less. subst (λ n. IsOpen (n + 1) x.problem) (sym below) (h.greatest (omega arith));
-      optimal = λ e. (best_plan x best plan.schedule shown.tokens.items limits run (subst (IsProved x shown.tokens.items) (e ∙ ends) proved) is).0;
+      optimal = λ e. proved_is_optimal x.all x.problem plan.schedule shown.tokens.items limits.problem limits.small legal (subst (ProvesTokens x.all shown.tokens.items x.problem) (e ∙ (ends ∙ sym is)) proved.proves);
     }
 
 -- a token that closes the root shows what it reaches

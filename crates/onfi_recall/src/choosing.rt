@@ -55,7 +55,7 @@ pub fn best_of_rules(
     ensures sooner { IfOk result (λ best. best.finish ≤ first.finish) }
 {
     let luns_first = schedule_by(alloc, problem, loads, Rule::LunsFirst)?;
-    let mut best = no_later(first, luns_first);
+    let mut best = sooner(luns_first, first);
     for rule in RULES {
         if loads.closing(problem, best.finish).is_some() {
             return Ok(best);
@@ -81,22 +81,11 @@ fn schedule_by(
     Ok(Best { finish, steps })
 }
 
-// The one of two that ends first; the other of equals.
-fn no_later(best: Best, other: Best) -> Best
-    ensures run { (problem : Position) → IsRunOf problem best → IsRunOf problem other → IsRunOf problem result }
-    ensures sooner { result.finish ≤ best.finish }
-{
-    if other.finish <= best.finish {
-        other
-    } else {
-        best
-    }
-}
-
 // The one of two that ends first; the first of equals.
 fn sooner(best: Best, other: Best) -> Best
     ensures run { (problem : Position) → IsRunOf problem best → IsRunOf problem other → IsRunOf problem result }
     ensures sooner { result.finish ≤ best.finish }
+    ensures no_later { result.finish ≤ other.finish }
 {
     if other.finish < best.finish {
         other
@@ -188,17 +177,15 @@ fn rank(problem: &Problem, work: &[u64; 8], rule: Rule, m: Move) -> u64
     let lun = m.lun();
     let wants = started_wants(problem, m);
     match rule {
-        Rule::LunsFirst => rank_of_turn(turn_of(problem, lun, m), wants),
+        // The earlier turn ranks above the later one, and then the more wants.
+        Rule::LunsFirst => turn_of(problem, lun, m)
+            .saturating_mul(16)
+            .saturating_add(wants),
         Rule::Work => work_left(problem, work, lun).saturating_add(wants),
         Rule::FewestWants => work_left(problem, work, lun).saturating_sub(wants),
         Rule::Commands => rank_of_command(is_post(problem, lun), wants, kind_rank(problem, m)),
         Rule::Posts => rank_of_post(is_post(problem, lun), wants),
     }
-}
-
-// The earlier turn ranks above the later one, and then the more wants.
-fn rank_of_turn(turn: u64, wants: u64) -> u64 {
-    turn.saturating_mul(16).saturating_add(wants)
 }
 
 // The turn of a move: the greater the number, the less it fills the bus for what it lets LUNs do.

@@ -1,21 +1,21 @@
 //! The plan of a batch.
 
-ghost use Rattle.std.specs.Prelude.{◌≡◌, ◌+◌, ◌^◌, ℕ, ◌≤◌, ◌<◌, true, false, IfOk, IfErr, OnOk};
-ghost use Rattle.onfi_problem.specs.Left.{InLimits};
+ghost use Rattle.std.specs.Prelude.{◌≡◌, ◌+◌, ℕ, ◌≤◌, ◌<◌, true, false, IfOk, IfErr, OnOk};
 ghost use Rattle.onfi_schedule.specs.Schedule.{Optimal, finish};
 ghost use Rattle.onfi_check.specs.Nodes.{HasMoreNodes};
 ghost use Rattle.onfi_planner.specs.Planning.{AreRising};
 ghost use Rattle.onfi_recall.specs.Text.{HasNodesIn, ProvesText, last_opened, nodes_in};
-ghost use Rattle.onfi_recall.specs.Walks.{AreMore, EndsSooner, HasSoMany, IsBegun, IsBetter, IsProved, IsRunOf, IsTree};
+ghost use Rattle.onfi_recall.specs.Walks.{AreMore, EndsSooner, HasSoMany, IsBegun, IsBetter, IsProved, IsTree};
 ghost use Rattle.onfi_recall.specs.Searched.{IsSearched};
 
 use crate::choosing::best_of_rules;
 use crate::notes::Notes;
 use crate::planned::PlannedKnown;
 use crate::search::search;
+use crate::within::{ShownBefore, best_plan};
 use onfi_bound::Loads;
-use onfi_known::{Token, text_of};
-use onfi_planner::{Best, PlanFault, Root, root_of, schedule_of};
+use onfi_known::Token;
+use onfi_planner::{Best, PlanFault, Root, root_of};
 use onfi_problem::Problem;
 use std::alloc::{AllocError, Global};
 
@@ -47,12 +47,22 @@ pub fn plan_known(alloc: Global, problem: &Problem, limit: u32) -> Result<Planne
     if searched.cut {
         return Err(PlanFault::Over { opened: limit });
     }
-    let (best, tokens) = (&searched.best, searched.tokens.as_slice());
     let (opened, reopened) = (searched.opened, searched.reopened);
-    let Ok(planned) = found_plan(alloc, problem, best, tokens, opened, reopened) else {
+    let Searched { best, tokens, .. } = searched;
+    let shown = ShownBefore {
+        below: best.finish,
+        tokens,
+    };
+    let Ok(plan) = best_plan(alloc, problem, &best, &shown, opened, reopened) else {
         return Err(PlanFault::Memory);
     };
-    Ok(planned)
+    Ok(PlannedKnown {
+        schedule: plan.schedule,
+        finish: plan.finish,
+        cert: plan.cert,
+        opened: plan.opened,
+        reopened: plan.reopened,
+    })
 }
 
 /// What the walks over a problem's tree have found.
@@ -90,17 +100,17 @@ pub fn search_tree(alloc: Global, problem: &Problem, limit: u32) -> Result<Searc
     } = root;
     let found = walk(alloc, &mut at, &loads, &mut best, limit)?;
     let opened = found.opened;
-    if found.cut {
+    if !found.is_outdone() {
         return Ok(Searched {
             loads,
             best,
             tokens: found.tokens,
-            cut: true,
+            cut: found.cut,
             opened,
             reopened: 0,
         });
     }
-    let written = walk_again(alloc, &mut at, &loads, &mut best, found, limit)?;
+    let written = walk_on(alloc, &mut at, &loads, &mut best, limit)?;
     Ok(Searched {
         loads,
         best,
@@ -144,6 +154,7 @@ impl Walked {
     // Whether another walk is due, since the tokens of this one are of a later finish.
     fn is_outdone(&self) -> bool
         ensures outdone { result ≡ true → self.now.improved ≡ true }
+        ensures uncut { result ≡ true → self.now.cut ≡ false }
         ensures stands { result ≡ false → self.now.cut ≡ false → self.now.improved ≡ false }
     {
         self.improved && !self.cut
@@ -208,71 +219,4 @@ pub fn walk_on(
         return walk_on(alloc, at, loads, best, limit);
     }
     Ok(walked)
-}
-
-// Walks once more where a walk that wasn't cut has found a sooner finish, so that the tokens are written for it; tells
-// how many nodes were opened once more.
-fn walk_again(
-    alloc: Global,
-    at: &mut Problem,
-    loads: &Loads,
-    best: &mut Best,
-    found: Walked,
-    limit: u32,
-) -> Result<Walked, AllocError>
-    requires root { IsTree at.old loads.now }
-    requires few { limit ≤ 1048576 }
-    requires proved { found.improved ≡ false → IsProved at.old found.tokens.items best.old.finish }
-    requires counted { found.improved ≡ false → nodes_in found.tokens.items ≡ found.opened }
-    ensures found { OnOk result (IsBetter at.old best.old best.new) }
-    ensures proved { IfOk result (λ walked. walked.cut ≡ false → IsProved at.old walked.tokens.items best.new.finish) }
-    ensures counted { IfOk result (λ walked. walked.cut ≡ false → nodes_in walked.tokens.items ≡ last_opened found.opened walked.opened) }
-    ensures again { IfOk result (λ walked. 1 ≤ walked.opened → found.improved ≡ true) }
-    ensures opened { IfOk result (λ walked. walked.opened ≤ limit) }
-    ensures nodes { IfOk result (λ walked. AreMore at.old.problem best.old.finish walked.opened) }
-    ensures over { IfOk result (λ walked. walked.cut ≡ true → AreMore at.old.problem best.old.finish (limit + 1)) }
-{
-    if found.improved {
-        return walk_on(alloc, at, loads, best, limit);
-    }
-    Ok(Walked {
-        tokens: found.tokens,
-        improved: false,
-        cut: false,
-        opened: 0,
-    })
-}
-
-// The plan by the best schedule, where these tokens show that nothing ends sooner.
-fn found_plan(
-    alloc: Global,
-    problem: &Problem,
-    best: &Best,
-    tokens: &[Token],
-    opened: u32,
-    reopened: u32,
-) -> Result<PlannedKnown, AllocError>
-    requires limits { InLimits problem.now.problem }
-    requires run { IsRunOf problem.now best.now }
-    requires small { best.now.finish < 2 ^ 63 }
-    requires proved { IsProved problem.now tokens.now best.now.finish }
-    requires counted { nodes_in tokens.now ≡ last_opened opened reopened }
-    ensures optimal { IfOk result (λ plan. Optimal problem.now.problem plan.schedule) }
-    ensures finish { IfOk result (λ plan. finish problem.now.problem plan.schedule ≡ plan.finish) }
-    ensures rising { IfOk result (λ plan. AreRising plan.schedule.groups) }
-    ensures cert { IfOk result (λ plan. ProvesText problem.now plan.cert.items plan.finish) }
-    ensures ends { IfOk result (λ plan. plan.finish ≡ best.now.finish) }
-    ensures counted { IfOk result (λ plan. HasNodesIn problem.now.problem plan.cert.items (last_opened opened reopened)) }
-    ensures opened { IfOk result (λ plan. plan.opened ≡ opened) }
-    ensures reopened { IfOk result (λ plan. plan.reopened ≡ reopened) }
-{
-    let schedule = schedule_of(alloc, problem, best.steps.as_slice())?;
-    let cert = text_of(alloc, problem.rules().strict, tokens)?;
-    Ok(PlannedKnown {
-        schedule,
-        finish: best.finish,
-        cert,
-        opened,
-        reopened,
-    })
 }

@@ -1,11 +1,9 @@
 //! The walk that finds the finish, and writes the certificate.
 
 ghost use Rattle.std.specs.Prelude.{◌≡◌, ◌+◌, ◌-◌, ◌≤◌, ◌<◌, true, false, [], ◌∷◌, ◌++◌, List, IfOk, OnOk, length};
-ghost use Rattle.std.specs.List.{AllByRecursion as Each};
 ghost use Rattle.onfi_group.specs.Words.{Has};
-ghost use Rattle.onfi_problem.specs.Moves.{AreMoves, Move as OneMove};
-ghost use Rattle.onfi_problem.specs.Position.{move_of, moves_of};
-ghost use Rattle.onfi_problem.specs.Starts.{IsNamed};
+ghost use Rattle.onfi_problem.specs.Moves.{Move as OneMove};
+ghost use Rattle.onfi_problem.specs.Position.{move_of};
 ghost use Rattle.onfi_check.specs.Nodes.{IsOpen};
 ghost use Rattle.onfi_demand.specs.Demand.{of_bus};
 ghost use Rattle.onfi_demand.specs.Kept.{IsKept};
@@ -82,7 +80,7 @@ pub fn search(
     search_open(problem, loads, best, notes)
 }
 
-// Looks below an open node, which was counted.
+// Looks below each move of an open node, which was counted, and remembers the node unless the walk was cut below it.
 #[cycle(search)]
 fn search_open(
     problem: &mut Problem,
@@ -96,41 +94,18 @@ fn search_open(
     requires is_open { IsOpen best.old.finish problem.old.problem }
     ensures problem { OnOk result (problem.new ≡ problem.old) }
     ensures shown { IfOk result (IsShown problem.old best.old best.new (notes.old.opened - 1) notes.old notes.new) }
+    ensures forgotten { IfOk result (λ _. notes.new.cut ≡ true → length notes.new.records.nodes.items + notes.old.opened ≤ length notes.old.records.nodes.items + notes.new.opened) }
 {
+    let bus_free = problem.bus_free();
     let mut moves = Moves::new();
     problem.list_steps(&mut moves);
     if moves.is_empty() {
-        best.finish = problem.bus_free();
+        best.finish = bus_free;
         best.steps.clear();
         let demand = Demand::of_bus(best.finish);
         let improved = true;
         return Ok(Shown { demand, improved });
     }
-    search_children(problem, loads, &moves, best, notes)
-}
-
-// Looks below each move of an open node, and remembers the node unless the walk was cut below it.
-#[cycle(search)]
-fn search_children(
-    problem: &mut Problem,
-    loads: &Loads,
-    moves: &Moves,
-    best: &mut Best,
-    notes: &mut Notes,
-) -> Result<Shown, AllocError>
-    requires at { IsAt problem.old loads.now best.old notes.old }
-    requires counted { 1 ≤ notes.old.opened }
-    requires uncut { notes.old.cut ≡ false }
-    requires is_open { IsOpen best.old.finish problem.old.problem }
-    requires some { 1 ≤ length moves.now }
-    requires few { length moves.now ≤ 87 }
-    requires moves { AreMoves problem.old.problem (moves_of problem.old.groups moves.now) }
-    requires named { Each (IsNamed problem.old.groups) moves.now }
-    ensures problem { OnOk result (problem.new ≡ problem.old) }
-    ensures shown { IfOk result (IsShown problem.old best.old best.new (notes.old.opened - 1) notes.old notes.new) }
-    ensures forgotten { IfOk result (λ _. notes.new.cut ≡ true → length notes.new.records.nodes.items + notes.old.opened ≤ length notes.old.records.nodes.items + notes.new.opened) }
-{
-    let _limits = problem.bus_free();
     let listed = moves.as_slice();
     let ends = last_ends(problem, listed);
     let soonest = Soonest::of(problem, &ends);

@@ -7,7 +7,7 @@ ghost use Rattle.onfi_bound.specs.Loads.{AreLoads};
 ghost use Rattle.onfi_check.specs.Nodes.{HasMoreNodes};
 ghost use Rattle.onfi_check.specs.Nodes.{IsOpen};
 ghost use Rattle.onfi_planner.specs.Planning.{AreRising};
-ghost use Rattle.onfi_recall.specs.Text.{ProvesText};
+ghost use Rattle.onfi_recall.specs.Text.{HasNodesIn, ProvesText, nodes_in};
 ghost use Rattle.onfi_recall.specs.Walks.{HasSoMany, IsProved, IsRunOf};
 ghost use Rattle.onfi_recall.specs.Within.{IsShownBefore, IsWithin};
 
@@ -119,8 +119,11 @@ fn shown_by_bounds(
     })
 }
 
-// The plan by a schedule, with what no schedule ends before.
-fn best_plan(
+/// The plan by a schedule, with what no schedule ends before.
+///
+/// # Errors
+/// Only where memory was refused.
+pub fn best_plan(
     alloc: Global,
     problem: &Problem,
     best: &Best,
@@ -135,6 +138,7 @@ fn best_plan(
     ensures plan { IfOk result (IsWithin problem.now) }
     ensures finish { IfOk result (λ plan. plan.finish ≡ best.now.finish) }
     ensures below { IfOk result (λ plan. plan.below ≡ shown.now.below) }
+    ensures counted { IfOk result (λ plan. HasNodesIn problem.now.problem plan.cert.items (nodes_in shown.now.tokens.items)) }
     ensures opened { IfOk result (λ plan. plan.opened ≡ opened) }
     ensures reopened { IfOk result (λ plan. plan.reopened ≡ reopened) }
 {

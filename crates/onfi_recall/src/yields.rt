@@ -1,7 +1,6 @@
 //! Which moves yield.
 
 ghost use Rattle.std.specs.Prelude.{◌≡◌, ◌-◌, ◌^◌, ◌<◌, ℕ, true, false, max, length, slice_index, slice_index_or};
-ghost use Rattle.onfi_problem.specs.Moves.{may_go};
 ghost use Rattle.onfi_recall.specs.Walks.{Awaits, later_of, wait_for};
 
 use onfi_cert::LunNumber;

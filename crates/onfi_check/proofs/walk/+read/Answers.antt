@@ -1,20 +1,19 @@
-use Rattle.std.proofs.Common.{◌≡◌, ◌∷◌, List, get_or, ◌^◌, refl, sym, ap, ◌∙◌, subst, arith}
+use Rattle.std.proofs.Common.{◌∷◌, List, get_or, ◌^◌, refl, sym, ◌∙◌, subst, arith}
 use Rattle.std.proofs.lemmas.Result.{err_from_is_err_and}
 use Rattle.std.specs.List.{AllByRecursion as All}
 use Rattle.onfi_problem.specs.declared.moves.Move.TheVariants.{Next}
 use Rattle.onfi_problem.specs.Moves.{IsMove, AreMoves, after}
 use Rattle.onfi_problem.specs.Position.{Position, move_of, moves_of}
 use Rattle.onfi_problem.specs.Starts.{IsNamed}
-use Rattle.std.specs.Prelude.{OnOk, IfErr}
 use Rattle.onfi_cert.specs.declared.token.Token.{Token}
-use Rattle.onfi_cert.specs.declared.token.Token.TheVariants.{Branch, Bus, Trail, Yield}
+use Rattle.onfi_cert.specs.declared.token.Token.TheVariants.{Branch}
 use Rattle.onfi_bound.specs.Commands.{AreNodeBounds}
 use Rattle.onfi_check.specs.Reading.{Begins, BeginsEach, ReadsChild, RefusesChild}
 use Rattle.onfi_check.specs.Ends.{IsAsked}
 use Rattle.onfi_check.proofs.LastEnds.{move_at}
-use Rattle.onfi_check.proofs.Walking.{lun_there, on_ok, yield_taken, yield_refused, child_taken, child_refused, none_left, fewer_left, begun, one_more_child, refused_child, all_children, closing_taken, closing_refused, branch_width, branch_taken, branch_refused}
-use Rattle.onfi_check.specs.Faults.{FaultFits, IsBranch}
-use Rattle.onfi_check.proofs.Placing.{err_behind, err_each, err_here, err_yield, few_on, fits_behind, here, ok_more, read_more, read_none, read_one}
+use Rattle.onfi_check.proofs.Walking.{lun_there, on_ok, yield_taken, yield_refused, child_taken, child_refused, none_left, begun, one_more_child, refused_child, all_children, closing_taken, closing_refused, branch_width, branch_taken, branch_refused}
+use Rattle.onfi_check.specs.Faults.{IsBranch}
+use Rattle.onfi_check.proofs.Placing.{err_behind, err_yield, few_on, fits_behind, here, leaf_closes, ok_more, read_more, read_none, read_one}
 use Rattle.onfi_check.proofs.walk.+read.Goals as goal
 use Rattle.onfi_bound.proofs.Steps.{all_at}
 
@@ -57,62 +56,33 @@ read_child-returns-in-Yield-clause-kind g t c =
     err_yield c.take_yield.result c.args.standing.now c.lun.result c.get.result c.args.tokens.now.place c.in-Some.place c.in-Yield.lun c.in-Some.token (g.S.TokenSource.left c.args.tokens.now.source) (g.S.TokenSource.left c.take.new.self.source) (g.S.TokenSource.left c.take.new.self.source)
     c.in-Some.ensures.token c.in-Some.ensures.place c.in-Yield.is c.take_yield.ensures.kind
 
-pub read_child-returns-in_default-token : goal.read_child-returns-in_default-token
-read_child-returns-in_default-token g t c =
-    let p = c.args.problem.now.problem in
-    let all = moves_of c.args.problem.now.groups c.args.moves.now in
-    let m = move_of c.args.problem.now.groups c.args.m in
-    let tokens = g.S.TokenSource.left c.args.tokens.now.source in
-    let left = g.S.TokenSource.left c.take.new.self.source in
-    let next = g.S.TokenSource.left c.read_below.new.tokens.source in
-    record {
-      problem = c.read_below.ensures.problem;
-      fewer = fewer_left tokens left next c.in-Some.token c.read_below.result c.in-Some.ensures.token c.read_below.ensures.fewer;
-      read = ok_more c.read_below.result c.args.tokens.now.place c.take.new.self.place c.read_below.new.tokens.place tokens left next (read_one c.args.tokens.now.place c.take.new.self.place tokens left c.in-Some.token c.in-Some.ensures.token c.in-Some.ensures.next) c.read_below.ensures.read;
-      behind = c.read_below.ensures.behind ∙ c.take.ensures.behind;
-      asked = c.requires.asked;
-      ok = child_taken p c.args.e all m c.args.standing.now tokens left next c.in-Some.token c.read_below.result c.in-Some.ensures.token c.read_below.ensures.ok;
-      err = child_refused p c.args.e all m c.args.standing.now tokens left c.in-Some.token c.read_below.result c.in-Some.ensures.token c.in_default-token.not-Yield c.read_below.ensures.err;
-      kind = err_here c.read_below.result c.args.tokens.now.place c.in-Some.place c.in-Some.token tokens left next c.in-Some.ensures.token c.in-Some.ensures.place c.read_below.ensures.kind;
-    }
+pub read_child-returns-in_default-token-clause-read : goal.read_child-returns-in_default-token-clause-read
+read_child-returns-in_default-token-clause-read g t c =
+    ok_more c.read_below.result c.args.tokens.now.place c.take.new.self.place c.read_below.new.tokens.place _ (g.S.TokenSource.left c.take.new.self.source) _ (read_one c.args.tokens.now.place c.take.new.self.place _ _ c.in-Some.token c.in-Some.ensures.token c.in-Some.ensures.next) c.read_below.ensures.read
 
-pub read_child-returns-in-Bus : goal.read_child-returns-in-Bus
-read_child-returns-in-Bus g t c =
-    let p = c.args.problem.now.problem in
-    let all = moves_of c.args.problem.now.groups c.args.moves.now in
-    let m = move_of c.args.problem.now.groups c.args.m in
-    let tokens = g.S.TokenSource.left c.args.tokens.now.source in
-    let left = g.S.TokenSource.left c.take.new.self.source in
-    let first = c.in-Some.ensures.token ∙ ap (λ z. z ∷ left) c.in-Bus.is in
-    record {
-      problem = on_ok c.read_bus.result refl;
-      fewer = fewer_left tokens left left Bus c.read_bus.result first (on_ok c.read_bus.result (omega arith));
-      read = on_ok c.read_bus.result (read_one c.args.tokens.now.place c.take.new.self.place tokens left Bus first c.in-Some.ensures.next);
-      behind = c.take.ensures.behind;
-      asked = c.requires.asked;
-      ok = child_taken p c.args.e all m c.args.standing.now tokens left left Bus c.read_bus.result first (closing_taken (after p m) c.args.e Bus left c.read_bus.result c.read_bus.ensures.ok);
-      err = child_refused p c.args.e all m c.args.standing.now tokens left Bus c.read_bus.result first (λ l q. let k : Bus ≡ Yield l = q in cc) (closing_refused (after p m) c.args.e Bus left c.read_bus.result (λ w q. let k : Bus ≡ Branch w = q in cc) c.read_bus.ensures.err);
-      kind = err_here c.read_bus.result c.args.tokens.now.place c.in-Some.place Bus tokens left left first c.in-Some.ensures.place (err_each c.read_bus.result c.in-Some.place Bus left left c.read_bus.ensures.kind);
-    }
+pub read_child-returns-in_default-token-clause-ok : goal.read_child-returns-in_default-token-clause-ok
+read_child-returns-in_default-token-clause-ok g t c = child_taken c.args.problem.now.problem c.args.e _ _ c.args.standing.now _ _ _ c.in-Some.token c.read_below.result c.in-Some.ensures.token c.read_below.ensures.ok
 
-pub read_child-returns-in-Trail : goal.read_child-returns-in-Trail
-read_child-returns-in-Trail g t c =
+pub read_child-returns-in_default-token-clause-err : goal.read_child-returns-in_default-token-clause-err
+read_child-returns-in_default-token-clause-err g t c = child_refused c.args.problem.now.problem c.args.e _ _ c.args.standing.now _ _ c.in-Some.token c.read_below.result c.in-Some.ensures.token c.in_default-token.not-Yield c.read_below.ensures.err
+
+pub read_child-returns-in-Bus-clause-read : goal.read_child-returns-in-Bus-clause-read
+read_child-returns-in-Bus-clause-read g t c = on_ok c.read_leaf.result (read_one c.args.tokens.now.place c.take.new.self.place _ _ c.in-Some.token c.in-Some.ensures.token c.in-Some.ensures.next)
+
+pub read_child-returns-in-Bus-clause-ok : goal.read_child-returns-in-Bus-clause-ok
+read_child-returns-in-Bus-clause-ok g t c =
     let p = c.args.problem.now.problem in
-    let all = moves_of c.args.problem.now.groups c.args.moves.now in
     let m = move_of c.args.problem.now.groups c.args.m in
-    let tokens = g.S.TokenSource.left c.args.tokens.now.source in
     let left = g.S.TokenSource.left c.take.new.self.source in
-    let first = c.in-Some.ensures.token ∙ ap (λ z. z ∷ left) c.in-Trail.is in
-    record {
-      problem = on_ok c.read_trail.result refl;
-      fewer = fewer_left tokens left left Trail c.read_trail.result first (on_ok c.read_trail.result (omega arith));
-      read = on_ok c.read_trail.result (read_one c.args.tokens.now.place c.take.new.self.place tokens left Trail first c.in-Some.ensures.next);
-      behind = c.take.ensures.behind;
-      asked = c.requires.asked;
-      ok = child_taken p c.args.e all m c.args.standing.now tokens left left Trail c.read_trail.result first (closing_taken (after p m) c.args.e Trail left c.read_trail.result c.read_trail.ensures.ok);
-      err = child_refused p c.args.e all m c.args.standing.now tokens left Trail c.read_trail.result first (λ l q. let k : Trail ≡ Yield l = q in cc) (closing_refused (after p m) c.args.e Trail left c.read_trail.result (λ w q. let k : Trail ≡ Branch w = q in cc) c.read_trail.ensures.err);
-      kind = err_here c.read_trail.result c.args.tokens.now.place c.in-Some.place Trail tokens left left first c.in-Some.ensures.place (err_each c.read_trail.result c.in-Some.place Trail left left c.read_trail.ensures.kind);
-    }
+    child_taken p c.args.e _ m c.args.standing.now _ left left c.in-Some.token c.read_leaf.result c.in-Some.ensures.token (closing_taken (after p m) c.args.e c.in-Some.token left c.read_leaf.result c.read_leaf.ensures.ok)
+
+pub read_child-returns-in-Bus-clause-err : goal.read_child-returns-in-Bus-clause-err
+read_child-returns-in-Bus-clause-err g t c =
+    let p = c.args.problem.now.problem in
+    let m = move_of c.args.problem.now.groups c.args.m in
+    let left = g.S.TokenSource.left c.take.new.self.source in
+    let closes = leaf_closes c.in-Some.token c.in-Bus.is in
+    child_refused p c.args.e _ m c.args.standing.now _ left c.in-Some.token c.read_leaf.result c.in-Some.ensures.token closes.0 (closing_refused (after p m) c.args.e c.in-Some.token left c.read_leaf.result closes.1 c.read_leaf.ensures.err)
 
 pub read_children-loop-m-init : goal.read_children-loop-m-init
 read_children-loop-m-init g t c =
@@ -208,34 +178,20 @@ read_children-returns-clause-ok g t c =
 pub read_children-returns-clause-read : goal.read_children-returns-clause-read
 read_children-returns-clause-read g t c = c.loop-m.invariant.read
 
-pub read_tree-returns-in-Branch : goal.read_tree-returns-in-Branch
-read_tree-returns-in-Branch g t c =
-    let p = c.args.problem.now.problem in
-    let left = g.S.TokenSource.left c.args.tokens.now.source in
-    let next = g.S.TokenSource.left c.read_branch.new.tokens.source in
-    record {
-      problem = c.read_branch.ensures.problem;
-      fewer = c.read_branch.ensures.fewer;
-      read = c.read_branch.ensures.read;
-      behind = c.read_branch.ensures.behind;
-      ok = subst (λ z. OnOk c.read_branch.result (Begins p c.args.e (z ∷ left) next)) (sym c.in-Branch.is) c.read_branch.ensures.ok;
-      err = subst (λ z. IfErr c.read_branch.result (λ _. (rest : List Token) → Begins p c.args.e (z ∷ left) rest → ⊥)) (sym c.in-Branch.is) c.read_branch.ensures.err;
-      kind = subst (λ z. IfErr c.read_branch.result (FaultFits c.args.place (z ∷ left) next)) (sym c.in-Branch.is) c.read_branch.ensures.kind;
-    }
+pub read_tree-returns-in-Branch-clause-ok : goal.read_tree-returns-in-Branch-clause-ok
+read_tree-returns-in-Branch-clause-ok g t c = rw c.in-Branch.is c.read_branch.ensures.ok
 
-pub read_tree-returns-in_default : goal.read_tree-returns-in_default
-read_tree-returns-in_default g t c =
-    let p = c.args.problem.now.problem in
-    let left = g.S.TokenSource.left c.args.tokens.now.source in
-    record {
-      problem = on_ok c.read_closing.result refl;
-      fewer = on_ok c.read_closing.result (omega arith);
-      read = on_ok c.read_closing.result (read_none c.args.tokens.now.place left);
-      behind = refl;
-      ok = closing_taken p c.args.e c.args.token left c.read_closing.result c.read_closing.ensures.ok;
-      err = closing_refused p c.args.e c.args.token left c.read_closing.result c.in_default.not-Branch c.read_closing.ensures.err;
-      kind = err_each c.read_closing.result c.args.place c.args.token left left c.read_closing.ensures.kind;
-    }
+pub read_tree-returns-in-Branch-clause-err : goal.read_tree-returns-in-Branch-clause-err
+read_tree-returns-in-Branch-clause-err g t c = rw c.in-Branch.is c.read_branch.ensures.err
+
+pub read_tree-returns-in-Branch-clause-kind : goal.read_tree-returns-in-Branch-clause-kind
+read_tree-returns-in-Branch-clause-kind g t c = rw c.in-Branch.is c.read_branch.ensures.kind
+
+pub read_tree-returns-in_default-clause-ok : goal.read_tree-returns-in_default-clause-ok
+read_tree-returns-in_default-clause-ok g t c = closing_taken c.args.problem.now.problem c.args.e c.args.token _ c.read_closing.result c.read_closing.ensures.ok
+
+pub read_tree-returns-in_default-clause-err : goal.read_tree-returns-in_default-clause-err
+read_tree-returns-in_default-clause-err g t c = closing_refused c.args.problem.now.problem c.args.e c.args.token _ c.read_closing.result c.in_default.not-Branch c.read_closing.ensures.err
 
 pub read_branch-returns-then-len-get-clause-err : goal.read_branch-returns-then-len-get-clause-err
 read_branch-returns-then-len-get-clause-err g t c = λ rest b.

@@ -1,5 +1,4 @@
 use Rattle.std.proofs.Common.{◌≡◌, get_or, sym, ap, subst, arith}
-use Rattle.std.specs.List.{AllByRecursion as All}
 use Rattle.std.proofs.lemmas.Bool.{eqb-true}
 use Rattle.onfi_problem.specs.Moves.{after}
 use Rattle.onfi_problem.specs.declared.moves.Move.TheVariants.{Next}
@@ -7,8 +6,9 @@ use Rattle.onfi_problem.specs.Position.{Position, move_of}
 use Rattle.onfi_bound.proofs.BusWork.{work_after}
 use Rattle.onfi_planner.specs.Planning.{work}
 use Rattle.onfi_recall.specs.Steps.{IsStep}
+use Rattle.onfi_recall.proofs.Steps.{step_at}
 use Rattle.onfi_early.specs.Steps.{IsWalk}
-use Rattle.onfi_early.proofs.Found.{are_steps, at_end, step_at, walk_moved}
+use Rattle.onfi_early.proofs.Found.{at_end, walk_moved}
 use Rattle.onfi_early.proofs.walk.+search.Goals as goal
 
 pub search-returns-clause-found : goal.search-returns-clause-found
@@ -20,8 +20,7 @@ search_children-visit-requires t c =
     let x = c.args.problem.now in
     let items = c.as_slice-listed.result.now in
     let e = sym c.loop.invariant.problem in
-    let steps = subst (All (IsStep x)) (sym c.as_slice-listed.ensures.value) (are_steps x c.args.moves.now c.requires.moves.moves_only c.requires.named) in
-    let step = step_at x items c.in-Some.at (Next 0) steps c.in-Some.ensures in
+    let step = step_at x c.args.moves.now items c.in-Some.at (Next 0) c.as_slice-listed.ensures.value c.requires.moves c.requires.named c.in-Some.ensures in
     let w : work c.loop.problem.problem ≡ work x.problem = ap (λ (z : Position). work z.problem) c.loop.invariant.problem in
     (omega (arith, c.decreases, w), (subst (λ (z : Position). IsWalk z c.args.loads.now) e c.requires.walk, subst (λ (z : Position). IsStep z (get_or items c.in-Some.at (Next 0))) e step))
 

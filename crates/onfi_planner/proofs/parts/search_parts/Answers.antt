@@ -3,10 +3,11 @@ use Rattle.std.specs.List.{AllByRecursion as All}
 use Rattle.onfi_problem.specs.Moves.{IsMove}
 use Rattle.onfi_problem.specs.Position.{move_of}
 use Rattle.onfi_problem.specs.Starts.{IsNamed}
+use Rattle.onfi_problem.proofs.Lists.{All-map}
 use Rattle.onfi_problem.proofs.Perm.{All-has}
 use Rattle.onfi_planner.specs.Planning.{run_of}
 use Rattle.onfi_planner.proofs.Halfway.{closed_by, open_node, steps_same}
-use Rattle.onfi_planner.proofs.Splitting.{closed_found, closed_opens, closed_parts, moves_each, parts_all, parts_few, found_length, found_within, part_over, Split, split_made, split_found, split_opens, split_over, split_parts}
+use Rattle.onfi_planner.proofs.Splitting.{closed_found, closed_opens, closed_parts, parts_all, parts_few, found_length, found_within, part_over, Split, split_made, split_found, split_opens, split_over, split_parts}
 use Rattle.onfi_planner.proofs.parts.search_parts.Given.{Over}
 use Rattle.onfi_planner.proofs.parts.search_parts.Goals.{In-Ok-search_each}
 use Rattle.onfi_planner.proofs.parts.search_parts.Goals as goal
@@ -26,7 +27,7 @@ search_each-requires-clause-moves g c = λ _ _.
     let items = c.as_slice.result.now in
     let are = steps_same x items _ c.as_slice.ensures.value c.steps-moves.ensures.moves in
     let (yields, ay, parts) = c.in-Ok.ensures in
-    subst (All (λ m. IsMove x.problem (move_of x.groups m))) (sym (c.as_slice-2.ensures.value ∙ parts)) (parts_all _ yields items (moves_each x items are.moves_only))
+    subst (All (λ m. IsMove x.problem (move_of x.groups m))) (sym (c.as_slice-2.ensures.value ∙ parts)) (parts_all _ yields items (All-map (move_of x.groups) (IsMove x.problem) items are.moves_only))
 
 pub search_each-requires-clause-named : goal.search_each-requires-clause-named
 search_each-requires-clause-named g c = λ _ _.
@@ -43,7 +44,7 @@ returns-in-Err-Over-clause-over g c = λ n e.
     let are = steps_same x items _ c.as_slice.ensures.value c.steps-moves.ensures.moves in
     let (yields, ay, parts) = c.in-Ok.ensures in
     let first = c.args.root.now.best in
-    let moves = subst (All (λ m. IsMove x.problem (move_of x.groups m))) (sym (c.as_slice-2.ensures.value ∙ parts)) (parts_all _ yields items (moves_each x items are.moves_only)) in
+    let moves = subst (All (λ m. IsMove x.problem (move_of x.groups m))) (sym (c.as_slice-2.ensures.value ∙ parts)) (parts_all _ yields items (All-map (move_of x.groups) (IsMove x.problem) items are.moves_only)) in
     let (m, has, over) = c.in-Err-Over.ensures.over c.in-Err-Over.field-0-is in
     let opens = open_node x first.finish c.closing_token.result _ (sym c.if-is_some.ensures) c.closing_token.ensures in
     let told : n ≡ c.args.limit = cc in

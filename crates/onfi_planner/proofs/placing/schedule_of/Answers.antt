@@ -4,6 +4,8 @@ use Rattle.onfi_problem.specs.declared.moves.Move.TheVariants.{Next}
 use Rattle.onfi_schedule.specs.Schedule.{Schedule}
 use Rattle.onfi_schedule.specs.Runs.{empty}
 use Rattle.onfi_planner.specs.declared.search.Begun.{Begun}
+use Rattle.onfi_planner.specs.Planning.{run_of}
+use Rattle.onfi_planner.proofs.Whole.{legal_plan}
 use Rattle.onfi_planner.proofs.Stacking.{Fits, none_placed, next_fits, start_fits, start_some, next_stacked, start_stacked, stacked_all}
 use Rattle.onfi_planner.proofs.placing.schedule_of.Goals as goal
 use Rattle.onfi_planner.proofs.placing.schedule_of.Goals.{After-lun-lun, in-Next, in-Start+in_ok-insert-in-Start}
@@ -54,4 +56,12 @@ loop-begun-preserved c =
 pub returns : goal.returns
 returns c =
     let x = c.args.problem.now in
-    stacked_all x.problem x.groups c.args.steps.now c.loop-begun.begun-index c.requires.run.0 (record { rest = c.loop-begun.rest.items; groups = c.loop-begun.groups.items }) c.new-2.result c.requires.run.2 c.loop-begun-test.false c.loop-begun.invariant c.new-2.ensures.rest c.new-2.ensures.groups
+    let steps = run_of x.groups c.args.steps.now in
+    let is = stacked_all x.problem x.groups c.args.steps.now c.loop-begun.begun-index c.requires.run.0 (record { rest = c.loop-begun.rest.items; groups = c.loop-begun.groups.items }) c.new-2.result c.requires.run.2 c.loop-begun-test.false c.loop-begun.invariant c.new-2.ensures.rest c.new-2.ensures.groups in
+    let plan = legal_plan x.problem steps c.new-2.result in
+    record {
+      is = is;
+      legal = (plan c.requires.run.0 c.requires.limits.problem c.requires.run.2 is).0;
+      rising = (plan c.requires.run.0 c.requires.limits.problem c.requires.run.2 is).2;
+      finish = λ f run. (plan f c.requires.limits.problem run is).1;
+    }

@@ -2,22 +2,19 @@ use Rattle.std.proofs.Common.{◌≡◌, ◌≤◌, ◌∙◌, sym, subst}
 use Rattle.onfi_problem.specs.Position.{Position}
 use Rattle.onfi_bound.specs.Bounds.{bus}
 use Rattle.onfi_check.specs.Nodes.{OpensNodes}
-use Rattle.onfi_planner.proofs.Whole.{root_ready, found, nodes_opened, some_opened, more_nodes}
+use Rattle.onfi_planner.proofs.Whole.{root_found, nodes_opened, some_opened, more_nodes}
 use Rattle.onfi_planner.proofs.planning.plan.Goals as goal
 
 pub write-requires-clause-bus : goal.write-requires-clause-bus
 write-requires-clause-bus c = subst (λ (z : Position). c.bus-bus_bound.result ≡ bus z.problem) (sym c.in-Ok-search.ensures.problem) c.bus-bus_bound.ensures.value
 
 pub found_plan-requires-clause-found : goal.found_plan-requires-clause-found
-found_plan-requires-clause-found c =
-    let r = root_ready c.args.problem.now c.in-Ok.root c.in-Ok.ensures in
-    found c.args.problem.now c.in-Ok.root.problem c.in-Ok.root.best c.search.new.best c.in-Ok-search.field-0 r c.in-Ok-search.ensures.found
+found_plan-requires-clause-found c = root_found c.args.problem.now c.in-Ok.root c.search.new.best c.in-Ok-search.field-0 c.in-Ok.ensures c.in-Ok-search.ensures.found
 
 pub returns-clause-opened : goal.returns-clause-opened
 returns-clause-opened c =
-    let r = root_ready c.args.problem.now c.in-Ok.root c.in-Ok.ensures in
     let plan = c.in-Ok-found_plan.planned in
-    let n = nodes_opened c.args.problem.now c.in-Ok.root.problem c.in-Ok.root.best c.search.new.best.finish c.search.new.opened r c.in-Ok-search.ensures.opened in
+    let n = nodes_opened c.args.problem.now c.in-Ok.root c.search.new.best.finish c.search.new.opened c.in-Ok.ensures c.in-Ok-search.ensures.opened in
     subst (λ e. OpensNodes c.args.problem.now.problem e plan.opened) (sym c.in-Ok-found_plan.ensures.ends) (subst (OpensNodes c.args.problem.now.problem c.search.new.best.finish) (sym c.in-Ok-found_plan.ensures.opened) n)
 
 pub returns-clause-some_opened : goal.returns-clause-some_opened
@@ -25,8 +22,7 @@ returns-clause-some_opened c = subst (λ n. 1 ≤ n) (sym c.in-Ok-found_plan.ens
 
 pub returns-in-Err-Over-clause-over : goal.returns-in-Err-Over-clause-over
 returns-in-Err-Over-clause-over c = λ opened e.
-    let r = root_ready c.args.problem.now c.in-Ok.root c.in-Ok.ensures in
     let over = c.in-Err-Over.ensures.over c.in-Err-Over.field-0-is in
-    let more = more_nodes c.args.problem.now c.in-Ok.root.problem c.in-Ok.root.best c.search.new.opened c.args.limit r over in
+    let more = more_nodes c.args.problem.now c.in-Ok.root c.search.new.opened c.args.limit c.in-Ok.ensures over in
     let same : c.search.new.opened ≡ opened = cc in
     (sym same ∙ more.0, more.1)

@@ -1,7 +1,6 @@
 use Rattle.std.proofs.Common.{◌≡◌, true, false, length, get_or, arith, sym, ◌∙◌, subst, ap, refl, ◌<◌}
 use Rattle.std.specs.Prelude.{◌==◌}
 use Rattle.std.specs.List.{AllByRecursion as All}
-use Rattle.std.proofs.lemmas.List.{get_or_default}
 use Rattle.std.proofs.lemmas.Bool.{eqb-true, false≢true}
 use Rattle.std.proofs.lemmas.Result.{err_from_is_err_and}
 use Rattle.onfi_problem.specs.Moves.{IsMove, move_lun, after}
@@ -16,7 +15,10 @@ use Rattle.onfi_check.specs.Tree.{ByBus, Closed}
 use Rattle.onfi_check.proofs.Sound.{sound}
 use Rattle.onfi_planner.specs.declared.search.Best.{Best}
 use Rattle.onfi_planner.specs.Planning.{work, IsOver, Bounded, HasOpened, run_of}
-use Rattle.onfi_planner.proofs.Halfway.{step_of_lun, yields_some, one_over, one_opened, closed_node, closed_by, closed_at_end, open_node, done_node, step_moves, given_up, skipped, visited, ended, ended_count, steps_same, not_empty, luns_of, luns_small, lun_in, started}
+use Rattle.onfi_planner.proofs.Halfway.{yields_some, one_over, one_opened, closed_node, closed_by, closed_at_end, open_node, done_node, given_up, skipped, visited, ended, ended_count, steps_same, listed, some_items, started}
+use Rattle.onfi_check.proofs.LastEnds.{move_at}
+use Rattle.onfi_problem.specs.Starts.{IsNamed}
+use Rattle.onfi_problem.proofs.Lists.{all_at}
 use Rattle.onfi_planner.proofs.Below.{handed_back}
 use Rattle.onfi_bound.proofs.BusWork.{work_after}
 use Rattle.onfi_problem.proofs.Limits.{after_limits}
@@ -45,10 +47,10 @@ pub search-visit-requires : goal.search-visit-requires
 search-visit-requires t c =
     let x = c.args.problem.now in
     let items = c.as_slice-steps.result.now in
-    let are = steps_same x items _ c.as_slice-steps.ensures.value c.list_steps.ensures.moves in
-    let luns = subst (λ z. All (λ s. move_lun (move_of x.groups s) ≡ lun_named s) z) (sym c.as_slice-steps.ensures.value) (luns_of x.groups c.list_steps.new.moves c.list_steps.ensures.named) in
     let e = c.loop-step.invariant.problem in
-    let m = step_moves x items c.loop-step.step-index (get_or items c.loop-step.step-index (Next 0)) are luns (get_or_default items c.loop-step.step-index (Next 0) _ c.loop-step-test.true) c.loop-step-test.true in
+    let all = c.loop-step.invariant.listed in
+    let m = move_at x.problem x.groups items c.loop-step.step-index (Next 0) c.loop-step-test.true all.are.moves_only in
+    let named = all_at (IsNamed x.groups) items c.loop-step.step-index (Next 0) c.loop-step-test.true all.named in
     let w : work c.loop-step.problem.problem ≡ work x.problem = ap (λ (z : Position). work z.problem) e in (
       omega (arith, c.decreases, w),
       (
@@ -61,7 +63,7 @@ search-visit-requires t c =
               c.loop-step.invariant.half.within,
               (
                 subst (λ (z : Position). IsMove z.problem (move_of z.groups (get_or items c.loop-step.step-index (Next 0)))) (sym e) m,
-                subst (λ (z : Position). move_lun (move_of z.groups (get_or items c.loop-step.step-index (Next 0))) ≡ lun_named (get_or items c.loop-step.step-index (Next 0))) (sym e) (step_of_lun x items c.loop-step.step-index (get_or items c.loop-step.step-index (Next 0)) are luns (get_or_default items c.loop-step.step-index (Next 0) _ c.loop-step-test.true) c.loop-step-test.true),
+                subst (λ (z : Position). move_lun (move_of z.groups (get_or items c.loop-step.step-index (Next 0))) ≡ lun_named (get_or items c.loop-step.step-index (Next 0))) (sym e) named.lun,
               ),
             ),
           ),
@@ -76,10 +78,7 @@ search-returns-in_err-visit-clause-over t c =
     let items = c.as_slice-steps.result.now in
     let i = c.loop-step.step-index in
     let s = get_or items i (Next 0) in
-    let are = steps_same x items _ c.as_slice-steps.ensures.value c.list_steps.ensures.moves in
-    let luns = subst (λ z. All (λ s. move_lun (move_of x.groups s) ≡ lun_named s) z) (sym c.as_slice-steps.ensures.value) (luns_of x.groups c.list_steps.new.moves c.list_steps.ensures.named) in
-    let o = open_node x c.args.best.now.finish c.closing_token.result _ (sym c.if-is_some.ensures) c.closing_token.ensures in
-    rw (p.1, p.2) (λ q. given_up x items c.yields_of-yields.result i c.args.best.now c.loop-step.best c.loop-step.improved c.args.opened.now c.loop-step.opened c.visit.new.opened c.args.limit s are luns (get_or_default items i (Next 0) s c.loop-step-test.true) c.loop-step-test.true o c.loop-step.invariant.half
+    rw (p.1, p.2) (λ q. given_up x items c.yields_of-yields.result i c.args.best.now c.loop-step.best c.loop-step.improved c.args.opened.now c.loop-step.opened c.visit.new.opened c.args.limit (Next 0) c.loop-step.invariant.listed c.loop-step.invariant.open_at c.loop-step-test.true c.loop-step.invariant.half
     (subst (λ (z : Position). IsOver (moved z s).problem c.loop-step.best.finish c.loop-step.opened c.visit.new.opened c.args.limit) c.loop-step.invariant.problem (c.in_err-visit.ensures.over q)))
 
 pub search-loop-step-preserved-then-is_some-2 : goal.search-loop-step-preserved-then-is_some-2
@@ -88,15 +87,14 @@ search-loop-step-preserved-then-is_some-2 t c =
     let items = c.as_slice-steps.result.now in
     let i = c.loop-step.step-index in
     let s = get_or items i (Next 0) in
-    let are = steps_same x items _ c.as_slice-steps.ensures.value c.list_steps.ensures.moves in
-    let luns = subst (λ z. All (λ s. move_lun (move_of x.groups s) ≡ lun_named s) z) (sym c.as_slice-steps.ensures.value) (luns_of x.groups c.list_steps.new.moves c.list_steps.ensures.named) in
-    let here = get_or_default items i (Next 0) s c.loop-step-test.true in
     let h = c.loop-step.invariant.half in
     let e = c.loop-step.invariant.problem in
     let l = yields_some c.yields_of-yields.result c.lun.result (lun_named s) c.lun.ensures (sym c.if-is_some-2.ensures) in
     record {
       problem = e;
-      half = skipped x items c.yields_of-yields.result i c.args.best.now c.loop-step.best c.loop-step.improved c.args.opened.now c.loop-step.opened c.args.limit l.0 s are luns here c.loop-step-test.true l.1 h;
+      listed = c.loop-step.invariant.listed;
+      open_at = c.loop-step.invariant.open_at;
+      half = skipped x items c.yields_of-yields.result i c.args.best.now c.loop-step.best c.loop-step.improved c.args.opened.now c.loop-step.opened c.args.limit l.0 (Next 0) c.loop-step.invariant.listed c.loop-step-test.true l.1 h;
     }
 
 pub search-loop-step-preserved : goal.search-loop-step-preserved
@@ -105,12 +103,10 @@ search-loop-step-preserved t c =
     let items = c.as_slice-steps.result.now in
     let i = c.loop-step.step-index in
     let s = get_or items i (Next 0) in
-    let are = steps_same x items _ c.as_slice-steps.ensures.value c.list_steps.ensures.moves in
-    let luns = subst (λ z. All (λ s. move_lun (move_of x.groups s) ≡ lun_named s) z) (sym c.as_slice-steps.ensures.value) (luns_of x.groups c.list_steps.new.moves c.list_steps.ensures.named) in
-    let here = get_or_default items i (Next 0) s c.loop-step-test.true in
+    let all = c.loop-step.invariant.listed in
+    let o = c.loop-step.invariant.open_at in
     let h = c.loop-step.invariant.half in
     let e = c.loop-step.invariant.problem in
-    let o = open_node x c.args.best.now.finish c.closing_token.result _ (sym c.if-is_some.ensures) c.closing_token.ensures in
     let v = c.in_ok-visit.ensures in
     let best = c.visit.new.best in
     let least = subst (λ (z : Position). Bounded (moved z s).problem best.finish) e v.least in
@@ -119,7 +115,9 @@ search-loop-step-preserved t c =
       | search-then-branch w ↦ (
           rw w.improved-is (record {
             problem = v.problem ∙ e;
-            half = visited x items c.yields_of-yields.result i c.args.best.now c.loop-step.best best c.loop-step.improved true c.args.opened.now c.loop-step.opened c.visit.new.opened c.args.limit s are luns here c.loop-step-test.true o h
+            listed = all;
+            open_at = o;
+            half = visited x items c.yields_of-yields.result i c.args.best.now c.loop-step.best best c.loop-step.improved true c.args.opened.now c.loop-step.opened c.visit.new.opened c.args.limit (Next 0) all o c.loop-step-test.true h
                 v.sooner least more v.within
                 (λ q. subst (λ (z : Position). Run z.problem (run_of z.groups best.steps.items) best.finish) e (v.run w.if-branch.true))
                 (λ q. absurd (false≢true (sym q)));
@@ -128,7 +126,9 @@ search-loop-step-preserved t c =
           let k = v.kept w.if-branch.false in
           rw w.improved-is (record {
             problem = v.problem ∙ e;
-            half = visited x items c.yields_of-yields.result i c.args.best.now c.loop-step.best best c.loop-step.improved c.loop-step.improved c.args.opened.now c.loop-step.opened c.visit.new.opened c.args.limit s are luns here c.loop-step-test.true o h
+            listed = all;
+            open_at = o;
+            half = visited x items c.yields_of-yields.result i c.args.best.now c.loop-step.best best c.loop-step.improved c.loop-step.improved c.args.opened.now c.loop-step.opened c.visit.new.opened c.args.limit (Next 0) all o c.loop-step-test.true h
                 v.sooner least more v.within
                 (λ q. subst (λ (b : Best). Run x.problem (run_of x.groups b.steps.items) b.finish) (sym k) (h.run q))
                 (λ q. k ∙ h.kept q);
@@ -139,17 +139,15 @@ pub search-returns-clause-found : goal.search-returns-clause-found
 search-returns-clause-found t c =
     let x = c.args.problem.now in
     let items = c.as_slice-steps.result.now in
-    let are = steps_same x items _ c.as_slice-steps.ensures.value c.list_steps.ensures.moves in
     let ay = c.yields_of-yields.ensures.yields in
-    ended x items _ _ _ _ _ _ _ _ c.requires.limits.problem are ay (λ q. not_empty items false (c.if-is_empty.ensures ∙ ap (λ z. length z == 0) (sym c.as_slice-steps.ensures.value)) q) c.loop-step-test.false c.loop-step.invariant.half
+    ended x items _ _ _ _ _ _ _ _ c.requires.limits.problem c.loop-step.invariant.listed ay (some_items items (c.if-is_empty.ensures ∙ ap (λ z. length z == 0) (sym c.as_slice-steps.ensures.value))) c.loop-step-test.false c.loop-step.invariant.half
 
 pub search-returns-clause-opened : goal.search-returns-clause-opened
 search-returns-clause-opened t c =
     let x = c.args.problem.now in
     let items = c.as_slice-steps.result.now in
-    let are = steps_same x items _ c.as_slice-steps.ensures.value c.list_steps.ensures.moves in
     let ay = c.yields_of-yields.ensures.yields in
-    ended_count x items _ _ _ _ _ _ _ _ are ay (λ q. not_empty items false (c.if-is_empty.ensures ∙ ap (λ z. length z == 0) (sym c.as_slice-steps.ensures.value)) q) c.loop-step-test.false c.loop-step.invariant.half
+    ended_count x items _ _ _ _ _ _ _ _ c.loop-step.invariant.listed ay (some_items items (c.if-is_empty.ensures ∙ ap (λ z. length z == 0) (sym c.as_slice-steps.ensures.value))) c.loop-step-test.false c.loop-step.invariant.half
 
 pub visit-search-requires : goal.visit-search-requires
 visit-search-requires t c =
@@ -181,16 +179,18 @@ pub visit-returns-in-Ok-clause-problem : goal.visit-returns-in-Ok-clause-problem
 visit-returns-in-Ok-clause-problem t c = handed_back c.args.problem.now _ c.search.new.problem _ c.advance-undo.result c.in_ok-improved.ensures.problem c.advance-undo.ensures.undo c.undo.ensures
 
 pub search-loop-step-init : goal.search-loop-step-init
-search-loop-step-init t c = record { problem = refl; half = started c.args.problem.now c.as_slice-steps.result.now c.yields_of-yields.result c.args.best.now c.args.opened.now c.args.limit (omega (arith, c.if-opened-limit.false)) }
+search-loop-step-init t c = record {
+  problem = refl;
+  listed = listed c.args.problem.now c.as_slice-steps.result.now _ c.as_slice-steps.ensures.value c.list_steps.ensures.moves c.list_steps.ensures.named;
+  open_at = open_node c.args.problem.now c.args.best.now.finish c.closing_token.result _ (sym c.if-is_some.ensures) c.closing_token.ensures;
+  half = started c.args.problem.now c.as_slice-steps.result.now c.yields_of-yields.result c.args.best.now c.args.opened.now c.args.limit (omega (arith, c.if-opened-limit.false));
+}
 
 pub search-last_ends-ends-requires-clause-moves : goal.search-last_ends-ends-requires-clause-moves
 search-last_ends-ends-requires-clause-moves t c = (steps_same c.args.problem.now c.as_slice-steps.result.now _ c.as_slice-steps.ensures.value c.list_steps.ensures.moves).moves_only
 
-pub search-last_ends-ends-requires-clause-luns : goal.search-last_ends-ends-requires-clause-luns
-search-last_ends-ends-requires-clause-luns t c = subst (λ z. All (λ s. move_lun (move_of c.args.problem.now.groups s) ≡ lun_named s) z) (sym c.as_slice-steps.ensures.value) (luns_of c.args.problem.now.groups c.list_steps.new.moves c.list_steps.ensures.named)
-
-pub search-last_ends-ends-requires-clause-few : goal.search-last_ends-ends-requires-clause-few
-search-last_ends-ends-requires-clause-few t c = subst (λ z. All (λ s. lun_named s < 8) z) (sym c.as_slice-steps.ensures.value) (luns_small c.args.problem.now.groups c.list_steps.new.moves c.list_steps.ensures.named)
+pub search-last_ends-ends-requires-clause-named : goal.search-last_ends-ends-requires-clause-named
+search-last_ends-ends-requires-clause-named t c = subst (All (IsNamed c.args.problem.now.groups)) (sym c.as_slice-steps.ensures.value) c.list_steps.ensures.named
 
 pub search-bounds-yields-lun : goal.search-bounds-yields-lun
-search-bounds-yields-lun t c = lun_in c.args.problem.now.groups c.list_steps.new.moves c.as_slice-steps.result.now c.loop-step.step-index (Next 0) c.lun.result c.as_slice-steps.ensures.value c.list_steps.ensures.named c.lun.ensures c.loop-step-test.true
+search-bounds-yields-lun t c = subst (λ l. l < 8) (sym c.lun.ensures) (all_at (IsNamed c.args.problem.now.groups) c.as_slice-steps.result.now c.loop-step.step-index (Next 0) c.loop-step-test.true c.loop-step.invariant.listed.named).few

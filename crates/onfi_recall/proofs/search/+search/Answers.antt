@@ -18,7 +18,8 @@ use Rattle.onfi_planner.specs.Planning.{work}
 use Rattle.onfi_recall.specs.Steps.{IsStep}
 use Rattle.onfi_recall.specs.Walks.{Halfway, IsAt, IsClosing, IsShown, IsSoonest, wait_for}
 use Rattle.onfi_recall.proofs.Steps.{step_at, there_behind}
-use Rattle.onfi_recall.proofs.Between.{at_counted, at_moved, at_start, new_move, still_at, with_child, with_yield}
+use Rattle.onfi_planner.proofs.Halfway.{new_move, some_items}
+use Rattle.onfi_recall.proofs.Between.{at_counted, at_moved, at_start, still_at, with_child, with_yield}
 use Rattle.onfi_recall.proofs.Node.{closed_shown, counted_shown, cut_shown, done_shown, full_shown, node_shown, step_visited}
 use Rattle.onfi_recall.proofs.search.+search.Goals as goal
 
@@ -59,8 +60,8 @@ pub search_child-returns-else-branch-clause-more : goal.search_child-returns-els
 search_child-returns-else-branch-clause-more t c = λ moves firsts first before new h.
     with_child c.args.problem.now moves firsts c.args.soonest.now first c.args.best.now before c.args.notes.now c.args.standing.now h c.args.step c.visit.new.best c.visit.new.notes _ _ c.requires.at.tree.limits.problem c.requires.step.move new c.in_ok-visit.ensures.visited refl (λ q. absurd (false≢true (sym c.if-branch.false ∙ q))) (λ q. refl)
 
-pub search_children-loop-step-init : goal.search_children-loop-step-init
-search_children-loop-step-init t c =
+pub search_open-loop-step-init : goal.search_open-loop-step-init
+search_open-loop-step-init t c =
     let x = c.args.problem.now in
     let items = c.as_slice-listed.result.now in
     let soonest = c.of-soonest.result in
@@ -72,14 +73,14 @@ search_children-loop-step-init t c =
       half = at_start x (moves_of x.groups items) soonest c.args.best.now c.args.notes.now _ c.new-standing.result c.of.result c.requires.is_open is c.requires.at.finish c.requires.counted c.requires.at.within refl refl refl c.write.ensures.finish c.in_ok-write.ensures.tokens (c.of.ensures ∙ sym (map_length x items)) c.new-standing.ensures.asked c.new-standing.ensures.yielded c.new-standing.ensures.improved c.requires.uncut refl;
     }
 
-pub search_children-search_child-requires : goal.search_children-search_child-requires
-search_children-search_child-requires t c =
+pub search_open-search_child-requires : goal.search_open-search_child-requires
+search_open-search_child-requires t c =
     let x = c.args.problem.now in
     let items = c.as_slice-listed.result.now in
     let i = c.loop-step.step-index in
     let e = sym c.loop-step.invariant.problem in
     let half = c.loop-step.invariant.half in
-    let step = step_at x c.args.moves.now items i (Next 0) c.as_slice-listed.ensures.value c.requires.moves c.requires.named c.loop-step-test.true in
+    let step = step_at x c.list_steps.new.moves items i (Next 0) c.as_slice-listed.ensures.value c.list_steps.ensures.moves c.list_steps.ensures.named c.loop-step-test.true in
     let w : work c.loop-step.problem.problem ≡ work x.problem = ap (λ (z : Position). work z.problem) c.loop-step.invariant.problem in (
       omega (arith, c.decreases, w),
       (
@@ -88,8 +89,8 @@ search_children-search_child-requires t c =
       ),
     )
 
-pub search_children-loop-step-preserved : goal.search_children-loop-step-preserved
-search_children-loop-step-preserved t c =
+pub search_open-loop-step-preserved : goal.search_open-loop-step-preserved
+search_open-loop-step-preserved t c =
     let x = c.args.problem.now in
     let items = c.as_slice-listed.result.now in
     let i = c.loop-step.step-index in
@@ -97,7 +98,7 @@ search_children-loop-step-preserved t c =
     let moves = moves_of x.groups items in
     let firsts = moves_of x.groups (take i items) in
     let e = c.loop-step.invariant.problem in
-    let are = subst (λ z. AreMoves x.problem (moves_of x.groups z)) (sym c.as_slice-listed.ensures.value) c.requires.moves in
+    let are = subst (λ z. AreMoves x.problem (moves_of x.groups z)) (sym c.as_slice-listed.ensures.value) c.list_steps.ensures.moves in
     let new = subst (λ (z : Position). Has firsts (move_of z.groups s) → ⊥) (sym e) (new_move x items i (Next 0) are c.loop-step-test.true) in
     let half = subst (λ (z : Position). Halfway z moves firsts c.of-soonest.result c.args.best.now c.loop-step.best c.args.notes.now c.loop-step.notes c.loop-step.standing) (sym e) c.loop-step.invariant.half in
     let more = subst (λ (z : Position). Halfway z moves (firsts ++ move_of z.groups s ∷ []) c.of-soonest.result c.args.best.now c.search_child.new.best c.args.notes.now c.search_child.new.notes c.search_child.new.standing) e (c.in_ok-search_child.ensures.more moves firsts c.args.best.now c.args.notes.now new half) in
@@ -106,22 +107,23 @@ search_children-loop-step-preserved t c =
       half = subst (λ ms. Halfway x moves ms c.of-soonest.result c.args.best.now c.search_child.new.best c.args.notes.now c.search_child.new.notes c.search_child.new.standing) (sym (moves_more x items i (Next 0) c.loop-step-test.true)) more;
     }
 
-pub search_children-returns-clause-shown : goal.search_children-returns-clause-shown
-search_children-returns-clause-shown t c =
+pub search_open-returns-clause-shown : goal.search_open-returns-clause-shown
+search_open-returns-clause-shown t c =
     let x = c.args.problem.now in
     let items = c.as_slice-listed.result.now in
     let moves = moves_of x.groups items in
     let e = c.loop-step.invariant.problem in
-    let are = subst (λ z. AreMoves x.problem (moves_of x.groups z)) (sym c.as_slice-listed.ensures.value) c.requires.moves in
+    let are = subst (λ z. AreMoves x.problem (moves_of x.groups z)) (sym c.as_slice-listed.ensures.value) c.list_steps.ensures.moves in
     let long = map_length x items in
     let same = ap length c.as_slice-listed.ensures.value in
+    let some = some_items c.list_steps.new.moves c.if-is_empty.ensures in
     let half = subst (λ ms. Halfway x moves (moves_of x.groups ms) c.of-soonest.result c.args.best.now c.loop-step.best c.args.notes.now c.loop-step.notes c.loop-step.standing) (take_all c.loop-step.step-index items c.loop-step-test.false) c.loop-step.invariant.half in
     let raised = subst (λ (z : Position). (lun : ℕ) → lun < 8 → slice_index_or c.loop-step.standing.yielded lun false ≡ true → wait_for z.problem c.of-soonest.result c.loop-step.standing.asked < 18446744073709551616 → slice_index c.raise.new.asked lun ≡ max (wait_for z.problem c.of-soonest.result c.loop-step.standing.asked) (slice_index c.loop-step.standing.asked lun)) e c.raise.ensures.raised in
     let kept = subst (λ (z : Position). Remembers z.all z.problem c.raise.new.asked c.loop-step.notes.records.nodes.items c.keep.new.self.nodes.items (record { bus = 0; luns = c.raise.new.asked })) e c.in_ok-keep.ensures in
-    node_shown x moves c.of-soonest.result c.args.best.now c.loop-step.best c.args.notes.now c.loop-step.notes _ c.loop-step.standing c.raise.new.asked c.requires.at.tree.limits are (omega (arith, c.requires.some)) (omega (arith, c.requires.few)) half c.raise.ensures.kept raised c.raise.ensures.small kept refl refl refl c.if-notes.false refl
+    node_shown x moves c.of-soonest.result c.args.best.now c.loop-step.best c.args.notes.now c.loop-step.notes _ c.loop-step.standing c.raise.new.asked c.requires.at.tree.limits are (omega arith) (omega (arith, c.list_steps.ensures.few)) half c.raise.ensures.kept raised c.raise.ensures.small kept refl refl refl c.if-notes.false refl
 
-pub search_children-returns-then-notes-clause-shown : goal.search_children-returns-then-notes-clause-shown
-search_children-returns-then-notes-clause-shown t c =
+pub search_open-returns-then-notes-clause-shown : goal.search_open-returns-then-notes-clause-shown
+search_open-returns-then-notes-clause-shown t c =
     let x = c.args.problem.now in
     let items = c.as_slice-listed.result.now in
     let moves = moves_of x.groups items in
@@ -129,7 +131,7 @@ search_children-returns-then-notes-clause-shown t c =
     cut_shown x moves c.of-soonest.result c.args.best.now c.loop-step.best c.args.notes.now c.loop-step.notes c.loop-step.standing c.given_up.result c.requires.at.tree.limits half c.if-notes.true c.given_up.ensures.demand c.given_up.ensures.improved
 
 pub search_open-returns-then-is_empty-clause-shown : goal.search_open-returns-then-is_empty-clause-shown
-search_open-returns-then-is_empty-clause-shown t c = done_shown c.args.problem.now c.list_steps.new.moves c.args.best.now _ c.args.notes.now c.of_bus-demand.result c.requires.at.tree.limits c.list_steps.ensures.moves (eqb-true _ _ (sym c.if-is_empty.ensures)) c.bus_free-best.ensures.value c.clear.ensures.items c.requires.is_open c.requires.at.finish c.requires.counted c.requires.at.within c.requires.uncut c.of_bus-demand.ensures
+search_open-returns-then-is_empty-clause-shown t c = done_shown c.args.problem.now c.list_steps.new.moves c.args.best.now _ c.args.notes.now c.of_bus-demand.result c.requires.at.tree.limits c.list_steps.ensures.moves (eqb-true _ _ (sym c.if-is_empty.ensures)) c.bus_free-bus_free.ensures.value c.clear.ensures.items c.requires.is_open c.requires.at.finish c.requires.counted c.requires.at.within c.requires.uncut c.of_bus-demand.ensures
 
 pub visit-search-requires : goal.visit-search-requires
 visit-search-requires t c =
