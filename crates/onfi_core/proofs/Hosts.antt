@@ -20,6 +20,7 @@ use Rattle.onfi_core.specs.declared.setup.Setup.{Setup}
 use Rattle.onfi_core.proofs.Bus.{number-append}
 use Rattle.onfi_core.proofs.Lists.{get_has}
 use Rattle.onfi_core.proofs.Startable.{from_filter}
+use Rattle.onfi_core.proofs.Halves.{sound_but}
 
 -- Submit
 
@@ -73,30 +74,12 @@ made_same h h' host r out i =
 pub sound_posted : (s : Setup) (h : HalfState) (host : ℕ) (r : Reply) (h' : HalfState) → IsSound s h → GoesOut h h' host r → IsSound s h'
 sound_posted s h host r h' old out =
     let moved : HalfState = record h { held = out.before ++ out.behind; posted = h.posted ++ r ∷ [] } in
-    let next : IsSound s moved = record {
-      planned = old.planned;
-      some_batch = old.some_batch;
-      few_batch = old.few_batch;
-      timing = old.timing;
-      rules = old.rules;
-      problem = old.problem;
-      few = old.few;
-      luns = old.luns;
-      legal = old.legal;
-      in_range = old.in_range;
-      wants = old.wants;
-      running = old.running;
-      once = λ i. (
-          let a = old.once i in
-          let b = ap (number (is_of_place i)) out.held ∙ number-append (is_of_place i) out.before (r ∷ out.behind) in
-          let d = number-append (is_of_place i) out.before out.behind in
-          let e = number-append (is_of_place i) h.posted (r ∷ []) in
-          omega arith);
-      aside = old.aside;
-      aside_rise = old.aside_rise;
-      in_order = old.in_order;
-      last = old.last;
-    } in
+    let next : IsSound s moved = sound_but s h old h.now h.left h.outdated moved.held moved.posted h.stopped refl refl refl old.problem old.few old.legal old.wants old.running (λ i.
+    let a = old.once i in
+    let b = ap (number (is_of_place i)) out.held ∙ number-append (is_of_place i) out.before (r ∷ out.behind) in
+    let d = number-append (is_of_place i) out.before out.behind in
+    let e = number-append (is_of_place i) h.posted (r ∷ []) in
+    omega arith) in
     subst (IsSound s) (sym out.after) next
 
 pub post_kept : (s : Setup) (c : ChannelState) (host : ℕ) (r : Reply) (h : HalfState) → IsReached s c → GoesOut c.half h host r → IsReached s (record c { half = h })
@@ -138,7 +121,7 @@ next_of (z ∷ xs) (y ∷ ys) x (rest, e) h =
     let r = next_of xs ys x (rest, a) h in
     (r.0, ap (λ zs. z ∷ zs) r.1 ∙ ap (λ w. w ∷ ys) q)
 
-own_reply : (host : ℕ) (rs : List Reply) (i : ℕ) (r : Reply) → slice_get (filter (is_to host) rs) i ≡ Some r → r.host ≡ host
+pub own_reply : (host : ℕ) (rs : List Reply) (i : ℕ) (r : Reply) → slice_get (filter (is_to host) rs) i ≡ Some r → r.host ≡ host
 own_reply host rs i r h =
     let f = from_filter (is_to host) rs r (get_has (filter (is_to host) rs) i r h) in
     let k : (r.host == host) ≡ true = f.1 in
