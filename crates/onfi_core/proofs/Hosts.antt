@@ -1,5 +1,5 @@
 -- What hosts do, and posts, keep what every reachable state keeps.
-use Rattle.std.proofs.Common.{◌≡◌, ℕ, ◌+◌, ◌<◌, ◌^◌, inl, inr, true, List, [], ◌∷◌, ◌++◌, length, Some, refl, sym, ap, ◌∙◌, subst, append_assoc, append-nil, length-append, arith}
+use Rattle.std.proofs.Common.{◌≡◌, ℕ, ◌+◌, ◌<◌, ◌≤◌, ◌^◌, inl, inr, true, List, [], ◌∷◌, ◌++◌, length, Some, refl, sym, ap, ◌∙◌, subst, append_assoc, append-nil, length-append, arith}
 use Rattle.std.specs.Prelude.{slice_get, ◌==◌}
 use Rattle.std.specs.List.{AllByRecursion as All, filter}
 use Rattle.std.proofs.lemmas.Bool.{cases_Bool}
@@ -21,6 +21,7 @@ use Rattle.onfi_core.proofs.Bus.{number-append}
 use Rattle.onfi_core.proofs.Lists.{get_has}
 use Rattle.onfi_core.proofs.Startable.{from_filter}
 use Rattle.onfi_core.proofs.Halves.{sound_but}
+use Rattle.onfi_core.proofs.Hosted.{from_each}
 
 -- Submit
 
@@ -37,17 +38,8 @@ submit_kept s c host r reached right known low =
       sent = ap (λ zs. zs ++ x ∷ []) reached.sent ∙ append_assoc c.half.accepted c.waiting (x ∷ []);
       in_range = All-append _ c.waiting (x ∷ []) reached.in_range (right, tt);
       hosts = All-append _ c.sent (x ∷ []) reached.hosts (known, tt);
-      fit = λ h. (let f = reached.fit h in let a = filter-append (is_from h) c.sent (x ∷ []) in
-          rw a (elim (cases_Bool (host == h)) [
-            | inl k ↦ (let e : host ≡ h = grind (arith, nat_tests) in let low' : length (sent_by h c) < 2 ^ 32 = subst (λ j. length (sent_by j c) < 2 ^ 32) e low in rw k (omega (arith, length-append (filter (is_from h) c.sent) (x ∷ []))))
-            | inr k ↦ rw (k, append-nil (filter (is_from h) c.sent)) f
-          ]));
-      serials = λ h. (
-          let a = filter-append (is_from h) c.sent (x ∷ []) in
-          rw a (elim (cases_Bool (host == h)) [
-            | inl k ↦ (let e : host ≡ h = grind (arith, nat_tests) in rw k (serials_more 0 (sent_by h c) x (reached.serials h) (ap (λ j. length (sent_by j c)) e ∙ omega arith)))
-            | inr k ↦ rw (k, append-nil (filter (is_from h) c.sent)) (reached.serials h)
-          ]));
+      fit = from_each (λ h ys. length ys ≤ 2 ^ 32) c.sent x reached.fit (omega (arith, length-append (sent_by host c) (x ∷ []), low));
+      serials = from_each (λ h ys. SerialsFrom 0 ys) c.sent x reached.serials (serials_more 0 (sent_by host c) x (reached.serials host) (omega arith));
       collected = reached.collected;
     }
 

@@ -26,6 +26,7 @@ use Rattle.onfi_core.specs.Kept.{IsSound, is_of_place, unposted}
 use Rattle.onfi_core.specs.View.{HasSlot, AreSlots}
 use Rattle.onfi_core.proofs.Lists.{take_next}
 use Rattle.onfi_core.proofs.Promise.{one_each}
+use Rattle.onfi_core.proofs.Numbered.{length_wants}
 
 -- a place that is unplanned, not started, running or held is not posted
 pub not_posted : (s : Setup) (h : HalfState) (i : ℕ) → IsSound s h → 1 ≤ number (has_id i) (unplanned s h) + (number (has_id i) h.now.wants + (number (has_id i) (flat_map unposted h.now.luns) + number (is_of_place i) h.held)) → number (is_of_place i) h.posted ≡ 0

@@ -16,10 +16,9 @@ use Rattle.onfi_core.specs.State.{ChannelState, HalfState}
 use Rattle.onfi_core.specs.Steps.{wait_lag, waited}
 use Rattle.onfi_core.specs.Times.{all_starts, free_at, lag, later, later_group, later_starts, latest_start}
 use Rattle.onfi_core.specs.View.{AreFields}
-use Rattle.onfi_core.proofs.First.{phases_start}
 use Rattle.onfi_core.proofs.Halves.{fields_but, same_replies, sound_but}
 use Rattle.onfi_core.proofs.Lags.{below_latest}
-use Rattle.onfi_core.proofs.Shifted.{later_legal}
+use Rattle.onfi_core.proofs.Shifted.{later_legal, phases_start}
 use Rattle.onfi_core.proofs.Lists.{get_has, get_map}
 
 -- none starts before the moment once all are later by the lag

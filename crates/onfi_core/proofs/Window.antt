@@ -30,6 +30,7 @@ use Rattle.onfi_core.proofs.Lists.{get_at_length}
 use Rattle.onfi_core.proofs.Next.{was_accepted}
 use Rattle.onfi_core.proofs.Reach.{none_second, not_where, below}
 use Rattle.onfi_core.proofs.Halves.{fields_but}
+use Rattle.onfi_core.proofs.Hosted.{from_each}
 
 front_kept : (b : Bool) (x : Item) (xs : List Item) → length (cond b (x ∷ xs) xs) ≡ cond b 1 0 + length xs
 front_kept true x xs = omega arith
@@ -69,17 +70,7 @@ numbered_more s h x n next =
     let known = next.host in
     record {
       hosts = All-append (λ (y : Item). y.host < 4) h.accepted (x ∷ []) n.hosts (omega arith, tt);
-      few = λ host. (
-          let a = filter-append (is_from host) h.accepted (x ∷ []) in
-          let f = n.few host in
-          rw a (elim (cases_Bool (is_from host x)) [
-            | inl k ↦ (
-                let e : x.host ≡ host = grind (arith, nat_tests) in
-                let c : x.serial ≡ length (filter (is_from host) h.accepted) = next.serial ∙ ap (λ i. length (filter (is_from i) h.accepted)) e in
-                let low = next.fits in
-                rw k (omega (arith, length-append (filter (is_from host) h.accepted) (x ∷ []))))
-            | inr k ↦ rw (k, append-nil (filter (is_from host) h.accepted)) f
-          ]));
+      few = from_each (λ host ys. length ys ≤ 2 ^ 32) h.accepted x n.few (let c = next.serial in let low = next.fits in omega (arith, c, low, length-append (filter (is_from x.host) h.accepted) (x ∷ [])));
     }
 
 module _ (slots slots' : Slab Slot) (n key : ℕ) (accepted : List Item) (posted : List Reply) (x : Item) (were : AreSlots slots accepted posted) (count : n ≡ length accepted) (u : Updates slots slots' key (Some (record { place = n; item = x }))) (cap : slots'.capacity ≡ slots.capacity) (len : slab_len slots' ≡ slab_len slots + 1) (within : key < slots'.capacity) (vacant : get slots key ≡ None) (fresh : number (is_of_place n) posted ≡ 0) where
