@@ -1,9 +1,7 @@
 -- What a phase that is done leaves of a half.
-use Rattle.std.proofs.Common.{◌≡◌, ℕ, zero, suc, ◌+◌, ◌*◌, ◌-◌, ◌<◌, ◌≤◌, ◌⊎◌, inl, inr, true, List, [], ◌∷◌, ◌++◌, length, Some, None, Option, drop, refl, sym, ap, ◌∙◌, subst, append-nil, length-append, arith}
-use Rattle.std.specs.Prelude.{slice_get, slice_index_or, slice_set, nat_lt, ◌==◌, if◌then◌else◌}
-use Rattle.std.specs.List.{flat_map}
+use Rattle.std.proofs.Common.{◌≡◌, ℕ, ◌+◌, ◌*◌, ◌-◌, ◌<◌, ◌≤◌, ◌⊎◌, inl, inr, List, [], ◌∷◌, ◌++◌, length, Some, None, Option, drop, refl, sym, ap, ◌∙◌, subst, append-nil, length-append, arith}
+use Rattle.std.specs.Prelude.{slice_get, slice_index_or, slice_set, nat_lt, if◌then◌else◌}
 use Rattle.std.proofs.lemmas.Bool.{lt-ltb, le-ltb, cases_lt}
-use Rattle.std.proofs.lemmas.Bool.Decides.{nat_tests}
 use Rattle.onfi_timing.specs.Phases.{phase_length}
 use Rattle.onfi_request.specs.declared.answer.Answer.{Answer}
 use Rattle.onfi_request.specs.declared.basis.Basis.{Basis}
@@ -29,11 +27,11 @@ use Rattle.onfi_core.specs.declared.phase_result.PhaseResult.TheVariants as ran
 use Rattle.onfi_core.specs.declared.setup.Setup.{Setup}
 use Rattle.onfi_core.specs.declared.slot.Slot.{Slot}
 use Rattle.onfi_core.specs.Dues.{IsDue, IsRan, after_due, groups_left, member_of, replies_of}
-use Rattle.onfi_core.specs.Kept.{IsSound, unposted}
+use Rattle.onfi_core.specs.Kept.{IsSound}
 use Rattle.onfi_core.specs.State.{HalfState, item_at, no_item}
 use Rattle.onfi_core.specs.Steps.{IsPhase, half_after_phase, reply_to}
 use Rattle.onfi_core.specs.View.{AreFields, AreSlots, HasSlot}
-use Rattle.onfi_core.proofs.Bus.{number-append, number_set, sound_kept, counts_command, counts_post}
+use Rattle.onfi_core.proofs.Bus.{number_set, sound_kept, counts_command, counts_post}
 use Rattle.onfi_core.proofs.Few.{replies_few}
 use Rattle.onfi_core.proofs.Going.{Going, going_next, going_start}
 use Rattle.onfi_core.proofs.Lists.{drop_next, index_get, get_has}

@@ -14,7 +14,7 @@ use Rattle.onfi_problem.proofs.Perm.{All-append, All-front, All-back}
 use Rattle.onfi_die.specs.Order.{IsBeginning}
 use Rattle.onfi_die.specs.Rightful.{IsRightful}
 use Rattle.onfi_core.specs.Kept.{IsSound, IsReached, SerialsFrom, is_of_place, AreMade}
-use Rattle.onfi_core.specs.State.{HalfState, ChannelState, device_for, is_from, is_to, sent_by, posted_to, collected_by}
+use Rattle.onfi_core.specs.State.{HalfState, ChannelState, device_for, is_to, sent_by, posted_to, collected_by}
 use Rattle.onfi_core.specs.Steps.{submitted, GoesOut}
 use Rattle.onfi_core.specs.declared.setup.Setup.{Setup}
 use Rattle.onfi_core.proofs.Bus.{number-append}

@@ -1,11 +1,10 @@
 -- What a channel's queues keep from event to event.
-use Rattle.std.proofs.Common.{◌≡◌, ◌≢◌, ℕ, zero, suc, ◌+◌, ◌<◌, ◌≤◌, inl, inr, true, List, [], ◌∷◌, ◌++◌, length, Option, Some, None, refl, sym, ap, ◌∙◌, subst, append_assoc, length-append, arith}
+use Rattle.std.proofs.Common.{◌≡◌, ◌≢◌, ℕ, zero, suc, ◌+◌, ◌<◌, ◌≤◌, true, List, [], ◌∷◌, ◌++◌, length, Option, Some, None, refl, sym, ap, ◌∙◌, subst, append_assoc, length-append, arith}
 use Rattle.std.specs.Prelude.{slice_get, slice_index_or, slice_set, ◌==◌}
 use Rattle.std.proofs.lemmas.Option.{slice_get_read}
 use Rattle.std.specs.List.{AllByRecursion as All, filter}
 use Rattle.std.specs.VecDeque.{deque_capacity}
 use Rattle.std.proofs.lemmas.Bool.{eq-eqb}
-use Rattle.std.proofs.lemmas.Bool.Decides.{nat_tests}
 use Rattle.std.proofs.lemmas.List.Elements.{filter-append}
 use Rattle.onfi_request.specs.Range.{Fits}
 use Rattle.onfi_request.specs.declared.reply.Reply.{Reply}
@@ -29,8 +28,7 @@ use Rattle.onfi_core.proofs.Hosts.{own_reply}
 use Rattle.onfi_core.proofs.Reaching.{opened_reaches}
 use Rattle.onfi_core.specs.State.{ChannelState, is_from, is_to, sent_by, posted_to, collected_by}
 use Rattle.onfi_core.specs.View.{HalfView, IsNext}
-use Rattle.onfi_core.proofs.Lists.{each_set, get_at_length, get_has}
-use Rattle.onfi_core.proofs.Startable.{from_filter}
+use Rattle.onfi_core.proofs.Lists.{each_set, get_at_length}
 
 -- a host of which nothing is told
 other_queue : (s : Setup) (c c' : ChannelState) (j : ℕ) (q : HostQueue) → sent_by j c' ≡ sent_by j c → posted_to j c' ≡ posted_to j c → collected_by j c' ≡ collected_by j c → IsHostQueue s c j q → IsHostQueue s c' j q
