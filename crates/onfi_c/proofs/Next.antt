@@ -23,7 +23,7 @@ use Rattle.onfi_core.specs.Dues.{IsTurn, NoneStart, starts_in}
 use Rattle.onfi_core.specs.Steps.{is_empty}
 use Rattle.onfi_core.proofs.Becoming.{nothing_left, within_groups}
 use Rattle.onfi_core.proofs.Lists.{cut_there}
-use Rattle.onfi_core.proofs.First.{phases_start}
+use Rattle.onfi_core.proofs.Shifted.{phases_start}
 use Rattle.onfi_c.specs.declared.coming.Coming.{Coming}
 use Rattle.onfi_c.specs.Coming.{IsComing}
 

@@ -25,7 +25,7 @@ use Rattle.onfi_core.specs.declared.starting.Turn.{Turn}
 use Rattle.onfi_core.specs.declared.outcome.Outcome.TheVariants as outcome
 use Rattle.onfi_core.specs.Dues.{NoneStart, IsPhaseOf, IsTurn, IsDue, starts_in}
 use Rattle.onfi_core.proofs.Lists.{cut_there, get_at_length}
-use Rattle.onfi_core.proofs.First.{phases_start}
+use Rattle.onfi_core.proofs.Shifted.{phases_start}
 
 group_at : (groups : List Placed) (i : ℕ) (starts : List ℕ) → slice_get (starts_in groups) i ≡ Some starts → (g : Placed) × (slice_get groups i ≡ Some g) × (g.starts ≡ starts)
 group_at [] i starts h = cc

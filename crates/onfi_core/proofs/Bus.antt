@@ -29,13 +29,13 @@ use Rattle.onfi_core.specs.State.{HalfState, ChannelState, device_for}
 use Rattle.onfi_core.specs.Steps.{reply_to, Commands, Launches, Posts, RunsOnChip, Runs, IsPhase, half_after_phase}
 use Rattle.onfi_core.specs.declared.setup.Setup.{Setup}
 use Rattle.onfi_core.proofs.Going.{Going, OnLun, going_next, going_start, on_next, on_start}
-use Rattle.onfi_core.proofs.Halves.{other_half}
+use Rattle.onfi_core.proofs.Halves.{other_half, sound_but}
 use Rattle.onfi_core.proofs.Lists.{drop_next}
 use Rattle.onfi_core.proofs.Made.{made_push}
 use Rattle.onfi_core.proofs.Phase.{after_command, after_launch, after_post, right_reply}
 pub use Rattle.onfi_group.proofs.Counting.{number-append}
 
-number_set : (i : ℕ) (xs : List LunState) (l : ℕ) (x y : LunState) → slice_get xs l ≡ Some x → number (has_id i) (flat_map unposted (slice_set xs l y)) + number (has_id i) (unposted x) ≡ number (has_id i) (flat_map unposted xs) + number (has_id i) (unposted y)
+pub number_set : (i : ℕ) (xs : List LunState) (l : ℕ) (x y : LunState) → slice_get xs l ≡ Some x → number (has_id i) (flat_map unposted (slice_set xs l y)) + number (has_id i) (unposted x) ≡ number (has_id i) (flat_map unposted xs) + number (has_id i) (unposted y)
 number_set i [] l x y h = cc
 number_set i (z ∷ xs) zero x y h =
     let e : z ≡ x = cc in
@@ -64,30 +64,15 @@ module _ (s : Setup) (h : HalfState) (half : IsSound s h) (l : ℕ) (g : List Wa
   pub sound_kept : IsProblem now → Legal now left
       → ((i : ℕ) → number (has_id i) (drop (n - length g) g) + number (is_of_place i) h.held ≡ number (has_id i) (unposted (lun_after h.now.timing g n (start + phase_length (group_spans h.now.timing g) (length g) n))) + number (is_of_place i) held)
       → IsSound s (record h { now = now; left = left; held = held })
-  sound_kept problem legal counts = record {
-    planned = half.planned;
-    some_batch = half.some_batch;
-    few_batch = half.few_batch;
-    timing = timing_is ∙ half.timing;
-    rules = rules_are ∙ half.rules;
-    problem = problem;
-    few = let a = half.few in let b = going.fewer in rw wants_are (omega (arith, a, b));
-    luns = ap length luns_are ∙ length_set h.now.luns l _ ∙ half.luns;
-    legal = legal;
-    in_range = half.in_range;
-    wants = rw wants_are going.left_taken;
-    running = still_running;
-    once = λ i. (
-        let f1 = half.once i in
-        let f2 = going.counts i in
-        let f3 = number_set i h.now.luns l going.state (lun_after h.now.timing g n (start + phase_length (group_spans h.now.timing g) (length g) n)) going.there in
-        let f4 = counts i in
-        rw (wants_are, luns_are) (omega arith));
-    aside = half.aside;
-    aside_rise = half.aside_rise;
-    in_order = half.in_order;
-    last = half.last;
-  }
+  sound_kept problem legal counts =
+      let few : length now.wants ≤ 8 = (let a = half.few in let b = going.fewer in rw wants_are (omega (arith, a, b))) in
+      let taken : All (IsTaken s h.planned h.accepted) now.wants = rw wants_are going.left_taken in
+      sound_but s h half now left h.outdated held h.posted h.stopped timing_is rules_are (ap length luns_are ∙ length_set h.now.luns l _) problem few legal taken still_running (λ i.
+      let f1 = half.once i in
+      let f2 = going.counts i in
+      let f3 = number_set i h.now.luns l going.state (lun_after h.now.timing g n (start + phase_length (group_spans h.now.timing g) (length g) n)) going.there in
+      let f4 = counts i in
+      rw (wants_are, luns_are) (omega arith))
 
   -- while commands are given no member is answered
   pub counts_command : n < length g → (i : ℕ) → number (has_id i) (drop (n - length g) g) + number (is_of_place i) h.held ≡ number (has_id i) (unposted (lun_after h.now.timing g n (start + phase_length (group_spans h.now.timing g) (length g) n))) + number (is_of_place i) h.held

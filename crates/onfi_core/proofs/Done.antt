@@ -1,9 +1,7 @@
 -- What a phase that is done leaves of a half.
-use Rattle.std.proofs.Common.{◌≡◌, ℕ, zero, suc, ◌+◌, ◌*◌, ◌-◌, ◌<◌, ◌≤◌, ◌⊎◌, inl, inr, true, List, [], ◌∷◌, ◌++◌, length, Some, None, Option, drop, refl, sym, ap, ◌∙◌, subst, append-nil, length-append, arith}
-use Rattle.std.specs.Prelude.{slice_get, slice_index_or, slice_set, nat_lt, ◌==◌, if◌then◌else◌}
-use Rattle.std.specs.List.{flat_map}
+use Rattle.std.proofs.Common.{◌≡◌, ℕ, ◌+◌, ◌*◌, ◌-◌, ◌<◌, ◌≤◌, ◌⊎◌, inl, inr, List, [], ◌∷◌, ◌++◌, length, Some, None, Option, drop, refl, sym, ap, ◌∙◌, subst, append-nil, length-append, arith}
+use Rattle.std.specs.Prelude.{slice_get, slice_index_or, slice_set, nat_lt, if◌then◌else◌}
 use Rattle.std.proofs.lemmas.Bool.{lt-ltb, le-ltb, cases_lt}
-use Rattle.std.proofs.lemmas.Bool.Decides.{nat_tests}
 use Rattle.onfi_timing.specs.Phases.{phase_length}
 use Rattle.onfi_request.specs.declared.answer.Answer.{Answer}
 use Rattle.onfi_request.specs.declared.basis.Basis.{Basis}
@@ -15,8 +13,9 @@ use Rattle.onfi_group.specs.Group.{group_spans, lun_of}
 use Rattle.onfi_group.specs.Words.{number}
 use Rattle.onfi_problem.specs.Moves.{Move, Next, Start, IsMove, move_lun, lun_after, placed, without, next_ran}
 use Rattle.onfi_problem.specs.Problem.{Problem, IsProblem, has_id}
+use Rattle.onfi_problem.proofs.Wants.{number_has}
 use Rattle.onfi_problem.specs.declared.lun_state.LunState.{LunState}
-use Rattle.onfi_problem.specs.declared.lun_state.LunState.TheVariants.{Running}
+use Rattle.onfi_problem.specs.declared.lun_state.LunState.TheVariants.{Free, Running}
 use Rattle.onfi_problem.proofs.Places.{get_within, within_get}
 use Rattle.onfi_schedule.specs.Laws.{ComesNext}
 use Rattle.onfi_schedule.specs.Schedule.{Placed, Schedule, Legal}
@@ -28,15 +27,16 @@ use Rattle.onfi_core.specs.declared.phase_result.PhaseResult.TheVariants as ran
 use Rattle.onfi_core.specs.declared.setup.Setup.{Setup}
 use Rattle.onfi_core.specs.declared.slot.Slot.{Slot}
 use Rattle.onfi_core.specs.Dues.{IsDue, IsRan, after_due, groups_left, member_of, replies_of}
-use Rattle.onfi_core.specs.Kept.{IsSound, unposted}
+use Rattle.onfi_core.specs.Kept.{IsSound}
 use Rattle.onfi_core.specs.State.{HalfState, item_at, no_item}
 use Rattle.onfi_core.specs.Steps.{IsPhase, half_after_phase, reply_to}
 use Rattle.onfi_core.specs.View.{AreFields, AreSlots, HasSlot}
-use Rattle.onfi_core.proofs.Bus.{number-append, sound_kept, counts_command, counts_post}
+use Rattle.onfi_core.proofs.Bus.{number_set, sound_kept, counts_command, counts_post}
 use Rattle.onfi_core.proofs.Few.{replies_few}
 use Rattle.onfi_core.proofs.Going.{Going, going_next, going_start}
-use Rattle.onfi_core.proofs.Lists.{drop_next, index_get}
+use Rattle.onfi_core.proofs.Lists.{drop_next, index_get, get_has}
 use Rattle.onfi_core.proofs.Next.{not_posted, was_accepted}
+use Rattle.onfi_core.proofs.Halves.{fields_but}
 
 -- a phase makes the reply to its member at a post, and none at a command
 abbrev pub Makes : List Item → List Want → ℕ → List Reply → Type 0
@@ -97,38 +97,17 @@ goes s h due sound is =
     let m = first_move_law h.now h.left is.move due.start is.left sound.problem sound.legal is.next in
     subst (λ l. (wants : List Want) × Going s h l due.group due.phase wants) (sym is.lun_is) (goes_by s h sound is.move m.is_move due.group due.phase is.is)
 
-number_within : (i : ℕ) (xs : List LunState) (l : ℕ) (x : LunState) → slice_get xs l ≡ Some x → number (has_id i) (unposted x) ≤ number (has_id i) (flat_map unposted xs)
-number_within i [] l x h = cc
-number_within i (z ∷ xs) zero x h =
-    let e : z ≡ x = cc in
-    let a = number-append (has_id i) (unposted z) (flat_map unposted xs) in
-    let c : number (has_id i) (unposted z) ≡ number (has_id i) (unposted x) = ap (λ w. number (has_id i) (unposted w)) e in
-    omega arith
-number_within i (z ∷ xs) (suc l) x h =
-    let a = number_within i xs l x h in
-    let b = number-append (has_id i) (unposted z) (flat_map unposted xs) in
-    omega arith
-
-first_counts : (i : ℕ) (m : Want) (ms : List Want) → m.id ≡ i → 1 ≤ number (has_id i) (m ∷ ms)
-first_counts i m ms e = let t : (m.id == i) ≡ true = grind (arith, nat_tests) in rw t (omega arith)
-
-later_number : (g : List Want) (n : ℕ) (m : Want) → slice_get g n ≡ Some m → 1 ≤ number (has_id m.id) g
-later_number [] n m h = cc
-later_number (x ∷ g) zero m h = let e : x ≡ m = cc in first_counts m.id x g (ap (λ (w : Want). w.id) e)
-later_number (x ∷ g) (suc n) m h = let k = later_number g n m h in let a = number-append (has_id m.id) (x ∷ []) g in omega arith
-
 -- the member is of those that have no reply
 member_left : (g : List Want) (n : ℕ) (m : Want) → member_of g n ≡ Some m → 1 ≤ number (has_id m.id) (drop (n - length g) g)
 member_left g n m at = elim (cases_lt n (length g)) [
   | inl lt ↦ (
       let z : n - length g ≡ 0 = omega arith in
       let at' : slice_get g n ≡ Some m = rw (lt-ltb n (length g) lt) at at in
-      let k = later_number g n m at' in
-      rw z k)
+      rw z (number_has g m (get_has g n m at')))
   | inr ge ↦ (
       let at' : slice_get g (n - length g) ≡ Some m = rw (le-ltb n (length g) ge) at at in
       let d = drop_next g (n - length g) m at' in
-      rw d (first_counts m.id m (drop (n - length g + 1) g) refl))
+      rw d (number_has (m ∷ drop (n - length g + 1) g) m (inl refl)))
 ]
 
 -- .. so it stands in a slot
@@ -136,7 +115,7 @@ slot_of : (s : Setup) (slots : Slab Slot) (h : HalfState) (due : Due) → AreSlo
 slot_of s slots h due a sound is m one =
     let g = goes s h due sound is in
     let c = g.1.counts m.id in
-    let w = number_within m.id h.now.luns due.lun g.1.state g.1.there in
+    let w = number_set m.id h.now.luns due.lun g.1.state (Free 0) g.1.there in
     let o = sound.once m.id in
     let there = was_accepted s.geometry 0 m.id h.accepted (omega arith) in
     a.kept m.id (omega (arith, there)) (not_posted s h m.id sound (omega arith))
@@ -172,14 +151,7 @@ pub fields_done : (s : Setup) (slots : Slab Slot) (n room room' : ℕ) (kept kep
 fields_done s slots n room room' kept kept' h lent lent' due replies accepted' held' posted' luns' rest' groups' f is makes k c e0 e1 e2 e3 el er eg =
     let l = f.lending in
     let same : kept' ≡ h.held ++ replies = k ∙ ap (λ rs. rs ++ replies) l.1 in
-    rw (e0, e1, e2, e3, el, er, eg, c) (record {
-      slots_are = f.slots_are;
-      count = f.count;
-      numbered = f.numbered;
-      room_is = f.room_is;
-      lending = (l.0, same);
-      sound = sound_due s h due f.sound is replies makes;
-    })
+    rw (e0, e1, e2, e3, el, er, eg) (fields_but s slots n room room' kept kept' None None h (after_due h due replies) lent lent f refl refl c (l.0, same) (sound_due s h due f.sound is replies makes))
 
 -- the LUN of the due phase is there
 pub lun_there : (s : Setup) (h : HalfState) (due : Due) → IsSound s h → IsDue h due → due.lun < length h.now.luns

@@ -1,11 +1,61 @@
 -- What a channel keeps whose half or chip is another.
-use Rattle.std.proofs.Common.{◌≡◌, None, ◌++◌, sym, ap, ◌∙◌, subst}
-use Rattle.std.specs.List.{filter}
+use Rattle.std.proofs.Common.{◌≡◌, ℕ, ◌≤◌, Bool, List, length, None, Option, Some, ◌++◌, sym, ap, ◌∙◌, subst}
+use Rattle.std.specs.Prelude.{slice_get}
+use Rattle.std.specs.List.{AllByRecursion as All, filter}
+use Rattle.onfi_request.specs.declared.reply.Reply.{Reply}
+use Rattle.onfi_request.specs.declared.want.Want.{Want}
+use Rattle.onfi_group.specs.Words.{number}
+use Rattle.onfi_problem.specs.declared.lun_state.LunState.TheVariants.{Running}
+use Rattle.onfi_problem.specs.Problem.{IsProblem, Problem, has_id}
+use Rattle.onfi_schedule.specs.Schedule.{Legal, Schedule}
 use Rattle.onfi_die.specs.Order.{IsBeginning}
 use Rattle.onfi_chip.specs.Chip.{Chip}
+use Rattle.slab.specs.Slab.{Slab}
+use Rattle.onfi_core.specs.declared.lent.Lent.{Lent}
+use Rattle.onfi_core.specs.declared.outcome.Cause.{Cause}
 use Rattle.onfi_core.specs.declared.setup.Setup.{Setup}
-use Rattle.onfi_core.specs.Kept.{ChipAgrees, IsHalf, IsReached, IsSound}
-use Rattle.onfi_core.specs.State.{ChannelState, HalfState, collected_by, device_for, is_to}
+use Rattle.onfi_core.specs.declared.slot.Slot.{Slot}
+use Rattle.onfi_core.specs.Kept.{ChipAgrees, IsHalf, IsReached, IsSound, IsTaken, times}
+use Rattle.onfi_core.specs.State.{ChannelState, HalfState, collected_by, device_for, is_to, wants_from}
+use Rattle.onfi_core.specs.View.{AreFields, IsLent}
+
+-- what is sound where what is accepted and looked at, and the batch, are as before
+module _ (s : Setup) (h : HalfState) (half : IsSound s h) (now : Problem) (left : Schedule) (outdated : Bool) (held posted : List Reply) (stopped : Option Cause) where
+  pub sound_but : now.timing ≡ h.now.timing → now.rules ≡ h.now.rules → length now.luns ≡ length h.now.luns → IsProblem now → length now.wants ≤ 8 → Legal now left → All (IsTaken s h.planned h.accepted) now.wants
+      → ((lun : ℕ) (group : List Want) (next ready : ℕ) → slice_get now.luns lun ≡ Some (Running group next ready) → All (IsTaken s h.planned h.accepted) group)
+      → ((place : ℕ) → times s (record h { now = now; held = held; posted = posted }) place ≡ number (has_id place) (wants_from s.geometry 0 h.accepted))
+      → IsSound s (record h { now = now; left = left; outdated = outdated; held = held; posted = posted; stopped = stopped })
+  sound_but timing rules luns problem few legal wants running once = record {
+    planned = half.planned;
+    some_batch = half.some_batch;
+    few_batch = half.few_batch;
+    timing = timing ∙ half.timing;
+    rules = rules ∙ half.rules;
+    problem = problem;
+    few = few;
+    luns = luns ∙ half.luns;
+    legal = legal;
+    in_range = half.in_range;
+    wants = wants;
+    running = running;
+    once = once;
+    aside = half.aside;
+    aside_rise = half.aside_rise;
+    in_order = half.in_order;
+    last = half.last;
+  }
+
+-- the fields of a half whose slots are as before
+pub fields_but : (s : Setup) (slots : Slab Slot) (n room room' : ℕ) (kept kept' : List Reply) (at at' : Option Lent) (h h' : HalfState) (lent lent' : Option Reply) → AreFields s slots n room kept at h lent
+    → h'.accepted ≡ h.accepted → h'.posted ≡ h.posted → room' ≡ room → IsLent h'.held kept' at' lent' → IsSound s h' → AreFields s slots n room' kept' at' h' lent'
+fields_but s slots n room room' kept kept' at at' h h' lent lent' f accepted posted same lending sound = record {
+  slots_are = rw (accepted, posted) f.slots_are;
+  count = f.count ∙ ap length (sym accepted);
+  numbered = rw accepted f.numbered;
+  room_is = rw same f.room_is;
+  lending = lending;
+  sound = sound;
+}
 
 -- nothing more is accepted or posted
 pub other_half : (s : Setup) (c : ChannelState) (h : HalfState) (chip : Chip) → IsReached s c → h.accepted ≡ c.half.accepted → h.posted ≡ c.half.posted

@@ -1,5 +1,5 @@
 -- Whom the held replies are for, and what a quiet half has left.
-use Rattle.std.proofs.Common.{◌≡◌, ℕ, suc, zero, ◌+◌, ◌*◌, ◌-◌, ◌<◌, ◌≤◌, true, List, [], ◌∷◌, ◌++◌, length, take, refl, sym, ap, ◌∙◌, subst, arith}
+use Rattle.std.proofs.Common.{◌≡◌, ℕ, suc, zero, ◌+◌, ◌*◌, ◌-◌, ◌<◌, ◌≤◌, true, List, [], ◌∷◌, ◌++◌, length, take, refl, sym, ap, ◌∙◌, subst, arith, ◌≢◌}
 use Rattle.std.specs.Prelude.{◌==◌}
 use Rattle.std.specs.List.{AllByRecursion as All, filter, flat_map}
 use Rattle.std.proofs.lemmas.Bool.{eq-eqb}
@@ -14,8 +14,8 @@ use Rattle.onfi_problem.proofs.Perm.{All-back, All-front, All-weaker}
 use Rattle.onfi_problem.specs.Problem.{has_id}
 use Rattle.onfi_schedule.specs.Schedule.{Placed, group_phases, phases_from, rest_phases}
 use Rattle.onfi_schedule.specs.declared.phase.Phase.{Phase}
-use Rattle.onfi_die.proofs.Order.{rule_kept}
-use Rattle.onfi_die.specs.Order.{AreInOrder}
+use Rattle.onfi_die.proofs.Order.{rule_kept, Pairs-front}
+use Rattle.onfi_die.specs.Order.{AreInOrder, IsBeginning}
 use Rattle.onfi_die.specs.Rightful.{IsRightful}
 use Rattle.onfi_core.specs.declared.setup.Setup.{Setup}
 use Rattle.onfi_core.specs.Kept.{IsReached}
@@ -23,9 +23,26 @@ use Rattle.onfi_core.specs.Reaching.{IdleIs, NextBehind, NothingHeld}
 use Rattle.onfi_core.specs.State.{HalfState, ChannelState, device_for, is_to, posted_to}
 use Rattle.onfi_core.specs.Steps.{GoesOut, is_empty, unplanned}
 use Rattle.onfi_core.proofs.Hosts.{post_kept}
-use Rattle.onfi_core.proofs.InOrder.{posted_in_order}
 use Rattle.onfi_core.proofs.Hosted.{to_own}
 use Rattle.onfi_core.proofs.Lists.{All-at}
+use Rattle.onfi_problem.proofs.Wants.{Pairs-filter}
+use Rattle.onfi_core.specs.Core.{PostedInOrder}
+use Rattle.onfi_core.proofs.Promise.{promise}
+
+-- What is posted to a host is in order of making
+
+pub posted_in_order : PostedInOrder
+posted_in_order s c reached host =
+    let p = promise s c reached in
+    let m = p.made host in
+    let posted = filter (is_to host) c.half.posted in
+    let held = filter (is_to host) c.half.held in
+    record {
+      faults_same = All-front (λ (r : Reply). r.basis.faults ≡ c.chip.faults) posted held m.faults;
+      each = All-front (λ (r : Reply). IsRightful (device_for s c.chip) r.basis.accepted r) posted held m.each;
+      rise = Pairs-front (λ (a b : Reply). IsBeginning a.basis.accepted b.basis.accepted) posted held m.rise;
+      once = Pairs-filter (λ (a b : Reply). a.place ≢ b.place) (is_to host) c.half.posted p.rightful.once;
+    }
 
 -- Held replies are to hosts of the setup
 

@@ -1,5 +1,5 @@
 -- What hosts do, and posts, keep what every reachable state keeps.
-use Rattle.std.proofs.Common.{◌≡◌, ℕ, ◌+◌, ◌<◌, ◌^◌, inl, inr, true, List, [], ◌∷◌, ◌++◌, length, Some, refl, sym, ap, ◌∙◌, subst, append_assoc, append-nil, length-append, arith}
+use Rattle.std.proofs.Common.{◌≡◌, ℕ, ◌+◌, ◌<◌, ◌≤◌, ◌^◌, inl, inr, true, List, [], ◌∷◌, ◌++◌, length, Some, refl, sym, ap, ◌∙◌, subst, append_assoc, append-nil, length-append, arith}
 use Rattle.std.specs.Prelude.{slice_get, ◌==◌}
 use Rattle.std.specs.List.{AllByRecursion as All, filter}
 use Rattle.std.proofs.lemmas.Bool.{cases_Bool}
@@ -14,12 +14,14 @@ use Rattle.onfi_problem.proofs.Perm.{All-append, All-front, All-back}
 use Rattle.onfi_die.specs.Order.{IsBeginning}
 use Rattle.onfi_die.specs.Rightful.{IsRightful}
 use Rattle.onfi_core.specs.Kept.{IsSound, IsReached, SerialsFrom, is_of_place, AreMade}
-use Rattle.onfi_core.specs.State.{HalfState, ChannelState, device_for, is_from, is_to, sent_by, posted_to, collected_by}
+use Rattle.onfi_core.specs.State.{HalfState, ChannelState, device_for, is_to, sent_by, posted_to, collected_by}
 use Rattle.onfi_core.specs.Steps.{submitted, GoesOut}
 use Rattle.onfi_core.specs.declared.setup.Setup.{Setup}
 use Rattle.onfi_core.proofs.Bus.{number-append}
 use Rattle.onfi_core.proofs.Lists.{get_has}
 use Rattle.onfi_core.proofs.Startable.{from_filter}
+use Rattle.onfi_core.proofs.Halves.{sound_but}
+use Rattle.onfi_core.proofs.Hosted.{from_each}
 
 -- Submit
 
@@ -36,17 +38,8 @@ submit_kept s c host r reached right known low =
       sent = ap (λ zs. zs ++ x ∷ []) reached.sent ∙ append_assoc c.half.accepted c.waiting (x ∷ []);
       in_range = All-append _ c.waiting (x ∷ []) reached.in_range (right, tt);
       hosts = All-append _ c.sent (x ∷ []) reached.hosts (known, tt);
-      fit = λ h. (let f = reached.fit h in let a = filter-append (is_from h) c.sent (x ∷ []) in
-          rw a (elim (cases_Bool (host == h)) [
-            | inl k ↦ (let e : host ≡ h = grind (arith, nat_tests) in let low' : length (sent_by h c) < 2 ^ 32 = subst (λ j. length (sent_by j c) < 2 ^ 32) e low in rw k (omega (arith, length-append (filter (is_from h) c.sent) (x ∷ []))))
-            | inr k ↦ rw (k, append-nil (filter (is_from h) c.sent)) f
-          ]));
-      serials = λ h. (
-          let a = filter-append (is_from h) c.sent (x ∷ []) in
-          rw a (elim (cases_Bool (host == h)) [
-            | inl k ↦ (let e : host ≡ h = grind (arith, nat_tests) in rw k (serials_more 0 (sent_by h c) x (reached.serials h) (ap (λ j. length (sent_by j c)) e ∙ omega arith)))
-            | inr k ↦ rw (k, append-nil (filter (is_from h) c.sent)) (reached.serials h)
-          ]));
+      fit = from_each (λ h ys. length ys ≤ 2 ^ 32) c.sent x reached.fit (omega (arith, length-append (sent_by host c) (x ∷ []), low));
+      serials = from_each (λ h ys. SerialsFrom 0 ys) c.sent x reached.serials (serials_more 0 (sent_by host c) x (reached.serials host) (omega arith));
       collected = reached.collected;
     }
 
@@ -73,30 +66,12 @@ made_same h h' host r out i =
 pub sound_posted : (s : Setup) (h : HalfState) (host : ℕ) (r : Reply) (h' : HalfState) → IsSound s h → GoesOut h h' host r → IsSound s h'
 sound_posted s h host r h' old out =
     let moved : HalfState = record h { held = out.before ++ out.behind; posted = h.posted ++ r ∷ [] } in
-    let next : IsSound s moved = record {
-      planned = old.planned;
-      some_batch = old.some_batch;
-      few_batch = old.few_batch;
-      timing = old.timing;
-      rules = old.rules;
-      problem = old.problem;
-      few = old.few;
-      luns = old.luns;
-      legal = old.legal;
-      in_range = old.in_range;
-      wants = old.wants;
-      running = old.running;
-      once = λ i. (
-          let a = old.once i in
-          let b = ap (number (is_of_place i)) out.held ∙ number-append (is_of_place i) out.before (r ∷ out.behind) in
-          let d = number-append (is_of_place i) out.before out.behind in
-          let e = number-append (is_of_place i) h.posted (r ∷ []) in
-          omega arith);
-      aside = old.aside;
-      aside_rise = old.aside_rise;
-      in_order = old.in_order;
-      last = old.last;
-    } in
+    let next : IsSound s moved = sound_but s h old h.now h.left h.outdated moved.held moved.posted h.stopped refl refl refl old.problem old.few old.legal old.wants old.running (λ i.
+    let a = old.once i in
+    let b = ap (number (is_of_place i)) out.held ∙ number-append (is_of_place i) out.before (r ∷ out.behind) in
+    let d = number-append (is_of_place i) out.before out.behind in
+    let e = number-append (is_of_place i) h.posted (r ∷ []) in
+    omega arith) in
     subst (IsSound s) (sym out.after) next
 
 pub post_kept : (s : Setup) (c : ChannelState) (host : ℕ) (r : Reply) (h : HalfState) → IsReached s c → GoesOut c.half h host r → IsReached s (record c { half = h })
@@ -138,7 +113,7 @@ next_of (z ∷ xs) (y ∷ ys) x (rest, e) h =
     let r = next_of xs ys x (rest, a) h in
     (r.0, ap (λ zs. z ∷ zs) r.1 ∙ ap (λ w. w ∷ ys) q)
 
-own_reply : (host : ℕ) (rs : List Reply) (i : ℕ) (r : Reply) → slice_get (filter (is_to host) rs) i ≡ Some r → r.host ≡ host
+pub own_reply : (host : ℕ) (rs : List Reply) (i : ℕ) (r : Reply) → slice_get (filter (is_to host) rs) i ≡ Some r → r.host ≡ host
 own_reply host rs i r h =
     let f = from_filter (is_to host) rs r (get_has (filter (is_to host) rs) i r h) in
     let k : (r.host == host) ≡ true = f.1 in

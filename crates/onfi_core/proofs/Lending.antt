@@ -22,6 +22,7 @@ use Rattle.onfi_core.proofs.Few.{replies_few}
 use Rattle.onfi_core.proofs.Hosts.{sound_posted}
 use Rattle.onfi_core.proofs.Lists.{cut_there, index_get}
 use Rattle.onfi_core.proofs.Next.{not_posted, was_accepted}
+use Rattle.onfi_core.proofs.Halves.{fields_but}
 
 pub oldest_is : (host at : ℕ) (held kept : List Reply) (r : Reply) → (o : IsOldestAt host kept at) → kept ≡ held → r ≡ o.reply → IsOldest host held r
 oldest_is host at held kept r o same is = record {
@@ -50,14 +51,8 @@ fields_lent s slots n room room' kept kept' h lent lent' host at r accepted' hel
     let own : r.host ≡ host = ap (λ (x : Reply). x.host) is ∙ o.own in
     let none : filter (is_to r.host) (take at kept) ≡ [] = subst (λ i. filter (is_to i) (take at kept) ≡ []) (sym own) o.before in
     let low = within_get kept at r there in
-    rw (e0, e1, e2, e3, c) (record {
-      slots_are = f.slots_are;
-      count = f.count;
-      numbered = f.numbered;
-      room_is = f.room_is;
-      lending = (r, take at kept, drop (at + 1) kept, refl, sym f.lending.1 ∙ cut_there kept at r there, k, length-take-le at kept (omega arith), refl, none);
-      sound = f.sound;
-    })
+    rw (e0, e1, e2, e3) (fields_but s slots n room room' kept kept' None (Some (record { at = at; place = r.place })) h h lent (Some r) f refl refl c
+    (r, take at kept, drop (at + 1) kept, refl, sym f.lending.1 ∙ cut_there kept at r there, k, length-take-le at kept (omega arith), refl, none) f.sound)
 
 same_reply : (r q : Reply) → Some r ≡ Some q → r ≡ q
 same_reply r q e = cc

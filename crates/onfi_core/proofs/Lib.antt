@@ -2,7 +2,6 @@ pub mod Lists
 pub mod Halves
 pub mod Lags
 pub mod Shifted
-pub mod Cut
 pub mod Startable
 pub mod Members
 pub mod Made
@@ -25,10 +24,8 @@ pub mod Next
 pub mod Few
 pub mod Lending
 pub mod Dues
-pub mod First
 pub mod Becoming
 pub mod Promise
-pub mod InOrder
 pub mod Channels
 pub mod Done
 pub mod Driving

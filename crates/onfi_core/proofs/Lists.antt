@@ -1,11 +1,12 @@
 -- Lists and their places.
-use Rattle.std.proofs.Common.{◌≡◌, ℕ, zero, suc, ◌+◌, ◌≤◌, inl, inr, List, [], ◌∷◌, ◌++◌, length, Some, take, drop, refl, sym, ap, ◌∙◌, arith}
+use Rattle.std.proofs.Common.{◌≡◌, ◌≢◌, ℕ, zero, suc, ◌+◌, inl, inr, List, [], ◌∷◌, ◌++◌, length, Some, take, drop, refl, sym, ap, ◌∙◌, subst, arith}
 use Rattle.std.specs.Prelude.{map, slice_get, slice_index_or, slice_set}
 use Rattle.std.specs.List.{AllByRecursion as All}
 use Rattle.std.proofs.lemmas.List.{take-append-drop}
 use Rattle.onfi_group.specs.Words.{Has, Pairs}
 pub use Rattle.onfi_problem.proofs.Places.{drop_next, get_has}
 use Rattle.onfi_problem.proofs.Perm.{All-has, All-weaker}
+use Rattle.onfi_problem.proofs.Places.{get_set_other, get_set_same, same_place}
 
 pub get_at_length : {A : Type 0} (xs : List A) (x : A) (ys : List A) → slice_get (xs ++ x ∷ ys) (length xs) ≡ Some x
 get_at_length [] x ys = refl
@@ -41,11 +42,6 @@ take_next xs i x h = let e : i + 1 ≡ suc i = omega arith in rw e (take_suc xs 
 pub cut_there : {A : Type 0} (xs : List A) (i : ℕ) (x : A) → slice_get xs i ≡ Some x → xs ≡ take i xs ++ x ∷ drop (i + 1) xs
 cut_there xs i x h = sym (take-append-drop i xs) ∙ ap (λ zs. take i xs ++ zs) (drop_next xs i x h)
 
-pub length_least : {A : Type 0} (m : ℕ) (xs : List A) → length (take m xs) ≤ length xs
-length_least zero xs = omega arith
-length_least (suc m) [] = omega arith
-length_least (suc m) (x ∷ xs) = let h = length_least m xs in omega arith
-
 pub All-take : {A : Type 0} (P : A → Type 0) (n : ℕ) (xs : List A) → All P xs → All P (take n xs)
 All-take P zero xs h = tt
 All-take P (suc n) [] h = tt
@@ -63,6 +59,17 @@ pub set_self : {A : Type 0} (xs : List A) (i : ℕ) (x : A) → slice_get xs i �
 set_self [] i x h = refl
 set_self (y ∷ xs) zero x h = let e : x ≡ y = cc in ap (λ z. z ∷ xs) e
 set_self (y ∷ xs) (suc i) x h = ap (λ zs. y ∷ zs) (set_self xs i x h)
+
+-- where one element is another, what each has
+pub each_set : {A : Type 0} (P : ℕ → A → Type 0) (xs : List A) (at : ℕ) (x y : A) → slice_get xs at ≡ Some x → P at y → ((i : ℕ) (z : A) → i ≢ at → slice_get xs i ≡ Some z → P i z)
+    → (i : ℕ) (z : A) → slice_get (slice_set xs at y) i ≡ Some z → P i z
+each_set P xs at x y there own others i z is = elim (same_place i at) [
+  | inl e ↦ (
+      let both : Some y ≡ Some z = sym (get_set_same xs at x y there) ∙ ap (slice_get (slice_set xs at y)) (sym e) ∙ is in
+      let same : y ≡ z = cc in
+      subst (P i) same (subst (λ j. P j y) (sym e) own))
+  | inr d ↦ others i z d (sym (get_set_other xs at i y d) ∙ is)
+]
 
 -- Mapped lists
 

@@ -21,17 +21,15 @@ wanted_on lun block w h = elim (cases_Bool (w.lun == lun)) [
 
 picked_merged : (marks : List Bool) (items : List Want) → length marks ≡ length items → AreMerged (picked marks items) (left_out marks items) items
 picked_merged [] [] e = (refl, refl)
-picked_merged [] (w ∷ items) e = absurd (omega arith)
-picked_merged (m ∷ marks) [] e = absurd (omega arith)
 picked_merged (true ∷ marks) (w ∷ items) e = inl (picked marks items, refl, picked_merged marks items (omega arith))
 picked_merged (false ∷ marks) (w ∷ items) e = inr (left_out marks items, refl, picked_merged marks items (omega arith))
+picked_merged _ _ e = absurd (omega arith)
 
 pub picked_count : (marks : List Bool) (items : List Want) → length marks ≡ length items → length (picked marks items) ≡ marked marks
 picked_count [] [] e = refl
-picked_count [] (w ∷ items) e = absurd (omega arith)
-picked_count (m ∷ marks) [] e = absurd (omega arith)
 picked_count (true ∷ marks) (w ∷ items) e = let i = picked_count marks items (omega arith) in omega arith
 picked_count (false ∷ marks) (w ∷ items) e = let i = picked_count marks items (omega arith) in omega arith
+picked_count _ _ e = absurd (omega arith)
 
 none_picked : (l b : ℕ) (marks : List Bool) (items : List Want) → ((at : ℕ) (w : Want) → slice_get marks at ≡ Some true → slice_get items at ≡ Some w → is_want_on l b w ≡ true → ⊥) → on l b (picked marks items) ≡ []
 none_picked l b [] items h = refl

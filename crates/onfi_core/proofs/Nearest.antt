@@ -34,58 +34,42 @@ nearest_none slots key from (Some place) h e = (
   ],
 )
 
-same_slot : (a b : Slot) → Some a ≡ Some b → a.place ≡ b.place
-same_slot a b e = ap (λ (x : Slot). x.place) (let q : a ≡ b = cc in q)
+-- one slot more, and those below its key
+each_key : (P : Slot → Type 0) (slots : Slab Slot) (key : ℕ) (slot : Slot) → get slots key ≡ Some slot → P slot → ((k : ℕ) (other : Slot) → k < key → get slots k ≡ Some other → P other)
+    → (k : ℕ) (other : Slot) → k < key + 1 → get slots k ≡ Some other → P other
+each_key P slots key slot e own lower k other low at = elim (next_cases k key low) [
+  | inl l ↦ lower k other l at
+  | inr q ↦ (
+      let both : Some slot ≡ Some other = sym e ∙ ap (get slots) (sym q) ∙ at in
+      let same : slot ≡ other = cc in
+      subst P same own)
+]
 
--- one slot more
 pub nearest_some : (slots : Slab Slot) (key from : ℕ) (least r : Option ℕ) (slot : Slot) → IsNearest slots key from least → get slots key ≡ Some slot → HasSlot slots slot.place → r ≡ nearer least from slot.place → IsNearest slots (key + 1) from r
 nearest_some slots key from None r slot h e has is =
-    let P : Option ℕ → Type 0 = IsNearest slots (key + 1) from in
     elim (cases_lt slot.place from) [
       | inl lt ↦ (
           let q : r ≡ None = is ∙ (rw (lt-ltb slot.place from lt) refl) in
-          subst P (sym q) (λ k other low at. elim (next_cases k key low) [
-            | inl l ↦ h k other l at
-            | inr z ↦ (let s = same_slot slot other (sym e ∙ ap (get slots) (sym z) ∙ at) in omega arith)
-          ]))
+          subst (IsNearest slots (key + 1) from) (sym q) (each_key (λ other. other.place < from) slots key slot e lt h))
       | inr ge ↦ (
           let q : r ≡ Some slot.place = is ∙ (rw (le-ltb slot.place from ge) refl) in
-          subst P (sym q) (
-            ge,
-            has,
-            λ k other low at above. elim (next_cases k key low) [
-              | inl l ↦ (let z = h k other l at in omega arith)
-              | inr z ↦ (let s = same_slot slot other (sym e ∙ ap (get slots) (sym z) ∙ at) in omega arith)
-            ],
-          ))
+          let above = each_key (λ other. from ≤ other.place → slot.place ≤ other.place) slots key slot e (λ _. omega arith) (λ k other l at above. let z = h k other l at in omega arith) in
+          subst (IsNearest slots (key + 1) from) (sym q) (ge, has, above))
     ]
 nearest_some slots key from (Some least) r slot h e has is =
-    let P : Option ℕ → Type 0 = IsNearest slots (key + 1) from in
     elim (cases_lt slot.place from) [
       | inl lt ↦ (
           let q : r ≡ Some least = is ∙ (rw (lt-ltb slot.place from lt) refl) in
-          subst P (sym q) (
-            h.0,
-            h.1,
-            λ k other low at above. elim (next_cases k key low) [
-              | inl l ↦ h.2 k other l at above
-              | inr z ↦ (let s = same_slot slot other (sym e ∙ ap (get slots) (sym z) ∙ at) in omega arith)
-            ],
-          ))
+          subst (IsNearest slots (key + 1) from) (sym q) (h.0, h.1, each_key (λ other. from ≤ other.place → least ≤ other.place) slots key slot e (λ above. omega arith) h.2))
       | inr ge ↦ (
           let q : r ≡ Some (min least slot.place) = is ∙ (rw (le-ltb slot.place from ge) refl) in
-          let a = h.0 in
-          subst P (sym q) (
-            omega arith,
-            elim (cases_lt least slot.place) [
-              | inl lt ↦ (let m : min least slot.place ≡ least = omega arith in rw m h.1)
-              | inr le ↦ (let m : min least slot.place ≡ slot.place = omega arith in rw m has)
-            ],
-            λ k other low at above. elim (next_cases k key low) [
-              | inl l ↦ (let z = h.2 k other l at above in omega arith)
-              | inr z ↦ (let s = same_slot slot other (sym e ∙ ap (get slots) (sym z) ∙ at) in omega arith)
-            ],
-          ))
+          let low : from ≤ min least slot.place = (let a = h.0 in omega arith) in
+          let there : HasSlot slots (min least slot.place) = elim (cases_lt least slot.place) [
+            | inl lt ↦ (let m : min least slot.place ≡ least = omega arith in rw m h.1)
+            | inr le ↦ (let m : min least slot.place ≡ slot.place = omega arith in rw m has)
+          ] in
+          let above = each_key (λ other. from ≤ other.place → min least slot.place ≤ other.place) slots key slot e (λ _. omega arith) (λ k other l at above. let z = h.2 k other l at above in omega arith) in
+          subst (IsNearest slots (key + 1) from) (sym q) (low, there, above))
     ]
 
 -- the places that are passed over have their reply

@@ -2,7 +2,8 @@
 use Rattle.std.proofs.Common.{◌≡◌, ℕ, zero, suc, ◌+◌, ◌<◌, ◌≤◌, ◌⊎◌, inl, inr, true, false, List, [], ◌∷◌, ◌++◌, ◌-◌, length, Some, None, ◌^◌, take, drop, refl, sym, ap, ◌∙◌, subst, append_assoc, length-drop, arith}
 use Rattle.std.specs.Prelude.{slice_get, ◌==◌, nat_lt, not, if◌then◌else◌, Bool, Option}
 use Rattle.std.specs.List.{flat_map}
-use Rattle.std.proofs.lemmas.Bool.{cases_Bool, cases_lt, lt-ltb}
+use Rattle.std.proofs.lemmas.Bool.{cases_Bool, le-ltb, lt-ltb}
+use Rattle.std.proofs.lemmas.List.{length-append, length-take, take_all}
 use Rattle.std.proofs.lemmas.Bool.Decides.{nat_tests}
 use Rattle.onfi_addr.specs.declared.geometry.Geometry.{Geometry}
 use Rattle.onfi_request.specs.declared.request.Item.{Item}
@@ -25,6 +26,7 @@ use Rattle.onfi_core.specs.Kept.{IsSound, is_of_place, unposted}
 use Rattle.onfi_core.specs.View.{HasSlot, AreSlots}
 use Rattle.onfi_core.proofs.Lists.{take_next}
 use Rattle.onfi_core.proofs.Promise.{one_each}
+use Rattle.onfi_core.proofs.Numbered.{length_wants}
 
 -- a place that is unplanned, not started, running or held is not posted
 pub not_posted : (s : Setup) (h : HalfState) (i : ℕ) → IsSound s h → 1 ≤ number (has_id i) (unplanned s h) + (number (has_id i) h.now.wants + (number (has_id i) (flat_map unposted h.now.luns) + number (is_of_place i) h.held)) → number (is_of_place i) h.posted ≡ 0
@@ -75,33 +77,17 @@ takes_one geometry accepted planned at x done before there so =
     ∙ append_assoc before (take at (wants_from geometry planned (drop planned accepted))) (want_of geometry (planned + at) x ∷ [])
     ∙ ap (λ zs. before ++ zs) (sym t)
 
-take_all : {A : Type 0} (n m : ℕ) (xs : List A) → length xs ≤ n → length xs ≤ m → take n xs ≡ take m xs
-take_all zero zero [] a b = refl
-take_all zero (suc m) [] a b = refl
-take_all (suc n) zero [] a b = refl
-take_all (suc n) (suc m) [] a b = refl
-take_all zero m (x ∷ xs) a b = absurd (omega arith)
-take_all (suc n) zero (x ∷ xs) a b = absurd (omega arith)
-take_all (suc n) (suc m) (x ∷ xs) a b = ap (λ zs. x ∷ zs) (take_all n m xs (omega arith) (omega arith))
-
 -- as many as there are, or as many as find a place
 pub takes_all : {A : Type 0} (n m : ℕ) (xs : List A) → n ≤ m → (n ≡ m) ⊎ (length xs ≤ n) → take n xs ≡ take m xs
 takes_all n m xs low (inl e) = ap (λ k. take k xs) e
-takes_all n m xs low (inr h) = take_all n m xs h (omega arith)
+takes_all n m xs low (inr h) = take_all n xs h ∙ sym (take_all m xs (omega arith))
 
-goes : (stopped : Option Outcome) (none late : Bool) → stopped ≡ None → none ≡ false → late ≡ false → or_else stopped (or_else (refused_where none outcome.NothingToPlan) (refused_where late (outcome.Stopped Clock))) ≡ None
-goes stopped none late a b c = rw (a, b, c) refl
+-- where nothing else stands against it a planning is refused just where it might end late
+late_alone : (stopped : Option Outcome) (none late : Bool) → stopped ≡ None → none ≡ false → or_else stopped (or_else (refused_where none outcome.NothingToPlan) (refused_where late (outcome.Stopped Clock))) ≡ refused_where late (outcome.Stopped Clock)
+late_alone stopped none late a b = rw (a, b) refl
 
-goes_late : (stopped : Option Outcome) (none late : Bool) → stopped ≡ None → none ≡ false → late ≡ true → or_else stopped (or_else (refused_where none outcome.NothingToPlan) (refused_where late (outcome.Stopped Clock))) ≡ Some (outcome.Stopped Clock)
-goes_late stopped none late a b c = rw (a, b, c) refl
-
--- where nothing stands against it a planning is not refused
-plan_goes_on : (s : Setup) (h : HalfState) → h.stopped ≡ None → nothing_to_plan s h ≡ false → is_late s.choice s h ≡ false → plan_refusal s h ≡ None
-plan_goes_on s h going some early = goes (if_stopped h.stopped) (nothing_to_plan s h) (is_late s.choice s h) (ap if_stopped going) some early
-
--- .. one that might end late is
-stopped_late : (s : Setup) (h : HalfState) → h.stopped ≡ None → nothing_to_plan s h ≡ false → is_late s.choice s h ≡ true → plan_refusal s h ≡ Some (outcome.Stopped Clock)
-stopped_late s h going some late = goes_late (if_stopped h.stopped) (nothing_to_plan s h) (is_late s.choice s h) (ap if_stopped going) some late
+plan_by_time : (s : Setup) (h : HalfState) (late : Bool) → h.stopped ≡ None → nothing_to_plan s h ≡ false → is_late s.choice s h ≡ late → plan_refusal s h ≡ refused_where late (outcome.Stopped Clock)
+plan_by_time s h late going some is = late_alone (if_stopped h.stopped) (nothing_to_plan s h) (is_late s.choice s h) (ap if_stopped going) some ∙ ap (λ b. refused_where b (outcome.Stopped Clock)) is
 
 -- a planning of what is taken ends in time: in order the state tells so
 early_by : (choice : Choice) (s : Setup) (h : HalfState) (taken : Taken) → TakesBy choice s h taken → horizon (problem_with h taken.wants) < 2 ^ 62
@@ -115,15 +101,15 @@ early_by ReadsFirst s h taken takes low = refl
 -- nothing stands against a planning of what is taken that ends in time
 pub taken_goes_on : (s : Setup) (h : HalfState) (taken : Taken) → h.stopped ≡ None → nothing_to_plan s h ≡ false → Takes s h taken
     → horizon (problem_with h taken.wants) < 2 ^ 62 → plan_refusal s h ≡ None
-taken_goes_on s h taken going some takes low = plan_goes_on s h going some (early_by s.choice s h taken takes low)
+taken_goes_on s h taken going some takes low = plan_by_time s h false going some (early_by s.choice s h taken takes low)
 
 -- one that might end late stops the channel
 pub taken_stops : (s : Setup) (h : HalfState) (taken : Taken) → h.stopped ≡ None → nothing_to_plan s h ≡ false → Takes s h taken
     → 2 ^ 62 ≤ horizon (problem_with h taken.wants)
     → (plan_refusal s h ≡ Some (outcome.Stopped Clock)) ⊎ ((plan_refusal s h ≡ None) × (Clock ≡ Clock) × RunsLate s h)
 taken_stops s h taken going some takes high = elim (cases_Bool (is_late s.choice s h)) [
-  | inl late ↦ inl (stopped_late s h going some late)
-  | inr early ↦ inr (plan_goes_on s h going some early, refl, (taken, takes, high))
+  | inl late ↦ inl (plan_by_time s h true going some late)
+  | inr early ↦ inr (plan_by_time s h false going some early, refl, (taken, takes, high))
 ]
 
 -- then no item is taken
@@ -136,48 +122,19 @@ none_taken s h none = both (is_empty (taken_next s h)) (is_current h) none
 
 -- Whether a planning takes more
 
-is_empty_take : {A : Type 0} (n : ℕ) (xs : List A) → 1 ≤ n → is_empty (take n xs) ≡ is_empty xs
-is_empty_take zero xs h = absurd (omega arith)
-is_empty_take (suc n) [] h = refl
-is_empty_take (suc n) (x ∷ xs) h = refl
+empty_or : {A : Type 0} (xs : List A) → ((is_empty xs ≡ true) × (length xs ≡ 0)) ⊎ ((is_empty xs ≡ false) × (1 ≤ length xs))
+empty_or [] = inl (refl, refl)
+empty_or (x ∷ xs) = inr (refl, omega arith)
 
-pub some_taken : (s : Setup) (h : HalfState) → length h.now.wants < h.batch → is_empty (taken_next s h) ≡ is_empty (unplanned s h)
-some_taken s h room = is_empty_take (h.batch - length h.now.wants) (unplanned s h) (omega arith)
-
-empty_wants : (geometry : Geometry) (n : ℕ) (xs : List Item) → is_empty (wants_from geometry n xs) ≡ is_empty xs
-empty_wants geometry n [] = refl
-empty_wants geometry n (x ∷ xs) = refl
-
-lt_same : (n m k l : ℕ) → (n < m → k < l) → (k < l → n < m) → nat_lt n m ≡ nat_lt k l
-lt_same n m k l a b = elim (cases_lt n m) [
-  | inl lt ↦ lt-ltb n m lt ∙ sym (lt-ltb k l (a lt))
-  | inr ge ↦ elim (cases_lt k l) [
-    | inl lt ↦ absurd (let q = b lt in omega arith)
-    | inr ge' ↦ (let x : nat_lt n m ≡ false = grind (arith, nat_tests) in let y : nat_lt k l ≡ false = grind (arith, nat_tests) in x ∙ sym y)
-  ]
-]
-
-empty_drop : {A : Type 0} (n : ℕ) (xs : List A) → is_empty (drop n xs) ≡ not (nat_lt n (length xs))
-empty_drop zero [] = refl
-empty_drop zero (x ∷ xs) = ap not (sym (lt-ltb 0 (length (x ∷ xs)) (omega arith)))
-empty_drop (suc n) [] = let e : nat_lt (suc n) 0 ≡ false = grind (arith, nat_tests) in ap not (sym e)
-empty_drop (suc n) (x ∷ xs) = empty_drop n xs ∙ ap not (lt_same n (length xs) (suc n) (suc (length xs)) (λ l. omega arith) (λ l. omega arith))
-
-empty_back : {A : Type 0} (xs ys : List A) → is_empty xs ≡ true → is_empty (xs ++ ys) ≡ is_empty ys
-empty_back [] ys h = refl
-empty_back (x ∷ xs) ys h = cc
-
-none_there : {A : Type 0} (xs : List A) → length xs ≡ 0 → is_empty xs ≡ true
-none_there [] e = refl
-none_there (x ∷ xs) e = absurd (omega arith)
-
-not_not : (b : Bool) → b ≡ not (not b)
-not_not true = refl
-not_not false = refl
-
--- else what no planning has looked at
+-- where nothing is set aside it takes what no planning has looked at
 pub new_takes : (s : Setup) (h : HalfState) → length h.now.wants < h.batch → length h.aside ≡ 0 → nat_lt h.planned (length h.accepted) ≡ not (is_empty (taken_next s h))
 new_takes s h room none =
     let W = wants_from s.geometry h.planned (drop h.planned h.accepted) in
-    let e = some_taken s h room ∙ empty_back h.aside W (none_there h.aside none) ∙ empty_wants s.geometry h.planned (drop h.planned h.accepted) ∙ empty_drop h.planned h.accepted in
-    not_not (nat_lt h.planned (length h.accepted)) ∙ ap not (sym e)
+    let a = length-append h.aside W in
+    let b = length_wants s.geometry h.planned (drop h.planned h.accepted) in
+    let c = length-drop h.planned h.accepted in
+    let l = length-take (h.batch - length h.now.wants) (unplanned s h) in
+    elim (empty_or (taken_next s h)) [
+      | inl e ↦ le-ltb h.planned (length h.accepted) (let z = e.1 in omega (arith, a, b, c, l, z)) ∙ ap not (sym e.0)
+      | inr e ↦ lt-ltb h.planned (length h.accepted) (let z = e.1 in omega (arith, a, b, c, l, z)) ∙ ap not (sym e.0)
+    ]

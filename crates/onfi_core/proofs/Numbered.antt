@@ -10,7 +10,7 @@ use Rattle.onfi_core.specs.Kept.{IsTaken}
 use Rattle.onfi_addr.specs.declared.geometry.Geometry.{Geometry}
 use Rattle.onfi_core.specs.State.{want_of, wants_from}
 use Rattle.onfi_core.specs.declared.setup.Setup.{Setup}
-use Rattle.onfi_core.proofs.Lists.{get_at_length}
+use Rattle.onfi_core.proofs.Lists.{All-take, get_at_length}
 
 pub length_wants : (geometry : Geometry) (n : ℕ) (xs : List Item) → length (wants_from geometry n xs) ≡ length xs
 length_wants geometry n [] = refl
@@ -39,11 +39,18 @@ taken_are s all n (suc m) bound pre (x ∷ xs) e f g =
       taken_are s all (n + 1) m bound (pre ++ x ∷ []) xs (e ∙ sym (append_assoc pre (x ∷ []) xs)) (omega (arith, length-append pre (x ∷ []))) (omega arith),
     )
 
+-- what holds of each item's want
+pub All-wants : (geometry : Geometry) (P : Want → Type 0) (Q : Item → Type 0) → ((n : ℕ) (x : Item) → Q x → P (want_of geometry n x)) → (n : ℕ) (xs : List Item) → All Q xs → All P (wants_from geometry n xs)
+All-wants geometry P Q each n [] h = tt
+All-wants geometry P Q each n (x ∷ xs) h = (each n x h.0, All-wants geometry P Q each (n + 1) xs h.1)
+
+from_above : (geometry : Geometry) (n k : ℕ) (xs : List Item) → n ≤ k → All (λ (w : Want). n ≤ w.id) (wants_from geometry k xs)
+from_above geometry n k [] h = tt
+from_above geometry n k (x ∷ xs) h = (h, from_above geometry n (k + 1) xs (omega arith))
+
 -- numbers rise, and are those from n on
 pub not_below : (geometry : Geometry) (n m k : ℕ) (xs : List Item) → n ≤ k → All (λ (w : Want). n ≤ w.id) (take m (wants_from geometry k xs))
-not_below geometry n zero k xs h = tt
-not_below geometry n (suc m) k [] h = tt
-not_below geometry n (suc m) k (x ∷ xs) h = (h, not_below geometry n m (k + 1) xs (omega arith))
+not_below geometry n m k xs h = All-take (λ (w : Want). n ≤ w.id) m (wants_from geometry k xs) (from_above geometry n k xs h)
 
 above : (a : ℕ) (v : Want) (ws : List Want) → v.id ≡ a → All (λ (w : Want). a + 1 ≤ w.id) ws → All (λ (w : Want). v.id < w.id) ws
 above a v [] e h = tt
@@ -67,10 +74,6 @@ Rising-append n (u ∷ us) vs a b c d = (all_above us vs a.0 d, Rising-append n 
 pub below_length : (geometry : Geometry) (n : ℕ) (xs : List Item) (bound : ℕ) → n + length xs ≡ bound → All (λ (w : Want). w.id < bound) (wants_from geometry n xs)
 below_length geometry n [] bound e = tt
 below_length geometry n (x ∷ xs) bound e = (omega arith, below_length geometry (n + 1) xs bound (omega arith))
-
-from_above : (geometry : Geometry) (n k : ℕ) (xs : List Item) → n ≤ k → All (λ (w : Want). n ≤ w.id) (wants_from geometry k xs)
-from_above geometry n k [] h = tt
-from_above geometry n k (x ∷ xs) h = (h, from_above geometry n (k + 1) xs (omega arith))
 
 pub none_below : (geometry : Geometry) (n : ℕ) (xs : List Item) → All (λ (w : Want). n ≤ w.id) (wants_from geometry n xs)
 none_below geometry n xs = from_above geometry n n xs (omega arith)

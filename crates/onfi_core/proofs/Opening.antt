@@ -1,7 +1,9 @@
 -- The opening state.
-use Rattle.std.proofs.Common.{◌≡◌, ℕ, zero, suc, ◌+◌, ◌⊎◌, inl, inr, List, [], length, Some, None, refl, sym, ap, ◌∙◌, arith}
+use Rattle.std.proofs.Common.{◌≡◌, ℕ, zero, suc, ◌+◌, ◌⊎◌, inl, inr, List, [], Some, None, refl, sym, ◌∙◌, arith}
 use Rattle.std.specs.Prelude.{slice_get, replicate}
 use Rattle.std.specs.List.{flat_map}
+use Rattle.std.proofs.lemmas.List.{length-replicate}
+use Rattle.onfi_request.specs.declared.request.Item.{Item}
 use Rattle.onfi_timing.specs.declared.timing.Timing.{Timing}
 use Rattle.onfi_request.specs.declared.fault.Fault.{Fault}
 use Rattle.onfi_request.specs.declared.want.Want.{Want}
@@ -15,38 +17,35 @@ use Rattle.onfi_chip.specs.Chip.Lun.{Idle}
 use Rattle.onfi_core.specs.Kept.{IsSound, first_half, unposted, first_problem, first, IsReached, LunAgrees, commanding}
 use Rattle.onfi_core.specs.declared.setup.Setup.{Setup}
 
-length_same : {A : Type 0} (n : ℕ) (x : A) → length (replicate n x) ≡ n
-length_same zero x = refl
-length_same (suc n) x = ap suc (length_same n x)
-
 -- each is that one
 pub get_same : {A : Type 0} (n : ℕ) (x : A) (i : ℕ) → (slice_get (replicate n x) i ≡ None) ⊎ (slice_get (replicate n x) i ≡ Some x)
 get_same zero x i = inl refl
 get_same (suc n) x zero = inr refl
 get_same (suc n) x (suc i) = get_same n x i
 
-same_element : {A : Type 0} (n : ℕ) (x : A) (i : ℕ) (y : A) → slice_get (replicate n x) i ≡ Some y → x ≡ y
+pub same_element : {A : Type 0} (n : ℕ) (x : A) (i : ℕ) (y : A) → slice_get (replicate n x) i ≡ Some y → x ≡ y
 same_element n x i y h = let c = get_same n x i in elim c [ inl k ↦ (let e = sym k ∙ h in cc) | inr k ↦ (let e = sym k ∙ h in cc) ]
 
 no_phase : (timing : Timing) (from n : ℕ) → rest_phases timing from (replicate n (Free 0)) (replicate n []) ≡ []
 no_phase timing from zero = refl
 no_phase timing from (suc n) = no_phase timing (from + 1) n
 
-idle : (device : Device) (n i : ℕ) → LunAgrees device [] (slice_get (replicate n (Free 0)) i) (slice_get (replicate n Idle) i)
-idle device zero i = refl
-idle device (suc n) zero = refl
-idle device (suc n) (suc i) = idle device n i
+-- on each of them the chip's LUN does nothing
+pub idle : (device : Device) (items : List Item) (n i : ℕ) → LunAgrees device items (slice_get (replicate n (Free 0)) i) (slice_get (replicate n Idle) i)
+idle device items zero i = refl
+idle device items (suc n) zero = refl
+idle device items (suc n) (suc i) = idle device items n i
 
 nothing_commanded : (n i : ℕ) → commanding (slice_get (replicate n (Free 0)) i) ≡ []
 nothing_commanded n i = elim (get_same n (Free 0) i) [ inl k ↦ rw k refl | inr k ↦ rw k refl ]
 
-none_running : (n lun : ℕ) (group : List Want) (next ready : ℕ) → slice_get (replicate n (Free 0)) lun ≡ Some (Running group next ready) → ⊥
+pub none_running : (n lun : ℕ) (group : List Want) (next ready : ℕ) → slice_get (replicate n (Free 0)) lun ≡ Some (Running group next ready) → ⊥
 none_running n lun group next ready h = let e = same_element n (Free 0) lun _ h in cc
 
 pub opened_legal : (s : Setup) → Legal (first_problem s) (record { rest = replicate s.geometry.lun_count []; groups = [] })
 opened_legal s = record {
   shape = record {
-    luns = length_same s.geometry.lun_count [] ∙ sym (length_same s.geometry.lun_count (Free 0));
+    luns = length-replicate s.geometry.lun_count [] ∙ sym (length-replicate s.geometry.lun_count (Free 0));
     rest = λ lun group next ready starts h k. absurd (none_running s.geometry.lun_count lun group next ready h);
     no_rest = λ lun since starts h k. sym (same_element s.geometry.lun_count [] lun starts k);
     starts = tt;
@@ -80,7 +79,7 @@ opened_sound s = record {
   rules = refl;
   problem = opened_problem s;
   few = omega arith;
-  luns = length_same s.geometry.lun_count (Free 0);
+  luns = length-replicate s.geometry.lun_count (Free 0);
   legal = opened_legal s;
   in_range = tt;
   wants = tt;
@@ -99,7 +98,7 @@ opened s faults failures = record {
     geometry = refl;
     timing = refl;
     blocks = λ lun block. record { ran = []; contents = refl; order = let e = nothing_commanded s.geometry.lun_count lun in rw e refl };
-    luns = λ lun. idle (device_of s.geometry faults) s.geometry.lun_count lun;
+    luns = λ lun. idle (device_of s.geometry faults) [] s.geometry.lun_count lun;
   };
   sent = refl;
   in_range = tt;

@@ -16,10 +16,9 @@ use Rattle.onfi_core.specs.State.{ChannelState, HalfState}
 use Rattle.onfi_core.specs.Steps.{wait_lag, waited}
 use Rattle.onfi_core.specs.Times.{all_starts, free_at, lag, later, later_group, later_starts, latest_start}
 use Rattle.onfi_core.specs.View.{AreFields}
-use Rattle.onfi_core.proofs.First.{phases_start}
-use Rattle.onfi_core.proofs.Halves.{same_replies}
+use Rattle.onfi_core.proofs.Halves.{fields_but, same_replies, sound_but}
 use Rattle.onfi_core.proofs.Lags.{below_latest}
-use Rattle.onfi_core.proofs.Shifted.{later_legal}
+use Rattle.onfi_core.proofs.Shifted.{later_legal, phases_start}
 use Rattle.onfi_core.proofs.Lists.{get_has, get_map}
 
 -- none starts before the moment once all are later by the lag
@@ -49,25 +48,10 @@ waited_legal moment h legal =
     (All-both (λ (x : Phase). h.now.bus_free ≤ x.start) (λ (x : Phase). moment - by ≤ x.start) (λ (x : Phase). max h.now.bus_free moment ≤ x.start + by) (λ x a b. omega (arith, a, b)) (phases h.now h.left) legal.from_bus_free low)
 
 pub sound_waited : (s : Setup) (moment : ℕ) (h : HalfState) → IsSound s h → IsSound s (waited moment h)
-sound_waited s moment h r = record {
-  planned = r.planned;
-  some_batch = r.some_batch;
-  few_batch = r.few_batch;
-  timing = r.timing;
-  rules = r.rules;
-  problem = record { wants = r.problem.wants; in_range = r.problem.in_range; ids = r.problem.ids; running = r.problem.running };
-  few = r.few;
-  luns = r.luns;
-  legal = waited_legal moment h r.legal;
-  in_range = r.in_range;
-  wants = r.wants;
-  running = r.running;
-  once = r.once;
-  aside = r.aside;
-  aside_rise = r.aside_rise;
-  in_order = r.in_order;
-  last = r.last;
-}
+sound_waited s moment h r =
+    let later = waited moment h in
+    sound_but s h r later.now later.left later.outdated h.held h.posted h.stopped refl refl refl
+    (record { wants = r.problem.wants; in_range = r.problem.in_range; ids = r.problem.ids; running = r.problem.running }) r.few (waited_legal moment h r.legal) r.wants r.running r.once
 
 pub wait_kept : (s : Setup) (c : ChannelState) (moment : ℕ) → IsReached s c → IsReached s (record c { half = waited moment c.half })
 wait_kept s c moment r = same_replies s c (waited moment c.half) c.chip r refl refl refl refl (sound_waited s moment c.half r.half.sound)
@@ -75,14 +59,7 @@ wait_kept s c moment r = same_replies s c (waited moment c.half) c.chip r refl r
 
 pub fields_waited : (s : Setup) (slots : Slab Slot) (n room : ℕ) (kept : List Reply) (at : Option Lent) (h : HalfState) (lent : Option Reply) (moment : ℕ)
     → AreFields s slots n room kept at h lent → AreFields s slots n room kept at (waited moment h) lent
-fields_waited s slots n room kept at h lent moment f = record {
-  slots_are = f.slots_are;
-  count = f.count;
-  numbered = f.numbered;
-  room_is = f.room_is;
-  lending = f.lending;
-  sound = sound_waited s moment h f.sound;
-}
+fields_waited s slots n room kept at h lent moment f = fields_but s slots n room room kept kept at at h (waited moment h) lent lent f refl refl refl f.lending (sound_waited s moment h f.sound)
 
 -- .. where the fields are those of a wait
 pub fields_later : (s : Setup) (slots : Slab Slot) (n room : ℕ) (kept : List Reply) (at : Option Lent) (h : HalfState) (lent : Option Reply) (moment by free : ℕ) (outdated : Bool) (rest : List (List ℕ)) (groups : List Placed)

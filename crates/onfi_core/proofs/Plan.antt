@@ -1,9 +1,9 @@
 -- A planning keeps what every reachable state keeps.
-use Rattle.std.proofs.Common.{◌≡◌, ◌≢◌, ℕ, zero, suc, ◌+◌, ◌-◌, ◌<◌, ◌≤◌, ◌⊎◌, inl, inr, List, [], ◌∷◌, ◌++◌, length, take, drop, None, append-nil, refl, sym, ap, subst, ◌∙◌, append_assoc, length-drop, length-append, arith}
+use Rattle.std.proofs.Common.{◌≡◌, ◌≢◌, ℕ, ◌+◌, ◌-◌, ◌<◌, ◌≤◌, ◌⊎◌, inl, inr, List, [], ◌++◌, length, take, drop, None, append-nil, refl, sym, ap, subst, ◌∙◌, append_assoc, length-drop, length-append, arith}
 use Rattle.std.specs.Prelude.{slice_get, ◌%◌, ◌^◌}
 use Rattle.std.specs.List.{AllByRecursion as All}
 use Rattle.std.proofs.Math.Nat.{mod-lt}
-use Rattle.std.proofs.lemmas.List.{drop-drop, drop_all, length-take-le, take-append-drop}
+use Rattle.std.proofs.lemmas.List.{drop-drop, drop_all, length-take, length-take-le, take-append-drop}
 use Rattle.std.proofs.lemmas.List.Elements.{filter-append}
 use Rattle.onfi_addr.specs.Rows.{plane_of_block}
 use Rattle.onfi_timing.specs.declared.kind.Kind.{Kind}
@@ -26,9 +26,9 @@ use Rattle.onfi_core.specs.declared.setup.Choice.TheVariants.{InOrder, ByLun, Re
 use Rattle.onfi_core.specs.declared.setup.Setup.{Setup}
 use Rattle.onfi_core.proofs.Bus.{number-append}
 use Rattle.onfi_core.proofs.Halves.{same_replies}
-use Rattle.onfi_core.proofs.Lists.{All-at, All-drop, length_least}
+use Rattle.onfi_core.proofs.Lists.{All-at, All-drop, All-take}
 use Rattle.onfi_core.proofs.Merged.{all_parts, filter_merged, in_turn, merged_all, number_merged, rise_back, rise_parts}
-use Rattle.onfi_core.proofs.Numbered.{all_taken, length_wants, none_below, split_at, taken_are, not_below, numbers_rise, Rising-append, wants_rise}
+use Rattle.onfi_core.proofs.Numbered.{All-wants, all_taken, length_wants, none_below, split_at, taken_are, not_below, numbers_rise, Rising-append, wants_rise}
 use Rattle.onfi_core.proofs.Promise.{one_each}
 
 -- an item in range is a want of a problem
@@ -58,21 +58,6 @@ is_want s n x f = record {
   plane = plane_small s x.request.place.block;
   erase = erase_page s x.request.kind x.request.place.page f.page;
 }
-
-wants_are_wants : (s : Setup) (n m : ℕ) (xs : List Item) → All (λ (x : Item). Fits s.geometry x.request) xs → All IsWant (take m (wants_from s.geometry n xs))
-wants_are_wants s n zero xs h = tt
-wants_are_wants s n (suc m) [] h = tt
-wants_are_wants s n (suc m) (x ∷ xs) h = (is_want s n x h.0, wants_are_wants s (n + 1) m xs h.1)
-
-taken_in_range : (s : Setup) (n m : ℕ) (xs : List Item) → All (λ (x : Item). Fits s.geometry x.request) xs → All (λ (w : Want). w.lun < s.geometry.lun_count) (take m (wants_from s.geometry n xs))
-taken_in_range s n zero xs h = tt
-taken_in_range s n (suc m) [] h = tt
-taken_in_range s n (suc m) (x ∷ xs) h = (h.0.lun, taken_in_range s (n + 1) m xs h.1)
-
-pub take_few : {A : Type 0} (m : ℕ) (xs : List A) → length (take m xs) ≤ m
-take_few zero xs = omega arith
-take_few (suc m) [] = omega arith
-take_few (suc m) (x ∷ xs) = let h = take_few m xs in omega arith
 
 -- a want that was looked at is one of a problem, of a LUN that is there
 module _ (s : Setup) (n : ℕ) (accepted : List Item) (in_range : All (λ (x : Item). Fits s.geometry x.request) accepted) where
@@ -128,18 +113,21 @@ module _ (s : Setup) (h : HalfState) (half : IsSound s h) (empty : h.aside ≡ [
   next_is_problem =
       let P : List Want → Type 0 = λ ts. IsProblem (problem_with h (h.now.wants ++ ts)) in
       let T = take room (wants_from s.geometry h.planned items) in
+      let fit = All-drop (λ (x : Item). Fits s.geometry x.request) h.planned h.accepted half.in_range in
+      let wants = All-wants s.geometry IsWant (λ (x : Item). Fits s.geometry x.request) (λ n x f. is_want s n x f) h.planned items fit in
+      let below = All-wants s.geometry (λ (w : Want). w.lun < s.geometry.lun_count) (λ (x : Item). Fits s.geometry x.request) (λ n x f. f.lun) h.planned items fit in
       let base : P T = record {
-        wants = All-append IsWant h.now.wants T half.problem.wants (wants_are_wants s h.planned room items (All-drop _ h.planned h.accepted half.in_range));
+        wants = All-append IsWant h.now.wants T half.problem.wants (All-take IsWant room (wants_from s.geometry h.planned items) wants);
         running = half.problem.running;
         ids = Rising-append h.planned h.now.wants T half.problem.ids (numbers_rise s.geometry h.planned room items) (All-weaker _ (λ (w : Want). w.id < h.planned) (λ w t. t.below) h.now.wants half.wants) (not_below s.geometry h.planned room h.planned items (omega arith));
-        in_range = All-append _ h.now.wants T half.problem.in_range (let e = half.luns in rw e (taken_in_range s h.planned room items (All-drop _ h.planned h.accepted half.in_range)));
+        in_range = All-append _ h.now.wants T half.problem.in_range (let e = half.luns in rw e (All-take (λ (w : Want). w.lun < s.geometry.lun_count) room (wants_from s.geometry h.planned items) below));
       } in
       subst P (sym taken_is) base
 
   next_few : length (h.now.wants ++ taken_next s h) ≤ 8
   next_few =
       let a = length-append h.now.wants (taken_next s h) in
-      let b = take_few (h.batch - length h.now.wants) (unplanned s h) in
+      let b = length-take (h.batch - length h.now.wants) (unplanned s h) in
       let c = half.few in
       let d = half.few_batch in
       omega arith
@@ -155,7 +143,7 @@ module _ (s : Setup) (h : HalfState) (half : IsSound s h) (empty : h.aside ≡ [
   few_taken : h.planned + length (taken_next s h) ≤ length h.accepted
   few_taken =
       let T = take room (wants_from s.geometry h.planned items) in
-      let a = length_least room (wants_from s.geometry h.planned items) in
+      let a = length-take room (wants_from s.geometry h.planned items) in
       let b = length_wants s.geometry h.planned items in
       let c = length-drop h.planned h.accepted in
       let d = half.planned in

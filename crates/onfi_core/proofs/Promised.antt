@@ -8,6 +8,7 @@ use Rattle.onfi_core.specs.declared.event.Event.{Event}
 use Rattle.onfi_core.specs.declared.event.Event.TheVariants.{Submit, Accept, Plan, Bus, Wait, Ready, Post, Collect}
 use Rattle.onfi_core.specs.declared.half.PlanRefusal.{PlanRefusal}
 use Rattle.onfi_core.specs.declared.half.PlanRefusal.TheVariants as refused
+use Rattle.onfi_core.specs.declared.outcome.Cause.{Cause}
 use Rattle.onfi_core.specs.declared.outcome.Outcome.{Outcome}
 use Rattle.onfi_core.specs.declared.outcome.Outcome.TheVariants.{Stopped}
 use Rattle.onfi_core.specs.declared.setup.Setup.{Setup}
@@ -43,16 +44,20 @@ plain_is_plain plan planned promised =
 
 -- A planning
 
-refused_last : (s : Setup) (h : HalfState) (refusal : PlanRefusal) (h' : HalfState) → PlanRefused s h refusal h' → h'.last ≡ h.last
-refused_last s h (refused.Stopped cause) h' (e, is) = ap (λ (x : HalfState). x.last) is
-refused_last s h refused.NothingToPlan h' (e, is) = ap (λ (x : HalfState). x.last) is
-refused_last s h (refused.Over opened) h' (e, count, more, is) = ap (λ (x : HalfState). x.last) is
-refused_last s h refused.Memory h' (e, is) = ap (λ (x : HalfState). x.last) is
+stop_alone : (h h' : HalfState) (stopped : Option Cause) → h' ≡ record h { stopped = stopped } → h' ≡ record h { stopped = h'.stopped }
+stop_alone h h' stopped is = is ∙ ap (λ o. let z : HalfState = record h { stopped = o } in z) (sym (ap (λ (x : HalfState). x.stopped) is))
+
+-- a planning that is refused changes nothing, save that a stop cause stays
+pub refused_is : (s : Setup) (h : HalfState) (refusal : PlanRefusal) (h' : HalfState) → PlanRefused s h refusal h' → h' ≡ record h { stopped = h'.stopped }
+refused_is s h (refused.Stopped cause) h' (e, is) = stop_alone h h' (Some cause) is
+refused_is s h refused.NothingToPlan h' (e, is) = stop_alone h h' h.stopped is
+refused_is s h (refused.Over opened) h' (e, count, more, is) = stop_alone h h' h.stopped is
+refused_is s h refused.Memory h' (e, is) = stop_alone h h' h.stopped is
 
 -- the last plan is such behind a planning, where a new one is
 pub planned_last : (Such : Planning → Type 0) (s : Setup) (h : HalfState) (result : Result ℕ PlanRefusal) (h' : HalfState) → IfOk result (λ _. IfSome h'.last Such) → IfErr result (λ refusal. PlanRefused s h refusal h') → IfSome h.last Such → IfSome h'.last Such
 planned_last Such s h (Ok finish) h' new why old = new
-planned_last Such s h (Err refusal) h' new why old = subst (λ l. IfSome l Such) (sym (refused_last s h refusal h' why)) old
+planned_last Such s h (Err refusal) h' new why old = subst (λ l. IfSome l Such) (sym (ap (λ (x : HalfState). x.last) (refused_is s h refusal h' why))) old
 
 -- Other events
 

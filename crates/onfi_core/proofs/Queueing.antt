@@ -1,11 +1,10 @@
 -- What a channel's queues keep from event to event.
-use Rattle.std.proofs.Common.{◌≡◌, ◌≢◌, ℕ, zero, suc, ◌+◌, ◌<◌, ◌≤◌, inl, inr, true, List, [], ◌∷◌, ◌++◌, length, Option, Some, None, refl, sym, ap, ◌∙◌, subst, append_assoc, length-append, arith}
+use Rattle.std.proofs.Common.{◌≡◌, ◌≢◌, ℕ, zero, suc, ◌+◌, ◌<◌, ◌≤◌, true, List, [], ◌∷◌, ◌++◌, length, Option, Some, None, refl, sym, ap, ◌∙◌, subst, append_assoc, length-append, arith}
 use Rattle.std.specs.Prelude.{slice_get, slice_index_or, slice_set, ◌==◌}
 use Rattle.std.proofs.lemmas.Option.{slice_get_read}
 use Rattle.std.specs.List.{AllByRecursion as All, filter}
 use Rattle.std.specs.VecDeque.{deque_capacity}
 use Rattle.std.proofs.lemmas.Bool.{eq-eqb}
-use Rattle.std.proofs.lemmas.Bool.Decides.{nat_tests}
 use Rattle.std.proofs.lemmas.List.Elements.{filter-append}
 use Rattle.onfi_request.specs.Range.{Fits}
 use Rattle.onfi_request.specs.declared.reply.Reply.{Reply}
@@ -15,7 +14,7 @@ use Rattle.onfi_chip.specs.Chip.{Chip, Failures}
 use Rattle.onfi_core.specs.declared.event.Event.{Event}
 use Rattle.onfi_core.specs.declared.outcome.Outcome.{Outcome}
 use Rattle.onfi_core.specs.Steps.{Step, bus_refusal, submitted}
-use Rattle.onfi_problem.proofs.Places.{get_set_same, get_set_other, length_set, same_place}
+use Rattle.onfi_problem.proofs.Places.{length_set}
 use Rattle.onfi_core.specs.declared.host_queue.HostQueue.{HostQueue}
 use Rattle.onfi_core.specs.declared.setup.Setup.{Setup}
 use Rattle.onfi_core.specs.Kept.{IsReached, SerialsFrom, first, first_half}
@@ -25,11 +24,19 @@ use Rattle.onfi_core.specs.declared.due.Due.{Due}
 use Rattle.onfi_core.specs.Dues.{IsDue}
 use Rattle.onfi_core.specs.Reaching.{Reaches}
 use Rattle.onfi_core.proofs.Hosted.{from_other, from_own, to_other, to_own}
+use Rattle.onfi_core.proofs.Hosts.{own_reply}
 use Rattle.onfi_core.proofs.Reaching.{opened_reaches}
 use Rattle.onfi_core.specs.State.{ChannelState, is_from, is_to, sent_by, posted_to, collected_by}
 use Rattle.onfi_core.specs.View.{HalfView, IsNext}
-use Rattle.onfi_core.proofs.Lists.{get_at_length, get_has}
-use Rattle.onfi_core.proofs.Startable.{from_filter}
+use Rattle.onfi_core.proofs.Lists.{each_set, get_at_length}
+
+-- a host of which nothing is told
+other_queue : (s : Setup) (c c' : ChannelState) (j : ℕ) (q : HostQueue) → sent_by j c' ≡ sent_by j c → posted_to j c' ≡ posted_to j c → collected_by j c' ≡ collected_by j c → IsHostQueue s c j q → IsHostQueue s c' j q
+other_queue s c c' j q es ep ec old = record {
+  sent = old.sent ∙ ap length (sym es);
+  uncollected = ep ∙ old.uncollected ∙ ap (λ rs. rs ++ q.completions.items) (sym ec);
+  room = old.room;
+}
 
 -- what isn't told of the hosts changes nothing
 pub queues_same : (s : Setup) (lent lent' : Option Reply) (room room' : ℕ) (hosts : List HostQueue) (c c' : ChannelState) → AreQueues s lent room hosts c → Reaches s c' → c'.sent ≡ c.sent → c'.half.posted ≡ c.half.posted → c'.collected ≡ c.collected → lent' ≡ None → room' ≡ room → AreQueues s lent' room' hosts c'
@@ -38,97 +45,65 @@ queues_same s lent lent' room room' hosts c c' q reached es ep ec el er = record
   reached = reached;
   room_is = let a = q.room_is in omega arith;
   count = q.count;
-  each = λ host queue at. (
-      let old = q.each host queue at in
-      record {
-        sent = old.sent ∙ ap (λ xs. length (filter (is_from host) xs)) (sym es);
-        uncollected = ap (filter (is_to host)) ep ∙ old.uncollected ∙ ap (λ rs. filter (is_to host) rs ++ queue.completions.items) (sym ec);
-        room = old.room;
-      });
+  each = λ j z at. other_queue s c c' j z (ap (filter (is_from j)) es) (ap (filter (is_to j)) ep) (ap (filter (is_to j)) ec) (q.each j z at);
 }
 
 -- a host's queue changed
-module _ (s : Setup) (lent' : Option Reply) (room' : ℕ) (hosts hosts' : List HostQueue) (c c' : ChannelState) (reached : Reaches s c') (settled : lent' ≡ None) (room_is : s.submit_cap ≤ room') (count : length hosts ≡ s.hosts) (host : ℕ) (queue queue' : HostQueue) (at : slice_get hosts host ≡ Some queue) (set : hosts' ≡ slice_set hosts host queue') where
-  changed : IsHostQueue s c' host queue' → ((j : ℕ) (q : HostQueue) → j ≢ host → slice_get hosts j ≡ Some q → IsHostQueue s c' j q) → AreQueues s lent' room' hosts' c'
-  changed own others = record {
-    settled = settled;
-    reached = reached;
-    room_is = room_is;
-    count = ap length set ∙ length_set hosts host queue' ∙ count;
-    each = λ j q there. elim (same_place j host) [
-      | inl e ↦ (
-          let here : slice_get hosts' host ≡ Some queue' = ap (λ hs. slice_get hs host) set ∙ get_set_same hosts host queue queue' at in
-          let both : Some queue' ≡ Some q = sym here ∙ ap (slice_get hosts') (sym e) ∙ there in
-          let same : queue' ≡ q = cc in
-          subst (λ (z : HostQueue). IsHostQueue s c' j z) same (subst (λ i. IsHostQueue s c' i queue') (sym e) own))
-      | inr d ↦ others j q d (sym (get_set_other hosts host j queue' d) ∙ sym (ap (λ hs. slice_get hs j) set) ∙ there)
-    ];
-  }
-
 module _ (s : Setup) (lent lent' : Option Reply) (room room' : ℕ) (hosts hosts' : List HostQueue) (c c' : ChannelState) (q : AreQueues s lent room hosts c) (reached : Reaches s c') (settled : lent' ≡ None) (room_is : room' ≡ room) (host : ℕ) (queue queue' : HostQueue) (at : slice_get hosts host ≡ Some queue) (set : hosts' ≡ slice_set hosts host queue') where
   old : IsHostQueue s c host queue
   old = q.each host queue at
 
-  roomy : s.submit_cap ≤ room'
-  roomy = let a = q.room_is in omega arith
+  changed : IsHostQueue s c' host queue' → ((j : ℕ) → j ≢ host → (sent_by j c' ≡ sent_by j c) × (posted_to j c' ≡ posted_to j c) × (collected_by j c' ≡ collected_by j c)) → AreQueues s lent' room' hosts' c'
+  changed own others = record {
+    settled = settled;
+    reached = reached;
+    room_is = let a = q.room_is in omega arith;
+    count = ap length set ∙ length_set hosts host queue' ∙ q.count;
+    each = λ j z there. each_set (IsHostQueue s c') hosts host queue queue' at own
+        (λ i y d here. let (es, ep, ec) = others i d in other_queue s c c' i y es ep ec (q.each i y here)) j z (ap (λ hs. slice_get hs j) (sym set) ∙ there);
+  }
 
   -- only the queue's place in memory changed
   pub queues_kept : c'.sent ≡ c.sent → c'.half.posted ≡ c.half.posted → c'.collected ≡ c.collected → queue'.sent ≡ queue.sent → queue'.completions.items ≡ queue.completions.items → deque_capacity queue'.completions ≡ deque_capacity queue.completions → AreQueues s lent' room' hosts' c'
-  queues_kept es ep ec en ei er = changed s lent' room' hosts hosts' c c' reached settled roomy q.count host queue queue' at set
+  queues_kept es ep ec en ei er = changed
       (record {
         sent = en ∙ old.sent ∙ ap (λ xs. length (filter (is_from host) xs)) (sym es);
         uncollected = ap (filter (is_to host)) ep ∙ old.uncollected ∙ ap (λ rs. collected_by host c ++ rs) (sym ei) ∙ ap (λ rs. filter (is_to host) rs ++ queue'.completions.items) (sym ec);
         room = (let a = old.room in omega arith);
       })
-      (λ j z d there. (let o = q.each j z there in record {
-        sent = o.sent ∙ ap (λ xs. length (filter (is_from j) xs)) (sym es);
-        uncollected = ap (filter (is_to j)) ep ∙ o.uncollected ∙ ap (λ rs. filter (is_to j) rs ++ z.completions.items) (sym ec);
-        room = o.room;
-      }))
+      (λ j d. (ap (filter (is_from j)) es, ap (filter (is_to j)) ep, ap (filter (is_to j)) ec))
 
   -- an item more was sent
   pub queues_sent : (x : Item) → x.host ≡ host → c'.sent ≡ c.sent ++ x ∷ [] → c'.half.posted ≡ c.half.posted → c'.collected ≡ c.collected → queue'.sent ≡ queue.sent + 1 → queue'.completions ≡ queue.completions → AreQueues s lent' room' hosts' c'
-  queues_sent x own es ep ec en eq = changed s lent' room' hosts hosts' c c' reached settled roomy q.count host queue queue' at set
+  queues_sent x own es ep ec en eq = changed
       (record {
         sent = (let a = ap (λ xs. length (filter (is_from host) xs)) es ∙ ap length (from_own host c.sent x own) ∙ length-append (sent_by host c) (x ∷ []) in let b = old.sent in omega arith);
         uncollected = ap (filter (is_to host)) ep ∙ old.uncollected ∙ ap (λ rs. filter (is_to host) rs ++ queue.completions.items) (sym ec) ∙ ap (λ d. collected_by host c' ++ d.items) (sym eq);
         room = (let a = old.room in let b = ap deque_capacity eq in omega arith);
       })
-      (λ j z d there. (let o = q.each j z there in record {
-        sent = o.sent ∙ ap length (sym (ap (filter (is_from j)) es ∙ from_other host j c.sent x own d));
-        uncollected = ap (filter (is_to j)) ep ∙ o.uncollected ∙ ap (λ rs. filter (is_to j) rs ++ z.completions.items) (sym ec);
-        room = o.room;
-      }))
+      (λ j d. (ap (filter (is_from j)) es ∙ from_other host j c.sent x own d, ap (filter (is_to j)) ep, ap (filter (is_to j)) ec))
 
   -- a reply more was posted
   pub queues_posted : (r : Reply) → r.host ≡ host → c'.sent ≡ c.sent → c'.half.posted ≡ c.half.posted ++ r ∷ [] → c'.collected ≡ c.collected → queue'.sent ≡ queue.sent → queue'.completions.items ≡ queue.completions.items ++ r ∷ [] → deque_capacity queue'.completions ≡ deque_capacity queue.completions → AreQueues s lent' room' hosts' c'
-  queues_posted r own es ep ec en ei er = changed s lent' room' hosts hosts' c c' reached settled roomy q.count host queue queue' at set
+  queues_posted r own es ep ec en ei er = changed
       (record {
         sent = en ∙ old.sent ∙ ap (λ xs. length (filter (is_from host) xs)) (sym es);
         uncollected = ap (filter (is_to host)) ep ∙ to_own host c.half.posted r own ∙ ap (λ rs. rs ++ r ∷ []) old.uncollected ∙ append_assoc (collected_by host c) queue.completions.items (r ∷ [])
             ∙ ap (λ rs. collected_by host c ++ rs) (sym ei) ∙ ap (λ rs. filter (is_to host) rs ++ queue'.completions.items) (sym ec);
         room = (let a = old.room in omega arith);
       })
-      (λ j z d there. (let o = q.each j z there in record {
-        sent = o.sent ∙ ap (λ xs. length (filter (is_from j) xs)) (sym es);
-        uncollected = ap (filter (is_to j)) ep ∙ to_other host j c.half.posted r own d ∙ o.uncollected ∙ ap (λ rs. filter (is_to j) rs ++ z.completions.items) (sym ec);
-        room = o.room;
-      }))
+      (λ j d. (ap (filter (is_from j)) es, ap (filter (is_to j)) ep ∙ to_other host j c.half.posted r own d, ap (filter (is_to j)) ec))
 
   -- a reply more was collected
   pub queues_collected : (r : Reply) → r.host ≡ host → c'.sent ≡ c.sent → c'.half.posted ≡ c.half.posted → c'.collected ≡ c.collected ++ r ∷ [] → queue'.sent ≡ queue.sent → queue.completions.items ≡ r ∷ queue'.completions.items → deque_capacity queue'.completions ≡ deque_capacity queue.completions → AreQueues s lent' room' hosts' c'
-  queues_collected r own es ep ec en ei er = changed s lent' room' hosts hosts' c c' reached settled roomy q.count host queue queue' at set
+  queues_collected r own es ep ec en ei er = changed
       (record {
         sent = en ∙ old.sent ∙ ap (λ xs. length (filter (is_from host) xs)) (sym es);
         uncollected = ap (filter (is_to host)) ep ∙ old.uncollected ∙ ap (λ rs. collected_by host c ++ rs) ei ∙ sym (append_assoc (collected_by host c) (r ∷ []) queue'.completions.items)
             ∙ ap (λ rs. rs ++ queue'.completions.items) (sym (ap (filter (is_to host)) ec ∙ to_own host c.collected r own));
         room = (let a = old.room in omega arith);
       })
-      (λ j z d there. (let o = q.each j z there in record {
-        sent = o.sent ∙ ap (λ xs. length (filter (is_from j) xs)) (sym es);
-        uncollected = ap (filter (is_to j)) ep ∙ o.uncollected ∙ ap (λ rs. rs ++ z.completions.items) (sym (ap (filter (is_to j)) ec ∙ to_other host j c.collected r own d));
-        room = o.room;
-      }))
+      (λ j d. (ap (filter (is_from j)) es, ap (filter (is_to j)) ep, ap (filter (is_to j)) ec ∙ to_other host j c.collected r own d))
 
 -- What stands at the front of a queue
 
@@ -164,10 +139,7 @@ pub next_collected : (s : Setup) (c : ChannelState) (host : ℕ) (queue : HostQu
 next_collected s c host queue r rest q e = ap (λ rs. slice_get rs (length (collected_by host c))) (q.uncollected ∙ ap (λ rs. collected_by host c ++ rs) e) ∙ get_at_length (collected_by host c) r rest
 
 pub host_collected : (s : Setup) (c : ChannelState) (host : ℕ) (r : Reply) → slice_get (posted_to host c) (length (collected_by host c)) ≡ Some r → r.host ≡ host
-host_collected s c host r at =
-    let f = from_filter (is_to host) c.half.posted r (get_has (posted_to host c) (length (collected_by host c)) r at) in
-    let k : (r.host == host) ≡ true = f.1 in
-    grind (arith, nat_tests)
+host_collected s c host r at = own_reply host c.half.posted (length (collected_by host c)) r at
 
 -- how many replies wait to be collected
 pub uncollected_count : (s : Setup) (c : ChannelState) (host : ℕ) (queue : HostQueue) → IsHostQueue s c host queue → length (posted_to host c) ≡ length (collected_by host c) + length queue.completions.items

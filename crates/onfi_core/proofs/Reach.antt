@@ -17,7 +17,7 @@ use Rattle.onfi_core.specs.declared.outcome.Outcome.TheVariants.{Stopped}
 use Rattle.onfi_core.specs.declared.setup.Setup.{Setup}
 use Rattle.onfi_core.proofs.Accept.{accept_kept}
 use Rattle.onfi_core.proofs.Bus.{bus_kept}
-use Rattle.onfi_core.proofs.Halves.{other_half, same_replies}
+use Rattle.onfi_core.proofs.Halves.{other_half, same_replies, sound_but}
 use Rattle.onfi_core.proofs.Hosts.{submit_kept, post_kept, collect_kept}
 use Rattle.onfi_core.proofs.Plan.{plan_kept}
 use Rattle.onfi_core.proofs.Passing.{wait_kept}
@@ -45,7 +45,7 @@ not_where true o h = cc
 not_where false o h = refl
 
 pub sound_stopped : (s : Setup) (cause : Cause) (h : HalfState) → IsSound s h → IsSound s (record h { stopped = Some cause })
-sound_stopped s cause h r = record { planned = r.planned; some_batch = r.some_batch; few_batch = r.few_batch; timing = r.timing; rules = r.rules; problem = r.problem; few = r.few; luns = r.luns; legal = r.legal; in_range = r.in_range; wants = r.wants; running = r.running; once = r.once; aside = r.aside; aside_rise = r.aside_rise; in_order = r.in_order; last = r.last }
+sound_stopped s cause h r = sound_but s h r h.now h.left h.outdated h.held h.posted (Some cause) refl refl refl r.problem r.few r.legal r.wants r.running r.once
 
 -- a stop cause stays
 stop_kept : (s : Setup) (cause : Cause) (c : ChannelState) → IsReached s c → IsReached s (stopped_by cause c)

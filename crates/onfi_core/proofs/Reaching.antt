@@ -39,35 +39,17 @@ to_first (event.Collect channel host) = event.Collect 0 host
 
 of_first : (e : Event) → channel_of (to_first e) ≡ 0
 of_first (event.Submit host channel r) = refl
-of_first (event.Accept channel) = refl
-of_first (event.Plan channel) = refl
-of_first (event.Bus channel) = refl
-of_first (event.Wait channel moment) = refl
-of_first (event.Ready channel lun) = refl
-of_first (event.Post channel host) = refl
-of_first (event.Collect channel host) = refl
+of_first _ = refl
 
 -- a step doesn't look at the channel's number
 same_refusal : (s : Setup) (c : ChannelState) (e : Event) → refusal s c (to_first e) ≡ refusal s c e
 same_refusal s c (event.Submit host channel r) = refl
-same_refusal s c (event.Accept channel) = refl
-same_refusal s c (event.Plan channel) = refl
-same_refusal s c (event.Bus channel) = refl
-same_refusal s c (event.Wait channel moment) = refl
-same_refusal s c (event.Ready channel lun) = refl
-same_refusal s c (event.Post channel host) = refl
-same_refusal s c (event.Collect channel host) = refl
+same_refusal s c _ = refl
 
 first_by : (refused : Option Outcome) (s : Setup) (c : ChannelState) (e : Event) (o : Outcome) (c' : ChannelState) → StepBy refused s c e o c' → StepBy refused s c (to_first e) o c'
 first_by (Some refused) s c e o c' h = h
 first_by None s c (event.Submit host channel r) o c' h = h
-first_by None s c (event.Accept channel) o c' h = h
-first_by None s c (event.Plan channel) o c' h = h
-first_by None s c (event.Bus channel) o c' h = h
-first_by None s c (event.Wait channel moment) o c' h = h
-first_by None s c (event.Ready channel lun) o c' h = h
-first_by None s c (event.Post channel host) o c' h = h
-first_by None s c (event.Collect channel host) o c' h = h
+first_by None s c _ o c' h = h
 
 first_step : (s : Setup) (c : ChannelState) (e : Event) (o : Outcome) (c' : ChannelState) → Step s c e o c' → Step s c (to_first e) o c'
 first_step s c e o c' h = subst (λ (q : Option Outcome). StepBy q s c (to_first e) o c') (sym (same_refusal s c e)) (first_by (refusal s c e) s c e o c' h)

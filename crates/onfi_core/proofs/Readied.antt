@@ -9,7 +9,7 @@ use Rattle.onfi_group.specs.Words.{number}
 use Rattle.onfi_problem.specs.declared.lun_state.LunState.{LunState}
 use Rattle.onfi_problem.specs.declared.lun_state.LunState.TheVariants.{Free, Running}
 use Rattle.onfi_problem.specs.Moves.{free_from}
-use Rattle.onfi_problem.specs.Problem.{has_id}
+use Rattle.onfi_problem.specs.Problem.{IsProblem, has_id}
 use Rattle.onfi_problem.proofs.Places.{get_set_other, get_set_same, length_set, same_place}
 use Rattle.onfi_chip.specs.Chip.{Chip, Lun, found_ready}
 use Rattle.onfi_chip.specs.Chip.Lun.{Posting}
@@ -22,7 +22,7 @@ use Rattle.onfi_core.specs.Kept.{ChipAgrees, IsReached, IsSound, LunAgrees, comm
 use Rattle.onfi_core.specs.State.{ChannelState, HalfState, device_for}
 use Rattle.onfi_core.specs.Steps.{is_in_array, luns_ready_by, readied}
 use Rattle.onfi_core.specs.View.{AreFields}
-use Rattle.onfi_core.proofs.Halves.{same_replies}
+use Rattle.onfi_core.proofs.Halves.{fields_but, same_replies, sound_but}
 use Rattle.onfi_core.proofs.Shifted.{ready_legal}
 
 -- the LUN runs a group whose next phase is the first post
@@ -90,33 +90,20 @@ module _ (s : Setup) (h : HalfState) (half : IsSound s h) (lun : ℕ) (works : I
   found_is = let a = works.is in rw a refl
 
   sound_found : IsSound s found
-  sound_found = record {
-    planned = half.planned;
-    some_batch = half.some_batch;
-    few_batch = half.few_batch;
-    timing = half.timing;
-    rules = half.rules;
-    problem = record {
-      wants = half.problem.wants;
-      in_range = subst (λ n. All (λ (w : Want). w.lun < n) h.now.wants) (sym (length_set h.now.luns lun (Running works.group works.next (min works.ready h.now.bus_free)))) half.problem.in_range;
-      ids = half.problem.ids;
-      running = λ l group next ready at. let (old, was) = ran l group next ready at in half.problem.running l group next old was;
-    };
-    few = half.few;
-    luns = length_set h.now.luns lun (Running works.group works.next (min works.ready h.now.bus_free)) ∙ half.luns;
-    legal = (ready_legal h.now h.left lun works.group works.next works.ready (min works.ready h.now.bus_free) works.is (omega arith) half.legal).0;
-    in_range = half.in_range;
-    wants = half.wants;
-    running = λ l group next ready at. let (old, was) = ran l group next ready at in half.running l group next old was;
-    once = λ i. (
-        let e = ap (number (has_id i)) (set_posts h.now.luns lun (Running works.group works.next works.ready) (Running works.group works.next (min works.ready h.now.bus_free)) works.is refl) in
-        let o = half.once i in
-        omega (arith, e, o));
-    aside = half.aside;
-    aside_rise = half.aside_rise;
-    in_order = half.in_order;
-    last = half.last;
-  }
+  sound_found =
+      let size = length_set h.now.luns lun (Running works.group works.next (min works.ready h.now.bus_free)) in
+      let problem : IsProblem found.now = record {
+        wants = half.problem.wants;
+        in_range = subst (λ n. All (λ (w : Want). w.lun < n) h.now.wants) (sym size) half.problem.in_range;
+        ids = half.problem.ids;
+        running = λ l group next ready at. let (old, was) = ran l group next ready at in half.problem.running l group next old was;
+      } in
+      let legal = (ready_legal h.now h.left lun works.group works.next works.ready (min works.ready h.now.bus_free) works.is (omega arith) half.legal).0 in
+      sound_but s h half found.now h.left found.outdated h.held h.posted h.stopped refl refl size problem half.few legal half.wants
+      (λ l group next ready at. let (old, was) = ran l group next ready at in half.running l group next old was) (λ i.
+      let e = ap (number (has_id i)) (set_posts h.now.luns lun (Running works.group works.next works.ready) (Running works.group works.next (min works.ready h.now.bus_free)) works.is refl) in
+      let o = half.once i in
+      omega (arith, e, o))
 
   pub sound_readied : IsSound s (readied lun h)
   sound_readied = subst (IsSound s) (sym found_is) sound_found
@@ -175,11 +162,4 @@ ready_kept s c lun r going works = same_replies s c (readied lun c.half) (found_
 pub fields_readied : (s : Setup) (slots : Slab Slot) (n room : ℕ) (kept : List Reply) (at : Option Lent) (h : HalfState) (lent : Option Reply) (lun : ℕ) (luns : List LunState) (outdated : Bool)
     → AreFields s slots n room kept at h lent → InArray (slice_get h.now.luns lun) → luns ≡ luns_ready_by h.now.bus_free lun (slice_get h.now.luns lun) h.now.luns → outdated ≡ (if h.outdated then true else nat_lt h.now.bus_free (free_from (slice_get h.now.luns lun)))
     → AreFields s slots n room kept at (record h { now = record h.now { luns = luns }; outdated = outdated }) lent
-fields_readied s slots n room kept at h lent lun luns outdated f works el eo = rw (el, eo) (record {
-  slots_are = f.slots_are;
-  count = f.count;
-  numbered = f.numbered;
-  room_is = f.room_is;
-  lending = f.lending;
-  sound = sound_readied s h f.sound lun works;
-})
+fields_readied s slots n room kept at h lent lun luns outdated f works el eo = rw (el, eo) (fields_but s slots n room room kept kept at at h (readied lun h) lent lent f refl refl refl f.lending (sound_readied s h f.sound lun works))

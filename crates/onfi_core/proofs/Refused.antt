@@ -27,35 +27,29 @@ step_refused s c e o c' r a = let P : Option Outcome → Type 0 = λ q. StepBy q
 pub step_does : (s : Setup) (c : ChannelState) (e : Event) (o : Outcome) (c' : ChannelState) → refusal s c e ≡ None → Does s c e o c' → Step s c e o c'
 step_does s c e o c' r d = let P : Option Outcome → Type 0 = λ q. StepBy q s c e o c' in subst P (sym r) d
 
+is_most : (a b : ℕ) → a ≤ b → nat_le a b ≡ true
+is_most a b h = grind (arith, nat_tests)
+
+is_above : (a b : ℕ) → b < a → nat_le a b ≡ false
+is_above a b h = grind (arith, nat_tests)
+
 -- Submit
 
 module _ (s : Setup) (c : ChannelState) (host channel : ℕ) (r : Request) where
   module _ (known : host < s.hosts) where
-    there : nat_le s.hosts host ≡ false
-    there = grind (arith, nat_tests)
-
     pub refused : (fault : RequestFault) → fault_of s.geometry r ≡ Some fault → Step s c (event.Submit host channel r) (outcome.Refused fault r) c
-    refused fault f = let t = there in step_refused s c (event.Submit host channel r) (outcome.Refused fault r) c (rw (t, f) refl) refl
+    refused fault f = step_refused s c (event.Submit host channel r) (outcome.Refused fault r) c (rw (is_above s.hosts host known, f) refl) refl
 
     pub serials_spent : fault_of s.geometry r ≡ None → 2 ^ 32 ≤ length (sent_by host c) → Step s c (event.Submit host channel r) (outcome.SerialsSpent r) c
-    serials_spent f h =
-        let t = there in
-        let u : nat_le (2 ^ 32) (length (sent_by host c)) ≡ true = grind (arith, nat_tests) in
-        step_refused s c (event.Submit host channel r) (outcome.SerialsSpent r) c (rw (t, f, u) refl) refl
+    serials_spent f h = step_refused s c (event.Submit host channel r) (outcome.SerialsSpent r) c (rw (is_above s.hosts host known, f, is_most (2 ^ 32) (length (sent_by host c)) h) refl) refl
 
     pub submit_full : fault_of s.geometry r ≡ None → length (sent_by host c) < 2 ^ 32 → s.submit_cap ≤ length c.waiting → Step s c (event.Submit host channel r) (outcome.SubmitFull r) c
     submit_full f low h =
-        let t = there in
-        let u : nat_le (2 ^ 32) (length (sent_by host c)) ≡ false = grind (arith, nat_tests) in
-        let v : nat_le s.submit_cap (length c.waiting) ≡ true = grind (arith, nat_tests) in
-        step_refused s c (event.Submit host channel r) (outcome.SubmitFull r) c (rw (t, f, u, v) refl) refl
+        step_refused s c (event.Submit host channel r) (outcome.SubmitFull r) c
+        (rw (is_above s.hosts host known, f, is_above (2 ^ 32) (length (sent_by host c)) low, is_most s.submit_cap (length c.waiting) h) refl) refl
 
     pub submit_open : fault_of s.geometry r ≡ None → length (sent_by host c) < 2 ^ 32 → length c.waiting < s.submit_cap → refusal s c (event.Submit host channel r) ≡ None
-    submit_open f low h =
-        let t = there in
-        let u : nat_le (2 ^ 32) (length (sent_by host c)) ≡ false = grind (arith, nat_tests) in
-        let v : nat_le s.submit_cap (length c.waiting) ≡ false = grind (arith, nat_tests) in
-        rw (t, f, u, v) refl
+    submit_open f low h = rw (is_above s.hosts host known, f, is_above (2 ^ 32) (length (sent_by host c)) low, is_above s.submit_cap (length c.waiting) h) refl
 
 -- A stop that stands
 
@@ -118,34 +112,21 @@ some_held host (x ∷ before) behind r own = elim (cases_Bool (x.host == host)) 
 
 module _ (s : Setup) (c : ChannelState) (host channel : ℕ) where
   module _ (known : host < s.hosts) where
-    is_there : nat_le s.hosts host ≡ false
-    is_there = grind (arith, nat_tests)
-
     held_is : (r : Reply) → IsOldest host c.half.held r → is_empty (held_for host c.half) ≡ false
     held_is r o = ap (λ (rs : List Reply). is_empty (filter (is_to host) rs)) o.is ∙ some_held host o.before o.behind r o.own
 
     pub post_full : (r : Reply) → IsOldest host c.half.held r → s.post_cap ≤ not_collected host c → Step s c (event.Post channel host) outcome.PostFull c
     post_full r o h =
-        let t = is_there in
         let u = held_is r o in
-        let v : nat_le s.post_cap (not_collected host c) ≡ true = grind (arith, nat_tests) in
-        step_refused s c (event.Post channel host) outcome.PostFull c (rw (t, u, v) refl) refl
+        step_refused s c (event.Post channel host) outcome.PostFull c (rw (is_above s.hosts host known, u, is_most s.post_cap (not_collected host c) h) refl) refl
 
     pub post_open : (r : Reply) → IsOldest host c.half.held r → not_collected host c < s.post_cap → refusal s c (event.Post channel host) ≡ None
-    post_open r o h =
-        let t = is_there in
-        let u = held_is r o in
-        let v : nat_le s.post_cap (not_collected host c) ≡ false = grind (arith, nat_tests) in
-        rw (t, u, v) refl
+    post_open r o h = let u = held_is r o in rw (is_above s.hosts host known, u, is_above s.post_cap (not_collected host c) h) refl
 
     pub nothing_to_collect : length (posted_to host c) ≤ length (collected_by host c) → Step s c (event.Collect channel host) outcome.NothingToCollect c
     nothing_to_collect h =
-        let t = is_there in
-        let v : nat_le (length (posted_to host c)) (length (collected_by host c)) ≡ true = grind (arith, nat_tests) in
-        step_refused s c (event.Collect channel host) outcome.NothingToCollect c (rw (t, v) refl) refl
+        step_refused s c (event.Collect channel host) outcome.NothingToCollect c
+        (rw (is_above s.hosts host known, is_most (length (posted_to host c)) (length (collected_by host c)) h) refl) refl
 
     pub collect_open : length (collected_by host c) < length (posted_to host c) → refusal s c (event.Collect channel host) ≡ None
-    collect_open h =
-        let t = is_there in
-        let v : nat_le (length (posted_to host c)) (length (collected_by host c)) ≡ false = grind (arith, nat_tests) in
-        rw (t, v) refl
+    collect_open h = rw (is_above s.hosts host known, is_above (length (posted_to host c)) (length (collected_by host c)) h) refl

@@ -28,6 +28,7 @@ use Rattle.onfi_core.specs.Refusals.{planned_outcome, refusal_outcome}
 use Rattle.onfi_core.specs.View.{HalfView, PlanRefused}
 use Rattle.onfi_core.proofs.Done.{after_due_is}
 use Rattle.onfi_core.proofs.Driving.{asks_status, may_run, ran_on_chip}
+use Rattle.onfi_core.proofs.Promised.{refused_is}
 use Rattle.onfi_core.proofs.Reach.{none_first, not_stopped}
 use Rattle.onfi_core.proofs.Refused.{step_refused, step_does}
 
@@ -68,8 +69,7 @@ pub after_planning : (s : Setup) (c : ChannelState) (channel : ℕ) (old : HalfV
     → IfOk result (λ finish. (plan_refusal s c.half ≡ None) × (taken : Taken) × (plan : Planning) × (finish ≡ plan.finish) × Plans s c.half taken plan × (h ≡ record old { state = planned_by c.half taken plan }))
     → IfErr result (λ refusal. PlanRefused s c.half refusal h.state) → Step s c (event.Plan channel) (planned_outcome result) (record c { half = h.state })
 after_planning s c channel old (Ok finish) h (open', taken, plan, e, plans, is) none =
-    let P : HalfState → Type 0 = λ x. Step s c (event.Plan channel) (outcome.Planned finish) (record c { half = x }) in
-    subst P (sym (ap (λ (v : HalfView). v.state) is)) (planned_step s c channel finish taken plan open' e plans)
+    planning_step s c channel (Ok finish) h.state (open', taken, plan, e, plans, ap (λ (v : HalfView). v.state) is) none
 after_planning s c channel old (Err refusal) h none r = not_planned s c channel refusal h.state r
 
 -- .. and it posts nothing
@@ -77,19 +77,16 @@ pub nothing_posted : (s : Setup) (c : ChannelState) (old : HalfView) (result : R
     → IfOk result (λ finish. (plan_refusal s c.half ≡ None) × (taken : Taken) × (plan : Planning) × (finish ≡ plan.finish) × Plans s c.half taken plan × (h ≡ record old { state = planned_by c.half taken plan }))
     → IfErr result (λ refusal. PlanRefused s c.half refusal h.state) → h.state.posted ≡ c.half.posted
 nothing_posted s c old (Ok finish) h (open', taken, plan, e, plans, is) none = ap (λ (v : HalfView). v.state.posted) is
-nothing_posted s c old (Err (refused.Stopped cause)) h none (e, is) = ap (λ (x : HalfState). x.posted) is
-nothing_posted s c old (Err refused.NothingToPlan) h none (e, is) = ap (λ (x : HalfState). x.posted) is
-nothing_posted s c old (Err (refused.Over opened)) h none (e, count, more, is) = ap (λ (x : HalfState). x.posted) is
-nothing_posted s c old (Err refused.Memory) h none (e, is) = ap (λ (x : HalfState). x.posted) is
+nothing_posted s c old (Err refusal) h none r = ap (λ (x : HalfState). x.posted) (refused_is s c.half refusal h.state r)
 
 -- Bus
 
-run_faults : (accepted : List Item) (group : List Want) (phase start : ℕ) (chip chip' : Chip) (replies : List Reply) → RunsOnChip accepted group phase start chip chip' replies → chip'.faults ≡ chip.faults
+pub run_faults : (accepted : List Item) (group : List Want) (phase start : ℕ) (chip chip' : Chip) (replies : List Reply) → RunsOnChip accepted group phase start chip chip' replies → chip'.faults ≡ chip.faults
 run_faults accepted group phase start chip chip' replies (inl (inl c, none)) = ap (λ (x : Chip). x.faults) c.done.state
 run_faults accepted group phase start chip chip' replies (inl (inr c, none)) = ap (λ (x : Chip). x.faults) c.done.state
 run_faults accepted group phase start chip chip' replies (inr (member, answer, c, one)) = ap (λ (x : Chip). x.faults) c.done.state
 
-going_on : (h : HalfState) → bus_refusal h ≡ None → h.stopped ≡ None
+pub going_on : (h : HalfState) → bus_refusal h ≡ None → h.stopped ≡ None
 going_on h open' = not_stopped h.stopped (none_first _ _ open')
 
 module _ (s : Setup) (c : ChannelState) (reached : IsReached s c) (due : Due) (is : IsDue c.half due) (open' : bus_refusal c.half ≡ None) (item : Item) (member : (m : Want) × (member_of due.group due.phase ≡ Some m) × (item ≡ item_at c.half.accepted m.id)) where
@@ -141,15 +138,6 @@ pub lost_by : (fault : DriveFault) (lun : ℕ) (stop : Cause) (chip chip' : Chip
 lost_by drive.Bus lun stop chip chip' e lost = let told : stop ≡ cause.Bus = cc in (post_fault.Bus, told, lost)
 lost_by drive.NotReady lun stop chip chip' e lost = let told : stop ≡ cause.NotReady lun = cc in (post_fault.NotReady, (lun, told), lost)
 lost_by drive.Memory lun stop chip chip' e same = cc
-
-pub same_by : (fault : DriveFault) (lun : ℕ) (chip chip' : Chip) → cause_of fault lun ≡ None → AfterDrive fault chip chip' → chip' ≡ chip
-same_by drive.Bus lun chip chip' e lost = cc
-same_by drive.NotReady lun chip chip' e lost = cc
-same_by drive.Memory lun chip chip' e same = same
-
-pub no_memory : (s : Setup) (c : ChannelState) (channel : ℕ) (chip' : Chip) → bus_refusal c.half ≡ None → chip' ≡ c.chip → Step s c (event.Bus channel) (outcome.Memory None) (record c { chip = chip' })
-no_memory s c channel chip' open' e =
-    step_does s c (event.Bus channel) (outcome.Memory None) (record c { chip = chip' }) open' (inr (inr (refl, ap (λ (x : Chip). let z : ChannelState = record c { chip = x } in z) e)))
 
 -- why nothing was planned
 pub refused_alone : (s : Setup) (c : HalfState) (result : Result ℕ PlanRefusal) (h old : HalfView) → IfErr result (λ refusal. PlanRefused s c refusal h.state × (h ≡ record old { state = h.state })) → IfErr result (λ refusal. PlanRefused s c refusal h.state)

@@ -2,7 +2,7 @@
 use Rattle.std.proofs.Common.{◌≡◌, ℕ, ◌+◌, ◌<◌, ◌≤◌, inl, inr, Bool, true, List, [], ◌∷◌, ◌++◌, Some, refl, sym, ap, ◌∙◌, subst, arith}
 use Rattle.std.specs.Prelude.{slice_get, not, ◌==◌}
 use Rattle.std.specs.List.{AllByRecursion as All, filter, list_any}
-use Rattle.std.proofs.lemmas.Bool.{cases_Bool, false≢true}
+use Rattle.std.proofs.lemmas.Bool.{cases_Bool}
 use Rattle.std.proofs.lemmas.Bool.Decides.{nat_tests}
 use Rattle.onfi_request.specs.declared.want.Want.{Want}
 use Rattle.onfi_group.specs.Group.{IsStartable, is_member, IsFirst}
@@ -10,7 +10,7 @@ use Rattle.onfi_group.specs.Words.{Has, Pairs, number}
 use Rattle.onfi_problem.specs.Moves.{without}
 use Rattle.onfi_problem.specs.Problem.{has_id, Problem}
 use Rattle.onfi_problem.proofs.Perm.{All-has, All-each}
-use Rattle.onfi_problem.proofs.Wants.{Rising, same_by_id, Has-filter, Pairs-filter, one_with_id, number_member, number_no_member, number_without_yes, number_without_no}
+use Rattle.onfi_problem.proofs.Wants.{Rising, same_by_id, Has-filter, Pairs-filter, one_with_id, some_with_id, number_member, number_no_member, number_without_yes, number_without_no}
 use Rattle.onfi_core.specs.Kept.{on, is_want_on}
 use Rattle.onfi_core.proofs.Lists.{head_same}
 
@@ -38,13 +38,8 @@ from_filter test (y ∷ ys) x h =
       | inr k ↦ (let h' : Has (filter test ys) x = rw k at h in let r = from_filter test ys x h' in (inr r.0, r.1))
     ]
 
-pub member_is : (g : List Want) (w : Want) → is_member g w ≡ true → (m : Want) × Has g m × (m.id ≡ w.id)
-member_is [] w h = absurd (false≢true h)
-member_is (m ∷ g) w h =
-    elim (cases_Bool (m.id == w.id)) [
-      | inl k ↦ (m, inl refl, grind (arith, nat_tests))
-      | inr k ↦ (let h' : is_member g w ≡ true = rw k at h in let r = member_is g w h' in (r.0, inr r.1, r.2))
-    ]
+pub some_with : (g : List Want) (i : ℕ) → list_any (λ (m : Want). m.id == i) g ≡ true → (m : Want) × Has g m × (m.id ≡ i)
+some_with g i h = some_with_id g i (number_member g i h)
 
 pub is_member_has : (g : List Want) (m : Want) → Has g m → is_member g m ≡ true
 is_member_has (v ∷ g) m (inl e) = let i : v.id ≡ m.id = ap (λ (x : Want). x.id) e in let k : (v.id == m.id) ≡ true = grind (arith, nat_tests) in rw k refl
@@ -55,14 +50,6 @@ is_member_has [] m h = absurd h
 first_is : {A : Type 0} (xs : List A) (x : A) → slice_get xs 0 ≡ Some x → (tail : List A) × (xs ≡ x ∷ tail)
 first_is [] x h = cc
 first_is (y ∷ ys) x h = let e : y ≡ x = cc in (ys, ap (λ z. z ∷ ys) e)
-
-pub some_with : (g : List Want) (i : ℕ) → list_any (λ (m : Want). m.id == i) g ≡ true → (m : Want) × Has g m × (m.id ≡ i)
-some_with [] i h = absurd (false≢true h)
-some_with (m ∷ g) i h =
-    elim (cases_Bool (m.id == i)) [
-      | inl k ↦ (m, inl refl, grind (arith, nat_tests))
-      | inr k ↦ (let h' : list_any (λ (m : Want). m.id == i) g ≡ true = rw k at h in let r = some_with g i h' in (r.0, inr r.1, r.2))
-    ]
 
 module _ (p : Problem) (g : List Want) (rising : Rising p.wants) (st : IsStartable p.rules p.wants g) where
   is_there : (m : Want) → Has g m → (l b : ℕ) → is_want_on l b m ≡ true → (tail : List Want) × (on l b p.wants ≡ m ∷ tail)
@@ -84,7 +71,7 @@ module _ (p : Problem) (g : List Want) (rising : Rising p.wants) (st : IsStartab
   -- a want whose number a member has is that member
   same_member : (w : Want) → Has p.wants w → is_member g w ≡ true → Has g w
   same_member w h k =
-      let m = member_is g w k in
+      let m = some_with g w.id k in
       let e = same_by_id p.wants m.0 w rising (member_there m.0 m.1) h m.2 in
       subst (Has g) e m.1
 

@@ -1,10 +1,8 @@
 -- The slots of unanswered items.
-use Rattle.std.proofs.Common.{◌≡◌, ◌≢◌, ℕ, ◌+◌, ◌-◌, ◌^◌, ◌<◌, ◌≤◌, ◌⊎◌, inl, inr, true, false, List, [], ◌∷◌, ◌++◌, length, Option, Some, None, refl, sym, ap, ◌∙◌, subst, length-append, append-nil, arith}
-use Rattle.std.specs.Prelude.{slice_get, count_by, is_some, slice_index_or}
+use Rattle.std.proofs.Common.{◌≡◌, ◌≢◌, ℕ, ◌+◌, ◌-◌, ◌^◌, ◌<◌, ◌≤◌, ◌⊎◌, inl, inr, true, false, List, [], ◌∷◌, ◌++◌, length, Option, Some, None, refl, sym, ap, ◌∙◌, subst, length-append, arith, zero, suc, Bool}
+use Rattle.std.specs.Prelude.{slice_get, count_by, is_some, slice_index_or, cond, ◌==◌}
 use Rattle.std.specs.List.{AllByRecursion as All, filter}
-use Rattle.std.proofs.lemmas.Bool.{cases_Bool, cases_lt}
-use Rattle.std.proofs.lemmas.Bool.Decides.{nat_tests}
-use Rattle.std.proofs.lemmas.List.Elements.{filter-append}
+use Rattle.std.proofs.lemmas.Bool.{cases_lt}
 use Rattle.onfi_request.specs.declared.request.Item.{Item}
 use Rattle.onfi_request.specs.declared.reply.Reply.{Reply}
 use Rattle.onfi_group.specs.Words.{number}
@@ -29,21 +27,26 @@ use Rattle.onfi_core.proofs.Accept.{sound_accepted}
 use Rattle.onfi_core.proofs.Lists.{get_at_length}
 use Rattle.onfi_core.proofs.Next.{was_accepted}
 use Rattle.onfi_core.proofs.Reach.{none_second, not_where, below}
+use Rattle.onfi_core.proofs.Halves.{fields_but}
+use Rattle.onfi_core.proofs.Hosted.{from_each}
 
-by_hosts : (xs : List Item) → All (λ (x : Item). x.host < 4) xs → length xs ≡ length (filter (is_from 0) xs) + length (filter (is_from 1) xs) + length (filter (is_from 2) xs) + length (filter (is_from 3) xs)
+front_kept : (b : Bool) (x : Item) (xs : List Item) → length (cond b (x ∷ xs) xs) ≡ cond b 1 0 + length xs
+front_kept true x xs = omega arith
+front_kept false x xs = omega arith
+
+one_of_four : (n : ℕ) → n < 4 → cond (n == 0) 1 0 + cond (n == 1) 1 0 + cond (n == 2) 1 0 + cond (n == 3) 1 0 ≡ 1
+one_of_four zero low = refl
+one_of_four (suc zero) low = refl
+one_of_four (suc (suc zero)) low = refl
+one_of_four (suc (suc (suc zero))) low = refl
+one_of_four (suc (suc (suc (suc n)))) low = absurd (omega arith)
+
+-- items of four hosts
+pub by_hosts : (xs : List Item) → All (λ (x : Item). x.host < 4) xs → length xs ≡ length (filter (is_from 0) xs) + length (filter (is_from 1) xs) + length (filter (is_from 2) xs) + length (filter (is_from 3) xs)
 by_hosts [] h = refl
 by_hosts (x ∷ xs) h =
-    let e = by_hosts xs h.1 in
-    let l = h.0 in
-    elim (host_cases x.host l) [
-      | inl a ↦ (let q : is_from 0 x ≡ true = grind (arith, nat_tests) in let r : is_from 1 x ≡ false = grind (arith, nat_tests) in let s : is_from 2 x ≡ false = grind (arith, nat_tests) in let t : is_from 3 x ≡ false = grind (arith, nat_tests) in rw (q, r, s, t) (omega (arith, e)))
-      | inr (inl a) ↦ (let q : is_from 0 x ≡ false = grind (arith, nat_tests) in let r : is_from 1 x ≡ true = grind (arith, nat_tests) in let s : is_from 2 x ≡ false = grind (arith, nat_tests) in let t : is_from 3 x ≡ false = grind (arith, nat_tests) in rw (q, r, s, t) (omega (arith, e)))
-      | inr (inr (inl a)) ↦ (let q : is_from 0 x ≡ false = grind (arith, nat_tests) in let r : is_from 1 x ≡ false = grind (arith, nat_tests) in let s : is_from 2 x ≡ true = grind (arith, nat_tests) in let t : is_from 3 x ≡ false = grind (arith, nat_tests) in rw (q, r, s, t) (omega (arith, e)))
-      | inr (inr (inr a)) ↦ (let q : is_from 0 x ≡ false = grind (arith, nat_tests) in let r : is_from 1 x ≡ false = grind (arith, nat_tests) in let s : is_from 2 x ≡ false = grind (arith, nat_tests) in let t : is_from 3 x ≡ true = grind (arith, nat_tests) in rw (q, r, s, t) (omega (arith, e)))
-    ]
-  where
-    host_cases : (n : ℕ) → n < 4 → (n ≡ 0) ⊎ ((n ≡ 1) ⊎ ((n ≡ 2) ⊎ (n ≡ 3)))
-    host_cases n h = grind arith
+    let share : (host : ℕ) → length (filter (is_from host) (x ∷ xs)) ≡ cond (x.host == host) 1 0 + length (filter (is_from host) xs) = λ host. front_kept (x.host == host) x (filter (is_from host) xs) in
+    omega (arith, share 0, share 1, share 2, share 3, one_of_four x.host h.0, by_hosts xs h.1)
 
 -- so a place fits into 64 bits
 pub places_fit : (xs : List Item) → AreNumbered xs → length xs ≤ 2 ^ 34
@@ -65,17 +68,7 @@ numbered_more s h x n next =
     let known = next.host in
     record {
       hosts = All-append (λ (y : Item). y.host < 4) h.accepted (x ∷ []) n.hosts (omega arith, tt);
-      few = λ host. (
-          let a = filter-append (is_from host) h.accepted (x ∷ []) in
-          let f = n.few host in
-          rw a (elim (cases_Bool (is_from host x)) [
-            | inl k ↦ (
-                let e : x.host ≡ host = grind (arith, nat_tests) in
-                let c : x.serial ≡ length (filter (is_from host) h.accepted) = next.serial ∙ ap (λ i. length (filter (is_from i) h.accepted)) e in
-                let low = next.fits in
-                rw k (omega (arith, length-append (filter (is_from host) h.accepted) (x ∷ []))))
-            | inr k ↦ rw (k, append-nil (filter (is_from host) h.accepted)) f
-          ]));
+      few = from_each (λ host ys. length ys ≤ 2 ^ 32) h.accepted x n.few (let c = next.serial in let low = next.fits in omega (arith, c, low, length-append (filter (is_from x.host) h.accepted) (x ∷ [])));
     }
 
 module _ (slots slots' : Slab Slot) (n key : ℕ) (accepted : List Item) (posted : List Reply) (x : Item) (were : AreSlots slots accepted posted) (count : n ≡ length accepted) (u : Updates slots slots' key (Some (record { place = n; item = x }))) (cap : slots'.capacity ≡ slots.capacity) (len : slab_len slots' ≡ slab_len slots + 1) (within : key < slots'.capacity) (vacant : get slots key ≡ None) (fresh : number (is_of_place n) posted ≡ 0) where
@@ -197,13 +190,5 @@ pub fields_planned : (s : Setup) (slots : Slab Slot) (n room : ℕ) (kept : List
     → AreFields s slots n room kept at (record h { planned = planned; aside = aside; now = record h.now { wants = wants }; left = record { rest = rest; groups = groups }; outdated = false; last = Some plan }) lent
 fields_planned s slots n room kept at h lent plan taken wants aside planned rest groups f plans ew ea ep er eg =
     let built : (let z : HalfState = record h { planned = taken.planned; aside = taken.aside; now = problem_with h taken.wants; left = plan.schedule; outdated = false; last = Some plan } in z) ≡ planned_by h taken plan = ap (λ (p : Problem). let z : HalfState = record h { planned = taken.planned; aside = taken.aside; now = p; left = plan.schedule; outdated = false; last = Some plan } in z) (sym plans.problem) in
-    let P : HalfState → Type 0 = λ z. AreFields s slots n room kept at z lent in
-    let base : P (planned_by h taken plan) = record {
-      slots_are = f.slots_are;
-      count = f.count;
-      numbered = f.numbered;
-      room_is = f.room_is;
-      lending = f.lending;
-      sound = sound_planned s h f.sound taken plan plans;
-    } in
-    rw (ew, ea, ep, er, eg) (subst P (sym built) base)
+    let base = fields_but s slots n room room kept kept at at h (planned_by h taken plan) lent lent f refl refl refl f.lending (sound_planned s h f.sound taken plan plans) in
+    rw (ew, ea, ep, er, eg) (subst (λ z. AreFields s slots n room kept at z lent) (sym built) base)

@@ -27,13 +27,7 @@ channel_of (Collect channel host) = channel
 -- the request that a refused event hands back
 abbrev pub request_in : Event → Option Request
 request_in (Submit host channel r) = Some r
-request_in (Accept channel) = None
-request_in (Plan channel) = None
-request_in (Bus channel) = None
-request_in (Wait channel moment) = None
-request_in (Ready channel lun) = None
-request_in (Post channel host) = None
-request_in (Collect channel host) = None
+request_in _ = None
 
 -- an event changes its channel alone; of a number that isn't there it is refused
 abbrev pub CoreStep : Setup → List ChannelState → Event → Outcome → List ChannelState → Type 0

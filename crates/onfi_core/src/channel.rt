@@ -16,10 +16,10 @@ use crate::due::Due;
 use crate::event::Event;
 use crate::half::passing::{ReadyRefusal, WaitRefusal};
 use crate::half::{AcceptFault, DueRefusal, Half, PlanRefusal};
+use crate::history::History;
 use crate::host_queue::{HostQueue, host_queues};
 use crate::outcome::{Cause, Outcome};
 use crate::setup::Setup;
-use crate::traffic::Traffic;
 use onfi_addr::Geometry;
 use onfi_chip::Chip;
 use onfi_plan::{Plan, Planner};
@@ -38,7 +38,7 @@ pub struct Channel<C: Chip> {
     waiting: VecDeque<Item>,
     /// By host.
     hosts: Vec<HostQueue>,
-    traffic: Traffic,
+    traffic: History,
 }
 
 impl<C: Chip> Model for Channel<C> {
@@ -51,15 +51,15 @@ impl<C: Chip> Model for Channel<C> {
       record {
         setup = c.half.setup;
         half = c.half.state;
-        sent = c.traffic.sent;
+        sent = c.traffic.accepted;
         waiting = c.waiting.items;
-        collected = c.traffic.collected;
+        collected = c.traffic.posted;
       },
       c.chip,
     ) };
 
     ghost invariant = { λ c. AreQueues c.half.setup c.half.lent (deque_capacity c.waiting) c.hosts.items
-        (record { half = c.half.state; chip = C.state c.chip; sent = c.traffic.sent; waiting = c.waiting.items; collected = c.traffic.collected }) };
+        (record { half = c.half.state; chip = C.state c.chip; sent = c.traffic.accepted; waiting = c.waiting.items; collected = c.traffic.posted }) };
 }
 
 impl<C: Chip> Channel<C> {
@@ -81,7 +81,7 @@ impl<C: Chip> Channel<C> {
             chip,
             waiting,
             hosts,
-            traffic: Traffic::new(),
+            traffic: History::new(),
         })
     }
 
@@ -109,7 +109,7 @@ impl<C: Chip> Channel<C> {
             serial,
             request,
         };
-        self.traffic = self.traffic.sending(&item);
+        self.traffic = self.traffic.accepting(&item);
         self.hosts[at].sent += 1;
         self.waiting.push_back_reserved(item);
         Outcome::Submitted { serial }

@@ -111,14 +111,6 @@ pub fn behind_first(alloc: Global, starts: &Starts) -> Starts
     later
 }
 
-/// The same wants once more.
-pub fn wants_again(wants: &[Want]) -> ArrayVec<Want, 8>
-    requires { length wants.now ≤ 8 }
-    ensures { result.items ≡ wants.now }
-{
-    ArrayVec::try_from(wants).unwrap()
-}
-
 /// The wants that are not in the group.
 pub fn wants_without(group: &Group, wants: &[Want]) -> ArrayVec<Want, 8>
     requires { length wants.now ≤ 8 }

@@ -12,7 +12,7 @@ ghost use Rattle.onfi_core.specs.declared.setup.Choice.TheVariants.{InOrder};
 ghost use Rattle.onfi_problem.specs.declared.lun_state.LunState.TheVariants.{Free};
 
 use crate::batch::Batch;
-use crate::due::{Due, wants_again, wants_without};
+use crate::due::{Due, wants_without};
 use crate::finding::find;
 use crate::history::History;
 use crate::left::{free_luns, no_starts};
@@ -314,7 +314,7 @@ impl Half {
         else {
             unreachable!();
         };
-        let wants = wants_again(self.wants.as_slice());
+        let wants = ArrayVec::try_from(self.wants.as_slice()).unwrap();
         Due::of(
             alloc,
             &self.setup.timing,

@@ -6,14 +6,15 @@ ghost use Rattle.onfi_request.specs.declared.reply.Reply.{Reply as AReply};
 use onfi_request::{Item, Reply};
 use std::marker::Model;
 
-/// The lists of a half that no field keeps, for contracts alone: they take no memory.
+/// The lists of a half, or of a channel, that no field keeps, for contracts alone: they take no memory. A channel's are
+/// those of its hosts, and hold nothing.
 #[derive(Drop)]
 pub struct History {
-    /// What was accepted.
+    /// What came in: a half accepted it, or hosts sent it.
     pub ghost accepted: { List AnItem },
     /// The replies that are made and not posted, the oldest first.
     pub ghost held: { List AReply },
-    /// What was posted.
+    /// What went out: a half posted it, or hosts collected it.
     pub ghost posted: { List AReply },
     /// The held reply that is on its way out.
     pub ghost lent: { Option AReply },
@@ -75,5 +76,12 @@ impl History {
         ensures { (result.accepted ≡ self.now.accepted) × (result.held ≡ held.now.items) × (result.posted ≡ self.now.posted ++ option_to_list self.now.lent) × (result.lent ≡ None) }
     {
         History::of(self, held)
+    }
+
+    /// With one reply more that went out.
+    pub fn collecting(&self, reply: &Reply) -> History
+        ensures { (result.accepted ≡ self.now.accepted) × (result.held ≡ self.now.held) × (result.posted ≡ self.now.posted ++ reply.now ∷ []) × (result.lent ≡ self.now.lent) }
+    {
+        History::of(self, reply)
     }
 }

@@ -7,6 +7,7 @@ ghost use Rattle.onfi_core.specs.Reaching.{EventsReach, StepReaches, BatchReache
 
 /// Whatever list of events happens to an opened core, and whichever batches are set between them, each channel keeps
 /// its promise.
+#[tactic(auto, using(crate::proofs::Channels::headline))]
 pub fn headline()
     ensures { Headline }
 {}
@@ -17,11 +18,13 @@ pub fn opened_is_reached()
 {}
 
 /// Each step leads from a channel that is reached to one that is.
+#[tactic(auto, using(crate::proofs::Reach::step_kept))]
 pub fn step_keeps()
     ensures { StepKeeps }
 {}
 
 /// A list of events leads from channels that are reached to ones that are, and that keep the promise.
+#[tactic(auto, using(crate::proofs::Channels::run_keeps))]
 pub fn run_keeps()
     ensures { RunKeeps }
 {}
@@ -42,6 +45,7 @@ pub fn events_reach()
 {}
 
 /// Each step leads from a channel that events reach to one that they reach.
+#[tactic(auto, using(crate::proofs::Reaching::step_reaches))]
 pub fn step_reaches()
     ensures { StepReaches }
 {}
@@ -64,11 +68,13 @@ pub fn posting_reached()
 {}
 
 /// What the planning of a half came to is a step of its channel.
+#[tactic(auto, using(crate::proofs::Running::planning_step))]
 pub fn planned_step()
     ensures { PlannedStep }
 {}
 
 /// Where no phase is left and nothing is to be planned, no want waits to start and no item is unplanned.
+#[tactic(auto, using(crate::proofs::HeldFor::idle_is))]
 pub fn idle_is()
     ensures { IdleIs }
 {}
@@ -84,16 +90,19 @@ pub fn next_behind()
 {}
 
 /// A plan before whose finish nothing ends is optimal.
+#[tactic(auto, using(crate::proofs::Promised::finish_is_optimal))]
 pub fn finish_is_optimal()
     ensures { FinishIsOptimal }
 {}
 
 /// What an exact planner plans that gives tokens is shown by tokens, which are accepted for its finish.
+#[tactic(auto, using(crate::proofs::Promised::plain_is_plain))]
 pub fn plain_is_plain()
     ensures { PlainIsPlain }
 {}
 
 /// All starts of a legal schedule later by so much are legal where the bus is free before each of them.
+#[tactic(auto, using(crate::proofs::Shifted::later_legal))]
 pub fn later_is_legal()
     ensures { LaterLaw }
 {}

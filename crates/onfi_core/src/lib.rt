@@ -26,7 +26,6 @@ mod planning;
 mod setup;
 mod slot;
 mod starting;
-mod traffic;
 mod wants;
 
 pub use channel::cause_of;

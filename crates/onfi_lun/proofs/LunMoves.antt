@@ -1,7 +1,8 @@
 -- The moves of the LUNs of a channel.
 use Rattle.std.proofs.Common.{◌≡◌, ◌≢◌, ℕ, zero, suc, ◌+◌, ◌<◌, ◌≤◌, ◌⊎◌, inl, inr, Bool, true, false, IsTrue, List, [], ◌∷◌, ◌++◌, length, replicate, Option, Some, None, Result, Ok, Err, IfOk, IfErr, refl, sym, ap, subst, ◌∙◌, length-append, arith}
 use Rattle.std.specs.Prelude.{slice_get, slice_set}
-use Rattle.std.proofs.lemmas.List.{length-replicate}
+use Rattle.std.proofs.lemmas.List.{get_or-replicate, length-replicate}
+use Rattle.std.proofs.lemmas.Option.{slice_get-get_or}
 use Rattle.onfi_addr.specs.declared.geometry.Geometry.{Geometry}
 use Rattle.onfi_addr.specs.declared.place.Place.{Place}
 use Rattle.onfi_addr.specs.Rows.{IsInRange, row_of}
@@ -9,7 +10,7 @@ use Rattle.onfi_addr.proofs.RowLemmas.{fields_of, place_is}
 use Rattle.onfi_timing.specs.Kinds.{spans_of}
 use Rattle.onfi_request.specs.declared.request.Item.{Item}
 use Rattle.onfi_request.specs.declared.request.Request.{Request}
-use Rattle.onfi_problem.proofs.Places.{get_set_same, get_set_other, length_set, same_place, same_some, set_back, within_get}
+use Rattle.onfi_problem.proofs.Places.{get_set_other, length_set, set_back, within_get}
 use Rattle.onfi_chip.specs.declared.closer.Closer.{Closer}
 use Rattle.onfi_chip.specs.declared.closer.Closer.TheVariants as closer
 use Rattle.onfi_chip.specs.declared.fetch.Fetch.{Fetch}
@@ -19,6 +20,7 @@ use Rattle.onfi_chip.specs.Chip.Lun.{Idle as DoesNothing, Posting as HasPosts}
 use Rattle.onfi_chip.specs.Calls.{command_of, HasDone, IsNextPost, MayTake}
 use Rattle.onfi_chip.proofs.SimCalls.{in_range}
 use Rattle.onfi_core.specs.declared.due.Due.{Due}
+use Rattle.onfi_core.proofs.Lists.{each_set}
 use Rattle.onfi_lun.specs.declared.lun.Lun.{Lun as Typed}
 use Rattle.onfi_lun.specs.declared.lun.Posted.{Posted}
 use Rattle.onfi_lun.specs.declared.lun.Posted.TheVariants as behind
@@ -63,17 +65,9 @@ there_still old new Moving e h = h
 -- one LUN moves on with the chip's
 module _ (old new : Chip) (lanes : List AnyLun) (at : ℕ) (before after : AnyLun) (agree : LanesAgree old lanes) (there : slice_get lanes at ≡ Some before) (size : length new.luns ≡ length old.luns) (others : OthersStay at old new) (number : number_in after ≡ at) (is : IsThere new after) where
   moved : (i : ℕ) (lun : AnyLun) → slice_get (slice_set lanes at after) i ≡ Some lun → (number_in lun ≡ i) × IsThere new lun
-  moved i lun e =
-      elim (same_place i at) [
-        | inl q ↦ (
-            let here : slice_get (slice_set lanes at after) at ≡ Some after = get_set_same lanes at before after there in
-            let same : lun ≡ after = same_some lun after (slice_get (slice_set lanes at after) at) (subst (λ j. slice_get (slice_set lanes at after) j ≡ Some lun) q e) here in
-            (ap number_in same ∙ number ∙ sym q, subst (IsThere new) (sym same) is))
-        | inr q ↦ (
-            let e' : slice_get lanes i ≡ Some lun = sym (get_set_other lanes at i after q) ∙ e in
-            let n = agree.number i lun e' in
-            (n, there_still old new lun (subst (λ j. slice_get new.luns j ≡ slice_get old.luns j) (sym n) (others i q)) (agree.there i lun e')))
-      ]
+  moved i lun e = each_set (λ j x. (number_in x ≡ j) × IsThere new x) lanes at before after there (number, is) (λ j x d here.
+      let n = agree.number j x here in
+      (n, there_still old new x (subst (λ k. slice_get new.luns k ≡ slice_get old.luns k) (sym n) (others j d)) (agree.there j x here))) i lun e
 
   pub agree_on : LanesAgree new (slice_set lanes at after)
   agree_on = record {
@@ -100,16 +94,11 @@ idle_more count lanes lun are here = record {
 }
 
 get_replicate : {A : Type 0} (n i : ℕ) (x : A) → i < n → slice_get (replicate n x) i ≡ Some x
-get_replicate zero i x l = absurd (omega arith)
-get_replicate (suc n) zero x l = refl
-get_replicate (suc n) (suc i) x l = get_replicate n i x (omega arith)
+get_replicate n i x l = let e = length-replicate n x in slice_get-get_or (replicate n x) i x (omega (arith, e, l)) ∙ ap Some (get_or-replicate n i x x l)
 
 idle_there : (chip : Chip) (at : ℕ) (lun : AnyLun) → slice_get chip.luns at ≡ Some DoesNothing → IsIdleAt at lun → (number_in lun ≡ at) × IsThere chip lun
 idle_there chip at (Idle lun) there is = (is, ap (λ n. slice_get chip.luns n) is ∙ there)
-idle_there chip at (Queuing lun) there is = absurd is
-idle_there chip at (Working lun) there is = absurd is
-idle_there chip at (Posting lun) there is = absurd is
-idle_there chip at Moving there is = absurd is
+idle_there chip at _ there is = absurd is
 
 pub opened_agree : (count : ℕ) (lanes : List AnyLun) → AreIdle count lanes → (chip : Chip) → chip.luns ≡ replicate count DoesNothing → LanesAgree chip lanes
 opened_agree count lanes are chip opened =

@@ -1,5 +1,5 @@
 -- A batch as it opens, and as it ends.
-use Rattle.std.proofs.Common.{◌≡◌, ◌≢◌, ℕ, zero, suc, ◌+◌, ◌<◌, ◌≤◌, inl, inr, true, List, [], ◌∷◌, ◌++◌, length, Option, Some, None, map, replicate, refl, sym, ap, subst, ◌∙◌, append-nil, append_assoc, length-append, lit≤, arith}
+use Rattle.std.proofs.Common.{◌≡◌, ◌≢◌, ℕ, suc, ◌+◌, ◌<◌, ◌≤◌, inl, inr, true, List, [], ◌∷◌, ◌++◌, length, Option, Some, None, map, replicate, refl, sym, ap, subst, ◌∙◌, append-nil, append_assoc, length-append, lit≤, arith}
 use Rattle.std.specs.Prelude.{slice_get, ◌==◌, IfNone}
 use Rattle.std.specs.List.{AllByRecursion as All, flat_map}
 use Rattle.std.proofs.lemmas.Bool.{cases_Bool}
@@ -38,10 +38,11 @@ use Rattle.onfi_core.specs.State.{HalfState, want_of, wants_from, item_at, reque
 use Rattle.onfi_core.specs.Steps.{RunsOnChip, none_left, unplanned}
 use Rattle.onfi_core.specs.Kept.{ChipAgrees, IsHalf, IsTaken, IsSound, LunAgrees, commanding, unposted, on, is_of_place}
 use Rattle.onfi_core.proofs.Numbered.{all_taken}
-use Rattle.onfi_core.proofs.Cut.{request_at}
+use Rattle.onfi_core.proofs.Members.{request_at}
 use Rattle.onfi_core.proofs.HeldFor.{is_nil}
 use Rattle.onfi_core.proofs.Next.{is_wanted}
 use Rattle.onfi_core.proofs.Promise.{one_each, places_apart}
+use Rattle.onfi_core.proofs.Opening.{idle, none_running, same_element}
 use Rattle.onfi_lun.specs.declared.batch.flight.Flight.{Flight}
 use Rattle.onfi_lun.specs.declared.lanes.any_lun.AnyLun.{AnyLun}
 use Rattle.onfi_lun.specs.declared.target.Target.{Target}
@@ -63,20 +64,6 @@ none_commanding : (o : Option LunState) → ((g : List Want) (n r : ℕ) → o �
 none_commanding None h = refl
 none_commanding (Some (Free since)) h = refl
 none_commanding (Some (Running g n r)) h = absurd (h g n r refl)
-
-one_of_all : {A : Type 0} (n : ℕ) (x y : A) (i : ℕ) → slice_get (replicate n x) i ≡ Some y → x ≡ y
-one_of_all zero x y i e = absurd (let f : None ≡ Some y = e in cc)
-one_of_all (suc n) x y zero e = cc
-one_of_all (suc n) x y (suc i) e = one_of_all n x y i e
-
-free_runs : (n : ℕ) → NothingRuns (replicate n (Free 0))
-free_runs n i g k r e = let f = one_of_all n (Free 0) (Running g k r) i e in cc
-
--- on each of them the chip's LUN does nothing
-free_idle : (device : Device) (items : List Item) (n i : ℕ) → LunAgrees device items (slice_get (replicate n (Free 0)) i) (slice_get (replicate n Idle) i)
-free_idle device items zero i = refl
-free_idle device items (suc n) zero = refl
-free_idle device items (suc n) (suc i) = free_idle device items n i
 
 -- nothing is left of what runs
 no_rest_phases : (timing : Timing) (from : ℕ) (luns : List LunState) (rest : List (List ℕ)) → NothingRuns luns → rest_phases timing from luns rest ≡ []
@@ -100,32 +87,32 @@ module _ (p : Problem) (s : Schedule) (n : ℕ) (problem : IsProblem p) (legal :
     wants = problem.wants;
     in_range = subst (λ k. All (λ (w : Want). w.lun < k) p.wants) (sym (length-replicate n (Free 0))) below;
     ids = problem.ids;
-    running = λ lun g k r at. absurd (free_runs n lun g k r at);
+    running = λ lun g k r at. absurd (none_running n lun g k r at);
   }
 
   same_phases : phases p s ≡ phases now (record { rest = replicate n []; groups = s.groups })
   same_phases =
       let none = no_rest_phases p.timing 0 p.luns s.rest nothing in
-      let none' = no_rest_phases p.timing 0 (replicate n (Free 0)) (replicate n []) (free_runs n) in
+      let none' = no_rest_phases p.timing 0 (replicate n (Free 0)) (replicate n []) (none_running n) in
       ap (λ xs. xs ++ flat_map (group_phases p.timing) s.groups) (none ∙ sym none')
 
   legal_fits : Legal now (record { rest = replicate n []; groups = s.groups })
   legal_fits = record {
     shape = record {
       luns = length-replicate n [] ∙ sym (length-replicate n (Free 0));
-      rest = λ lun group next ready starts at k. absurd (free_runs n lun group next ready at);
-      no_rest = λ lun since starts at k. sym (one_of_all n [] starts lun k);
+      rest = λ lun group next ready starts at k. absurd (none_running n lun group next ready at);
+      no_rest = λ lun since starts at k. sym (same_element n [] lun starts k);
       starts = legal.shape.starts;
       wants_only = legal.shape.wants_only;
       once = legal.shape.once;
     };
     from_bus_free = subst (All (λ (x : Phase). p.bus_free ≤ x.start)) same_phases legal.from_bus_free;
     no_overlap = subst (Pairs Apart) same_phases legal.no_overlap;
-    rest_waits = λ lun group next ready starts at k. absurd (free_runs n lun group next ready at);
+    rest_waits = λ lun group next ready starts at k. absurd (none_running n lun group next ready at);
     waits = legal.waits;
-    running_first = All-each _ s.groups (λ g here group next ready starts at k. absurd (free_runs n (lun_of g.members) group next ready at));
+    running_first = All-each _ s.groups (λ g here group next ready starts at k. absurd (none_running n (lun_of g.members) group next ready at));
     turns = legal.turns;
-    from_since = All-each _ s.groups (λ g here since at. from_0 since g.starts (let e = one_of_all n (Free 0) (Free since) (lun_of g.members) at in cc));
+    from_since = All-each _ s.groups (λ g here since at. from_0 since g.starts (let e = same_element n (Free 0) (lun_of g.members) (Free since) at in cc));
     block_order = legal.block_order;
     group = legal.group;
   }
@@ -190,10 +177,10 @@ module _ (target : Target) (items : List Item) (p : Problem) (s : Schedule) (fau
     legal = legal_fits p s count problem legal batch.nothing_runs below;
     in_range = batch.fits;
     wants = subst (All (IsTaken setup (length items) items)) (sym batch.wants) (all_taken setup items 0 [] items refl refl);
-    running = λ lun g n r at. absurd (free_runs count lun g n r at);
+    running = λ lun g n r at. absurd (none_running count lun g n r at);
     once = λ place. (
         let d = ap (number (has_id place)) none_unplanned in
-        let e = ap (number (has_id place)) (none_unposted (replicate count (Free 0)) (free_runs count)) in
+        let e = ap (number (has_id place)) (none_unposted (replicate count (Free 0)) (none_running count)) in
         let f = ap (number (has_id place)) batch.wants in
         omega (arith, d, e, f));
     aside = tt;
@@ -210,13 +197,13 @@ module _ (target : Target) (items : List Item) (p : Problem) (s : Schedule) (fau
       ran = [];
       contents = let P : Chip → Type 0 = λ c. c.blocks lun block ≡ fresh (device_for setup c) in subst P (sym is) refl;
       order = (
-          let e = none_commanding (slice_get (replicate count (Free 0)) lun) (λ g n r. free_runs count lun g n r) in
+          let e = none_commanding (slice_get (replicate count (Free 0)) lun) (λ g n r. none_running count lun g n r) in
           let f = batch.wants in
           let u = none_unplanned in
           rw (e, f, u) (sym (append-nil (on lun block (wants_from target.geometry 0 items)))));
     };
     luns = λ lun. subst (λ (ls : List Lun). LunAgrees (device_for setup chip) items (slice_get (replicate count (Free 0)) lun) (slice_get ls lun))
-        (sym (ap (λ (c : Chip). c.luns) is)) (free_idle (device_for setup chip) items count lun);
+        (sym (ap (λ (c : Chip). c.luns) is)) (idle (device_for setup chip) items count lun);
   }
 
   pub opens : (flight : Flight) (lanes : List AnyLun) → state_of flight ≡ first → ((other : Chip) → other.luns ≡ replicate count Idle → LanesAgree other lanes)
@@ -232,7 +219,7 @@ module _ (target : Target) (items : List Item) (p : Problem) (s : Schedule) (fau
       lanes_agree = agree chip (ap (λ (c : Chip). c.luns) is);
     };
     items_are = ap (λ (h : HalfState). h.accepted) state;
-    order = subst (IsInOrder s) (sym state) (order_opens s first refl (free_runs count) refl);
+    order = subst (IsInOrder s) (sym state) (order_opens s first refl (none_running count) refl);
     basis = subst (All _) (sym (ap (λ (h : HalfState). h.held) state)) tt;
     kept = kept_same chip chip refl;
   }

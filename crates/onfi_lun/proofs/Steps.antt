@@ -1,5 +1,6 @@
 -- A phase of a batch, and what it leaves.
-use Rattle.std.proofs.Common.{◌≡◌, ℕ, zero, suc, ◌<◌, inl, inr, List, [], ◌∷◌, length, Some, get_or, refl, sym, ap, subst, ◌∙◌, arith}
+use Rattle.std.proofs.Common.{◌≡◌, ℕ, ◌<◌, inl, inr, List, ◌∷◌, length, Some, get_or, refl, sym, ap, subst, ◌∙◌, arith}
+use Rattle.std.proofs.lemmas.Option.{slice_get-get_or}
 use Rattle.std.specs.Prelude.{slice_get}
 use Rattle.onfi_request.specs.declared.request.Item.{Item}
 use Rattle.onfi_request.specs.declared.reply.Reply.{Reply}
@@ -34,9 +35,7 @@ use Rattle.onfi_lun.specs.Batch.{KeptSince, fault_of}
 use Rattle.onfi_lun.specs.Flight.{GoesOn, IsFaultOf, steps_left}
 
 pub get_of_or : {A : Type 0} (xs : List A) (i : ℕ) (v d : A) → i < length xs → v ≡ get_or xs i d → slice_get xs i ≡ Some v
-get_of_or [] i v d lt e = absurd (omega arith)
-get_of_or (x ∷ xs) zero v d lt e = ap Some (sym e)
-get_of_or (x ∷ xs) (suc i) v d lt e = get_of_or xs i v d (omega arith) e
+get_of_or xs i v d lt e = slice_get-get_or xs i d lt ∙ ap Some (sym e)
 
 -- Reading
 

@@ -2,7 +2,7 @@
 use Rattle.std.proofs.Common.{◌≡◌, ℕ, ◌+◌, ◌<◌, ◌≤◌, inl, inr, Bool, true, false, List, [], ◌∷◌, ◌++◌, length, Some, refl, sym, ap, ◌∙◌, subst, append_assoc, append-nil, arith}
 use Rattle.std.specs.Prelude.{slice_get, slice_set}
 use Rattle.onfi_request.specs.declared.reply.Reply.{Reply}
-use Rattle.onfi_problem.proofs.Places.{get_set_other, get_set_same, get_within, length_set, same_place, same_some, within_get}
+use Rattle.onfi_problem.proofs.Places.{get_within, length_set, same_some, within_get}
 use Rattle.onfi_queue.specs.Ends.{HostView}
 use Rattle.onfi_reply.specs.declared.opened_for.OpenedFor.{OpenedFor}
 use Rattle.onfi_reply.specs.Ends.{InboxView, TookIn}
@@ -13,6 +13,7 @@ use Rattle.onfi_seq.specs.Drained.{AreAccepted, AreNextBehind, Drains, EndsBefor
 use Rattle.onfi_seq.proofs.Same.{same_channel_all, short_by_memory}
 use Rattle.onfi_seq.specs.Sequencer.{AreCounts, IsRight, IsSameChannel, Seen, SequencerFields}
 use Rattle.onfi_seq.specs.Turned.{Turned}
+use Rattle.onfi_core.proofs.Lists.{each_set}
 
 -- What one inbox takes in
 
@@ -61,13 +62,9 @@ all_grown_all xs ys zs a b = record {
 one_grown : (xs : List InboxView) (at : ℕ) (i j : InboxView) → slice_get xs at ≡ Some i → HasGrown i j → HaveGrown xs (slice_set xs at j)
 one_grown xs at i j there grown = record {
   count = length_set xs at j;
-  each = λ k x y was is. elim (same_place k at) [
-    | inl e ↦ (
-        let x_is : i ≡ x = same_some i x (slice_get xs at) there (sym (ap (slice_get xs) e) ∙ was) in
-        let y_is : j ≡ y = same_some j y (slice_get (slice_set xs at j) k) (ap (slice_get (slice_set xs at j)) e ∙ get_set_same xs at i j there) is in
-        subst (HasGrown x) y_is (subst (λ (z : InboxView). HasGrown z j) x_is grown))
-    | inr d ↦ subst (HasGrown x) (same_some x y (slice_get xs k) was (sym (get_set_other xs at k j d) ∙ is)) (grown_none x)
-  ];
+  each = λ k x y was is. each_set (λ n z. (w : InboxView) → slice_get xs n ≡ Some w → HasGrown w z) xs at i j there
+      (λ w here. subst (λ (z : InboxView). HasGrown z j) (same_some i w (slice_get xs at) there here) grown)
+      (λ n z d old w here. subst (HasGrown w) (same_some w z (slice_get xs n) here old) (grown_none w)) k y is x was;
 }
 
 pub all_grown_one : (xs ys : List InboxView) (at : ℕ) (i j : InboxView) → HaveGrown xs ys → slice_get ys at ≡ Some i → HasGrown i j → HaveGrown xs (slice_set ys at j)
@@ -123,10 +120,7 @@ drains_here now q inboxes made q' inboxes' hosts turns drained.Empty so_far few 
     let count = so_far.count in record { answers = so_far.answers; last = q'; ran = so_far.ran; few = omega arith; ends = (so_far.on, ends); after = refl }
 drains_here now q inboxes made q' inboxes' hosts turns drained.TurnsSpent so_far few ends =
     let count = so_far.count in record { answers = so_far.answers; last = q'; ran = so_far.ran; few = omega arith; ends = (so_far.on, count ∙ ends.0, ends.1); after = refl }
-drains_here now q inboxes made q' inboxes' hosts turns (drained.Stopped cause) so_far few ends = absurd ends
-drains_here now q inboxes made q' inboxes' hosts turns (drained.Over opened) so_far few ends = absurd ends
-drains_here now q inboxes made q' inboxes' hosts turns (drained.Waits until) so_far few ends = absurd ends
-drains_here now q inboxes made q' inboxes' hosts turns drained.Memory so_far few ends = absurd ends
+drains_here now q inboxes made q' inboxes' hosts turns _ so_far few ends = absurd ends
 
 -- ended since a taking in was refused
 pub drains_refused : (now : ℕ) (q : Seen) (inboxes : List InboxView) (made : ℕ) (q' : Seen) (inboxes' : List InboxView) (hosts : List HostView) (turns : ℕ) (q'' : Seen) → Draining now q inboxes made q' inboxes' → made ≤ turns → q'' ≡ left_by drained.Memory q'

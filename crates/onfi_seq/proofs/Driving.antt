@@ -30,10 +30,9 @@ use Rattle.onfi_core.specs.Steps.{GoesOut, Step, accept_refusal, bus_refusal}
 use Rattle.onfi_core.specs.View.{HalfView, IsOldest, PlannedAs, RefusedAs, accepting}
 use Rattle.onfi_core.specs.View.{IsNext as IsHostsNext}
 use Rattle.onfi_core.proofs.HeldFor.{next_behind}
-use Rattle.onfi_core.proofs.Reach.{none_first, not_stopped}
 use Rattle.onfi_core.proofs.Reaching.{accepting_reached, batch_reached, events_reach, opened_reaches, posting_reached, step_reaches}
-use Rattle.onfi_core.proofs.Promised.{planned_last}
-use Rattle.onfi_core.proofs.Running.{after_planning, cause_is, lost_by, nothing_posted, ran_step, refused_alone, stop_step}
+use Rattle.onfi_core.proofs.Promised.{planned_last, refused_is}
+use Rattle.onfi_core.proofs.Running.{after_planning, cause_is, going_on, lost_by, nothing_posted, ran_step, refused_alone, stop_step}
 use Rattle.onfi_lun.specs.declared.lanes.any_lun.AnyLun.{AnyLun}
 use Rattle.onfi_lun.specs.declared.target.Target.{Target}
 use Rattle.onfi_lun.specs.Lanes.{LanesAgree, MayRunDue}
@@ -91,10 +90,7 @@ driven_batch Such s lent h chip lanes batch some few driven = record {
 
 pub accepted_kept : (old h : HalfView) (result : Result ℕ PlanRefusal) → PlannedAs old h result → RefusedAs old h result → h.state.accepted ≡ old.state.accepted
 accepted_kept old h (Ok finish) (open', taken, plan, e, plans, is) none = ap (λ (v : HalfView). v.state.accepted) is
-accepted_kept old h (Err (refused.Stopped cause)) none ((e, is), same) = ap (λ (x : HalfState). x.accepted) is
-accepted_kept old h (Err refused.NothingToPlan) none ((e, is), same) = ap (λ (x : HalfState). x.accepted) is
-accepted_kept old h (Err (refused.Over opened)) none ((e, count, more, is), same) = ap (λ (x : HalfState). x.accepted) is
-accepted_kept old h (Err refused.Memory) none ((e, is), same) = ap (λ (x : HalfState). x.accepted) is
+accepted_kept old h (Err refusal) none why = ap (λ (x : HalfState). x.accepted) (refused_is old.setup old.state refusal h.state why.0)
 
 pub posted_kept : (old h : HalfView) (chip : Chip) (result : Result ℕ PlanRefusal) → PlannedAs old h result → RefusedAs old h result → h.state.posted ≡ old.state.posted
 posted_kept old h chip result planned why = nothing_posted old.setup (quiet old.state chip) old result h planned (refused_alone old.setup old.state result h old why)
@@ -122,9 +118,6 @@ driven_planned Such old h chip lanes result driven planned new why settled setup
     }
 
 -- Phases
-
-pub going_on : (h : HalfState) → bus_refusal h ≡ None → h.stopped ≡ None
-going_on h open' = not_stopped h.stopped (none_first _ _ open')
 
 module _ (s : Setup) (h : HalfState) (chip : Chip) (reached : Reaches s (quiet h chip)) (due : Due) (is : IsDue h due) (open' : bus_refusal h ≡ None) (item : Item) (member : (m : Want) × (member_of due.group due.phase ≡ Some m) × (item ≡ item_at h.accepted m.id)) where
   pub ran_phase : (channel : ℕ) (chip' : Chip) (given : PhaseResult) (h' : HalfState) → HasRun chip s.geometry due item given chip' → h' ≡ after_due h due (replies_of h.accepted chip'.faults due given) → Step s (quiet h chip) (event.Bus channel) (outcome.Phase due.start) (quiet h' chip')

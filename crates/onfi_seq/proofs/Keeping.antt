@@ -1,21 +1,22 @@
 -- What the fields of a sequencer keep from call to call.
-use Rattle.std.proofs.Common.{◌≡◌, ◌≢◌, ℕ, zero, suc, ◌+◌, ◌<◌, inl, inr, Bool, false, List, [], ◌∷◌, ◌++◌, length, Some, None, refl, sym, ap, ◌∙◌, subst, length-append, arith}
+use Rattle.std.proofs.Common.{◌≡◌, ◌≢◌, ℕ, ◌+◌, ◌<◌, Bool, false, List, [], ◌∷◌, ◌++◌, length, Some, refl, sym, ap, ◌∙◌, subst, length-append, arith}
 use Rattle.std.specs.Prelude.{replicate, slice_get, slice_set}
 use Rattle.std.specs.List.{filter}
 use Rattle.onfi_request.specs.declared.request.Item.{Item}
 use Rattle.onfi_request.specs.declared.reply.Reply.{Reply}
 use Rattle.onfi_chip.specs.Chip.{Chip}
-use Rattle.onfi_problem.proofs.Places.{get_set_other, get_set_same, get_within, length_set, same_place, same_some}
+use Rattle.onfi_problem.proofs.Places.{get_within, length_set}
 use Rattle.onfi_core.specs.declared.setup.Setup.{Setup}
 use Rattle.onfi_core.specs.Kept.{first_half}
 use Rattle.onfi_core.specs.State.{HalfState, is_from, is_to}
 use Rattle.onfi_core.specs.Steps.{GoesOut}
 use Rattle.onfi_core.specs.View.{accepting}
 use Rattle.onfi_core.specs.Reaching.{Reaches}
-use Rattle.onfi_core.proofs.Opening.{get_same}
+use Rattle.onfi_core.proofs.Opening.{same_element}
 use Rattle.onfi_core.proofs.Promise.{promise}
 use Rattle.onfi_core.proofs.Reaching.{events_reach}
 use Rattle.onfi_core.proofs.Hosted.{from_other, from_own, to_other, to_own}
+use Rattle.onfi_core.proofs.Lists.{each_set, set_self}
 use Rattle.onfi_queue.specs.Ends.{IntakeView, after_accepting}
 use Rattle.onfi_queue.specs.Items.{IsNext}
 use Rattle.onfi_reply.specs.Ends.{PosterView, after_posting}
@@ -58,23 +59,10 @@ kept_planning s s' h h' intake posters refused short counts same accepted posted
 
 -- Opening
 
-no_some : (n count : ℕ) → None ≡ Some count → n ≡ count
-no_some n count e = cc
-
-same_some_is : (n count : ℕ) → Some n ≡ Some count → n ≡ count
-same_some_is n count e = cc
-
--- each of so many equal numbers is that number
-each_same : (n x i count : ℕ) → slice_get (replicate n x) i ≡ Some count → x ≡ count
-each_same n x i count there = elim (get_same n x i) [
-  | inl none ↦ no_some x count (sym none ∙ there)
-  | inr some ↦ same_some_is x count (sym some ∙ there)
-]
-
 counts_opened : (q : SequencerFields) → q.half.accepted ≡ [] → AreCounts q (replicate 4 0)
 counts_opened q none = record {
   hosts = refl;
-  each = λ host count there. sym (each_same 4 0 host count there) ∙ sym (ap (λ (xs : List Item). length (filter (is_from host) xs)) none);
+  each = λ host count there. sym (same_element 4 0 host count there) ∙ sym (ap (λ (xs : List Item). length (filter (is_from host) xs)) none);
 }
 
 poster_opened : (q : SequencerFields) (channel host : ℕ) (p : PosterView) → q.intake.opened.channel ≡ channel → q.half.posted ≡ [] → IsFreshPoster q.setup channel host p → IsPosterFor q host p
@@ -107,20 +95,13 @@ module _ (q : SequencerFields) (counts : List ℕ) (x : Item) (kept : IsKept q c
   one_more : (counts' : List ℕ) → IsNext q.intake.opened.geometry 4 q.intake.accepted x → counts' ≡ slice_set counts x.host (x.serial + 1) → AreCounts (record q { half = accepting q.half x; intake = after_accepting q.intake x }) counts'
   one_more counts' next set = record {
     hosts = ap length set ∙ length_set counts x.host (x.serial + 1) ∙ kept.counts_are.hosts;
-    each = λ host count there. elim (same_place host x.host) [
-      | inl e ↦ (
-          let low : x.host < length counts = (let a = next.host in let c = kept.counts_are.hosts in omega arith) in
-          let at = get_within counts x.host low in
-          let here : slice_get counts' host ≡ Some (x.serial + 1) = ap (λ (cs : List ℕ). slice_get cs host) set ∙ ap (slice_get (slice_set counts x.host (x.serial + 1))) e ∙ get_set_same counts x.host at.0 (x.serial + 1) at.1 in
-          let is : count ≡ x.serial + 1 = same_some count (x.serial + 1) (slice_get counts' host) there here in
-          let more : length (filter (is_from x.host) (q.half.accepted ++ x ∷ [])) ≡ length (filter (is_from x.host) q.half.accepted) + 1 = ap length (from_own x.host q.half.accepted x refl) ∙ length-append (filter (is_from x.host) q.half.accepted) (x ∷ []) in
-          let all : length (filter (is_from host) (q.half.accepted ++ x ∷ [])) ≡ length (filter (is_from x.host) (q.half.accepted ++ x ∷ [])) = ap (λ n. length (filter (is_from n) (q.half.accepted ++ x ∷ []))) e in
-          let serial : x.serial ≡ length (filter (is_from x.host) q.half.accepted) = next.serial ∙ ap (λ (xs : List Item). length (filter (is_from x.host) xs)) kept.accepted in
-          omega (arith, is, more, all, serial))
-      | inr d ↦ (
-          let there' : slice_get counts host ≡ Some count = sym (get_set_other counts x.host host (x.serial + 1) d) ∙ sym (ap (λ (cs : List ℕ). slice_get cs host) set) ∙ there in
-          kept.counts_are.each host count there' ∙ sym (ap length (from_other x.host host q.half.accepted x refl d)))
-    ];
+    each = λ host count there.
+        let low : x.host < length counts = (let a = next.host in let c = kept.counts_are.hosts in omega arith) in
+        let at = get_within counts x.host low in
+        let more : length (filter (is_from x.host) (q.half.accepted ++ x ∷ [])) ≡ length (filter (is_from x.host) q.half.accepted) + 1 = ap length (from_own x.host q.half.accepted x refl) ∙ length-append (filter (is_from x.host) q.half.accepted) (x ∷ []) in
+        let serial : x.serial ≡ length (filter (is_from x.host) q.half.accepted) = next.serial ∙ ap (λ (xs : List Item). length (filter (is_from x.host) xs)) kept.accepted in
+        each_set (λ j n. n ≡ length (filter (is_from j) (q.half.accepted ++ x ∷ []))) counts x.host at.0 (x.serial + 1) at.1 (omega (arith, more, serial))
+        (λ j n d here. kept.counts_are.each j n here ∙ sym (ap length (from_other x.host j q.half.accepted x refl d))) host count (ap (λ (cs : List ℕ). slice_get cs host) (sym set) ∙ there);
   }
 
   pub kept_accepting : (counts' : List ℕ) → IsNext q.intake.opened.geometry 4 q.intake.accepted x → counts' ≡ slice_set counts x.host (x.serial + 1) → IsKept (record q { half = accepting q.half x; intake = after_accepting q.intake x }) counts'
@@ -168,13 +149,7 @@ module _ (q : SequencerFields) (counts : List ℕ) (host : ℕ) (p : PosterView)
     room = kept.room;
     accepted = kept.accepted ∙ sym (ap (λ (x : HalfState). x.accepted) goes.after);
     posters = length_set q.posters host (after_posting p r) ∙ kept.posters;
-    each = λ j p' there. elim (same_place j host) [
-      | inl e ↦ (
-          let here : slice_get (slice_set q.posters host (after_posting p r)) j ≡ Some (after_posting p r) = ap (slice_get (slice_set q.posters host (after_posting p r))) e ∙ get_set_same q.posters host p (after_posting p r) at in
-          let is : after_posting p r ≡ p' = same_some (after_posting p r) p' (slice_get (slice_set q.posters host (after_posting p r)) j) here there in
-          subst (IsPosterFor posted_there j) is (subst (λ n. IsPosterFor posted_there n (after_posting p r)) (sym e) own_poster))
-      | inr d ↦ other_poster j p' d (sym (get_set_other q.posters host j (after_posting p r) d) ∙ there)
-    ];
+    each = each_set (IsPosterFor posted_there) q.posters host p (after_posting p r) at own_poster other_poster;
     counts_are = record {
       hosts = kept.counts_are.hosts;
       each = λ j count there. kept.counts_are.each j count there ∙ sym (ap (λ (x : HalfState). length (filter (is_from j) x.accepted)) goes.after);
@@ -183,15 +158,10 @@ module _ (q : SequencerFields) (counts : List ℕ) (host : ℕ) (p : PosterView)
 
 -- An offer to a poster
 
-pub set_same : {A : Type 0} (xs : List A) (i : ℕ) (x : A) → slice_get xs i ≡ Some x → slice_set xs i x ≡ xs
-set_same [] i x there = refl
-set_same (y ∷ xs) zero x there = (let e : y ≡ x = cc in ap (λ z. z ∷ xs) (sym e))
-set_same (y ∷ xs) (suc i) x there = ap (λ zs. y ∷ zs) (set_same xs i x there)
-
 kept_unposted : (q : SequencerFields) (counts : List ℕ) (host : ℕ) (p : PosterView) (h : HalfState) (p' : PosterView) → IsKept q counts → slice_get q.posters host ≡ Some p → h ≡ q.half → p' ≡ p
     → IsKept (record q { half = h; posters = slice_set q.posters host p' }) counts
 kept_unposted q counts host p h p' kept at same is =
-    let posters : slice_set q.posters host p' ≡ q.posters = ap (λ (x : PosterView). slice_set q.posters host x) is ∙ set_same q.posters host p at in
+    let posters : slice_set q.posters host p' ≡ q.posters = ap (λ (x : PosterView). slice_set q.posters host x) is ∙ set_self q.posters host p at in
     let back : (let x : SequencerFields = record q { half = h; posters = slice_set q.posters host p' } in x) ≡ q =
     ap (λ (x : HalfState). let y : SequencerFields = record q { half = x; posters = slice_set q.posters host p' } in y) same ∙ ap (λ (ps : List PosterView). let y : SequencerFields = record q { posters = ps } in y) posters in
     subst (λ (x : SequencerFields). IsKept x counts) (sym back) kept

@@ -5,5 +5,4 @@ pub mod Turning
 pub mod Draining
 pub mod Closing
 pub mod Same
-pub mod Opening
 pub mod OtherEnds

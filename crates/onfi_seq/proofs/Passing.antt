@@ -9,7 +9,7 @@ use Rattle.onfi_core.specs.declared.half.passing.WaitRefusal.{WaitRefusal}
 use Rattle.onfi_core.specs.declared.outcome.Outcome.TheVariants as outcome
 use Rattle.onfi_core.specs.declared.setup.Setup.{Setup}
 use Rattle.onfi_core.specs.declared.setup.Choice.{Choice}
-use Rattle.onfi_core.specs.declared.setup.Choice.TheVariants.{InOrder, ByLun, ReadsFirst}
+use Rattle.onfi_core.specs.declared.setup.Choice.TheVariants.{InOrder}
 use Rattle.onfi_core.specs.Reaching.{Reaches}
 use Rattle.onfi_core.specs.Refusals.{wait_outcome, waited_outcome}
 use Rattle.onfi_core.specs.State.{HalfState, ChannelState, Planning, quiet}
@@ -139,8 +139,7 @@ passes_asked now s s' c mid c' known waited by_then same asked kept still = inr 
 wants_still : (choice : Choice) (s : Setup) (h : HalfState) (p : Problem) (left : Schedule) (outdated : Bool)
     → WantsBy choice s (record h { now = p; left = left; outdated = outdated }) → WantsBy choice s h
 wants_still InOrder s h p left outdated wants = wants
-wants_still ByLun s h p left outdated wants = wants
-wants_still ReadsFirst s h p left outdated wants = wants
+wants_still _ s h p left outdated wants = wants
 
 takes_still : (q : Seen) (p : Problem) (left : Schedule) (outdated : Bool) (chip : Chip) → TakesNothing q
     → TakesNothing (record q.0 { half = record q.0.half { now = p; left = left; outdated = outdated } }, chip)
@@ -169,10 +168,4 @@ pub turned_then : (now : ℕ) (q mid : Seen) (answer : Turn) (q' : Seen) → Let
 turned_then now q mid turn.Posted q' passes goes = absurd goes
 turned_then now q mid (turn.Stopped cause) q' passes goes = inr (mid, passes, goes)
 turned_then now q mid turn.Accepted q' passes goes = absurd goes
-turned_then now q mid turn.Planned q' passes goes = (mid, passes, goes)
-turned_then now q mid (turn.Over opened) q' passes goes = (mid, passes, goes)
-turned_then now q mid turn.Phase q' passes goes = (mid, passes, goes)
-turned_then now q mid turn.Memory q' passes goes = (mid, passes, goes)
-turned_then now q mid (turn.Waits until) q' passes goes = (mid, passes, goes)
-turned_then now q mid turn.PostFull q' passes goes = (mid, passes, goes)
-turned_then now q mid turn.Idle q' passes goes = (mid, passes, goes)
+turned_then now q mid answer q' passes goes = (mid, passes, goes)

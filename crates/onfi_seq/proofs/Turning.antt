@@ -14,13 +14,13 @@ use Rattle.onfi_core.proofs.HeldFor.{idle_is, is_nil, nothing_held}
 use Rattle.onfi_core.proofs.Dues.{next_cases}
 use Rattle.onfi_core.proofs.Next.{none_taken as nothing_taken}
 use Rattle.onfi_core.proofs.Reaching.{events_reach}
+use Rattle.onfi_core.proofs.Lists.{set_self}
 use Rattle.onfi_queue.specs.Ends.{IntakeView}
 use Rattle.onfi_reply.specs.Ends.{PosterView}
 use Rattle.onfi_seq.specs.declared.offer.Offer.{Offer}
 use Rattle.onfi_seq.specs.declared.offer.Offer.TheVariants as offer
 use Rattle.onfi_seq.specs.Driver.{DriverView, Offered}
 use Rattle.onfi_seq.specs.Sequencer.{Seen, channel_of}
-use Rattle.onfi_seq.proofs.Keeping.{set_same}
 use Rattle.onfi_seq.specs.declared.turn.Turn.{Turn}
 use Rattle.onfi_seq.specs.declared.turn.Turn.TheVariants as turn
 use Rattle.onfi_seq.specs.Turned.{Goes, HeldBelow, IsPostRefused, IsRest, MayRunPhase, NothingPosts, OfferedAll, OfferedTo, Rests}
@@ -35,8 +35,7 @@ no_plan (Some cause) none going e = cc
 nothing_new : (stopped : Option Cause) (none late : Bool) → stopped ≡ None → or_else (if_stopped stopped) (or_else (refused_where none NothingToPlan) (refused_where late (Stopped Clock))) ≡ Some NothingToPlan → none ≡ true
 nothing_new None true late going e = refl
 nothing_new None false true going e = cc
-nothing_new None false false going e = cc
-nothing_new (Some cause) none late going e = cc
+nothing_new _ _ _ going e = cc
 
 -- nothing is to be planned
 pub none_taken : (s : Setup) (h : HalfState) → h.stopped ≡ None → plan_refusal s h ≡ Some NothingToPlan → taken_next s h ≡ []
@@ -71,18 +70,11 @@ planned_seen {C} state intake posters refused short d d' same =
 pub rest_goes : (now : ℕ) (q q' : Seen) (rest : Turn) → IsRest q rest → Rests q → q' ≡ q → Goes now q rest q'
 rest_goes now q q' turn.PostFull is rests same = (rests, is, same)
 rest_goes now q q' turn.Idle is rests same = (rests, is, same)
-rest_goes now q q' turn.Posted is rests same = absurd is
-rest_goes now q q' (turn.Stopped cause) is rests same = absurd is
-rest_goes now q q' turn.Accepted is rests same = absurd is
-rest_goes now q q' turn.Planned is rests same = absurd is
-rest_goes now q q' (turn.Over opened) is rests same = absurd is
-rest_goes now q q' turn.Phase is rests same = absurd is
-rest_goes now q q' turn.Memory is rests same = absurd is
-rest_goes now q q' (turn.Waits until) is rests same = absurd is
+rest_goes now q q' _ is rests same = absurd is
 
 seen_back : (q : Seen) (host : ℕ) (p : PosterView) (h : HalfState) (p' : PosterView) → slice_get q.0.posters host ≡ Some p → h ≡ q.0.half → p' ≡ p → (let y : Seen = (record q.0 { half = h; posters = slice_set q.0.posters host p' }, q.1) in y) ≡ q
 seen_back q host p h p' at same is =
-    let posters : slice_set q.0.posters host p' ≡ q.0.posters = ap (λ (x : PosterView). slice_set q.0.posters host x) is ∙ set_same q.0.posters host p at in
+    let posters : slice_set q.0.posters host p' ≡ q.0.posters = ap (λ (x : PosterView). slice_set q.0.posters host x) is ∙ set_self q.0.posters host p at in
     ap (λ (x : HalfState). let y : Seen = (record q.0 { half = x; posters = slice_set q.0.posters host p' }, q.1) in y) same ∙ ap (λ (ps : List PosterView). let y : Seen = (record q.0 { posters = ps }, q.1) in y) posters
 
 -- an offer to one host's poster

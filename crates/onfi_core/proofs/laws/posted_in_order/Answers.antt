@@ -1,4 +1,4 @@
-use Rattle.onfi_core.proofs.InOrder.{posted_in_order}
+use Rattle.onfi_core.proofs.HeldFor.{posted_in_order}
 use Rattle.onfi_core.proofs.laws.posted_in_order.Goals as goal
 
 pub returns : goal.returns

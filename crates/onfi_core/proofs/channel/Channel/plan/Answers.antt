@@ -16,7 +16,7 @@ pub invariant_of-self : goal.invariant_of-self
 invariant_of-self g c =
     let i = c.self.invariant in
     let f = c.self.inside in
-    let now : ChannelState = record { half = f.half.state; chip = g.C.Chip.state f.chip; sent = f.traffic.sent; waiting = f.waiting.items; collected = f.traffic.collected } in
+    let now : ChannelState = record { half = f.half.state; chip = g.C.Chip.state f.chip; sent = f.traffic.accepted; waiting = f.waiting.items; collected = f.traffic.posted } in
     let e = c.plan-planned.ensures in
     let after : ChannelState = record now { half = c.plan-planned.new.self.state } in
     let refused = refused_alone f.half.setup now.half c.plan-planned.result c.plan-planned.new.self f.half e.refused in
@@ -30,7 +30,7 @@ pub returns-clause-step : goal.returns-clause-step
 returns-clause-step g c channel =
     let i = c.self.invariant in
     let f = c.self.inside in
-    let now : ChannelState = record { half = f.half.state; chip = g.C.Chip.state f.chip; sent = f.traffic.sent; waiting = f.waiting.items; collected = f.traffic.collected } in
+    let now : ChannelState = record { half = f.half.state; chip = g.C.Chip.state f.chip; sent = f.traffic.accepted; waiting = f.waiting.items; collected = f.traffic.posted } in
     let e = c.plan-planned.ensures in
     let after : ChannelState = record now { half = c.plan-planned.new.self.state } in
     let refused = refused_alone f.half.setup now.half c.plan-planned.result c.plan-planned.new.self f.half e.refused in

@@ -16,7 +16,7 @@ pub push_back_reserved-requires : goal.push_back_reserved-requires
 push_back_reserved-requires g c =
     let i = c.self.invariant in
     let f = c.self.inside in
-    let now : ChannelState = record { half = f.half.state; chip = g.C.Chip.state f.chip; sent = f.traffic.sent; waiting = f.waiting.items; collected = f.traffic.collected } in
+    let now : ChannelState = record { half = f.half.state; chip = g.C.Chip.state f.chip; sent = f.traffic.accepted; waiting = f.waiting.items; collected = f.traffic.posted } in
     let within : c.from-at.result < length f.hosts.items = omega (arith, c.if-at-len.false, c.len.ensures, f.hosts.ok.0) in
     let known : c.args.host < f.half.setup.hosts = omega (arith, within, c.from-at.ensures, i.count) in
     let there = queue_there f.hosts.items c.from-at.result c.args.host c.index.result.now within c.index.ensures c.from-at.ensures in
@@ -37,7 +37,7 @@ pub returns-then-len-from-clause-step : goal.returns-then-len-from-clause-step
 returns-then-len-from-clause-step g c channel =
     let i = c.self.invariant in
     let f = c.self.inside in
-    let now : ChannelState = record { half = f.half.state; chip = g.C.Chip.state f.chip; sent = f.traffic.sent; waiting = f.waiting.items; collected = f.traffic.collected } in
+    let now : ChannelState = record { half = f.half.state; chip = g.C.Chip.state f.chip; sent = f.traffic.accepted; waiting = f.waiting.items; collected = f.traffic.posted } in
     let within : c.from-at.result < length f.hosts.items = omega (arith, c.if-at-len.false, c.len.ensures, f.hosts.ok.0) in
     let known : c.args.host < f.half.setup.hosts = omega (arith, within, c.from-at.ensures, i.count) in
     let there = queue_there f.hosts.items c.from-at.result c.args.host c.index.result.now within c.index.ensures c.from-at.ensures in
@@ -57,7 +57,7 @@ pub invariant_of-self-2 : goal.invariant_of-self-2
 invariant_of-self-2 g c =
     let i = c.self.invariant in
     let f = c.self.inside in
-    let now : ChannelState = record { half = f.half.state; chip = g.C.Chip.state f.chip; sent = f.traffic.sent; waiting = f.waiting.items; collected = f.traffic.collected } in
+    let now : ChannelState = record { half = f.half.state; chip = g.C.Chip.state f.chip; sent = f.traffic.accepted; waiting = f.waiting.items; collected = f.traffic.posted } in
     let within : c.from-at.result < length f.hosts.items = omega (arith, c.if-at-len.false, c.len.ensures, f.hosts.ok.0) in
     let known : c.args.host < f.half.setup.hosts = omega (arith, within, c.from-at.ensures, i.count) in
     let there = queue_there f.hosts.items c.from-at.result c.args.host c.index.result.now within c.index.ensures c.from-at.ensures in
@@ -82,7 +82,7 @@ pub returns-clause-step : goal.returns-clause-step
 returns-clause-step g c channel =
     let i = c.self.invariant in
     let f = c.self.inside in
-    let now : ChannelState = record { half = f.half.state; chip = g.C.Chip.state f.chip; sent = f.traffic.sent; waiting = f.waiting.items; collected = f.traffic.collected } in
+    let now : ChannelState = record { half = f.half.state; chip = g.C.Chip.state f.chip; sent = f.traffic.accepted; waiting = f.waiting.items; collected = f.traffic.posted } in
     let within : c.from-at.result < length f.hosts.items = omega (arith, c.if-at-len.false, c.len.ensures, f.hosts.ok.0) in
     let known : c.args.host < f.half.setup.hosts = omega (arith, within, c.from-at.ensures, i.count) in
     let there = queue_there f.hosts.items c.from-at.result c.args.host c.index.result.now within c.index.ensures c.from-at.ensures in

@@ -13,7 +13,7 @@ pub invariant_of-self : goal.invariant_of-self
 invariant_of-self g c =
     let i = c.self.invariant in
     let f = c.self.inside in
-    let now : ChannelState = record { half = f.half.state; chip = g.C.Chip.state f.chip; sent = f.traffic.sent; waiting = f.waiting.items; collected = f.traffic.collected } in
+    let now : ChannelState = record { half = f.half.state; chip = g.C.Chip.state f.chip; sent = f.traffic.accepted; waiting = f.waiting.items; collected = f.traffic.posted } in
     let e = c.ready-ready.ensures in
     let chip = g.C.Chip.state c.poll.new.self in
     let found = c.if-poll.ensures.ready refl ∙ ap (λ n. found_ready (g.C.Chip.state f.chip) c.args.lun n) c.bus_free-now.ensures in

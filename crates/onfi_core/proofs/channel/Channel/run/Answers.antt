@@ -15,7 +15,7 @@ pub run_phase-requires : goal.run_phase-requires
 run_phase-requires g c =
     let i = c.self.invariant in
     let f = c.self.inside in
-    let now : ChannelState = record { half = f.half.state; chip = g.C.Chip.state f.chip; sent = f.traffic.sent; waiting = f.waiting.items; collected = f.traffic.collected } in
+    let now : ChannelState = record { half = f.half.state; chip = g.C.Chip.state f.chip; sent = f.traffic.accepted; waiting = f.waiting.items; collected = f.traffic.posted } in
     let is = due_within g.C.Chip.state _ _ c.args.due c.self.view_is c.requires.due in
     let open' = open_within g.C.Chip.state _ _ c.self.view_is c.requires.open in
     subst (λ (s : Setup). MayRun (g.C.Chip.state f.chip) s.geometry c.args.due c.member.result.now) (sym c.setup.ensures) (may_drive f.half.setup now (events_reach f.half.setup now i.reached) c.args.due is open' c.member.result.now c.member.ensures)
@@ -24,7 +24,7 @@ pub invariant_of-self : goal.invariant_of-self
 invariant_of-self g c =
     let i = c.self.invariant in
     let f = c.self.inside in
-    let now : ChannelState = record { half = f.half.state; chip = g.C.Chip.state f.chip; sent = f.traffic.sent; waiting = f.waiting.items; collected = f.traffic.collected } in
+    let now : ChannelState = record { half = f.half.state; chip = g.C.Chip.state f.chip; sent = f.traffic.accepted; waiting = f.waiting.items; collected = f.traffic.posted } in
     let is = due_within g.C.Chip.state _ _ c.args.due c.self.view_is c.requires.due in
     let open' = open_within g.C.Chip.state _ _ c.self.view_is c.requires.open in
     let ran : HasRun (g.C.Chip.state f.chip) f.half.setup.geometry c.args.due c.member.result.now c.in-Ok.ran (g.C.Chip.state c.run_phase.new.chip) = subst (λ (s : Setup). HasRun (g.C.Chip.state f.chip) s.geometry c.args.due c.member.result.now c.in-Ok.ran (g.C.Chip.state c.run_phase.new.chip)) c.setup.ensures c.in-Ok.ensures.ran in
@@ -41,7 +41,7 @@ pub returns-in-Ok-clause-step : goal.returns-in-Ok-clause-step
 returns-in-Ok-clause-step g c channel =
     let i = c.self.invariant in
     let f = c.self.inside in
-    let now : ChannelState = record { half = f.half.state; chip = g.C.Chip.state f.chip; sent = f.traffic.sent; waiting = f.waiting.items; collected = f.traffic.collected } in
+    let now : ChannelState = record { half = f.half.state; chip = g.C.Chip.state f.chip; sent = f.traffic.accepted; waiting = f.waiting.items; collected = f.traffic.posted } in
     let is = due_within g.C.Chip.state _ _ c.args.due c.self.view_is c.requires.due in
     let open' = open_within g.C.Chip.state _ _ c.self.view_is c.requires.open in
     let ran : HasRun (g.C.Chip.state f.chip) f.half.setup.geometry c.args.due c.member.result.now c.in-Ok.ran (g.C.Chip.state c.run_phase.new.chip) = subst (λ (s : Setup). HasRun (g.C.Chip.state f.chip) s.geometry c.args.due c.member.result.now c.in-Ok.ran (g.C.Chip.state c.run_phase.new.chip)) c.setup.ensures c.in-Ok.ensures.ran in
@@ -54,7 +54,7 @@ pub invariant_of-self-in-Some : goal.invariant_of-self-in-Some
 invariant_of-self-in-Some g c =
     let i = c.self.invariant in
     let f = c.self.inside in
-    let now : ChannelState = record { half = f.half.state; chip = g.C.Chip.state f.chip; sent = f.traffic.sent; waiting = f.waiting.items; collected = f.traffic.collected } in
+    let now : ChannelState = record { half = f.half.state; chip = g.C.Chip.state f.chip; sent = f.traffic.accepted; waiting = f.waiting.items; collected = f.traffic.posted } in
     let is = due_within g.C.Chip.state _ _ c.args.due c.self.view_is c.requires.due in
     let open' = open_within g.C.Chip.state _ _ c.self.view_is c.requires.open in
     let reached = events_reach f.half.setup now i.reached in
@@ -74,7 +74,7 @@ pub returns-in-Some-clause-step : goal.returns-in-Some-clause-step
 returns-in-Some-clause-step g c channel =
     let i = c.self.invariant in
     let f = c.self.inside in
-    let now : ChannelState = record { half = f.half.state; chip = g.C.Chip.state f.chip; sent = f.traffic.sent; waiting = f.waiting.items; collected = f.traffic.collected } in
+    let now : ChannelState = record { half = f.half.state; chip = g.C.Chip.state f.chip; sent = f.traffic.accepted; waiting = f.waiting.items; collected = f.traffic.posted } in
     let is = due_within g.C.Chip.state _ _ c.args.due c.self.view_is c.requires.due in
     let open' = open_within g.C.Chip.state _ _ c.self.view_is c.requires.open in
     let reached = events_reach f.half.setup now i.reached in

@@ -13,7 +13,7 @@ pub returns-in_default-next_serial-clause-step : goal.returns-in_default-next_se
 returns-in_default-next_serial-clause-step g c channel =
     let i = c.self.invariant in
     let f = c.self.inside in
-    let now : ChannelState = record { half = f.half.state; chip = g.C.Chip.state f.chip; sent = f.traffic.sent; waiting = f.waiting.items; collected = f.traffic.collected } in
+    let now : ChannelState = record { half = f.half.state; chip = g.C.Chip.state f.chip; sent = f.traffic.accepted; waiting = f.waiting.items; collected = f.traffic.posted } in
     let within : c.from-at.result < length f.hosts.items = omega (arith, c.if-at-len.false, c.len.ensures, f.hosts.ok.0) in
     let known : c.args.host < f.half.setup.hosts = omega (arith, within, c.from-at.ensures, i.count) in
     let there = queue_there f.hosts.items c.from-at.result c.args.host c.index.result.now within c.index.ensures c.from-at.ensures in
@@ -26,7 +26,7 @@ pub returns-then-len-from-clause-step : goal.returns-then-len-from-clause-step
 returns-then-len-from-clause-step g c channel =
     let i = c.self.invariant in
     let f = c.self.inside in
-    let now : ChannelState = record { half = f.half.state; chip = g.C.Chip.state f.chip; sent = f.traffic.sent; waiting = f.waiting.items; collected = f.traffic.collected } in
+    let now : ChannelState = record { half = f.half.state; chip = g.C.Chip.state f.chip; sent = f.traffic.accepted; waiting = f.waiting.items; collected = f.traffic.posted } in
     let within : c.from-at.result < length f.hosts.items = omega (arith, c.if-at-len.false, c.len.ensures, f.hosts.ok.0) in
     let known : c.args.host < f.half.setup.hosts = omega (arith, within, c.from-at.ensures, i.count) in
     let there = queue_there f.hosts.items c.from-at.result c.args.host c.index.result.now within c.index.ensures c.from-at.ensures in
@@ -41,7 +41,7 @@ pub invariant_of-self : goal.invariant_of-self
 invariant_of-self g c =
     let i = c.self.invariant in
     let f = c.self.inside in
-    let now : ChannelState = record { half = f.half.state; chip = g.C.Chip.state f.chip; sent = f.traffic.sent; waiting = f.waiting.items; collected = f.traffic.collected } in
+    let now : ChannelState = record { half = f.half.state; chip = g.C.Chip.state f.chip; sent = f.traffic.accepted; waiting = f.waiting.items; collected = f.traffic.posted } in
     let within : c.from-at.result < length f.hosts.items = omega (arith, c.if-at-len.false, c.len.ensures, f.hosts.ok.0) in
     let known : c.args.host < f.half.setup.hosts = omega (arith, within, c.from-at.ensures, i.count) in
     let there = queue_there f.hosts.items c.from-at.result c.args.host c.index.result.now within c.index.ensures c.from-at.ensures in
@@ -53,21 +53,21 @@ invariant_of-self g c =
     let open' : (n : ℕ) → refusal f.half.setup now (event.Submit c.args.host n c.args.request) ≡ None = λ channel. submit_open f.half.setup now c.args.host channel c.args.request known fine (omega arith) room in
     let serial = c.in-Some-next_serial.serial in
     let numbered = c.in-Some-next_serial.ensures.0 ∙ count in
-    let e = c.sending-self-inside.ensures in
-    let same = submitted_is now c.args.host serial c.args.request c.sending-self-inside.result.sent c.push_back_reserved.new.self.items c.sending-self-inside.result.collected numbered e.0 c.push_back_reserved.ensures.items e.1 in
-    let after : ChannelState = record now { sent = c.sending-self-inside.result.sent; waiting = c.push_back_reserved.new.self.items; collected = c.sending-self-inside.result.collected } in
+    let e = c.accepting-self-inside.ensures in
+    let same = submitted_is now c.args.host serial c.args.request c.accepting-self-inside.result.accepted c.push_back_reserved.new.self.items c.accepting-self-inside.result.posted numbered e.0 c.push_back_reserved.ensures.items e.2 in
+    let after : ChannelState = record now { sent = c.accepting-self-inside.result.accepted; waiting = c.push_back_reserved.new.self.items; collected = c.accepting-self-inside.result.posted } in
     let step : (n : ℕ) → Step f.half.setup now (event.Submit c.args.host n c.args.request) (outcome.Submitted serial) after = λ channel. step_does f.half.setup now (event.Submit c.args.host channel c.args.request) (outcome.Submitted serial) after (open' channel) (ap outcome.Submitted numbered, same) in
     let reached = step_reaches f.half.setup now (event.Submit c.args.host 0 c.args.request) (outcome.Submitted serial) after i.reached (step 0) in
     let queue = c.index_mut.result.now in
     let there' = queue_there f.hosts.items c.from-at.result c.from-at.result queue within c.index_mut.ensures.value refl in
     queues_sent f.half.setup _ _ _ _ f.hosts.items _ now after i reached i.settled c.push_back_reserved.ensures.capacity c.from-at.result queue (record { sent = queue.sent + 1; completions = queue.completions }) there' refl
-    (record { host = c.args.host; serial = serial; request = c.args.request }) (sym c.from-at.ensures) e.0 refl e.1 refl refl
+    (record { host = c.args.host; serial = serial; request = c.args.request }) (sym c.from-at.ensures) e.0 refl e.2 refl refl
 
 pub returns-clause-step : goal.returns-clause-step
 returns-clause-step g c channel =
     let i = c.self.invariant in
     let f = c.self.inside in
-    let now : ChannelState = record { half = f.half.state; chip = g.C.Chip.state f.chip; sent = f.traffic.sent; waiting = f.waiting.items; collected = f.traffic.collected } in
+    let now : ChannelState = record { half = f.half.state; chip = g.C.Chip.state f.chip; sent = f.traffic.accepted; waiting = f.waiting.items; collected = f.traffic.posted } in
     let within : c.from-at.result < length f.hosts.items = omega (arith, c.if-at-len.false, c.len.ensures, f.hosts.ok.0) in
     let known : c.args.host < f.half.setup.hosts = omega (arith, within, c.from-at.ensures, i.count) in
     let there = queue_there f.hosts.items c.from-at.result c.args.host c.index.result.now within c.index.ensures c.from-at.ensures in
@@ -79,8 +79,8 @@ returns-clause-step g c channel =
     let open' : (n : ℕ) → refusal f.half.setup now (event.Submit c.args.host n c.args.request) ≡ None = λ channel. submit_open f.half.setup now c.args.host channel c.args.request known fine (omega arith) room in
     let serial = c.in-Some-next_serial.serial in
     let numbered = c.in-Some-next_serial.ensures.0 ∙ count in
-    let e = c.sending-self-inside.ensures in
-    let same = submitted_is now c.args.host serial c.args.request c.sending-self-inside.result.sent c.push_back_reserved.new.self.items c.sending-self-inside.result.collected numbered e.0 c.push_back_reserved.ensures.items e.1 in
-    let after : ChannelState = record now { sent = c.sending-self-inside.result.sent; waiting = c.push_back_reserved.new.self.items; collected = c.sending-self-inside.result.collected } in
+    let e = c.accepting-self-inside.ensures in
+    let same = submitted_is now c.args.host serial c.args.request c.accepting-self-inside.result.accepted c.push_back_reserved.new.self.items c.accepting-self-inside.result.posted numbered e.0 c.push_back_reserved.ensures.items e.2 in
+    let after : ChannelState = record now { sent = c.accepting-self-inside.result.accepted; waiting = c.push_back_reserved.new.self.items; collected = c.accepting-self-inside.result.posted } in
     let step : (n : ℕ) → Step f.half.setup now (event.Submit c.args.host n c.args.request) (outcome.Submitted serial) after = λ channel. step_does f.half.setup now (event.Submit c.args.host channel c.args.request) (outcome.Submitted serial) after (open' channel) (ap outcome.Submitted numbered, same) in
     outside g.C.Chip.state _ _ (event.Submit c.args.host channel c.args.request) (outcome.Submitted serial) after c.self.view_is (step channel)

@@ -13,7 +13,7 @@ pub invariant_of-self : goal.invariant_of-self
 invariant_of-self g c =
     let i = c.self.invariant in
     let f = c.self.inside in
-    let now : ChannelState = record { half = f.half.state; chip = g.C.Chip.state f.chip; sent = f.traffic.sent; waiting = f.waiting.items; collected = f.traffic.collected } in
+    let now : ChannelState = record { half = f.half.state; chip = g.C.Chip.state f.chip; sent = f.traffic.accepted; waiting = f.waiting.items; collected = f.traffic.posted } in
     let e = c.wait-waited.ensures in
     let new = c.wait-waited.new.self in
     let after : ChannelState = record now { half = new.state } in
@@ -26,7 +26,7 @@ invariant_of-self g c =
 pub returns-clause-step : goal.returns-clause-step
 returns-clause-step g c channel =
     let f = c.self.inside in
-    let now : ChannelState = record { half = f.half.state; chip = g.C.Chip.state f.chip; sent = f.traffic.sent; waiting = f.waiting.items; collected = f.traffic.collected } in
+    let now : ChannelState = record { half = f.half.state; chip = g.C.Chip.state f.chip; sent = f.traffic.accepted; waiting = f.waiting.items; collected = f.traffic.posted } in
     let e = c.wait-waited.ensures in
     let after : ChannelState = record now { half = c.wait-waited.new.self.state } in
     let step = after_waiting f.half.setup now channel c.args.moment f.half c.wait-waited.new.self c.wait-waited.result refl e.waited e.refused e.unchanged in

@@ -22,5 +22,5 @@ returns-clause-due c =
     let starts_there : slice_get rest at ≡ Some starts = slice_get_read rest _ at starts refl within c.index-2.ensures in
     let there : slice_get luns at ≡ Some (Running run.group run.phase run.ready) =
     slice_get_read luns _ at c.index.result.now refl (omega (arith, within, same)) c.index.ensures ∙ ap Some run.is in
-    let p = subst (λ ws. IsPhaseOf c.self.inside.setup.timing run.group run.phase starts None ws c.of.result) (c.wants_again-wants.ensures ∙ c.as_slice.ensures.value) c.of.ensures.phase in
+    let p = subst (λ ws. IsPhaseOf c.self.inside.setup.timing run.group run.phase starts None ws c.of.result) ((rw c.unwrap-wants.ensures at c.try_from.ensures).0 ∙ c.as_slice.ensures.value) c.of.ensures.phase in
     due_outside _ _ _ c.self.view_is (next_is_due c.self.inside.setup _ sound c.args.next is run.group run.phase run.ready there _ starts starts_there p)

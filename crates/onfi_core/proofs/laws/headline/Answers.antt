@@ -1,5 +1,0 @@
-use Rattle.onfi_core.proofs.Channels.{headline}
-use Rattle.onfi_core.proofs.laws.headline.Goals as goal
-
-pub returns : goal.returns
-returns c = headline

@@ -1,1 +1,0 @@
--- The ends of a channel's queues as they open.
