@@ -215,7 +215,7 @@ ran_behind old p s c lun number started b stand is lun_is number_is on_time behi
   on_time = on_time;
   legal = late_legal p is.move c.start started (left_behind s c) is.first.is_move on_time (subst (Legal (placed p is.move c.start)) is.left_is is.first.legal);
   after = subst (λ n. IsSaid (record old.channel { bus_free = b.bus_free }) (slice_set old.luns n b.lun) b.wants.items (placed p is.move started)) lun_is
-      (said_behind old.channel old.luns old.wants p s c started b stand.said is behind);
+      (said_behind old.channel old.luns old.wants p s c started b stand.said.problem is behind);
   later = behind.schedule;
 }
 
