@@ -31,7 +31,7 @@ use Rattle.onfi_c.specs.declared.status.Status.TheVariants.{NotDue, TooSoon}
 use Rattle.onfi_c.specs.Behind.{IsBehind, IsNotBehind, ends, kept_behind}
 use Rattle.onfi_c.specs.Coming.{IsComing, left_behind, wants_behind}
 use Rattle.onfi_c.specs.Due.{number_of_kind}
-use Rattle.onfi_c.specs.Later.{later}
+use Rattle.onfi_core.specs.Times.{later}
 use Rattle.onfi_c.specs.Ran.{IsRan, IsNotRan, ComesOn, Kept, is_late, is_no_memory, is_not_due, is_too_soon, Stands, lun_in, no_want, telling, waits, written_want}
 use Rattle.onfi_c.specs.Said.{IsSaid, kind_of, members_of, state_of, states_of, want_of, wants_of}
 use Rattle.onfi_c.specs.Written.{filled, written_schedule}

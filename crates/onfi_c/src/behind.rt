@@ -2,13 +2,14 @@
 ghost use Rattle.std.specs.Prelude.{◌≡◌, ◌⊎◌, ℕ, ◌+◌, ◌*◌, ◌<◌, ◌≤◌, ◌^◌, Some, false, true, length, map, take, IfOk, IfErr};
 ghost use Rattle.std.specs.List.{filter};
 ghost use Rattle.onfi_core.specs.Dues.{groups_left};
+ghost use Rattle.onfi_core.specs.Times.{later};
 ghost use Rattle.onfi_group.specs.Group.{group_spans};
 ghost use Rattle.onfi_schedule.specs.Schedule.{Legal};
 ghost use Rattle.onfi_timing.specs.Phases.{phase_length};
 ghost use Rattle.onfi_c.specs.declared.status.Status.TheVariants.{Clock, Memory};
 ghost use Rattle.onfi_c.specs.Behind.{IsBehind, IsNotBehind};
 ghost use Rattle.onfi_c.specs.Coming.{IsComing, left_behind};
-ghost use Rattle.onfi_c.specs.Later.{later, reaches_limit};
+ghost use Rattle.onfi_c.specs.Later.{reaches_limit};
 ghost use Rattle.onfi_c.specs.SaidLegal.{IsStand};
 ghost use Rattle.onfi_problem.specs.Moves.{lun_after as spec_lun_after};
 ghost use Rattle.onfi_c.specs.Ran as spec;
