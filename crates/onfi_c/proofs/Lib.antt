@@ -2,7 +2,7 @@ mod Answering
 mod Dues
 mod Few
 mod Geometries
-mod Judging
+mod Giving
 mod Mapped
 mod Next
 mod Orders

@@ -1,5 +1,5 @@
 -- A plan by a search that remembers states, as it is told.
-use Rattle.std.proofs.Common.{◌≡◌, ℕ, ◌≤◌, ◌<◌, List, sym, ap, subst}
+use Rattle.std.proofs.Common.{◌≡◌, ℕ, ◌≤◌, ◌<◌, List, refl, sym, subst}
 use Rattle.onfi_problem.specs.Left.{InLimits}
 use Rattle.onfi_problem.specs.Position.{Position}
 use Rattle.onfi_problem.specs.Problem.{Problem}
@@ -10,13 +10,11 @@ use Rattle.onfi_check.specs.Nodes.{HasMoreNodes}
 use Rattle.onfi_planner.specs.Planning.{AreRising}
 use Rattle.onfi_recall.specs.Text.{HasNodesIn, ProvesText, last_opened}
 use Rattle.onfi_recall.specs.Walks.{EndsSooner, HasSoMany}
-use Rattle.onfi_script.specs.Answer.{IsKnown, IsNear, IsShown, ShowsBelow}
-use Rattle.onfi_c.specs.declared.schedule.PlainPlan.{PlainPlan}
-use Rattle.onfi_c.specs.declared.schedule.PlainWithin.{PlainWithin}
-use Rattle.onfi_c.specs.Early.{IsPlanNear}
+use Rattle.onfi_script.specs.Answer.{IsKnown, IsShown, IsWithin, ShowsBelow}
+use Rattle.onfi_c.specs.declared.schedule.PlainSchedule.{PlainSchedule}
 use Rattle.onfi_c.specs.Planned.{IsRecalled}
-use Rattle.onfi_c.specs.Within.{IsPlanWithin}
-use Rattle.onfi_c.specs.Written.{written_plan, written_within}
+use Rattle.onfi_c.specs.Within.{IsPlanBelow}
+use Rattle.onfi_c.specs.Written.{written_schedule}
 
 pub is_known : (x : Position) (s : Schedule) (text : List ℕ) (ends : ℕ) → x.all ≡ x.problem.wants → Optimal x.problem s → finish x.problem s ≡ ends → ProvesText x text ends → IsKnown x.problem s text
 is_known x s text ends begun optimal is (tokens, certificate, proves) = record {
@@ -26,9 +24,11 @@ is_known x s text ends begun optimal is (tokens, certificate, proves) = record {
   certified = subst (λ z. ProvesTokens x.problem.wants tokens x.problem z) (sym is) (subst (λ all. ProvesTokens all tokens x.problem ends) begun proves);
 }
 
-pub recalled : (p : Problem) (limit : ℕ) (s : Schedule) (ends opened reopened : ℕ) (plan : PlainPlan) (text : List ℕ) → IsKnown p s text → finish p s ≡ ends → AreRising s.groups → 1 ≤ opened → opened ≤ limit → HasSoMany p opened
-    → HasNodesIn p text (last_opened opened reopened) → (1 ≤ reopened → EndsSooner p ends) → plan ≡ written_plan s ends opened → IsRecalled p limit plan text
-recalled p limit s ends opened reopened plan text known is rising some within nodes counted again written = subst (λ z. IsRecalled p limit z text) (sym written) (record {
+pub recalled : (p : Problem) (limit : ℕ) (s : Schedule) (ends opened reopened : ℕ) (plan : PlainSchedule) (text : List ℕ) → IsKnown p s text
+    → finish p s ≡ ends → AreRising s.groups → 1 ≤ opened → opened ≤ limit → HasSoMany p opened
+    → HasNodesIn p text (last_opened opened reopened) → (1 ≤ reopened → EndsSooner p ends) → plan ≡ written_schedule s
+    → IsRecalled p limit (record { schedule = plan; finish = ends; opened = opened }) text
+recalled p limit s ends opened reopened plan text known is rising some within nodes counted again written = record {
   schedule = s;
   known = known;
   rising = rising;
@@ -38,8 +38,8 @@ recalled p limit s ends opened reopened plan text known is rising some within no
   reopened = reopened;
   counted = counted;
   again = λ k. subst (EndsSooner p) (sym is) (again k);
-  written = ap (λ z. written_plan s z opened) (sym is);
-})
+  written = rw (written, is) refl;
+}
 
 -- .. and of a time before which nothing ends
 pub shows_below : (x : Position) (below : ℕ) (text : List ℕ) → x.all ≡ x.problem.wants → ProvesText x text below → NoneBefore x.problem below → ShowsBelow x.problem below text
@@ -53,22 +53,25 @@ shows_below x below text begun (tokens, certificate, proves) none = record {
 none_before : (x : Position) (below : ℕ) (text : List ℕ) → InLimits x.problem → BelowLaw → ProvesText x text below → NoneBefore x.problem below
 none_before x below text limits law (tokens, certificate, proves) = law x.all x.problem tokens below limits.problem limits.small proves
 
-pub planned_within : (x : Position) (limit : ℕ) (s : Schedule) (ends below : ℕ) (text : List ℕ) (plan : PlainWithin) → x.all ≡ x.problem.wants → InLimits x.problem → BelowLaw → Legal x.problem s → finish x.problem s ≡ ends → AreRising s.groups → below ≤ ends
-    → ProvesText x text below → (below < ends → HasMoreNodes x.problem limit) → plan ≡ written_within s ends below → IsPlanWithin x.problem limit plan text
-planned_within x limit s ends below text plan begun limits law legal is rising least cert short written = subst (λ z. IsPlanWithin x.problem limit z text) (sym written) (record {
-  schedule = s;
-  within = record { legal = legal; rising = rising; shown = shows_below x below text begun cert (none_before x below text limits law cert); short = λ h. short (subst (λ z. below < z) is h) };
-  least = subst (λ z. below ≤ z) (sym is) least;
-  written = ap (λ z. written_within s z below) (sym is);
-})
+pub is_within : (x : Position) (limit : ℕ) (s : Schedule) (ends below : ℕ) (text : List ℕ) → x.all ≡ x.problem.wants → InLimits x.problem → BelowLaw
+    → Legal x.problem s → finish x.problem s ≡ ends → AreRising s.groups
+    → ProvesText x text below → (below < ends → HasMoreNodes x.problem limit) → IsWithin limit x.problem s below text
+is_within x limit s ends below text begun limits law legal is rising cert short = record {
+  legal = legal;
+  rising = rising;
+  shown = shows_below x below text begun cert (none_before x below text limits law cert);
+  short = λ h. short (subst (λ z. below < z) is h);
+}
 
-pub planned_near : (p : Problem) (slack limit : ℕ) (s : Schedule) (ends below : ℕ) (text : List ℕ) (plan : PlainWithin) → IsNear (HasMoreNodes p limit) slack p s below text → finish p s ≡ ends → below ≤ ends → plan ≡ written_within s ends below → IsPlanNear p slack limit plan text
-planned_near p slack limit s ends below text plan near is least written = subst (λ z. IsPlanNear p slack limit z text) (sym written) (record {
+pub planned_below : (Holds : Schedule → ℕ → List ℕ → Type 0) (p : Problem) (s : Schedule) (ends below : ℕ) (text : List ℕ) (plan : PlainSchedule)
+    → Holds s below text → finish p s ≡ ends → below ≤ ends → plan ≡ written_schedule s
+    → IsPlanBelow Holds p (record { schedule = plan; finish = ends; below = below }) text
+planned_below Holds p s ends below text plan holds is least written = record {
   schedule = s;
-  near = near;
+  holds = holds;
   least = subst (λ z. below ≤ z) (sym is) least;
-  written = ap (λ z. written_within s z below) (sym is);
-})
+  written = rw (written, is) refl;
+}
 
 pub is_shown : (x : Position) (s : Schedule) (below ends : ℕ) (text : List ℕ) → x.all ≡ x.problem.wants → Legal x.problem s → finish x.problem s ≡ ends → below ≤ ends → NoneBefore x.problem below → ProvesText x text below → IsShown x.problem s below text
 is_shown x s below ends text begun legal is least none cert = record { legal = legal; shown = shows_below x below text begun cert none; least = subst (λ z. below ≤ z) (sym is) least }

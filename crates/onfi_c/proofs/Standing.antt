@@ -31,7 +31,7 @@ use Rattle.onfi_c.specs.declared.status.Status.TheVariants.{NotDue, TooSoon}
 use Rattle.onfi_c.specs.Behind.{IsBehind, IsNotBehind, ends, kept_behind}
 use Rattle.onfi_c.specs.Coming.{IsComing, left_behind, wants_behind}
 use Rattle.onfi_c.specs.Due.{number_of_kind}
-use Rattle.onfi_c.specs.Later.{later}
+use Rattle.onfi_core.specs.Times.{later}
 use Rattle.onfi_c.specs.Ran.{IsRan, IsNotRan, ComesOn, Kept, is_late, is_no_memory, is_not_due, is_too_soon, Stands, lun_in, no_want, telling, waits, written_want}
 use Rattle.onfi_c.specs.Said.{IsSaid, kind_of, members_of, state_of, states_of, want_of, wants_of}
 use Rattle.onfi_c.specs.Written.{filled, written_schedule}
@@ -215,7 +215,7 @@ ran_behind old p s c lun number started b stand is lun_is number_is on_time behi
   on_time = on_time;
   legal = late_legal p is.move c.start started (left_behind s c) is.first.is_move on_time (subst (Legal (placed p is.move c.start)) is.left_is is.first.legal);
   after = subst (λ n. IsSaid (record old.channel { bus_free = b.bus_free }) (slice_set old.luns n b.lun) b.wants.items (placed p is.move started)) lun_is
-      (said_behind old.channel old.luns old.wants p s c started b stand.said is behind);
+      (said_behind old.channel old.luns old.wants p s c started b stand.said.problem is behind);
   later = behind.schedule;
 }
 

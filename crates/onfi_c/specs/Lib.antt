@@ -5,7 +5,6 @@ pub mod Chosen
 pub mod Coming
 pub mod Device
 pub mod Due
-pub mod Early
 pub mod Later
 pub mod Planned
 pub mod Ran

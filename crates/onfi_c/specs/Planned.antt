@@ -1,5 +1,5 @@
 -- What a caller is given for a problem that is to be planned.
-use Rattle.std.specs.Prelude.{◌≡◌, ◌≤◌, ℕ, List, length, Bool, true, false}
+use Rattle.std.specs.Prelude.{◌≡◌, ◌≤◌, ℕ, List, length}
 use Rattle.onfi_problem.specs.Problem.{Problem}
 use Rattle.onfi_schedule.specs.Schedule.{Schedule, Optimal, finish}
 use Rattle.onfi_cert.specs.declared.token.Token.{Token}
@@ -50,38 +50,43 @@ pub record IsRecalled (p : Problem) (limit : ℕ) (plan : PlainPlan) (text : Lis
   pub again : 1 ≤ reopened → EndsSooner p (finish p schedule)
   pub written : plan ≡ written_plan schedule (finish p schedule) plan.opened
 
--- by a search that remembers states, or by one that doesn't
-abbrev pub IsPlanBy : Bool → Problem → ℕ → PlainPlan → List ℕ → Type 0
-IsPlanBy true p limit plan text = IsRecalled p limit plan text
-IsPlanBy false p limit plan text = IsPlan p limit plan text
-
 -- the tree of the problem has more nodes than may be opened; or memory ran out
 abbrev pub IsUnplanned : Problem → ℕ → Status → Type 0
 IsUnplanned p limit Over = HasMoreNodes p limit
 IsUnplanned p limit Memory = Unit {0}
 IsUnplanned p limit _ = ⊥
 
--- why there is no plan of what is said
-pub data IsRefusedPlan (channel : PlainChannel) (luns : List PlainLun) (wants : List PlainWant) (limit : ℕ) (status : Status) : Type 0 where
-  is_limit : IsBadLimit limit → status ≡ BadLimit → IsRefusedPlan channel luns wants limit status
-  is_refused : 1 ≤ limit → limit ≤ 1048576 → IsRefused channel luns wants status → IsRefusedPlan channel luns wants limit status
-  is_unplanned : 1 ≤ limit → limit ≤ 1048576 → (p : Problem) → IsSaid channel luns wants p → IsUnplanned p limit status → IsRefusedPlan channel luns wants limit status
+-- the problem that a caller says, which a search of so many nodes is to plan
+pub record IsPosed (channel : PlainChannel) (luns : List PlainLun) (wants : List PlainWant) (limit : ℕ) (p : Problem) : Type 0 where
+  pub some : 1 ≤ limit
+  pub few : limit ≤ 1048576
+  pub said : IsSaid channel luns wants p
 
--- a plan of what is said
-pub record IsPlanSaid (remember : Bool) (channel : PlainChannel) (luns : List PlainLun) (wants : List PlainWant) (limit : ℕ) (plan : PlainPlan) (text : List ℕ) : Type 0 where
-  pub some_limit : 1 ≤ limit
-  pub few_limit : limit ≤ 1048576
-  pub problem : Problem
-  pub said : IsSaid channel luns wants problem
-  pub is_plan : IsPlanBy remember problem limit plan text
+-- why there is none: the first of these
+pub data IsUnposed (channel : PlainChannel) (luns : List PlainLun) (wants : List PlainWant) (limit : ℕ) (status : Status) : Type 0 where
+  is_limit : IsBadLimit limit → status ≡ BadLimit → IsUnposed channel luns wants limit status
+  is_refused : 1 ≤ limit → limit ≤ 1048576 → IsRefused channel luns wants status → IsUnposed channel luns wants limit status
 
 -- a text is given where there is room for any
 pub data GivesAsked (text old new : List ℕ) (bytes result : ℕ) : Type 0 where
   asked : 1 ≤ length old → Gives text 0 old new bytes result → GivesAsked text old new bytes result
   unasked : length old ≡ 0 → bytes ≡ length text → new ≡ old → result ≡ 0 → GivesAsked text old new bytes result
 
--- a caller is given a plan and its certificate, or a number that tells why there is none, and nothing else
-pub data GivesPlan (remember : Bool) (channel : PlainChannel) (luns : List PlainLun) (wants : List PlainWant) (limit : ℕ) (old new : PlainPlan) (room_old room_new : List ℕ) (bytes result : ℕ) : Type 0 where
-  gives : (text : List ℕ) → IsPlanSaid remember channel luns wants limit new text → GivesAsked text room_old room_new bytes result → GivesPlan remember channel luns wants limit old new room_old room_new bytes result
-  refuses : (status : Status) → IsRefusedPlan channel luns wants limit status → new ≡ old → room_new ≡ room_old → bytes ≡ 0 → result ≡ number_of status
-      → GivesPlan remember channel luns wants limit old new room_old room_new bytes result
+-- nothing is given, and a number tells why
+pub record IsUngiven {Plan : Type 0} (old new : Plan) (room_old room_new : List ℕ) (bytes result : ℕ) (status : Status) : Type 0 where
+  pub plan : new ≡ old
+  pub room : room_new ≡ room_old
+  pub none : bytes ≡ 0
+  pub number : result ≡ number_of status
+
+-- a caller is given a plan of what he says, of which this is promised, and its certificate; or a number that tells why there is
+-- none, of the problem or before, and nothing else
+pub data GivesPlan {Plan : Type 0} (Promises : Problem → ℕ → Plan → List ℕ → Type 0) (Tells : Problem → ℕ → Status → Type 0)
+    (channel : PlainChannel) (luns : List PlainLun) (wants : List PlainWant) (limit : ℕ) (old new : Plan) (room_old room_new : List ℕ)
+    (bytes result : ℕ) : Type 0 where
+  gives : (p : Problem) (text : List ℕ) → IsPosed channel luns wants limit p → Promises p limit new text → GivesAsked text room_old room_new bytes result
+      → GivesPlan Promises Tells channel luns wants limit old new room_old room_new bytes result
+  refuses : (p : Problem) (status : Status) → IsPosed channel luns wants limit p → Tells p limit status
+      → IsUngiven old new room_old room_new bytes result status → GivesPlan Promises Tells channel luns wants limit old new room_old room_new bytes result
+  is_unposed : (status : Status) → IsUnposed channel luns wants limit status → IsUngiven old new room_old room_new bytes result status
+      → GivesPlan Promises Tells channel luns wants limit old new room_old room_new bytes result

@@ -16,7 +16,8 @@ use Rattle.onfi_c.specs.declared.schedule.PlainSchedule.{PlainSchedule}
 use Rattle.onfi_c.specs.declared.status.Status.{Status}
 use Rattle.onfi_c.specs.declared.status.Status.TheVariants.{TooMany, Clock, Memory, NothingDue, NotDue, TooSoon}
 use Rattle.onfi_c.specs.Due.{number_of_kind}
-use Rattle.onfi_c.specs.Later.{later, reaches_limit}
+use Rattle.onfi_core.specs.Times.{later}
+use Rattle.onfi_c.specs.Later.{reaches_limit}
 use Rattle.onfi_c.specs.Said.{IsSaid, want_of}
 use Rattle.onfi_c.specs.SaidLegal.{IsStand, IsNoStand}
 use Rattle.onfi_c.specs.Status.{number_of}

@@ -2,13 +2,15 @@
 ghost use Rattle.std.specs.Prelude.{◌≡◌, ◌⊎◌, ℕ, ◌+◌, ◌*◌, ◌<◌, ◌≤◌, ◌^◌, Some, false, true, length, map, take, IfOk, IfErr};
 ghost use Rattle.std.specs.List.{filter};
 ghost use Rattle.onfi_core.specs.Dues.{groups_left};
+ghost use Rattle.onfi_core.specs.Times.{later};
 ghost use Rattle.onfi_group.specs.Group.{group_spans};
+ghost use Rattle.onfi_schedule.specs.Schedule.{Legal};
 ghost use Rattle.onfi_timing.specs.Phases.{phase_length};
 ghost use Rattle.onfi_c.specs.declared.status.Status.TheVariants.{Clock, Memory};
 ghost use Rattle.onfi_c.specs.Behind.{IsBehind, IsNotBehind};
 ghost use Rattle.onfi_c.specs.Coming.{IsComing, left_behind};
-ghost use Rattle.onfi_c.specs.Later.{later, reaches_limit};
-ghost use Rattle.onfi_c.specs.SaidLegal.{IsLegalSaid, IsStand};
+ghost use Rattle.onfi_c.specs.Later.{reaches_limit};
+ghost use Rattle.onfi_c.specs.SaidLegal.{IsStand};
 ghost use Rattle.onfi_problem.specs.Moves.{lun_after as spec_lun_after};
 ghost use Rattle.onfi_c.specs.Ran as spec;
 ghost use Rattle.onfi_c.specs.Said.{state_of, wants_of as spec_wants_of};
@@ -202,7 +204,9 @@ fn schedule_behind(
     coming: &Coming,
     by: u64,
 ) -> Result<PlainSchedule, Status>
-    requires said { IsLegalSaid stand.now.problem.problem said.now stand.now.schedule }
+    requires good { is_bad_schedule said.now ≡ false }
+    requires said { stand.now.schedule ≡ schedule_of stand.now.problem.problem.wants said.now }
+    requires legal { Legal stand.now.problem.problem stand.now.schedule }
     requires begun { stand.now.problem.all ≡ stand.now.problem.problem.wants }
     requires coming { IsComing stand.now.problem.problem stand.now.schedule coming.now }
     ensures schedule { IfOk result (λ s. s ≡ written_schedule (later by (left_behind stand.now.schedule coming.now))) }

@@ -195,10 +195,7 @@ fn choose_said(
     ensures few { IfOk result (λ places. length places.items ≤ 8) }
     ensures none { IfErr result (λ status. spec.IsUnchosen channel.now luns.now wants.now accepted choice batch status) }
 {
-    let timing = match timing_said(channel, luns, wants) {
-        Ok(timing) => timing,
-        Err(status) => return Err(status),
-    };
+    let timing = timing_said(channel, luns, wants)?;
     if choice > 2 {
         return Err(Status::BadChoice);
     }

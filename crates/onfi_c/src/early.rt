@@ -1,16 +1,14 @@
 //! Plans that are made better.
 ghost use Rattle.std.specs.Prelude.{◌≡◌, ◌≤◌, IfOk, IfErr};
-ghost use Rattle.onfi_c.specs.declared.status.Status.TheVariants.{Memory};
-ghost use Rattle.onfi_c.specs.Early.{GivesNear, IsPlanNear, IsPlanNearSaid};
-ghost use Rattle.onfi_c.specs.Within.{IsRefusedWithin};
+ghost use Rattle.onfi_c.specs.Planned.{GivesPlan};
+ghost use Rattle.onfi_c.specs.Within.{IsNoMemory, IsPlanNear};
 
 use crate::channel::PlainChannel;
 use crate::lun::{PlainLun, PlainWant};
-use crate::planning::{MOST_NODES, give_asked};
-use crate::said::problem_of;
+use crate::planning::{give_told, problem_posed};
 use crate::schedule::PlainWithin;
 use crate::status::Status;
-use crate::within::ToldWithin;
+use crate::told::Told;
 use crate::written;
 use onfi_early::Weights;
 use onfi_problem::Problem;
@@ -32,12 +30,12 @@ fn tell(
     weights: &PlainWeights,
     slack: u16,
     limit: u32,
-) -> Result<ToldWithin, Status>
+) -> Result<Told<PlainWithin>, Status>
     requires some { 1 ≤ limit }
     requires few { limit ≤ 1048576 }
     requires begun { problem.now.all ≡ problem.now.problem.wants }
-    ensures plan { IfOk result (λ t. IsPlanNear problem.now.problem slack limit t.plan t.text.items) }
-    ensures none { IfErr result (λ status. status ≡ Memory) }
+    ensures plan { IfOk result (λ t. IsPlanNear slack problem.now.problem limit t.plan t.text.items) }
+    ensures none { IfErr result (λ status. IsNoMemory problem.now.problem limit status) }
 {
     let weights = Weights {
         wants: weights.want,
@@ -46,36 +44,17 @@ fn tell(
     let Ok(planned) = near_within(alloc, problem, &weights, slack, limit) else {
         return Err(Status::Memory);
     };
-    let (finish, below) = (planned.finish, planned.below);
-    let Ok(plan) = written::within(alloc, problem, &planned.schedule, finish, below) else {
+    let Ok(schedule) = written::legal_schedule(alloc, problem, &planned.schedule) else {
         return Err(Status::Memory);
     };
-    Ok(ToldWithin {
-        plan,
+    Ok(Told {
+        plan: PlainWithin {
+            schedule,
+            finish: planned.finish,
+            below: planned.below,
+        },
         text: planned.cert,
     })
-}
-
-/// The same of what is said.
-fn tell_said(
-    alloc: Global,
-    channel: &PlainChannel,
-    luns: &[PlainLun],
-    wants: &[PlainWant],
-    limit: u32,
-    weights: &PlainWeights,
-    slack: u16,
-) -> Result<ToldWithin, Status>
-    ensures plan { IfOk result (λ t. IsPlanNearSaid channel.now luns.now wants.now slack limit t.plan t.text.items) }
-    ensures none { IfErr result (λ status. IsRefusedWithin channel.now luns.now wants.now limit status) }
-{
-    if limit == 0 || limit > MOST_NODES {
-        return Err(Status::BadLimit);
-    }
-    match problem_of(alloc, channel, luns, wants) {
-        Ok(problem) => tell(alloc, &problem, weights, slack, limit),
-        Err(status) => Err(status),
-    }
 }
 
 /// Plans the wants of a channel as [`onfi_plan_within`](crate::within::onfi_plan_within) does, and makes the plan better:
@@ -96,16 +75,15 @@ pub extern "C" fn onfi_plan_early(
     certificate: &mut [u8],
     bytes: &mut usize,
 ) -> u32
-    ensures { GivesNear channel.now luns.now wants.now slack limit plan.old plan.new certificate.old certificate.new bytes.new result }
+    ensures { GivesPlan (IsPlanNear slack) IsNoMemory channel.now luns.now wants.now limit plan.old plan.new certificate.old certificate.new bytes.new result }
 {
-    match tell_said(alloc, channel, luns, wants, limit, weights, slack) {
-        Ok(told) => {
-            *plan = told.plan;
-            give_asked(told.text.as_slice(), certificate, bytes)
-        }
-        Err(status) => {
-            *bytes = 0;
-            status.number()
-        }
+    match problem_posed(alloc, channel, luns, wants, limit) {
+        Ok(problem) => give_told(
+            tell(alloc, &problem, weights, slack, limit),
+            plan,
+            certificate,
+            bytes,
+        ),
+        Err(status) => give_told(Err(status), plan, certificate, bytes),
     }
 }

@@ -1,6 +1,7 @@
 //! Schedules whose phases start later.
 ghost use Rattle.std.specs.Prelude.{◌≡◌, ◌+◌, false, map, IfOk};
 ghost use Rattle.std.specs.List.{list_any};
+ghost use Rattle.onfi_core.specs.Times as times;
 ghost use Rattle.onfi_c.specs.Later as spec;
 
 use onfi_schedule::{Placed, Schedule, Starts};
@@ -42,7 +43,7 @@ pub fn reaches_limit(by: u64, schedule: &Schedule) -> bool
 /// Starts that are later by so much.
 fn later_starts(alloc: Global, by: u64, starts: &Starts) -> Starts
     requires { spec.reaches by starts.now ≡ false }
-    ensures { result ≡ spec.later_starts by starts.now }
+    ensures { result ≡ times.later_starts by starts.now }
 {
     let mut later = Starts::new(alloc);
     for start in starts.as_slice() {
@@ -54,7 +55,7 @@ fn later_starts(alloc: Global, by: u64, starts: &Starts) -> Starts
 /// What is left of running groups, later by so much.
 fn later_rests(alloc: Global, by: u64, rests: &[Starts]) -> Result<Vec<Starts>, AllocError>
     requires { list_any (spec.reaches by) rests.now ≡ false }
-    ensures { IfOk result (λ v. v.items ≡ map (spec.later_starts by) rests.now) }
+    ensures { IfOk result (λ v. v.items ≡ map (times.later_starts by) rests.now) }
 {
     let mut later = Vec::new(alloc);
     for starts in rests {
@@ -66,7 +67,7 @@ fn later_rests(alloc: Global, by: u64, rests: &[Starts]) -> Result<Vec<Starts>, 
 /// A group, later by so much.
 fn later_group(alloc: Global, by: u64, placed: &Placed) -> Placed
     requires { spec.reaches by placed.now.starts ≡ false }
-    ensures { result ≡ spec.later_group by placed.now }
+    ensures { result ≡ times.later_group by placed.now }
 {
     Placed::new(
         placed.members().copy(),
@@ -77,7 +78,7 @@ fn later_group(alloc: Global, by: u64, placed: &Placed) -> Placed
 /// New groups, later by so much.
 fn later_groups(alloc: Global, by: u64, groups: &[Placed]) -> Result<Vec<Placed>, AllocError>
     requires { list_any (λ g. spec.reaches by g.starts) groups.now ≡ false }
-    ensures { IfOk result (λ v. v.items ≡ map (spec.later_group by) groups.now) }
+    ensures { IfOk result (λ v. v.items ≡ map (times.later_group by) groups.now) }
 {
     let mut later = Vec::new(alloc);
     for placed in groups {
@@ -89,7 +90,7 @@ fn later_groups(alloc: Global, by: u64, groups: &[Placed]) -> Result<Vec<Placed>
 /// The schedule with all starts later by so many ns.
 pub fn later(alloc: Global, by: u64, schedule: &Schedule) -> Result<Schedule, AllocError>
     requires { spec.reaches_limit by schedule.now ≡ false }
-    ensures { IfOk result (λ s. s ≡ spec.later by schedule.now) }
+    ensures { IfOk result (λ s. s ≡ times.later by schedule.now) }
 {
     let rests = later_rests(alloc, by, schedule.rest())?;
     let groups = later_groups(alloc, by, schedule.groups())?;

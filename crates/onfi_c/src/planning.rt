@@ -1,11 +1,10 @@
 //! Plans of problems that plain structs say.
-ghost use Rattle.std.specs.Prelude.{◌≡◌, ◌≤◌, true, false, IfOk, IfErr};
+ghost use Rattle.std.specs.Prelude.{◌≡◌, ◌≤◌, IfOk, IfErr};
 ghost use Rattle.onfi_cert.specs.Text.{text_of};
-ghost use Rattle.onfi_c.specs.Planned.{GivesAsked, GivesPlan, IsPlan, IsPlanBy, IsPlanSaid, IsRefusedPlan, IsUnplanned};
+ghost use Rattle.onfi_c.specs.Planned.{GivesAsked, GivesPlan, IsPlan, IsPosed, IsUngiven, IsUnplanned, IsUnposed};
 
 use crate::channel::PlainChannel;
 use crate::lun::{PlainLun, PlainWant};
-use crate::recalling::tell_known;
 use crate::room::give;
 use crate::said::problem_of;
 use crate::schedule::PlainPlan;
@@ -18,7 +17,58 @@ use onfi_problem::Problem;
 use std::alloc::{AllocError, Global};
 
 /// The most nodes that a search may open.
-pub const MOST_NODES: u32 = 1_048_576;
+const MOST_NODES: u32 = 1_048_576;
+
+/// The problem that a caller says, which a search of so many nodes is to plan.
+pub fn problem_posed(
+    alloc: Global,
+    channel: &PlainChannel,
+    luns: &[PlainLun],
+    wants: &[PlainWant],
+    limit: u32,
+) -> Result<Problem, Status>
+    ensures posed { IfOk result (λ p. IsPosed channel.now luns.now wants.now limit p.problem) }
+    ensures begun { IfOk result (λ p. p.all ≡ p.problem.wants) }
+    ensures none { IfErr result (λ status. IsUnposed channel.now luns.now wants.now limit status) }
+{
+    if limit == 0 || limit > MOST_NODES {
+        return Err(Status::BadLimit);
+    }
+    problem_of(alloc, channel, luns, wants)
+}
+
+/// Gives a text where there is room for any, and tells how many bytes it has.
+fn give_asked(text: &[u8], room: &mut [u8], bytes: &mut usize) -> u32
+    ensures { GivesAsked text.now room.old room.new bytes.new result }
+{
+    if room.is_empty() {
+        *bytes = text.len();
+        return 0;
+    }
+    give(text, 0, room, bytes)
+}
+
+/// Gives a plan, and its certificate where there is room for any byte; or tells why there is none.
+pub fn give_told<P: Copy>(
+    told: Result<Told<P>, Status>,
+    plan: &mut P,
+    certificate: &mut [u8],
+    bytes: &mut usize,
+) -> u32
+    ensures given { IfOk told (λ t. (plan.new ≡ t.plan) × GivesAsked t.text.items certificate.old certificate.new bytes.new result) }
+    ensures refused { IfErr told (λ status. IsUngiven plan.old plan.new certificate.old certificate.new bytes.new result status) }
+{
+    match told {
+        Ok(told) => {
+            *plan = told.plan;
+            give_asked(told.text.as_slice(), certificate, bytes)
+        }
+        Err(status) => {
+            *bytes = 0;
+            status.number()
+        }
+    }
+}
 
 /// The text of a plan's certificate.
 fn certificate(alloc: Global, strict: bool, planned: &Planned) -> Result<Vec<u8>, AllocError>
@@ -31,7 +81,7 @@ fn certificate(alloc: Global, strict: bool, planned: &Planned) -> Result<Vec<u8>
 }
 
 /// A plan, as it is told.
-fn tell(alloc: Global, problem: &Problem, limit: u32) -> Result<Told, Status>
+pub fn tell(alloc: Global, problem: &Problem, limit: u32) -> Result<Told<PlainPlan>, Status>
     requires some { 1 ≤ limit }
     requires few { limit ≤ 1048576 }
     ensures plan { IfOk result (λ t. IsPlan problem.now.problem limit t.plan t.text.items) }
@@ -44,84 +94,17 @@ fn tell(alloc: Global, problem: &Problem, limit: u32) -> Result<Told, Status>
     let Ok(text) = certificate(alloc, problem.rules().strict, &planned) else {
         return Err(Status::Memory);
     };
-    let (finish, opened) = (planned.finish, planned.opened);
-    let Ok(plan) = written::plan(alloc, problem, &planned.schedule, finish, opened) else {
+    let Ok(schedule) = written::legal_schedule(alloc, problem, &planned.schedule) else {
         return Err(Status::Memory);
     };
-    Ok(Told { plan, text })
-}
-
-/// A plan by a search that remembers states where `remember` says so, as it is told.
-fn tell_by(alloc: Global, remember: bool, problem: &Problem, limit: u32) -> Result<Told, Status>
-    requires some { 1 ≤ limit }
-    requires few { limit ≤ 1048576 }
-    requires begun { problem.now.all ≡ problem.now.problem.wants }
-    ensures plan { IfOk result (λ t. IsPlanBy remember problem.now.problem limit t.plan t.text.items) }
-    ensures none { IfErr result (λ status. IsUnplanned problem.now.problem limit status) }
-{
-    if remember {
-        tell_known(alloc, problem, limit)
-    } else {
-        tell(alloc, problem, limit)
-    }
-}
-
-/// A plan of what is said.
-fn tell_said(
-    alloc: Global,
-    remember: bool,
-    channel: &PlainChannel,
-    luns: &[PlainLun],
-    wants: &[PlainWant],
-    limit: u32,
-) -> Result<Told, Status>
-    ensures plan { IfOk result (λ t. IsPlanSaid remember channel.now luns.now wants.now limit t.plan t.text.items) }
-    ensures none { IfErr result (λ status. IsRefusedPlan channel.now luns.now wants.now limit status) }
-{
-    if limit == 0 || limit > MOST_NODES {
-        return Err(Status::BadLimit);
-    }
-    match problem_of(alloc, channel, luns, wants) {
-        Ok(problem) => tell_by(alloc, remember, &problem, limit),
-        Err(status) => Err(status),
-    }
-}
-
-/// Gives a text where there is room for any, and tells how many bytes it has.
-pub fn give_asked(text: &[u8], room: &mut [u8], bytes: &mut usize) -> u32
-    ensures { GivesAsked text.now room.old room.new bytes.new result }
-{
-    if room.is_empty() {
-        *bytes = text.len();
-        return 0;
-    }
-    give(text, 0, room, bytes)
-}
-
-/// Gives a plan of what is said, and its certificate where there is room for any byte.
-fn give_plan(
-    alloc: Global,
-    remember: bool,
-    channel: &PlainChannel,
-    luns: &[PlainLun],
-    wants: &[PlainWant],
-    limit: u32,
-    plan: &mut PlainPlan,
-    certificate: &mut [u8],
-    bytes: &mut usize,
-) -> u32
-    ensures { GivesPlan remember channel.now luns.now wants.now limit plan.old plan.new certificate.old certificate.new bytes.new result }
-{
-    match tell_said(alloc, remember, channel, luns, wants, limit) {
-        Ok(told) => {
-            *plan = told.plan;
-            give_asked(told.text.as_slice(), certificate, bytes)
-        }
-        Err(status) => {
-            *bytes = 0;
-            status.number()
-        }
-    }
+    Ok(Told {
+        plan: PlainPlan {
+            schedule,
+            finish: planned.finish,
+            opened: planned.opened,
+        },
+        text,
+    })
 }
 
 /// Plans the wants of a channel: the schedule that no legal schedule beats, when it ends, how many nodes the search
@@ -141,48 +124,10 @@ pub extern "C" fn onfi_plan(
     certificate: &mut [u8],
     bytes: &mut usize,
 ) -> u32
-    ensures { GivesPlan false channel.now luns.now wants.now limit plan.old plan.new certificate.old certificate.new bytes.new result }
+    ensures { GivesPlan IsPlan IsUnplanned channel.now luns.now wants.now limit plan.old plan.new certificate.old certificate.new bytes.new result }
 {
-    give_plan(
-        alloc,
-        false,
-        channel,
-        luns,
-        wants,
-        limit,
-        plan,
-        certificate,
-        bytes,
-    )
-}
-
-/// Plans the wants of a channel as [`onfi_plan`] does, by a search that remembers states, with the text of a certificate
-/// that does so too; the search that finds the plan and the one that writes the certificate open at most `limit` nodes
-/// each, and the plan tells how many the first opened.
-///
-/// Answers what `onfi_plan` does.
-#[unsafe(no_mangle)]
-pub extern "C" fn onfi_plan_known(
-    alloc: Global,
-    channel: &PlainChannel,
-    luns: &[PlainLun],
-    wants: &[PlainWant],
-    limit: u32,
-    plan: &mut PlainPlan,
-    certificate: &mut [u8],
-    bytes: &mut usize,
-) -> u32
-    ensures { GivesPlan true channel.now luns.now wants.now limit plan.old plan.new certificate.old certificate.new bytes.new result }
-{
-    give_plan(
-        alloc,
-        true,
-        channel,
-        luns,
-        wants,
-        limit,
-        plan,
-        certificate,
-        bytes,
-    )
+    match problem_posed(alloc, channel, luns, wants, limit) {
+        Ok(problem) => give_told(tell(alloc, &problem, limit), plan, certificate, bytes),
+        Err(status) => give_told(Err(status), plan, certificate, bytes),
+    }
 }

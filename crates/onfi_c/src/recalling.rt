@@ -1,16 +1,27 @@
-//! Plans of problems by a search that remembers states.
+//! Plans by a search that remembers states, and checks by certificates that do so.
 ghost use Rattle.std.specs.Prelude.{◌≡◌, ◌≤◌, IfOk, IfErr};
-ghost use Rattle.onfi_c.specs.Planned.{IsRecalled, IsUnplanned};
+ghost use Rattle.onfi_schedule.specs.Schedule.{finish};
+ghost use Rattle.onfi_script.specs.Answer.{IsKnown};
+ghost use Rattle.onfi_c.specs.Checked.{GivesVerdict, IsKnownFaultTold};
+ghost use Rattle.onfi_c.specs.Planned.{GivesPlan, IsRecalled, IsUnplanned};
 
+use crate::channel::PlainChannel;
+use crate::checking::give_verdict;
+use crate::lun::{PlainLun, PlainWant};
+use crate::planning::{give_told, problem_posed};
+use crate::refusal::Refusal;
+use crate::schedule::{PlainPlan, PlainSchedule, PlainVerdict};
+use crate::stand::{Stand, said_of};
 use crate::status::Status;
 use crate::told::Told;
 use crate::written;
+use onfi_known::check_known_text;
 use onfi_problem::Problem;
 use onfi_recall::plan_known;
 use std::alloc::Global;
 
 /// A plan by a search that remembers states, as it is told.
-pub fn tell_known(alloc: Global, problem: &Problem, limit: u32) -> Result<Told, Status>
+pub fn tell(alloc: Global, problem: &Problem, limit: u32) -> Result<Told<PlainPlan>, Status>
     requires some { 1 ≤ limit }
     requires few { limit ≤ 1048576 }
     requires begun { problem.now.all ≡ problem.now.problem.wants }
@@ -21,12 +32,74 @@ pub fn tell_known(alloc: Global, problem: &Problem, limit: u32) -> Result<Told, 
         Ok(planned) => planned,
         Err(fault) => return Err(Status::of_plan(fault)),
     };
-    let (finish, opened) = (planned.finish, planned.opened);
-    let Ok(plan) = written::plan(alloc, problem, &planned.schedule, finish, opened) else {
+    let Ok(schedule) = written::legal_schedule(alloc, problem, &planned.schedule) else {
         return Err(Status::Memory);
     };
     Ok(Told {
-        plan,
+        plan: PlainPlan {
+            schedule,
+            finish: planned.finish,
+            opened: planned.opened,
+        },
         text: planned.cert,
     })
+}
+
+/// Plans the wants of a channel as [`onfi_plan`](crate::planning::onfi_plan) does, by a search that remembers states,
+/// with the text of a certificate that does so too; the search that finds the plan and the one that writes the
+/// certificate open at most `limit` nodes each, and the plan tells how many the first opened.
+///
+/// Answers what `onfi_plan` does.
+#[unsafe(no_mangle)]
+pub extern "C" fn onfi_plan_known(
+    alloc: Global,
+    channel: &PlainChannel,
+    luns: &[PlainLun],
+    wants: &[PlainWant],
+    limit: u32,
+    plan: &mut PlainPlan,
+    certificate: &mut [u8],
+    bytes: &mut usize,
+) -> u32
+    ensures { GivesPlan IsRecalled IsUnplanned channel.now luns.now wants.now limit plan.old plan.new certificate.old certificate.new bytes.new result }
+{
+    match problem_posed(alloc, channel, luns, wants, limit) {
+        Ok(problem) => give_told(tell(alloc, &problem, limit), plan, certificate, bytes),
+        Err(status) => give_told(Err(status), plan, certificate, bytes),
+    }
+}
+
+/// When the schedule ends, in ns, where its certificate, which remembers states, shows that none ends sooner.
+pub fn judge(alloc: Global, stand: &Stand, certificate: &[u8]) -> Result<u64, Refusal>
+    requires begun { stand.now.problem.all ≡ stand.now.problem.problem.wants }
+    ensures shown { IfOk result (λ ends. IsKnown stand.now.problem.problem stand.now.schedule certificate.now
+        × (finish stand.now.problem.problem stand.now.schedule ≡ ends)) }
+    ensures refused { IfErr result (λ refusal. IsKnownFaultTold stand.now.problem.problem stand.now.schedule certificate.now refusal) }
+{
+    match check_known_text(alloc, &stand.problem, &stand.schedule, certificate) {
+        Ok(finish) => Ok(finish),
+        Err(fault) => Err(Refusal::of_known_text(fault)),
+    }
+}
+
+/// Checks as [`onfi_check`](crate::checking::onfi_check) does, by the text of a certificate that remembers states. A
+/// record of each open node is kept, at most 1,048,576, so who bounds the text bounds the memory.
+///
+/// Answers what `onfi_check` does, with the numbers of four faults more.
+#[unsafe(no_mangle)]
+pub extern "C" fn onfi_check_known(
+    alloc: Global,
+    channel: &PlainChannel,
+    luns: &[PlainLun],
+    wants: &[PlainWant],
+    schedule: &PlainSchedule,
+    certificate: &[u8],
+    verdict: &mut PlainVerdict,
+) -> u32
+    ensures { GivesVerdict IsKnown IsKnownFaultTold channel.now luns.now wants.now schedule.now certificate.now verdict.new result }
+{
+    match said_of(alloc, channel, luns, wants, schedule) {
+        Ok(stand) => give_verdict(judge(alloc, &stand, certificate), verdict),
+        Err(status) => give_verdict(Err(Refusal::whole(status)), verdict),
+    }
 }

@@ -30,18 +30,10 @@ fn timing(said: &PlainTiming) -> Result<Timing, Status>
     ensures ok { IfOk result (λ timing. spec.IsTiming said.now timing × IsGoodTiming said.now) }
     ensures err { IfErr result (λ status. IsBadTiming said.now status) }
 {
-    let read = match spans(&said.read) {
-        Ok(spans) => spans,
-        Err(status) => return Err(status),
-    };
-    let program = match spans(&said.program) {
-        Ok(spans) => spans,
-        Err(status) => return Err(status),
-    };
-    match spans(&said.erase) {
-        Ok(erase) => Ok(Timing::new(read, program, erase)),
-        Err(status) => Err(status),
-    }
+    let read = spans(&said.read)?;
+    let program = spans(&said.program)?;
+    let erase = spans(&said.erase)?;
+    Ok(Timing::new(read, program, erase))
 }
 
 /// The plane of a block.
@@ -229,10 +221,7 @@ pub fn timing_said(
     ensures said { IfOk result (λ _. AreSaid channel.now luns.now wants.now) }
     ensures unsaid { IfErr result (λ status. IsUnsaid channel.now luns.now wants.now status) }
 {
-    let timing = match timing(&channel.timing) {
-        Ok(timing) => timing,
-        Err(status) => return Err(status),
-    };
+    let timing = timing(&channel.timing)?;
     if channel.rules.plane_bits > 2 {
         return Err(Status::BadPlaneBits);
     }

@@ -1,6 +1,6 @@
-//! From what a caller says to a problem with a legal schedule of it.
+//! From what a caller says to a problem with a schedule of it.
 ghost use Rattle.std.specs.Prelude.{◌≡◌, IfOk, IfErr};
-ghost use Rattle.onfi_c.specs.SaidLegal.{IsLegalSaid, IsNoLegal, IsNoStand, IsStand};
+ghost use Rattle.onfi_c.specs.SaidLegal.{IsNoSchedule, IsNoStand, IsScheduleSaid, IsStand};
 
 use crate::channel::PlainChannel;
 use crate::lun::{PlainLun, PlainWant};
@@ -12,32 +12,39 @@ use onfi_problem::Problem;
 use onfi_schedule::{Schedule, legal};
 use std::alloc::Global;
 
-/// A problem, and a legal schedule of it.
+/// A problem, and a schedule of it.
 #[derive(Drop)]
 pub struct Stand {
     pub problem: Problem,
     pub schedule: Schedule,
 }
 
-/// The schedule that is said of the problem, where it is legal.
-fn legal_of(alloc: Global, problem: &Problem, said: &PlainSchedule) -> Result<Schedule, Status>
-    requires begun { problem.now.all ≡ problem.now.problem.wants }
-    ensures legal { IfOk result (λ s. IsLegalSaid problem.now.problem said.now s) }
-    ensures none { IfErr result (λ status. IsNoLegal problem.now.problem said.now status) }
+/// The problem that a caller says, and the schedule of it.
+pub fn said_of(
+    alloc: Global,
+    channel: &PlainChannel,
+    luns: &[PlainLun],
+    wants: &[PlainWant],
+    schedule: &PlainSchedule,
+) -> Result<Stand, Status>
+    ensures said { IfOk result (λ t. IsScheduleSaid channel.now luns.now wants.now schedule.now t.problem.problem t.schedule) }
+    ensures begun { IfOk result (λ t. t.problem.all ≡ t.problem.problem.wants) }
+    ensures none { IfErr result (λ status. IsNoSchedule channel.now luns.now wants.now schedule.now status) }
 {
-    if is_bad_schedule(said) {
+    let problem = match problem_of(alloc, channel, luns, wants) {
+        Ok(problem) => problem,
+        Err(status) => return Err(status),
+    };
+    if is_bad_schedule(schedule) {
         return Err(Status::BadSchedule);
     }
-    let Ok(schedule) = schedule_of(alloc, problem.wants(), said) else {
+    let Ok(schedule) = schedule_of(alloc, problem.wants(), schedule) else {
         return Err(Status::Memory);
     };
-    if !legal(problem, &schedule) {
-        return Err(Status::Illegal);
-    }
-    Ok(schedule)
+    Ok(Stand { problem, schedule })
 }
 
-/// The problem that a caller says, and the legal schedule of it.
+/// The same, where the schedule is legal.
 pub fn stand_of(
     alloc: Global,
     channel: &PlainChannel,
@@ -49,12 +56,12 @@ pub fn stand_of(
     ensures begun { IfOk result (λ t. t.problem.all ≡ t.problem.problem.wants) }
     ensures none { IfErr result (λ status. IsNoStand channel.now luns.now wants.now schedule.now status) }
 {
-    let problem = match problem_of(alloc, channel, luns, wants) {
-        Ok(problem) => problem,
+    let stand = match said_of(alloc, channel, luns, wants, schedule) {
+        Ok(stand) => stand,
         Err(status) => return Err(status),
     };
-    match legal_of(alloc, &problem, schedule) {
-        Ok(schedule) => Ok(Stand { problem, schedule }),
-        Err(status) => Err(status),
+    if !legal(&stand.problem, &stand.schedule) {
+        return Err(Status::Illegal);
     }
+    Ok(stand)
 }

@@ -1,8 +1,6 @@
-use crate::schedule::PlainPlan;
-
 /// A plan and the text of its certificate.
 #[derive(Drop)]
-pub struct Told {
-    pub plan: PlainPlan,
+pub struct Told<P> {
+    pub plan: P,
     pub text: Vec<u8>,
 }

@@ -1,10 +1,10 @@
 //! From a plan to a plain struct.
 ghost use Rattle.std.specs.Prelude.{◌≡◌, ◌≤◌, ℕ, List, length, map, IfOk};
-ghost use Rattle.onfi_schedule.specs.Schedule.{Legal, Optimal};
+ghost use Rattle.onfi_schedule.specs.Schedule.{Legal};
 ghost use Rattle.onfi_problem.specs.Left.{InLimits};
 ghost use Rattle.onfi_c.specs.Written as spec;
 
-use crate::schedule::{PlainGroup, PlainPlan, PlainRest, PlainSchedule, PlainWithin};
+use crate::schedule::{PlainGroup, PlainRest, PlainSchedule};
 use onfi_problem::Problem;
 use onfi_request::Want;
 use onfi_schedule::{Placed, Schedule, Starts};
@@ -129,42 +129,15 @@ pub fn is_small(problem: &Problem, of: &Schedule)
     let _ = of.rest();
 }
 
-/// A plan of the problem: its schedule, when it ends, in ns, and how many nodes the search opened.
-pub fn plan(
+/// A legal schedule of the problem.
+pub fn legal_schedule(
     alloc: Global,
     problem: &Problem,
-    planned: &Schedule,
-    finish: u64,
-    opened: u32,
-) -> Result<PlainPlan, AllocError>
-    requires { Optimal problem.now.problem planned.now }
-    ensures { IfOk result (λ p. p ≡ spec.written_plan planned.now finish opened) }
+    of: &Schedule,
+) -> Result<PlainSchedule, AllocError>
+    requires { Legal problem.now.problem of.now }
+    ensures { IfOk result (λ s. s ≡ spec.written_schedule of.now) }
 {
-    is_small(problem, planned);
-    let schedule = schedule(alloc, planned)?;
-    Ok(PlainPlan {
-        schedule,
-        finish,
-        opened,
-    })
-}
-
-/// A plan of the problem: its schedule, when it ends, and before which time nothing ends, both in ns.
-pub fn within(
-    alloc: Global,
-    problem: &Problem,
-    planned: &Schedule,
-    ends: u64,
-    below: u64,
-) -> Result<PlainWithin, AllocError>
-    requires { Legal problem.now.problem planned.now }
-    ensures { IfOk result (λ p. p ≡ spec.written_within planned.now ends below) }
-{
-    is_small(problem, planned);
-    let schedule = schedule(alloc, planned)?;
-    Ok(PlainWithin {
-        schedule,
-        finish: ends,
-        below,
-    })
+    is_small(problem, of);
+    schedule(alloc, of)
 }

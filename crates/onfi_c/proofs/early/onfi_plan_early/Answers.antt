@@ -1,12 +1,11 @@
-use Rattle.std.proofs.Common.{refl, subst}
-use Rattle.onfi_c.specs.Planned.{GivesAsked}
-use Rattle.onfi_c.specs.Early.{gives_near, refuses_near}
+use Rattle.onfi_c.specs.Planned.{is_unposed}
+use Rattle.onfi_c.proofs.Giving.{plan_given}
 use Rattle.onfi_c.proofs.early.onfi_plan_early.Goals as goal
 
 pub returns-in-Ok : goal.returns-in-Ok
 returns-in-Ok c =
-    gives_near c.in-Ok.told.text.items c.in-Ok.ensures.plan
-    (subst (λ text. GivesAsked text c.args.certificate.now c.give_asked.new.room c.give_asked.new.bytes c.give_asked.result) c.as_slice.ensures.value c.give_asked.ensures)
+    plan_given _ c.args.limit c.in-Ok.problem.problem c.tell.result c.in-Ok.ensures.posed c.tell.ensures.plan c.tell.ensures.none c.give_told.ensures.given
+    c.give_told.ensures.refused
 
 pub returns-in-Err : goal.returns-in-Err
-returns-in-Err c = refuses_near c.in-Err.status c.in-Err.ensures.none refl refl refl c.number.ensures
+returns-in-Err c = is_unposed c.in-Err.status c.in-Err.ensures.none c.give_told-in-Err.ensures.refused

@@ -1,5 +1,5 @@
 use Rattle.std.proofs.Common.{◌≡◌, map, take}
-use Rattle.onfi_c.specs.Later.{later_group}
+use Rattle.onfi_core.specs.Times.{later_group}
 use Rattle.onfi_c.proofs.later.later_groups.Given as goal
 
 abbrev pub invariant-loop-placed : goal.invariant-loop-placed

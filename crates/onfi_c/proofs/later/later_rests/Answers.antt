@@ -1,5 +1,5 @@
 use Rattle.std.proofs.Common.{◌∙◌, ap}
-use Rattle.onfi_c.specs.Later.{later_starts}
+use Rattle.onfi_core.specs.Times.{later_starts}
 use Rattle.onfi_c.proofs.Mapped.{mapped_more, mapped_all}
 use Rattle.onfi_c.proofs.later.later_rests.Goals as goal
 

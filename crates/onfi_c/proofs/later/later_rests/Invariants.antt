@@ -1,5 +1,5 @@
 use Rattle.std.proofs.Common.{◌≡◌, map, take}
-use Rattle.onfi_c.specs.Later.{later_starts}
+use Rattle.onfi_core.specs.Times.{later_starts}
 use Rattle.onfi_c.proofs.later.later_rests.Given as goal
 
 abbrev pub invariant-loop-starts : goal.invariant-loop-starts
