@@ -159,7 +159,8 @@ module _ (p : Problem) (s : Schedule) (by : ℕ) (legal : Legal p s) where
 
   abbrev RunningFirst : List LunState → Schedule → Placed → Type 0
   RunningFirst xs t g = (group : List Want) (next ready : ℕ) (starts : List ℕ) → slice_get xs (lun_of g.members) ≡ Some (Running group next ready)
-      → rest_of t (lun_of g.members) ≡ Some starts → Before (phases_left p.timing (lun_of g.members) (Running group next ready) starts) (group_phases p.timing g)
+      → rest_of t (lun_of g.members) ≡ Some starts
+      → Before (phases_left p.timing (lun_of g.members) (Running group next ready) starts) (group_phases p.timing g)
 
   later_running : (g : Placed) → RunningFirst p.luns s g → RunningFirst luns (later by s) (later_group by g)
   later_running g first group next ready starts at rest =
