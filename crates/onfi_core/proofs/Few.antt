@@ -7,7 +7,7 @@ use Rattle.std.proofs.lemmas.List.{length-map}
 use Rattle.onfi_group.specs.Words.{Has, Pairs, number}
 use Rattle.onfi_request.specs.declared.reply.Reply.{Reply}
 use Rattle.onfi_request.specs.declared.want.Want.{Want}
-use Rattle.onfi_problem.proofs.Count.{distinct_within}
+use Rattle.onfi_group.proofs.Counting.{distinct_within}
 use Rattle.onfi_problem.proofs.Perm.{All-each, Has-map}
 use Rattle.onfi_problem.proofs.Wants.{some_with_id}
 use Rattle.onfi_core.specs.Kept.{IsSound, is_of_place}

@@ -24,7 +24,7 @@ removed (y ∷ ys) x (inr h) =
     (y ∷ r.0, omega arith, λ z k. elim k [ inl e ↦ inr (inl e) | inr q ↦ elim (r.2 z q) [ inl e ↦ inl e | inr i ↦ inr (inr i) ] ])
 
 -- of distinct things there are no more than of those among which they are
-distinct_within : {A : Type 0} (xs ys : List A) → Pairs (λ a b. a ≢ b) xs → All (Has ys) xs → length xs ≤ length ys
+pub distinct_within : {A : Type 0} (xs ys : List A) → Pairs (λ a b. a ≢ b) xs → All (Has ys) xs → length xs ≤ length ys
 distinct_within [] ys d h = omega arith
 distinct_within (x ∷ xs) ys d h =
     let r = removed ys x h.0 in
