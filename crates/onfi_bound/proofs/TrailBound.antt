@@ -104,7 +104,7 @@ trail_next p l g n r t a f kind ip at late tra own rec dies =
     let spans = group_spans p.timing g in
     let b = t + phase_length spans k n in
     let counts = λ (kind' : Kind) (command : Bool) (is : nat_lt n k ≡ command).
-        subst (λ b. commands_of (ran p l g n t) kind' + (if b then (if same_kind kind' (kind_of g) then 1 else 0) else 0) ≡ commands_of p kind') is (next_takes p l g n r t kind' some at) in
+    subst (λ b. commands_of (ran p l g n t) kind' + (if b then (if same_kind kind' (kind_of g) then 1 else 0) else 0) ≡ commands_of p kind') is (next_takes p l g n r t kind' some at) in
     elim (cases_lt n k) [
       | inl h ↦ command_step p l g n t (Running g n r) p.wants at some h (omega arith) (λ kind'. counts kind' true (lt-ltb n k h)) refl a f tra rec dies
       | inr h ↦ (

@@ -129,10 +129,10 @@ lead_some p e first is le = record { holds = λ q s. of_same (λ z. IsProblem z 
     bounded q s iz m steps f run =
         let z = with_times p.timing p.rules p.wants q.bus_free q.luns in
         let all = All-each (λ v. e - all_posts p ≤ v) (post_starts z 0 q.luns) (λ v h.
-            let t = start_of z v h in
-            let d = m.luns t.lun (subst (λ o. has_left_at (on_lun t.lun p.wants) o ≡ true) (sym t.at) (post_has p.timing (on_lun t.lun p.wants) t.state t.wait t.post)) in
-            let w = lead_at_is p e t.lun (on_lun t.lun p.wants) (slice_get p.luns t.lun) t.state t.wait (alike_at p.luns q.luns t.lun s.luns ∙ ap (option_map left_on) t.at) t.post in
-            omega arith) in
+        let t = start_of z v h in
+        let d = m.luns t.lun (subst (λ o. has_left_at (on_lun t.lun p.wants) o ≡ true) (sym t.at) (post_has p.timing (on_lun t.lun p.wants) t.state t.wait t.post)) in
+        let w = lead_at_is p e t.lun (on_lun t.lun p.wants) (slice_get p.luns t.lun) t.state t.wait (alike_at p.luns q.luns t.lun s.luns ∙ ap (option_map left_on) t.at) t.post in
+        omega arith) in
         let one = least_listed (post_starts p 0 p.luns) first is in
         let t = start_of p one.0 one.1 in
         let y = some_state (slice_get q.luns t.lun) (left_on t.state) (sym (alike_at p.luns q.luns t.lun s.luns) ∙ ap (option_map left_on) t.at) in

@@ -77,7 +77,7 @@ lead_kept p e k d luns within h bus same value rest =
 pub lead_idle : (p : Problem) (e : ℕ) (d : Kept) → IsKept d (of_bus e) → ((l : ℕ) → l < length p.luns → has_left p l ≡ false) → IsKept d (lead_demand p e)
 lead_idle p e d kept h =
     let none = none_listed (post_starts p 0 p.luns) (λ v k.
-        let t = start_of p v k in
-        let left = subst (λ o. has_left_at (on_lun t.lun p.wants) o ≡ false) t.at (h t.lun (within_get p.luns t.lun t.state t.at)) in
-        false≢true (sym left ∙ post_has p.timing (on_lun t.lun p.wants) t.state t.wait t.post)) in
+    let t = start_of p v k in
+    let left = subst (λ o. has_left_at (on_lun t.lun p.wants) o ≡ false) t.at (h t.lun (within_get p.luns t.lun t.state t.at)) in
+    false≢true (sym left ∙ post_has p.timing (on_lun t.lun p.wants) t.state t.wait t.post)) in
     rw none kept
