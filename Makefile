@@ -2,14 +2,17 @@
 # make try              builds bin/onfi_sim-unproved in two to three minutes, and runs it: SCRIPT=FILE is its input, WORDS=".." its command
 #                       line; else it plans the same
 # make library          proves and builds lib/libonfi.a and lib/libonfi.so, for C and for Python
+#                       TARGET=aarch64: those for 64-bit Arm in lib/aarch64, libonfi.so where Debian's gcc-aarch64-linux-gnu is installed;
+#                       likewise make wheel, make install and the next three, below /usr/local/aarch64-linux-gnu where no PREFIX is named
 # make wheel            the same library in a wheel for pip, dist/onfi-VERSION-py3-none-PLATFORM.whl
 # make install          puts the program with its manual page, and the libraries with their header and a pkg-config file, below
 #                       PREFIX, /usr/local where none is named; DESTDIR=DIR puts a package together in DIR
 # make install-program  the program with its manual page alone
 # make install-library  the libraries with their header alone
 # make uninstall        removes from PREFIX what these put there
+# make object TARGET=P  the library for riscv64, riscv32, armv7 or thumbv7em as lib/P/libonfi.a: tried, and not proved for
 # make test             the whole gate: every proof, test and case, and the wrong bodies that are due
-# make wrong-bodies     those of all crates; tools/wrong-bodies CRATE tries those of one crate
+# make wrong-bodies     those of all crates but what rt ci tries; tools/wrong-bodies CRATE tries all of one crate
 # make clean            removes what was built, and keeps what was proved; make clean-proofs removes that too
 # make help             prints this
 
@@ -19,7 +22,7 @@ proved = $(patsubst %,crates/%/out/proved,$(1))
 sources_of = $(shell find $(wildcard crates/$(1)/src crates/$(1)/specs crates/$(1)/proofs) -type f)
 # What the library for C stands on, and what the program does.
 LIBRARIES := $(sort $(foreach crate,$(call below,onfi_c),$(call below,$(crate)) $(crate)))
-PROGRAM := $(sort $(LIBRARIES) $(foreach crate,$(call below,onfi_sim),$(foreach lower,$(call below,$(crate)) $(crate),$(call below,$(lower)) $(lower))))
+PROGRAM := $(sort $(LIBRARIES) $(foreach crate,$(call below,onfi_program),$(foreach lower,$(call below,$(crate)) $(crate),$(call below,$(lower)) $(lower))))
 
 # The crates are a chain but for one. So some are proved ahead, beside the crates named here, from their sources.
 ahead_onfi_addr := onfi_param
@@ -28,13 +31,22 @@ ahead_onfi_script := onfi_group onfi_problem onfi_schedule onfi_bound onfi_cert 
 # Of onfi_script the modules that only read and write text.
 only_onfi_script := script row rows row_name field forms text fault seen parts transfer plan_line plan_text
 
+# What is built is for x86-64, or for the processor that TARGET names, and stands in folders of its name then.
+ifneq ($(filter library wheel install install-library install-program,$(MAKECMDGOALS)),)
+$(if $(filter-out aarch64,$(TARGET)),$(error nothing is proved and built for TARGET=$(TARGET): it is aarch64, or left out for x86-64))
+endif
+below_target := $(TARGET:%=/%)
+lib := lib$(below_target)
+sim := bin$(below_target)/onfi_sim
+dist := dist$(below_target)
+
 # One job for each processor, up to four; a job takes about a gigabyte of memory.
 JOBS ?= $(shell n=$$(nproc); echo $$((n < 4 ? n : 4)))
 
 .PHONY: plan try test library wheel install install-program install-library uninstall wrong-bodies clean clean-proofs help
 
 plan:
-	@$(MAKE) --no-print-directory -j3 bin/onfi_sim
+	@$(MAKE) --no-print-directory -j3 TARGET= bin/onfi_sim
 	bin/onfi_sim plan < examples/one-read.onfi
 
 # A library is proved once those that it stands on are; onfi_cert, on which few stand, later and by one process beside others.
@@ -57,38 +69,40 @@ crates/$(1)/out/ahead: | $(call proved,$(filter-out $(ahead_$(1)),$(call below,$
 endef
 $(foreach crate,$(PROGRAM),$(if $(ahead_$(crate)),$(eval $(call ahead,$(crate)))))
 
-bin/onfi_sim: $(call proved,$(PROGRAM)) $(call sources_of,onfi_sim) crates.txt
-	@echo "proving onfi_sim"
-	@tools/prove program onfi_sim --jobs $(JOBS)
-	@mkdir -p bin
-	@cp crates/onfi_sim/out/onfi_sim bin/onfi_sim
+$(sim): $(call proved,$(PROGRAM)) $(call sources_of,onfi_program) crates.txt $(if $(TARGET),$(wildcard targets/*.c))
+	@echo "proving onfi_program$(TARGET:%= for %)"
+	@tools/prove program onfi_program --jobs $(JOBS) $(TARGET:%=--target %)
+	@mkdir -p $(@D)
+	@cp crates/onfi_program/out$(below_target)/onfi_program $@
 
-# What the library asks of the kit in C: its calls of malloc, realloc and free.
+# What the library asks of the kit in C: its calls of malloc, realloc and free. The kit has them for x86-64 alone.
 KIT := $(shell dirname $$(dirname $$(readlink -f $$(command -v rt))))
+heap := $(if $(TARGET),targets/heap.c,$(KIT)/c/liblibc_c.a)
 
-library: lib/libonfi.a lib/libonfi.so
+library: $(lib)/libonfi.a $(lib)/libonfi.so
 
-lib/libonfi.a: $(call proved,$(LIBRARIES)) $(call sources_of,onfi_c) crates.txt
-	@echo "proving onfi_c"
-	@tools/prove static onfi_c --jobs $(JOBS)
-	@tools/make-library crates/onfi_c/out/libonfi_c.a $(KIT)/c/liblibc_c.a lib
+$(lib)/libonfi.a: $(call proved,$(LIBRARIES)) $(call sources_of,onfi_c) crates.txt $(if $(TARGET),$(heap))
+	@echo "proving onfi_c$(TARGET:%= for %)"
+	@tools/prove static onfi_c --jobs $(JOBS) $(TARGET:%=--target %)
+	@tools/make-library archive crates/onfi_c/out$(below_target)/libonfi_c.a $(heap) $(lib) $(TARGET)
 
-lib/libonfi.so: lib/libonfi.a
+$(lib)/libonfi.so: $(lib)/libonfi.a
+	@tools/make-library shared $(lib) $(TARGET)
 
 wheel: library
-	@rm -rf dist
-	@tools/make-wheel lib/libonfi.so dist
+	@rm -f $(dist)/*.whl
+	@tools/make-wheel $(lib)/libonfi.so $(dist)
 
-PREFIX ?= /usr/local
+PREFIX ?= /usr/local$(TARGET:%=/%-linux-gnu)
 export PREFIX DESTDIR
 
 install: install-program install-library
 
-install-program: bin/onfi_sim
-	@tools/install program bin/onfi_sim
+install-program: $(sim)
+	@tools/install program $(sim)
 
 install-library: library
-	@tools/install library lib
+	@tools/install library $(lib)
 
 uninstall:
 	@tools/install remove
@@ -97,13 +111,20 @@ uninstall:
 WORDS ?= plan
 SCRIPT ?= examples/one-read.onfi
 
-bin/onfi_sim-unproved: crates.txt $(shell find $(patsubst %,crates/%/src,$(PROGRAM) onfi_sim) -type f)
+bin/onfi_sim-unproved: crates.txt $(shell find $(patsubst %,crates/%/src,$(PROGRAM) onfi_program) -type f)
 	@echo "building onfi_sim unproved"
 	@tools/try-program $@
 
 try: bin/onfi_sim-unproved
 	@echo "unproved: this run says nothing of the proofs"
 	bin/onfi_sim-unproved $(WORDS) < "$(SCRIPT)"
+
+# For processors that the kit doesn't compile for: of the module that it compiles for x86-64.
+.PHONY: object
+object:
+	@$(MAKE) --no-print-directory TARGET= lib/libonfi.a
+	@tools/keep-module onfi_c crates/onfi_c/out/kept --jobs $(JOBS)
+	@tools/retarget crates/onfi_c/out/kept/module.bc $(or $(TARGET),$(error make object asks for TARGET=riscv64, riscv32, armv7 or thumbv7em)) lib/$(TARGET)
 
 test:
 	tools/gate

@@ -19,6 +19,8 @@
  * thread and take no lock; several threads may call at the same time, each with memory of its own. A call takes some tens
  * of kilobytes of stack, onfi_plan_early some 110.
  *
+ * Processors: any x86-64 and any 64-bit Arm.
+ *
  * The shared library is libonfi.so.MAJOR. Within a MAJOR no call, struct or number changes its meaning or goes, and no call
  * asks its caller for more. What may come or change: further calls and numbers of refusals, the texts of numbers, how many
  * nodes a search opens, which of several optimal schedules is given, and which certificate.

@@ -20,7 +20,7 @@ PROGRAM = os.environ.get("ONFI_SIM", str(ROOT / "bin/onfi_sim"))
 os.environ["ONFI_LIBRARY"] = str(LIBRARY / "libonfi.so")
 
 import onfi  # noqa: E402
-from onfi_tools.cases import single_cases  # noqa: E402
+from onfi_tools.cases import asked_of_script, single_cases  # noqa: E402
 from onfi_tools.drawn import any_script  # noqa: E402
 
 STRICT = ["-Wall", "-Wextra", "-Werror", "-pedantic"]
@@ -203,18 +203,6 @@ def plan_text(plan: Union[onfi.Plan, onfi.PlanWithin]) -> bytes:
     return ("\n".join(lines) + "\n").encode() + plan.certificate
 
 
-def asked_of(words: Sequence[bytes]) -> str:
-    """What examples/c/script.c is asked where onfi_sim is asked this; nothing where it can't be."""
-    options = {*words[1:]}
-    if len(options) < len(words) - 1:
-        return ""
-    if words[:1] == [b"plan"] and options <= {b"--trace", b"--requests", b"--remember"}:
-        return "requests" if b"--requests" in options else "trace" if b"--trace" in options else "plan"
-    if words[:1] == [b"check"] and (options <= {b"--remember"} or options == {b"--legal"}):
-        return "legal" if b"--legal" in options else "check"
-    return ""
-
-
 def text_of(what: str, remember: bool, script: bytes) -> onfi.Answer:
     """The same by Python."""
     if what == "legal":
@@ -297,15 +285,15 @@ class Same(unittest.TestCase):
     def test_cases_of_the_program(self) -> None:
         by_text, tried = example("script"), 0
         for case in single_cases([]):
-            what, remember = asked_of(case.arguments), b"--remember" in case.arguments
-            if not what:
+            asked = asked_of_script(case.arguments)
+            if not asked:
                 continue
             tried += 1
             given = Path(BUILT.name) / "script.onfi"
             given.write_bytes(case.input)
-            c = run(by_text, what, *(["remember"] if remember else []), str(given))
+            c = run(by_text, *asked, str(given))
             self.assertEqual((c.stdout, c.returncode, c.stderr), (case.output, case.status, b""), case.place)
-            python = text_of(what, remember, case.input)
+            python = text_of(asked[0], "remember" in asked, case.input)
             self.assertEqual((python.text, python.status), (case.output, case.status), case.place)
         self.assertGreaterEqual(tried, 300)
 

@@ -12,7 +12,7 @@ from definitions import Definitions, Key, is_code
 
 ROOT = support.ROOT
 PAGES = [ROOT / "README.md", ROOT / "CONTRIBUTING.md", *sorted((ROOT / "docs").glob("**/*.md")),
-         *sorted((ROOT / "examples").glob("*/README.md")), *sorted((ROOT / "tests").glob("**/*.md"))]
+         *sorted((ROOT / "examples").glob("**/README.md")), *sorted((ROOT / "tests").glob("**/*.md"))]
 LINK = re.compile(r"\]\(([^)\s]+)\)")
 # Files of the repository as pages name them; those with capital words or dots are forms of names.
 FILE = re.compile(r"(?<![\w/.-])(?:tools|examples|docs|tests|python|include)/[\w./-]*\w")
@@ -92,10 +92,10 @@ class Crates(unittest.TestCase):
 
 class Examples(unittest.TestCase):
     def test_code_of_contributing_is_in_its_files(self) -> None:
-        bodies = ROOT / "crates/onfi_planner/wrong-bodies"
+        planner = ROOT / "crates/onfi_planner"
         shown = [(ROOT / "CONTRIBUTING.md", "pub fn unrow", ROOT / "crates/onfi_addr/src/geometry.rt"),
-                 (ROOT / "CONTRIBUTING.md", "opened: limit", bodies / "over_always.edit"),
-                 (ROOT / "CONTRIBUTING.md", "u32::MAX", bodies / "over_always.twin"),
+                 (ROOT / "CONTRIBUTING.md", "opened: limit", planner / "must-fail/over_always.edit"),
+                 (ROOT / "CONTRIBUTING.md", "u32::MAX", planner / "wrong-bodies/over_always.twin"),
                  (ROOT / "docs/LIBRARIES.md", "Problem::new", ROOT / "examples/rattle/README.md")]
         for page, word, source in shown:
             blocks = [block for block in re.findall(r"(?:^    .*\n)+", page.read_text(), re.MULTILINE) if word in block]

@@ -100,7 +100,7 @@ def library(room: Path) -> Optional[Path]:
     if not archive.is_file() or rt is None:
         return None
     kit = Path(os.path.realpath(rt)).parent.parent / KIT_ARCHIVE
-    made = subprocess.run([str(support.ROOT / "tools/make-library"), str(archive), str(kit), str(room)])
+    made = subprocess.run([str(support.ROOT / "tools/make-library"), "archive", str(archive), str(kit), str(room)])
     return None if made.returncode else room
 
 

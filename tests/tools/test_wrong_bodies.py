@@ -7,11 +7,13 @@ import io
 import subprocess
 import tempfile
 import unittest
+import unittest.mock
 from pathlib import Path
 from typing import Any, Dict, List, Tuple
 
 import support
 from onfi_tools.edits import change_of
+from onfi_tools.functions import functions_of
 
 TOOL: Any = support.load("wrong-bodies")
 GATE: Any = support.load("gate")
@@ -69,7 +71,7 @@ def crate_of(folder: Path, sources: Dict[str, str], edits: Dict[str, str]) -> An
         path, old, new = pair.split("|")
         (folder / "wrong-bodies" / name).write_text(f"file: src/{path}\nold: {old}\nnew: {new}\n", encoding="utf-8")
     crate = TOOL.Crate.__new__(TOOL.Crate)
-    crate.name, crate.folder, crate.bad = "demo", folder, []
+    crate.name, crate.folder, crate.bad, crate.left = "demo", folder, [], []
     crate.sources = {f"src/{name}": text for name, text in sources.items()}
     files = sorted((folder / "wrong-bodies").glob("*"))
     crate.edits = crate.read([it for it in files if it.suffix == ".edit"])
@@ -130,6 +132,63 @@ class Edits(unittest.TestCase):
             self.assertEqual([it.text for it in crate.bad], ["BAD EDIT: an old text stands in src/half.rt 2 times"])
 
 
+class OfTheKit(unittest.TestCase):
+    """A crate 'demo' with edits in must-fail/, which rt ci tries too."""
+
+    def setUp(self) -> None:
+        room = tempfile.TemporaryDirectory()
+        self.addCleanup(room.cleanup)
+        self.folder = Path(room.name) / "crates" / "demo"
+        self.addCleanup(setattr, TOOL, "ROOT", TOOL.ROOT)
+        TOOL.ROOT = Path(room.name)
+        self.write("src/half.rt", HALF.replace("≡ n / 2", "≡ half n"))
+        for path, new in (("must-fail/a.edit", "n / 4"), ("wrong-bodies/a.twin", "n / (2 - 0)"), ("wrong-bodies/b.edit", "n / 8")):
+            self.write(path, f"file: src/half.rt\nold: n / 2\nnew: {new}\n")
+
+    def write(self, path: str, text: str) -> None:
+        file = self.folder / path
+        file.parent.mkdir(parents=True, exist_ok=True)
+        file.write_text(text, encoding="utf-8")
+
+    def told(self, *words: bool) -> List[List[str]]:
+        crate = TOOL.Crate("demo", "", *words)
+        return [[it.name for it in edits] for edits in (crate.edits, crate.twins, crate.left)] + [[it.text for it in crate.bad]]
+
+    def test_an_edit_is_left_to_it_and_its_twin_is_tried(self) -> None:
+        self.assertEqual(self.told(), [["a.edit", "b.edit"], ["a.twin"], [], []])
+        self.assertEqual(self.told(True), [["b.edit"], ["a.twin"], ["a.edit"], []])
+
+    def test_it_is_left_where_nothing_is_named_and_in_the_gate(self) -> None:
+        self.addCleanup(setattr, TOOL.PROVE, "CRATES", TOOL.PROVE.CRATES)
+        TOOL.PROVE.CRATES = {"demo": []}
+        left = "demo, tried by rt ci: a.edit in Half::of: it has a twin\n"
+        for words in ("", "--due", "demo --due"):
+            self.assertIn(left, self.listed(*words.split()))
+        for words in ("demo", "--only a", "demo --only a."):
+            self.assertNotIn(left, self.listed(*words.split()))
+
+    def listed(self, *words: str) -> str:
+        said = io.StringIO()
+        with contextlib.redirect_stdout(said), unittest.mock.patch("sys.argv", ["wrong-bodies", "--list", *words]):
+            self.assertEqual(TOOL.main(), 0)
+        return said.getvalue()
+
+    def test_the_kit_takes_no_twin(self) -> None:
+        (self.folder / "wrong-bodies/a.twin").rename(self.folder / "must-fail/a.twin")
+        self.assertEqual(self.told()[3], ["BAD TWIN: the kit takes edits alone in must-fail/, so it stands in wrong-bodies/"])
+
+    def test_two_edits_of_one_name(self) -> None:
+        self.write("must-fail/b.edit", "file: src/half.rt\nold: n / 2\nnew: n / 3\n")
+        self.assertEqual(self.told()[3], ["BAD EDIT: another one of its name stands in must-fail/"])
+
+    def test_a_reason_stands_in_a_line_that_the_kit_passes_over(self) -> None:
+        text = "file: src/half.rt\nold: third(1)\nnew: let _n = 1; third(1)\n"
+        self.write("must-fail/c.edit", text)
+        self.assertEqual(self.told()[3], ["NEEDS A TWIN: it adds or removes a statement, and doesn't say why it stands alone"])
+        self.write("must-fail/c.edit", "# alone: no step changes nothing here\n" + text)
+        self.assertEqual(self.told()[3], [])
+
+
 class Asked(unittest.TestCase):
     def test_the_prover_is_asked_for_what_the_edits_change(self) -> None:
         pairs = {"a.edit": "half.rt|self.at|0", "b.edit": "half.rt|third(1)|third(2)", "c.edit": "half.rt|n / 3|n", "d.edit": "other.rt|1|2"}
@@ -141,6 +200,19 @@ class Asked(unittest.TestCase):
         with tempfile.TemporaryDirectory() as made:
             crate = crate_of(Path(made), {"half.rt": HALF, "other.rt": OTHER}, {"a.edit": "half.rt|self.at|0"})
             self.assertEqual(crate.paths_of(crate.edits), ["half::Half::next"])
+
+    def test_an_impl_is_named_as_the_prover_does(self) -> None:
+        heads = {
+            "impl Half<'_>": "Half",
+            "impl Half<'_, Whole>": "Half+Whole",
+            "impl<'a> Half<'a>": "Half",
+            "impl From<Third> for Half": "HalfFromThird",
+            "impl Gate for Half<'_>": "HalfGate",
+            "impl Half<Whole>": "Half+Whole",
+        }
+        for head, owner in heads.items():
+            found = functions_of("src/half.rt", f"{head} {{\n    fn next(&self) -> u8 {{\n        1\n    }}\n}}\n")
+            self.assertEqual([it.owner for it in found], [owner])
 
 
 class Verdicts(unittest.TestCase):
@@ -310,6 +382,15 @@ class Due(unittest.TestCase):
         self.land("c", "a b d e f")
         self.assertEqual(self.due()[0]["d"], ["one.edit", "one.twin"])
 
+    def test_an_edit_that_only_moved_is_not_due(self) -> None:
+        moved = self.folder / "crates/d/must-fail/one.edit"
+        moved.parent.mkdir()
+        (self.folder / "crates/d/wrong-bodies/one.edit").rename(moved)
+        self.land("c", "a b d e f")
+        self.assertNotIn("d", self.due()[0])
+        moved.write_text("file: src/lib.rt\nold:     1\nnew:     3\n", encoding="utf-8")
+        self.assertEqual(self.due()[0]["d"], ["one.edit", "one.twin"])
+
     def test_what_is_not_in_git_yet_is_due(self) -> None:
         self.write("e", "wrong-bodies/three.edit", "file: src/lib.rt\nold:     1\nnew:     3\n")
         self.land("c", "a b d e f")
@@ -411,6 +492,14 @@ class Gate(unittest.TestCase):
     def test_a_part_that_ends_ill_has_failed(self) -> None:
         self.assertEqual(ran("false"), (0, 1, []))
         self.assertEqual(ran("sh", "-c", "echo 3 passed, 0 failed; exit 1"), (3, 1, []))
+
+    def test_a_must_fail_edit_that_shows_nothing_has_failed(self) -> None:
+        for line in ("rt: must-fail a/b.edit: BAD EDIT: it changes nothing", "rt: crates/a/must-fail/b.twin: BAD EDIT: its name",
+                     "rt: must-fail a/b.edit: refused, as it must be (only because a proof file names it)",
+                     "rt: must-fail a/b.edit: refused, as it must be (only by a limit)"):
+            self.assertEqual(ran("printf", f"{line}\n3 passed, 0 failed"), (3, 1, [line]))
+        for line in ("rt: must-fail a/b.edit: refused, as it must be: note: src/a.rt:1:1", "rt: ok; 2 refused, 1 of them only by a limit, 1 bad"):
+            self.assertEqual(ran("printf", f"{line}\n3 passed, 0 failed"), (3, 0, []))
 
     def test_libraries_are_built_before_wrong_bodies_take_them(self) -> None:
         titles = [title for title, _ in GATE.PARTS]

@@ -8,7 +8,7 @@ from __future__ import annotations
 import pathlib
 import re
 import shlex
-from typing import Dict, Iterable, Iterator, List, NamedTuple, Optional
+from typing import Dict, Iterable, Iterator, List, NamedTuple, Optional, Sequence
 
 CASES = pathlib.Path(__file__).resolve().parent.parent.parent / "tests" / "cases"
 MARK = re.compile(r"^(===|\+\+\+|---|!!!) (.+)$", re.MULTILINE)
@@ -125,6 +125,19 @@ def read_page(path: pathlib.Path, texts: Dict[str, bytes]) -> Iterator[Case]:
 def single_cases(words: List[str], folder: pathlib.Path = CASES) -> List[Case]:
     """Those without a second run."""
     return [case for case in read_cases(words, folder) if not case.second]
+
+
+def asked_of_script(words: Sequence[bytes]) -> List[str]:
+    """What examples/c/script.c is asked where the program is asked this; nothing where it can't be."""
+    options = {*words[1:]}
+    remember = ["remember"] if b"--remember" in options else []
+    if len(options) < len(words) - 1:
+        return []
+    if words[:1] == [b"plan"] and options <= {b"--trace", b"--requests", b"--remember"}:
+        return ["requests" if b"--requests" in options else "trace" if b"--trace" in options else "plan", *remember]
+    if words[:1] == [b"check"] and (options <= {b"--remember"} or options == {b"--legal"}):
+        return ["legal" if b"--legal" in options else "check", *remember]
+    return []
 
 
 def read_cases(words: List[str], folder: pathlib.Path = CASES) -> List[Case]:

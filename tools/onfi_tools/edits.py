@@ -2,7 +2,7 @@
 
 An edit is a file of lines 'file: src/x.rt', 'old: TEXT' and 'new: TEXT', each TEXT in one line, the old text once in the file.
 One that adds or removes a statement may be refused for its shape alone, so it needs a twin, or a line 'alone: REASON' that
-says why it has none.
+says why it has none; in must-fail/ '# alone: REASON', since the kit asks there that a line of no use to it begins with '#'.
 """
 
 from __future__ import annotations
@@ -11,11 +11,16 @@ import enum
 import re
 from dataclasses import dataclass
 from pathlib import Path
-from typing import Dict, FrozenSet, List, Set, Tuple
+from typing import Dict, FrozenSet, Iterable, List, Set, Tuple
 
 from onfi_tools.functions import Function, Key, functions_of, users_of
 
 Pair = Tuple[str, str, str]
+# Where edits stand. Those of the kit's own folder rt ci tries too, so it takes nothing else there: a twin of one stands in the other.
+KITS, OWN = "must-fail", "wrong-bodies"
+PLACES = (KITS, OWN)
+ENDINGS = (".edit", ".twin")
+ALONE = re.compile(r"^(?:# )?alone: (.*)", re.M)
 TOKEN = re.compile(r"""b?"(?:\\.|[^"\\])*"|b?'(?:\\.|[^'\\])'|[A-Za-z_]\w*!?|\d\w*|<<=?|>>=?|&&|\|\||[-+*/%&|^<>=!]=|->|=>|::|\.\.=?|\S""")
 STATEMENT = frozenset("if else match return let for while loop break continue fn => ?".split())
 OPERATOR = frozenset("+ - * / % & | ^ < > ! == != <= >= && || << >> += -= *= /= %= &= |= ^= .. ..= as".split())
@@ -92,6 +97,19 @@ class Edit:
     def is_twin(self) -> bool:
         return self.file.suffix == ".twin"
 
+    @property
+    def is_of_kit(self) -> bool:
+        """Whether rt ci tries it."""
+        return self.file.parent.name == KITS
+
+    def has_twin(self, twins: Iterable[Edit]) -> bool:
+        """Whether one of these is its own."""
+        return any(twin.file.stem == self.file.stem for twin in twins)
+
+    def paths(self) -> List[str]:
+        """Where an edit of its name, or a twin, may stand in the crate's folder."""
+        return [f"{place}/{self.file.stem}{ending}" for place in PLACES for ending in ENDINGS]
+
     def apply(self, folder: Path) -> None:
         for path, old, new in self.pairs:
             file = folder / path
@@ -148,7 +166,8 @@ def pairs_in(text: str) -> List[Pair]:
 
 def reason_in(text: str) -> str:
     """What an edit's line 'alone:' says."""
-    return next((line[len("alone: ") :].strip() for line in text.split("\n") if line.startswith("alone: ")), "")
+    found = ALONE.search(text)
+    return found[1].strip() if found else ""
 
 
 def read_edit(file: Path, sources: Dict[str, str]) -> Edit:
@@ -178,13 +197,12 @@ def read_edit(file: Path, sources: Dict[str, str]) -> Edit:
 
 def needs_twin(edit: Edit, twins: List[Edit]) -> bool:
     """Whether an edit adds or removes a statement, has no twin of its name, and doesn't say why."""
-    has_twin = any(twin.file.with_suffix("") == edit.file.with_suffix("") for twin in twins)
-    return not has_twin and not edit.reason and change_of(edit.pairs) is Change.STATEMENT
+    return not edit.has_twin(twins) and not edit.reason and change_of(edit.pairs) is Change.STATEMENT
 
 
 def about_twin(edit: Edit, twins: List[Edit]) -> str:
     """What is to be said of an edit's twin: that it has one, or why it has none."""
-    if any(twin.file.with_suffix("") == edit.file.with_suffix("") for twin in twins):
+    if edit.has_twin(twins):
         return "it has a twin"
     if edit.reason:
         return f"no twin: {edit.reason}"

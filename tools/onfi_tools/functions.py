@@ -9,6 +9,7 @@ from typing import Dict, List, Tuple
 
 FUNCTION = re.compile(r"^( *)(?:pub(?:\([a-z]+\))? )?(?:const )?(?:unsafe )?(?:extern \"C\" )?fn (\w+)")
 OWNER = re.compile(r"^(?:pub(?:\([a-z]+\))? )?(impl|trait)\b(.*)")
+PARTLY = re.compile(r"^(?:pub(?:\([a-z]+\))? )?(?:struct|enum) (\w+)<(.*=.*)> \{", re.M)
 
 Key = Tuple[str, str, str]
 
@@ -37,14 +38,21 @@ class Function:
         return "::".join([crate, *self.module(), *inner]), "::".join([crate, *self.module(), "fn", *inner, ""])
 
 
-def owner_of(kind: str, rest: str) -> str:
-    """The name that an impl's functions stand under: `impl fmt::Display for Fault` gives FaultDisplay, `impl Lun<Idle>` Lun+Idle."""
+def owner_of(kind: str, rest: str, counts: Dict[str, int]) -> str:
+    """The name that an impl's functions stand under: `impl fmt::Display for Fault` gives FaultDisplay, `impl Lun<Idle>` Lun+Idle.
+
+    Of a type with that many parameters, the last with a default, `impl<C: Chip> Core<C>` gives Core+C. A lifetime that is left out
+    has no part in it, `impl Parsed<'_>` gives Parsed; what a trait is for has, `impl From<Under> for Over` gives OverFromUnder."""
+    short = re.match(r"<[^<>]*> (\w+)<([^<>]*)> \{", rest)
+    if short and short[2].count(",") + 1 < counts.get(short[1], 0):
+        return f"{short[1]}+{short[2]}"
     is_generic = rest.startswith("<")
     while is_generic and re.search(r"<[^<>]*>", rest):
         rest = re.sub(r"<[^<>]*>", "", rest)
-    rest = re.sub(r"<([^<>]*)>", r"+\1", rest.split("{")[0].split(" where ")[0])
+    rest = rest.split("{")[0].split(" where ")[0].replace("<'_>", "").replace("<'_, ", "<")
+    rest = re.sub(r"<([^<>]*)>", r"+\1", rest)
     bare = [it.strip().lstrip("&").split("::")[-1].split(":")[0].strip() for it in rest.split(" for ")]
-    return bare[0] if kind == "trait" or len(bare) == 1 else bare[1] + bare[0]
+    return bare[0] if kind == "trait" or len(bare) == 1 else bare[1] + bare[0].replace("+", "")
 
 
 def end_of(lines: List[str], first: int, indent: str) -> int:
@@ -57,10 +65,11 @@ def end_of(lines: List[str], first: int, indent: str) -> int:
 
 def functions_of(path: str, text: str) -> List[Function]:
     lines, found, owner, owner_ends = text.split("\n"), [], "", -1
+    counts = {it[1]: it[2].count(",") + 1 for it in PARTLY.finditer(text)}
     for at, line in enumerate(lines):
         head = OWNER.match(line)
         if head:
-            owner, owner_ends = owner_of(head[1], head[2]), end_of(lines, at, "")
+            owner, owner_ends = owner_of(head[1], head[2], counts), end_of(lines, at, "")
         function = FUNCTION.match(line)
         if function:
             inside = owner if at <= owner_ends else ""

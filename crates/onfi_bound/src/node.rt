@@ -68,6 +68,6 @@ pub fn bus_after(problem: &Problem, at: u64, m: Move) -> u64
     requires lun { move_lun (move_of problem.now.groups m) ≡ lun_named m }
     ensures { result ≡ bus (after problem.now.problem (move_of problem.now.groups m)) }
 {
-    let idle = problem.earliest(m) - problem.bus_free();
+    let idle = problem.earliest(&m) - problem.bus_free();
     at + idle
 }

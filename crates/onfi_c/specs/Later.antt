@@ -1,7 +1,7 @@
 -- Schedules whose phases would start too late.
 use Rattle.std.specs.Prelude.{ℕ, ◌+◌, ◌^◌, ◌||◌, nat_le, Bool, List}
 use Rattle.std.specs.List.{list_any}
-use Rattle.onfi_schedule.specs.Schedule.{Placed, Schedule}
+use Rattle.onfi_schedule.specs.Schedule.{Schedule}
 
 -- one of these starts, later by so much, would be 2^62 or more
 abbrev pub reaches : ℕ → List ℕ → Bool

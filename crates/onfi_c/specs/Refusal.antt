@@ -38,8 +38,8 @@ cert_text_refusal cert_text.Memory = whole status.Memory
 
 abbrev pub text_refusal : TextFault → Refusal
 text_refusal (in_text.Text fault) = cert_text_refusal fault
-text_refusal in_text.Option = whole status.OtherOption
 text_refusal (in_text.Cert fault) = cert_refusal fault
+text_refusal in_text.Option = whole status.OtherOption
 
 -- the same of certificates that remember states
 abbrev pub known_refusal : KnownFault → Refusal

@@ -27,8 +27,12 @@ abbrev pub output_of : Bool → Output
 output_of true = Trace false
 output_of false = Plan
 
--- the caller is given what a search of at most `limit` nodes answers to a script; a number alone where the limit is out of
--- its range
-pub record GivesPlanText (limit : ℕ) (output : Output) (remember : Bool) (script old new : List ℕ) (bytes result : ℕ) : Type 0 where
+-- the command for a trace whose lines name their requests
+abbrev pub requests_of : ℕ → Bool → Command
+requests_of limit true = asked.PlanKnown limit (Trace true)
+requests_of limit false = asked.PlanRequests limit
+
+-- the caller is given what a command to plan answers to a script; a number alone where the limit is out of its range
+pub record GivesPlanText (limit : ℕ) (command : Command) (script old new : List ℕ) (bytes result : ℕ) : Type 0 where
   pub limited : IsBadLimit limit → (result ≡ bad_limit) × (new ≡ old) × (bytes ≡ 0)
-  pub answer : 1 ≤ limit → limit ≤ 1048576 → GivesAnswer (asked.Plan limit output remember) script old new bytes result
+  pub answer : 1 ≤ limit → limit ≤ 1048576 → GivesAnswer command script old new bytes result

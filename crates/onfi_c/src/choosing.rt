@@ -11,8 +11,8 @@ use crate::lun::{PlainLun, PlainWant};
 use crate::said::{rules, states_of, timing_said, wants_of};
 use crate::status::Status;
 use arrayvec::ArrayVec;
-use onfi_addr::Geometry;
-use onfi_core::{Choice, Setup, choose};
+use onfi_core::{Choice, choose};
+use onfi_group::Rules;
 use onfi_problem::LunState;
 use onfi_request::Want;
 use onfi_timing::Timing;
@@ -45,40 +45,6 @@ fn are_rising(wants: &[PlainWant], accepted: u64) -> bool
     true
 }
 
-/// What a choice rests on; its device, of one page, isn't looked at.
-fn setup_of(timing: Timing, channel: &PlainChannel, choice: Choice) -> Setup
-    requires { channel.now.rules.plane_bits ≤ 2 }
-    ensures { result.choice ≡ choice }
-{
-    Setup {
-        geometry: Geometry {
-            lun_count: 1,
-            plane_address_bits: 0,
-            pages_per_block: 1,
-            blocks_per_lun: 1,
-            page_bits: 0,
-            block_bits: 0,
-            lun_bits: 0,
-            column_address_cycles: 0,
-            row_address_cycles: 0,
-            data_bytes: 1,
-            spare_bytes: 0,
-            any_page_order: false,
-            multi_plane_writes: false,
-            multi_plane_reads: false,
-        },
-        timing,
-        rules: rules(&channel.rules),
-        channels: 1,
-        hosts: 1,
-        batch: 1,
-        submit_cap: 1,
-        post_cap: 1,
-        limit: 1,
-        choice,
-    }
-}
-
 /// The oldest of these items, up to a batch.
 fn oldest(items: &[Want], batch: u8) -> ArrayVec<Want, 8>
     requires { batch ≤ 8 }
@@ -91,7 +57,9 @@ fn oldest(items: &[Want], batch: u8) -> ArrayVec<Want, 8>
 /// The items that a batch takes.
 fn choose_of(
     alloc: Global,
-    setup: &Setup,
+    timing: &Timing,
+    rules: &Rules,
+    choice: Choice,
     bus_free: u64,
     luns: &[LunState],
     items: &[Want],
@@ -100,12 +68,14 @@ fn choose_of(
 ) -> Result<ArrayVec<Want, 8>, AllocError>
     requires few { batch ≤ 8 }
     requires rise { Rise items.now }
-    ensures { IfOk result (λ chosen. spec.ChoosesBy setup.now.choice batch accepted items.now chosen.items) }
+    ensures { IfOk result (λ chosen. spec.ChoosesBy choice batch accepted items.now chosen.items) }
 {
-    match setup.choice {
+    match choice {
         Choice::InOrder => Ok(oldest(items, batch)),
         Choice::ByLun | Choice::ReadsFirst => {
-            let chosen = choose(alloc, setup, bus_free, luns, items, accepted, batch)?;
+            let chosen = choose(
+                alloc, timing, rules, choice, bus_free, luns, items, accepted, batch,
+            )?;
             Ok(chosen.wants)
         }
     }
@@ -167,11 +137,12 @@ fn choose_places(
     let plane_bits = channel.rules.plane_bits;
     let luns = states_of(alloc, plane_bits, luns)?;
     let wants = wants_of(alloc, plane_bits, wants)?;
-    let setup = setup_of(timing, channel, choice_of(choice));
     let items = wants.as_slice();
     let chosen = choose_of(
         alloc,
-        &setup,
+        &timing,
+        &rules(&channel.rules),
+        choice_of(choice),
         channel.bus_free,
         luns.as_slice(),
         items,

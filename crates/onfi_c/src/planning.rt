@@ -12,7 +12,7 @@ use crate::status::Status;
 use crate::told::Told;
 use crate::written;
 use onfi_cert::write;
-use onfi_planner::{Planned, plan};
+use onfi_planner::{Counted, Planned, plan_counted};
 use onfi_problem::Problem;
 use std::alloc::{AllocError, Global};
 
@@ -87,8 +87,8 @@ pub fn tell(alloc: Global, problem: &Problem, limit: u32) -> Result<Told<PlainPl
     ensures plan { IfOk result (λ t. IsPlan problem.now.problem limit t.plan t.text.items) }
     ensures none { IfErr result (λ status. IsUnplanned problem.now.problem limit status) }
 {
-    let planned = match plan(alloc, problem, limit) {
-        Ok(planned) => planned,
+    let Counted { planned, opened } = match plan_counted(alloc, problem, limit) {
+        Ok(counted) => counted,
         Err(fault) => return Err(Status::of_plan(fault)),
     };
     let Ok(text) = certificate(alloc, problem.rules().strict, &planned) else {
@@ -101,7 +101,7 @@ pub fn tell(alloc: Global, problem: &Problem, limit: u32) -> Result<Told<PlainPl
         plan: PlainPlan {
             schedule,
             finish: planned.finish,
-            opened: planned.opened,
+            opened,
         },
         text,
     })

@@ -64,8 +64,8 @@ impl Refusal {
     {
         match fault {
             TextFault::Text(fault) => Refusal::of_cert_text(fault),
-            TextFault::Option => Refusal::whole(Status::OtherOption),
             TextFault::Cert(fault) => Refusal::of_cert(fault),
+            TextFault::Option => Refusal::whole(Status::OtherOption),
         }
     }
 

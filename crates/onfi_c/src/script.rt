@@ -1,11 +1,10 @@
 //! Scripts and their answers, as bytes.
-ghost use Rattle.std.specs.Prelude.{◌≡◌, false, true, IfSome};
+ghost use Rattle.std.specs.Prelude.{◌≡◌, ◌≤◌, IfSome};
 ghost use Rattle.onfi_script.specs.Answer.{IsAnswer};
 ghost use Rattle.onfi_script.specs.Limit.{IsLimited};
-ghost use Rattle.onfi_script.specs.declared.command.Command.TheVariants.{Check, Legal, Plan};
-ghost use Rattle.onfi_script.specs.declared.command.Output.TheVariants.{Trace};
+ghost use Rattle.onfi_script.specs.declared.command.Command.TheVariants.{Check, CheckKnown, Legal, Plan, PlanKnown};
 ghost use Rattle.onfi_c.specs.Answered.{answer_of};
-ghost use Rattle.onfi_c.specs.Script.{GivesAnswer, GivesPlanText, output_of};
+ghost use Rattle.onfi_c.specs.Script.{GivesAnswer, GivesPlanText, output_of, requests_of as spec_requests_of};
 
 use crate::answered::Answered;
 use crate::room::give;
@@ -56,28 +55,22 @@ fn give_answer(
     }
 }
 
-/// Gives the caller what a search of at most `limit` nodes answers to a script; a number alone where the limit is out of
-/// its range.
+/// Gives the caller what a command to plan answers to a script; a number alone where the limit is out of its range.
 fn give_plan(
     alloc: Global,
     script: &[u8],
     limit: u32,
-    output: Output,
-    remember: bool,
+    command: Command,
     answer: &mut [u8],
     bytes: &mut usize,
 ) -> u32
-    ensures { GivesPlanText limit output remember script.now answer.old answer.new bytes.new result }
+    requires limit { 1 ≤ limit → limit ≤ 1048576 → IsLimited command }
+    ensures { GivesPlanText limit command script.now answer.old answer.new bytes.new result }
 {
     if limit == 0 || limit > MOST_NODES {
         *bytes = 0;
         return BAD_LIMIT;
     }
-    let command = Command::Plan {
-        limit,
-        output,
-        remember,
-    };
     give_answer(alloc, command, script, answer, bytes)
 }
 
@@ -90,6 +83,18 @@ fn output(trace: bool) -> Output
     } else {
         Output::Plan
     }
+}
+
+/// The command for a trace whose lines name their requests.
+fn requests_of(limit: u32, remember: bool) -> Command
+    ensures command { result ≡ spec_requests_of limit remember }
+    ensures limited { 1 ≤ limit → limit ≤ 1048576 → IsLimited result }
+{
+    if remember {
+        let output = Output::Trace { requests: true };
+        return Command::PlanKnown { limit, output };
+    }
+    Command::PlanRequests { limit }
 }
 
 /// The bytes of a script in, out the plan that `onfi_sim plan` prints for it, or with `trace` its trace; the search
@@ -107,9 +112,10 @@ pub extern "C" fn onfi_text_plan(
     answer: &mut [u8],
     bytes: &mut usize,
 ) -> u32
-    ensures { GivesPlanText limit (output_of trace) false script.now answer.old answer.new bytes.new result }
+    ensures { GivesPlanText limit (Plan limit trace) script.now answer.old answer.new bytes.new result }
 {
-    give_plan(alloc, script, limit, output(trace), false, answer, bytes)
+    let command = Command::Plan { limit, trace };
+    give_plan(alloc, script, limit, command, answer, bytes)
 }
 
 /// The same by a search that remembers states, as `onfi_sim plan --remember` prints it: its certificate does so too.
@@ -124,9 +130,11 @@ pub extern "C" fn onfi_text_plan_known(
     answer: &mut [u8],
     bytes: &mut usize,
 ) -> u32
-    ensures { GivesPlanText limit (output_of trace) true script.now answer.old answer.new bytes.new result }
+    ensures { GivesPlanText limit (PlanKnown limit (output_of trace)) script.now answer.old answer.new bytes.new result }
 {
-    give_plan(alloc, script, limit, output(trace), true, answer, bytes)
+    let output = output(trace);
+    let command = Command::PlanKnown { limit, output };
+    give_plan(alloc, script, limit, command, answer, bytes)
 }
 
 /// The trace that `onfi_sim plan --requests` prints for a script, whose lines name their requests; with `remember` that
@@ -142,10 +150,10 @@ pub extern "C" fn onfi_text_trace(
     answer: &mut [u8],
     bytes: &mut usize,
 ) -> u32
-    ensures { GivesPlanText limit (Trace true) remember script.now answer.old answer.new bytes.new result }
+    ensures { GivesPlanText limit (spec_requests_of limit remember) script.now answer.old answer.new bytes.new result }
 {
-    let output = Output::Trace { requests: true };
-    give_plan(alloc, script, limit, output, remember, answer, bytes)
+    let command = requests_of(limit, remember);
+    give_plan(alloc, script, limit, command, answer, bytes)
 }
 
 /// The bytes of a script and of a plan text behind it in, out the line that `onfi_sim check` prints. `bytes` tells how
@@ -161,10 +169,9 @@ pub extern "C" fn onfi_text_check(
     answer: &mut [u8],
     bytes: &mut usize,
 ) -> u32
-    ensures { GivesAnswer (Check false) script.now answer.old answer.new bytes.new result }
+    ensures { GivesAnswer Check script.now answer.old answer.new bytes.new result }
 {
-    let command = Command::Check { remember: false };
-    give_answer(alloc, command, script, answer, bytes)
+    give_answer(alloc, Command::Check, script, answer, bytes)
 }
 
 /// The same by a certificate that remembers states, as `onfi_sim check --remember` prints it; a plain one is refused.
@@ -177,10 +184,9 @@ pub extern "C" fn onfi_text_check_known(
     answer: &mut [u8],
     bytes: &mut usize,
 ) -> u32
-    ensures { GivesAnswer (Check true) script.now answer.old answer.new bytes.new result }
+    ensures { GivesAnswer CheckKnown script.now answer.old answer.new bytes.new result }
 {
-    let command = Command::Check { remember: true };
-    give_answer(alloc, command, script, answer, bytes)
+    give_answer(alloc, Command::CheckKnown, script, answer, bytes)
 }
 
 /// The bytes of a script and of a plan text behind it in, whose certificate may be missing, out the line that `onfi_sim

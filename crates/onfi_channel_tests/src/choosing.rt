@@ -2,11 +2,11 @@ ghost use Rattle.std.specs.Prelude.{◌≡◌, ◌≤◌};
 ghost use Rattle.onfi_core.specs.Choice.{Rise};
 
 use onfi_addr::Place;
-use onfi_core::{Choice, Setup, choose};
+use onfi_core::{Choice, choose};
 use onfi_group::Rules;
 use onfi_problem::LunState;
 use onfi_request::Want;
-use onfi_samples::{sample_geometry, sample_timing, want_of};
+use onfi_samples::{sample_timing, want_of};
 use onfi_timing::Kind;
 use std::alloc::{AllocError, Global};
 use std::process::Abort;
@@ -35,27 +35,17 @@ type Row = (Choice, u64, u64, u8, &'static [u64]);
 fn chooses(rt: &impl Abort, alloc: Global, items: &[Want], rows: &[Row]) -> Result<(), AllocError>
     requires { Rise items.now }
 {
+    let timing = sample_timing();
     let rules = Rules::new(true, true, false, 1);
-    let setup = Setup::new(
-        sample_geometry(),
-        sample_timing(),
-        rules,
-        1,
-        1,
-        8,
-        8,
-        8,
-        1_000,
-    );
-    let setup = setup.expect(rt, "in range");
     for (choice, since, accepted, batch, numbers) in rows {
-        let setup = setup.with_choice(*choice);
         let luns = [
             LunState::Free { since: *since },
             LunState::Free { since: 0 },
         ];
         let batch = (*batch).min(8);
-        let chosen = choose(alloc, &setup, 0, &luns, items, *accepted, batch)?;
+        let chosen = choose(
+            alloc, &timing, &rules, *choice, 0, &luns, items, *accepted, batch,
+        )?;
         assert_eq!(rt; chosen.wants.len(), numbers.len(), "{choice:?} {numbers:?}");
         for (want, number) in chosen.wants.as_slice().iter().zip(numbers.iter()) {
             assert_eq!(rt; want.id, *number, "{choice:?} {numbers:?}");

@@ -5,8 +5,8 @@ use onfi_cert::Token;
 use onfi_chip::SimChip;
 use onfi_core::Setup;
 use onfi_group::Rules;
-use onfi_plan::{Certificate, Plan, Planner, PlannerFault};
-use onfi_planners::PlainPlanner;
+use onfi_plan::{PlainPlanner, Plan, Planner, PlannerFault};
+use onfi_planner::Planned;
 use onfi_problem::Problem;
 use onfi_queue::Host;
 use onfi_reply::Inbox;
@@ -33,17 +33,30 @@ impl Planner for Modest {
     ghost certifies = { IsPlain };
 
     fn plan(&self, alloc: Global, problem: &Problem, limit: u32) -> Result<Plan, PlannerFault> {
-        let plan = PlainPlanner.plan(alloc, problem, limit)?;
+        let Plan {
+            planned,
+            opened,
+            reopened,
+            ..
+        } = PlainPlanner.plan(alloc, problem, limit)?;
+        let Planned {
+            schedule,
+            finish,
+            ..
+        } = planned;
         let Ok(tokens) = Vec::from_slice(alloc, &[Token::Bus]) else {
             return Err(PlannerFault::Memory);
         };
         Ok(Plan {
-            schedule: plan.schedule,
-            finish: plan.finish,
+            planned: Planned {
+                schedule,
+                finish,
+                cert: tokens,
+            },
             below: 0,
-            cert: Certificate::Plain(tokens),
-            opened: plan.opened,
-            reopened: plan.reopened,
+            text: None,
+            opened,
+            reopened,
         })
     }
 }
@@ -98,26 +111,26 @@ impl Gate for Hold<'_> {
 }
 
 // What a planning came to: its finish, before when nothing ends, and whether its certificate is the planner's own.
-type Planned = Option<(u64, u64, bool)>;
+type Told = Option<(u64, u64, bool)>;
 
 // Makes turns until nothing is left to do and the host has ended; the last planning.
 fn serve<R: Wait>(
     rt: &R,
     alloc: Global,
-    mut sequencer: Sequencer<Modest, SimChip>,
+    mut sequencer: Sequencer<SimChip, Modest>,
     signals: &Signals,
-) -> Planned {
+) -> Told {
     let mut gate = Hold { signals };
     for _ in rt.forever() {
-        let turn = sequencer.turn(rt, alloc, &mut gate, u64::MAX);
+        let turn = sequencer.turn(rt, alloc, &mut gate);
         if turn == Turn::Idle && signals.ended.load(Ordering::SeqCst) {
             break;
         }
         thread::yield_now();
     }
-    let (_, plan) = sequencer.last()?;
-    let own = plan.cert.tokens()? == [Token::Bus].as_slice();
-    Some((plan.finish, plan.below, own))
+    let (_, plan) = sequencer.last_plan()?;
+    let own = plan.tokens()? == [Token::Bus].as_slice();
+    Some((plan.planned.finish, plan.below, own))
 }
 
 // The ends that hosts have on a channel.
@@ -132,7 +145,7 @@ fn open(
     alloc: Global,
     setup: Setup,
     channel: u8,
-) -> Result<(Sequencer<Modest, SimChip>, HostEnds), AllocError>
+) -> Result<(Sequencer<SimChip, Modest>, HostEnds), AllocError>
     requires hosts { setup.hosts ≡ 4 }
     requires channel { channel < setup.channels }
 {
@@ -145,7 +158,7 @@ fn open(
         hosts,
         inboxes,
     } = ends;
-    let sequencer = Sequencer::open(alloc, setup, channel, Modest, chip, intake, posters)?;
+    let sequencer = Sequencer::open_with(alloc, setup, channel, Modest, chip, intake, posters)?;
     Ok((sequencer, HostEnds { hosts, inboxes }))
 }
 
@@ -198,11 +211,11 @@ fn visit<R: Wait>(
 fn serve_other<R: Threads + Wait + Sync>(
     rt: &R,
     alloc: Global,
-    sequencer: Sequencer<Modest, SimChip>,
+    sequencer: Sequencer<SimChip, Modest>,
     held: HostEnds,
     other: HostEnds,
     signals: &Signals,
-) -> (Planned, [bool; 2]) {
+) -> (Told, [bool; 2]) {
     thread::join(
         rt,
         || serve(rt, alloc, sequencer, signals),

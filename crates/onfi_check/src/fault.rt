@@ -33,16 +33,17 @@ pub enum CertFault {
     Memory,
 }
 
-/// Why the text of a certificate doesn't show that no legal schedule ends sooner, in the order in which they are told.
+/// Why the text of a certificate doesn't show that no legal schedule ends sooner. `Text` is told first, then `Option`,
+/// then `Cert`.
 #[derive(Clone, Copy, Debug, PartialEq, Eq, Error)]
 pub enum TextFault {
     /// The text is no certificate.
     #[error("{0}")]
     Text(CertTextFault),
-    /// Its header names another option than the problem has.
-    #[error("the header names another option than the problem has")]
-    Option,
     /// Its tokens don't show it, or the schedule is illegal, or memory was refused.
     #[error("{0}")]
     Cert(CertFault),
+    /// Its header names another option than the problem has.
+    #[error("the header names another option than the problem has")]
+    Option,
 }

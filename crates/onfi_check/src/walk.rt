@@ -233,7 +233,7 @@ fn read_below<S: TokenSource<Token = Token>>(
     ensures kind { IfErr result (FaultFits place (token ∷ S.left tokens.old.source) (S.left tokens.new.source)) }
 {
     let bounds = bounds.after(problem, m);
-    let undo = problem.advance(m);
+    let undo = problem.advance(&m);
     read_tree(problem, e, bounds, token, place, tokens)?;
     problem.undo(undo);
     Ok(())

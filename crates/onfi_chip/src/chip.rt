@@ -72,9 +72,12 @@ pub trait Chip {
         ensures err { IfErr result (λ fault. (fault ≡ ChipFault.Bus) × IsLost Bus (state self.old) (state self.new)) };
 
     /// Whether the LUN says at `now` that it is ready, asked without the bus (R/B#, ONFI 4.2, pin description). It is said
-    /// only where the work of its array is done: its next post may start from `now` on. A chip may always say no, and does
-    /// where it can't tell one LUN from another.
+    /// only where the work of its array is done: its next post may start from `now` on. A chip may always say no, as one does
+    /// that doesn't say otherwise here; so should one that can't tell one LUN from another.
     fn poll(&mut self, now: u64, lun: u8) -> bool
         ensures ready { IsTrue result → state self.new ≡ found_ready (state self.old) lun now }
-        ensures busy { result ≡ false → state self.new ≡ state self.old };
+        ensures busy { result ≡ false → state self.new ≡ state self.old }
+    {
+        false
+    }
 }

@@ -6,7 +6,7 @@ use Rattle.onfi_script.specs.declared.command.Command.{Command}
 use Rattle.onfi_script.specs.declared.command.Command.TheVariants.{PlanEarly, PlanNear}
 use Rattle.onfi_script.specs.declared.command.Finding.{Finding}
 use Rattle.onfi_script.specs.declared.command.Output.{Output}
-use Rattle.onfi_console.specs.declared.asked.Named.TheVariants.{Problem}
+use Rattle.onfi_console.specs.declared.parsed.Named.TheVariants.{Problem}
 use Rattle.onfi_console.specs.Words.{IsEarly, IsNamed, early_command, is_best_so_far}
 
 one_of : (none : Bool) (command : Command) (finding : Finding) (slack limit : ℕ) (out : Output) (used : List Row) → command ≡ (if none then PlanEarly limit out finding else PlanNear limit out (is_best_so_far finding) slack)

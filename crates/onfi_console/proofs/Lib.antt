@@ -1,3 +1,6 @@
 pub mod CommandLemmas
 pub mod EarlyLemmas
+pub mod LimitLemmas
+pub mod OptimalLemmas
+pub mod ReadersLemmas
 pub mod WordsLemmas

@@ -4,17 +4,20 @@ use Rattle.clap.specs.Words.{App, Row as Used, Rule, first_of, new_app, new_rule
 use Rattle.clap.specs.declared.builder.ArgAction.TheVariants.{Set, SetTrue}
 use Rattle.onfi_planners.specs.declared.chosen.ChosenPlanner.{ChosenPlanner}
 use Rattle.onfi_planners.specs.declared.chosen.ChosenPlanner.TheVariants.{Plain, Remembering, BestSoFar}
+use Rattle.onfi_planners.specs.declared.exact.ExactPlanner.TheVariants as exact
 use Rattle.onfi_script.specs.declared.command.Command.{Command}
-use Rattle.onfi_script.specs.declared.command.Command.TheVariants.{Plan, Check, PlanWithin, PlanEarly, PlanNear, CheckWithin, Legal}
+use Rattle.onfi_script.specs.declared.command.Command.TheVariants.{Plan, Check, PlanRequests, PlanKnown, PlanWithin, PlanEarly, PlanNear, CheckKnown, CheckWithin, Legal}
 use Rattle.onfi_script.specs.declared.command.Finding.{Finding}
 use Rattle.onfi_script.specs.declared.command.Finding.TheVariants as found
 use Rattle.onfi_script.specs.declared.command.Output.{Output}
 use Rattle.onfi_script.specs.declared.command.Output.TheVariants as output
 use Rattle.onfi_script.specs.Field as field
 use Rattle.onfi_script.specs.Limit.{IsLimited}
-use Rattle.onfi_console.specs.declared.asked.Asked.{Asked}
-use Rattle.onfi_console.specs.declared.asked.Named.{Named}
-use Rattle.onfi_console.specs.declared.asked.Named.TheVariants.{Problem, Run}
+use Rattle.onfi_console.specs.declared.parsed.Named.{Named}
+use Rattle.onfi_console.specs.declared.parsed.Named.TheVariants.{Problem, Run}
+use Rattle.onfi_console.specs.declared.parsed.Parsed.{Parsed}
+use Rattle.onfi_console.specs.declared.parsed.RunPlanner.{RunPlanner}
+use Rattle.onfi_console.specs.declared.parsed.RunPlanner.TheVariants.{Exact, Inexact}
 
 -- `--NAME VALUE`
 abbrev pub value : List ℕ → Rule
@@ -84,6 +87,12 @@ IsWorkers remembers None n = n ≡ 1
 IsWorkers true (Some text) n = ⊥
 IsWorkers false (Some text) n = field.number 1 8 text ≡ Ok n
 
+-- the limit that was given, or none
+abbrev pub IsNamedLimit : Option (List ℕ) → Option ℕ → Type 0
+IsNamedLimit None limit = limit ≡ None
+IsNamedLimit (Some text) None = ⊥
+IsNamedLimit (Some text) (Some n) = field.number 1 1048576 text ≡ Ok n
+
 -- the flag was given: its value is the word true
 abbrev pub is_given : Option (List ℕ) → Bool
 is_given None = false
@@ -95,28 +104,42 @@ output_of trace true = output.Trace true
 output_of true false = output.Trace false
 output_of false false = output.Plan
 
--- the planner of a run, by the flags `plain` and `within`, of which one at most is given
-abbrev pub planner_of : Bool → Bool → Option ChosenPlanner
-planner_of false false = Some Remembering
-planner_of true false = Some Plain
-planner_of false true = Some BestSoFar
-planner_of true true = None
+-- the search of a run, by the flags `plain` and `within`, of which one at most is given
+abbrev pub search_of : Bool → Bool → Option ChosenPlanner
+search_of false false = Some Remembering
+search_of true false = Some Plain
+search_of false true = Some BestSoFar
+search_of true true = None
 
--- its limit where none is named
-abbrev pub usual_of : ChosenPlanner → ℕ
-usual_of Plain = 1048576
-usual_of Remembering = 65536
-usual_of BestSoFar = 65536
+-- the planner of a run by this search, where plans may end later by these thousandths
+abbrev pub inexact : ChosenPlanner → ℕ → RunPlanner
+inexact search slack = Inexact (record { planner = search; slack = Some slack })
+
+-- .. where none may: exact where the search is
+abbrev pub in_time : ChosenPlanner → RunPlanner
+in_time Plain = Exact exact.Plain
+in_time Remembering = Exact exact.Remembering
+in_time BestSoFar = inexact BestSoFar 0
+
+abbrev pub run_planner : ChosenPlanner → ℕ → RunPlanner
+run_planner search slack = if slack == 0 then in_time search else inexact search slack
+
+-- the limit of a planner that isn't exact, where none is named
+abbrev pub usual_by : ChosenPlanner → ℕ
+usual_by Plain = 1048576
+usual_by Remembering = 65536
+usual_by BestSoFar = 65536
+
+-- the limit of a run where none is named: the greatest where its plans are exact
+abbrev pub usual_of : RunPlanner → ℕ
+usual_of (Exact planner) = 1048576
+usual_of (Inexact planner) = usual_by planner.planner
 
 -- the thousandths that were given, 0 to 1,000, or none
 abbrev pub IsSlack : Option (List ℕ) → Option ℕ → Type 0
 IsSlack None slack = slack ≡ None
 IsSlack (Some text) None = ⊥
 IsSlack (Some text) (Some n) = field.number 0 1000 text ≡ Ok n
-
--- the thousandths of a run: those that were given, or 0
-abbrev pub IsRunSlack : Option (List ℕ) → Option ℕ → Type 0
-IsRunSlack text slack = (named : Option ℕ) × IsSlack text named × (slack ≡ Some (unwrap_or named 0))
 
 -- the run has a clock: the word that was given is that of the simulated one; none where none was given
 abbrev pub IsClock : Option (List ℕ) → Bool → Type 0
@@ -174,21 +197,53 @@ pub record IsEarly (command : Command) (used : List Used) : Type 0 where
   pub is_output : IsOutput out used
   pub is_command : command ≡ early_command finding (unwrap_or slack 0) limit out
 
+-- `plan` is for an optimal schedule that isn't made better
+pub record IsOptimal (limit : ℕ) (out : Output) (remembers : Bool) (workers : ℕ) (used : List Used) : Type 0 where
+  pub is_late : is_late (first_of (codes "early") used) (first_of (codes "slack") used) ≡ true
+  pub is_whole : given (codes "within") used ≡ false
+  pub is_limit : IsLimit 1048576 (first_of (codes "limit") used) limit
+  pub is_output : IsOutput out used
+  pub is_remembering : remembers ≡ given (codes "remember") used
+  pub is_workers : IsWorkers remembers (first_of (codes "workers") used) workers
+
+-- what is printed by the plain search: a plan, or its trace
+abbrev pub printed : Bool → Output
+printed true = output.Trace false
+printed false = output.Plan
+
+-- what plans for an optimal schedule
+abbrev pub optimal_command : ℕ → Output → Bool → Command
+optimal_command limit out true = PlanKnown limit out
+optimal_command limit output.Plan false = Plan limit false
+optimal_command limit (output.Trace false) false = Plan limit true
+optimal_command limit (output.Trace true) false = PlanRequests limit
+
+-- `run` plans by this planner
+pub record IsRun (planner : RunPlanner) (used : List Used) : Type 0 where
+  pub search : ChosenPlanner
+  pub slack : Option ℕ
+  pub is_search : search_of (given (codes "plain") used) (given (codes "within") used) ≡ Some search
+  pub is_slack : IsSlack (first_of (codes "slack") used) slack
+  pub is_planner : planner ≡ run_planner search (unwrap_or slack 0)
+
 -- a subcommand with these arguments is what is named
 abbrev pub IsNamed : Named → List ℕ → List Used → Type 0
-IsNamed (Problem (Plan limit out remembers) workers) name used = (name ≡ codes "plan") × (is_late (first_of (codes "early") used) (first_of (codes "slack") used) ≡ true) × (given (codes "within") used ≡ false) × IsLimit 1048576 (first_of (codes "limit") used) limit × IsOutput out used × (remembers ≡ given (codes "remember") used) × IsWorkers remembers (first_of (codes "workers") used) workers
+IsNamed (Problem (Plan limit trace) workers) name used = (name ≡ codes "plan") × IsOptimal limit (printed trace) false workers used
+IsNamed (Problem (PlanRequests limit) workers) name used = (name ≡ codes "plan") × IsOptimal limit (output.Trace true) false workers used
+IsNamed (Problem (PlanKnown limit out) workers) name used = (name ≡ codes "plan") × IsOptimal limit out true workers used
 IsNamed (Problem (PlanWithin limit out) workers) name used = (name ≡ codes "plan") × (is_late (first_of (codes "early") used) (first_of (codes "slack") used) ≡ true) × (given (codes "within") used ≡ true) × (given (codes "remember") used ≡ false) × IsLimit 65536 (first_of (codes "limit") used) limit × IsOutput out used × IsWorkers true (first_of (codes "workers") used) workers
 IsNamed (Problem (PlanEarly limit out finding) workers) name used = (name ≡ codes "plan") × IsEarly (PlanEarly limit out finding) used × (is_some (first_of (codes "workers") used) ≡ false) × (workers ≡ 1)
 IsNamed (Problem (PlanNear limit out within slack) workers) name used = (name ≡ codes "plan") × IsEarly (PlanNear limit out within slack) used × (is_some (first_of (codes "workers") used) ≡ false) × (workers ≡ 1)
-IsNamed (Problem (Check remembers) workers) name used = (name ≡ codes "check") × (remembers ≡ given (codes "remember") used) × (given (codes "within") used ≡ false) × (given (codes "legal") used ≡ false) × (workers ≡ 1)
+IsNamed (Problem Check workers) name used = (name ≡ codes "check") × (given (codes "remember") used ≡ false) × (given (codes "within") used ≡ false) × (given (codes "legal") used ≡ false) × (workers ≡ 1)
+IsNamed (Problem CheckKnown workers) name used = (name ≡ codes "check") × (given (codes "remember") used ≡ true) × (given (codes "within") used ≡ false) × (given (codes "legal") used ≡ false) × (workers ≡ 1)
 IsNamed (Problem CheckWithin workers) name used = (name ≡ codes "check") × (given (codes "remember") used ≡ false) × (given (codes "within") used ≡ true) × (given (codes "legal") used ≡ false) × (workers ≡ 1)
 IsNamed (Problem Legal workers) name used = (name ≡ codes "check") × (given (codes "remember") used ≡ false) × (given (codes "within") used ≡ false) × (given (codes "legal") used ≡ true) × (workers ≡ 1)
-IsNamed (Run planner limit clocked) name used = (name ≡ codes "run") × IsClock (first_of (codes "clock") used) clocked × (planner_of (given (codes "plain") used) (given (codes "within") used) ≡ Some planner.planner) × IsRunSlack (first_of (codes "slack") used) planner.slack × IsLimit (usual_of planner.planner) (first_of (codes "limit") used) limit
+IsNamed (Run planner limit clocked) name used = (name ≡ codes "run") × IsClock (first_of (codes "clock") used) clocked × IsRun planner used × IsLimit (usual_of planner) (first_of (codes "limit") used) limit
 
 -- .. with these files, quiet or not
-abbrev pub IsAsked : Asked → List ℕ → List Used → Type 0
-IsAsked asked name used = IsNamed asked.named name used × (option_map (λ s. s.now) asked.script ≡ first_of (codes "FILE") used) × (option_map (λ s. s.now) asked.plan ≡ first_of (codes "PLAN") used) × (asked.quiet ≡ given (codes "quiet") used)
+abbrev pub IsParsed : Parsed → List ℕ → List Used → Type 0
+IsParsed parsed name used = IsNamed parsed.named name used × (option_map (λ s. s.now) parsed.script ≡ first_of (codes "FILE") used) × (option_map (λ s. s.now) parsed.plan ≡ first_of (codes "PLAN") used) × (parsed.quiet ≡ given (codes "quiet") used)
 
 -- the words, of which the first is the program's name, ask for this
-abbrev pub Ask : List (List ℕ) → Asked → Type 0
-Ask words asked = IsSomeAnd (subcommand_of app words) (λ p. IsAsked asked p.0 p.1)
+abbrev pub Ask : List (List ℕ) → Parsed → Type 0
+Ask words parsed = IsSomeAnd (subcommand_of app words) (λ p. IsParsed parsed p.0 p.1)

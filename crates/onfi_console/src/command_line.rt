@@ -1,27 +1,18 @@
 //! The command line.
-ghost use Rattle.std.specs.Prelude.{◌≡◌, ◌≤◌, Some, false, true, is_some, IfOk, codes, map, option_map, string_bytes};
+ghost use Rattle.std.specs.Prelude.{◌≡◌, ◌≤◌, Some, false, true, is_some, IfOk, IfSome, codes, map, option_map, string_bytes};
 ghost use Rattle.clap.specs.Words.{first_value, found_of, rows_of, subcommand_of, subcommand_rows_of};
+ghost use Rattle.onfi_console.specs.Readers.{AreRead};
 ghost use Rattle.onfi_console.specs.Words as spec;
 
-use crate::asked::{Asked, Named};
 use crate::commands::app;
 use crate::escaping::escaped;
+use crate::fault::{Untaken, WordsFault};
+use crate::parsed::{MOST, Named, Parsed, RunPlanner};
 use clap::error::ErrorKind;
 use clap::{ArgMatches, Error};
-use onfi_planners::{ChosenEarly, ChosenPlanner};
+use onfi_planners::{ChosenEarly, ChosenPlanner, ExactPlanner};
 use onfi_script::{Command, Finding, Output, number};
 use std::alloc::{AllocError, Global};
-
-/// Why a command line is not taken.
-#[derive(Debug, Drop)]
-pub enum WordsFault {
-    /// It asks for the version: the line that tells it.
-    Version(String),
-    /// It is not one of this program, or asks for help: what is said about it.
-    Refused(String),
-    /// Memory was refused.
-    Memory,
-}
 
 /// Why a command or the value of an option is not taken.
 #[derive(Clone, Copy)]
@@ -74,10 +65,7 @@ impl ValueFault {
     }
 }
 
-/// The greatest limit of a search, and the usual one of `plan` for an optimal schedule and of the plain search.
-const MOST: u32 = 1_048_576;
-
-/// The usual limit of other searches, which bounds their time and memory.
+/// The usual limit of searches whose plans may be other than optimal, the plain one excepted; it bounds their time and memory.
 const USUAL: u32 = 65_536;
 
 /// As many workers as a search may have.
@@ -86,6 +74,20 @@ const MOST_WORKERS: u64 = 8;
 /// As many thousandths as a plan may end later.
 const MOST_SLACK: u64 = 1_000;
 
+/// The limit that is named, in its range.
+fn named_limit(matches: &ArgMatches<'_>) -> Result<Option<u32>, ValueFault>
+    ensures range { IfOk result (λ limit. IfSome limit (λ n. (1 ≤ n) × (n ≤ 1048576))) }
+    ensures value { IfOk result (λ limit. spec.IsNamedLimit (first_value (found_of matches.now) (codes "limit")) limit) }
+{
+    let Some(text) = matches.get_str("limit") else {
+        return Ok(None);
+    };
+    match number(text.as_bytes(), 1, u64::from(MOST)) {
+        Ok(limit) => Ok(Some(limit as u32)),
+        Err(_) => Err(ValueFault::Limit),
+    }
+}
+
 /// A limit in its range, or the usual one where none is named.
 fn limit_of(matches: &ArgMatches<'_>, usual: u32) -> Result<u32, ValueFault>
     requires some { 1 ≤ usual }
@@ -93,13 +95,8 @@ fn limit_of(matches: &ArgMatches<'_>, usual: u32) -> Result<u32, ValueFault>
     ensures range { IfOk result (λ n. (1 ≤ n) × (n ≤ 1048576)) }
     ensures value { IfOk result (λ n. spec.IsLimit usual (first_value (found_of matches.now) (codes "limit")) n) }
 {
-    let Some(text) = matches.get_str("limit") else {
-        return Ok(usual);
-    };
-    match number(text.as_bytes(), 1, u64::from(MOST)) {
-        Ok(limit) => Ok(limit as u32),
-        Err(_) => Err(ValueFault::Limit),
-    }
+    let named = named_limit(matches)?;
+    Ok(named.unwrap_or(usual))
 }
 
 /// A number of workers in its range, or one where none is named; none may be named of a search that remembers states.
@@ -163,6 +160,21 @@ fn output_of(matches: &ArgMatches<'_>) -> Output
     }
 }
 
+/// What plans for an optimal schedule.
+fn optimal_command(limit: u32, output: Output, remember: bool) -> Command
+    ensures { result ≡ spec.optimal_command limit output remember }
+{
+    match (remember, output) {
+        (true, output) => Command::PlanKnown { limit, output },
+        (false, Output::Plan) => Command::Plan {
+            limit,
+            trace: false,
+        },
+        (false, Output::Trace { requests: false }) => Command::Plan { limit, trace: true },
+        (false, Output::Trace { requests: true }) => Command::PlanRequests { limit },
+    }
+}
+
 /// What `plan`, for an optimal schedule, with these arguments names.
 fn optimal_of(used: &ArgMatches<'_>) -> Result<Named, ValueFault>
     requires late { spec.is_late (first_value (found_of used.now) (codes "early")) (first_value (found_of used.now) (codes "slack")) ≡ true }
@@ -174,11 +186,7 @@ fn optimal_of(used: &ArgMatches<'_>) -> Result<Named, ValueFault>
     let remember = is_given(used, "remember");
     let workers = workers_of(used, remember)?;
     let output = output_of(used);
-    let command = Command::Plan {
-        limit,
-        output,
-        remember,
-    };
+    let command = optimal_command(limit, output, remember);
     Ok(Named::Problem { command, workers })
 }
 
@@ -299,7 +307,8 @@ fn check_of(used: &ArgMatches<'_>) -> Result<Named, ValueFault>
         (true, false, false) => Command::Legal,
         (false, true, true) => return Err(ValueFault::WithinBesideRemember),
         (false, true, false) => Command::CheckWithin,
-        (false, false, remember) => Command::Check { remember },
+        (false, false, true) => Command::CheckKnown,
+        (false, false, false) => Command::Check,
     };
     Ok(Named::Problem {
         command,
@@ -307,9 +316,9 @@ fn check_of(used: &ArgMatches<'_>) -> Result<Named, ValueFault>
     })
 }
 
-/// The planner that these flags of `run` name.
-fn planner_of(plain: bool, within: bool) -> Result<ChosenPlanner, ValueFault>
-    ensures { IfOk result (λ planner. spec.planner_of plain within ≡ Some planner) }
+/// The search that these flags of `run` name.
+fn search_of(plain: bool, within: bool) -> Result<ChosenPlanner, ValueFault>
+    ensures { IfOk result (λ search. spec.search_of plain within ≡ Some search) }
 {
     match (plain, within) {
         (false, false) => Ok(ChosenPlanner::Remembering),
@@ -319,15 +328,36 @@ fn planner_of(plain: bool, within: bool) -> Result<ChosenPlanner, ValueFault>
     }
 }
 
-/// The limit of a planner of `run` where none is named.
-fn usual_of(planner: ChosenPlanner) -> u32
+/// The planner of a run by this search: exact where that is, and no plan may end later, by so many thousandths.
+fn run_planner(search: ChosenPlanner, slack: u16) -> RunPlanner
+    ensures { result ≡ spec.run_planner search slack }
+{
+    let inexact = RunPlanner::Inexact(ChosenEarly {
+        planner: search,
+        slack: Some(slack),
+    });
+    if slack > 0 {
+        return inexact;
+    }
+    match search {
+        ChosenPlanner::Plain => RunPlanner::Exact(ExactPlanner::Plain),
+        ChosenPlanner::Remembering => RunPlanner::Exact(ExactPlanner::Remembering),
+        ChosenPlanner::BestSoFar => inexact,
+    }
+}
+
+/// The limit of a run where none is named.
+fn usual_of(planner: RunPlanner) -> u32
     ensures value { result ≡ spec.usual_of planner }
     ensures some { 1 ≤ result }
     ensures few { result ≤ 1048576 }
 {
     match planner {
-        ChosenPlanner::Plain => MOST,
-        ChosenPlanner::Remembering | ChosenPlanner::BestSoFar => USUAL,
+        RunPlanner::Exact(_) => MOST,
+        RunPlanner::Inexact(inexact) => match inexact.planner {
+            ChosenPlanner::Plain => MOST,
+            ChosenPlanner::Remembering | ChosenPlanner::BestSoFar => USUAL,
+        },
     }
 }
 
@@ -349,14 +379,12 @@ fn run_of(used: &ArgMatches<'_>) -> Result<Named, ValueFault>
 {
     let plain = is_given(used, "plain");
     let within = is_given(used, "within");
-    let planner = planner_of(plain, within)?;
-    let limit = limit_of(used, usual_of(planner))?;
+    let search = search_of(plain, within)?;
+    let limit = named_limit(used)?;
     let slack = named_slack(used)?;
     let clocked = clock_of(used)?;
-    let planner = ChosenEarly {
-        planner,
-        slack: Some(slack.unwrap_or(0)),
-    };
+    let planner = run_planner(search, slack.unwrap_or(0));
+    let limit = limit.unwrap_or(usual_of(planner));
     Ok(Named::Run {
         planner,
         limit,
@@ -388,11 +416,28 @@ fn matches_of<'a>(alloc: Global, words: &'a [String]) -> Result<ArgMatches<'a>, 
 /// What the words ask for; the first word is the program's name.
 ///
 /// # Errors
+/// `Refused` where they are no command line of the program, a call for help or for the version included; `Memory` where a
+/// growth was refused.
+pub fn words<'a>(alloc: Global, words: &'a [String]) -> Result<Parsed<'a>, WordsFault>
+    ensures range { IfOk result (λ parsed. spec.IsInRange parsed.named) }
+    ensures asks { IfOk result (λ parsed. spec.Ask (map string_bytes words.entry.now) parsed) }
+    ensures reads { IfOk result (λ parsed. AreRead (map string_bytes words.entry.now) parsed) }
+{
+    match read_words(alloc, words) {
+        Ok(parsed) => Ok(parsed),
+        Err(Untaken::Memory) => Err(WordsFault::Memory),
+        Err(Untaken::Refused(_) | Untaken::Version(_)) => Err(WordsFault::Refused),
+    }
+}
+
+/// What [`words`] answers; of words that aren't taken also what the program says of them.
+///
+/// # Errors
 /// `Version` where they ask for the version; `Refused` where they are no command line of the program, a call for help
 /// included; `Memory` where a growth was refused.
-pub fn words<'a>(alloc: Global, words: &'a [String]) -> Result<Asked<'a>, WordsFault>
-    ensures range { IfOk result (λ asked. spec.IsInRange asked.named) }
-    ensures asks { IfOk result (λ asked. spec.Ask (map string_bytes words.entry.now) asked) }
+pub fn read_words<'a>(alloc: Global, words: &'a [String]) -> Result<Parsed<'a>, Untaken>
+    ensures range { IfOk result (λ parsed. spec.IsInRange parsed.named) }
+    ensures asks { IfOk result (λ parsed. spec.Ask (map string_bytes words.entry.now) parsed) }
 {
     let matches = match matches_of(alloc, words) {
         Ok(matches) => matches,
@@ -405,7 +450,7 @@ pub fn words<'a>(alloc: Global, words: &'a [String]) -> Result<Asked<'a>, WordsF
         Ok(named) => named,
         Err(fault) => return Err(refused(alloc, fault)),
     };
-    Ok(Asked {
+    Ok(Parsed {
         named,
         script: used.get_str("FILE"),
         plan: used.get_str("PLAN"),
@@ -414,11 +459,11 @@ pub fn words<'a>(alloc: Global, words: &'a [String]) -> Result<Asked<'a>, WordsF
 }
 
 /// A refusal that says what is wrong, and how to learn more.
-fn refused(alloc: Global, fault: ValueFault) -> WordsFault {
+fn refused(alloc: Global, fault: ValueFault) -> Untaken {
     let what = fault.text();
     match format!(in alloc; "error: {what}\n\nFor more information, try '--help'.\n") {
-        Ok(text) => WordsFault::Refused(text),
-        Err(AllocError) => WordsFault::Memory,
+        Ok(text) => Untaken::Refused(text),
+        Err(AllocError) => Untaken::Memory,
     }
 }
 
@@ -441,14 +486,14 @@ fn said(alloc: Global, words: &[String], error: &Error) -> Result<String, AllocE
 }
 
 /// Why nothing was found in the words.
-fn fault_of(alloc: Global, words: &[String], error: &Error) -> WordsFault {
+fn fault_of(alloc: Global, words: &[String], error: &Error) -> Untaken {
     if error.kind() == ErrorKind::OutOfMemory {
-        return WordsFault::Memory;
+        return Untaken::Memory;
     }
     match said(alloc, words, error) {
-        Ok(text) if error.kind() == ErrorKind::DisplayVersion => WordsFault::Version(text),
-        Ok(text) => WordsFault::Refused(text),
-        Err(AllocError) => WordsFault::Memory,
+        Ok(text) if error.kind() == ErrorKind::DisplayVersion => Untaken::Version(text),
+        Ok(text) => Untaken::Refused(text),
+        Err(AllocError) => Untaken::Memory,
     }
 }
 

@@ -80,7 +80,7 @@ pub const LIMIT: &str =
     "Open at most N nodes in a search, 1 to 1048576; the greatest where none is named";
 
 pub const LIMIT_RUN: &str =
-    "Open at most N nodes for a plan, 1 to 1048576; 65536 where none is named, with --plain the greatest";
+    "Open at most N nodes a plan, 1 to 1048576; else the most, 65536 with --within, or a slack but no --plain";
 
 pub const PLAIN_RUN: &str = "Plan by the plain search, which remembers no states";
 

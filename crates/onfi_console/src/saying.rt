@@ -1,9 +1,9 @@
 //! The message beside an answer.
 ghost use Rattle.std.specs.Prelude.{◌≡◌, IfOk, None, true};
 
-use crate::asked::{Asked, Named};
 use crate::input::{Input, first_line, word_at};
 use crate::judged::refused_message;
+use crate::parsed::{Named, Parsed};
 use crate::ran::run_message;
 use crate::script::script_message;
 use onfi_script::Purpose;
@@ -16,17 +16,17 @@ use std::alloc::{AllocError, Global};
 /// Want of memory; the answer is none the worse for it.
 pub fn message(
     alloc: Global,
-    asked: &Asked<'_>,
+    parsed: &Parsed<'_>,
     input: &Input<'_>,
     answer: &[u8],
 ) -> Result<Option<String>, AllocError>
-    ensures quiet { (asked.now.quiet ≡ true) → IfOk result (λ m. m ≡ None) }
+    ensures quiet { (parsed.now.quiet ≡ true) → IfOk result (λ m. m ≡ None) }
 {
-    if asked.quiet {
+    if parsed.quiet {
         return Ok(None);
     }
     let line = first_line(answer);
-    match (word_at(line, 0), asked.named) {
+    match (word_at(line, 0), parsed.named) {
         ("script", Named::Run { .. }) => Ok(Some(script_message(
             alloc,
             Purpose::Run,

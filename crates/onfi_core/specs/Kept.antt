@@ -164,7 +164,7 @@ first_half s = record {
 abbrev pub first : Setup → List Fault → Failures → ChannelState
 first s faults failures = record { half = first_half s; chip = opened s.geometry s.timing faults failures; sent = []; waiting = []; collected = [] }
 
--- The promise of one channel: what is posted is rightful in what was accepted; what a host sent is accepted or waits, in order and numbered; what it collected is a beginning of what it was posted; each accepted place is exactly one of unplanned, planned with its post undone, held and posted; and the last plan is optimal, as its certificate shows
+-- The promise of one channel: what is posted is rightful in what was accepted; what a host sent is accepted or waits, in order and numbered; what it collected is a beginning of what it was posted; each accepted place is exactly one of unplanned, planned with its post undone, held and posted; and the last plan is a legal schedule of its problem and its finish, a number no later before which no legal schedule ends, and a certificate accepted for that
 pub record KeepsPromise (s : Setup) (c : ChannelState) : Type 0 where
   pub rightful : AreRightful (device_for s c.chip) c.half.accepted c.half.posted
   pub sent : c.sent ≡ c.half.accepted ++ c.waiting

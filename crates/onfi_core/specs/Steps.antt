@@ -108,6 +108,10 @@ pub record IsPromised (exact : Bool) (certifies : Certificate → Type 0) (plan 
   pub exactly : IsTrue exact → plan.below ≡ plan.finish
   pub kind : certifies plan.cert
 
+-- a plan that is plain: nothing ends before its finish, and tokens show it
+abbrev pub IsPlainPlan : Planning → Type 0
+IsPlainPlan plan = IsPromised true IsPlain plan
+
 abbrev pub IsOptimal : Planning → Type 0
 IsOptimal plan = Optimal plan.problem plan.schedule
 

@@ -8,7 +8,9 @@ use Rattle.onfi_group.specs.Words.{number}
 use Rattle.onfi_problem.specs.Problem.{Problem}
 use Rattle.onfi_problem.specs.Left.{horizon}
 use Rattle.onfi_check.specs.Nodes.{HasMoreNodes}
-use Rattle.onfi_plan.specs.Certificate.{certificate_in}
+use Rattle.onfi_planner.specs.declared.planned.Planned.{Planned}
+use Rattle.onfi_plan.specs.Certificate.{Plain, certificate_in}
+use Rattle.onfi_plan.specs.declared.plan.Plan.{Plan}
 use Rattle.onfi_plan.specs.declared.fault.PlannerFault.{PlannerFault}
 use Rattle.onfi_plan.specs.declared.fault.PlannerFault.TheVariants as planner
 use Rattle.slab.specs.Slab.{Slab, get, slab_len}
@@ -35,8 +37,16 @@ pub record HalfView : Type 0 where
   pub state : HalfState
   pub lent : Option Reply
 
+-- a problem and its plan, as the planning that they are of
+abbrev pub planning_with : Problem → Plan → Planning
+planning_with problem plan = record { problem = problem; schedule = plan.planned.schedule; finish = plan.planned.finish; below = plan.below; cert = certificate_in plan }
+
 abbrev pub planning_of : Batch → Planning
-planning_of batch = record { problem = batch.problem.problem; schedule = batch.plan.schedule; finish = batch.plan.finish; below = batch.plan.below; cert = certificate_in batch.plan.cert }
+planning_of batch = planning_with batch.problem.problem batch.plan
+
+-- .. where the plan is plain: nothing ends before its finish, and its tokens show it
+abbrev pub plainly_with : Problem → Planned → Planning
+plainly_with problem planned = record { problem = problem; schedule = planned.schedule; finish = planned.finish; below = planned.finish; cert = Plain planned.cert.items }
 
 -- an item as the intake gives it: in range, of a host that is there, with that host's next serial
 pub record IsNext (s : Setup) (h : HalfState) (x : Item) : Type 0 where

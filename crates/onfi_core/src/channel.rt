@@ -1,15 +1,17 @@
 //! One channel of a core: its half, its chip and its queues.
 
-ghost use Rattle.std.specs.Prelude.{◌≡◌, ℕ, ◌≤◌, ◌<◌, None, Some, Option, IfOk, IfSome, MatchOption};
+ghost use Rattle.std.specs.Prelude.{◌≡◌, ℕ, ◌≤◌, ◌<◌, None, Some, Option, IfOk, IfNone, IfSome, MatchOption};
 ghost use Rattle.std.specs.VecDeque.{deque_capacity};
+ghost use Rattle.onfi_schedule.specs.Schedule.{Optimal, finish};
+ghost use Rattle.onfi_check.specs.Tree.{AcceptsTokens};
 ghost use Rattle.onfi_core.specs.Drive.{cause_of};
 ghost use Rattle.onfi_core.specs.Dues.{IsDue};
 ghost use Rattle.onfi_core.specs.declared.event.Event.TheVariants as event;
-ghost use Rattle.onfi_plan.specs.Certificate.{certificate_in};
-ghost use Rattle.onfi_core.specs.Steps.{IsPromised, Step, bus_refusal, fault_of};
+ghost use Rattle.onfi_core.specs.Steps.{IsPlainPlan, IsPromised, Step, bus_refusal, fault_of};
 ghost use Rattle.onfi_core.specs.Core.{with_batch};
 ghost use Rattle.onfi_core.specs.Refusals.{planned_outcome, ready_outcome, waited_outcome};
 ghost use Rattle.onfi_core.specs.Queues.{IsFresh, opened_with, state_in};
+ghost use Rattle.onfi_core.specs.View.{plainly_with, planning_with};
 
 use crate::drive::{DriveFault, run_phase};
 use crate::due::Due;
@@ -23,6 +25,7 @@ use crate::setup::Setup;
 use onfi_addr::Geometry;
 use onfi_chip::Chip;
 use onfi_plan::{Plan, Planner};
+use onfi_planner::Planned;
 use onfi_problem::Problem;
 use onfi_request::{Item, Request, RequestFault, check};
 use std::alloc::{AllocError, Global};
@@ -112,7 +115,7 @@ impl<C: Chip> Channel<C> {
         self.traffic = self.traffic.accepting(&item);
         self.hosts[at].sent += 1;
         self.waiting.push_back_reserved(item);
-        Outcome::Submitted { serial }
+        Outcome::Submitted(serial)
     }
 
     /// The sequencer pops the front of the submission queue.
@@ -128,9 +131,7 @@ impl<C: Chip> Channel<C> {
         let Some(item) = self.waiting.pop_front() else {
             return Outcome::NothingToAccept;
         };
-        Outcome::Accepted {
-            place: self.half.accept(item),
-        }
+        Outcome::Accepted(self.half.accept(item))
     }
 
     /// The sequencer plans, by that planner.
@@ -139,7 +140,7 @@ impl<C: Chip> Channel<C> {
         ensures promised { IfSome self.old.0.half.last (IsPromised P.exact P.certifies) → IfSome self.new.0.half.last (IsPromised P.exact P.certifies) }
         ensures setup { self.new.0.setup ≡ self.old.0.setup }
     {
-        let planned = self.half.plan(alloc, planner);
+        let planned = self.half.plan_by(alloc, planner);
         planned_outcome(planned)
     }
 
@@ -199,7 +200,7 @@ impl<C: Chip> Channel<C> {
         ) {
             Ok(ran) => {
                 self.half.done(due, ran, &self.chip);
-                Outcome::Phase { start }
+                Outcome::Phase(start)
             }
             Err(fault) => match cause_of(fault, due.lun) {
                 Some(cause) => {
@@ -230,7 +231,7 @@ impl<C: Chip> Channel<C> {
         let place = reply.place;
         self.half.posted(host);
         self.hosts[at].completions.push_back_reserved(reply);
-        Outcome::Posted { place }
+        Outcome::Posted(place)
     }
 
     /// The host pops the front of its completion queue.
@@ -250,9 +251,19 @@ impl<C: Chip> Channel<C> {
     }
 
     /// The problem and the plan of the last accepting planning; none before one.
-    pub fn last(&self) -> Option<(&Problem, &Plan)>
-        ensures { MatchOption result (self.now.0.half.last ≡ None)
-            (λ r. self.now.0.half.last ≡ Some (record { problem = r.0.now.problem; schedule = r.1.now.schedule; finish = r.1.now.finish; below = r.1.now.below; cert = certificate_in r.1.now.cert })) }
+    pub fn last_plan(&self) -> Option<(&Problem, &Plan)>
+        ensures { MatchOption result (self.now.0.half.last ≡ None) (λ r. self.now.0.half.last ≡ Some (planning_with r.0.now.problem r.1.now)) }
+    {
+        self.half.last_plan()
+    }
+
+    /// The problem of the last accepting planning and what was planned for it, where that is plain; none before one.
+    pub fn last(&self) -> Option<(&Problem, &Planned)>
+        ensures last { IfSome result (λ r. self.now.0.half.last ≡ Some (plainly_with r.0.now.problem r.1.now)) }
+        ensures none { IfNone result (IfSome self.now.0.half.last (λ plan. IsPlainPlan plan → ⊥)) }
+        ensures optimal { IfSome result (λ r. Optimal r.0.now.problem r.1.now.schedule) }
+        ensures finish { IfSome result (λ r. r.1.now.finish ≡ finish r.0.now.problem r.1.now.schedule) }
+        ensures accepted { IfSome result (λ r. AcceptsTokens r.1.now.cert.items r.0.now.problem r.1.now.finish) }
     {
         self.half.last()
     }
@@ -282,10 +293,10 @@ impl<C: Chip> Channel<C> {
             Event::Accept { channel: _ } => self.accept(),
             Event::Plan { channel: _ } => self.plan(alloc, planner),
             Event::Bus { channel: _ } => self.bus(alloc),
-            Event::Wait { moment, channel: _ } => self.wait(alloc, moment),
-            Event::Ready { lun, channel: _ } => self.ready(lun),
             Event::Post { host, channel: _ } => self.post(host),
             Event::Collect { host, channel: _ } => self.collect(host),
+            Event::Wait { moment, channel: _ } => self.wait(alloc, moment),
+            Event::Ready { lun, channel: _ } => self.ready(lun),
         }
     }
 }
@@ -306,7 +317,7 @@ fn planned_outcome(planned: Result<u64, PlanRefusal>) -> Outcome
     ensures { result ≡ planned_outcome planned }
 {
     match planned {
-        Ok(finish) => Outcome::Planned { finish },
+        Ok(finish) => Outcome::Planned(finish),
         Err(PlanRefusal::Stopped(cause)) => Outcome::Stopped(cause),
         Err(PlanRefusal::NothingToPlan) => Outcome::NothingToPlan,
         Err(PlanRefusal::Over { opened }) => Outcome::Over { opened },

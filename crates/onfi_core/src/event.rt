@@ -24,6 +24,16 @@ pub enum Event {
     Bus {
         channel: u8,
     },
+    /// The channel's sequencer pushes the oldest reply held for the host into the host's completion queue.
+    Post {
+        channel: u8,
+        host: u8,
+    },
+    /// The host pops the front of its completion queue of the channel.
+    Collect {
+        channel: u8,
+        host: u8,
+    },
     /// The channel's bus was idle until this moment, in ns of its clock: no phase starts sooner, and what is left of the
     /// plan starts later where it would. The next planning plans it anew. A moment that has passed changes nothing.
     Wait {
@@ -38,16 +48,6 @@ pub enum Event {
         channel: u8,
         lun: u8,
     },
-    /// The channel's sequencer pushes the oldest reply held for the host into the host's completion queue.
-    Post {
-        channel: u8,
-        host: u8,
-    },
-    /// The host pops the front of its completion queue of the channel.
-    Collect {
-        channel: u8,
-        host: u8,
-    },
 }
 
 impl Event {
@@ -60,10 +60,10 @@ impl Event {
             | Event::Accept { channel }
             | Event::Plan { channel }
             | Event::Bus { channel }
-            | Event::Wait { channel, .. }
-            | Event::Ready { channel, .. }
             | Event::Post { channel, .. }
-            | Event::Collect { channel, .. } => *channel,
+            | Event::Collect { channel, .. }
+            | Event::Wait { channel, .. }
+            | Event::Ready { channel, .. } => *channel,
         }
     }
 

@@ -1,13 +1,14 @@
 ghost use Rattle.std.specs.Prelude.{◌≡◌, ◌<◌, ◌≤◌, ◌+◌, ◌^◌, ◌++◌, [], length, replicate, None, Some, IfOk, IfErr, IfSome, IfNone, IsSome, MatchOption};
 ghost use Rattle.onfi_core.specs.Kept.{first_half};
 ghost use Rattle.onfi_request.specs.declared.reply.Reply.{Reply as AReply};
-ghost use Rattle.onfi_plan.specs.Certificate.{certificate_in};
+ghost use Rattle.onfi_schedule.specs.Schedule.{Optimal, finish};
+ghost use Rattle.onfi_check.specs.Tree.{AcceptsTokens};
 ghost use Rattle.onfi_core.specs.State.{Planning};
-ghost use Rattle.onfi_core.specs.Steps.{GoesOut, IsPromised, accept_refusal, bus_refusal, held_for, taken_next, planned_by, Plans};
+ghost use Rattle.onfi_core.specs.Steps.{GoesOut, IsPlainPlan, IsPlainlyPlanned, IsPromised, accept_refusal, bus_refusal, held_for, taken_next, planned_by, Plans};
 ghost use Rattle.onfi_core.specs.Dues.{IsDue, IsTurn, due_outcome};
 ghost use Rattle.onfi_core.specs.declared.starting.Turn.TheVariants as turn;
 ghost use Rattle.onfi_core.specs.Refusals.{fault_outcome};
-ghost use Rattle.onfi_core.specs.View.{IsNext, IsOldest, accepting, planning_of, PlannedAs, RefusedAs, refusal_of, taken_of};
+ghost use Rattle.onfi_core.specs.View.{IsNext, IsOldest, accepting, plainly_with, planning_of, planning_with, PlannedAs, RefusedAs, refusal_of, taken_of};
 ghost use Rattle.onfi_core.specs.declared.setup.Choice.TheVariants.{InOrder};
 ghost use Rattle.onfi_problem.specs.declared.lun_state.LunState.TheVariants.{Free};
 
@@ -24,7 +25,8 @@ use crate::setup::Setup;
 use crate::slot::Slot;
 use crate::starting::{Start, Turn, next_turn};
 use arrayvec::ArrayVec;
-use onfi_plan::{Plan, Planner};
+use onfi_plan::{PlainPlanner, Plan, Planner};
+use onfi_planner::Planned;
 use onfi_problem::{LunState, Problem};
 use onfi_request::{Item, Reply, Want};
 use onfi_schedule::{Placed, Starts};
@@ -216,15 +218,32 @@ impl Half {
         self.batch = batch;
     }
 
-    /// Plans, with the bus and the LUNs as they stand, by that planner: in order the wants not started, and behind them the
-    /// first unplanned items, up to the batch in all; else a choice of all accepted items that aren't started, and those that
-    /// it leaves are set aside. The plan takes the old one's place; its finish is answered, in ns of the channel's clock.
+    /// Plans, with the bus and the LUNs as they stand: in order the wants not started, and behind them the first unplanned
+    /// items, up to the batch in all; else a choice of all accepted items that aren't started, and those that it leaves are
+    /// set aside. The plan is optimal, and tokens show it. It takes the old one's place; its finish is answered, in ns of the
+    /// channel's clock.
     ///
     /// # Errors
     /// `Stopped` where the channel stopped; `NothingToPlan` where no accepted item is unplanned, or the wants not started
-    /// fill the batch, and the plan is that of the bus as it stands or nothing of it is left; `Stopped(Clock)` where the plan might end at 2^62 ns or later: the channel stops. Else `Over` or
-    /// `Memory`, and the old plan stands.
-    pub fn plan<P: Planner>(&mut self, alloc: Global, planner: &P) -> Result<u64, PlanRefusal>
+    /// fill the batch, and the plan is that of the bus as it stands or nothing of it is left; `Stopped(Clock)` where the
+    /// plan might end at 2^62 ns or later: the channel stops. Else `Over` or `Memory`, and the old plan stands.
+    pub fn plan(&mut self, alloc: Global) -> Result<u64, PlanRefusal>
+        requires settled { self.old.lent ≡ None }
+        ensures planned { PlannedAs self.old self.new result }
+        ensures plain { IfOk result (λ _. IfSome self.new.state.last IsPlainPlan) }
+        ensures optimal { IfOk result (λ _. IfSome self.new.state.last IsPlainlyPlanned) }
+        ensures refused { RefusedAs self.old self.new result }
+        ensures settled { self.new.lent ≡ None }
+        ensures setup { self.new.setup ≡ self.old.setup }
+    {
+        self.plan_by(alloc, &PlainPlanner)
+    }
+
+    /// As [`Half::plan`], by that planner: the plan is what it promises.
+    ///
+    /// # Errors
+    /// As [`Half::plan`].
+    pub fn plan_by<P: Planner>(&mut self, alloc: Global, planner: &P) -> Result<u64, PlanRefusal>
         requires settled { self.old.lent ≡ None }
         ensures planned { PlannedAs self.old self.new result }
         ensures promised { IfOk result (λ _. IfSome self.new.state.last (IsPromised P.exact P.certifies)) }
@@ -264,12 +283,12 @@ impl Half {
     // The plan of what was taken takes the old one's place.
     fn take_over(&mut self, taking: Taking, next: NextPlan) -> u64
         requires plans { Plans self.old.setup self.old.state (taken_of taking) (planning_of next.batch) }
-        requires rest { next.rest.items ≡ next.batch.plan.schedule.rest }
-        requires groups { next.groups.items ≡ next.batch.plan.schedule.groups }
+        requires rest { next.rest.items ≡ next.batch.plan.planned.schedule.rest }
+        requires groups { next.groups.items ≡ next.batch.plan.planned.schedule.groups }
         ensures planned { self.new ≡ record self.old { state = planned_by self.old.state (taken_of taking) (planning_of next.batch) } }
-        ensures finish { result ≡ next.batch.plan.finish }
+        ensures finish { result ≡ next.batch.plan.planned.finish }
     {
-        let finish = next.batch.plan.finish;
+        let finish = next.batch.plan.planned.finish;
         self.planned = taking.planned;
         self.aside = taking.aside;
         self.wants = taking.wants;
@@ -395,10 +414,23 @@ impl Half {
         self.lent = None;
     }
 
-    /// The problem and the plan of the last accepting planning; none before one.
-    pub fn last(&self) -> Option<(&Problem, &Plan)>
-        ensures { MatchOption result (self.now.state.last ≡ None)
-            (λ r. self.now.state.last ≡ Some (record { problem = r.0.now.problem; schedule = r.1.now.schedule; finish = r.1.now.finish; below = r.1.now.below; cert = certificate_in r.1.now.cert })) }
+    /// The problem of the last accepting planning and what was planned for it, where that is plain: an optimal schedule, when
+    /// it ends, and tokens that show it. None before a planning, and where its certificate remembers states or shows less.
+    pub fn last(&self) -> Option<(&Problem, &Planned)>
+        ensures last { IfSome result (λ r. self.now.state.last ≡ Some (plainly_with r.0.now.problem r.1.now)) }
+        ensures none { IfNone result (IfSome self.now.state.last (λ plan. IsPlainPlan plan → ⊥)) }
+        ensures optimal { IfSome result (λ r. Optimal r.0.now.problem r.1.now.schedule) }
+        ensures finish { IfSome result (λ r. r.1.now.finish ≡ finish r.0.now.problem r.1.now.schedule) }
+        ensures accepted { IfSome result (λ r. AcceptsTokens r.1.now.cert.items r.0.now.problem r.1.now.finish) }
+    {
+        let batch = self.last.as_ref()?;
+        let planned = batch.plan.plain()?;
+        Some((&batch.problem, planned))
+    }
+
+    /// The problem and the plan of the last accepting planning, by whichever planner; none before one.
+    pub fn last_plan(&self) -> Option<(&Problem, &Plan)>
+        ensures { MatchOption result (self.now.state.last ≡ None) (λ r. self.now.state.last ≡ Some (planning_with r.0.now.problem r.1.now)) }
     {
         self.last
             .as_ref()

@@ -1,38 +1,42 @@
 //! Several channels, over events.
 
 ghost use Rattle.std.specs.Prelude.{◌≡◌, ◌<◌, ◌≤◌, ◌↔◌, length, map, None, Some, Option, IfOk, IfSome, IsTrue, OnErr, IsErrOf, MatchOption, slice_get};
+ghost use Rattle.onfi_schedule.specs.Schedule.{Optimal, finish};
+ghost use Rattle.onfi_check.specs.Tree.{AcceptsTokens};
 ghost use Rattle.std.specs.List.{AllByRecursion as Each};
 ghost use Rattle.onfi_core.specs.Core.{CoreStep, CoreRun, Did};
 ghost use Rattle.onfi_core.specs.Core.Doing.{SetsBatch};
 ghost use Rattle.onfi_core.specs.State.{ChannelState};
-ghost use Rattle.onfi_plan.specs.Certificate.{certificate_in};
 ghost use Rattle.onfi_core.specs.Steps.{IsOptimal, IsPromised};
 ghost use Rattle.onfi_core.specs.Kept.{IsReached, KeepsPromise};
 ghost use Rattle.onfi_core.specs.Reaching.{Reaches};
 ghost use Rattle.onfi_core.specs.Queues.{IsFresh, AreOpened, opened_with, state_in, states_in};
+ghost use Rattle.onfi_core.specs.View.{plainly_with, planning_with};
 
 use crate::channel::Channel;
 use crate::event::Event;
 use crate::outcome::Outcome;
 use crate::setup::Setup;
 use onfi_chip::Chip;
-use onfi_plan::{Plan, Planner};
+use onfi_plan::{PlainPlanner, Plan, Planner};
+use onfi_planner::Planned;
 use onfi_problem::Problem;
 use std::alloc::{AllocError, Global};
 use std::marker::Model;
 use thiserror::Error;
 
-/// The channels of a setup with their hosts, in one thread, and what plans their batches.
+/// The channels of a setup with their hosts, in one thread, and what plans their batches: where no planner is named the
+/// plain one, whose plans are optimal, as tokens show.
 ///
 /// Contracts see the setup and, by `states_in`, the state of each channel.
 #[derive(Drop)]
-pub struct Core<P: Planner, C: Chip> {
+pub struct Core<C: Chip, P: Planner = PlainPlanner> {
     setup: Setup,
     planner: P,
     channels: Vec<Channel<C>>,
 }
 
-impl<P: Planner, C: Chip> Model for Core<P, C> {
+impl<C: Chip, P: Planner> Model for Core<C, P> {
     ghost use Rattle.onfi_core.specs.Queues.{CoreView, AreChannels};
     ghost use Rattle.onfi_core.specs.Steps.{IsPromised};
 
@@ -54,19 +58,49 @@ pub enum CoreFault {
     Memory,
 }
 
-impl<P: Planner, C: Chip> Core<P, C> {
+impl<C: Chip> Core<C> {
+    /// A core of these chips, one for each channel in order, whose batches the plain planner plans: nothing is sent,
+    /// accepted or planned.
+    ///
+    /// # Errors
+    /// `Chips` exactly where there is not one chip for each channel of the setup; else `Memory`. The chips are dropped.
+    pub fn open(alloc: Global, setup: Setup, chips: Vec<C>) -> Result<Core<C>, CoreFault>
+    where
+        C: Drop,
+        requires { Each (λ chip. IsFresh setup (C.state chip)) chips.items }
+        ensures opened { IfOk result (λ core. (core.0 ≡ setup) × (states_in C.state core ≡ map (λ chip. opened_with setup (C.state chip)) chips.items)) }
+        ensures chips { IsErrOf result CoreFault.Chips ↔ ¬ (length chips.items ≡ setup.channels) }
+    {
+        Core::open_with(alloc, setup, PlainPlanner, chips)
+    }
+
+    /// The problem of the channel's last accepting planning and what was planned for it: an optimal schedule, when it ends,
+    /// and tokens that show it. None before a planning.
+    pub fn last(&self, channel: u8) -> Option<(&Problem, &Planned)>
+        requires { channel < self.now.0.channels }
+        ensures last { (c : ChannelState) → slice_get (states_in C.state self.now) channel ≡ Some c
+            → MatchOption result (c.half.last ≡ None) (λ r. c.half.last ≡ Some (plainly_with r.0.now.problem r.1.now)) }
+        ensures optimal { IfSome result (λ r. Optimal r.0.now.problem r.1.now.schedule) }
+        ensures finish { IfSome result (λ r. r.1.now.finish ≡ finish r.0.now.problem r.1.now.schedule) }
+        ensures accepted { IfSome result (λ r. AcceptsTokens r.1.now.cert.items r.0.now.problem r.1.now.finish) }
+    {
+        self.channels[usize::from(channel)].last()
+    }
+}
+
+impl<C: Chip, P: Planner> Core<C, P> {
     /// A core of these chips, one for each channel in order, whose batches that planner plans: nothing is sent, accepted
     /// or planned.
     ///
     /// # Errors
     /// `Chips` exactly where there is not one chip for each channel of the setup; else `Memory`. Planner and chips are
     /// dropped.
-    pub fn open(
+    pub fn open_with(
         alloc: Global,
         setup: Setup,
         planner: P,
         chips: Vec<C>,
-    ) -> Result<Core<P, C>, CoreFault>
+    ) -> Result<Core<C, P>, CoreFault>
     where
         P: Drop,
         C: Drop,
@@ -140,13 +174,13 @@ impl<P: Planner, C: Chip> Core<P, C> {
         let _setup = self.setup;
     }
 
-    /// The problem and the plan of the channel's last accepting planning; none before one.
-    pub fn last(&self, channel: u8) -> Option<(&Problem, &Plan)>
+    /// The problem and the plan of the channel's last accepting planning, by whichever planner; none before one.
+    pub fn last_plan(&self, channel: u8) -> Option<(&Problem, &Plan)>
         requires { channel < self.now.0.channels }
-        ensures { (c : ChannelState) → slice_get (states_in C.state self.now) channel ≡ Some c → MatchOption result (c.half.last ≡ None)
-            (λ r. c.half.last ≡ Some (record { problem = r.0.now.problem; schedule = r.1.now.schedule; finish = r.1.now.finish; below = r.1.now.below; cert = certificate_in r.1.now.cert })) }
+        ensures { (c : ChannelState) → slice_get (states_in C.state self.now) channel ≡ Some c
+            → MatchOption result (c.half.last ≡ None) (λ r. c.half.last ≡ Some (planning_with r.0.now.problem r.1.now)) }
     {
-        self.channels[usize::from(channel)].last()
+        self.channels[usize::from(channel)].last_plan()
     }
 
     /// Sets the batch of the channel's later plannings, 1 to 8, and nothing else.

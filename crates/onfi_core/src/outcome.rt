@@ -1,22 +1,19 @@
 use onfi_request::{Reply, Request, RequestFault};
 
-/// What an event came to. The last seventeen are refusals: the state is unchanged, save that a stop cause stays.
+/// What an event came to. From `SubmitFull` on, save `Waited` and `ReadyFrom`, it is refused: the state is unchanged, save
+/// that a stop cause stays.
 #[derive(Debug, Drop)]
 pub enum Outcome {
-    /// The item has this number among those that the host sent to the channel, from 0.
-    Submitted { serial: u32 },
-    /// The item has this position in the channel's accepted list, from 0.
-    Accepted { place: u64 },
-    /// There is a plan that ends then, in ns of the channel's clock.
-    Planned { finish: u64 },
-    /// The phase started then, in ns of the channel's clock.
-    Phase { start: u64 },
-    /// The bus is free from then on, in ns of the channel's clock.
-    Waited { bus_free: u64 },
-    /// The LUN's first post may start from then on, in ns of the channel's clock.
-    ReadyFrom { ready: u64 },
+    /// The item has this serial among those that the host sent to the channel, from 0.
+    Submitted(u32),
+    /// The item has this place in the channel's accepted list, from 0.
+    Accepted(u64),
+    /// There is a plan with this finish, in ns of the channel's clock.
+    Planned(u64),
+    /// The phase has this start, in ns of the channel's clock.
+    Phase(u64),
     /// The reply to the item at this place was posted.
-    Posted { place: u64 },
+    Posted(u64),
     /// The host has this reply.
     Collected(Reply),
     /// The submission queue is full; the request comes back.
@@ -46,14 +43,18 @@ pub enum Outcome {
     NothingToPlan,
     /// No reply is held for the host.
     NothingToPost,
+    /// There is no such channel, host or LUN; a request that was to be submitted comes back.
+    NoSuch(Option<Request>),
+    /// The bus is free from then on, in ns of the channel's clock.
+    Waited { bus_free: u64 },
+    /// The LUN's first post may start from then on, in ns of the channel's clock.
+    ReadyFrom { ready: u64 },
     /// The moment, or the last start of what would be left of the plan, is at 2^62 ns or behind.
     TooLate,
     /// No array of the LUN works: it is free, or its group is in its commands or in its posts.
     NotInArray,
     /// The chip doesn't say that the LUN is ready.
     StillBusy,
-    /// There is no such channel, host or LUN; a request that was to be submitted comes back.
-    NoSuch(Option<Request>),
 }
 
 /// Why a channel stopped.

@@ -48,8 +48,8 @@ pub fn plan_wants<P: Planner>(
     ensures planned { IfOk result (λ next. IsPlanned (planning_of next.batch)) }
     ensures promised { IfOk result (λ next. IsPromised P.exact P.certifies (planning_of next.batch)) }
     ensures in_time { IfOk result (λ next. horizon (problem_of setup.now.timing setup.now.rules bus_free luns.now wants.now) < 2 ^ 62) }
-    ensures rest { IfOk result (λ next. next.rest.items ≡ next.batch.plan.schedule.rest) }
-    ensures groups { IfOk result (λ next. next.groups.items ≡ next.batch.plan.schedule.groups) }
+    ensures rest { IfOk result (λ next. next.rest.items ≡ next.batch.plan.planned.schedule.rest) }
+    ensures groups { IfOk result (λ next. next.groups.items ≡ next.batch.plan.planned.schedule.groups) }
     ensures stop { IfErr result (λ stop. StopsBecause (problem_of setup.now.timing setup.now.rules bus_free luns.now wants.now) setup.now.limit stop) }
 {
     let problem = match Problem::new(alloc, setup.timing, setup.rules, bus_free, luns, wants) {
@@ -79,11 +79,12 @@ fn stop_of(fault: PlannerFault) -> PlanStop
 fn with_starts(alloc: Global, problem: Problem, plan: Plan) -> Result<NextPlan, AllocError>
     ensures problem { IfOk result (λ next. next.batch.problem ≡ problem) }
     ensures plan { IfOk result (λ next. next.batch.plan ≡ plan) }
-    ensures rest { IfOk result (λ next. next.rest.items ≡ plan.schedule.rest) }
-    ensures groups { IfOk result (λ next. next.groups.items ≡ plan.schedule.groups) }
+    ensures rest { IfOk result (λ next. next.rest.items ≡ plan.planned.schedule.rest) }
+    ensures groups { IfOk result (λ next. next.groups.items ≡ plan.planned.schedule.groups) }
 {
-    let rest = copy_rest(alloc, plan.schedule.rest())?;
-    let groups = copy_groups(alloc, plan.schedule.groups())?;
+    let schedule = &plan.planned.schedule;
+    let rest = copy_rest(alloc, schedule.rest())?;
+    let groups = copy_groups(alloc, schedule.groups())?;
     Ok(NextPlan {
         batch: Batch { problem, plan },
         rest,

@@ -14,4 +14,6 @@ mod request;
 #[cfg(test)]
 mod texts;
 #[cfg(test)]
+mod three_calls;
+#[cfg(test)]
 mod timing;

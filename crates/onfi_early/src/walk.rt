@@ -118,10 +118,10 @@ fn visit(
     ensures problem { OnOk result (problem.new ≡ problem.old) }
     ensures found { IfOk result (IsFound problem.old best.old best.new) }
 {
-    let start = problem.earliest(step);
+    let start = problem.earliest(&step);
     let weight = notes.floor.weight_of(aim, step);
     let rest = notes.floor.rest_of(step.lun());
-    let undo = problem.advance(step);
+    let undo = problem.advance(&step);
     notes.lun = step.lun();
     let cost = with_post(cost, weight, problem.bus_free());
     let improved = search(problem, loads, aim, cost, best, notes)?;

@@ -20,8 +20,8 @@ fn told(
         wants: [1; 8],
         running: [[1; 4]; 8],
     };
-    let cost = cost_of(problem, &plan.schedule, &equal);
-    Ok((cost, plan.finish, plan.below))
+    let cost = cost_of(problem, &plan.planned.schedule, &equal);
+    Ok((cost, plan.planned.finish, plan.below))
 }
 
 #[test]
@@ -103,7 +103,7 @@ fn the_older_of_two_reads_ends_first(rt: HostRuntime) -> Result<(), Fail> {
         wants: [1, 0, 0, 0, 0, 0, 0, 0],
         running: [[1; 4]; 8],
     };
-    assert_eq!(rt; plan.finish, 150);
-    assert_eq!(rt; cost_of(&problem, &plan.schedule, &first), 130);
+    assert_eq!(rt; plan.planned.finish, 150);
+    assert_eq!(rt; cost_of(&problem, &plan.planned.schedule, &first), 130);
     Ok(())
 }

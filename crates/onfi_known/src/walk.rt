@@ -214,9 +214,9 @@ fn read_below<S: TokenSource<Token = Token>>(
     ensures err { IfErr result (λ f. OfTokens f (Refuses e problem.old.all (after problem.old.problem (move_of problem.old.groups m)) known.old.items (token ∷ S.left tokens.old.source))) }
     ensures kind { IfErr result (FaultFits place (token ∷ S.left tokens.old.source) (S.left tokens.new.source)) }
 {
-    let start = problem.earliest(m);
+    let start = problem.earliest(&m);
     let count = problem.lun_count();
-    let undo = problem.advance(m);
+    let undo = problem.advance(&m);
     let demand = read_tree(problem, e, token, place, tokens, known)?;
     let step = step_behind(problem, m.lun(), start);
     problem.undo(undo);

@@ -1,5 +1,6 @@
 -- Certificates, and what they show.
-use Rattle.std.specs.Prelude.{◌≡◌, ℕ, List}
+use Rattle.std.specs.Prelude.{◌≡◌, ℕ, List, Option, Some, None, Vec}
+use Rattle.std.specs.Global.{Global}
 use Rattle.onfi_request.specs.declared.want.Want.{Want}
 use Rattle.onfi_cert.specs.declared.token.Token.{Token}
 use Rattle.onfi_problem.specs.Problem.{Problem}
@@ -7,17 +8,20 @@ use Rattle.onfi_check.specs.Tree.{AcceptsTokens}
 use Rattle.onfi_known.specs.declared.token.Token.{Token as KnownToken}
 use Rattle.onfi_known.specs.Proves.{ProvesTokens}
 use Rattle.onfi_known.specs.Text.{IsCertificate}
-use Rattle.onfi_plan.specs.declared.certificate.Certificate.{Certificate as Kept}
-use Rattle.onfi_plan.specs.declared.certificate.Certificate.TheVariants as kept
+use Rattle.onfi_plan.specs.declared.plan.Plan.{Plan}
 
 -- tokens, or the text of tokens that remember states
 pub data Certificate : Type 0 where
   Plain : List Token → Certificate
   Remembering : List ℕ → Certificate
 
-abbrev pub certificate_in : Kept → Certificate
-certificate_in (kept.Plain tokens) = Plain tokens.items
-certificate_in (kept.Remembering text) = Remembering text.items
+-- where there is a text, it stands in place of the tokens
+abbrev pub certificate_of : List Token → Option (Vec ℕ Global) → Certificate
+certificate_of tokens None = Plain tokens
+certificate_of tokens (Some text) = Remembering text.items
+
+abbrev pub certificate_in : Plan → Certificate
+certificate_in plan = certificate_of plan.planned.cert.items plan.text
 
 abbrev pub IsPlain : Certificate → Type 0
 IsPlain cert = (tokens : List Token) × (cert ≡ Plain tokens)

@@ -38,8 +38,8 @@ fn step(rt: &impl Abort, problem: &mut Problem, at: usize, start: u64) -> Undo
     let Some(m) = problem.move_at(at) else {
         panic!(rt; "no move at {at}");
     };
-    assert_eq!(rt; problem.earliest(m), start);
-    problem.advance(m)
+    assert_eq!(rt; problem.earliest(&m), start);
+    problem.advance(&m)
 }
 
 // Why these LUNs and wants, of a bus that is free from then on, are no problem.
@@ -72,7 +72,7 @@ fn two_planes_read_as_one(rt: HostRuntime) -> Result<(), Fail> {
     let Some(both) = problem.move_at(2) else {
         panic!(rt; "no group of both");
     };
-    let after = problem.after(alloc, both)?;
+    let after = problem.after(alloc, &both)?;
     step(&rt, &mut problem, 2, 0);
     assert_eq!(rt; after.bus_free(), 140);
     assert_eq!(rt; after.luns(), problem.luns());

@@ -15,7 +15,7 @@ use Rattle.onfi_planner.specs.declared.root.Root.{Root}
 use Rattle.onfi_problem.specs.Position.{Position, move_of}
 use Rattle.onfi_bound.specs.Loads.{AreLoads}
 use Rattle.onfi_check.specs.First.{IsFirstRun}
-use Rattle.onfi_check.specs.Nodes.{HasNodes, HasTreeOf}
+use Rattle.onfi_check.specs.Nodes.{HasNodes, HasPartsWithin, HasTreeOf, OpensNodes}
 
 -- no run ends before e
 abbrev pub Bounded : Problem → ℕ → Type 0
@@ -54,6 +54,21 @@ pub record HasOpened (p : Problem) (finish found old new : ℕ) : Type 0 where
   pub more : old ≤ new
   pub nodes : (f : ℕ) → finish ≤ f → HasNodes f p (new - old)
   pub accepted : HasTreeOf p found (new - old)
+
+-- a search down to the finish e opens some number of nodes, at most as many as the limit
+pub record OpensWithin (p : Problem) (e limit : ℕ) : Type 0 where
+  pub opened : ℕ
+  pub opens : OpensNodes p e opened
+  pub some : 1 ≤ opened
+  pub within : opened ≤ limit
+
+-- a split search down to the finish e opens some number of nodes, and below no move of the root more than the limit
+pub record OpensPartsWithin (p : Problem) (e limit : ℕ) : Type 0 where
+  pub opened : ℕ
+  pub opens : OpensNodes p e opened
+  pub parts : HasPartsWithin p e opened limit
+  pub some : 1 ≤ opened
+  pub within : opened ≤ 1048576
 
 -- the limit is met, and the tree has one more node
 pub record IsOver (p : Problem) (finish old new greatest : ℕ) : Type 0 where

@@ -77,7 +77,7 @@ pub fn write_below(
         tokens.push(Token::Bus)?;
         return Ok(());
     }
-    let undo = problem.advance(step);
+    let undo = problem.advance(&step);
     write(problem, loads, behind, e, tokens)?;
     problem.undo(undo);
     Ok(())

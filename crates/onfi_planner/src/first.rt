@@ -33,8 +33,8 @@ pub fn first_run(problem: &mut Problem, steps: &mut Vec<Begun>) -> Result<u64, A
         return Ok(bus_free);
     }
     let step = first_choice(problem, moves.as_slice());
-    let start = problem.earliest(step);
-    let undo = problem.advance(step);
+    let start = problem.earliest(&step);
+    let undo = problem.advance(&step);
     let finish = first_run(problem, steps)?;
     problem.undo(undo);
     steps.push(Begun { step, start })?;
@@ -66,8 +66,8 @@ fn goes_first(problem: &Problem, m: Move, other: Move) -> bool
     requires other_named { IsNamed problem.now.groups other }
     ensures { result ≡ starts_before problem.now.problem (move_of problem.now.groups m) (move_of problem.now.groups other) }
 {
-    let start = problem.earliest(m);
-    let other_start = problem.earliest(other);
+    let start = problem.earliest(&m);
+    let other_start = problem.earliest(&other);
     if start == other_start {
         return started_wants(problem, m) > started_wants(problem, other);
     }

@@ -11,6 +11,12 @@ pub struct Planned {
     pub finish: u64,
     /// The tokens of the certificate.
     pub cert: Vec<Token>,
+}
+
+/// A plan, and what its search cost.
+#[derive(Drop)]
+pub struct Counted {
+    pub planned: Planned,
     /// How many nodes the search opened, at least one.
     pub opened: u32,
 }

@@ -3,12 +3,12 @@ ghost use Rattle.onfi_problem.specs.Left.{InLimits};
 ghost use Rattle.onfi_schedule.specs.Schedule.{Optimal, finish};
 ghost use Rattle.onfi_check.specs.Tree.{AcceptsTokens};
 ghost use Rattle.onfi_check.specs.Nodes.{HasMoreNodes, OpensNodes};
-ghost use Rattle.onfi_planner.specs.Planning.{AreRising, Found};
+ghost use Rattle.onfi_planner.specs.Planning.{AreRising, Found, OpensWithin};
 
 use crate::certificate;
 use crate::fault::PlanFault;
 use crate::placing::schedule_of;
-use crate::planned::Planned;
+use crate::planned::{Counted, Planned};
 use crate::root::{Root, root_of};
 use crate::search::{self, Best, Stop};
 use onfi_bound::bus;
@@ -30,9 +30,29 @@ pub fn plan(alloc: Global, problem: &Problem, limit: u32) -> Result<Planned, Pla
     ensures finish { IfOk result (λ plan. finish problem.now.problem plan.schedule ≡ plan.finish) }
     ensures rising { IfOk result (λ plan. AreRising plan.schedule.groups) }
     ensures cert { IfOk result (λ plan. AcceptsTokens plan.cert.items problem.now.problem plan.finish) }
-    ensures opened { IfOk result (λ plan. OpensNodes problem.now.problem plan.finish plan.opened) }
-    ensures some_opened { IfOk result (λ plan. 1 ≤ plan.opened) }
-    ensures within { IfOk result (λ plan. plan.opened ≤ limit) }
+    ensures counted { IfOk result (λ plan. OpensWithin problem.now.problem plan.finish limit) }
+    ensures over { IfErr result (λ fault. (opened : ℕ) → fault ≡ PlanFault.Over opened → (opened ≡ limit) × HasMoreNodes problem.now.problem limit) }
+{
+    match plan_counted(alloc, problem, limit) {
+        Ok(counted) => Ok(counted.planned),
+        Err(fault) => Err(fault),
+    }
+}
+
+/// What [`plan`] does, which also tells how many nodes the search opened.
+///
+/// # Errors
+/// Those of [`plan`].
+pub fn plan_counted(alloc: Global, problem: &Problem, limit: u32) -> Result<Counted, PlanFault>
+    requires some { 1 ≤ limit }
+    requires few { limit ≤ 1048576 }
+    ensures optimal { IfOk result (λ counted. Optimal problem.now.problem counted.planned.schedule) }
+    ensures finish { IfOk result (λ counted. finish problem.now.problem counted.planned.schedule ≡ counted.planned.finish) }
+    ensures rising { IfOk result (λ counted. AreRising counted.planned.schedule.groups) }
+    ensures cert { IfOk result (λ counted. AcceptsTokens counted.planned.cert.items problem.now.problem counted.planned.finish) }
+    ensures opened { IfOk result (λ counted. OpensNodes problem.now.problem counted.planned.finish counted.opened) }
+    ensures some_opened { IfOk result (λ counted. 1 ≤ counted.opened) }
+    ensures within { IfOk result (λ counted. counted.opened ≤ limit) }
     ensures over { IfErr result (λ fault. (opened : ℕ) → fault ≡ PlanFault.Over opened → (opened ≡ limit) × HasMoreNodes problem.now.problem limit) }
 {
     let Ok(root) = root_of(alloc, problem) else {
@@ -54,10 +74,10 @@ pub fn plan(alloc: Global, problem: &Problem, limit: u32) -> Result<Planned, Pla
     let Ok(_) = certificate::write(&mut at, &loads, bus_bound, best.finish, &mut cert) else {
         return Err(PlanFault::Memory);
     };
-    let Ok(planned) = found_plan(alloc, problem, &best, cert, opened) else {
+    let Ok(planned) = found_plan(alloc, problem, &best, cert) else {
         return Err(PlanFault::Memory);
     };
-    Ok(planned)
+    Ok(Counted { planned, opened })
 }
 
 /// The plan of what a search found, with the certificate that was written for it.
@@ -69,7 +89,6 @@ pub fn found_plan(
     problem: &Problem,
     best: &Best,
     cert: Vec<Token>,
-    opened: u32,
 ) -> Result<Planned, AllocError>
     requires limits { InLimits problem.now.problem }
     requires found { Found problem.now best.now }
@@ -79,13 +98,11 @@ pub fn found_plan(
     ensures rising { IfOk result (λ plan. AreRising plan.schedule.groups) }
     ensures accepted { IfOk result (λ plan. AcceptsTokens plan.cert.items problem.now.problem plan.finish) }
     ensures ends { IfOk result (λ plan. plan.finish ≡ best.now.finish) }
-    ensures opened { IfOk result (λ plan. plan.opened ≡ opened) }
 {
     let schedule = schedule_of(alloc, problem, best.steps.as_slice())?;
     Ok(Planned {
         schedule,
         finish: best.finish,
         cert,
-        opened,
     })
 }

@@ -113,7 +113,7 @@ pub fn visit(
     ensures within { opened.new ≤ limit }
     ensures over { IfErr result (λ stop. stop ≡ Stop.Over → IsOver (moved problem.old step).problem best.old.finish opened.old opened.new limit) }
 {
-    let start = problem.earliest(step);
+    let start = problem.earliest(&step);
     let behind = bus_after(problem, bus_bound, step);
     if behind >= best.finish {
         if limit == *opened {
@@ -123,7 +123,7 @@ pub fn visit(
         *opened = *opened + 1;
         return Ok(false);
     }
-    let undo = problem.advance(step);
+    let undo = problem.advance(&step);
     let improved = search(problem, loads, behind, best, opened, limit)?;
     problem.undo(undo);
     if improved {

@@ -3,8 +3,8 @@
 ghost use Rattle.std.specs.Prelude.{◌≡◌, ℕ, ◌≤◌, IfOk, IfErr};
 ghost use Rattle.onfi_schedule.specs.Schedule.{Optimal, finish};
 ghost use Rattle.onfi_check.specs.Tree.{AcceptsTokens};
-ghost use Rattle.onfi_check.specs.Nodes.{HasPartsWithin, IsSplitOver, OpensNodes};
-ghost use Rattle.onfi_planner.specs.Planning.{AreRising};
+ghost use Rattle.onfi_check.specs.Nodes.{IsSplitOver};
+ghost use Rattle.onfi_planner.specs.Planning.{AreRising, OpensPartsWithin};
 
 use crate::branches::write_parts;
 use crate::fault::PlanFault;
@@ -44,20 +44,17 @@ pub fn plan_split<R: Threads + Sync, G: PartGate + Sync>(
     ensures finish { IfOk result (λ plan. finish problem.now.problem plan.schedule ≡ plan.finish) }
     ensures rising { IfOk result (λ plan. AreRising plan.schedule.groups) }
     ensures cert { IfOk result (λ plan. AcceptsTokens plan.cert.items problem.now.problem plan.finish) }
-    ensures opened { IfOk result (λ plan. OpensNodes problem.now.problem plan.finish plan.opened) }
-    ensures parts { IfOk result (λ plan. HasPartsWithin problem.now.problem plan.finish plan.opened limit) }
-    ensures some_opened { IfOk result (λ plan. 1 ≤ plan.opened) }
-    ensures within { IfOk result (λ plan. plan.opened ≤ 1048576) }
+    ensures counted { IfOk result (λ plan. OpensPartsWithin problem.now.problem plan.finish limit) }
     ensures over { IfErr result (λ fault. (opened : ℕ) → fault ≡ PlanFault.Over opened → IsSplitOver problem.now.problem limit opened) }
 {
     let Ok(mut root) = root_of(alloc, problem) else {
         return Err(PlanFault::Memory);
     };
-    let opened = search_parts(rt, alloc, &mut root, limit, workers, gate)?;
+    search_parts(rt, alloc, &mut root, limit, workers, gate)?;
     let Ok(cert) = write_parts(rt, alloc, &root, workers) else {
         return Err(PlanFault::Memory);
     };
-    let Ok(planned) = found_plan(alloc, problem, &root.best, cert, opened) else {
+    let Ok(planned) = found_plan(alloc, problem, &root.best, cert) else {
         return Err(PlanFault::Memory);
     };
     Ok(planned)

@@ -6,7 +6,8 @@ ghost use Rattle.onfi_check.specs.Nodes.{HasMoreNodes};
 ghost use Rattle.onfi_known.specs.Laws.{NoneBefore};
 ghost use Rattle.onfi_plan.specs.Certificate.{IsRemembering, Remembering, ShowsBelow, certificate_in};
 
-use onfi_plan::{Certificate, Plan, Planner, PlannerFault, none_ends_before};
+use onfi_plan::{Plan, Planner, PlannerFault, none_ends_before};
+use onfi_planner::Planned;
 use onfi_problem::Problem;
 use onfi_recall::{PlannedWithin, plan_within};
 use std::alloc::Global;
@@ -27,40 +28,44 @@ impl Planner for BestSoFarPlanner {
     fn plan(&self, alloc: Global, problem: &Problem, limit: u32) -> Result<Plan, PlannerFault>
         requires some { 1 ≤ limit }
         requires few { limit ≤ 1048576 }
-        ensures legal { IfOk result (λ plan. Legal problem.now.problem plan.schedule) }
-        ensures finish { IfOk result (λ plan. finish problem.now.problem plan.schedule ≡ plan.finish) }
-        ensures below { IfOk result (λ plan. plan.below ≤ plan.finish) }
+        ensures legal { IfOk result (λ plan. Legal problem.now.problem plan.planned.schedule) }
+        ensures finish { IfOk result (λ plan. finish problem.now.problem plan.planned.schedule ≡ plan.planned.finish) }
+        ensures below { IfOk result (λ plan. plan.below ≤ plan.planned.finish) }
         ensures none_before { IfOk result (λ plan. NoneBefore problem.now.problem plan.below) }
-        ensures shown { IfOk result (λ plan. ShowsBelow (certificate_in plan.cert) problem.now.all problem.now.problem plan.below) }
-        ensures kind { IfOk result (λ plan. IsRemembering (certificate_in plan.cert)) }
+        ensures shown { IfOk result (λ plan. ShowsBelow (certificate_in plan) problem.now.all problem.now.problem plan.below) }
+        ensures kind { IfOk result (λ plan. IsRemembering (certificate_in plan)) }
         ensures opened { IfOk result (λ plan. plan.opened ≤ limit) }
         ensures reopened { IfOk result (λ plan. plan.reopened ≤ limit) }
-        ensures short { IfOk result (λ plan. plan.below < plan.finish → HasMoreNodes problem.now.problem limit) }
+        ensures short { IfOk result (λ plan. plan.below < plan.planned.finish → HasMoreNodes problem.now.problem limit) }
         ensures memory { IfErr result (λ fault. fault ≡ PlannerFault.Memory) }
     {
         none_ends_before(problem);
         match plan_within(alloc, problem, limit) {
-            Ok(planned) => Ok(plan_of(planned)),
+            Ok(within) => Ok(plan_of(alloc, within)),
             Err(_) => Err(PlannerFault::Memory),
         }
     }
 }
 
-// The plan of a search.
-fn plan_of(planned: PlannedWithin) -> Plan
-    ensures schedule { result.schedule ≡ planned.schedule }
-    ensures finish { result.finish ≡ planned.finish }
-    ensures below { result.below ≡ planned.below }
-    ensures cert { certificate_in result.cert ≡ Remembering planned.cert.items }
-    ensures opened { result.opened ≡ planned.opened }
-    ensures reopened { result.reopened ≡ planned.reopened }
+// The plan of a search; its text stands in place of the tokens.
+fn plan_of(alloc: Global, within: PlannedWithin) -> Plan
+    ensures schedule { result.planned.schedule ≡ within.schedule }
+    ensures finish { result.planned.finish ≡ within.finish }
+    ensures below { result.below ≡ within.below }
+    ensures cert { certificate_in result ≡ Remembering within.cert.items }
+    ensures opened { result.opened ≡ within.opened }
+    ensures reopened { result.reopened ≡ within.reopened }
 {
+    let planned = Planned {
+        schedule: within.schedule,
+        finish: within.finish,
+        cert: Vec::new(alloc),
+    };
     Plan {
-        schedule: planned.schedule,
-        finish: planned.finish,
-        below: planned.below,
-        cert: Certificate::Remembering(planned.cert),
-        opened: planned.opened,
-        reopened: planned.reopened,
+        planned,
+        below: within.below,
+        text: Some(within.cert),
+        opened: within.opened,
+        reopened: within.reopened,
     }
 }

@@ -8,9 +8,8 @@ ghost use Rattle.onfi_plan.specs.Certificate.{ShowsBelow, certificate_in};
 ghost use Rattle.onfi_planners.specs.Choice.{certified_by};
 
 use crate::best_so_far::BestSoFarPlanner;
-use crate::plain::PlainPlanner;
 use crate::remembering::RememberingPlanner;
-use onfi_plan::{Plan, Planner, PlannerFault};
+use onfi_plan::{PlainPlanner, Plan, Planner, PlannerFault};
 use onfi_problem::Problem;
 use std::alloc::Global;
 
@@ -40,16 +39,16 @@ impl Planner for ChosenPlanner {
     fn plan(&self, alloc: Global, problem: &Problem, limit: u32) -> Result<Plan, PlannerFault>
         requires some { 1 ≤ limit }
         requires few { limit ≤ 1048576 }
-        ensures legal { IfOk result (λ plan. Legal problem.now.problem plan.schedule) }
-        ensures finish { IfOk result (λ plan. finish problem.now.problem plan.schedule ≡ plan.finish) }
-        ensures below { IfOk result (λ plan. plan.below ≤ plan.finish) }
+        ensures legal { IfOk result (λ plan. Legal problem.now.problem plan.planned.schedule) }
+        ensures finish { IfOk result (λ plan. finish problem.now.problem plan.planned.schedule ≡ plan.planned.finish) }
+        ensures below { IfOk result (λ plan. plan.below ≤ plan.planned.finish) }
         ensures none_before { IfOk result (λ plan. NoneBefore problem.now.problem plan.below) }
-        ensures shown { IfOk result (λ plan. ShowsBelow (certificate_in plan.cert) problem.now.all problem.now.problem plan.below) }
-        ensures optimal { self.now ≢ ChosenPlanner.BestSoFar → IfOk result (λ plan. plan.below ≡ plan.finish) }
-        ensures certified { IfOk result (λ plan. certified_by self.now (certificate_in plan.cert)) }
+        ensures shown { IfOk result (λ plan. ShowsBelow (certificate_in plan) problem.now.all problem.now.problem plan.below) }
+        ensures optimal { self.now ≢ ChosenPlanner.BestSoFar → IfOk result (λ plan. plan.below ≡ plan.planned.finish) }
+        ensures certified { IfOk result (λ plan. certified_by self.now (certificate_in plan)) }
         ensures opened { IfOk result (λ plan. plan.opened ≤ limit) }
         ensures reopened { IfOk result (λ plan. plan.reopened ≤ limit) }
-        ensures short { IfOk result (λ plan. plan.below < plan.finish → HasMoreNodes problem.now.problem limit) }
+        ensures short { IfOk result (λ plan. plan.below < plan.planned.finish → HasMoreNodes problem.now.problem limit) }
         ensures over { IfErr result (λ fault. (opened : ℕ) → fault ≡ PlannerFault.Over opened → (opened ≡ limit) × HasMoreNodes problem.now.problem limit) }
         ensures always { self.now ≡ ChosenPlanner.BestSoFar → IfErr result (λ fault. fault ≡ PlannerFault.Memory) }
     {

@@ -41,14 +41,14 @@ impl Planner for ChosenEarly {
     fn plan(&self, alloc: Global, problem: &Problem, limit: u32) -> Result<Plan, PlannerFault>
         requires some { 1 ≤ limit }
         requires few { limit ≤ 1048576 }
-        ensures legal { IfOk result (λ plan. Legal problem.now.problem plan.schedule) }
-        ensures finish { IfOk result (λ plan. finish problem.now.problem plan.schedule ≡ plan.finish) }
-        ensures below { IfOk result (λ plan. plan.below ≤ plan.finish) }
+        ensures legal { IfOk result (λ plan. Legal problem.now.problem plan.planned.schedule) }
+        ensures finish { IfOk result (λ plan. finish problem.now.problem plan.planned.schedule ≡ plan.planned.finish) }
+        ensures below { IfOk result (λ plan. plan.below ≤ plan.planned.finish) }
         ensures none_before { IfOk result (λ plan. NoneBefore problem.now.problem plan.below) }
-        ensures shown { IfOk result (λ plan. ShowsBelow (certificate_in plan.cert) problem.now.all problem.now.problem plan.below) }
-        ensures near { self.now.planner ≢ ChosenPlanner.BestSoFar → IfOk result (λ plan. plan.finish ≤ plan.below + slack_of (slack_in self.now.slack) problem.now.problem.bus_free plan.below) }
-        ensures optimal { self.now.planner ≢ ChosenPlanner.BestSoFar → slack_in self.now.slack ≡ 0 → IfOk result (λ plan. plan.below ≡ plan.finish) }
-        ensures certified { IfOk result (λ plan. certified_by self.now.planner (certificate_in plan.cert)) }
+        ensures shown { IfOk result (λ plan. ShowsBelow (certificate_in plan) problem.now.all problem.now.problem plan.below) }
+        ensures near { self.now.planner ≢ ChosenPlanner.BestSoFar → IfOk result (λ plan. plan.planned.finish ≤ plan.below + slack_of (slack_in self.now.slack) problem.now.problem.bus_free plan.below) }
+        ensures optimal { self.now.planner ≢ ChosenPlanner.BestSoFar → slack_in self.now.slack ≡ 0 → IfOk result (λ plan. plan.below ≡ plan.planned.finish) }
+        ensures certified { IfOk result (λ plan. certified_by self.now.planner (certificate_in plan)) }
         ensures opened { IfOk result (λ plan. plan.opened ≤ limit) }
         ensures reopened { IfOk result (λ plan. plan.reopened ≤ limit) }
         ensures over { IfErr result (λ fault. (opened : ℕ) → fault ≡ PlannerFault.Over opened → (opened ≡ limit) × HasMoreNodes problem.now.problem limit) }

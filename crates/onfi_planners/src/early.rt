@@ -10,6 +10,7 @@ ghost use Rattle.onfi_early.specs.Slack.{slack_of};
 use crate::weighing::Weighing;
 use onfi_early::{improve, slack_of};
 use onfi_plan::{Plan, Planner, PlannerFault};
+use onfi_planner::Planned;
 use onfi_problem::Problem;
 use std::alloc::Global;
 
@@ -56,13 +57,13 @@ impl<P: Planner> Planner for SlackPlanner<P> {
     fn plan(&self, alloc: Global, problem: &Problem, limit: u32) -> Result<Plan, PlannerFault>
         requires some { 1 ≤ limit }
         requires few { limit ≤ 1048576 }
-        ensures legal { IfOk result (λ plan. Legal problem.now.problem plan.schedule) }
-        ensures finish { IfOk result (λ plan. finish problem.now.problem plan.schedule ≡ plan.finish) }
-        ensures below { IfOk result (λ plan. plan.below ≤ plan.finish) }
+        ensures legal { IfOk result (λ plan. Legal problem.now.problem plan.planned.schedule) }
+        ensures finish { IfOk result (λ plan. finish problem.now.problem plan.planned.schedule ≡ plan.planned.finish) }
+        ensures below { IfOk result (λ plan. plan.below ≤ plan.planned.finish) }
         ensures none_before { IfOk result (λ plan. NoneBefore problem.now.problem plan.below) }
-        ensures shown { IfOk result (λ plan. ShowsBelow (certificate_in plan.cert) problem.now.all problem.now.problem plan.below) }
-        ensures near { IsTrue P.exact → IfOk result (λ plan. plan.finish ≤ plan.below + slack_of self.now.per_mille problem.now.problem.bus_free plan.below) }
-        ensures kind { IfOk result (λ plan. P.certifies (certificate_in plan.cert)) }
+        ensures shown { IfOk result (λ plan. ShowsBelow (certificate_in plan) problem.now.all problem.now.problem plan.below) }
+        ensures near { IsTrue P.exact → IfOk result (λ plan. plan.planned.finish ≤ plan.below + slack_of self.now.per_mille problem.now.problem.bus_free plan.below) }
+        ensures kind { IfOk result (λ plan. P.certifies (certificate_in plan)) }
         ensures opened { IfOk result (λ plan. plan.opened ≤ limit) }
         ensures reopened { IfOk result (λ plan. plan.reopened ≤ limit) }
         ensures over { IfErr result (λ fault. (opened : ℕ) → fault ≡ PlannerFault.Over opened → (opened ≡ limit) × HasMoreNodes problem.now.problem limit) }
@@ -84,29 +85,35 @@ pub(crate) fn made_better(
     weighing: Weighing,
     slack: u64,
 ) -> Result<Plan, PlannerFault>
-    requires legal { Legal problem.now.problem plan.schedule }
-    requires finish { finish problem.now.problem plan.schedule ≡ plan.finish }
+    requires legal { Legal problem.now.problem plan.planned.schedule }
+    requires finish { finish problem.now.problem plan.planned.schedule ≡ plan.planned.finish }
     requires none_before { NoneBefore problem.now.problem plan.below }
-    ensures legal { IfOk result (λ better. Legal problem.now.problem better.schedule) }
-    ensures finish { IfOk result (λ better. finish problem.now.problem better.schedule ≡ better.finish) }
-    ensures in_time { IfOk result (λ better. better.finish ≤ plan.finish + slack) }
-    ensures least { IfOk result (λ better. better.below ≤ better.finish) }
+    ensures legal { IfOk result (λ better. Legal problem.now.problem better.planned.schedule) }
+    ensures finish { IfOk result (λ better. finish problem.now.problem better.planned.schedule ≡ better.planned.finish) }
+    ensures in_time { IfOk result (λ better. better.planned.finish ≤ plan.planned.finish + slack) }
+    ensures least { IfOk result (λ better. better.below ≤ better.planned.finish) }
     ensures below { IfOk result (λ better. better.below ≡ plan.below) }
-    ensures cert { IfOk result (λ better. certificate_in better.cert ≡ certificate_in plan.cert) }
+    ensures cert { IfOk result (λ better. certificate_in better ≡ certificate_in plan) }
     ensures opened { IfOk result (λ better. better.opened ≡ plan.opened) }
     ensures reopened { IfOk result (λ better. better.reopened ≡ plan.reopened) }
     ensures memory { IfErr result (λ fault. fault ≡ PlannerFault.Memory) }
 {
     let weights = weighing.weights_of(problem);
-    let Ok(better) = improve(alloc, problem, &plan.schedule, &weights, slack, NODES) else {
+    let Ok(better) = improve(
+        alloc,
+        problem,
+        &plan.planned.schedule,
+        &weights,
+        slack,
+        NODES,
+    ) else {
         return Err(PlannerFault::Memory);
     };
-    Ok(Plan {
+    let first = plan.planned;
+    let planned = Planned {
         schedule: better.schedule,
         finish: better.finish,
-        below: plan.below,
-        cert: plan.cert,
-        opened: plan.opened,
-        reopened: plan.reopened,
-    })
+        ..first
+    };
+    Ok(Plan { planned, ..plan })
 }

@@ -3,8 +3,8 @@
 ghost use Rattle.std.specs.Prelude.{◌≡◌};
 ghost use Rattle.onfi_plan.specs.Certificate.{Remembering, certificate_in};
 
-use crate::fault::fault_of;
-use onfi_plan::{Certificate, Plan, Planner, PlannerFault};
+use onfi_plan::{Plan, Planner, PlannerFault};
+use onfi_planner::Planned;
 use onfi_problem::Problem;
 use onfi_recall::{PlannedKnown, plan_known};
 use std::alloc::Global;
@@ -23,28 +23,30 @@ impl Planner for RememberingPlanner {
     ghost certifies = { IsRemembering };
 
     fn plan(&self, alloc: Global, problem: &Problem, limit: u32) -> Result<Plan, PlannerFault> {
-        match plan_known(alloc, problem, limit) {
-            Ok(planned) => Ok(plan_of(planned)),
-            Err(fault) => Err(fault_of(fault)),
-        }
+        let known = plan_known(alloc, problem, limit)?;
+        Ok(plan_of(alloc, known))
     }
 }
 
-// The plan of a search; nothing ends before its finish.
-fn plan_of(planned: PlannedKnown) -> Plan
-    ensures schedule { result.schedule ≡ planned.schedule }
-    ensures finish { result.finish ≡ planned.finish }
-    ensures below { result.below ≡ planned.finish }
-    ensures cert { certificate_in result.cert ≡ Remembering planned.cert.items }
-    ensures opened { result.opened ≡ planned.opened }
-    ensures reopened { result.reopened ≡ planned.reopened }
+// The plan of a search: its text stands in place of the tokens, and nothing ends before its finish.
+fn plan_of(alloc: Global, known: PlannedKnown) -> Plan
+    ensures schedule { result.planned.schedule ≡ known.schedule }
+    ensures finish { result.planned.finish ≡ known.finish }
+    ensures below { result.below ≡ known.finish }
+    ensures cert { certificate_in result ≡ Remembering known.cert.items }
+    ensures opened { result.opened ≡ known.opened }
+    ensures reopened { result.reopened ≡ known.reopened }
 {
+    let planned = Planned {
+        schedule: known.schedule,
+        finish: known.finish,
+        cert: Vec::new(alloc),
+    };
     Plan {
-        schedule: planned.schedule,
-        finish: planned.finish,
-        below: planned.finish,
-        cert: Certificate::Remembering(planned.cert),
-        opened: planned.opened,
-        reopened: planned.reopened,
+        planned,
+        below: known.finish,
+        text: Some(known.cert),
+        opened: known.opened,
+        reopened: known.reopened,
     }
 }

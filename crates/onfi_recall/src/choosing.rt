@@ -112,8 +112,8 @@ fn run_by(
         return Ok(bus_free);
     }
     let step = choice(problem, loads, rule, moves.as_slice());
-    let start = problem.earliest(step);
-    let undo = problem.advance(step);
+    let start = problem.earliest(&step);
+    let undo = problem.advance(&step);
     let finish = run_by(problem, loads, rule, steps)?;
     problem.undo(undo);
     steps.push(Begun { step, start })?;
@@ -149,7 +149,7 @@ fn first_of(problem: &Problem, work: &[u64; 8], rule: Rule, choice: Ranked, m: M
     requires step { IsStep problem.now m }
     ensures { IsStep problem.now result.step }
 {
-    let start = problem.earliest(m);
+    let start = problem.earliest(&m);
     if start > choice.start {
         return choice;
     }
@@ -165,7 +165,7 @@ fn with_rank(problem: &Problem, work: &[u64; 8], rule: Rule, step: Move) -> Rank
     requires { IsStep problem.now step }
     ensures { result.step ≡ step }
 {
-    let start = problem.earliest(step);
+    let start = problem.earliest(&step);
     let rank = rank(problem, work, rule, step);
     Ranked { step, start, rank }
 }

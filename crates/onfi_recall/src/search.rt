@@ -172,9 +172,9 @@ fn visit(
     ensures problem { OnOk result (problem.new ≡ problem.old) }
     ensures visited { IfOk result (Visited problem.old step best.old best.new notes.old notes.new asked.old asked.new) }
 {
-    let start = problem.earliest(step);
+    let start = problem.earliest(&step);
     let count = problem.lun_count();
-    let undo = problem.advance(step);
+    let undo = problem.advance(&step);
     let shown = search(problem, loads, best, notes)?;
     let behind = step_behind(problem, step.lun(), start);
     problem.undo(undo);

@@ -3,7 +3,7 @@ ghost use Rattle.std.specs.Prelude.{◌≡◌, ◌≤◌};
 use onfi_addr::Place;
 use onfi_group::{Group, Rules};
 use onfi_known::{check_known_text, check_known_within};
-use onfi_planner::plan;
+use onfi_planner::plan_counted;
 use onfi_problem::{LunState, Problem, ProblemFault};
 use onfi_recall::{plan_known, plan_within};
 use onfi_request::Want;
@@ -52,14 +52,14 @@ fn mixed(alloc: Global) -> Result<Problem, ProblemFault> {
 fn a_plan_ends_when_that_of_the_plain_search_does(rt: HostRuntime) -> Result<(), Fail> {
     let alloc = rt.alloc();
     let problem = mixed(alloc)?;
-    let plain = plan(alloc, &problem, 1_048_576)?;
+    let plain = plan_counted(alloc, &problem, 1_048_576)?;
     let planned = plan_known(alloc, &problem, 1_048_576)?;
-    assert_eq!(rt; planned.finish, plain.finish);
+    assert_eq!(rt; planned.finish, plain.planned.finish);
     assert!(rt; planned.opened <= plain.opened);
     assert_eq!(rt; (planned.opened, planned.reopened), (1, 0));
     let text = planned.cert.as_slice();
     let checked = check_known_text(alloc, &problem, &planned.schedule, text);
-    assert_eq!(rt; checked, Ok(plain.finish));
+    assert_eq!(rt; checked, Ok(plain.planned.finish));
     Ok(())
 }
 

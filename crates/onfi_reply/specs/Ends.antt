@@ -1,5 +1,5 @@
 -- What clauses see of a poster and of an inbox.
-use Rattle.std.specs.Prelude.{◌≡◌, ℕ, ◌-◌, Bool, true, false, List, [], ◌∷◌, ◌++◌, length, take, drop, Option, Some, None}
+use Rattle.std.specs.Prelude.{◌≡◌, ℕ, ◌+◌, ◌-◌, Bool, true, false, List, [], ◌∷◌, ◌++◌, length, take, drop, Option, Some, None}
 use Rattle.atomic_table.specs.Seated.{TableId}
 use Rattle.crossbeam_queue.specs.Fifo.{Held}
 use Rattle.onfi_request.specs.declared.reply.Reply.{Reply}
@@ -15,13 +15,15 @@ pub record PosterView : Type 0 where
   pub opened : OpenedFor
   pub posted : List Reply
 
--- an inbox: of which queue it is, what that was opened for, what it gave, and what it took in and will give next
+-- an inbox: of which queue it is, what that was opened for, what it gave, what it took in and will give next, and how often
+-- a taking in was refused memory
 pub record InboxView : Type 0 where
   pub queue : TableId
   pub capacity : ℕ
   pub opened : OpenedFor
   pub given : List Reply
   pub waiting : List Reply
+  pub refused : ℕ
 
 -- ---- opening
 -- the poster of a queue as it opens: nothing is posted
@@ -30,7 +32,7 @@ fresh_poster queue opened capacity = record { queue = queue; capacity = capacity
 
 -- the inbox of the poster's queue, which gave nothing and took nothing in
 abbrev pub inbox_of : PosterView → InboxView
-inbox_of p = record { queue = p.queue; capacity = p.capacity; opened = p.opened; given = []; waiting = [] }
+inbox_of p = record { queue = p.queue; capacity = p.capacity; opened = p.opened; given = []; waiting = []; refused = 0 }
 
 -- ---- posting
 abbrev pub after_posting : PosterView → Reply → PosterView
@@ -58,6 +60,10 @@ SawEmpty i = Held 0 (InboxSees (AtInbox i.opened (i.given ++ i.waiting)))
 abbrev pub TookIn : Bool → InboxView → InboxView → Type 0
 TookIn true i j = (x : Reply) × (j ≡ record i { waiting = i.waiting ++ x ∷ [] }) × IsNext i.opened (i.given ++ i.waiting) x
 TookIn false i j = (j ≡ i) × SawEmpty i
+
+-- a taking in was refused memory, and nothing else changed
+abbrev pub after_refusing : InboxView → InboxView
+after_refusing i = record i { refused = i.refused + 1 }
 
 -- ---- closing
 -- what the inbox popped, and then what waits in the queue, is what was posted

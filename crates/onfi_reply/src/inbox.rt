@@ -1,8 +1,9 @@
 ghost use Rattle.std.specs.Prelude.{◌≡◌, ◌++◌, [], IfSome, IfNone, IfOk, OnErr};
-ghost use Rattle.onfi_reply.specs.Ends.{after_collecting, IsFirstOf, SawEmpty, TookIn};
+ghost use Rattle.onfi_reply.specs.Ends.{after_collecting, after_refusing, IsFirstOf, SawEmpty, TookIn};
 ghost use Rattle.onfi_reply.specs.Replies.{IsNext};
 
 use crate::inbox_seat::InboxSeat;
+use crate::refusals::Refusals;
 use onfi_request::Reply;
 use std::alloc::{AllocError, Global};
 use std::collections::VecDeque;
@@ -12,12 +13,13 @@ use std::sync::Wait;
 /// A host's end of a completion queue, with a list of its own for replies that are taken in before they are collected.
 /// It may be used from any one thread at a time.
 ///
-/// Contracts see its queue, the queue's capacity and what that was opened for, all replies that it gave, and those that
-/// it took in and will give next.
+/// Contracts see its queue, the queue's capacity and what that was opened for, all replies that it gave, those that it took
+/// in and will give next, and how often a taking in was refused memory.
 #[derive(Drop)]
 pub struct Inbox {
     pub(crate) seat: InboxSeat,
     pub(crate) waiting: VecDeque<Reply>,
+    pub(crate) refusals: Refusals,
 }
 
 impl Model for Inbox {
@@ -31,6 +33,7 @@ impl Model for Inbox {
       opened = t.seat.opened;
       given = given_of t.seat.popped t.waiting.items;
       waiting = t.waiting.items;
+      refused = t.refusals.count;
     } };
 
     ghost invariant = { λ t. IsWhole t.seat t.waiting.items };
@@ -64,12 +67,15 @@ impl Inbox {
     /// popped, up to this one, are rightful in what this one rests on.
     ///
     /// # Errors
-    /// Want of memory; the reply is then still in the queue.
+    /// Want of memory; the reply is then still in the queue, and the refusal is counted, for contracts alone.
     pub fn take_in<R: Wait>(&mut self, rt: &R, _alloc: Global) -> Result<bool, AllocError>
         ensures took { IfOk result (λ moved. TookIn moved self.old self.new) }
-        ensures same { OnErr result (self.new ≡ self.old) }
+        ensures refused { OnErr result (self.new ≡ after_refusing self.old) }
     {
-        self.waiting.reserve(1)?;
+        if let Err(refused) = self.waiting.reserve(1) {
+            self.refusals = self.refusals.one_more();
+            return Err(refused);
+        }
         match self.seat.pop(rt) {
             Some(reply) => {
                 self.waiting.push_back_reserved(reply);

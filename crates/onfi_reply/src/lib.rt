@@ -14,6 +14,7 @@ mod opened_for;
 mod opening;
 mod poster;
 mod poster_seat;
+mod refusals;
 mod rule;
 mod view;
 

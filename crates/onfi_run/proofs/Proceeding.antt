@@ -1,8 +1,8 @@
 -- What turns and drainings come to.
 use Rattle.std.proofs.Common.{◌≡◌, ℕ, Bool, true, false, refl, sym, ap, ◌∙◌, inl, inr}
 use Rattle.std.specs.Prelude.{IsTrue}
-use Rattle.onfi_seq.specs.declared.turn.Turn.{Turn}
-use Rattle.onfi_seq.specs.declared.turn.Turn.TheVariants as turn
+use Rattle.onfi_seq.specs.declared.turn.TurnAt.{TurnAt}
+use Rattle.onfi_seq.specs.declared.turn.TurnAt.TheVariants as turn
 use Rattle.onfi_seq.specs.Sequencer.{Seen}
 use Rattle.onfi_seq.specs.Turned.{Turned}
 use Rattle.onfi_run.specs.declared.channel_end.ChannelEnd.{ChannelEnd}
@@ -10,7 +10,7 @@ use Rattle.onfi_run.specs.declared.channel_end.ChannelEnd.TheVariants as end
 use Rattle.onfi_run.specs.declared.progress.Progress.{Progress}
 use Rattle.onfi_run.specs.Ending.{channel_end, is_refusal, progress_of}
 
-by_answer : (now : ℕ) (q q' : Seen) (none : Bool) (t : Turn) → Turned now q t q' → IsTrue (is_refusal (progress_of none t)) → q'.0.short ≡ true
+by_answer : (now : ℕ) (q q' : Seen) (none : Bool) (t : TurnAt) → Turned now q t q' → IsTrue (is_refusal (progress_of none t)) → q'.0.short ≡ true
 by_answer now q q' none (turn.Stopped cause) turned refused = absurd (cc)
 by_answer now q q' true (turn.Over opened) turned refused = absurd (cc)
 by_answer now q q' false (turn.Over opened) turned refused = absurd (cc)
@@ -25,7 +25,7 @@ by_answer now q q' none turn.PostFull turned refused = absurd (cc)
 by_answer now q q' none turn.Idle turned refused = absurd (cc)
 
 -- a turn that memory was refused to is kept
-pub refused_kept : (now : ℕ) (q q' : Seen) (none : Bool) (t : Turn) (p : Progress) → Turned now q t q' → p ≡ progress_of none t → IsTrue (is_refusal p) → IsTrue q'.0.short
+pub refused_kept : (now : ℕ) (q q' : Seen) (none : Bool) (t : TurnAt) (p : Progress) → Turned now q t q' → p ≡ progress_of none t → IsTrue (is_refusal p) → IsTrue q'.0.short
 refused_kept now q q' none t p turned told refused = by_answer now q q' none t turned (sym (ap is_refusal told) ∙ refused)
 
 -- a channel is told to be done only where each operation has its answer, or memory was refused

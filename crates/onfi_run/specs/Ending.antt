@@ -2,11 +2,13 @@
 use Rattle.std.specs.Prelude.{◌≡◌, ℕ, ◌+◌, ◌-◌, ◌^◌, ◌||◌, nat_le, Bool, true, false, if◌then◌else◌, List, Option, Some, None}
 use Rattle.onfi_core.specs.Steps.{none_left}
 use Rattle.onfi_queue.specs.Ends.{HostView}
+use Rattle.onfi_reply.specs.Ends.{InboxView}
 use Rattle.onfi_seq.specs.declared.drained.Drained.{Drained}
 use Rattle.onfi_seq.specs.declared.drained.Drained.TheVariants as drained
 use Rattle.onfi_seq.specs.Drained.{Drains}
-use Rattle.onfi_seq.specs.declared.turn.Turn.{Turn}
-use Rattle.onfi_seq.specs.declared.turn.Turn.TheVariants as turn
+use Rattle.onfi_seq.specs.NoClock.{timed_end}
+use Rattle.onfi_seq.specs.declared.turn.TurnAt.{TurnAt}
+use Rattle.onfi_seq.specs.declared.turn.TurnAt.TheVariants as turn
 use Rattle.onfi_seq.specs.Sequencer.{Seen}
 use Rattle.onfi_seq.specs.Turned.{Turned}
 use Rattle.onfi_run.specs.declared.channel.Drained.{Drained as DrainedAs}
@@ -17,7 +19,7 @@ use Rattle.onfi_run.specs.declared.channel_end.ChannelEnd.TheVariants as end
 
 -- ---- turns
 -- what a turn came to for its thread, where no phase is left behind it, or some is
-abbrev pub progress_of : Bool → Turn → Progress
+abbrev pub progress_of : Bool → TurnAt → Progress
 progress_of none (turn.Stopped cause) = progress.Stopped cause
 progress_of true (turn.Over opened) = progress.Over opened
 progress_of false (turn.Over opened) = progress.Moved
@@ -37,7 +39,7 @@ no_clock = 2 ^ 64 - 1
 
 -- a turn of a sequencer at that moment came to that
 pub record Proceeds (now : ℕ) (q : Seen) (p : Progress) (q' : Seen) : Type 0 where
-  pub answer : Turn
+  pub answer : TurnAt
   pub turned : Turned now q answer q'
   pub told : p ≡ progress_of (none_left q'.0.half) answer
 
@@ -75,7 +77,6 @@ abbrev pub end_of : Drained → ChannelEnd
 end_of drained.Empty = end.Done
 end_of drained.Memory = end.Done
 end_of drained.TurnsSpent = end.Unfinished
-end_of (drained.Waits until) = end.Unfinished
 end_of (drained.Stopped cause) = end.Stopped cause
 end_of (drained.Over opened) = end.Over opened
 
@@ -84,9 +85,9 @@ is_memory drained.Memory = true
 is_memory _ = false
 
 -- a draining of a sequencer came to that: at most 1,000,000 turns; memory was refused to a turn of the sequencer, ever, or to the draining
-pub record DrainsTo (q : Seen) (hosts : List HostView) (d : DrainedAs) (q' : Seen) : Type 0 where
+pub record DrainsTo (q : Seen) (hosts : List HostView) (inboxes : List InboxView) (d : DrainedAs) (q' : Seen) (inboxes' : List InboxView) : Type 0 where
   pub end : Drained
-  pub drained : Drains no_clock q hosts 1000000 end q'
+  pub drained : Drains no_clock q hosts inboxes 1000000 (timed_end end) q' inboxes'
   pub told : d.end ≡ end_of end
   pub short : d.short_of_memory ≡ (is_memory end || q'.0.short)
 

@@ -25,6 +25,7 @@ pub struct Drained {
 pub trait Channel {
     ghost use Rattle.std.specs.Prelude.{Bool, List, Option, ℕ};
     ghost use Rattle.onfi_queue.specs.Ends.{HostView};
+    ghost use Rattle.onfi_reply.specs.Ends.{InboxView};
     ghost use Rattle.onfi_run.specs.declared.channel.Drained.{Drained};
     ghost use Rattle.onfi_run.specs.declared.progress.Progress.{Progress};
     ghost use Rattle.onfi_run.specs.Keys.{ChannelQueues};
@@ -44,8 +45,8 @@ pub trait Channel {
     /// What a turn at that moment, from the one to the other, came to.
     ghost proceeds: { ℕ → Self → Progress → Self → Type 0 };
 
-    /// What a draining with these hosts from the one to the other came to.
-    ghost drains: { Self → List HostView → Drained → Self → Type 0 };
+    /// What a draining with these hosts from the one to the other came to, and from these inboxes to those.
+    ghost drains: { Self → List HostView → List InboxView → Drained → Self → List InboxView → Type 0 };
 
     /// Makes a turn at that moment, in ns of its clock; at the greatest nothing waits.
     fn turn<R: Wait>(&mut self, rt: &R, alloc: Global, now: u64) -> Progress
@@ -71,7 +72,7 @@ pub trait Channel {
         inboxes: &mut [Inbox; 4],
     ) -> Drained
         requires { AreEnds (queues self.old) hosts.now inboxes.old }
-        ensures drained { drains self.old hosts.now result self.new }
+        ensures drained { drains self.old hosts.now inboxes.old result self.new inboxes.new }
         ensures same { queues self.new ≡ queues self.old }
         ensures inboxes { queues_of inboxes.new ≡ queues_of inboxes.old }
         ensures short { IsTrue (short self.old) → IsTrue result.short_of_memory };

@@ -3,14 +3,14 @@ ghost use Rattle.std.specs.Prelude.{◌≡◌, ◌||◌};
 ghost use Rattle.onfi_core.specs.Steps.{none_left};
 ghost use Rattle.onfi_run.specs.Ending as spec;
 
-use crate::channel::{Channel, Drained, NO_CLOCK};
+use crate::channel::{Channel, Drained};
 use crate::channel_end::ChannelEnd;
 use crate::progress::Progress;
 use onfi_chip::SimChip;
 use onfi_plan::Planner;
 use onfi_queue::Host;
 use onfi_reply::Inbox;
-use onfi_seq::{Drained as End, Gate, Sequencer, Turn};
+use onfi_seq::{Drained as End, Gate, Sequencer, TurnAt};
 use std::alloc::Global;
 use std::sync::Wait;
 
@@ -21,25 +21,25 @@ const MOST_TURNS: u64 = 1_000_000;
 /// turns.
 #[derive(Drop)]
 pub(crate) struct Gated<P: Planner, G: Gate> {
-    pub(crate) sequencer: Sequencer<P, SimChip>,
+    pub(crate) sequencer: Sequencer<SimChip, P>,
     pub(crate) gate: G,
 }
 
 impl<P: Planner, G: Gate> Gated<P, G> {
     /// How its thread goes on behind a turn that came to this.
-    fn progress(&self, turn: Turn) -> Progress
+    fn progress(&self, turn: TurnAt) -> Progress
         ensures { result ≡ spec.progress_of (none_left self.now.sequencer.0.half) turn }
     {
         match turn {
-            Turn::Stopped(cause) => Progress::Stopped(cause),
-            Turn::Over { .. } if self.sequencer.has_phase() => Progress::Moved,
-            Turn::Over { opened } => Progress::Over { opened },
-            Turn::Memory if self.sequencer.has_phase() => Progress::Refused,
-            Turn::Memory => Progress::Starved,
-            Turn::Phase | Turn::Planned => Progress::Advanced,
-            Turn::Posted | Turn::Accepted => Progress::Moved,
-            Turn::Waits { until } => Progress::Waits { until },
-            Turn::PostFull | Turn::Idle => Progress::Quiet,
+            TurnAt::Stopped(cause) => Progress::Stopped(cause),
+            TurnAt::Over { .. } if self.sequencer.has_phase() => Progress::Moved,
+            TurnAt::Over { opened } => Progress::Over { opened },
+            TurnAt::Memory if self.sequencer.has_phase() => Progress::Refused,
+            TurnAt::Memory => Progress::Starved,
+            TurnAt::Phase | TurnAt::Planned => Progress::Advanced,
+            TurnAt::Posted | TurnAt::Accepted => Progress::Moved,
+            TurnAt::Waits { until } => Progress::Waits { until },
+            TurnAt::PostFull | TurnAt::Idle => Progress::Quiet,
         }
     }
 }
@@ -50,7 +50,7 @@ fn end_of(end: End) -> ChannelEnd
 {
     match end {
         End::Empty | End::Memory => ChannelEnd::Done,
-        End::TurnsSpent | End::Waits { .. } => ChannelEnd::Unfinished,
+        End::TurnsSpent => ChannelEnd::Unfinished,
         End::Stopped(cause) => ChannelEnd::Stopped(cause),
         End::Over { opened } => ChannelEnd::Over { opened },
     }
@@ -79,10 +79,10 @@ impl<P: Planner + Drop, G: Gate + Drop> Channel for Gated<P, G> {
 
     ghost proceeds = { λ now c p c'. Proceeds now (seen_in chip_in c.sequencer) p (seen_in chip_in c'.sequencer) };
 
-    ghost drains = { λ c hosts d c'. DrainsTo (seen_in chip_in c.sequencer) hosts d (seen_in chip_in c'.sequencer) };
+    ghost drains = { λ c hosts inboxes d c' inboxes'. DrainsTo (seen_in chip_in c.sequencer) hosts inboxes d (seen_in chip_in c'.sequencer) inboxes' };
 
     fn turn<R: Wait>(&mut self, rt: &R, alloc: Global, now: u64) -> Progress {
-        let turn = self.sequencer.turn(rt, alloc, &mut self.gate, now);
+        let turn = self.sequencer.turn_at(rt, alloc, &mut self.gate, now);
         self.progress(turn)
     }
 
@@ -101,15 +101,9 @@ impl<P: Planner + Drop, G: Gate + Drop> Channel for Gated<P, G> {
         hosts: &[Host; 4],
         inboxes: &mut [Inbox; 4],
     ) -> Drained {
-        let end = self.sequencer.drain(
-            rt,
-            alloc,
-            &mut self.gate,
-            NO_CLOCK,
-            hosts,
-            inboxes,
-            MOST_TURNS,
-        );
+        let end = self
+            .sequencer
+            .drain(rt, alloc, &mut self.gate, hosts, inboxes, MOST_TURNS);
         let short = self.sequencer.was_short_of_memory();
         Drained {
             end: end_of(end),

@@ -42,6 +42,6 @@ pub use preparing::{Prepared, prepare};
 pub use progress::Progress;
 pub use report::Report;
 pub use request::request_of;
-pub use running::{run_freely, run_script};
+pub use running::{run_freely, run_script, run_script_by};
 pub use setup::setup_of;
 pub use text::report_answer;

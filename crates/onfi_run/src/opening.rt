@@ -67,7 +67,7 @@ fn open_lane<P: Planner + Drop, G: Gate + Drop>(
     ensures posters { IfOk result (λ lane. lane.channel.sequencer.0.posters ≡ posters) }
 {
     let chip = chip_of(alloc, &setup, rows, channel)?;
-    let sequencer = Sequencer::open(alloc, setup, channel, planner, chip, intake, posters)?;
+    let sequencer = Sequencer::open_with(alloc, setup, channel, planner, chip, intake, posters)?;
     Ok(Lane {
         channel: Gated { sequencer, gate },
         ended: ChannelEnd::Unfinished,

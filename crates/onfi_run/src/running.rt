@@ -15,7 +15,7 @@ use crate::simulation::{Course, Settled, buses_of, simulate};
 use crate::station::NO_MOMENT;
 use crate::text::report_answer;
 use crate::threads::run_threads;
-use onfi_plan::Planner;
+use onfi_plan::{PlainPlanner, Planner};
 use onfi_script::{Answer, EngineFault, InputFault, Stop, read_all, refused, tell};
 use onfi_seq::Gate;
 use std::alloc::{AllocError, Global};
@@ -126,13 +126,9 @@ fn answer<R: Threads + Wait + Sync, P: Planner + Copy + Send + Drop, G: Gate + S
     }
 }
 
-/// Reads a script of hosts' operations, runs each channel and each host in a thread of its own or, where `clocked`, all of them
-/// by one clock, and writes what each host got. Each channel plans by a copy of `planner`, with at most `limit` nodes, 1 to
-/// 1,048,576, for one planning. Gate i, of four, is called before each turn of channel i.
-///
-/// By a clock, one thread goes from moment to moment: at each, hosts submit and collect what they can and channels make
-/// turns until nothing changes, and what a phase takes of the bus is waited for. So the report rests on the script and the
-/// planner alone, tells when each reply was collected, how busy buses were and how long operations took.
+/// Reads a script of hosts' operations, runs each channel and each host in a thread of its own, and writes what each host
+/// got. Each channel plans by [`PlainPlanner`], which is exact, with at most `limit` nodes, 1 to 1,048,576, for one
+/// planning. Gate i, of four, is called before each turn of channel i.
 ///
 /// Answers the exit status of the program: 0 only where each operation of the script is answered, 1 where the script is
 /// refused, 3 where a channel stopped or was left unfinished, 4 for want of memory, 6 where a planning opened `limit` nodes
@@ -141,7 +137,34 @@ fn answer<R: Threads + Wait + Sync, P: Planner + Copy + Send + Drop, G: Gate + S
 /// # Errors
 /// `Read` where a read failed or 2^40 reads did not come to the end: nothing was written. `Write` where a write failed: a
 /// beginning of the answer was written.
-pub fn run_script<
+pub fn run_script<R: Threads + Wait + Sync, G: Gate + Send + Drop, I: Read, O: Write>(
+    rt: &R,
+    alloc: Global,
+    limit: u32,
+    gates: Vec<G>,
+    reader: &mut I,
+    writer: &mut O,
+) -> Result<u8, EngineFault>
+    requires some { 1 ≤ limit }
+    requires few { limit ≤ 1048576 }
+    requires gates { length gates.items ≡ 4 }
+    ensures answer { IfOk result (λ status. Answers false (I.remaining reader.old) (O.contents writer.old) (O.contents writer.new) status) }
+    ensures unread { result ≡ Err EngineFault.Read → Keeps (O.contents writer.old) (O.contents writer.new) }
+    ensures unwritten { result ≡ Err EngineFault.Write → BeginsAnswer false (I.remaining reader.old) (O.contents writer.old) (O.contents writer.new) }
+{
+    run_script_by(rt, alloc, PlainPlanner, limit, false, gates, reader, writer)
+}
+
+/// What [`run_script`] does, where each channel plans by a copy of `planner`, and where `clocked` all channels and hosts run
+/// by one clock.
+///
+/// By a clock, one thread goes from moment to moment: at each, hosts submit and collect what they can and channels make
+/// turns until nothing changes, and what a phase takes of the bus is waited for. So the report rests on the script and the
+/// planner alone, tells when each reply was collected, how busy buses were and how long operations took.
+///
+/// # Errors
+/// As `run_script`.
+pub fn run_script_by<
     R: Threads + Wait + Sync,
     P: Planner + Copy + Send + Drop,
     G: Gate + Send + Drop,
@@ -175,7 +198,7 @@ pub fn run_script<
     }
 }
 
-/// What [`run_script`] does, with gates that hold nothing up: the command `run` of the program.
+/// What [`run_script_by`] does, with gates that hold nothing up: the command `run` of the program.
 ///
 /// # Errors
 /// As `run_script`.
@@ -195,7 +218,7 @@ pub fn run_freely<R: Threads + Wait + Sync, P: Planner + Copy + Send + Drop, I: 
     ensures unwritten { result ≡ Err EngineFault.Write → BeginsAnswer clocked (I.remaining reader.old) (O.contents writer.old) (O.contents writer.new) }
 {
     match no_gates(alloc) {
-        Ok(gates) => run_script(rt, alloc, planner, limit, clocked, gates, reader, writer),
+        Ok(gates) => run_script_by(rt, alloc, planner, limit, clocked, gates, reader, writer),
         Err(AllocError) => tell(writer, b"memory\n", 4),
     }
 }

@@ -1,7 +1,7 @@
-ghost use Rattle.std.specs.Prelude.{◌<◌, ◌≤◌};
+ghost use Rattle.std.specs.Prelude.{◌≡◌, ◌<◌, ◌≤◌, length, IfSome};
 
 use onfi_planners::ChosenPlanner;
-use onfi_run::run_script;
+use onfi_run::{run_script, run_script_by};
 use onfi_seq::Gate;
 use std::alloc::Global;
 use std::sync::Wait;
@@ -91,6 +91,24 @@ impl Gate for Party<'_> {
     }
 }
 
+// The gates of a meeting, one for each channel that a run may have.
+fn gates_of<'a>(alloc: Global, meeting: &'a Meeting) -> Option<Vec<Party<'a>>>
+    ensures { IfSome result (λ gates. length gates.items ≡ 4) }
+{
+    let gates = [
+        Party::of(meeting, 0),
+        Party::of(meeting, 1),
+        Party::of(meeting, 2),
+        Party::of(meeting, 3),
+    ];
+    Vec::from_array(alloc, gates).ok()
+}
+
+// The script of a run of these rows on two channels of the device.
+fn script_of(alloc: Global, rows: &str) -> Option<String> {
+    format!(in alloc; "{DEVICE}channels,2\n{rows}end\n").ok()
+}
+
 // Status and text of a run of these rows by that planner, whose two channels wait for each other before their first turns; none where memory
 // was refused or a gate missed something.
 fn meet<R: Threads + Wait + Sync>(
@@ -104,17 +122,11 @@ fn meet<R: Threads + Wait + Sync>(
     requires few { limit ≤ 1048576 }
 {
     let meeting = Meeting::new();
-    let gates = [
-        Party::of(&meeting, 0),
-        Party::of(&meeting, 1),
-        Party::of(&meeting, 2),
-        Party::of(&meeting, 3),
-    ];
-    let gates = Vec::from_array(alloc, gates).ok()?;
-    let script = format!(in alloc; "{DEVICE}channels,2\n{rows}end\n").ok()?;
+    let gates = gates_of(alloc, &meeting)?;
+    let script = script_of(alloc, rows)?;
     let mut reader = script.as_bytes();
     let mut text = Vec::new(alloc);
-    let status = run_script(
+    let status = run_script_by(
         rt,
         alloc,
         planner,
@@ -131,14 +143,30 @@ fn meet<R: Threads + Wait + Sync>(
     Some((status, text))
 }
 
+const READS: &str = "op,0,0,read,0,0,0\nop,0,1,read,0,0,0\n";
+
+const READS_ANSWERED: &[u8] = b"reply,0,0,0,read,*FF\nreply,0,1,0,read,*FF\nclosed\n";
+
 #[test]
 fn two_channels_make_their_turns_at_once(rt: HostRuntime) {
-    let rows = "op,0,0,read,0,0,0\nop,0,1,read,0,0,0\n";
+    let alloc = rt.alloc();
+    let meeting = Meeting::new();
+    let gates = gates_of(alloc, &meeting).expect(&rt, "gates");
+    let script = script_of(alloc, READS).expect(&rt, "a script");
+    let mut reader = script.as_bytes();
+    let mut text = Vec::new(alloc);
+    let status = run_script(&rt, alloc, 1_048_576, gates, &mut reader, &mut text);
+    assert_eq!(rt; status.expect(&rt, "an answer"), 0);
+    assert!(rt; text.as_slice() == READS_ANSWERED);
+    assert!(rt; !meeting.missed.load(Ordering::SeqCst));
+}
+
+#[test]
+fn so_they_do_by_searches_that_remember_states(rt: HostRuntime) {
     let planner = ChosenPlanner::Remembering;
-    let (status, text) = meet(&rt, rt.alloc(), planner, 65_536, rows).expect(&rt, "a meeting");
+    let (status, text) = meet(&rt, rt.alloc(), planner, 65_536, READS).expect(&rt, "a meeting");
     assert_eq!(rt; status, 0);
-    let told = b"reply,0,0,0,read,*FF\nreply,0,1,0,read,*FF\nclosed\n";
-    assert!(rt; text.as_slice() == told.as_slice());
+    assert!(rt; text.as_slice() == READS_ANSWERED);
 }
 
 // With one node each of the two can be planned alone, and not both, but by the best plan so far.

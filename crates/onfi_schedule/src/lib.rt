@@ -30,4 +30,4 @@ pub use phase_name::{Owner, Part, PhaseName};
 pub use placed::Placed;
 pub use schedule::Schedule;
 pub use starts::Starts;
-pub use tracing::trace;
+pub use tracing::{trace, trace_requests};

@@ -226,15 +226,22 @@ AnswersAlone p text answer = MatchResult (plan_of p.wants text) (λ r. TellsLega
 abbrev pub AnswersLegal : Problem → List ℕ → Answer → Type 0
 AnswersLegal p text answer = AnswersAlone p (text ++ codes "ONFICERT\n") answer
 
+-- the trace where it is asked for, else the plan
+abbrev pub output_of : Bool → Output
+output_of true = Trace false
+output_of false = Plan
+
 -- what the command asks for; a search that remembers states tells what one search tells, and the other commands read the
 -- plan text behind the script
 abbrev pub AnswersCommand : (ℕ → Problem → ℕ → Type 0) → Command → List ℕ → Problem → Answer → Type 0
-AnswersCommand Tells (asked.Plan limit output false) text p answer = AnswersPlan Tells limit output false p answer
-AnswersCommand Tells (asked.Plan limit output true) text p answer = AnswersPlan OneTells limit output true p answer
-AnswersCommand Tells (asked.Check remember) text p answer = AnswersCheck remember p text answer
+AnswersCommand Tells (asked.Plan limit trace) text p answer = AnswersPlan Tells limit (output_of trace) false p answer
+AnswersCommand Tells asked.Check text p answer = AnswersCheck false p text answer
+AnswersCommand Tells (asked.PlanRequests limit) text p answer = AnswersPlan Tells limit (Trace true) false p answer
+AnswersCommand Tells (asked.PlanKnown limit output) text p answer = AnswersPlan OneTells limit output true p answer
 AnswersCommand Tells (asked.PlanWithin limit output) text p answer = PrintsWithin limit output p answer
 AnswersCommand Tells (asked.PlanEarly limit output finding) text p answer = AnswersEarly Tells finding limit output p answer
 AnswersCommand Tells (asked.PlanNear limit output within slack) text p answer = AnswersNear within slack limit output p answer
+AnswersCommand Tells asked.CheckKnown text p answer = AnswersCheck true p text answer
 AnswersCommand Tells asked.CheckWithin text p answer = AnswersCheckWithin p text answer
 AnswersCommand Tells asked.Legal text p answer = AnswersLegal p text answer
 

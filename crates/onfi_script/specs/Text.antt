@@ -192,8 +192,8 @@ cert_text_refused cert_text.Memory = memory
 -- why the text of a certificate is refused
 abbrev pub text_refused : TextFault → Answer
 text_refused (in_text.Text fault) = cert_text_refused fault
-text_refused in_text.Option = refused_for (codes "cert Option")
 text_refused (in_text.Cert fault) = cert_refused fault
+text_refused in_text.Option = refused_for (codes "cert Option")
 
 -- the same of certificates that remember states
 abbrev pub known_refused : KnownFault → Answer

@@ -2,7 +2,7 @@
 ghost use Rattle.std.specs.Prelude.{◌≡◌, ◌≤◌, false, IfOk};
 ghost use Rattle.std.specs.Io.KnownBytes.{Keeps};
 ghost use Rattle.onfi_script.specs.Text.{planned as spec_planned};
-ghost use Rattle.onfi_script.specs.Answer.{AnswersCheck, AnswersCommand, AnswersEarly, AnswersPlan, AnswersSchedule, IsAnswerBy, Answers, AnswersBy, BeginsAnswer, BeginsAnswerBy, PartsTell};
+ghost use Rattle.onfi_script.specs.Answer.{AnswersCheck, AnswersCommand, AnswersEarly, AnswersPlan, AnswersSchedule, IsAnswerBy, Answers, AnswersBy, BeginsAnswer, BeginsAnswerBy, PartsTell, output_of};
 ghost use Rattle.onfi_script.specs.AnswerOf.{answer_of};
 ghost use Rattle.onfi_script.specs.Limit.{IsLimited};
 
@@ -137,6 +137,17 @@ fn planned_early<S: Search>(
     }
 }
 
+/// The trace where it is asked for, else the plan.
+fn output_of(trace: bool) -> Output
+    ensures { result ≡ output_of trace }
+{
+    if trace {
+        Output::Trace { requests: false }
+    } else {
+        Output::Plan
+    }
+}
+
 /// What the command asks for; `text` stands behind the script.
 fn commanded<S: Search>(
     alloc: Global,
@@ -152,17 +163,17 @@ fn commanded<S: Search>(
 {
     let (problem, weights) = (&script.problem, &script.weights);
     match command {
-        Command::Plan {
-            limit,
-            output,
-            remember: false,
-        } => planned(alloc, search, problem, limit, output),
-        Command::Plan {
-            limit,
-            output,
-            remember: true,
-        } => planned_known(alloc, problem, None, limit, output),
-        Command::Check { remember } => checked(alloc, remember, problem, text),
+        Command::Plan { limit, trace } => {
+            planned(alloc, search, problem, limit, output_of(trace))
+        }
+        Command::Check => checked(alloc, false, problem, text),
+        Command::PlanRequests { limit } => {
+            let output = Output::Trace { requests: true };
+            planned(alloc, search, problem, limit, output)
+        }
+        Command::PlanKnown { limit, output } => {
+            planned_known(alloc, problem, None, limit, output)
+        }
         Command::PlanWithin { limit, output } => {
             planned_within(alloc, problem, None, limit, output)
         }
@@ -177,6 +188,7 @@ fn commanded<S: Search>(
             within,
             slack,
         } => planned_near(alloc, problem, weights, slack, within, limit, output),
+        Command::CheckKnown => checked(alloc, true, problem, text),
         Command::CheckWithin => checked_within(alloc, problem, text),
         Command::Legal => judged_alone(alloc, problem, text),
     }
@@ -223,7 +235,7 @@ pub fn engine<R: Read, W: Write>(
     engine_by(alloc, &One, command, reader, writer)
 }
 
-/// What [`engine`] does for a plan, with the search of [`plan_split`](onfi_planner::plan_split) by so many workers, 1 to
+/// What [`engine`] does for `Plan`, with the search of [`plan_split`](onfi_planner::plan_split) by so many workers, 1 to
 /// 8, and `limit` nodes, 1 to 1,048,576, for each part: the same text for any number of workers.
 ///
 /// Answers the status that `engine` does: 6 where a part has more nodes than the limit, or the parts together have more
@@ -235,7 +247,7 @@ pub fn engine_split<T: Threads + Sync, R: Read, W: Write>(
     rt: &T,
     alloc: Global,
     limit: u32,
-    output: Output,
+    trace: bool,
     workers: usize,
     reader: &mut R,
     writer: &mut W,
@@ -244,16 +256,37 @@ pub fn engine_split<T: Threads + Sync, R: Read, W: Write>(
     requires few { limit ≤ 1048576 }
     requires some_workers { 1 ≤ workers }
     requires few_workers { workers ≤ 8 }
-    ensures answer { IfOk result (λ status. AnswersBy PartsTell (Command.Plan limit output false) (R.remaining reader.old) (W.contents writer.old) (W.contents writer.new) status) }
+    ensures answer { IfOk result (λ status. AnswersBy PartsTell (Command.Plan limit trace) (R.remaining reader.old) (W.contents writer.old) (W.contents writer.new) status) }
     ensures unread { result ≡ Err EngineFault.Read → Keeps (W.contents writer.old) (W.contents writer.new) }
-    ensures unwritten { result ≡ Err EngineFault.Write → BeginsAnswerBy PartsTell (Command.Plan limit output false) (R.remaining reader.old) (W.contents writer.old) (W.contents writer.new) }
+    ensures unwritten { result ≡ Err EngineFault.Write → BeginsAnswerBy PartsTell (Command.Plan limit trace) (R.remaining reader.old) (W.contents writer.old) (W.contents writer.new) }
 {
     let team = Team { rt, workers };
-    let command = Command::Plan {
-        limit,
-        output,
-        remember: false,
-    };
+    let command = Command::Plan { limit, trace };
+    engine_by(alloc, &team, command, reader, writer)
+}
+
+/// What [`engine_split`] does for a trace; each line names its request.
+///
+/// # Errors
+/// As `engine`.
+pub fn engine_split_requests<T: Threads + Sync, R: Read, W: Write>(
+    rt: &T,
+    alloc: Global,
+    limit: u32,
+    workers: usize,
+    reader: &mut R,
+    writer: &mut W,
+) -> Result<u8, EngineFault>
+    requires some { 1 ≤ limit }
+    requires few { limit ≤ 1048576 }
+    requires some_workers { 1 ≤ workers }
+    requires few_workers { workers ≤ 8 }
+    ensures answer { IfOk result (λ status. AnswersBy PartsTell (Command.PlanRequests limit) (R.remaining reader.old) (W.contents writer.old) (W.contents writer.new) status) }
+    ensures unread { result ≡ Err EngineFault.Read → Keeps (W.contents writer.old) (W.contents writer.new) }
+    ensures unwritten { result ≡ Err EngineFault.Write → BeginsAnswerBy PartsTell (Command.PlanRequests limit) (R.remaining reader.old) (W.contents writer.old) (W.contents writer.new) }
+{
+    let team = Team { rt, workers };
+    let command = Command::PlanRequests { limit };
     engine_by(alloc, &team, command, reader, writer)
 }
 

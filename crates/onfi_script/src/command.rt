@@ -21,17 +21,22 @@ pub enum Finding {
 /// What the program is asked to do with a script.
 #[derive(Clone, Copy)]
 pub enum Command {
-    /// Print an optimal schedule with its certificate, or its trace in their place; the search opens at most `limit`
-    /// nodes, 1 to 1,048,576, and remembers states where `remember` says so, as its certificate then does.
+    /// Print an optimal schedule with its certificate, or in their place its trace where `trace` says so; the search opens
+    /// at most `limit` nodes, 1 to 1,048,576.
     Plan {
         limit: u32,
-        output: Output,
-        remember: bool,
+        trace: bool,
     },
-    /// Say whether the plan text behind the script shows by its certificate that its schedule is optimal; by one that
-    /// remembers states where `remember` says so, else by a plain one.
-    Check {
-        remember: bool,
+    /// Say whether the plan text behind the script shows by its certificate that its schedule is optimal.
+    Check,
+    /// Print the trace that `Plan` prints; each line names its request.
+    PlanRequests {
+        limit: u32,
+    },
+    /// As `Plan`, by a search that remembers states; its certificate does so too.
+    PlanKnown {
+        limit: u32,
+        output: Output,
     },
     /// Print the best schedule that is found within `limit` nodes, 1 to 1,048,576, by a search that remembers states, with a
     /// certificate of a time before which nothing ends; or its trace in their place.
@@ -39,8 +44,8 @@ pub enum Command {
         limit: u32,
         output: Output,
     },
-    /// As `Plan`, or `PlanWithin` where that is how it is found; behind that the schedule is made better: requests end sooner by
-    /// the weights of the script, and the last phase no later.
+    /// As `Plan`, `PlanKnown` or `PlanWithin`, by how it is found; behind that the schedule is made better: requests end
+    /// sooner by the weights of the script, and the last phase no later.
     PlanEarly {
         limit: u32,
         output: Output,
@@ -55,6 +60,8 @@ pub enum Command {
         within: bool,
         slack: u16,
     },
+    /// As `Check`, by a certificate that remembers states.
+    CheckKnown,
     /// Say whether the schedule of the plan text behind the script is legal, and its certificate, which remembers states,
     /// shows that nothing ends before its finish, or before the time of a line `below`.
     CheckWithin,

@@ -1,6 +1,7 @@
 //! From the bytes of an input to the bytes of its answer: what a script sets up is planned, or a plan of it is checked.
 //!
-//! [`engine`] carries out a [`Command`] on an input, [`engine_split`] by several workers.
+//! [`engine`] carries out a [`Command`] on an input, [`engine_split`] plans by several workers, [`engine_split_requests`]
+//! likewise for a trace that names requests.
 #![tactic(auto)]
 
 mod alone;
@@ -36,7 +37,7 @@ mod transfer;
 mod weights;
 mod within;
 
-pub use answering::{engine, engine_split};
+pub use answering::{engine, engine_split, engine_split_requests};
 pub use choosing::Choosing;
 pub use command::{Command, Finding, Output};
 pub use count::{Batch, Capacity, Few};

@@ -131,8 +131,8 @@ pub fn text_refused(alloc: Global, fault: TextFault) -> Result<Answer, AllocErro
 {
     match fault {
         TextFault::Text(fault) => cert_text_refused(alloc, fault),
-        TextFault::Option => refused_for(alloc, "cert Option"),
         TextFault::Cert(fault) => cert_refused(alloc, fault),
+        TextFault::Option => refused_for(alloc, "cert Option"),
     }
 }
 

@@ -7,7 +7,7 @@ ghost use Rattle.onfi_script.specs.AnswerOf.{answer_of};
 
 use crate::text::Answer;
 use onfi_problem::Problem;
-use onfi_schedule::{Schedule, trace};
+use onfi_schedule::{Schedule, trace, trace_requests};
 use std::alloc::{AllocError, Global};
 
 /// The trace of a legal schedule; each line names its request where that is asked for.
@@ -21,7 +21,11 @@ pub fn legal_trace(
     ensures trace { IfOk result (λ a. IsTrace requests problem.now.problem schedule.now a.text.items) }
     ensures fine { IfOk result (λ a. a.status ≡ 0) }
 {
-    let text = trace(alloc, problem, schedule, requests)?;
+    let text = if requests {
+        trace_requests(alloc, problem, schedule)?
+    } else {
+        trace(alloc, problem, schedule)?
+    };
     Ok(Answer { text, status: 0 })
 }
 

@@ -1,15 +1,15 @@
 -- What draining keeps from turn to turn.
-use Rattle.std.proofs.Common.{◌≡◌, ℕ, ◌+◌, ◌<◌, ◌≤◌, inl, inr, Bool, true, false, List, [], ◌∷◌, ◌++◌, length, Some, refl, sym, ap, ◌∙◌, subst, append_assoc, append-nil, arith}
+use Rattle.std.proofs.Common.{◌≡◌, ℕ, zero, suc, ◌+◌, ◌<◌, ◌≤◌, inl, inr, Bool, true, false, List, [], ◌∷◌, ◌++◌, length, Some, Result, Ok, Err, OnErr, refl, sym, ap, ◌∙◌, subst, append_assoc, append-nil, arith}
 use Rattle.std.specs.Prelude.{slice_get, slice_set}
 use Rattle.onfi_request.specs.declared.reply.Reply.{Reply}
 use Rattle.onfi_problem.proofs.Places.{get_within, length_set, same_some, within_get}
 use Rattle.onfi_queue.specs.Ends.{HostView}
 use Rattle.onfi_reply.specs.declared.opened_for.OpenedFor.{OpenedFor}
-use Rattle.onfi_reply.specs.Ends.{InboxView, TookIn}
-use Rattle.onfi_seq.specs.declared.drained.Drained.{Drained}
-use Rattle.onfi_seq.specs.declared.drained.Drained.TheVariants as drained
-use Rattle.onfi_seq.specs.declared.turn.Turn.{Turn}
-use Rattle.onfi_seq.specs.Drained.{AreAccepted, AreNextBehind, Drains, EndsBefore, EndsBehind, GoesOn, HasGrown, HaveGrown, Makes, ends_it, left_by}
+use Rattle.onfi_reply.specs.Ends.{InboxView, TookIn, after_refusing}
+use Rattle.onfi_seq.specs.declared.drained.DrainedAt.{DrainedAt}
+use Rattle.onfi_seq.specs.declared.drained.DrainedAt.TheVariants as drained
+use Rattle.onfi_seq.specs.declared.turn.TurnAt.{TurnAt}
+use Rattle.onfi_seq.specs.Drained.{AreAccepted, AreNextBehind, Drains, EndsAs, EndsBefore, EndsBehind, GoesOn, HasGrown, HaveGrown, MakesBy, ends_it, left_by, refusals_of}
 use Rattle.onfi_seq.proofs.Same.{same_channel_all, short_by_memory}
 use Rattle.onfi_seq.specs.Sequencer.{AreCounts, IsRight, IsSameChannel, Seen, SequencerFields}
 use Rattle.onfi_seq.specs.Turned.{Turned}
@@ -23,23 +23,55 @@ next_all opened before (x ∷ xs) ys (here, all) behind =
     (here, next_all opened (before ++ x ∷ []) xs ys all (subst (λ (rs : List Reply). AreNextBehind opened rs ys) (sym (append_assoc before (x ∷ []) xs)) behind))
 
 pub grown_none : (i : InboxView) → HasGrown i i
-grown_none i = record { more = []; after = ap (λ (rs : List Reply). let z : InboxView = record i { waiting = rs } in z) (sym (append-nil i.waiting)); next = tt }
+grown_none i = record {
+  more = [];
+  after = ap (λ (rs : List Reply). let z : InboxView = record i { waiting = rs } in z) (sym (append-nil i.waiting));
+  next = tt;
+  refused = omega arith;
+}
 
-grown_behind : (i : InboxView) (xs ys : List Reply) → AreNextBehind i.opened (i.given ++ i.waiting) xs → AreNextBehind i.opened (i.given ++ (i.waiting ++ xs)) ys → HasGrown i (record i { waiting = (i.waiting ++ xs) ++ ys })
-grown_behind i xs ys all behind = record {
+grown_behind : (i : InboxView) (xs ys : List Reply) (refused : ℕ) → AreNextBehind i.opened (i.given ++ i.waiting) xs → AreNextBehind i.opened (i.given ++ (i.waiting ++ xs)) ys
+    → i.refused ≤ refused → HasGrown i (record i { waiting = (i.waiting ++ xs) ++ ys; refused = refused })
+grown_behind i xs ys refused all behind more = record {
   more = xs ++ ys;
-  after = ap (λ (rs : List Reply). let z : InboxView = record i { waiting = rs } in z) (append_assoc i.waiting xs ys);
+  after = ap (λ (rs : List Reply). let z : InboxView = record i { waiting = rs; refused = refused } in z) (append_assoc i.waiting xs ys);
   next = next_all i.opened (i.given ++ i.waiting) xs ys all (subst (λ (rs : List Reply). AreNextBehind i.opened rs ys) (sym (append_assoc i.given i.waiting xs)) behind);
+  refused = more;
 }
 
 pub grown_all : (i j k : InboxView) → HasGrown i j → HasGrown j k → HasGrown i k
 grown_all i j k a b =
-    let P : InboxView → Type 0 = λ (x : InboxView). AreNextBehind x.opened (x.given ++ x.waiting) b.more → HasGrown i (record x { waiting = x.waiting ++ b.more }) in
-    subst (HasGrown i) (sym b.after) (subst P (sym a.after) (λ behind. grown_behind i a.more b.more a.next behind) b.next)
+    let Next : InboxView → Type 0 = λ (x : InboxView). AreNextBehind x.opened (x.given ++ x.waiting) b.more in
+    let P : InboxView → Type 0 = λ (x : InboxView). Next x → HasGrown i (record x { waiting = x.waiting ++ b.more; refused = k.refused }) in
+    let refused : i.refused ≤ k.refused = (let m = a.refused in let n = b.refused in omega (arith, m, n)) in
+    subst (HasGrown i) (sym b.after) (subst P (sym a.after) (λ behind. grown_behind i a.more b.more k.refused a.next behind refused) b.next)
+
+-- a taking in that isn't refused counts no refusal
+pub took_refused : (moved : Bool) (i j : InboxView) → TookIn moved i j → j.refused ≡ i.refused
+took_refused true i j (x, after, next) = ap (λ (v : InboxView). v.refused) after
+took_refused false i j (same, empty) = ap (λ (v : InboxView). v.refused) same
+
+took_grown : (moved : Bool) (i j : InboxView) → TookIn moved i j → HasGrown i j
+took_grown true i j (x, after, next) =
+    let same = took_refused true i j (x, after, next) in
+    record {
+      more = x ∷ [];
+      after = after ∙ ap (λ (n : ℕ). let z : InboxView = record i { waiting = i.waiting ++ x ∷ []; refused = n } in z) (sym same);
+      next = (next, tt);
+      refused = omega (arith, same);
+    }
+took_grown false i j (same, empty) = subst (HasGrown i) (sym same) (grown_none i)
 
 pub grown_taken : (moved : Bool) (i j k : InboxView) → HasGrown i j → TookIn moved j k → HasGrown i k
-grown_taken true i j k grown (x, after, next) = grown_all i j k grown (record { more = x ∷ []; after = after; next = (next, tt) })
-grown_taken false i j k grown (same, empty) = subst (HasGrown i) (sym same) grown
+grown_taken moved i j k grown took = grown_all i j k grown (took_grown moved j k took)
+
+-- a taking in was refused
+pub grown_refused : (i j k : InboxView) → HasGrown i j → k ≡ after_refusing j → HasGrown i k
+grown_refused i j k grown is =
+    let counted : k.refused ≡ j.refused + 1 = ap (λ (v : InboxView). v.refused) is in
+    let waiting = ap (λ (rs : List Reply). let z : InboxView = record j { waiting = rs; refused = j.refused + 1 } in z) (sym (append-nil j.waiting)) in
+    let refused = ap (λ (n : ℕ). let z : InboxView = record j { waiting = j.waiting ++ []; refused = n } in z) (sym counted) in
+    grown_all i j k grown (record { more = []; after = is ∙ waiting ∙ refused; next = tt; refused = omega (arith, counted) })
 
 -- What all take in
 
@@ -70,6 +102,27 @@ one_grown xs at i j there grown = record {
 pub all_grown_one : (xs ys : List InboxView) (at : ℕ) (i j : InboxView) → HaveGrown xs ys → slice_get ys at ≡ Some i → HasGrown i j → HaveGrown xs (slice_set ys at j)
 all_grown_one xs ys at i j grown there one = all_grown_all xs ys (slice_set ys at j) grown (one_grown ys at i j there one)
 
+-- How often all were refused
+
+refusals_set : (xs : List InboxView) (at : ℕ) (i j : InboxView) → slice_get xs at ≡ Some i → refusals_of (slice_set xs at j) + i.refused ≡ refusals_of xs + j.refused
+refusals_set [] at i j there = cc
+refusals_set (x ∷ xs) zero i j there =
+    let e : x ≡ i = cc in
+    let same : x.refused ≡ i.refused = ap (λ (v : InboxView). v.refused) e in
+    omega (arith, same)
+refusals_set (x ∷ xs) (suc at) i j there =
+    let rest : refusals_of (slice_set xs at j) + i.refused ≡ refusals_of xs + j.refused = refusals_set xs at i j there in
+    omega (arith, rest)
+
+pub on_err : {A E P : Type 0} (r : Result A E) → P → OnErr r P
+on_err (Ok x) p = tt
+on_err (Err e) p = p
+
+-- .. where one was refused as often as that more
+pub refusals_more : (xs ys : List InboxView) (at : ℕ) (i j : InboxView) (n : ℕ) → slice_get ys at ≡ Some i → refusals_of ys ≡ refusals_of xs → j.refused ≡ i.refused + n
+    → refusals_of (slice_set ys at j) ≡ refusals_of xs + n
+refusals_more xs ys at i j n there same counted = let set = refusals_set ys at i j there in omega (arith, set, same, counted)
+
 -- The channel from turn to turn
 
 same_channel_none : (q : Seen) → IsSameChannel q q
@@ -77,75 +130,118 @@ same_channel_none q = record { setup = refl; faults = refl; intake = refl; poste
 
 -- so many turns were made, on the same channel, and the inboxes took in
 pub record Draining (now : ℕ) (q : Seen) (inboxes : List InboxView) (made : ℕ) (q' : Seen) (inboxes' : List InboxView) : Type 0 where
-  pub answers : List Turn
-  pub ran : Makes now q answers q'
+  pub answers : List TurnAt
+  pub ran : MakesBy (Turned now) q answers q'
   pub count : length answers ≡ made
   pub on : GoesOn answers q'.0.half
   pub same : IsSameChannel q q'
   pub short : q.0.short ≡ true → q'.0.short ≡ true
   pub grown : HaveGrown inboxes inboxes'
+  pub taken : refusals_of inboxes' ≡ refusals_of inboxes
 
 pub draining_first : (now : ℕ) (q : Seen) (inboxes : List InboxView) → Draining now q inboxes 0 q inboxes
-draining_first now q inboxes = record { answers = []; ran = refl; count = refl; on = tt; same = same_channel_none q; short = λ short. short; grown = all_grown_none inboxes }
-
-pub draining_taken : (now : ℕ) (q : Seen) (inboxes : List InboxView) (made : ℕ) (q' : Seen) (inboxes' inboxes'' : List InboxView) → Draining now q inboxes made q' inboxes' → HaveGrown inboxes' inboxes'' → Draining now q inboxes made q' inboxes''
-draining_taken now q inboxes made q' inboxes' inboxes'' so_far more = record {
-  answers = so_far.answers;
-  ran = so_far.ran;
-  count = so_far.count;
-  on = so_far.on;
-  same = so_far.same;
-  short = so_far.short;
-  grown = all_grown_all inboxes inboxes' inboxes'' so_far.grown more;
+draining_first now q inboxes = record {
+  answers = [];
+  ran = refl;
+  count = refl;
+  on = tt;
+  same = same_channel_none q;
+  short = λ short. short;
+  grown = all_grown_none inboxes;
+  taken = refl;
 }
-
-pub draining_turned : (now : ℕ) (q : Seen) (inboxes : List InboxView) (made : ℕ) (q' : Seen) (inboxes' : List InboxView) (answer : Turn) (q'' : Seen) → Draining now q inboxes made q' inboxes' → Turned now q' answer q'' → IsSameChannel q' q'' → (q'.0.short ≡ true → q''.0.short ≡ true) → ends_it answer q''.0.half ≡ false
-    → Draining now q inboxes (made + 1) q'' inboxes'
-draining_turned now q inboxes made q' inboxes' answer q'' so_far turned same still on =
-    let count = so_far.count in
-    record {
-      answers = answer ∷ so_far.answers;
-      ran = (q', so_far.ran, so_far.on, turned);
-      count = omega arith;
-      on = on;
-      same = same_channel_all q q' q'' so_far.same same;
-      short = λ short. still (so_far.short short);
-      grown = so_far.grown;
-    }
-
--- ended before a turn
-pub drains_here : (now : ℕ) (q : Seen) (inboxes : List InboxView) (made : ℕ) (q' : Seen) (inboxes' : List InboxView) (hosts : List HostView) (turns : ℕ) (end : Drained) → Draining now q inboxes made q' inboxes' → made ≤ turns → EndsBefore end q'.0.half hosts turns made
-    → Drains now q hosts turns end q'
-drains_here now q inboxes made q' inboxes' hosts turns drained.Empty so_far few ends =
-    let count = so_far.count in record { answers = so_far.answers; last = q'; ran = so_far.ran; few = omega arith; ends = (so_far.on, ends); after = refl }
-drains_here now q inboxes made q' inboxes' hosts turns drained.TurnsSpent so_far few ends =
-    let count = so_far.count in record { answers = so_far.answers; last = q'; ran = so_far.ran; few = omega arith; ends = (so_far.on, count ∙ ends.0, ends.1); after = refl }
-drains_here now q inboxes made q' inboxes' hosts turns _ so_far few ends = absurd ends
-
--- ended since a taking in was refused
-pub drains_refused : (now : ℕ) (q : Seen) (inboxes : List InboxView) (made : ℕ) (q' : Seen) (inboxes' : List InboxView) (hosts : List HostView) (turns : ℕ) (q'' : Seen) → Draining now q inboxes made q' inboxes' → made ≤ turns → q'' ≡ left_by drained.Memory q'
-    → Drains now q hosts turns drained.Memory q''
-drains_refused now q inboxes made q' inboxes' hosts turns q'' so_far few after =
-    let count = so_far.count in record { answers = so_far.answers; last = q'; ran = so_far.ran; few = omega arith; ends = inr so_far.on; after = after }
 
 marked : (q : Seen) → q.0.short ≡ true → q ≡ left_by drained.Memory q
 marked q short = ap (λ (b : Bool). let z : Seen = (record q.0 { short = b }, q.1) in z) short
 
--- ended behind a turn
-pub drains_behind : (now : ℕ) (q : Seen) (inboxes : List InboxView) (made : ℕ) (q' : Seen) (inboxes' : List InboxView) (answer : Turn) (q'' : Seen) (hosts : List HostView) (turns : ℕ) (end : Drained) → Draining now q inboxes made q' inboxes' → made < turns → Turned now q' answer q''
-    → EndsBehind end answer q''.0.half → Drains now q hosts turns end q''
-drains_behind now q inboxes made q' inboxes' answer q'' hosts turns (drained.Stopped cause) so_far few turned ends =
-    let count = so_far.count in record { answers = answer ∷ so_far.answers; last = q''; ran = (q', so_far.ran, so_far.on, turned); few = omega arith; ends = ends; after = refl }
-drains_behind now q inboxes made q' inboxes' answer q'' hosts turns (drained.Waits until) so_far few turned ends =
-    let count = so_far.count in record { answers = answer ∷ so_far.answers; last = q''; ran = (q', so_far.ran, so_far.on, turned); few = omega arith; ends = ends; after = refl }
-drains_behind now q inboxes made q' inboxes' answer q'' hosts turns (drained.Over opened) so_far few turned ends =
-    let count = so_far.count in record { answers = answer ∷ so_far.answers; last = q''; ran = (q', so_far.ran, so_far.on, turned); few = omega arith; ends = ends; after = refl }
-drains_behind now q inboxes made q' inboxes' answer q'' hosts turns drained.Memory so_far few turned ends =
-    let count = so_far.count in
-    let short = short_by_memory now q' q'' (subst (λ (x : Turn). Turned now q' x q'') ends.0 turned) in
-    record { answers = answer ∷ so_far.answers; last = q''; ran = (q', so_far.ran, so_far.on, turned); few = omega arith; ends = inl ends; after = marked q'' short }
-drains_behind now q inboxes made q' inboxes' answer q'' hosts turns drained.Empty so_far few turned ends = absurd ends
-drains_behind now q inboxes made q' inboxes' answer q'' hosts turns drained.TurnsSpent so_far few turned ends = absurd ends
+module _ (now : ℕ) (q : Seen) (inboxes : List InboxView) (made : ℕ) (q' : Seen) (inboxes' : List InboxView) (so_far : Draining now q inboxes made q' inboxes') where
+  pub draining_taken : (inboxes'' : List InboxView) → HaveGrown inboxes' inboxes'' → refusals_of inboxes'' ≡ refusals_of inboxes' → Draining now q inboxes made q' inboxes''
+  draining_taken inboxes'' more none = record {
+    answers = so_far.answers;
+    ran = so_far.ran;
+    count = so_far.count;
+    on = so_far.on;
+    same = so_far.same;
+    short = so_far.short;
+    grown = all_grown_all inboxes inboxes' inboxes'' so_far.grown more;
+    taken = none ∙ so_far.taken;
+  }
+
+  pub draining_turned : (answer : TurnAt) (q'' : Seen) → Turned now q' answer q'' → IsSameChannel q' q'' → (q'.0.short ≡ true → q''.0.short ≡ true) → ends_it answer q''.0.half ≡ false
+      → Draining now q inboxes (made + 1) q'' inboxes'
+  draining_turned answer q'' turned same still on =
+      let count = so_far.count in
+      record {
+        answers = answer ∷ so_far.answers;
+        ran = (q', so_far.ran, so_far.on, turned);
+        count = omega arith;
+        on = on;
+        same = same_channel_all q q' q'' so_far.same same;
+        short = λ short. still (so_far.short short);
+        grown = so_far.grown;
+        taken = so_far.taken;
+      }
+
+  -- so many takings in were refused behind it
+  counted : (inboxes'' : List InboxView) (n : ℕ) → refusals_of inboxes'' ≡ refusals_of inboxes' + n → refusals_of inboxes'' ≡ refusals_of inboxes + n
+  counted inboxes'' n more = let taken = so_far.taken in omega (arith, taken, more)
+
+  -- ended so before a turn
+  drains_so : (hosts : List HostView) (turns : ℕ) (end : DrainedAt) → made ≤ turns → EndsAs end q'.0.half hosts turns so_far.answers 0 → q' ≡ left_by end q'
+      → Drains now q hosts inboxes turns end q' inboxes'
+  drains_so hosts turns end few ends after =
+      let count = so_far.count in
+      let taken = so_far.taken in
+      record { answers = so_far.answers; last = q'; ran = so_far.ran; few = omega (arith, count, few); refused = 0; counted = omega (arith, taken); ends = ends; after = after }
+
+  pub drains_here : (hosts : List HostView) (turns : ℕ) (end : DrainedAt) → made ≤ turns → EndsBefore end q'.0.half hosts turns made → Drains now q hosts inboxes turns end q' inboxes'
+  drains_here hosts turns drained.Empty few ends = drains_so hosts turns drained.Empty few (so_far.on, ends, refl) refl
+  drains_here hosts turns drained.TurnsSpent few ends = drains_so hosts turns drained.TurnsSpent few (so_far.on, so_far.count ∙ ends.0, ends.1, refl) refl
+  drains_here hosts turns _ few ends = absurd ends
+
+  -- ended since a taking in was refused
+  pub drains_refused : (hosts : List HostView) (turns : ℕ) (q'' : Seen) (inboxes'' : List InboxView) → made ≤ turns → refusals_of inboxes'' ≡ refusals_of inboxes' + 1 → q'' ≡ left_by drained.Memory q'
+      → Drains now q hosts inboxes turns drained.Memory q'' inboxes''
+  drains_refused hosts turns q'' inboxes'' few more after =
+      let count = so_far.count in
+      record {
+        answers = so_far.answers;
+        last = q';
+        ran = so_far.ran;
+        few = omega (arith, count, few);
+        refused = 1;
+        counted = counted inboxes'' 1 more;
+        ends = inr (so_far.on, refl);
+        after = after;
+      }
+
+  -- ended so behind a turn
+  drains_then : (hosts : List HostView) (turns : ℕ) (answer : TurnAt) (q'' : Seen) (end : DrainedAt) → made < turns → Turned now q' answer q''
+      → EndsAs end q''.0.half hosts turns (answer ∷ so_far.answers) 0 → q'' ≡ left_by end q'' → Drains now q hosts inboxes turns end q'' inboxes'
+  drains_then hosts turns answer q'' end few turned ends after =
+      let count = so_far.count in
+      let taken = so_far.taken in
+      record {
+        answers = answer ∷ so_far.answers;
+        last = q'';
+        ran = (q', so_far.ran, so_far.on, turned);
+        few = omega (arith, count, few);
+        refused = 0;
+        counted = omega (arith, taken);
+        ends = ends;
+        after = after;
+      }
+
+  pub drains_behind : (hosts : List HostView) (turns : ℕ) (answer : TurnAt) (q'' : Seen) (end : DrainedAt) → made < turns → Turned now q' answer q'' → EndsBehind end answer q''.0.half
+      → Drains now q hosts inboxes turns end q'' inboxes'
+  drains_behind hosts turns answer q'' (drained.Stopped cause) few turned ends = drains_then hosts turns answer q'' (drained.Stopped cause) few turned (ends, refl) refl
+  drains_behind hosts turns answer q'' (drained.Waits until) few turned ends = drains_then hosts turns answer q'' (drained.Waits until) few turned (ends, refl) refl
+  drains_behind hosts turns answer q'' (drained.Over opened) few turned ends =
+      drains_then hosts turns answer q'' (drained.Over opened) few turned (ends.0, ends.1, refl) refl
+  drains_behind hosts turns answer q'' drained.Memory few turned ends =
+      let short = short_by_memory now q' q'' (subst (λ (x : TurnAt). Turned now q' x q'') ends.0 turned) in
+      drains_then hosts turns answer q'' drained.Memory few turned (inl (ends.0, ends.1, refl)) (marked q'' short)
+  drains_behind hosts turns answer q'' _ few turned ends = absurd ends
 
 -- the mark of refused memory changes neither what always holds nor the channel
 pub right_marked : (q q' : Seen) → q' ≡ left_by drained.Memory q → IsRight q → IsRight q'

@@ -6,3 +6,4 @@ pub mod Draining
 pub mod Closing
 pub mod Same
 pub mod OtherEnds
+pub mod AtOnce

@@ -19,8 +19,8 @@ use Rattle.onfi_core.proofs.Reaching.{step_reaches}
 use Rattle.onfi_core.proofs.Refused.{after_waiting, finds_ready, waiting_posts}
 use Rattle.onfi_lun.specs.declared.lanes.any_lun.AnyLun.{AnyLun}
 use Rattle.onfi_lun.specs.Lanes.{LanesAgree}
-use Rattle.onfi_seq.specs.declared.turn.Turn.{Turn}
-use Rattle.onfi_seq.specs.declared.turn.Turn.TheVariants as turn
+use Rattle.onfi_seq.specs.declared.turn.TurnAt.{TurnAt}
+use Rattle.onfi_seq.specs.declared.turn.TurnAt.TheVariants as turn
 use Rattle.onfi_seq.specs.Driver.{Asks, AsksBelow, IsDriven, PassesTo, WaitsUntil, in_time}
 use Rattle.onfi_seq.specs.Sequencer.{Seen, channel_of}
 use Rattle.onfi_seq.specs.Turned.{Goes, LetsPass, TakesNothing, Turned}
@@ -164,7 +164,7 @@ module _ (q q' : Seen) (after : q' ≡ (record q.0 { half = q'.0.half }, q'.1)) 
 
 -- What a turn comes to that takes no item in
 
-pub turned_then : (now : ℕ) (q mid : Seen) (answer : Turn) (q' : Seen) → LetsPass now q mid → Goes now mid answer q' → Turned now q answer q'
+pub turned_then : (now : ℕ) (q mid : Seen) (answer : TurnAt) (q' : Seen) → LetsPass now q mid → Goes now mid answer q' → Turned now q answer q'
 turned_then now q mid turn.Posted q' passes goes = absurd goes
 turned_then now q mid (turn.Stopped cause) q' passes goes = inr (mid, passes, goes)
 turned_then now q mid turn.Accepted q' passes goes = absurd goes

@@ -12,8 +12,8 @@ use Rattle.onfi_core.specs.View.{accepting}
 use Rattle.onfi_core.proofs.Running.{run_faults}
 use Rattle.onfi_queue.specs.Ends.{IntakeView, after_accepting}
 use Rattle.onfi_reply.specs.Ends.{PosterView, after_posting}
-use Rattle.onfi_seq.specs.declared.turn.Turn.{Turn}
-use Rattle.onfi_seq.specs.declared.turn.Turn.TheVariants as turn
+use Rattle.onfi_seq.specs.declared.turn.TurnAt.{TurnAt}
+use Rattle.onfi_seq.specs.declared.turn.TurnAt.TheVariants as turn
 use Rattle.onfi_seq.specs.Sequencer.{IsSameChannel, Seen, channel_of, intake_ends, poster_ends}
 use Rattle.onfi_seq.specs.Turned.{Goes, LetsPass, PassesThenGoes, PlansTo, RunsTo, Turned}
 
@@ -68,7 +68,7 @@ stays_passing : (now : ℕ) (q q' : Seen) → LetsPass now q q' → Stays q q'
 stays_passing now q q' (inl (why, is)) = stays_self q q' is
 stays_passing now q q' (inr p) = stays_so q q' q'.0.half q.0.refused q.0.short (λ short. short) q'.1 (ap (λ (c : ChannelState). c.chip.faults) p.passes.kept) p.after
 
-stays_going : (now : ℕ) (q : Seen) (answer : Turn) (q' : Seen) → Goes now q answer q' → Stays q q'
+stays_going : (now : ℕ) (q : Seen) (answer : TurnAt) (q' : Seen) → Goes now q answer q' → Stays q q'
 stays_going now q turn.Posted q' g = absurd g
 stays_going now q (turn.Stopped cause) q' (inl p) = stays_planning q (outcome.Stopped cause) q.0.refused q.0.short q' (λ short. short) p
 stays_going now q (turn.Stopped cause) q' (inr (start, r)) = stays_running now start q (outcome.Stopped cause) q.0.refused q.0.short q' (λ short. short) r
@@ -90,13 +90,13 @@ same_channel_all q q' q'' a b = record {
   posters = b.posters ∙ a.posters;
 }
 
-stays_then : (now : ℕ) (q : Seen) (answer : Turn) (q' : Seen) → PassesThenGoes now q answer q' → Stays q q'
+stays_then : (now : ℕ) (q : Seen) (answer : TurnAt) (q' : Seen) → PassesThenGoes now q answer q' → Stays q q'
 stays_then now q answer q' (mid, passes, goes) =
     let a = stays_passing now q mid passes in
     let b = stays_going now mid answer q' goes in
     record { same = same_channel_all q mid q' a.same b.same; short = λ short. b.short (a.short short) }
 
-stays_by_turn : (now : ℕ) (q : Seen) (answer : Turn) (q' : Seen) → Turned now q answer q' → Stays q q'
+stays_by_turn : (now : ℕ) (q : Seen) (answer : TurnAt) (q' : Seen) → Turned now q answer q' → Stays q q'
 stays_by_turn now q turn.Posted q' t =
     stays_but q q' q'.0.half q.0.refused q.0.short (λ short. short) q.0.intake (slice_set q.0.posters t.host (after_posting t.poster t.reply)) q.1
     refl (map_set poster_ends q.0.posters t.host t.poster (after_posting t.poster t.reply) t.there refl) refl t.after
@@ -106,10 +106,10 @@ stays_by_turn now q turn.Accepted q' t =
     stays_but q q' (accepting q.0.half t.item) q.0.refused q.0.short (λ short. short) (after_accepting q.0.intake t.item) q.0.posters q.1 refl refl refl t.after
 stays_by_turn now q answer q' t = stays_then now q answer q' t
 
-pub same_by_turn : (now : ℕ) (q : Seen) (answer : Turn) (q' : Seen) → Turned now q answer q' → IsSameChannel q q'
+pub same_by_turn : (now : ℕ) (q : Seen) (answer : TurnAt) (q' : Seen) → Turned now q answer q' → IsSameChannel q q'
 same_by_turn now q answer q' t = (stays_by_turn now q answer q' t).same
 
-pub short_by_turn : (now : ℕ) (q : Seen) (answer : Turn) (q' : Seen) → Turned now q answer q' → q.0.short ≡ true → q'.0.short ≡ true
+pub short_by_turn : (now : ℕ) (q : Seen) (answer : TurnAt) (q' : Seen) → Turned now q answer q' → q.0.short ≡ true → q'.0.short ≡ true
 short_by_turn now q answer q' t = (stays_by_turn now q answer q' t).short
 
 -- what a turn without memory says

@@ -21,8 +21,8 @@ use Rattle.onfi_seq.specs.declared.offer.Offer.{Offer}
 use Rattle.onfi_seq.specs.declared.offer.Offer.TheVariants as offer
 use Rattle.onfi_seq.specs.Driver.{DriverView, Offered}
 use Rattle.onfi_seq.specs.Sequencer.{Seen, channel_of}
-use Rattle.onfi_seq.specs.declared.turn.Turn.{Turn}
-use Rattle.onfi_seq.specs.declared.turn.Turn.TheVariants as turn
+use Rattle.onfi_seq.specs.declared.turn.TurnAt.{TurnAt}
+use Rattle.onfi_seq.specs.declared.turn.TurnAt.TheVariants as turn
 use Rattle.onfi_seq.specs.Turned.{Goes, HeldBelow, IsPostRefused, IsRest, MayRunPhase, NothingPosts, OfferedAll, OfferedTo, Rests}
 
 -- Refusals of a half that goes on
@@ -67,7 +67,7 @@ planned_seen {C} state intake posters refused short d d' same =
     ap (λ (x : DriverView C). let q : Seen = (record { setup = x.0.setup; half = d'.0.half; intake = intake; posters = posters; refused = refused; short = short }, state x.1) in q) same
 
 -- how a turn ends where nothing is left to do
-pub rest_goes : (now : ℕ) (q q' : Seen) (rest : Turn) → IsRest q rest → Rests q → q' ≡ q → Goes now q rest q'
+pub rest_goes : (now : ℕ) (q q' : Seen) (rest : TurnAt) → IsRest q rest → Rests q → q' ≡ q → Goes now q rest q'
 rest_goes now q q' turn.PostFull is rests same = (rests, is, same)
 rest_goes now q q' turn.Idle is rests same = (rests, is, same)
 rest_goes now q q' _ is rests same = absurd is

@@ -12,10 +12,10 @@ use Rattle.onfi_reply.specs.declared.opened_for.OpenedFor.{OpenedFor}
 use Rattle.onfi_reply.specs.Ends.{InboxView, PosterView, Settled}
 use Rattle.onfi_reply.specs.Replies.{IsNext}
 use Rattle.onfi_seq.specs.declared.closed.Closed.{Closed}
-use Rattle.onfi_seq.specs.declared.drained.Drained.{Drained}
-use Rattle.onfi_seq.specs.declared.drained.Drained.TheVariants as drained
-use Rattle.onfi_seq.specs.declared.turn.Turn.{Turn}
-use Rattle.onfi_seq.specs.declared.turn.Turn.TheVariants as turn
+use Rattle.onfi_seq.specs.declared.drained.DrainedAt.{DrainedAt}
+use Rattle.onfi_seq.specs.declared.drained.DrainedAt.TheVariants as drained
+use Rattle.onfi_seq.specs.declared.turn.TurnAt.{TurnAt}
+use Rattle.onfi_seq.specs.declared.turn.TurnAt.TheVariants as turn
 use Rattle.onfi_seq.specs.Sequencer.{Seen, SequencerFields}
 use Rattle.onfi_seq.specs.Turned.{Turned}
 
@@ -37,20 +37,29 @@ abbrev pub AreNextBehind : OpenedFor → List Reply → List Reply → Type 0
 AreNextBehind opened before [] = Unit {0}
 AreNextBehind opened before (r ∷ rs) = IsNext opened before r × AreNextBehind opened (before ++ r ∷ []) rs
 
--- more waits at the end, and nothing else changed
+-- more waits at the end, refusals of memory may have been counted, and nothing else changed
 pub record HasGrown (old new : InboxView) : Type 0 where
   pub more : List Reply
-  pub after : new ≡ record old { waiting = old.waiting ++ more }
+  pub after : new ≡ record old { waiting = old.waiting ++ more; refused = new.refused }
   pub next : AreNextBehind old.opened (old.given ++ old.waiting) more
+  pub refused : old.refused ≤ new.refused
 
 -- .. of each of these
 pub record HaveGrown (old new : List InboxView) : Type 0 where
   pub count : length new ≡ length old
   pub each : (at : ℕ) (i i' : InboxView) → slice_get old at ≡ Some i → slice_get new at ≡ Some i' → HasGrown i i'
 
+abbrev pub total_of : List ℕ → ℕ
+total_of [] = 0
+total_of (n ∷ ns) = n + total_of ns
+
+-- how often a taking in of these was refused memory
+abbrev pub refusals_of : List InboxView → ℕ
+refusals_of inboxes = total_of (map (λ (i : InboxView). i.refused) inboxes)
+
 -- ---- draining
 -- what ends a draining: Stopped and Waits, and Over and Memory where no phase is left
-abbrev pub ends_it : Turn → HalfState → Bool
+abbrev pub ends_it : TurnAt → HalfState → Bool
 ends_it (turn.Stopped cause) h = true
 ends_it (turn.Waits until) h = true
 ends_it (turn.Over opened) h = none_left h
@@ -63,17 +72,17 @@ ends_it turn.PostFull h = false
 ends_it turn.Idle h = false
 
 -- the last of these answers, if there is one, doesn't end a draining
-abbrev pub GoesOn : List Turn → HalfState → Type 0
+abbrev pub GoesOn : List TurnAt → HalfState → Type 0
 GoesOn [] h = Unit {0}
 GoesOn (answer ∷ answers) h = ends_it answer h ≡ false
 
--- the turns at the moment gave these answers, the last first, each from where the one before it ended, and none but the last ends a draining
-abbrev pub Makes : ℕ → Seen → List Turn → Seen → Type 0
-Makes now q [] q' = q' ≡ q
-Makes now q (answer ∷ answers) q' = (mid : Seen) × Makes now q answers mid × GoesOn answers mid.0.half × Turned now mid answer q'
+-- such turns gave these answers, the last first, each from where the one before it ended, and none but the last ends a draining
+abbrev pub MakesBy : (Seen → TurnAt → Seen → Type 0) → Seen → List TurnAt → Seen → Type 0
+MakesBy Turns q [] q' = q' ≡ q
+MakesBy Turns q (answer ∷ answers) q' = (mid : Seen) × MakesBy Turns q answers mid × GoesOn answers mid.0.half × Turns mid answer q'
 
 -- the last answer
-abbrev pub IsLast : Turn → List Turn → Type 0
+abbrev pub IsLast : TurnAt → List TurnAt → Type 0
 IsLast answer [] = ⊥
 IsLast answer (last ∷ answers) = last ≡ answer
 
@@ -90,18 +99,19 @@ pub record IsAnswered (h : HalfState) (hosts : List HostView) : Type 0 where
 abbrev pub IsShort : HalfState → List HostView → Type 0
 IsShort h hosts = AreAccepted h hosts → length h.posted ≢ length h.accepted
 
--- How the draining ended. Empty and TurnsSpent: no turn ended it. Memory: the last turn answered so with no phase left, or no turn
--- ended it and a taking in was refused.
-abbrev pub EndsAs : Drained → HalfState → List HostView → ℕ → List Turn → Type 0
-EndsAs drained.Empty h hosts turns answers = GoesOn answers h × IsAnswered h hosts
-EndsAs drained.TurnsSpent h hosts turns answers = GoesOn answers h × (length answers ≡ turns) × IsShort h hosts
-EndsAs (drained.Stopped cause) h hosts turns answers = IsLast (turn.Stopped cause) answers
-EndsAs (drained.Waits until) h hosts turns answers = IsLast (turn.Waits until) answers
-EndsAs (drained.Over opened) h hosts turns answers = IsLast (turn.Over opened) answers × (none_left h ≡ true)
-EndsAs drained.Memory h hosts turns answers = (IsLast turn.Memory answers × (none_left h ≡ true)) ⊎ GoesOn answers h
+-- How the draining ended, and how many takings in of it were refused. Empty and TurnsSpent: no turn ended it. Memory: the last
+-- turn answered so with no phase left; or no turn ended it, and a taking in was refused.
+abbrev pub EndsAs : DrainedAt → HalfState → List HostView → ℕ → List TurnAt → ℕ → Type 0
+EndsAs drained.Empty h hosts turns answers refused = GoesOn answers h × IsAnswered h hosts × (refused ≡ 0)
+EndsAs drained.TurnsSpent h hosts turns answers refused = GoesOn answers h × (length answers ≡ turns) × IsShort h hosts × (refused ≡ 0)
+EndsAs (drained.Stopped cause) h hosts turns answers refused = IsLast (turn.Stopped cause) answers × (refused ≡ 0)
+EndsAs (drained.Over opened) h hosts turns answers refused = IsLast (turn.Over opened) answers × (none_left h ≡ true) × (refused ≡ 0)
+EndsAs drained.Memory h hosts turns answers refused =
+    (IsLast turn.Memory answers × (none_left h ≡ true) × (refused ≡ 0)) ⊎ (GoesOn answers h × (refused ≡ 1))
+EndsAs (drained.Waits until) h hosts turns answers refused = IsLast (turn.Waits until) answers × (refused ≡ 0)
 
 -- a draining that ends by want of memory leaves the mark of it; another end changes nothing
-abbrev pub left_by : Drained → Seen → Seen
+abbrev pub left_by : DrainedAt → Seen → Seen
 left_by drained.Memory q = (record q.0 { short = true }, q.1)
 left_by drained.Empty q = q
 left_by drained.TurnsSpent q = q
@@ -109,18 +119,24 @@ left_by (drained.Stopped cause) q = q
 left_by (drained.Waits until) q = q
 left_by (drained.Over opened) q = q
 
--- no more turns than those were made, all at the moment, and the end is told as it was
-pub record Drains (now : ℕ) (q : Seen) (hosts : List HostView) (turns : ℕ) (end : Drained) (q' : Seen) : Type 0 where
-  pub answers : List Turn
+-- no more such turns than those were made, the end is told as it was, and so many takings in were refused
+pub record DrainsBy (Turns : Seen → TurnAt → Seen → Type 0) (q : Seen) (hosts : List HostView) (inboxes : List InboxView) (turns : ℕ) (end : DrainedAt) (q' : Seen) (inboxes' : List InboxView) : Type 0 where
+  pub answers : List TurnAt
   pub last : Seen
-  pub ran : Makes now q answers last
+  pub ran : MakesBy Turns q answers last
   pub few : length answers ≤ turns
-  pub ends : EndsAs end last.0.half hosts turns answers
+  pub refused : ℕ
+  pub counted : refusals_of inboxes' ≡ refusals_of inboxes + refused
+  pub ends : EndsAs end last.0.half hosts turns answers refused
   pub after : q' ≡ left_by end last
+
+-- .. by turns at the moment
+abbrev pub Drains : ℕ → Seen → List HostView → List InboxView → ℕ → DrainedAt → Seen → List InboxView → Type 0
+Drains now q hosts inboxes turns end q' inboxes' = DrainsBy (Turned now) q hosts inboxes turns end q' inboxes'
 
 -- ---- inside a draining
 -- how it ends before a turn, where so many are made
-abbrev pub EndsBefore : Drained → HalfState → List HostView → ℕ → ℕ → Type 0
+abbrev pub EndsBefore : DrainedAt → HalfState → List HostView → ℕ → ℕ → Type 0
 EndsBefore drained.Empty h hosts turns made = IsAnswered h hosts
 EndsBefore drained.TurnsSpent h hosts turns made = (made ≡ turns) × IsShort h hosts
 EndsBefore (drained.Stopped cause) h hosts turns made = ⊥
@@ -129,7 +145,7 @@ EndsBefore (drained.Over opened) h hosts turns made = ⊥
 EndsBefore drained.Memory h hosts turns made = ⊥
 
 -- how it ends behind that answer
-abbrev pub EndsBehind : Drained → Turn → HalfState → Type 0
+abbrev pub EndsBehind : DrainedAt → TurnAt → HalfState → Type 0
 EndsBehind (drained.Stopped cause) answer h = answer ≡ turn.Stopped cause
 EndsBehind (drained.Waits until) answer h = answer ≡ turn.Waits until
 EndsBehind (drained.Over opened) answer h = (answer ≡ turn.Over opened) × (none_left h ≡ true)
@@ -144,10 +160,6 @@ AllSettled [] [] = Unit {0}
 AllSettled (p ∷ ps) (i ∷ is) = Settled p i × AllSettled ps is
 AllSettled [] (i ∷ is) = ⊥
 AllSettled (p ∷ ps) [] = ⊥
-
-abbrev pub total_of : List ℕ → ℕ
-total_of [] = 0
-total_of (n ∷ ns) = n + total_of ns
 
 -- where as much was posted as accepted, and as much accepted as was sent, what each host sent is what was accepted of it, and each accepted item has exactly one posted reply
 pub record IsComplete (h : HalfState) (hosts : List HostView) : Type 0 where

@@ -11,8 +11,8 @@ use Rattle.onfi_queue.specs.Ends.{SawEmpty, after_accepting}
 use Rattle.onfi_reply.specs.Ends.{PosterView, SawFull, after_posting}
 use Rattle.onfi_seq.specs.declared.offer.Offer.{Offer}
 use Rattle.onfi_seq.specs.declared.offer.Offer.TheVariants as offer
-use Rattle.onfi_seq.specs.declared.turn.Turn.{Turn}
-use Rattle.onfi_seq.specs.declared.turn.Turn.TheVariants as turn
+use Rattle.onfi_seq.specs.declared.turn.TurnAt.{TurnAt}
+use Rattle.onfi_seq.specs.declared.turn.TurnAt.TheVariants as turn
 use Rattle.onfi_seq.specs.Driver.{Passes, StartsNext}
 use Rattle.onfi_seq.specs.Sequencer.{Seen, channel_of}
 
@@ -117,7 +117,7 @@ pub record RunsTo (now start : ℕ) (q : Seen) (o : Outcome) (refused short : Bo
   pub after : q' ≡ (record q.0 { half = q'.0.half; refused = refused; short = short }, q'.1)
 
 -- what a turn does that takes no item in, once time has passed
-abbrev pub Goes : ℕ → Seen → Turn → Seen → Type 0
+abbrev pub Goes : ℕ → Seen → TurnAt → Seen → Type 0
 Goes now q turn.Posted q' = ⊥
 Goes now q (turn.Stopped cause) q' =
     PlansTo q (outcome.Stopped cause) q.0.refused q.0.short q'
@@ -132,11 +132,11 @@ Goes now q turn.PostFull q' = Rests q × (q.0.half.held ≢ []) × (q' ≡ q)
 Goes now q turn.Idle q' = Rests q × (q.0.half.held ≡ []) × (q' ≡ q)
 
 -- time passes, then that is done
-abbrev pub PassesThenGoes : ℕ → Seen → Turn → Seen → Type 0
+abbrev pub PassesThenGoes : ℕ → Seen → TurnAt → Seen → Type 0
 PassesThenGoes now q answer q' = (mid : Seen) × LetsPass now q mid × Goes now mid answer q'
 
 -- what each answer of a turn at the moment says
-abbrev pub Turned : ℕ → Seen → Turn → Seen → Type 0
+abbrev pub Turned : ℕ → Seen → TurnAt → Seen → Type 0
 Turned now q turn.Posted q' = Posts q q'
 Turned now q (turn.Stopped cause) q' = (NothingPosts q 4 × (q.0.half.stopped ≡ Some cause) × (q' ≡ q)) ⊎ PassesThenGoes now q (turn.Stopped cause) q'
 Turned now q turn.Accepted q' = Takes q q'
@@ -168,7 +168,7 @@ HeldBelow q hosts offer.Full = q.0.half.held ≢ []
 HeldBelow q hosts offer.Nothing = (host : ℕ) → host < hosts → held_for host q.0.half ≡ []
 
 -- how a turn ends where nothing is left to do
-abbrev pub IsRest : Seen → Turn → Type 0
+abbrev pub IsRest : Seen → TurnAt → Type 0
 IsRest q turn.PostFull = q.0.half.held ≢ []
 IsRest q turn.Idle = q.0.half.held ≡ []
 IsRest q turn.Posted = ⊥

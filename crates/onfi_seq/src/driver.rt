@@ -29,14 +29,14 @@ mod passing;
 
 /// A half with its chip, the chip's LUNs in their typed phases, and what plans its batches.
 #[derive(Drop)]
-pub(crate) struct Driver<P: Planner, C: Chip> {
+pub(crate) struct Driver<C: Chip, P: Planner> {
     planner: P,
     half: Half,
     chip: C,
     lanes: Lanes,
 }
 
-impl<P: Planner, C: Chip> Model for Driver<P, C> {
+impl<C: Chip, P: Planner> Model for Driver<C, P> {
     ghost use Rattle.onfi_core.specs.Steps.{IsPromised};
     ghost use Rattle.onfi_seq.specs.Driver.{DriverView, IsDriven};
 
@@ -47,7 +47,7 @@ impl<P: Planner, C: Chip> Model for Driver<P, C> {
     ghost invariant = { λ d. IsDriven (IsPromised P.exact P.certifies) d.half.setup d.half.lent d.half.state (C.state d.chip) d.lanes };
 }
 
-impl<P: Planner, C: Chip> Driver<P, C> {
+impl<C: Chip, P: Planner> Driver<C, P> {
     /// Nothing is accepted yet, and the chip's LUNs are idle.
     ///
     /// # Errors
@@ -57,7 +57,7 @@ impl<P: Planner, C: Chip> Driver<P, C> {
         setup: Setup,
         planner: P,
         chip: C,
-    ) -> Result<Driver<P, C>, AllocError>
+    ) -> Result<Driver<C, P>, AllocError>
     where
         P: Drop,
         C: Drop,
@@ -135,7 +135,7 @@ impl<P: Planner, C: Chip> Driver<P, C> {
     /// Plans, and answers when the plan ends, in ns of the channel's clock.
     ///
     /// # Errors
-    /// As [`Half::plan`].
+    /// As [`Half::plan_by`].
     pub(crate) fn plan(&mut self, alloc: Global) -> Result<u64, PlanRefusal>
         ensures step { (channel : ℕ) → Step self.old.0.setup (channel_in C.state self.old) (event.Plan channel) (planned_outcome result) (channel_in C.state self.new) }
         ensures same { self.new ≡ (record self.old.0 { half = self.new.0.half }, self.old.1) }
@@ -143,7 +143,7 @@ impl<P: Planner, C: Chip> Driver<P, C> {
         ensures accepted { self.new.0.half.accepted ≡ self.old.0.half.accepted }
         ensures posted { self.new.0.half.posted ≡ self.old.0.half.posted }
     {
-        self.half.plan(alloc, &self.planner)
+        self.half.plan_by(alloc, &self.planner)
     }
 
     /// Runs the undone phase of least start on the chip, if it doesn't start behind that moment, in ns. Memory is asked for

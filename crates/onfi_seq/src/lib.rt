@@ -3,9 +3,13 @@
 //!
 //! A [`Sequencer`] holds the channel's half, its chip with the typed phases of its LUNs, the intake of the submission queue
 //! and the posters of the four completion queues. Each [`Sequencer::turn`] does one thing, the first that it can, and says
-//! why nothing earlier was done. Hosts submit and collect from other threads meanwhile; no lock stands round the channel.
+//! why nothing earlier was done; [`Sequencer::turn_at`] does so for who has a clock. Hosts submit and collect from other
+//! threads meanwhile; no lock stands round the channel.
+//!
+//! The typed phases of `onfi_lun` are handed out from here too.
 #![tactic(auto)]
 
+mod clockless;
 mod closed;
 mod drained;
 mod driver;
@@ -18,9 +22,13 @@ mod sequencer;
 mod turn;
 
 pub use closed::Closed;
-pub use drained::Drained;
+pub use drained::{Drained, DrainedAt};
 pub use ends::Ends;
 pub use gate::Gate;
 pub use laws::no_clock;
+pub use onfi_lun::{
+    BatchFault, Commanded, Idle, Lanes, Lun, Phase, Posted, Posting, Queuing, Refused, Target,
+    Working, run_batch,
+};
 pub use sequencer::Sequencer;
-pub use turn::Turn;
+pub use turn::{Turn, TurnAt};

@@ -1,17 +1,20 @@
 //! The sequencer of one channel.
 
 ghost use Rattle.std.specs.Prelude.{◌≡◌, ◌↔◌, ℕ, ◌<◌, ◌≤◌, false, length, IfOk, IfSome, IsTrue, MatchOption, None, Some};
-ghost use Rattle.onfi_plan.specs.Certificate.{certificate_in};
+ghost use Rattle.onfi_schedule.specs.Schedule.{Optimal, finish};
+ghost use Rattle.onfi_check.specs.Tree.{AcceptsTokens};
 ghost use Rattle.onfi_core.specs.Kept.{first_half};
 ghost use Rattle.onfi_core.specs.Queues.{IsFresh};
 ghost use Rattle.onfi_core.specs.Steps.{IsOptimal, IsPromised, none_left};
 ghost use Rattle.onfi_core.specs.Unanswered.{unanswered_senders};
+ghost use Rattle.onfi_core.specs.View.{plainly_with, planning_with};
 ghost use Rattle.onfi_seq.specs.Sequencer.{AreFreshPosters, IsFreshIntake, IsRight, seen_in};
 
 use crate::driver::Driver;
 use onfi_chip::Chip;
 use onfi_core::Setup;
-use onfi_plan::{Plan, Planner};
+use onfi_plan::{PlainPlanner, Plan, Planner};
+use onfi_planner::Planned;
 use onfi_problem::Problem;
 use onfi_queue::Intake;
 use onfi_reply::Poster;
@@ -23,13 +26,14 @@ mod draining;
 mod turning;
 
 /// The sequencer of one channel: its half, its planner, its chip, the intake of its submission queue and the posters of its
-/// four completion queues. One thread drives it; hosts use their ends from threads of their own meanwhile.
+/// four completion queues. One thread drives it; hosts use their ends from threads of their own meanwhile. Where no planner is
+/// named it is the plain one, whose plans are optimal, as tokens show.
 ///
 /// Contracts see the setup, the half's state, the two kinds of ends, whether a planning was refused since the last phase,
 /// whether a turn or a draining ever answered Memory, and the chip.
 #[derive(Drop)]
-pub struct Sequencer<P: Planner, C: Chip> {
-    driver: Driver<P, C>,
+pub struct Sequencer<C: Chip, P: Planner = PlainPlanner> {
+    driver: Driver<C, P>,
     intake: Intake,
     /// By host.
     posters: [Poster; 4],
@@ -43,7 +47,7 @@ pub struct Sequencer<P: Planner, C: Chip> {
     turns: u64,
 }
 
-impl<P: Planner, C: Chip> Model for Sequencer<P, C> {
+impl<C: Chip, P: Planner> Model for Sequencer<C, P> {
     ghost use Rattle.onfi_seq.specs.Sequencer.{SequencerView, IsKept};
 
     ghost Value = { SequencerView C };
@@ -58,14 +62,51 @@ impl<P: Planner, C: Chip> Model for Sequencer<P, C> {
         q.accepted_by };
 }
 
-impl<P: Planner, C: Chip> Sequencer<P, C> {
-    /// The sequencer of a channel of a setup with four hosts, whose batches that planner plans, over its chip as that opened,
-    /// with the intake and the posters of the channel's queues as those were opened: for the setup's geometry, with its
-    /// capacities, host h at place h.
+impl<C: Chip> Sequencer<C> {
+    /// The sequencer of a channel of a setup with four hosts, whose batches the plain planner plans, over its chip as that
+    /// opened, with the intake and the posters of the channel's queues as those were opened: for the setup's geometry, with
+    /// its capacities, host h at place h.
+    ///
+    /// # Errors
+    /// Want of memory; chip, intake and posters are dropped then.
+    pub fn open(
+        alloc: Global,
+        setup: Setup,
+        channel: u8,
+        chip: C,
+        intake: Intake,
+        posters: [Poster; 4],
+    ) -> Result<Sequencer<C>, AllocError>
+    where
+        C: Drop,
+        requires hosts { setup.hosts ≡ 4 }
+        requires channel { channel < setup.channels }
+        requires chip { IsFresh setup (C.state chip) }
+        requires intake { IsFreshIntake setup channel intake }
+        requires posters { AreFreshPosters setup channel posters }
+        ensures { IfOk result (λ q. q ≡ (record { setup = setup; half = first_half setup; intake = intake; posters = posters; refused = false; short = false }, chip)) }
+    {
+        Sequencer::open_with(alloc, setup, channel, PlainPlanner, chip, intake, posters)
+    }
+
+    /// The problem of the last accepting planning and what was planned for it: an optimal schedule, when it ends, and tokens
+    /// that show it. None before a planning.
+    pub fn last(&self) -> Option<(&Problem, &Planned)>
+        ensures last { MatchOption result (self.now.0.half.last ≡ None) (λ r. self.now.0.half.last ≡ Some (plainly_with r.0.now.problem r.1.now)) }
+        ensures optimal { IfSome result (λ r. Optimal r.0.now.problem r.1.now.schedule) }
+        ensures finish { IfSome result (λ r. r.1.now.finish ≡ finish r.0.now.problem r.1.now.schedule) }
+        ensures accepted { IfSome result (λ r. AcceptsTokens r.1.now.cert.items r.0.now.problem r.1.now.finish) }
+    {
+        self.driver.half().last()
+    }
+}
+
+impl<C: Chip, P: Planner> Sequencer<C, P> {
+    /// As [`Sequencer::open`], with a planner that plans its batches.
     ///
     /// # Errors
     /// Want of memory; planner, chip, intake and posters are dropped then.
-    pub fn open(
+    pub fn open_with(
         alloc: Global,
         setup: Setup,
         channel: u8,
@@ -73,7 +114,7 @@ impl<P: Planner, C: Chip> Sequencer<P, C> {
         chip: C,
         intake: Intake,
         posters: [Poster; 4],
-    ) -> Result<Sequencer<P, C>, AllocError>
+    ) -> Result<Sequencer<C, P>, AllocError>
     where
         P: Drop,
         C: Drop,
@@ -104,14 +145,13 @@ impl<P: Planner, C: Chip> Sequencer<P, C> {
         let _half = self.driver.half();
     }
 
-    /// The problem and the plan of the last accepting planning; none before one.
-    pub fn last(&self) -> Option<(&Problem, &Plan)>
-        ensures last { MatchOption result (self.now.0.half.last ≡ None)
-            (λ r. self.now.0.half.last ≡ Some (record { problem = r.0.now.problem; schedule = r.1.now.schedule; finish = r.1.now.finish; below = r.1.now.below; cert = certificate_in r.1.now.cert })) }
+    /// The problem and the plan of the last accepting planning, by whichever planner; none before one.
+    pub fn last_plan(&self) -> Option<(&Problem, &Plan)>
+        ensures last { MatchOption result (self.now.0.half.last ≡ None) (λ r. self.now.0.half.last ≡ Some (planning_with r.0.now.problem r.1.now)) }
         ensures promised { IfSome self.now.0.half.last (IsPromised P.exact P.certifies) }
         ensures optimal { IsTrue P.exact → IfSome self.now.0.half.last IsOptimal }
     {
-        self.driver.half().last()
+        self.driver.half().last_plan()
     }
 
     /// Whether a turn or a draining answered Memory since the sequencer opened. Once so, it stays so.

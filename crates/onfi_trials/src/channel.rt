@@ -64,7 +64,7 @@ fn event_of(alloc: Global, row: &Row) -> Result<Option<Event>, AllocError> {
 #[derive(Drop)]
 struct Played {
     alloc: Global,
-    core: Core<ChosenPlanner, SimChip>,
+    core: Core<SimChip, ChosenPlanner>,
 }
 
 impl Model for Played {
@@ -83,7 +83,7 @@ impl Played {
         let Ok(chips) = fresh_chips(alloc, setup, stage) else {
             return Err(CoreFault::Memory);
         };
-        let core = Core::open(alloc, setup, planner, chips)?;
+        let core = Core::open_with(alloc, setup, planner, chips)?;
         if setup.channels != 1 {
             return Err(CoreFault::Chips);
         }
@@ -95,7 +95,7 @@ impl Played {
         for _time in 0..times {
             match row.word {
                 Word::Batch => self.set_batch(row.numbers[0])?,
-                Word::Last => say_plan(rt, self.core.last(0))?,
+                Word::Last => say_plan(rt, self.core.last_plan(0))?,
                 _ => self.step(rt, row)?,
             }
         }

@@ -5,6 +5,7 @@
 mod channel;
 mod ended;
 mod judging;
+mod page;
 mod planning;
 mod rows;
 mod sample;
@@ -15,6 +16,7 @@ mod stage;
 use crate::channel::{run_events, step_by_step};
 use crate::ended::Ended;
 use crate::judging::{judge_text, judge_tokens};
+use crate::page::play_page;
 use crate::planning::{plan_apart, plan_in_parts, plan_remembering, plan_running};
 use crate::rows::read_rows;
 use crate::serving::serve;
@@ -52,6 +54,7 @@ fn try_calls<R: Input + Print + Threads + Wait + Sync>(
         "core" => step_by_step(rt, alloc, read_rows(rt, alloc)?.as_slice()),
         "events" => run_events(rt, alloc, read_rows(rt, alloc)?.as_slice()),
         "sequencer" => serve(rt, alloc, read_rows(rt, alloc)?.as_slice()),
+        "page" => play_page(rt, alloc),
         _ => Err(Ended::NoTrial),
     }
 }
@@ -72,7 +75,7 @@ fn main(rt: HostRuntime) -> ExitCode {
         }
         Err(Ended::NoTrial) => {
             let _ = rt.eprintln(
-                "usage: onfi_trials apart|running|parts|remembering|tokens|text|core|events|sequencer",
+                "usage: onfi_trials apart|running|parts|remembering|tokens|text|core|events|sequencer|page",
             );
             ExitCode::from(5)
         }

@@ -139,7 +139,8 @@ fn number_of(field: Option<&[u8]>) -> u64 {
     }
 }
 
-fn read_input(rt: &impl Input, alloc: Global) -> Result<Vec<u8>, Ended> {
+/// All of standard input.
+pub(crate) fn read_input(rt: &impl Input, alloc: Global) -> Result<Vec<u8>, Ended> {
     let mut text = Vec::new(alloc);
     match rt.reader().read_to_end(&mut text) {
         Ok(_) => Ok(text),
@@ -159,7 +160,8 @@ fn row_of(record: &ByteRecord) -> Row {
     }
 }
 
-fn rows_in(alloc: Global, text: &[u8]) -> Result<Vec<Row>, AllocError> {
+/// The rows of a text.
+pub(crate) fn rows_in(alloc: Global, text: &[u8]) -> Result<Vec<Row>, AllocError> {
     let mut rows = Vec::new(alloc);
     for record in &read_records(alloc, text)? {
         rows.push(row_of(record))?;

@@ -40,6 +40,19 @@ fn say_return(rt: &impl Print, why: &str, request: &Request) -> Result<(), Ended
     Ok(())
 }
 
+/// What came of an event that came to something, by the name of what it tells.
+fn say_step(rt: &impl Print, outcome: &Outcome) -> Result<(), Ended> {
+    match outcome {
+        Outcome::Submitted(serial) => println!(rt; "Submitted {{ serial: {serial} }}")?,
+        Outcome::Accepted(place) => println!(rt; "Accepted {{ place: {place} }}")?,
+        Outcome::Planned(finish) => println!(rt; "Planned {{ finish: {finish} }}")?,
+        Outcome::Phase(start) => println!(rt; "Phase {{ start: {start} }}")?,
+        Outcome::Posted(place) => println!(rt; "Posted {{ place: {place} }}")?,
+        outcome => println!(rt; "{outcome:?}")?,
+    }
+    Ok(())
+}
+
 pub(crate) fn say_outcome(rt: &impl Print, outcome: &Outcome) -> Result<(), Ended> {
     match outcome {
         Outcome::Collected(reply) => say_reply(rt, reply),
@@ -49,10 +62,7 @@ pub(crate) fn say_outcome(rt: &impl Print, outcome: &Outcome) -> Result<(), Ende
             println!(rt; "{fault:?}, and back comes a request of {:?}", request.kind)?;
             Ok(())
         }
-        outcome => {
-            println!(rt; "{outcome:?}")?;
-            Ok(())
-        }
+        outcome => say_step(rt, outcome),
     }
 }
 
@@ -70,14 +80,15 @@ pub(crate) fn say_plan(rt: &impl Print, last: Option<(&Problem, &Plan)>) -> Resu
         println!(rt; "no plan")?;
         return Ok(());
     };
-    println!(rt; "finish {} below {}", plan.finish, plan.below)?;
-    for starts in plan.schedule.rest() {
+    println!(rt; "finish {} below {}", plan.planned.finish, plan.below)?;
+    let schedule = &plan.planned.schedule;
+    for starts in schedule.rest() {
         println!(rt; "rest {:?}", starts.as_slice())?;
     }
-    for placed in plan.schedule.groups() {
+    for placed in schedule.groups() {
         say_group(rt, placed)?;
     }
-    match plan.cert.tokens() {
+    match plan.tokens() {
         Some(tokens) => {
             for token in tokens {
                 println!(rt; "{token:?}")?;

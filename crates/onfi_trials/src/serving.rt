@@ -11,7 +11,7 @@ use onfi_planners::ChosenPlanner;
 use onfi_queue::{Host, SubmitFault};
 use onfi_reply::Inbox;
 use onfi_request::{Reply, Request};
-use onfi_seq::{Drained, Ends, Gate, Sequencer, Turn};
+use onfi_seq::{Drained, DrainedAt, Ends, Gate, Sequencer, Turn, TurnAt};
 use onfi_timing::Kind;
 use std::alloc::Global;
 use std::marker::Model;
@@ -34,16 +34,13 @@ impl Gate for Watch {
     }
 }
 
-/// The moment of who has no clock.
-const NO_CLOCK: u64 = u64::MAX;
-
 /// A channel with its sequencer, over a simulated chip, and the ends of its four hosts. All are used from one thread.
 ///
 /// Contracts see which submission queue it serves.
 #[derive(Drop)]
 struct Served {
     alloc: Global,
-    sequencer: Sequencer<ChosenPlanner, SimChip>,
+    sequencer: Sequencer<SimChip, ChosenPlanner>,
     hosts: [Host; 4],
     inboxes: [Inbox; 4],
     gate: Watch,
@@ -74,7 +71,9 @@ impl Served {
             hosts,
             inboxes,
         } = ends;
-        let sequencer = Sequencer::open(alloc, setup, channel, planner, chip, intake, posters)?;
+        let sequencer = Sequencer::open_with(
+            alloc, setup, channel, planner, chip, intake, posters,
+        )?;
         let gate = Watch {
             channel,
             begun: 0,
@@ -95,14 +94,14 @@ impl Served {
         for _time in 0..times {
             match row.word {
                 Word::Submit(kind) => self.send(rt, kind, row)?,
-                Word::Turn => self.turn(rt, NO_CLOCK)?,
-                Word::TurnAt => self.turn(rt, first)?,
+                Word::Turn => self.turn(rt)?,
+                Word::TurnAt => self.turn_at(rt, first)?,
                 Word::Turns => self.turns(rt)?,
-                Word::Drain => self.drain(rt, first, NO_CLOCK)?,
-                Word::DrainAt => self.drain(rt, first, second)?,
+                Word::Drain => self.drain(rt, first)?,
+                Word::DrainAt => self.drain_at(rt, first, second)?,
                 Word::Collect => self.say_replies(rt, first)?,
                 Word::Unanswered => self.say_unanswered(rt)?,
-                Word::Last => say_plan(rt, self.sequencer.last())?,
+                Word::Last => say_plan(rt, self.sequencer.last_plan())?,
                 Word::Batch => self.set_batch(first)?,
                 _ => return Err(Ended::NoTrial),
             }
@@ -153,9 +152,9 @@ impl Served {
         Ok(())
     }
 
-    /// A turn at that moment, told.
-    fn turn<R: Print + Wait>(&mut self, rt: &R, now: u64) -> Result<(), Ended> {
-        let turn = self.next_turn(rt, now)?;
+    /// A turn, told.
+    fn turn<R: Print + Wait>(&mut self, rt: &R) -> Result<(), Ended> {
+        let turn = self.next_turn(rt)?;
         println!(rt; "{turn:?}")?;
         Ok(())
     }
@@ -164,7 +163,7 @@ impl Served {
     fn turns<R: Print + Wait>(&mut self, rt: &R) -> Result<(), Ended> {
         let (mut accepted, mut posted) = (0u32, 0u32);
         for _turn in 0..1_000u32 {
-            match self.next_turn(rt, NO_CLOCK)? {
+            match self.next_turn(rt)? {
                 Turn::Accepted => accepted = accepted.saturating_add(1),
                 Turn::Posted => posted = posted.saturating_add(1),
                 Turn::Planned | Turn::Phase => {}
@@ -177,12 +176,25 @@ impl Served {
         Err(Ended::NoTrial)
     }
 
-    /// A turn at that moment; once more where memory was refused.
-    fn next_turn<R: Print + Wait>(&mut self, rt: &R, now: u64) -> Result<Turn, Ended> {
+    /// A turn; once more where memory was refused.
+    fn next_turn<R: Print + Wait>(&mut self, rt: &R) -> Result<Turn, Ended> {
         for _try in 0..2u8 {
-            let turn = self.make_turn(rt, now);
+            let turn = self.make_turn(rt);
             if turn != Turn::Memory {
                 return Ok(turn);
+            }
+            self.say_memory(rt)?;
+        }
+        Err(Ended::Memory)
+    }
+
+    /// A turn at that moment, told; once more where memory was refused.
+    fn turn_at<R: Print + Wait>(&mut self, rt: &R, now: u64) -> Result<(), Ended> {
+        for _try in 0..2u8 {
+            let turn = self.make_turn_at(rt, now);
+            if turn != TurnAt::Memory {
+                println!(rt; "{turn:?}")?;
+                return Ok(());
             }
             self.say_memory(rt)?;
         }
@@ -201,8 +213,12 @@ impl Served {
         Ok(())
     }
 
-    fn make_turn<R: Wait>(&mut self, rt: &R, now: u64) -> Turn {
-        self.sequencer.turn(rt, self.alloc, &mut self.gate, now)
+    fn make_turn<R: Wait>(&mut self, rt: &R) -> Turn {
+        self.sequencer.turn(rt, self.alloc, &mut self.gate)
+    }
+
+    fn make_turn_at<R: Wait>(&mut self, rt: &R, now: u64) -> TurnAt {
+        self.sequencer.turn_at(rt, self.alloc, &mut self.gate, now)
     }
 
     /// Host and serial of each item that waits for its reply; once more where memory was refused.
@@ -221,9 +237,9 @@ impl Served {
     }
 
     /// Drains the channel, told; once more where memory was refused, which may also spend its turns.
-    fn drain<R: Print + Wait>(&mut self, rt: &R, turns: u64, now: u64) -> Result<(), Ended> {
+    fn drain<R: Print + Wait>(&mut self, rt: &R, turns: u64) -> Result<(), Ended> {
         for _try in 0..2u8 {
-            match self.make_draining(rt, turns, now) {
+            match self.make_draining(rt, turns) {
                 Drained::Memory => println!(rt; "memory")?,
                 Drained::TurnsSpent if turns > 0 => println!(rt; "memory")?,
                 end => {
@@ -235,8 +251,34 @@ impl Served {
         Err(Ended::Memory)
     }
 
-    fn make_draining<R: Wait>(&mut self, rt: &R, turns: u64, now: u64) -> Drained {
+    fn make_draining<R: Wait>(&mut self, rt: &R, turns: u64) -> Drained {
         self.sequencer.drain(
+            rt,
+            self.alloc,
+            &mut self.gate,
+            &self.hosts,
+            &mut self.inboxes,
+            turns,
+        )
+    }
+
+    /// The same by turns at that moment.
+    fn drain_at<R: Print + Wait>(&mut self, rt: &R, turns: u64, now: u64) -> Result<(), Ended> {
+        for _try in 0..2u8 {
+            match self.make_draining_at(rt, turns, now) {
+                DrainedAt::Memory => println!(rt; "memory")?,
+                DrainedAt::TurnsSpent if turns > 0 => println!(rt; "memory")?,
+                end => {
+                    println!(rt; "{end:?}")?;
+                    return Ok(());
+                }
+            }
+        }
+        Err(Ended::Memory)
+    }
+
+    fn make_draining_at<R: Wait>(&mut self, rt: &R, turns: u64, now: u64) -> DrainedAt {
+        self.sequencer.drain_at(
             rt,
             self.alloc,
             &mut self.gate,

@@ -96,7 +96,9 @@ impl Half {
         let items = merged(alloc, self.wants.as_slice(), unplanned.as_slice())?;
         let chosen = choose(
             alloc,
-            &self.setup,
+            &self.setup.timing,
+            &self.setup.rules,
+            self.setup.choice,
             self.bus_free,
             self.luns.as_slice(),
             items.as_slice(),

@@ -17,10 +17,10 @@ use std::alloc::{AllocError, Global};
 
 impl Problem {
     /// When the phase of a move may start at the earliest, in ns.
-    pub fn earliest(&self, m: Move) -> u64
-        requires step { IsMove self.now.problem (move_of self.now.groups m) }
-        requires lun { move_lun (move_of self.now.groups m) ≡ lun_named m }
-        ensures { result ≡ earliest self.now.problem (move_of self.now.groups m) }
+    pub fn earliest(&self, m: &Move) -> u64
+        requires step { IsMove self.now.problem (move_of self.now.groups m.now) }
+        requires lun { move_lun (move_of self.now.groups m.now) ≡ lun_named m.now }
+        ensures { result ≡ earliest self.now.problem (move_of self.now.groups m.now) }
     {
         let state = self.luns[m.lun() as usize];
         self.bus_free.max(state.time)
@@ -30,10 +30,10 @@ impl Problem {
     ///
     /// # Errors
     /// Only where memory was refused.
-    pub fn after(&self, alloc: Global, m: Move) -> Result<Problem, AllocError>
-        requires step { IsMove self.now.problem (move_of self.now.groups m) }
-        requires lun { move_lun (move_of self.now.groups m) ≡ lun_named m }
-        ensures { IfOk result (λ p. p ≡ moved self.now m) }
+    pub fn after(&self, alloc: Global, m: &Move) -> Result<Problem, AllocError>
+        requires step { IsMove self.now.problem (move_of self.now.groups m.now) }
+        requires lun { move_lun (move_of self.now.groups m.now) ≡ lun_named m.now }
+        ensures { IfOk result (λ p. p ≡ moved self.now m.now) }
     {
         let mut problem = self.copy(alloc)?;
         problem.advance(m);
@@ -42,10 +42,10 @@ impl Problem {
 
     /// Makes a move: its phase runs from its earliest start. What it answers takes the move back.
     #[inline(always)]
-    pub fn advance(&mut self, m: Move) -> Undo
-        requires step { IsMove self.old.problem (move_of self.old.groups m) }
-        requires lun { move_lun (move_of self.old.groups m) ≡ lun_named m }
-        ensures moved { self.new ≡ moved self.old m }
+    pub fn advance(&mut self, m: &Move) -> Undo
+        requires step { IsMove self.old.problem (move_of self.old.groups m.now) }
+        requires lun { move_lun (move_of self.old.groups m.now) ≡ lun_named m.now }
+        ensures moved { self.new ≡ moved self.old m.now }
         ensures undo { restored self.new result ≡ self.old }
         ensures within { result.lun < length self.new.problem.luns }
         ensures limits { InLimits (restored self.new result).problem }
@@ -58,7 +58,7 @@ impl Problem {
             bus_free: self.bus_free,
             waiting,
         };
-        match m {
+        match *m {
             Move::Next { lun } => self.go_on(lun),
             Move::Start { lun, place } => self.start(lun, place),
         }

@@ -12,7 +12,7 @@ use std::alloc::Global;
 /// All moments of a channel are before this one, in ns.
 const END: u64 = 1 << 62;
 
-impl<P: Planner, C: Chip> Driver<P, C> {
+impl<C: Chip, P: Planner> Driver<C, P> {
     /// When the next phase starts, in ns of the channel's clock, if one is left. It takes no memory.
     pub(crate) fn next_start(&self, alloc: Global) -> Option<u64>
         ensures some { IfSome result (StartsNext self.now.0.half) }

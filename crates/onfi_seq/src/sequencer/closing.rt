@@ -13,7 +13,7 @@ use onfi_plan::Planner;
 use onfi_queue::Host;
 use onfi_reply::{Inbox, Poster};
 
-impl<P: Planner, C: Chip> Sequencer<P, C> {
+impl<C: Chip, P: Planner> Sequencer<C, P> {
     /// Takes all hosts and inboxes back, in the order of the hosts' numbers, and answers how much went through the channel. It
     /// takes no memory and doesn't wait; what still waits in a queue is dropped.
     pub fn close<R>(self, _rt: &R, hosts: [Host; 4], inboxes: [Inbox; 4]) -> Closed

@@ -1,15 +1,17 @@
 //! Draining: turns, with replies taken in before each, until everything is answered.
 
-ghost use Rattle.std.specs.Prelude.{◌≡◌, ◌↔◌, ℕ, ◌<◌, ◌≤◌, length, true, false, IfSome, IfNone, IsTrue, Some, slice_get};
+ghost use Rattle.std.specs.Prelude.{◌≡◌, ◌↔◌, ℕ, ◌+◌, ◌<◌, ◌≤◌, length, true, false, IfSome, IfNone, IsTrue, OnOk, OnErr, Some, slice_get};
 ghost use Rattle.std.specs.List.{filter};
 ghost use Rattle.onfi_core.specs.State.{is_from};
-ghost use Rattle.onfi_seq.specs.Drained.{AreAccepted, AreOtherEnds, Drains, EndsBefore, EndsBehind, HasGrown, HaveGrown, IsAnswered, IsShort, ends_it, left_by};
+ghost use Rattle.onfi_seq.specs.Drained.{AreAccepted, AreOtherEnds, Drains, DrainsBy, EndsBefore, EndsBehind, HasGrown, HaveGrown, IsAnswered, IsShort, ends_it, left_by, refusals_of};
+ghost use Rattle.onfi_seq.specs.NoClock.{TurnedAtOnce, greatest, timed_end};
 ghost use Rattle.onfi_seq.specs.Sequencer.{IsRight, IsSameChannel, seen_in};
 
-use crate::drained::Drained;
+use crate::clockless::end_of;
+use crate::drained::{Drained, DrainedAt};
 use crate::gate::Gate;
 use crate::sequencer::Sequencer;
-use crate::turn::Turn;
+use crate::turn::TurnAt;
 use onfi_chip::Chip;
 use onfi_plan::Planner;
 use onfi_queue::Host;
@@ -17,14 +19,36 @@ use onfi_reply::Inbox;
 use std::alloc::{AllocError, Global};
 use std::sync::Wait;
 
-impl<P: Planner, C: Chip> Sequencer<P, C> {
+impl<C: Chip, P: Planner> Sequencer<C, P> {
     /// Makes turns, at most so many, until all that the hosts sent is accepted and answered, and takes replies in before each,
     /// so that no queue stays full. Hosts and inboxes are the other ends of the channel's queues, in the order of the hosts'
-    /// numbers. Stopped ends it, and so do Waits, Over and Memory of a turn where no phase is left then, and a taking in that is
-    /// refused memory. All its turns are made at `now`, as [`Sequencer::turn`] says: at `u64::MAX` none waits.
+    /// numbers. Stopped ends it, and so do Over and Memory of a turn where no phase is left then, and a taking in that is
+    /// refused memory. No time passes, as in [`Sequencer::turn`].
     ///
     /// Behind the last turn it takes in and looks once more, so turns that just suffice give Empty.
     pub fn drain<R: Wait, G: Gate>(
+        &mut self,
+        rt: &R,
+        alloc: Global,
+        gate: &mut G,
+        hosts: &[Host; 4],
+        inboxes: &mut [Inbox; 4],
+        turns: u64,
+    ) -> Drained
+        requires { AreOtherEnds self.old.0 hosts.now inboxes.old }
+        ensures drains { Drains greatest (seen_in C.state self.old) hosts.now inboxes.old turns (timed_end result) (seen_in C.state self.new) inboxes.new }
+        ensures no_time { DrainsBy TurnedAtOnce (seen_in C.state self.old) hosts.now inboxes.old turns (timed_end result) (seen_in C.state self.new) inboxes.new }
+        ensures inboxes { HaveGrown inboxes.old inboxes.new }
+        ensures right { IsRight (seen_in C.state self.new) }
+        ensures same { IsSameChannel (seen_in C.state self.old) (seen_in C.state self.new) }
+        ensures short { self.old.0.short ≡ true → self.new.0.short ≡ true }
+    {
+        let end = self.drain_at(rt, alloc, gate, u64::MAX, hosts, inboxes, turns);
+        end_of(end)
+    }
+
+    /// As [`Sequencer::drain`], with turns at the moment `now`, as [`Sequencer::turn_at`] makes them: Waits ends it too.
+    pub fn drain_at<R: Wait, G: Gate>(
         &mut self,
         rt: &R,
         alloc: Global,
@@ -33,9 +57,9 @@ impl<P: Planner, C: Chip> Sequencer<P, C> {
         hosts: &[Host; 4],
         inboxes: &mut [Inbox; 4],
         turns: u64,
-    ) -> Drained
+    ) -> DrainedAt
         requires { AreOtherEnds self.old.0 hosts.now inboxes.old }
-        ensures drains { Drains now (seen_in C.state self.old) hosts.now turns result (seen_in C.state self.new) }
+        ensures drains { Drains now (seen_in C.state self.old) hosts.now inboxes.old turns result (seen_in C.state self.new) inboxes.new }
         ensures inboxes { HaveGrown inboxes.old inboxes.new }
         ensures right { IsRight (seen_in C.state self.new) }
         ensures same { IsSameChannel (seen_in C.state self.old) (seen_in C.state self.new) }
@@ -46,14 +70,14 @@ impl<P: Planner, C: Chip> Sequencer<P, C> {
         loop {
             if take_in_all(rt, alloc, inboxes).is_err() {
                 self.note_want_of_memory();
-                return Drained::Memory;
+                return DrainedAt::Memory;
             }
             if let Some(end) = self.end_before_turn(hosts, made, turns) {
                 return end;
             }
-            let turn = self.turn(rt, alloc, gate, now);
+            let turn = self.turn_at(rt, alloc, gate, now);
             made += 1;
-            if let Some(end) = self.end_of(turn) {
+            if let Some(end) = self.end_behind_turn(turn) {
                 return end;
             }
         }
@@ -61,22 +85,22 @@ impl<P: Planner, C: Chip> Sequencer<P, C> {
 
     // A taking in was refused.
     fn note_want_of_memory(&mut self)
-        ensures { seen_in C.state self.new ≡ left_by Drained.Memory (seen_in C.state self.old) }
+        ensures { seen_in C.state self.new ≡ left_by DrainedAt.Memory (seen_in C.state self.old) }
     {
         self.short = true;
     }
 
     // How a draining ends where so many of its turns are made, if it does.
-    fn end_before_turn(&self, hosts: &[Host; 4], made: u64, turns: u64) -> Option<Drained>
+    fn end_before_turn(&self, hosts: &[Host; 4], made: u64, turns: u64) -> Option<DrainedAt>
         requires { made ≤ turns }
         ensures some { IfSome result (λ end. EndsBefore end self.now.0.half hosts.now turns made) }
         ensures none { IfNone result (made < turns) }
     {
         if self.has_answered(hosts) {
-            return Some(Drained::Empty);
+            return Some(DrainedAt::Empty);
         }
         if made >= turns {
-            return Some(Drained::TurnsSpent);
+            return Some(DrainedAt::TurnsSpent);
         }
         None
     }
@@ -102,23 +126,25 @@ impl<P: Planner, C: Chip> Sequencer<P, C> {
     }
 
     // How a draining ends behind that answer, if it does.
-    fn end_of(&self, turn: Turn) -> Option<Drained>
+    fn end_behind_turn(&self, turn: TurnAt) -> Option<DrainedAt>
         ensures some { IfSome result (λ end. EndsBehind end turn self.now.0.half) }
         ensures none { IfNone result (ends_it turn self.now.0.half ≡ false) }
     {
         match turn {
-            Turn::Stopped(cause) => Some(Drained::Stopped(cause)),
-            Turn::Waits { until } => Some(Drained::Waits { until }),
-            Turn::Over { opened } if !self.has_phase() => Some(Drained::Over { opened }),
-            Turn::Memory if !self.has_phase() => Some(Drained::Memory),
+            TurnAt::Stopped(cause) => Some(DrainedAt::Stopped(cause)),
+            TurnAt::Waits { until } => Some(DrainedAt::Waits { until }),
+            TurnAt::Over { opened } if !self.has_phase() => Some(DrainedAt::Over { opened }),
+            TurnAt::Memory if !self.has_phase() => Some(DrainedAt::Memory),
             _ => None,
         }
     }
 }
 
-// Takes in what waits for each host.
+// Takes in what waits for each host, until a taking in is refused.
 fn take_in_all<R: Wait>(rt: &R, alloc: Global, inboxes: &mut [Inbox; 4]) -> Result<(), AllocError>
-    ensures { HaveGrown inboxes.old inboxes.new }
+    ensures grown { HaveGrown inboxes.old inboxes.new }
+    ensures taken { OnOk result (refusals_of inboxes.new ≡ refusals_of inboxes.old) }
+    ensures refused { OnErr result (refusals_of inboxes.new ≡ refusals_of inboxes.old + 1) }
 {
     for at in 0..4usize {
         let inbox = &mut inboxes[at];
@@ -127,9 +153,11 @@ fn take_in_all<R: Wait>(rt: &R, alloc: Global, inboxes: &mut [Inbox; 4]) -> Resu
     Ok(())
 }
 
-// Takes in what waits in the inbox's queue, at most as much as a queue holds.
+// Takes in what waits in the inbox's queue, at most as much as a queue holds, until a taking in is refused.
 fn take_in<R: Wait>(rt: &R, alloc: Global, inbox: &mut Inbox) -> Result<(), AllocError>
-    ensures { HasGrown inbox.old inbox.new }
+    ensures grown { HasGrown inbox.old inbox.new }
+    ensures taken { OnOk result (inbox.new.refused ≡ inbox.old.refused) }
+    ensures refused { OnErr result (inbox.new.refused ≡ inbox.old.refused + 1) }
 {
     for _reply in 0..1024u16 {
         if !inbox.take_in(rt, alloc)? {

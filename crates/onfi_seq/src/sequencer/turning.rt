@@ -3,41 +3,65 @@
 ghost use Rattle.std.specs.Prelude.{◌≡◌, ◌⊎◌, ℕ, ◌<◌, ◌≤◌, true, false, [], length, IfSome, IfNone, IsTrue, None, Some, slice_set};
 ghost use Rattle.onfi_core.specs.Steps.{none_left, taken_next};
 ghost use Rattle.onfi_seq.specs.Driver.{StartsNext};
+ghost use Rattle.onfi_seq.specs.NoClock.{TurnedAtOnce, greatest, timed};
 ghost use Rattle.onfi_seq.specs.Sequencer.{IsRight, IsSameChannel, seen_in};
 ghost use Rattle.onfi_seq.specs.Turned.{Goes, IsGoing, IsRest, LetsPass, MayRunPhase, NothingPosts, OfferedAll, OfferedTo, Takes, TakesNothing, Turned, WhyNoItem, WhyNoPlan};
 
+use crate::clockless::turn_of;
 use crate::gate::Gate;
 use crate::offer::Offer;
 use crate::ran::Ran;
 use crate::sequencer::Sequencer;
-use crate::turn::Turn;
+use crate::turn::{Turn, TurnAt};
 use onfi_chip::Chip;
 use onfi_core::PlanRefusal;
 use onfi_plan::Planner;
 use std::alloc::Global;
 use std::sync::Wait;
 
-impl<P: Planner, C: Chip> Sequencer<P, C> {
+impl<C: Chip, P: Planner> Sequencer<C, P> {
     /// Does the first of these that it can: post the oldest held reply of the lowest host whose queue isn't full; answer
     /// Stopped; accept one item, while fewer than 64 are unanswered and, in order, fewer than the batch unplanned; plan,
-    /// unless a planning was refused as Over or Memory since the last phase and a phase is left; run the next phase, if it
-    /// starts by `now`; answer Waits, where it starts later. Else it answers PostFull where a reply is held, and Idle where
-    /// none is.
-    ///
-    /// `now` is the moment that the caller's clock tells, in ns of the channel's clock. Before a planning and before a phase,
-    /// but for one that starts just then, the half is told of it: the bus waited until then, where it was free before, so no
-    /// phase starts in the past; then each LUN whose array works, by rising number, is asked whether it is ready as the bus
-    /// is free, and one that says so is planned with from then on, at once. The moment may be any; one that falls is one at
-    /// which less is due. One at 2^62 or behind, as `u64::MAX` is, is none of the channel: the bus never waits, no LUN is
-    /// asked, and what comes next runs. Nothing is said of how much time a call takes.
+    /// unless a planning was refused as Over or Memory since the last phase and a phase is left; run the next phase. Else it
+    /// answers PostFull where a reply is held, and Idle where none is.
     ///
     /// The gate is called once, before all that, for this channel. Acceptance and post take no memory, a phase asks for its own
-    /// before the chip is called, so a turn that answers Memory has lost no item and made no event but those of time.
+    /// before the chip is called, so a turn that answers Memory has lost no item and made no event.
+    ///
+    /// It is for who has no clock: no time passes in it, so the bus never waits, no LUN is asked, and the next phase runs
+    /// whenever it starts. [`Sequencer::turn_at`] is for who has one.
     ///
     /// Why a host was passed over, or no item accepted, the contract says as [`Poster::post`](onfi_reply::Poster::post) and
     /// [`Intake::accept`](onfi_queue::Intake::accept) do: that a turn posts where there is room, and accepts what waits, is
     /// tested.
-    pub fn turn<R: Wait, G: Gate>(&mut self, rt: &R, alloc: Global, gate: &mut G, now: u64) -> Turn
+    pub fn turn<R: Wait, G: Gate>(&mut self, rt: &R, alloc: Global, gate: &mut G) -> Turn
+        ensures turned { Turned greatest (seen_in C.state self.old) (timed result) (seen_in C.state self.new) }
+        ensures no_time { TurnedAtOnce (seen_in C.state self.old) (timed result) (seen_in C.state self.new) }
+        ensures right { IsRight (seen_in C.state self.new) }
+        ensures same { IsSameChannel (seen_in C.state self.old) (seen_in C.state self.new) }
+        ensures short { self.old.0.short ≡ true → self.new.0.short ≡ true }
+        ensures gated { (number : ℕ) × G.told gate.old self.old.0.intake.opened.channel number gate.new }
+    {
+        let answer = self.turn_at(rt, alloc, gate, u64::MAX);
+        turn_of(answer)
+    }
+
+    /// As [`Sequencer::turn`] at the moment `now` that the caller's clock tells, in ns of the channel's clock: the next phase
+    /// runs if it starts by then, and where it starts later the answer is Waits.
+    ///
+    /// Before a planning and before a phase, but for one that starts just then, the half is told of the moment: the bus waited
+    /// until then, where it was free before, so no phase starts in the past; then each LUN whose array works, by rising
+    /// number, is asked whether it is ready as the bus is free, and one that says so is planned with from then on, at once. So
+    /// a turn that answers Memory may have made the events of time. The moment may be any; one that falls is one at which less
+    /// is due. One at 2^62 or behind, as `u64::MAX` is, is none of the channel: the bus never waits, no LUN is asked, and what
+    /// comes next runs. Nothing is said of how much time a call takes.
+    pub fn turn_at<R: Wait, G: Gate>(
+        &mut self,
+        rt: &R,
+        alloc: Global,
+        gate: &mut G,
+        now: u64,
+    ) -> TurnAt
         ensures turned { Turned now (seen_in C.state self.old) result (seen_in C.state self.new) }
         ensures right { IsRight (seen_in C.state self.new) }
         ensures same { IsSameChannel (seen_in C.state self.old) (seen_in C.state self.new) }
@@ -52,33 +76,33 @@ impl<P: Planner, C: Chip> Sequencer<P, C> {
     }
 
     // The turn behind its gate.
-    fn take_turn<R: Wait>(&mut self, rt: &R, alloc: Global, now: u64) -> Turn
+    fn take_turn<R: Wait>(&mut self, rt: &R, alloc: Global, now: u64) -> TurnAt
         ensures { Turned now (seen_in C.state self.old) result (seen_in C.state self.new) }
     {
         match self.post_one(rt) {
-            Offer::Posted => Turn::Posted,
-            Offer::Full => self.serve(rt, alloc, now, Turn::PostFull),
-            Offer::Nothing => self.serve(rt, alloc, now, Turn::Idle),
+            Offer::Posted => TurnAt::Posted,
+            Offer::Full => self.serve(rt, alloc, now, TurnAt::PostFull),
+            Offer::Nothing => self.serve(rt, alloc, now, TurnAt::Idle),
         }
     }
 
     // What is done where nothing goes out; `rest` is the answer where nothing is left to do.
-    fn serve<R: Wait>(&mut self, rt: &R, alloc: Global, now: u64, rest: Turn) -> Turn
+    fn serve<R: Wait>(&mut self, rt: &R, alloc: Global, now: u64, rest: TurnAt) -> TurnAt
         requires posts { NothingPosts (seen_in C.state self.old) 4 }
         requires rest { IsRest (seen_in C.state self.old) rest }
         ensures { Turned now (seen_in C.state self.old) result (seen_in C.state self.new) }
     {
         if let Some(cause) = self.driver.cause() {
-            return Turn::Stopped(cause);
+            return TurnAt::Stopped(cause);
         }
         if self.accept_one(rt) {
-            return Turn::Accepted;
+            return TurnAt::Accepted;
         }
         self.plan_or_run(alloc, now, rest)
     }
 
     // What is done where no item is accepted.
-    fn plan_or_run(&mut self, alloc: Global, now: u64, rest: Turn) -> Turn
+    fn plan_or_run(&mut self, alloc: Global, now: u64, rest: TurnAt) -> TurnAt
         requires before { TakesNothing (seen_in C.state self.old) }
         requires rest { IsRest (seen_in C.state self.old) rest }
         ensures { Turned now (seen_in C.state self.old) result (seen_in C.state self.new) }
@@ -161,7 +185,7 @@ impl<P: Planner, C: Chip> Sequencer<P, C> {
     }
 
     // Plans a stale plan anew, unless a planning was refused since the last phase and a phase is left.
-    fn plan_once(&mut self, alloc: Global, stale: bool) -> Option<Turn>
+    fn plan_once(&mut self, alloc: Global, stale: bool) -> Option<TurnAt>
         requires before { TakesNothing (seen_in C.state self.old) }
         requires stale { stale ≡ false → taken_next self.old.0.setup self.old.0.half ≡ [] }
         ensures some { IfSome result (λ turn. (now : ℕ) → Goes now (seen_in C.state self.old) turn (seen_in C.state self.new)) }
@@ -174,23 +198,23 @@ impl<P: Planner, C: Chip> Sequencer<P, C> {
             return None;
         }
         match self.driver.plan(alloc) {
-            Ok(_) => Some(Turn::Planned),
-            Err(PlanRefusal::Stopped(cause)) => Some(Turn::Stopped(cause)),
+            Ok(_) => Some(TurnAt::Planned),
+            Err(PlanRefusal::Stopped(cause)) => Some(TurnAt::Stopped(cause)),
             Err(PlanRefusal::NothingToPlan) => None,
             Err(PlanRefusal::Over { opened }) => {
                 self.refused = true;
-                Some(Turn::Over { opened })
+                Some(TurnAt::Over { opened })
             }
             Err(PlanRefusal::Memory) => {
                 self.refused = true;
                 self.short = true;
-                Some(Turn::Memory)
+                Some(TurnAt::Memory)
             }
         }
     }
 
     // Runs the next phase, if it starts by that moment; `rest` is the answer where none is left.
-    fn run_next(&mut self, alloc: Global, now: u64, rest: Turn) -> Turn
+    fn run_next(&mut self, alloc: Global, now: u64, rest: TurnAt) -> TurnAt
         requires before { MayRunPhase (seen_in C.state self.old) }
         requires rest { IsRest (seen_in C.state self.old) rest }
         ensures { Goes now (seen_in C.state self.old) result (seen_in C.state self.new) }
@@ -199,14 +223,14 @@ impl<P: Planner, C: Chip> Sequencer<P, C> {
         match self.driver.run(alloc, now) {
             Ran::Phase { start: _ } => {
                 self.refused = false;
-                Turn::Phase
+                TurnAt::Phase
             }
-            Ran::Stopped(cause) => Turn::Stopped(cause),
+            Ran::Stopped(cause) => TurnAt::Stopped(cause),
             Ran::Memory => {
                 self.short = true;
-                Turn::Memory
+                TurnAt::Memory
             }
-            Ran::NotBefore { start } => Turn::Waits { until: start },
+            Ran::NotBefore { start } => TurnAt::Waits { until: start },
             Ran::NoPhase => rest,
         }
     }

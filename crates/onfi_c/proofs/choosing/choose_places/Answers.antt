@@ -14,5 +14,5 @@ places_of-requires-clause-rise c =
 
 pub places_of-requires-clause-there : goal.places_of-requires-clause-there
 places_of-requires-clause-there c = λ i w there.
-    chosen_there c.setup_of-setup.result.choice c.args.batch c.args.accepted c.as_slice-items.result.now c.in_ok-chosen.chosen.items c.in_ok-chosen.ensures i w
+    chosen_there c.choice_of.result c.args.batch c.args.accepted c.as_slice-items.result.now c.in_ok-chosen.chosen.items c.in_ok-chosen.ensures i w
     (sym (ap (λ xs. slice_get xs i) c.as_slice-2.ensures.value) ∙ there)

@@ -30,13 +30,28 @@ returns-in-false-true-false-clause-named c =
     let none : spec.given (codes "legal") (rows_of (found_of c.args.used.now)) ≡ false = cc in
     (refl, no, yes, none, refl)
 
-pub returns-in-false-false-default-clause-named : goal.returns-in-false-false-default-clause-named
-returns-in-false-false-default-clause-named c =
+pub returns-in-false-false-true-clause-named : goal.returns-in-false-false-true-clause-named
+returns-in-false-false-true-clause-named c =
     let remember : c.is_given-remember.result ≡ spec.given (codes "remember") (rows_of (found_of c.args.used.now)) = rw first_value-rows at c.is_given-remember.ensures in
     let within : c.is_given-within.result ≡ spec.given (codes "within") (rows_of (found_of c.args.used.now)) = rw first_value-rows at c.is_given-within.ensures in
     let legal : c.is_given-legal.result ≡ spec.given (codes "legal") (rows_of (found_of c.args.used.now)) = rw first_value-rows at c.is_given-legal.ensures in
-    let a = c.in-false-false-default.ensures in
-    let b = c.in-false-false-default.ensures' in
+    let a = c.in-false-false-true.ensures in
+    let b = c.in-false-false-true.ensures' in
+    let d = c.in-false-false-true.ensures'' in
+    let told : spec.given (codes "remember") (rows_of (found_of c.args.used.now)) ≡ true = cc in
     let none : spec.given (codes "within") (rows_of (found_of c.args.used.now)) ≡ false = cc in
     let no : spec.given (codes "legal") (rows_of (found_of c.args.used.now)) ≡ false = cc in
-    (refl, remember, none, no, refl)
+    (refl, told, none, no, refl)
+
+pub returns-in-false-false-false-clause-named : goal.returns-in-false-false-false-clause-named
+returns-in-false-false-false-clause-named c =
+    let remember : c.is_given-remember.result ≡ spec.given (codes "remember") (rows_of (found_of c.args.used.now)) = rw first_value-rows at c.is_given-remember.ensures in
+    let within : c.is_given-within.result ≡ spec.given (codes "within") (rows_of (found_of c.args.used.now)) = rw first_value-rows at c.is_given-within.ensures in
+    let legal : c.is_given-legal.result ≡ spec.given (codes "legal") (rows_of (found_of c.args.used.now)) = rw first_value-rows at c.is_given-legal.ensures in
+    let a = c.in-false-false-false.ensures in
+    let b = c.in-false-false-false.ensures' in
+    let d = c.in-false-false-false.ensures'' in
+    let told : spec.given (codes "remember") (rows_of (found_of c.args.used.now)) ≡ false = cc in
+    let none : spec.given (codes "within") (rows_of (found_of c.args.used.now)) ≡ false = cc in
+    let no : spec.given (codes "legal") (rows_of (found_of c.args.used.now)) ≡ false = cc in
+    (refl, told, none, no, refl)

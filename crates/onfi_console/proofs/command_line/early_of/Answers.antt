@@ -1,4 +1,4 @@
-use Rattle.std.proofs.Common.{◌≡◌, ap, sym, ◌∙◌, Some, subst, codes, is_some, true, false}
+use Rattle.std.proofs.Common.{◌≡◌, ap, sym, ◌∙◌, Some, subst, codes, is_some, true}
 use Rattle.std.specs.Prelude.{unwrap_or}
 use Rattle.clap.specs.Words.{first_of, found_of, rows_of}
 use Rattle.clap.proofs.WalkLemmas.{first_value-rows}

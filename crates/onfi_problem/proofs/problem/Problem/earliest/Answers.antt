@@ -19,12 +19,12 @@ pub bounds-deref-lun : goal.bounds-deref-lun
 bounds-deref-lun c =
     let x = c.args.self.now in
     let states : map (state_of x.groups) c.deref.result.now ≡ x.problem.luns = rw (← c.self.view_is, c.deref.ensures.0) refl in
-    rw c.lun.ensures (within x c.deref.result.now states c.args.m c.requires.step c.requires.lun)
+    rw c.lun.ensures (within x c.deref.result.now states c.args.m.now c.requires.step c.requires.lun)
 
 pub returns : goal.returns
 returns c =
     let x = c.args.self.now in
     let states : map (state_of x.groups) c.deref.result.now ≡ x.problem.luns = rw (← c.self.view_is, c.deref.ensures.0) refl in
     let blank : Lun = record { next = 0; place = 0; time = 0 } in
-    let there : lun_named c.args.m < length x.problem.luns = subst (λ (n : ℕ). lun_named c.args.m < n) (sym (length-map c.deref.result.now (state_of x.groups)) ∙ ap length states) (within x c.deref.result.now states c.args.m c.requires.step c.requires.lun) in
-    rw (c.max.ensures, c.lun.ensures, c.requires.lun, goes_from x.problem x.groups c.deref.result.now states (lun_named c.args.m) blank there, ← c.self.view_is) refl
+    let there : lun_named c.args.m.now < length x.problem.luns = subst (λ (n : ℕ). lun_named c.args.m.now < n) (sym (length-map c.deref.result.now (state_of x.groups)) ∙ ap length states) (within x c.deref.result.now states c.args.m.now c.requires.step c.requires.lun) in
+    rw (c.max.ensures, c.lun.ensures, c.requires.lun, goes_from x.problem x.groups c.deref.result.now states (lun_named c.args.m.now) blank there, ← c.self.view_is) refl

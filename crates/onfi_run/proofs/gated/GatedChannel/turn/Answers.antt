@@ -6,14 +6,14 @@ use Rattle.onfi_run.proofs.Same.{same_queues}
 use Rattle.onfi_run.proofs.gated.GatedChannel.turn.Goals as goal
 
 pub returns-clause-turned : goal.returns-clause-turned
-returns-clause-turned g c = record { answer = c.turn-turn.result; turned = c.turn-turn.ensures.turned; told = c.progress.ensures }
+returns-clause-turned g c = record { answer = c.turn_at-turn.result; turned = c.turn_at-turn.ensures.turned; told = c.progress.ensures }
 
 pub returns-clause-same : goal.returns-clause-same
-returns-clause-same g c = same_queues (seen_in chip_in c.args.self.now.sequencer) (seen_in chip_in c.turn-turn.new.self) c.turn-turn.ensures.same
+returns-clause-same g c = same_queues (seen_in chip_in c.args.self.now.sequencer) (seen_in chip_in c.turn_at-turn.new.self) c.turn_at-turn.ensures.same
 
 pub returns-clause-refused : goal.returns-clause-refused
 returns-clause-refused g c =
-    refused_kept c.args.now (seen_in chip_in c.args.self.now.sequencer) (seen_in chip_in c.turn-turn.new.self) (none_left c.turn-turn.new.self.0.half) c.turn-turn.result c.progress.result c.turn-turn.ensures.turned c.progress.ensures
+    refused_kept c.args.now (seen_in chip_in c.args.self.now.sequencer) (seen_in chip_in c.turn_at-turn.new.self) (none_left c.turn_at-turn.new.self.0.half) c.turn_at-turn.result c.progress.result c.turn_at-turn.ensures.turned c.progress.ensures
 
 pub returns-clause-short : goal.returns-clause-short
-returns-clause-short g c = c.turn-turn.ensures.short
+returns-clause-short g c = c.turn_at-turn.ensures.short

@@ -1,81 +1,27 @@
-use Rattle.std.proofs.Common.{ap, arith}
-use Rattle.onfi_seq.specs.Sequencer.{Seen, seen_in}
-use Rattle.onfi_seq.proofs.Draining.{all_grown_all, draining_first, draining_taken, draining_turned, drains_behind, drains_here, drains_refused, right_marked, same_marked}
-use Rattle.onfi_seq.proofs.Same.{same_channel_all}
+use Rattle.std.proofs.Common.{sym, subst}
+use Rattle.onfi_seq.specs.declared.drained.DrainedAt.{DrainedAt}
+use Rattle.onfi_seq.specs.Drained.{Drains, DrainsBy}
+use Rattle.onfi_seq.specs.NoClock.{TurnedAtOnce, greatest}
+use Rattle.onfi_seq.specs.Sequencer.{seen_in}
+use Rattle.onfi_seq.proofs.AtOnce.{drained_at_once, ends_now}
 use Rattle.onfi_seq.proofs.sequencer.Sequencer.drain.Goals as goal
 
-pub loop-alloc-init : goal.loop-alloc-init
-loop-alloc-init g c = record {
-  few = omega arith;
-  right = c.look.ensures;
-  so_far = draining_first c.args.now (seen_in g.C.Chip.state c.args.self.now) c.args.inboxes.now;
-}
-
-pub returns-then-is_err-clause-drains : goal.returns-then-is_err-clause-drains
-returns-then-is_err-clause-drains g c =
+pub end_of-requires : goal.end_of-requires
+end_of-requires g c =
     let st = g.C.Chip.state in
-    let l = c.loop-alloc in
-    let new = seen_in st c.note_want_of_memory.new.self in
-    drains_refused c.args.now (seen_in st c.args.self.now) c.args.inboxes.now l.made (seen_in st l.self) l.inboxes c.args.hosts.now c.args.turns new l.invariant.so_far l.invariant.few c.note_want_of_memory.ensures
+    ends_now (seen_in st c.args.self.now) c.args.hosts.now c.args.inboxes.now c.args.turns c.drain_at-end.result (seen_in st c.drain_at-end.new.self) c.drain_at-end.new.inboxes c.drain_at-end.ensures.drains
 
-pub returns-then-is_err-clause-inboxes : goal.returns-then-is_err-clause-inboxes
-returns-then-is_err-clause-inboxes g c = all_grown_all c.args.inboxes.now c.loop-alloc.inboxes c.take_in_all.new.inboxes c.loop-alloc.invariant.so_far.grown c.take_in_all.ensures
-
-pub returns-then-is_err-clause-right : goal.returns-then-is_err-clause-right
-returns-then-is_err-clause-right g c =
+pub returns-clause-drains : goal.returns-clause-drains
+returns-clause-drains g c =
     let st = g.C.Chip.state in
-    right_marked (seen_in st c.loop-alloc.self) (seen_in st c.note_want_of_memory.new.self) c.note_want_of_memory.ensures c.loop-alloc.invariant.right
+    let old = seen_in st c.args.self.now in
+    let new = seen_in st c.drain_at-end.new.self in
+    subst (λ (e : DrainedAt). Drains greatest old c.args.hosts.now c.args.inboxes.now c.args.turns e new c.drain_at-end.new.inboxes) (sym c.end_of.ensures) c.drain_at-end.ensures.drains
 
-pub returns-then-is_err-clause-same : goal.returns-then-is_err-clause-same
-returns-then-is_err-clause-same g c =
+pub returns-clause-no_time : goal.returns-clause-no_time
+returns-clause-no_time g c =
     let st = g.C.Chip.state in
-    let new = seen_in st c.note_want_of_memory.new.self in
-    same_channel_all (seen_in st c.args.self.now) (seen_in st c.loop-alloc.self) new c.loop-alloc.invariant.so_far.same (same_marked (seen_in st c.loop-alloc.self) new c.note_want_of_memory.ensures)
-
-pub returns-in-Some-clause-drains : goal.returns-in-Some-clause-drains
-returns-in-Some-clause-drains g c =
-    let st = g.C.Chip.state in
-    let l = c.loop-alloc in
-    drains_here c.args.now (seen_in st c.args.self.now) c.args.inboxes.now l.made (seen_in st l.self) l.inboxes c.args.hosts.now c.args.turns c.in-Some.end l.invariant.so_far l.invariant.few c.in-Some.ensures.some
-
-pub returns-in-Some-clause-inboxes : goal.returns-in-Some-clause-inboxes
-returns-in-Some-clause-inboxes g c = all_grown_all c.args.inboxes.now c.loop-alloc.inboxes c.take_in_all.new.inboxes c.loop-alloc.invariant.so_far.grown c.take_in_all.ensures
-
-pub returns-in-Some-clause-same : goal.returns-in-Some-clause-same
-returns-in-Some-clause-same g c = c.loop-alloc.invariant.so_far.same
-
-pub returns-in-Some-end_of-clause-drains : goal.returns-in-Some-end_of-clause-drains
-returns-in-Some-end_of-clause-drains g c =
-    let st = g.C.Chip.state in
-    let l = c.loop-alloc in
-    drains_behind c.args.now (seen_in st c.args.self.now) c.args.inboxes.now l.made (seen_in st l.self) l.inboxes c.turn-turn.result (seen_in st c.turn-turn.new.self) c.args.hosts.now c.args.turns c.in-Some-end_of.end l.invariant.so_far c.in_default.ensures.none
-    c.turn-turn.ensures.turned c.in-Some-end_of.ensures.some
-
-pub returns-in-Some-end_of-clause-inboxes : goal.returns-in-Some-end_of-clause-inboxes
-returns-in-Some-end_of-clause-inboxes g c = all_grown_all c.args.inboxes.now c.loop-alloc.inboxes c.take_in_all.new.inboxes c.loop-alloc.invariant.so_far.grown c.take_in_all.ensures
-
-pub returns-in-Some-end_of-clause-same : goal.returns-in-Some-end_of-clause-same
-returns-in-Some-end_of-clause-same g c =
-    let st = g.C.Chip.state in
-    same_channel_all (seen_in st c.args.self.now) (seen_in st c.loop-alloc.self) (seen_in st c.turn-turn.new.self) c.loop-alloc.invariant.so_far.same c.turn-turn.ensures.same
-
-pub returns-then-is_err-clause-short : goal.returns-then-is_err-clause-short
-returns-then-is_err-clause-short g c short = ap (λ (x : Seen). x.0.short) c.note_want_of_memory.ensures
-
-pub returns-in-Some-clause-short : goal.returns-in-Some-clause-short
-returns-in-Some-clause-short g c = c.loop-alloc.invariant.so_far.short
-
-pub returns-in-Some-end_of-clause-short : goal.returns-in-Some-end_of-clause-short
-returns-in-Some-end_of-clause-short g c short = c.turn-turn.ensures.short (c.loop-alloc.invariant.so_far.short short)
-
-pub loop-alloc-preserved : goal.loop-alloc-preserved
-loop-alloc-preserved g c =
-    let st = g.C.Chip.state in
-    let l = c.loop-alloc in
-    let q = seen_in st c.args.self.now in
-    let taken = draining_taken c.args.now q c.args.inboxes.now l.made (seen_in st l.self) l.inboxes c.take_in_all.new.inboxes l.invariant.so_far c.take_in_all.ensures in
-    record {
-      few = omega (arith, c.in_default.ensures.none);
-      right = c.turn-turn.ensures.right;
-      so_far = draining_turned c.args.now q c.args.inboxes.now l.made (seen_in st l.self) c.take_in_all.new.inboxes c.turn-turn.result (seen_in st c.turn-turn.new.self) taken c.turn-turn.ensures.turned c.turn-turn.ensures.same c.turn-turn.ensures.short c.in_default-end_of.ensures.none;
-    }
+    let old = seen_in st c.args.self.now in
+    let new = seen_in st c.drain_at-end.new.self in
+    let at_once = drained_at_once old c.args.hosts.now c.args.inboxes.now c.args.turns c.drain_at-end.result new c.drain_at-end.new.inboxes c.drain_at-end.ensures.drains in
+    subst (λ (e : DrainedAt). DrainsBy TurnedAtOnce old c.args.hosts.now c.args.inboxes.now c.args.turns e new c.drain_at-end.new.inboxes) (sym c.end_of.ensures) at_once

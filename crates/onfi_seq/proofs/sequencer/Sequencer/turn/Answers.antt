@@ -1,15 +1,26 @@
-use Rattle.std.proofs.Common.{◌≡◌, true}
-use Rattle.onfi_seq.specs.Sequencer.{IsSameChannel, Seen, seen_in}
-use Rattle.onfi_seq.proofs.Keeping.{seen_outside}
-use Rattle.onfi_seq.proofs.Same.{same_by_turn, short_by_turn}
+use Rattle.std.proofs.Common.{sym, subst}
+use Rattle.onfi_seq.specs.declared.turn.TurnAt.{TurnAt}
+use Rattle.onfi_seq.specs.NoClock.{TurnedAtOnce, greatest}
+use Rattle.onfi_seq.specs.Sequencer.{seen_in}
+use Rattle.onfi_seq.specs.Turned.{Turned}
+use Rattle.onfi_seq.proofs.AtOnce.{goes_now, turned_at_once}
 use Rattle.onfi_seq.proofs.sequencer.Sequencer.turn.Goals as goal
 
-pub returns-clause-same : goal.returns-clause-same
-returns-clause-same g c =
-    let new = seen_in g.C.Chip.state c.take_turn-turn.new.self in
-    seen_outside g.C.Chip.state (λ (q : Seen). IsSameChannel q new) _ _ c.self.view_is (same_by_turn c.args.now _ c.take_turn-turn.result new c.take_turn-turn.ensures)
+pub turn_of-requires : goal.turn_of-requires
+turn_of-requires g c =
+    let st = g.C.Chip.state in
+    goes_now (seen_in st c.args.self.now) c.turn_at-answer.result (seen_in st c.turn_at-answer.new.self) c.turn_at-answer.ensures.turned
 
-pub returns-clause-short : goal.returns-clause-short
-returns-clause-short g c =
-    let new = seen_in g.C.Chip.state c.take_turn-turn.new.self in
-    seen_outside g.C.Chip.state (λ (q : Seen). q.0.short ≡ true → new.0.short ≡ true) _ _ c.self.view_is (short_by_turn c.args.now _ c.take_turn-turn.result new c.take_turn-turn.ensures)
+pub returns-clause-turned : goal.returns-clause-turned
+returns-clause-turned g c =
+    let st = g.C.Chip.state in
+    let old = seen_in st c.args.self.now in
+    let new = seen_in st c.turn_at-answer.new.self in
+    subst (λ (a : TurnAt). Turned greatest old a new) (sym c.turn_of.ensures) c.turn_at-answer.ensures.turned
+
+pub returns-clause-no_time : goal.returns-clause-no_time
+returns-clause-no_time g c =
+    let st = g.C.Chip.state in
+    let old = seen_in st c.args.self.now in
+    let new = seen_in st c.turn_at-answer.new.self in
+    subst (λ (a : TurnAt). TurnedAtOnce old a new) (sym c.turn_of.ensures) (turned_at_once old c.turn_at-answer.result new c.turn_at-answer.ensures.turned)

@@ -1,0 +1,147 @@
+//! What a command line asks for.
+ghost use Rattle.std.specs.Prelude.{◌≡◌, ◌≤◌};
+ghost use Rattle.onfi_console.specs.Readers as spec;
+ghost use Rattle.onfi_console.specs.Words.{IsInRange};
+
+use onfi_planners::{ChosenEarly, ExactPlanner};
+use onfi_script::{Command, Output};
+
+/// A command of the program.
+#[derive(Clone, Copy, Debug, PartialEq, Eq)]
+pub enum CommandName {
+    /// The problem of a script is planned.
+    Plan,
+    /// A plan of it is checked.
+    Check,
+    /// The operations of a script are run.
+    Run,
+}
+
+/// How a run plans.
+#[derive(Clone, Copy)]
+pub enum RunPlanner {
+    /// Each plan is optimal.
+    Exact(ExactPlanner),
+    /// A plan may be the best so far, or end later than an optimal one does.
+    Inexact(ChosenEarly),
+}
+
+/// What a command line names.
+#[derive(Clone, Copy)]
+pub enum Named {
+    /// The problem of a script is planned, or a plan of it checked, by so many workers, 1 to 8; one where none are
+    /// named.
+    Problem {
+        command: Command,
+        workers: usize,
+    },
+    /// The operations of a script are run, by a simulated clock or in threads; that planner plans each batch, with at most
+    /// `limit` nodes, 1 to 1,048,576.
+    Run {
+        planner: RunPlanner,
+        limit: u32,
+        clocked: bool,
+    },
+}
+
+/// What a command line asks for.
+#[derive(Clone, Copy)]
+pub struct Parsed<'a> {
+    pub named: Named,
+    /// The file of the script, `-` for standard input; standard input where none is named.
+    pub script: Option<&'a str>,
+    /// The file of a plan text that stands behind the script, `-` for standard input; none where the script's own file
+    /// holds it.
+    pub plan: Option<&'a str>,
+    /// Whether nothing is to be said beside the answer.
+    pub quiet: bool,
+}
+
+/// The greatest limit of a search.
+pub const MOST: u32 = 1_048_576;
+
+impl Parsed<'_> {
+    /// The command that is named.
+    pub fn command(&self) -> CommandName
+        ensures { result ≡ spec.command_of self.now.named }
+    {
+        match self.named {
+            Named::Problem { command, .. } => command_in(command),
+            Named::Run { .. } => CommandName::Run,
+        }
+    }
+
+    /// How many nodes a search may open, 1 to 1,048,576; the greatest limit for `check`, which searches nothing.
+    pub fn limit(&self) -> u32
+        ensures named { result ≡ spec.limit_of self.now.named }
+        ensures range { IsInRange self.now.named → (1 ≤ result) × (result ≤ 1048576) }
+    {
+        match self.named {
+            Named::Problem { command, .. } => limit_in(command),
+            Named::Run { limit, .. } => limit,
+        }
+    }
+
+    /// Whether a trace is printed in place of a plan.
+    pub fn trace(&self) -> bool
+        ensures { result ≡ spec.trace_of self.now.named }
+    {
+        match self.named {
+            Named::Problem { command, .. } => trace_in(command),
+            Named::Run { .. } => false,
+        }
+    }
+
+    /// How many workers search, 1 to 8.
+    pub fn workers(&self) -> usize
+        ensures named { result ≡ spec.workers_of self.now.named }
+        ensures range { IsInRange self.now.named → (1 ≤ result) × (result ≤ 8) }
+    {
+        match self.named {
+            Named::Problem { workers, .. } => workers,
+            Named::Run { .. } => 1,
+        }
+    }
+}
+
+/// Which of the three commands carries it out.
+fn command_in(command: Command) -> CommandName
+    ensures { result ≡ spec.command_in command }
+{
+    match command {
+        Command::Check | Command::CheckKnown | Command::CheckWithin | Command::Legal => {
+            CommandName::Check
+        }
+        _ => CommandName::Plan,
+    }
+}
+
+/// How many nodes a search may open; the greatest limit where nothing is searched.
+fn limit_in(command: Command) -> u32
+    ensures { result ≡ spec.limit_in command }
+{
+    match command {
+        Command::Plan { limit, .. }
+        | Command::PlanRequests { limit }
+        | Command::PlanKnown { limit, .. }
+        | Command::PlanWithin { limit, .. }
+        | Command::PlanEarly { limit, .. }
+        | Command::PlanNear { limit, .. } => limit,
+        Command::Check | Command::CheckKnown | Command::CheckWithin | Command::Legal => MOST,
+    }
+}
+
+/// Whether a trace is printed in place of a plan.
+fn trace_in(command: Command) -> bool
+    ensures { result ≡ spec.trace_in command }
+{
+    match command {
+        Command::Plan { trace, .. } => trace,
+        Command::PlanRequests { .. } => true,
+        Command::PlanKnown { output, .. }
+        | Command::PlanWithin { output, .. }
+        | Command::PlanEarly { output, .. }
+        | Command::PlanNear { output, .. } => matches!(output, Output::Trace { .. }),
+        Command::Check | Command::CheckKnown | Command::CheckWithin | Command::Legal => false,
+    }
+}

@@ -1,0 +1,176 @@
+// Plans ONFI channels, checks plans and runs hosts' operations: reads a script from a file or standard input, writes its
+// answer to standard output, and what is to be said about it in words to standard error.
+#![tactic(auto)]
+
+ghost use Rattle.std.specs.Prelude.{IfOk};
+ghost use Rattle.onfi_console.specs.Words.{IsInRange};
+
+mod input;
+
+use input::{Unread, read};
+use onfi_console::{Input, Untaken, escaped, is_quiet, message, read_words, shown};
+use onfi_run::run_freely;
+use onfi_script::{engine_split_requests, write_text};
+use onfi_sim::{Command, EngineFault, Named, Parsed, RunPlanner, engine, engine_split};
+use std::io::{Eprint, ErrorKind, Print};
+use std::process::ExitCode;
+use std::sync::Wait;
+use std::thread::Threads;
+
+/// The words of the command line, or the status of one that can't be read.
+fn given(rt: &(impl std::rt::Env + AllocGlobal + Print + Eprint)) -> Result<Vec<String>, u8> {
+    let args = match std::env::args(rt) {
+        Ok(args) => args,
+        Err(fault) if fault.kind() == ErrorKind::OutOfMemory => return Err(out_of_memory(rt)),
+        Err(_) => return Err(tell_word(rt)),
+    };
+    match args.collect::<Vec<String>>(rt.alloc()) {
+        Ok(given) => Ok(given),
+        Err(_) => Err(out_of_memory(rt)),
+    }
+}
+
+/// The most words, and the most bytes of a word, that are looked at for one that can't be read.
+const MOST_WORDS: usize = 4096;
+
+/// The word that isn't UTF-8 text, with such bytes escaped.
+fn wrong_word(rt: &(impl std::rt::Env + AllocGlobal)) -> Option<String> {
+    let mut word = [0u8; 4096];
+    for number in 0..MOST_WORDS {
+        let size = rt.arg(number, &mut word).ok()?;
+        let bytes = &word[..size];
+        if std::str::from_utf8(bytes).is_err() {
+            return shown(rt.alloc(), bytes).ok();
+        }
+    }
+    None
+}
+
+/// Says which word isn't text; the status of a refused command line.
+fn tell_word(rt: &(impl std::rt::Env + AllocGlobal + Eprint)) -> u8 {
+    if let Some(word) = wrong_word(rt) {
+        let _ = rt.eprint("error: this word of the command line isn't UTF-8 text: '");
+        let _ = rt.eprint(word.as_str());
+        let _ = rt.eprintln("'");
+    }
+    5
+}
+
+/// Tells that memory was refused; its status.
+fn out_of_memory(rt: &impl Print) -> u8 {
+    let _ = rt.println("memory");
+    4
+}
+
+/// What the command line asks for, or the status of one that isn't taken.
+fn parsed<'a>(
+    rt: &(impl AllocGlobal + Print + Eprint),
+    given: &'a [String],
+) -> Result<Parsed<'a>, u8>
+    ensures { IfOk result (λ parsed. IsInRange parsed.named) }
+{
+    match read_words(rt.alloc(), given) {
+        Ok(parsed) => Ok(parsed),
+        Err(Untaken::Version(text)) => {
+            let _ = rt.print(text.as_str());
+            Err(0)
+        }
+        Err(Untaken::Refused(text)) => {
+            if !is_quiet(given) {
+                let _ = rt.eprint(text.as_str());
+            }
+            Err(5)
+        }
+        Err(Untaken::Memory) => Err(out_of_memory(rt)),
+    }
+}
+
+/// Tells why an input can't be read; its status.
+fn unread(rt: &(impl AllocGlobal + Print + Eprint), parsed: &Parsed<'_>, fault: &Unread<'_>) -> u8 {
+    match fault {
+        Unread::File(name, error) => {
+            if !parsed.quiet {
+                tell_unread(rt, name, error);
+            }
+            5
+        }
+        Unread::Read => 7,
+        Unread::Memory => out_of_memory(rt),
+    }
+}
+
+/// Says which file can't be read, and why.
+fn tell_unread(rt: &(impl AllocGlobal + Eprint), name: &str, error: &std::io::Error) {
+    let alloc = rt.alloc();
+    if let Ok(name) = escaped(alloc, name) {
+        if let Ok(text) = format!(in alloc; "error: the file '{name}' can't be read: {error}\n") {
+            let _ = rt.eprint(text.as_str());
+        }
+    }
+}
+
+/// Answers what is asked of an input; the status.
+fn answer_to<R: Threads + Wait + Sync + AllocGlobal>(
+    rt: &R,
+    parsed: &Parsed<'_>,
+    mut text: &[u8],
+    answer: &mut Vec<u8>,
+) -> Result<u8, EngineFault>
+    requires { IsInRange parsed.now.named }
+{
+    let alloc = rt.alloc();
+    match parsed.named {
+        Named::Run {
+            planner: RunPlanner::Exact(planner),
+            limit,
+            clocked,
+        } => run_freely(rt, alloc, planner, limit, clocked, &mut text, answer),
+        Named::Run {
+            planner: RunPlanner::Inexact(planner),
+            limit,
+            clocked,
+        } => run_freely(rt, alloc, planner, limit, clocked, &mut text, answer),
+        Named::Problem {
+            command: Command::Plan { limit, trace },
+            workers,
+        } if workers > 1 => engine_split(rt, alloc, limit, trace, workers, &mut text, answer),
+        Named::Problem {
+            command: Command::PlanRequests { limit },
+            workers,
+        } if workers > 1 => engine_split_requests(rt, alloc, limit, workers, &mut text, answer),
+        Named::Problem { command, .. } => engine(alloc, command, &mut text, answer),
+    }
+}
+
+fn main(rt: HostRuntime) -> ExitCode {
+    let given = match given(&rt) {
+        Ok(given) => given,
+        Err(status) => return ExitCode::from(status),
+    };
+    let parsed = match parsed(&rt, given.as_slice()) {
+        Ok(parsed) => parsed,
+        Err(status) => return ExitCode::from(status),
+    };
+    let (text, at) = match read(&rt, rt.alloc(), &parsed) {
+        Ok(read) => read,
+        Err(fault) => return ExitCode::from(unread(&rt, &parsed, &fault)),
+    };
+    let input = Input {
+        text: text.as_slice(),
+        script: parsed.script,
+        plan: parsed.plan.map(|name| (name, at)),
+    };
+    let mut answer = Vec::new(rt.alloc());
+    let answered = answer_to(&rt, &parsed, input.text, &mut answer);
+    // An answer in memory fails for memory alone.
+    let Ok(status) = answered else {
+        return ExitCode::from(out_of_memory(&rt));
+    };
+    if write_text(&mut std::io::writer(&rt), answer.as_slice()).is_err() {
+        return ExitCode::from(7);
+    }
+    if let Ok(Some(text)) = message(rt.alloc(), &parsed, &input, answer.as_slice()) {
+        let _ = rt.eprint(text.as_str());
+    }
+    ExitCode::from(status)
+}

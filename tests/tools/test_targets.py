@@ -1,0 +1,164 @@
+"""What is built for another processor: what make takes for TARGET, and libraries of an archive that stands for the proved one."""
+
+from __future__ import annotations
+
+import os
+import shutil
+import struct
+import subprocess
+import sys
+import tempfile
+import unittest
+from pathlib import Path
+from typing import List
+
+import support
+
+VERSION = (support.ROOT / "VERSION").read_text().strip()
+ARM = "aarch64"
+COMPILER = f"{ARM}-linux-gnu-gcc"
+# What stands for the library of the crate: a call, and what it asks of the three calls for memory.
+CALL = """\
+typedef struct { unsigned long is_given; void *block; } answer;
+answer rattle_alloc(unsigned long bytes, unsigned long align);
+answer rattle_realloc(void *block, unsigned long kept, unsigned long bytes, unsigned long align);
+void rattle_dealloc(void *block);
+unsigned onfi_plan(void) { rattle_dealloc(rattle_realloc(rattle_alloc(0, 8).block, 8, 16, 8).block); return 0; }
+"""
+
+
+# What a make that runs these tests hands on to its commands, and what would name another place or processor.
+HANDED_ON = ("MAKEFLAGS", "MAKELEVEL", "MFLAGS", "PREFIX", "DESTDIR", "TARGET")
+
+
+def make(*words: str) -> "subprocess.CompletedProcess[str]":
+    plain = {name: value for name, value in os.environ.items() if name not in HANDED_ON}
+    return subprocess.run(["make", "--no-print-directory", *words], cwd=support.ROOT, env=plain, capture_output=True, text=True)
+
+
+def run(*words: str) -> "subprocess.CompletedProcess[str]":
+    return subprocess.run([*words], cwd=support.ROOT, capture_output=True, text=True)
+
+
+class Makefile(unittest.TestCase):
+    def test_other_processors_are_refused_before_any_proof(self) -> None:
+        for goal in ("library", "wheel", "install", "install-library", "install-program"):
+            for target in ("riscv64", "x86_64", "aarch64 riscv64", "aarch64-unknown-linux-gnu"):
+                told = make("-n", goal, f"TARGET={target}")
+                self.assertEqual((told.returncode, told.stdout), (2, ""), (goal, target))
+                self.assertIn(f"nothing is proved and built for TARGET={target}: it is aarch64, or left out for x86-64.", told.stderr)
+
+    def test_what_is_made_stands_in_folders_of_the_processor(self) -> None:
+        asked = [f"TARGET={ARM}", "PREFIX=/nowhere"]
+        lines = make("-n", "-W", "crates.txt", "wheel", "install", *asked).stdout
+        for line in (
+            "tools/prove static onfi_c --jobs",
+            f"tools/make-library archive crates/onfi_c/out/{ARM}/libonfi_c.a targets/heap.c lib/{ARM} {ARM}\n",
+            f"tools/make-library shared lib/{ARM} {ARM}\n",
+            f"tools/make-wheel lib/{ARM}/libonfi.so dist/{ARM}\n",
+            f"tools/install library lib/{ARM}\n",
+            f"cp crates/onfi_program/out/{ARM}/onfi_program bin/{ARM}/onfi_sim\n",
+            f"tools/install program bin/{ARM}/onfi_sim\n",
+        ):
+            self.assertIn(line, lines)
+        for line in lines.splitlines():
+            if line.startswith(("tools/prove static", "tools/prove program")):
+                self.assertTrue(line.endswith(f"--target {ARM}"), line)
+
+    def test_without_one_all_is_as_it_was(self) -> None:
+        lines = make("-n", "-W", "crates.txt", "wheel", "install").stdout
+        for line in (
+            "tools/make-library shared lib \n",
+            "tools/make-wheel lib/libonfi.so dist\n",
+            "tools/install library lib\n",
+            "cp crates/onfi_program/out/onfi_program bin/onfi_sim\n",
+            "tools/install program bin/onfi_sim\n",
+        ):
+            self.assertIn(line, lines)
+        self.assertNotIn("--target", lines)
+        self.assertNotIn(ARM, lines)
+
+    def test_where_it_is_put(self) -> None:
+        """Beside what is installed for this machine, where no PREFIX is named."""
+        with tempfile.TemporaryDirectory() as to:
+            place = Path(to) / f"usr/local/{ARM}-linux-gnu/bin/onfi_sim"
+            for folder in (place.parent, Path(to) / "usr/local/bin"):
+                folder.mkdir(parents=True)
+                (folder / "onfi_sim").write_text("")
+            self.assertEqual(make("uninstall", f"TARGET={ARM}", f"DESTDIR={to}").returncode, 0)
+            self.assertFalse(place.exists())
+            self.assertTrue((Path(to) / "usr/local/bin/onfi_sim").exists())
+
+
+class Prove(unittest.TestCase):
+    def test_other_processors_are_refused(self) -> None:
+        told = support.run_tool("prove", "static", "onfi_c", "--target", "riscv64")
+        self.assertEqual((told.returncode, told.stdout), (2, ""))
+        self.assertIn("invalid choice: 'riscv64' (choose from 'x86_64', 'aarch64')", told.stderr)
+
+    def test_a_program_without_its_compiler(self) -> None:
+        with tempfile.TemporaryDirectory() as room:
+            words = ["prove", "program", "onfi_program", "--target", ARM]
+            command = [sys.executable, "-B", str(support.ROOT / "tools" / words[0]), *words[1:]]
+            told = subprocess.run(command, env={**os.environ, "PATH": room}, capture_output=True, text=True)
+        self.assertEqual((told.returncode, told.stdout), (1, ""))
+        self.assertEqual(told.stderr, "prove: a program for aarch64 is linked by Debian's gcc-aarch64-linux-gnu, which is not installed\n")
+
+
+@unittest.skipUnless(shutil.which("rt"), "no kit")
+class Library(unittest.TestCase):
+    def setUp(self) -> None:
+        room = tempfile.TemporaryDirectory(prefix="onfi target ")
+        self.addCleanup(room.cleanup)
+        self.room = Path(room.name)
+        self.kit = Path(os.path.realpath(str(shutil.which("rt")))).parent.parent / "toolchain/bin"
+        (self.room / "call.c").write_text(CALL)
+
+    def tool(self, *words: str) -> str:
+        told = run(str(support.ROOT / "tools/make-library"), *words)
+        self.assertEqual((told.returncode, told.stderr), (0, ""), words)
+        return told.stdout
+
+    def archive(self) -> Path:
+        """libonfi.a of the archive that stands for the proved one, by the kit alone."""
+        made, proved, lib = self.room / "call.o", self.room / "proved.a", self.room / "lib"
+        words = [str(self.kit / "clang"), f"--target={ARM}-unknown-linux-gnu", "-O2", "-fPIC", "-c", str(self.room / "call.c"), "-o", str(made)]
+        for command in (words, [str(self.kit / "llvm-ar"), "rcs", str(proved), str(made)]):
+            self.assertEqual(run(*command).returncode, 0)
+        self.assertEqual(self.tool("archive", str(proved), "targets/heap.c", str(lib), ARM), "")
+        return lib / "libonfi.a"
+
+    def members(self, archive: Path) -> List[bytes]:
+        """What the objects of an archive are."""
+        names = run(str(self.kit / "llvm-ar"), "t", str(archive)).stdout.split()
+        self.assertEqual(names, ["call.o", "heap.pic.o"])
+        read = [subprocess.run([str(self.kit / "llvm-ar"), "p", str(archive), name], capture_output=True).stdout for name in names]
+        return [it[:20] for it in read]
+
+    def test_the_archive(self) -> None:
+        for elf in self.members(self.archive()):
+            self.assertEqual((elf[:6], struct.unpack_from("<H", elf, 18)[0]), (b"\x7fELF\x02\x01", 183))
+
+    def test_the_shared_library_is_left_out_where_it_cant_be_linked(self) -> None:
+        lib = self.archive().parent
+        (lib / "libonfi.so").symlink_to("libonfi.so.0.9.0")
+        self.assertEqual(self.tool("shared", str(lib), "nowhere"), "libonfi.so for nowhere is left out: Debian's gcc-nowhere-linux-gnu is not installed\n")
+        self.assertEqual(os.listdir(lib), ["libonfi.a"])
+        told = support.run_tool("make-wheel", str(lib / "libonfi.so"), str(self.room / "dist"))
+        self.assertEqual((told.returncode, told.stdout), (1, ""))
+        self.assertIn("No such file", told.stderr)
+
+    def test_the_shared_library_and_its_wheel(self) -> None:
+        if shutil.which(COMPILER) is None:
+            print(f"the shared library for {ARM}: left out, since Debian's gcc-{ARM}-linux-gnu is not installed")
+            return
+        lib = self.archive().parent
+        self.assertEqual(self.tool("shared", str(lib), ARM), "")
+        self.assertEqual(sorted(os.listdir(lib)), sorted(["libonfi.a", "libonfi.so", f"libonfi.so.{VERSION.split('.')[0]}", f"libonfi.so.{VERSION}"]))
+        told = support.run_tool("make-wheel", str(lib / "libonfi.so"), str(self.room / "dist"))
+        self.assertEqual((told.returncode, told.stderr), (0, ""))
+        self.assertEqual(told.stdout, f"{self.room}/dist/onfi-{VERSION}-py3-none-manylinux_2_17_aarch64.whl\n")
+
+
+if __name__ == "__main__":
+    unittest.main()
