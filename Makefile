@@ -43,10 +43,13 @@ dist := dist$(below_target)
 # One job for each processor, up to four; a job takes about a gigabyte of memory.
 JOBS ?= $(shell n=$$(nproc); echo $$((n < 4 ? n : 4)))
 
+# Stands in the recipes that call the kit, so that make ends by this line as it comes to one of them, before anything of it is run.
+kit = $(if $(shell command -v rt),,$(error no Rattle kit in PATH, see README))
+
 .PHONY: plan try test library wheel install install-program install-library uninstall wrong-bodies clean clean-proofs help
 
 plan:
-	@$(MAKE) --no-print-directory -j3 TARGET= bin/onfi_sim
+	@$(if $(wildcard bin/onfi_sim),,$(kit))$(MAKE) --no-print-directory -j3 TARGET= bin/onfi_sim
 	bin/onfi_sim plan < examples/one-read.onfi
 
 # A library is proved once those that it stands on are; onfi_cert, on which few stand, later and by one process beside others.
@@ -54,7 +57,7 @@ after_onfi_cert := onfi_request
 beside_onfi_cert := yes
 define library
 crates/$(1)/out/proved: $(call proved,$(call below,$(1))) $(call sources_of,$(1)) | $(if $(ahead_$(1)),crates/$(1)/out/ahead) $(call proved,$(after_$(1)))
-	@echo "proving $(1)"
+	@$$(kit)echo "proving $(1)"
 	@$(if $(beside_$(1)),nice) tools/prove library $(1) --source $(ahead_$(1)) --jobs $(if $(beside_$(1)),1,$(JOBS))
 	@touch $$@
 endef
@@ -63,26 +66,26 @@ $(foreach crate,$(PROGRAM),$(eval $(call library,$(crate))))
 # Only where nothing of the crate is kept: its own check finds what was proved here, and decides.
 define ahead
 crates/$(1)/out/ahead: | $(call proved,$(filter-out $(ahead_$(1)),$(call below,$(1))))
-	@echo "proving $(1) ahead"
+	@$$(kit)echo "proving $(1) ahead"
 	@nice tools/prove ahead $(1) --source $(ahead_$(1)) $(only_$(1):%=--only %) --jobs 2 || true
 	@touch $$@
 endef
 $(foreach crate,$(PROGRAM),$(if $(ahead_$(crate)),$(eval $(call ahead,$(crate)))))
 
 $(sim): $(call proved,$(PROGRAM)) $(call sources_of,onfi_program) crates.txt $(if $(TARGET),$(wildcard targets/*.c))
-	@echo "proving onfi_program$(TARGET:%= for %)"
+	@$(kit)echo "proving onfi_program$(TARGET:%= for %)"
 	@tools/prove program onfi_program --jobs $(JOBS) $(TARGET:%=--target %)
 	@mkdir -p $(@D)
 	@cp crates/onfi_program/out$(below_target)/onfi_program $@
 
 # What the library asks of the kit in C: its calls of malloc, realloc and free. The kit has them for x86-64 alone.
-KIT := $(shell dirname $$(dirname $$(readlink -f $$(command -v rt))))
+KIT := $(shell dirname $$(dirname $$(readlink -f $$(command -v rt || echo rt))))
 heap := $(if $(TARGET),targets/heap.c,$(KIT)/c/liblibc_c.a)
 
 library: $(lib)/libonfi.a $(lib)/libonfi.so
 
 $(lib)/libonfi.a: $(call proved,$(LIBRARIES)) $(call sources_of,onfi_c) crates.txt $(if $(TARGET),$(heap))
-	@echo "proving onfi_c$(TARGET:%= for %)"
+	@$(kit)echo "proving onfi_c$(TARGET:%= for %)"
 	@tools/prove static onfi_c --jobs $(JOBS) $(TARGET:%=--target %)
 	@tools/make-library archive crates/onfi_c/out$(below_target)/libonfi_c.a $(heap) $(lib) $(TARGET)
 
@@ -95,6 +98,12 @@ wheel: library
 
 PREFIX ?= /usr/local$(TARGET:%=/%-linux-gnu)
 export PREFIX DESTDIR
+
+# A PREFIX that tools/install wouldn't take is refused before anything is built for it.
+ifneq ($(filter install install-program install-library uninstall,$(MAKECMDGOALS)),)
+wrong_prefix := $(shell PREFIX='$(subst ','\'',$(PREFIX))' tools/install check 2>&1)
+$(if $(wrong_prefix),$(error $(wrong_prefix)))
+endif
 
 install: install-program install-library
 
@@ -112,7 +121,7 @@ WORDS ?= plan
 SCRIPT ?= examples/one-read.onfi
 
 bin/onfi_sim-unproved: crates.txt $(shell find $(patsubst %,crates/%/src,$(PROGRAM) onfi_program) -type f)
-	@echo "building onfi_sim unproved"
+	@$(kit)echo "building onfi_sim unproved"
 	@tools/try-program $@
 
 try: bin/onfi_sim-unproved
@@ -122,15 +131,15 @@ try: bin/onfi_sim-unproved
 # For processors that the kit doesn't compile for: of the module that it compiles for x86-64.
 .PHONY: object
 object:
-	@$(MAKE) --no-print-directory TARGET= lib/libonfi.a
+	@$(kit)$(MAKE) --no-print-directory TARGET= lib/libonfi.a
 	@tools/keep-module onfi_c crates/onfi_c/out/kept --jobs $(JOBS)
 	@tools/retarget crates/onfi_c/out/kept/module.bc $(or $(TARGET),$(error make object asks for TARGET=riscv64, riscv32, armv7 or thumbv7em)) lib/$(TARGET)
 
 test:
-	tools/gate
+	$(kit)tools/gate
 
 wrong-bodies:
-	tools/wrong-bodies
+	$(kit)tools/wrong-bodies
 
 clean:
 	rm -rf bin lib dist

@@ -65,13 +65,13 @@ enum onfi_status {
     ONFI_BAD_MEMBERS = 14, /* A running group has more than 4 members. */
     /* problems */
     ONFI_TOO_MANY = 20, /* More than eight wants, no LUN, or more than eight. */
-    ONFI_BAD_LUN = 21, /* A want or a running group that the LUNs can't have. */
+    ONFI_BAD_LUN = 21, /* A want or a running group that the LUNs can't have, an erase of another page than 0, or ids of wants that are equal or don't rise. */
     ONFI_CLOCK = 22, /* Times that reach 2^62 ns. */
     ONFI_BAD_PLACE = 23, /* A LUN, block or page that the device doesn't have. */
     ONFI_BAD_GEOMETRY = 24, /* A geometry that no parameter page gives. */
     ONFI_BAD_CHOICE = 25, /* The choice of a batch is above 2. */
     ONFI_BAD_BATCH = 26, /* A batch of no request, or of more than eight. */
-    ONFI_BAD_ORDER = 27, /* Numbers of requests don't rise, or reach the count of all that were accepted. */
+    ONFI_BAD_ORDER = 27, /* Numbers of requests are equal or don't rise, or reach the count of all that were accepted. */
     /* schedules */
     ONFI_BAD_SCHEDULE = 30, /* A count of a schedule is out of its range, or a start is 2^63 ns or more. */
     ONFI_NOTHING_DUE = 31, /* No phase of the schedule is left. */
@@ -148,7 +148,7 @@ typedef struct onfi_timing {
 typedef struct onfi_rules {
     bool read;          /* reads may */
     bool write;         /* programs may, and erases */
-    bool strict;        /* only blocks whose numbers agree above the plane bits */
+    bool strict;        /* only blocks whose numbers agree above the plane bits: for a device with block address restrictions */
     uint8_t plane_bits; /* how many low bits of a block number name its plane, 0 to 2 */
 } onfi_rules;
 
@@ -160,7 +160,7 @@ typedef struct onfi_channel {
 
 /* A request. Its plane is the one that the low bits of its block name. */
 typedef struct onfi_want {
-    uint64_t id;    /* a number of the caller's; numbers rise along a list of wants */
+    uint64_t id;    /* a number of the caller's; each want of a list has a greater one than that before it */
     uint8_t kind;   /* an onfi_kind */
     uint8_t lun;    /* from 0 */
     uint16_t block; /* from 0 */
@@ -235,9 +235,13 @@ typedef struct onfi_geometry {
     bool multi_plane_reads;  /* several planes may read at the same time */
 } onfi_geometry;
 
+/*
+ * A device by its parameter page. Its rules are never strict: byte 114 of the page, the multi-plane attributes, isn't looked at.
+ * Bit 1 of that byte says, where it is set, that there are no block address restrictions; where it is clear, set rules.strict = 1.
+ */
 typedef struct onfi_device {
     onfi_timing timing;
-    onfi_rules rules; /* not strict: a page doesn't tell */
+    onfi_rules rules;
     onfi_geometry geometry;
 } onfi_device;
 
@@ -304,9 +308,12 @@ uint32_t onfi_plan_within(const onfi_channel *channel, const onfi_lun *luns, siz
 
 /*
  * Plans as onfi_plan_within does, and makes the plan better: requests end early. What counts is the sum over all requests of
- * their weight times the end of their last phase. The plan never counts for more than the one it was made from; that none
- * counts for less isn't promised. With `slack` it may end later, by so many thousandths, 1,000 at most, of what lies
- * between channel->bus_free and plan->below; onfi_check_within judges it.
+ * their weight times the end of their last phase. With `slack` the plan may end behind plan->below by so many thousandths, 1,000
+ * at most (a greater number counts as 1,000), of what lies between channel->bus_free and plan->below; it ends later only where the
+ * search tree has more nodes than the limit. onfi_check_within judges it.
+ *
+ * That the plan counts for no more than the one it was made from is proved of the function that makes it better (`improve` of
+ * onfi_early), and shown of this call by tests; that none counts for less isn't promised.
  *
  * What onfi_plan_within tells is told.
  */
@@ -346,12 +353,15 @@ uint32_t onfi_check_within(const onfi_channel *channel, const onfi_lun *luns, si
 
 /*
  * Chooses a batch of at most `batch` requests, 1 to 8, of the want_count that wait, which may be more than eight: chosen[0 ..
- * *chosen_count - 1] are their places in the list of wants. The list is in acceptance order, each id is the place of
+ * *chosen_count - 1] are their places in the list of wants, rising. The list is in acceptance order, each id is the place of
  * acceptance, and `accepted` counts all that were accepted: those that are missing behind a want started before it.
- * ONFI_IN_ORDER takes the oldest. By the other choices LUNs give in turn, the one that comes free first at first, each its
- * oldest request, or by ONFI_READS_FIRST its oldest read, else program, else erase, with those that can join its group.
- * Of two requests on one block the later is chosen only with the earlier; the batch is full, or all are chosen; and once 64
- * later ones started before the oldest, it is chosen.
+ *
+ * Proved: ONFI_IN_ORDER takes the oldest. By each choice the later of two requests on one block is chosen only with the earlier;
+ * the batch is full, or all are chosen; and once 64 later ones started before the oldest, it is chosen.
+ *
+ * Shown by tests alone: which requests the other two choices take beside that. LUNs give in turn, the one that comes free first
+ * at first, of equals the lower number, each its oldest request that may be taken, or by ONFI_READS_FIRST its oldest read, else
+ * program, else erase, with those that can join its group; round and round until the batch is full.
  *
  * ONFI_DONE; else nothing is given, and told is the first of: ONFI_ZERO_SPAN or ONFI_LONG_SPAN of reads, programs, erases;
  * ONFI_BAD_PLANE_BITS; ONFI_BAD_MEMBERS; ONFI_BAD_KIND; ONFI_BAD_CHOICE; ONFI_BAD_BATCH; ONFI_BAD_ORDER; ONFI_MEMORY.
@@ -383,7 +393,8 @@ uint32_t onfi_due(const onfi_channel *channel, const onfi_lun *luns, size_t lun_
  * ONFI_DONE; else all is as it was, and told is the first of: ONFI_TOO_MANY, where *want_count is above ONFI_WANTS; the
  * channel's and the problem's faults as by onfi_plan; ONFI_BAD_SCHEDULE; ONFI_ILLEGAL; ONFI_NOTHING_DUE; ONFI_NOT_DUE, where
  * another phase is due; ONFI_TOO_SOON, where `started` is before its start; ONFI_CLOCK, where a phase would start at 2^62 ns
- * or later. ONFI_MEMORY may stand in place of any behind ONFI_BAD_KIND.
+ * or later, or what is left could last until then: so no later call tells ONFI_CLOCK of what this one made. ONFI_MEMORY may
+ * stand in place of any behind ONFI_BAD_KIND.
  */
 uint32_t onfi_ran(onfi_channel *channel, onfi_lun *luns, size_t lun_count, onfi_want wants[ONFI_WANTS], size_t *want_count,
                   onfi_schedule *schedule, uint8_t lun, uint8_t number, uint64_t started);
@@ -400,7 +411,8 @@ uint32_t onfi_row(const onfi_geometry *geometry, uint8_t lun, uint16_t block, ui
  * timing sheet: rows NAME,VALUE for tWC, tRC, tADL, tWHR, tRHW, tWB, tPLRBSY, tPLPBSY and tPLEBSY, in ns, digits alone.
  *
  * ONFI_DONE and *place 0; else nothing is given, and told is the first fault of the page (60 ..), of the device (70 ..), of
- * the sheet (80 ..), or ONFI_MEMORY. *place is the row that ONFI_SHEET_UNKNOWN and ONFI_SHEET_NOT_A_NUMBER speak of,
+ * the sheet (80 ..), or ONFI_MEMORY. Where bit 1 of byte 114 of the page is clear, device->rules.strict = 1 is the caller's to set
+ * (onfi_device says why). *place is the row that ONFI_SHEET_UNKNOWN and ONFI_SHEET_NOT_A_NUMBER speak of,
  * counted from 1, the parameter of ONFI_SHEET_MISSING and ONFI_SHEET_REPEATED, from 1 in the order above, else 0.
  */
 uint32_t onfi_timing_of_page(const uint8_t *page, size_t page_bytes, const char *sheet, size_t sheet_bytes, onfi_device *device, uint64_t *place);

@@ -3,6 +3,7 @@
  *
  *     cc -std=c99 -O2 firmware*.c $(pkg-config --cflags --libs onfi) -lm -o firmware
  *     ./firmware [NAME VALUE]..
+ *     ./firmware help
  *
  *   device    tlc, slc, qlc                              tlc
  *   workload  mixed, reads, sequential, erases           mixed
@@ -467,6 +468,37 @@ static bool put_words(int count, char **texts, words *w)
     return true;
 }
 
+/* What help lists: of each word what it may be, the usual value first. */
+
+static void print_choice(unsigned at)
+{
+    printf("  %-9s %s", CHOSEN[at].name, CHOSEN[at].value[0]);
+    for (unsigned value = 1; value < 4 && *CHOSEN[at].value[value]; value++)
+        printf(", %s", CHOSEN[at].value[value]);
+    putchar('\n');
+}
+
+static void print_choices(void)
+{
+    for (unsigned at = 0; at < CHOICES; at++)
+        print_choice(at);
+}
+
+static void print_numbers(void)
+{
+    for (unsigned at = 0; at < NUMBERS; at++)
+        printf("  %-9s %g; %s from %g to %.10g\n", NUMBER[at].name, NUMBER[at].usual, NUMBER[at].is_whole ? "a whole number" : "a number",
+               NUMBER[at].least, NUMBER[at].most);
+}
+
+static void print_words(void)
+{
+    puts("firmware [NAME VALUE].., of these names; the value named first is the usual one:");
+    print_choices();
+    print_numbers();
+    puts("  array     1-1; two shares from 0 to 1, the lesser one first");
+}
+
 static planning planning_of(const words *w)
 {
     static const uint8_t CHOICE_OF[] = {ONFI_BY_LUN, ONFI_IN_ORDER, ONFI_READS_FIRST, ONE_KIND};
@@ -506,6 +538,10 @@ int main(int count, char **texts)
 {
     static run r;
     words w;
+    if (count == 2 && !strcmp(texts[1], "help")) {
+        print_words();
+        return EXIT_SUCCESS;
+    }
     if (!put_words(count, texts, &w))
         return 2;
     setup of = setup_of(&w);

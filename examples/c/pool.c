@@ -2,7 +2,7 @@
  * malloc, realloc and free over one static array, for a machine without an allocator: libonfi.a asks for no other function.
  *
  *     cc -std=c99 -c pool.c -DPOOL_BYTES=65536
- *     cc -std=c99 batch.c pool.o libonfi.a -o batch
+ *     cc -std=c99 -I../../include batch.c pool.o ../../lib/libonfi.a -o batch
  *
  * The first free place that is large enough is taken, and free places beside each other become one. Where none is large enough,
  * the call of the library answers ONFI_MEMORY. It is for one thread. A call of the library gives back all memory before it returns.

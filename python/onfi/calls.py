@@ -8,12 +8,14 @@ from typing import Callable, List, Sequence, Tuple, Union
 from onfi.library import library
 from onfi.model import Answer, Channel, Choice, Device, Geometry, Lun, Phase, Plan, PlanWithin, Schedule, Stand, Want
 from onfi.refused import REFUSALS, Memory, Refused
-from onfi.structs import WANTS, CChannel, CDevice, CGeometry, CLun, CPhase, CPlan, CSchedule, CVerdict, CWant, CWeights, CWithin, number
+from onfi.structs import WANTS, CChannel, CDevice, CGeometry, CLun, CPhase, CPlan, CSchedule, CVerdict, CWant, CWeights, CWithin, number, octets, text
 
 DONE, NO_ROOM, MEMORY = 0, 3, 4
 MOST_NODES = 1_048_576
 USUAL_NODES = 65_536
 FIRST_ROOM = 4096
+Octets = Union[bytes, bytearray, memoryview]
+Text = Union[str, Octets]
 
 
 def status_text(status: int) -> str:
@@ -99,8 +101,9 @@ def plan_early(
 
     `weights` tells those of wants by their places, `running` those of each LUN's running group by the places of its members;
     1 counts where none is told. The sum of weight times end over all requests is no more than that of the plan it was made
-    from; that none has less isn't promised. With `slack` the plan may end later, by so many thousandths, 1,000 at most, of
-    what lies between the time from when on the bus is free and the plan's `below`; `check_within` judges it.
+    from, which is proved of what makes it better and shown of this call by tests; that none has less isn't promised. With
+    `slack` the plan may end behind its `below` by so many thousandths, 1,000 at most, of what lies between the time from when
+    on the bus is free and that `below`; later only where the search tree has more nodes than the limit. `check_within` judges it.
 
     Raises what `plan_within` does; `ValueError` where a weight or the slack isn't below 65,536.
     """
@@ -126,7 +129,7 @@ def written(call: Callable[..., int], said: Problem, limit: int, made: Union[CPl
     return certificate
 
 
-def check(channel: Channel, luns: Sequence[Lun], wants: Sequence[Want], schedule: Schedule, certificate: bytes) -> int:
+def check(channel: Channel, luns: Sequence[Lun], wants: Sequence[Want], schedule: Schedule, certificate: Text) -> int:
     """When the schedule ends, in ns, where the certificate shows that no legal schedule of the wants ends sooner.
 
     Whoever made the two need not be trusted. Raises what `plan` raises of the channel; `BadSchedule`; `BadHeader`,
@@ -136,7 +139,7 @@ def check(channel: Channel, luns: Sequence[Lun], wants: Sequence[Want], schedule
     return judged(library().onfi_check, Problem(channel, luns, wants), schedule, certificate)
 
 
-def check_known(channel: Channel, luns: Sequence[Lun], wants: Sequence[Want], schedule: Schedule, certificate: bytes) -> int:
+def check_known(channel: Channel, luns: Sequence[Lun], wants: Sequence[Want], schedule: Schedule, certificate: Text) -> int:
     """The same by a certificate that remembers states.
 
     Raises what `check` does but `TooManyTokens`; of the tokens `UnknownNode`, `OtherLeft`, `Sooner` and `TooManyNodes` too.
@@ -144,7 +147,7 @@ def check_known(channel: Channel, luns: Sequence[Lun], wants: Sequence[Want], sc
     return judged(library().onfi_check_known, Problem(channel, luns, wants), schedule, certificate)
 
 
-def check_within(channel: Channel, luns: Sequence[Lun], wants: Sequence[Want], schedule: Schedule, below: int, certificate: bytes) -> int:
+def check_within(channel: Channel, luns: Sequence[Lun], wants: Sequence[Want], schedule: Schedule, below: int, certificate: Text) -> int:
     """When the schedule ends, in ns, where it is legal and the certificate shows that no legal schedule ends before `below`.
 
     The schedule is optimal where that is its end. Raises what `check_known` does, and behind `Illegal` `EndsBefore`, where
@@ -154,9 +157,9 @@ def check_within(channel: Channel, luns: Sequence[Lun], wants: Sequence[Want], s
     return judged(library().onfi_check_within, Problem(channel, luns, wants), schedule, certificate, below)
 
 
-def judged(call: Callable[..., int], said: Problem, schedule: Schedule, certificate: bytes, *below: int) -> int:
-    verdict = CVerdict()
-    status = call(*said.words, ctypes.byref(CSchedule.of(schedule)), *below, certificate, len(certificate), ctypes.byref(verdict))
+def judged(call: Callable[..., int], said: Problem, schedule: Schedule, certificate: Text, *below: int) -> int:
+    verdict, shown = CVerdict(), text(certificate, "a certificate")
+    status = call(*said.words, ctypes.byref(CSchedule.of(schedule)), *below, shown, len(shown), ctypes.byref(verdict))
     if status != DONE:
         raise refusal(status, verdict.place)
     finish: int = verdict.finish
@@ -174,8 +177,9 @@ def choose(
     """The places, in the list of the requests that wait, of those that a batch of at most `batch` takes, 1 to 8; they rise.
 
     The list is in acceptance order and may have more than eight; each id is the place of acceptance, and `accepted` counts
-    all that were accepted. Of two requests on one block the later is chosen only with the earlier; the batch is full, or all
-    are chosen; and once 64 later ones started before the oldest, it is chosen.
+    all that were accepted. It is proved that of two requests on one block the later is chosen only with the earlier; that the
+    batch is full, or all are chosen; that once 64 later ones started before the oldest, it is chosen; and that `IN_ORDER` takes
+    the oldest. Which requests the other choices take beside that is shown by tests alone.
 
     Raises what `plan` raises of lengths, plane bits, members and kinds; `BadChoice`, `BadBatch`, `BadOrder`; `Memory`.
     """
@@ -206,7 +210,8 @@ def ran(channel: Channel, luns: Sequence[Lun], wants: Sequence[Want], schedule: 
     left are later by as much as this one was. `lun` and `phase` are the LUN of the phase and its number in its group.
 
     Raises `TooMany` where more than eight wants wait; what `plan` raises of the channel; `BadSchedule`, `Illegal`,
-    `NothingDue`, `NotDue`, `TooSoon`; `Clock` where a phase would start at 2^62 ns or later; `Memory`.
+    `NothingDue`, `NotDue`, `TooSoon`; `Clock` where a phase would start at 2^62 ns or later, or what is left could last until
+    then, so that no later call raises it of what this one made; `Memory`.
     """
     said, left, count = Problem(channel, luns, wants), CSchedule.of(schedule), ctypes.c_size_t(len(wants))
     waiting = (CWant * WANTS)(*(CWant.of(want) for want in wants[:WANTS]))
@@ -230,29 +235,33 @@ def row(geometry: Geometry, lun: int, block: int, page: int) -> int:
     return told.value
 
 
-def timing_of_page(page: bytes, sheet: str) -> Device:
+def timing_of_page(page: Octets, sheet: Text) -> Device:
     """The device that the bytes of a parameter page and the text of a timing sheet tell of.
 
-    The sheet has a row NAME,VALUE, in ns, for each of tWC, tRC, tADL, tWHR, tRHW, tWB, tPLRBSY, tPLPBSY and tPLEBSY.
+    The sheet has a row NAME,VALUE, in ns, for each of tWC, tRC, tADL, tWHR, tRHW, tWB, tPLRBSY, tPLPBSY and tPLEBSY. The rules
+    that are given aren't strict: where bit 1 of the page's byte 114 is clear the device has block address restrictions, and its
+    channel needs rules with `strict=True`.
 
     Raises the first fault of the page (`PageShort`, `NoCopy`), of the device (`WideBus` .. `TooLarge`) or of the sheet
-    (`SheetMissing` .. `SheetTooLong`, with the row or the parameter as its place); `Memory`.
+    (`SheetMissing` .. `SheetTooLong`, with the row or the parameter as its place); `Memory`. `TypeError` where the page isn't
+    bytes or the sheet neither str nor bytes.
     """
-    device, place, text = CDevice(), ctypes.c_uint64(), sheet.encode("utf-8")
-    status = library().onfi_timing_of_page(page, len(page), text, len(text), ctypes.byref(device), ctypes.byref(place))
+    device, place, page, sheet = CDevice(), ctypes.c_uint64(), octets(page, "a parameter page"), text(sheet, "a timing sheet")
+    status = library().onfi_timing_of_page(page, len(page), sheet, len(sheet), ctypes.byref(device), ctypes.byref(place))
     if status != DONE:
         raise refusal(status, place.value)
     return device.told()
 
 
-def text_plan(script: bytes, limit: int = MOST_NODES, trace: bool = False, remember: bool = False, requests: bool = False) -> Answer:
+def text_plan(script: Text, limit: int = MOST_NODES, trace: bool = False, remember: bool = False, requests: bool = False) -> Answer:
     """What `onfi_sim plan` writes for a script: the plan text.
 
     With `trace` it is the plan's trace (`--trace`), with `requests` that with the request of each line (`--requests`). With
     `remember` the search remembers states (`--remember`).
 
-    Raises `BadLimit` where `limit` is not from 1 to 1,048,576; `Memory`.
+    A script is str or bytes. Raises `BadLimit` where `limit` is not from 1 to 1,048,576; `Memory`.
     """
+    script = text(script, "a script")
     if not 1 <= limit <= MOST_NODES:
         raise refusal(5)
     if requests:
@@ -261,20 +270,22 @@ def text_plan(script: bytes, limit: int = MOST_NODES, trace: bool = False, remem
     return answered(with_room(lambda *room: call(script, len(script), limit, trace, *room)))
 
 
-def text_check(script: bytes, remember: bool = False) -> Answer:
+def text_check(script: Text, remember: bool = False) -> Answer:
     """What `onfi_sim check` writes for a script with a plan text behind it, with `remember` what `check --remember` writes.
 
-    Raises `Memory`.
+    The two are one str or bytes. Raises `Memory`.
     """
+    script = text(script, "a script with its plan")
     call = library().onfi_text_check_known if remember else library().onfi_text_check
     return answered(with_room(lambda *room: call(script, len(script), *room)))
 
 
-def text_legal(script: bytes) -> Answer:
+def text_legal(script: Text) -> Answer:
     """What `onfi_sim check --legal` writes for a script with a plan text behind it: whether the schedule is legal, and when it ends.
 
-    A certificate need not stand there, and isn't looked at. Raises `Memory`.
+    A certificate need not stand there, and isn't looked at. The two are one str or bytes. Raises `Memory`.
     """
+    script = text(script, "a script with its plan")
     return answered(with_room(lambda *room: library().onfi_text_legal(script, len(script), *room)))
 
 

@@ -58,7 +58,7 @@ class Rules:
     write: bool = False
     """Programs may, and erases."""
     strict: bool = False
-    """Only blocks whose numbers agree above the plane bits."""
+    """Only blocks whose numbers agree above the plane bits: for a device with block address restrictions."""
     plane_bits: int = 0
     """How many low bits of a block number name its plane, 0 to 2."""
 
@@ -77,7 +77,7 @@ class Want:
     """A request. Its plane is the one that the low bits of its block name."""
 
     id: int
-    """A number of the caller's, below 2^64; numbers rise along a list of wants."""
+    """A number of the caller's, below 2^64; each want of a list has a greater one than that before it."""
     kind: Kind
     lun: int
     """From 0."""
@@ -205,7 +205,12 @@ class Geometry:
 
 @dataclass(frozen=True)
 class Device:
-    """A device by its parameter page and its timing sheet. A page doesn't tell whether groups are strict."""
+    """A device by its parameter page and its timing sheet.
+
+    Its rules are never strict: byte 114 of the page, the multi-plane attributes, isn't looked at. Bit 1 of that byte says, where
+    it is set, that there are no block address restrictions; where it is clear, plan with `dataclasses.replace(device.rules,
+    strict=True)`.
+    """
 
     timing: Timing
     rules: Rules

@@ -73,7 +73,7 @@ class TooMany(Refused):
 
 
 class BadLun(Refused):
-    """A want or a running group that the LUNs can't have."""
+    """A want or a running group that the LUNs can't have, an erase of another page than 0, or ids of wants that are equal or don't rise."""
 
     status = 21
 
@@ -109,7 +109,7 @@ class BadBatch(Refused):
 
 
 class BadOrder(Refused):
-    """Numbers of requests don't rise, or reach the count of all that were accepted."""
+    """Numbers of requests are equal or don't rise, or reach the count of all that were accepted."""
 
     status = 27
 

@@ -3,7 +3,7 @@
 from __future__ import annotations
 
 import ctypes
-from typing import Any, Dict, Sequence
+from typing import Any, Dict, Sequence, Union
 
 from onfi.model import Channel, Device, Geometry, Group, Kind, Lun, Phase, Rules, Schedule, Spans, Timing, Want
 
@@ -15,6 +15,25 @@ def number(value: int, below: int, what: str) -> int:
     if not 0 <= value < below:
         raise ValueError(f"{what} is not from 0 to {below - 1}: {value}")
     return value
+
+
+def octets(value: Union[bytes, bytearray, memoryview], what: str) -> bytes:
+    """The bytes, where they are bytes."""
+    if not isinstance(value, (bytes, bytearray, memoryview)):
+        raise TypeError(f"{what} is bytes, not {type(value).__name__}")
+    return bytes(value)
+
+
+def text(value: Union[str, bytes, bytearray, memoryview], what: str) -> bytes:
+    """The bytes of a text, which is str or bytes."""
+    if not isinstance(value, (str, bytes, bytearray, memoryview)):
+        raise TypeError(f"{what} is str or bytes, not {type(value).__name__}")
+    if not isinstance(value, str):
+        return bytes(value)
+    try:
+        return value.encode("utf-8")
+    except UnicodeEncodeError:
+        raise ValueError(f"{what} has half a character, which no text in UTF-8 has") from None
 
 
 class CSpans(ctypes.Structure):

@@ -130,7 +130,8 @@ static void channels(void)
     p = usual(), p.lun_count = 9, refuses("nine LUNs", &p, ONFI_TOO_MANY);
     p = usual(), p.lun_count = 0, refuses("no LUN", &p, ONFI_TOO_MANY);
     p = usual(), p.wants[0].lun = 2, refuses("a LUN that isn't there", &p, ONFI_BAD_LUN);
-    p = usual(), p.wants[1].id = 7, refuses("ids that don't rise", &p, ONFI_BAD_LUN);
+    p = usual(), p.wants[1].id = 7, refuses("equal ids", &p, ONFI_BAD_LUN);
+    p.wants[1].id = 6, refuses("ids that fall", &p, ONFI_BAD_LUN);
     p = usual(), p.luns[1].next = 2, refuses("a running group that is over", &p, ONFI_BAD_LUN);
     p = usual(), p.luns[1].member[0].lun = 0, refuses("a running group of another LUN", &p, ONFI_BAD_LUN);
     p = usual(), p.channel.bus_free = UINT64_MAX, refuses("the end of time", &p, ONFI_CLOCK);
@@ -249,6 +250,89 @@ static void within(void)
     expect("a want left out", WITHIN(plan.below, text, bytes), ONFI_ILLEGAL);
 }
 
+static uint32_t choice_of(const problem *p, uint64_t accepted, uint8_t choice, uint8_t batch, size_t chosen[ONFI_WANTS], size_t *count)
+{
+    return onfi_choose(&p->channel, p->luns, p->lun_count, p->wants, p->want_count, accepted, choice, batch, chosen, count);
+}
+
+/* A refused choice leaves all as it was. */
+static void choices(void)
+{
+    problem p = usual();
+    size_t chosen[ONFI_WANTS] = {99}, count = 77;
+    expect("no such choice", choice_of(&p, 9, 3, 1, chosen, &count), ONFI_BAD_CHOICE);
+    expect("no request", choice_of(&p, 9, ONFI_BY_LUN, 0, chosen, &count), ONFI_BAD_BATCH);
+    expect("nine requests", choice_of(&p, 9, ONFI_BY_LUN, 9, chosen, &count), ONFI_BAD_BATCH);
+    expect("as many accepted as the last id", choice_of(&p, 8, ONFI_BY_LUN, 1, chosen, &count), ONFI_BAD_ORDER);
+    p.wants[1].id = 7, expect("equal numbers", choice_of(&p, 9, ONFI_BY_LUN, 1, chosen, &count), ONFI_BAD_ORDER);
+    p.wants[1].id = 6, expect("numbers that fall", choice_of(&p, 9, ONFI_IN_ORDER, 1, chosen, &count), ONFI_BAD_ORDER);
+    expect("nothing is chosen", count, 77);
+    expect("nor put there", chosen[0], 99);
+}
+
+/* One read, whose phases and waits take 36,240 ns, of a bus that is free so many ns before 2^62. */
+typedef struct {
+    onfi_channel channel;
+    onfi_lun luns[1];
+    onfi_want wants[ONFI_WANTS];
+    size_t count;
+    onfi_schedule left;
+} last_read;
+
+static last_read at_the_end(uint64_t before)
+{
+    problem p = usual();
+    last_read r = {.channel = p.channel, .wants = {p.wants[0]}, .count = 1};
+    onfi_planned plan;
+    size_t bytes;
+    r.channel.bus_free = (UINT64_C(1) << 62) - before;
+    memset(&plan, 0, sizeof plan);
+    expect("a plan of the last read", onfi_plan(&r.channel, r.luns, 1, r.wants, 1, ONFI_NODES, &plan, NULL, 0, &bytes), ONFI_DONE);
+    r.left = plan.schedule;
+    return r;
+}
+
+static uint32_t run_of(last_read *r, uint8_t number, uint64_t started)
+{
+    return onfi_ran(&r->channel, r->luns, 1, r->wants, &r->count, &r->left, 0, number, started);
+}
+
+/* Whether the next calls take what stands there. */
+static uint32_t taken(const last_read *r)
+{
+    onfi_planned plan;
+    size_t bytes;
+    return onfi_plan(&r->channel, r->luns, 1, r->wants, r->count, ONFI_NODES, &plan, NULL, 0, &bytes);
+}
+
+static void refuses_run(const char *what, last_read *r, uint8_t number, uint64_t started, uint32_t wanted)
+{
+    last_read before;
+    memcpy(&before, r, sizeof before);
+    expect(what, run_of(r, number, started), wanted);
+    expect(what, (uint64_t)memcmp(&before, r, sizeof before), 0);
+}
+
+/* What onfi_ran leaves, each later call takes: it refuses what would reach 2^62 ns, and leaves all as it was. */
+static void last_times(void)
+{
+    const uint64_t end = UINT64_C(1) << 62;
+    last_read r = at_the_end(36241);
+    refuses_run("a command 1 ns late, whose data would end at 2^62", &r, 0, end - 36240, ONFI_CLOCK);
+    refuses_run("a command at 2^62", &r, 0, end, ONFI_CLOCK);
+    refuses_run("another phase", &r, 1, end - 36241, ONFI_NOT_DUE);
+    refuses_run("a command too soon", &r, 0, end - 36242, ONFI_TOO_SOON);
+    expect("a command on time", run_of(&r, 0, end - 36241), ONFI_DONE);
+    expect("what is left is taken", taken(&r), ONFI_DONE);
+    refuses_run("data 1 ns late, that would end at 2^62", &r, 1, end - 11000, ONFI_CLOCK);
+    expect("data on time", run_of(&r, 1, end - 11001), ONFI_DONE);
+    expect("what is left then", taken(&r), ONFI_DONE);
+    expect("ends 1 ns before 2^62", r.channel.bus_free, end - 1);
+    r = at_the_end(36242);
+    expect("a command 1 ns late, with 1 ns to spare", run_of(&r, 0, end - 36241), ONFI_DONE);
+    expect("what it leaves is taken", taken(&r), ONFI_DONE);
+}
+
 static void devices(void)
 {
     static uint8_t page[768];
@@ -282,6 +366,8 @@ static void texts(void)
     expect("and as it was", (uint64_t)room[0], 7);
     expect("a text", onfi_status_text(ONFI_CLOCK, room, sizeof room, &bytes), ONFI_DONE);
     expect("as it is", (uint64_t)strncmp(room, "times that reach 2^62 ns", bytes), 0);
+    expect("of equal ids", onfi_status_text(ONFI_BAD_LUN, room, sizeof room, &bytes), ONFI_DONE);
+    expect("it says so", (uint64_t)strncmp(room, "a want or running group that the LUNs can't have, or ids that are equal or fall", bytes), 0);
     expect("no text", onfi_status_text(1000, room, sizeof room, &bytes), ONFI_DONE);
     expect("of no bytes", bytes, 0);
     expect("no room for a text", onfi_status_text(ONFI_CLOCK, room, 3, &bytes), ONFI_NO_ROOM);
@@ -296,6 +382,8 @@ int main(void)
     schedules();
     remembered();
     within();
+    choices();
+    last_times();
     devices();
     texts();
     printf("%u tried, %u failed\n", tried, failed);

@@ -57,6 +57,20 @@ class Devices(unittest.TestCase):
     def test_a_later_copy(self) -> None:
         self.assertEqual(onfi.timing_of_page(bytes(256) + PAGE, SHEET), onfi.timing_of_page(PAGE, SHEET))
 
+    def test_a_page_with_restrictions_of_block_addresses(self) -> None:
+        """Byte 114, multi-plane attributes, isn't looked at: rules aren't strict where bit 1 is set (none), nor where it is clear."""
+        for attributes in (0x00, 0x02, 0xFF):
+            body = PAGE[:114] + bytes([attributes]) + PAGE[115:254]
+            found = onfi.timing_of_page(body + device.crc16(body).to_bytes(2, "little"), SHEET)
+            self.assertEqual(found, onfi.timing_of_page(PAGE, SHEET))
+
+    def test_bytes_and_texts(self) -> None:
+        found = onfi.timing_of_page(PAGE, SHEET)
+        self.assertEqual(onfi.timing_of_page(bytearray(PAGE), SHEET.encode()), found)
+        self.assertEqual(onfi.timing_of_page(memoryview(PAGE), bytearray(SHEET.encode())), found)
+        self.assertRaisesRegex(TypeError, "^a parameter page is bytes, not str$", onfi.timing_of_page, PAGE.decode("latin-1"), SHEET)
+        self.assertRaisesRegex(TypeError, "^a timing sheet is str or bytes, not dict$", onfi.timing_of_page, PAGE, {"tWC": 20})
+
     def refused(self, name: Type[onfi.Refused], bytes_: bytes = PAGE, sheet: str = SHEET, place: int = 0) -> None:
         with self.assertRaises(name) as told:
             onfi.timing_of_page(bytes_, sheet)

@@ -165,6 +165,16 @@ class Driver(unittest.TestCase):
         self.assertAlmostEqual(max(ends.values()), 50_000_000, delta=1_000_000)
         self.assertEqual(self.told(sane(), "way greedy seconds 0.05").count("requests a second"), 1)
 
+    def test_help_lists_its_words(self) -> None:
+        """The same as its comment does, and each value that a word may have is read."""
+        told = self.told(sane(), "help").splitlines()
+        words = dict(line.split(None, 1) for line in told[1:])
+        source = (EXAMPLES / "firmware_main.c").read_text().split(" */")[0]
+        self.assertEqual(sorted(words), sorted(re.findall(r"^ \*   (\w+)  ", source, re.MULTILINE)))
+        for name, values in words.items():
+            for value in re.split(r", ", values.split(";")[0]):
+                self.assertTrue(self.told(sane(), f"{name} {value} requests 1"), (name, value))
+
     def test_words_that_cant_be_read(self) -> None:
         for words in ("way best", "device mlc", "luns 9", "luns 1.5", "depth", "array 0.9-0.4", "size 3", "byte 2x", "seed 0", "told"):
             ran = run(sane(), *words.split())

@@ -4,6 +4,7 @@ from __future__ import annotations
 
 import os
 import random
+import re
 import subprocess
 import sys
 import tempfile
@@ -126,6 +127,22 @@ class Examples(unittest.TestCase):
             else:
                 self.assertEqual((told.stdout, told.stderr), (run(example("batch")).stdout, b""))
 
+    def test_pool_by_its_own_lines(self) -> None:
+        """The two commands that pool.c names, from its folder, with the library that is tested."""
+        lines = re.findall(r"^ \*     (cc .*)$", (ROOT / "examples/c/pool.c").read_text(), re.MULTILINE)
+        self.assertEqual(len(lines), 2)
+        with tempfile.TemporaryDirectory() as room:
+            for line in lines:
+                told = run("sh", "-c", self.into(line, room))
+                self.assertEqual((told.returncode, told.stderr), (0, b""), line)
+            told = run(f"{room}/batch")
+        self.assertEqual((told.returncode, told.stdout), (0, run(example("batch")).stdout))
+
+    def into(self, line: str, room: str) -> str:
+        """The command as it is, but that what it makes goes into the room."""
+        named = line.replace(" pool.o", f" {room}/pool.o").replace("-o batch", f"-o {room}/batch").replace("../../lib/", f"{LIBRARY}/")
+        return f"cd {ROOT / 'examples/c'} && {named}{f' -o {room}/pool.o' if ' -c ' in line else ''}"
+
     def test_simulator(self) -> None:
         told = run(example("simulator"))
         self.assertEqual((told.returncode, told.stderr), (0, b""))
@@ -150,6 +167,12 @@ class Refusals(unittest.TestCase):
     def test_in_c(self) -> None:
         told = run(build(ROOT / "tests/libraries/refusals.c"))
         self.assertEqual((told.returncode, told.stderr), (0, b""), told.stdout.decode())
+
+
+class Choices(unittest.TestCase):
+    def test_batches_by_hand(self) -> None:
+        told = run(build(ROOT / "tests/libraries/choices.c"))
+        self.assertEqual((told.returncode, told.stderr, told.stdout), (0, b"", b"39 tried, 0 failed\n"))
 
 
 class Nothing(unittest.TestCase):
@@ -201,6 +224,20 @@ def plan_text(plan: Union[onfi.Plan, onfi.PlanWithin]) -> bytes:
     lines += [" ".join(["rest", str(lun), *map(str, starts)]) for lun, starts in enumerate(plan.schedule.rest) if starts]
     lines += [" ".join(["group", "+".join(map(str, group.wants)), *map(str, group.starts)]) for group in plan.schedule.groups]
     return ("\n".join(lines) + "\n").encode() + plan.certificate
+
+
+def cost_of(channel: onfi.Channel, luns: Sequence[onfi.Lun], wants: Sequence[onfi.Want], weights: Sequence[int], schedule: onfi.Schedule) -> int:
+    """What a plan counts for: of each request that has a post left its weight, 1 where none is told, times the end of its post."""
+    length = {onfi.Kind.READ: channel.timing.read.post, onfi.Kind.PROGRAM: channel.timing.program.post, onfi.Kind.ERASE: channel.timing.erase.post}
+    by_id = {want.id: (want, weights[at] if at < len(weights) else 1) for at, want in enumerate(wants)}
+    cost = 0
+    for group in schedule.groups:
+        for number, start in zip(group.wants, group.starts[len(group.wants):]):
+            cost += by_id[number][1] * (start + length[by_id[number][0].kind])
+    for lun, starts in zip(luns, schedule.rest):
+        posts = starts[max(len(lun.members) - lun.next, 0):]
+        cost += sum(start + length[lun.members[0].kind] for start in posts)
+    return cost
 
 
 def text_of(what: str, remember: bool, script: bytes) -> onfi.Answer:
@@ -264,7 +301,7 @@ class Same(unittest.TestCase):
 
     def test_plans_made_better(self) -> None:
         draw, by_structs = random.Random(5), build(ROOT / "tests/libraries/plan_script.c")
-        later = 0
+        later = sooner = 0
         for number in range(SCRIPTS):
             script, limit, slack = any_script(draw), draw.choice((1, 10, 65_536)), draw.choice((0, 20, 1_000))
             channel, luns, wants = said(script)
@@ -279,8 +316,12 @@ class Same(unittest.TestCase):
             found = onfi.plan_within(channel, luns, wants, limit)
             self.assertEqual(plan.below, found.below, script)
             self.assertLessEqual(plan.finish, found.finish + (found.below - channel.bus_free) * slack // 1_000, script)
+            counts = [cost_of(channel, luns, wants, weights, it.schedule) for it in (plan, found)]
+            self.assertLessEqual(counts[0], counts[1], script)
+            sooner += counts[0] < counts[1]
             later += plan.finish > found.finish
         self.assertGreater(later, 0)
+        self.assertGreater(sooner, 0)
 
     def test_cases_of_the_program(self) -> None:
         by_text, tried = example("script"), 0

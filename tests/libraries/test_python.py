@@ -16,7 +16,7 @@ import textwrap
 import unittest
 import zipfile
 from pathlib import Path
-from typing import Any, Dict, Type
+from typing import Any, Dict, List, Type
 
 sys.path.insert(0, str(Path(__file__).resolve().parent))
 import test_libraries  # noqa: E402, F401
@@ -82,8 +82,14 @@ class Plans(unittest.TestCase):
         refused(onfi.TooMany, luns=[])
         refused(onfi.TooMany, wants=[dataclasses.replace(WANTS[0], id=number) for number in range(9)])
         refused(onfi.BadLun, wants=[WANTS[1], WANTS[0]])
+        refused(onfi.BadLun, wants=[WANTS[0], dataclasses.replace(WANTS[1], id=WANTS[0].id)])
         refused(onfi.BadLun, wants=[dataclasses.replace(WANTS[0], lun=2)])
         refused(onfi.Clock, dataclasses.replace(CHANNEL, bus_free=1 << 62))
+
+    def test_equal_ids_are_told_as_such(self) -> None:
+        equal = [WANTS[0], dataclasses.replace(WANTS[1], id=WANTS[0].id)]
+        self.assertRaisesRegex(onfi.BadLun, "ids that are equal or fall$", onfi.plan, CHANNEL, LUNS, equal)
+        self.assertRaisesRegex(onfi.BadOrder, "^numbers of requests that are equal or fall,", onfi.choose, CHANNEL, LUNS, equal, 99)
 
     def test_plan_and_check_that_remember(self) -> None:
         plan = onfi.plan_known(CHANNEL, LUNS, WANTS)
@@ -293,6 +299,31 @@ class Texts(unittest.TestCase):
         self.assertEqual([line.rsplit(b" ", 1)[0] for line in traces[1]], traces[0])
         self.assertEqual({line.rsplit(b" ", 1)[1] for line in traces[1]}, {b"0", b"1", b"2"})
         self.assertRaises(onfi.BadLimit, onfi.text_plan, b"end\n", 0, requests=True)
+
+    def test_texts_are_str_or_bytes(self) -> None:
+        script = (ROOT / "examples/batch.onfi").read_text()
+        texts: List[Any] = [script, script.encode(), bytearray(script.encode()), memoryview(script.encode())]
+        for text in texts:
+            plan = onfi.text_plan(text)
+            self.assertEqual((plan.status, plan.text), (0, onfi.text_plan(script.encode()).text))
+        both = script + plan.text.decode("ascii")
+        self.assertEqual(onfi.text_check(both).text, onfi.text_check(both.encode()).text)
+        self.assertEqual((onfi.text_check(both).text, onfi.text_legal(both).text), (b"accepted 58240\n", b"legal 58240\n"))
+        self.assertEqual(onfi.text_plan("want,read,0,0,\u0661\nend\n").text, b"script refused 1 NotANumber\n")
+
+    def test_texts_of_other_types_are_told(self) -> None:
+        calls: Dict[str, List[Any]] = {"a script": [onfi.text_plan], "a script with its plan": [onfi.text_check, onfi.text_legal]}
+        for what, call in ((what, call) for what, named in calls.items() for call in named):
+            for other in (None, 7, ["end"], ROOT / "examples/batch.onfi"):
+                with self.assertRaises(TypeError) as told:
+                    call(other)
+                self.assertEqual(str(told.exception), f"{what} is str or bytes, not {type(other).__name__}")
+            self.assertRaisesRegex(ValueError, f"^{what} has half a character", call, "\ud800")
+
+    def test_certificates_are_str_or_bytes(self) -> None:
+        plan = onfi.plan(CHANNEL, LUNS, WANTS)
+        self.assertEqual(onfi.check(CHANNEL, LUNS, WANTS, plan.schedule, plan.certificate.decode("ascii")), plan.finish)
+        self.assertRaisesRegex(TypeError, "^a certificate is str or bytes, not NoneType$", onfi.check, CHANNEL, LUNS, WANTS, plan.schedule, None)
 
     def test_the_version_of_the_library(self) -> None:
         self.assertEqual(onfi.library_version(), onfi.__version__)

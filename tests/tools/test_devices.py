@@ -18,7 +18,7 @@ EXAMPLES = support.ROOT / "examples"
 PAGES = [EXAMPLES / user / "README.md" for user in ("firmware", "simulator", "test-bench")]
 WORKED = ("multi_lun=1 multi_plane_writes=1 multi_plane_reads=1 status_enhanced=1 column_enhanced=1 data_bytes=512 "
           "spare_bytes=16 pages_per_block=64 blocks_per_lun=1000 luns=2 column_cycles=2 row_cycles=3 plane_bits=1 "
-          "tPROG_us=200 tBERS_us=1500 tR_us=25 tCCS_ns=200").split()
+          "no_block_restrictions=1 tPROG_us=200 tBERS_us=1500 tR_us=25 tCCS_ns=200").split()
 
 
 def page_rows(script: Path) -> List[str]:
@@ -53,6 +53,25 @@ class Pages(unittest.TestCase):
             for value in (1, (1 << field.width()) - 1):
                 numbers = device.numbers_of(device.page_of({name: value}, {}))
                 self.assertEqual({other: found for other, found in numbers.items() if found}, {name: value})
+
+    def test_block_restrictions_are_told(self) -> None:
+        """By a line beside the page: where several planes may be taken at once, and bit 1 of byte 114 is clear."""
+        said = "make-page: the page has block address restrictions (no_block_restrictions=0): write the row strict,1 beside it\n"
+        planes = ["plane_bits=1", "multi_plane_reads=1"]
+        for words, told in ((planes, said), (["plane_bits=2", "multi_plane_writes=1"], said), (["plane_bits=1"], ""),
+                            (["multi_plane_reads=1"], ""), ([*planes, "no_block_restrictions=1"], "")):
+            ran = support.run_tool("make-page", *words)
+            self.assertEqual((ran.returncode, ran.stderr), (0, told), words)
+        self.assertEqual(device.page_of({"no_block_restrictions": 1}, {})[114], 2)
+
+    def test_examples_allow_what_their_pages_say(self) -> None:
+        """Each script by a page that has block restrictions is strict."""
+        found = [path for path in EXAMPLES.glob("**/*.onfi") if page_rows(path)]
+        self.assertGreaterEqual(len(found), 6)
+        for path in found:
+            page = device.first_copy(bytes.fromhex("".join(row[5:] for row in page_rows(path))))
+            restricted = device.restricts_blocks(device.numbers_of(page))
+            self.assertEqual("strict,1" in path.read_text().splitlines(), restricted, path.name)
 
     def test_texts(self) -> None:
         page = device.page_of({}, {"manufacturer": "SOMEBODY", "model": "A MODEL"})

@@ -16,9 +16,11 @@ Word = Union[str, bytes]
 EXAMPLES = support.ROOT / "examples"
 BATCH = EXAMPLES / "batch.onfi"
 RUN = EXAMPLES / "two-hosts.onfi"
-COMMANDS = ("plan", "check", "run")
+COMMANDS = ("plan", "check", "run", "device")
 REFUSED_WORDS, FAILED_STREAM = 5, 7
 SECONDS = 20
+# The program reads at most so many bytes at a time.
+BLOCK = 65_536
 # A control character or a byte above ASCII; lines end with LF.
 UNSAFE = re.compile(r"[^\n -~]")
 
@@ -58,8 +60,16 @@ class WrongWords(unittest.TestCase):
     def test_an_option_before_the_command_is_told_its_place(self) -> None:
         self.assert_refused(["--limit", "7", "plan"], "'--limit'", "'plan --limit'")
 
-    def test_no_command_is_told_the_three(self) -> None:
-        self.assert_refused([], "'plan', 'check' or 'run'", "--help")
+    def test_no_command_is_told_the_four(self) -> None:
+        self.assert_refused([], "'plan', 'check', 'run' or 'device'", "--help")
+
+    def test_no_word_is_tipped_to_be_passed_as_a_file(self) -> None:
+        for words in (["plan", "-1"], ["plan", "--limit", "-1"], ["check", "--legl"], ["run", "--x"], ["--x"]):
+            found = ran(*words)
+            self.assertEqual((found.output, found.status), ("", REFUSED_WORDS), words)
+            self.assertNotIn("-- -", found.said)
+            self.assertNotIn("\n\n\n", found.said)
+            self.assertTrue(found.said.endswith("\n\nFor more information, try '--help'.\n"), found.said)
 
     def test_a_value_out_of_its_range_is_told_the_range(self) -> None:
         for value in ("0", "1048577", "x", "", "+7", "99999999999999999999"):
@@ -102,7 +112,8 @@ class Help(unittest.TestCase):
     OPTIONS = {"plan": ["--limit <N>", "--trace", "--requests", "--workers <N>", "--remember", "--within", "--early", "--slack <N>", "-q, --quiet",
                         "[FILE]"],
                "check": ["--remember", "--within", "--legal", "-q, --quiet", "[FILE]", "[PLAN]"],
-               "run": ["--limit <N>", "--plain", "--within", "--slack <N>", "--clock <CLOCK>", "-q, --quiet", "[FILE]"]}
+               "run": ["--limit <N>", "--plain", "--within", "--slack <N>", "--clock <CLOCK>", "-q, --quiet", "[FILE]"],
+               "device": ["-q, --quiet", "[FILE]"]}
 
     def help(self, *words: str) -> str:
         found = ran(*words)
@@ -135,7 +146,7 @@ class Help(unittest.TestCase):
             self.assertEqual(told - {"--help"}, set(re.findall(r"--\w+", " ".join(options))))
 
     def test_the_examples_of_help_are_there_and_go_well(self) -> None:
-        for words in ((), ("plan",), ("check",), ("run",)):
+        for words in ((), *((command,) for command in COMMANDS)):
             lines = re.findall(r"^  (onfi_sim .*)$", self.help(*words, "--help").split("Example:")[1], re.MULTILINE)
             self.assertTrue(lines)
             with tempfile.TemporaryDirectory() as folder:
@@ -146,7 +157,7 @@ class Help(unittest.TestCase):
                     self.assertEqual((done.stderr, done.returncode), (b"", 0), line)
 
     def test_lines_of_help_fit_a_wide_terminal(self) -> None:
-        for words in ((), ("plan",), ("check",), ("run",)):
+        for words in ((), *((command,) for command in COMMANDS)):
             for line in self.help(*words, "--help").splitlines():
                 self.assertLessEqual(len(line), 128, line)
 
@@ -178,6 +189,13 @@ class Files(unittest.TestCase):
             self.assertEqual(ran(command, str(path)), piped)
             self.assertEqual(ran(command, str(path), given=b"not looked at"), piped)
             self.assertEqual(ran(command, "-", given=path.read_bytes()), piped)
+
+    def test_an_input_of_more_than_16_reads_is_read_to_its_end(self) -> None:
+        text = self.script + b"\n" * (17 * BLOCK)
+        answer = ran("plan", given=self.script)
+        self.assertEqual(answer.status, 0)
+        self.assertEqual(ran("plan", given=text), answer)
+        self.assertEqual(ran("plan", self.file("long.onfi", text)), answer)
 
     def test_options_stand_before_or_behind_a_file(self) -> None:
         traced = ran("plan", "--trace", given=self.script)
@@ -247,8 +265,15 @@ class Files(unittest.TestCase):
         self.assertEqual((found.output, found.status), ("", REFUSED_WORDS))
         self.assertIsNone(UNSAFE.search(found.said), found.said)
 
+    def test_a_directory_is_refused_as_a_file_that_cannot_be_opened(self) -> None:
+        for words in (["plan", str(self.room)], ["check", str(BATCH), str(self.room)], ["run", str(self.room)], ["device", str(self.room)]):
+            self.assertEqual(ran(*words), ("", f"error: the file '{self.room}' can't be read: it is a directory\n", REFUSED_WORDS))
+            self.assertEqual(ran(*words, "--quiet"), ("", "", REFUSED_WORDS))
+
+    @unittest.skipUnless(Path("/proc/self/mem").exists(), "no file that can be opened and not read")
     def test_a_file_whose_read_fails_is_status_7_and_nothing_is_said(self) -> None:
-        for words in (["plan", str(self.room)], ["check", str(BATCH), str(self.room)], ["run", str(self.room)]):
+        absent = "/proc/self/mem"
+        for words in (["plan", absent], ["check", str(BATCH), absent], ["run", absent], ["device", absent]):
             self.assertEqual(ran(*words), ("", "", FAILED_STREAM))
 
 
@@ -299,6 +324,16 @@ class Streams(unittest.TestCase):
             done = subprocess.run(["sh", "-c", '"$0" "$@" 2>&-', str(support.program()), *words], input=given, stdout=subprocess.PIPE,
                                   timeout=SECONDS)
             self.assertEqual((done.stdout.decode(), done.returncode), (said.output, said.status), words)
+
+
+@unittest.skipUnless(support.program(), "no built program")
+class TooManyOperations(unittest.TestCase):
+    def test_the_operation_that_is_one_too_many_is_told_how_many_may_be(self) -> None:
+        device = "".join(line for line in RUN.read_text().splitlines(keepends=True) if line.startswith(("page,", "sheet,")))
+        found = ran("run", given=(device + 10_001 * "op,0,0,read,0,0,0\n" + "end\n").encode())
+        row = device.count("\n") + 10_001
+        self.assertEqual((found.output, found.status), (f"script refused {row} OutOfRange\n", 1))
+        self.assertIn(f":{row}: row {row} 'op,0,0,read,0,0,0': a script has at most 10000 rows 'op'\n", found.said)
 
 
 @unittest.skipUnless(support.program(), "no built program")

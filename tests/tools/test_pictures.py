@@ -39,6 +39,14 @@ def sides_of(element: ET.Element) -> Tuple[float, float]:
     return left, left + size
 
 
+PART_OF_BATCH = """\
+bus     11111111111111111111111111111111111111111111111111111110000
+LUN 0  --------------------------------------------------------pppp
+LUN 1  -ppppppppppppppppppppppppppppppppppppppppppppppppppppppp
+       25000                                               37000 ns
+"""
+
+
 class Traces(unittest.TestCase):
     def test_a_line_that_is_none_is_named(self) -> None:
         good = "0 140 0 read cmd 0 0 00 30"
@@ -89,6 +97,58 @@ class Texts(unittest.TestCase):
         self.assertEqual(text.picture(support.trace("batch"), 60), TEXT_OF_BATCH)
         shown = "".join("# " + line + "\n" for line in TEXT_OF_BATCH.splitlines())
         self.assertIn(shown, (support.ROOT / "docs/pictures/README.md").read_text())
+
+
+class Windows(unittest.TestCase):
+    """A part of a trace, in each form."""
+
+    def drawn(self, *words: str, status: int = 0) -> str:
+        ran = support.run_tool("draw-trace", *words, given=support.trace_text("batch"))
+        self.assertEqual(ran.returncode, status, ran.stderr)
+        return ran.stderr if status else ran.stdout
+
+    def test_text(self) -> None:
+        self.assertEqual(self.drawn("60", "--from", "25000", "--to", "37000"), PART_OF_BATCH)
+        self.assertEqual(self.drawn("60", "--from", "0"), TEXT_OF_BATCH)
+        self.assertEqual(self.drawn("60", "--to", "58240"), TEXT_OF_BATCH)
+
+    def test_idle_time_keeps_its_rows(self) -> None:
+        wanted = "bus\nLUN 0  " + 9 * "-" + "\nLUN 1  " + 9 * "-" + "\n       2000 25240 ns\n"
+        self.assertEqual(self.drawn("9", "--from", "2000", "--to", "25240"), wanted)
+
+    def test_drawings(self) -> None:
+        root = ET.fromstring(self.drawn("--as", "svg", "--from", "25000", "--to", "37000"))
+        titles = [str(title.text) for title in root.iter(SVG + "title")]
+        self.assertEqual(titles[0], "Bus schedule, 25,000 to 37,000 ns")
+        self.assertIn("LUN 1, read, data output, block 0, page 0: 25,240 to 36,240 ns", titles)
+        self.assertIn("LUN 0, read, data output, block 0, page 0: 36,240 to 37,000 ns", titles)
+        self.assertIn("LUN 0, read, array time: 25,000 to 36,240 ns", titles)
+        self.assertEqual(len(titles), 1 + 2 + 4)
+        texts = [str(text.text) for text in root.iter(SVG + "text")]
+        self.assertIn("37,000 ns", texts)
+        self.assertFalse([text for text in texts if text.startswith("finish")])
+
+    def test_a_dump_goes_on_behind_its_part(self) -> None:
+        dump = self.drawn("--as", "vcd", "--from", "200", "--to", "900")
+        self.assertEqual(dump.splitlines()[-1], "#900")
+        _, changes = read_vcd(dump)
+        self.assertEqual((changes[0].time, changes[-1].time), (200, 880))
+        whole = read_vcd(self.drawn("--as", "vcd"))[1]
+        inner = [it for it in changes if it.time > 200]
+        self.assertEqual(inner, [it for it in whole if 200 < it.time < 900])
+        at_first = {it.signal: it.value for it in whole if it.time <= 200}
+        self.assertEqual({it.signal: it.value for it in changes if it.time == 200}, at_first)
+
+    def test_events(self) -> None:
+        events = json.loads(self.drawn("--as", "perfetto", "--from", "25000", "--to", "37000"))["traceEvents"]
+        told = sorted((it["tid"], it["args"]["start"], it["args"]["end"]) for it in events if it["ph"] == "X")
+        self.assertEqual(told, [(1, 25240, 36240), (1, 36240, 37000), (2, 25000, 36240), (2, 36240, 37000), (3, 25000, 25240), (3, 25240, 36240)])
+
+    def test_what_is_no_part_is_told(self) -> None:
+        for words in (["--from", "5", "--to", "5"], ["--from", "58240"], ["--to", "0"]):
+            self.assertRegex(self.drawn(*words, status=1), r"^draw-trace: nothing lies between \d+ and \d+ ns\n$")
+        for word in ("-1", "1.5", "x", ""):
+            self.assertIn("invalid time value", self.drawn(f"--from={word}", status=2))
 
 
 class Drawings(unittest.TestCase):

@@ -17,8 +17,8 @@ import support
 TOOL: Any = support.load("make-statuses")
 FILES = (TOOL.PAGE, TOOL.HEADER, TOOL.REFUSED, TOOL.PACKAGE, TOOL.CALLS, TOOL.SOURCE, TOOL.WORDS)
 ROW = "22 | Clock | Times that reach 2^62 ns. | times that reach 2^62 ns\n"
-LAST = ("27 | BadOrder | Numbers of requests don't rise, or reach the count of all that were accepted. | "
-        "numbers of requests that don't rise, or reach the count of all\n")
+LAST = ("27 | BadOrder | Numbers of requests are equal or don't rise, or reach the count of all that were accepted. | "
+        "numbers of requests that are equal or fall, or reach the count of all\n")
 
 
 class Statuses(unittest.TestCase):

@@ -98,6 +98,9 @@ class Prove(unittest.TestCase):
 
     def test_a_program_without_its_compiler(self) -> None:
         with tempfile.TemporaryDirectory() as room:
+            kit = Path(room) / "rt"
+            kit.write_text("")
+            kit.chmod(0o755)
             words = ["prove", "program", "onfi_program", "--target", ARM]
             command = [sys.executable, "-B", str(support.ROOT / "tools" / words[0]), *words[1:]]
             told = subprocess.run(command, env={**os.environ, "PATH": room}, capture_output=True, text=True)

@@ -42,6 +42,7 @@ NUMBERS: Dict[str, Field] = {
     "column_cycles": Field(101, 1, 4, 4),
     "row_cycles": Field(101, 1, 0, 4),
     "plane_bits": Field(113, 1, 0, 4),
+    "no_block_restrictions": Field(114, 1, 1, 1),
     "tPROG_us": Field(133, 2),
     "tBERS_us": Field(135, 2),
     "tR_us": Field(137, 2),
@@ -122,6 +123,12 @@ def first_copy(data: bytes) -> bytes:
         if right >= 2 and crc16(copy[:254]) == int.from_bytes(copy[254:], "little"):
             return copy
     raise ValueError("no copy of the parameter page has its signature and its CRC")
+
+
+def restricts_blocks(page: Mapping[str, int]) -> bool:
+    """Whether a page takes groups of several planes, and of restricted blocks alone."""
+    groups = page["plane_bits"] > 0 and (page["multi_plane_reads"] or page["multi_plane_writes"])
+    return bool(groups) and not page["no_block_restrictions"]
 
 
 def copies_of(data: bytes) -> Iterator[bytes]:

@@ -6,7 +6,7 @@ import json
 from typing import Any, Dict, List, Mapping, Optional
 
 from onfi_tools.device import Spans
-from onfi_tools.trace import Part, Phase, Stretch, by_lun, on_the_bus, stretches
+from onfi_tools.trace import Part, Phase, Stretch, Window, by_lun, on_the_bus, stretches, whole
 
 CHANNEL = 1
 BUS = 1
@@ -15,16 +15,17 @@ FIRST_LUN = 2
 Event = Dict[str, Any]
 
 
-def picture(phases: List[Phase], lengths: Optional[Mapping[str, Spans]]) -> str:
+def picture(phases: List[Phase], lengths: Optional[Mapping[str, Spans]], window: Optional[Window] = None) -> str:
     """The JSON: a track for the bus and each LUN, one event for each stretch. Its times are microseconds; the
     arguments `start` and `end` are ns."""
     luns = by_lun(phases)
+    window = window or whole(phases)
     events = [named("process_name", 0, "ONFI channel"), named("thread_name", BUS, "bus")]
     events += [named("thread_name", FIRST_LUN + lun, f"LUN {lun}") for lun in luns]
     events += [ordered(BUS)] + [ordered(FIRST_LUN + lun) for lun in luns]
-    events += [bus_event(phase) for phase in phases]
+    events += [bus_event(phase) for phase in window.of(phases)]
     for own in luns.values():
-        events += [lun_event(stretch) for stretch in stretches(own, 0, lengths)]
+        events += [lun_event(stretch) for stretch in window.of(stretches(own, 0, lengths))]
     return json.dumps({"displayTimeUnit": "ns", "traceEvents": events}, indent=1) + "\n"
 
 

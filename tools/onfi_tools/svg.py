@@ -6,7 +6,7 @@ import xml.etree.ElementTree as ET
 from typing import Dict, Iterator, List, Mapping, NamedTuple, Optional, Tuple
 
 from onfi_tools.device import Spans
-from onfi_tools.trace import Part, Phase, Stretch, by_lun, finish_of, on_the_bus, stretches
+from onfi_tools.trace import Part, Phase, Stretch, Window, by_lun, finish_of, on_the_bus, stretches
 
 LEAST_WIDTH = 320
 LEFT, RIGHT, TOP, BAR, ROW, TIER = 58, 24, 30, 24, 40, 15
@@ -51,19 +51,20 @@ class Label(NamedTuple):
     text: str
 
 
-def picture(phases: List[Phase], lengths: Optional[Mapping[str, Spans]], width: int, labels: bool) -> str:
-    """The SVG text. Its axis runs from the first phase's start to the finish."""
-    begin = phases[0].start if phases else 0
-    scale = Scale(begin, finish_of(phases), width)
-    rows = {lun: stretches(own, begin, lengths) for lun, own in by_lun(phases).items()}
+def picture(phases: List[Phase], lengths: Optional[Mapping[str, Spans]], width: int, labels: bool, window: Optional[Window] = None) -> str:
+    """The SVG text. Its axis runs from the first phase's start to the finish, or over a window."""
+    begin, finish = phases[0].start if phases else 0, finish_of(phases)
+    window = window or Window(begin, finish)
+    scale = Scale(window.begin, window.end, width)
+    rows = {lun: window.of(stretches(own, begin, lengths)) for lun, own in by_lun(phases).items()}
     root = ET.Element("svg", {"xmlns": "http://www.w3.org/2000/svg", "font-family": "sans-serif", "font-size": "11"})
     title = ET.SubElement(root, "title")
-    title.text = f"Bus schedule, {begin:,} to {scale.end:,} ns"
+    title.text = f"Bus schedule, {scale.begin:,} to {scale.end:,} ns"
     add_patterns(root)
     ET.SubElement(root, "rect", {"width": "100%", "height": "100%", "fill": "white"})
     axis = ET.SubElement(root, "g")
-    height = add_rows(root, scale, [on_the_bus(phase) for phase in phases], rows, labels)
-    add_axis(axis, scale, height)
+    height = add_rows(root, scale, [on_the_bus(phase) for phase in window.of(phases)], rows, labels)
+    add_axis(axis, scale, height, "finish " if scale.end == finish else "")
     height = add_legend(root, parts_of(rows), lengths is not None, width, height + 44)
     root.attrib.update({"width": str(width), "height": str(height), "viewBox": f"0 0 {width} {height}"})
     break_lines(root)
@@ -195,8 +196,8 @@ def ticks(scale: Scale) -> Iterator[int]:
     return iter(range(-(-scale.begin // step) * step, scale.end + 1, step))
 
 
-def add_axis(group: ET.Element, scale: Scale, height: int) -> None:
-    """A faint line and a number for each step, a dashed one and its time for the finish."""
+def add_axis(group: ET.Element, scale: Scale, height: int, what: str) -> None:
+    """A faint line and a number for each step, a dashed one and its time for the end."""
     for time in ticks(scale):
         add_mark(group, scale.x(time), height, {"stroke": FAINT})
         text = f"{time:,}"
@@ -204,7 +205,7 @@ def add_axis(group: ET.Element, scale: Scale, height: int) -> None:
         add_text(group, min(max(scale.x(time), 24 + half), scale.width - half), height + 14, text, "middle")
     end = scale.x(scale.end)
     add_mark(group, end, height, {"stroke": INK, "stroke-dasharray": "3 3"})
-    add_text(group, end, TOP - 12, f"finish {scale.end:,} ns", "end")
+    add_text(group, end, TOP - 12, f"{what}{scale.end:,} ns", "end")
     add_text(group, 6, height + 14, "ns", "start")
 
 

@@ -2,52 +2,63 @@
 
 from __future__ import annotations
 
-from typing import Dict, List, Tuple
+from typing import Dict, List, NamedTuple, Optional, Tuple
 
-from onfi_tools.trace import Phase, by_lun, finish_of
-
-
-def columns_of(start: int, end: int, scale: float, columns: int) -> range:
-    """The columns that a span of time takes, at least one."""
-    first = min(int(start / scale), columns - 1)
-    last = min(max(first + 1, round(end / scale)), columns)
-    return range(first, last)
+from onfi_tools.trace import Phase, Window, by_lun, whole
 
 
-def row_of(own: List[Phase], scale: float, columns: int) -> List[str]:
+class Columns(NamedTuple):
+    """A window of time on a row of characters."""
+
+    window: Window
+    width: int
+
+    def of(self, start: int, end: int) -> range:
+        """The columns that a span of time takes: at least one, but none outside the window."""
+        start, end = max(start, self.window.begin), min(end, self.window.end)
+        if start >= end:
+            return range(0)
+        scale = (self.window.end - self.window.begin) / self.width
+        first = min(int((start - self.window.begin) / scale), self.width - 1)
+        last = min(max(first + 1, round((end - self.window.begin) / scale)), self.width)
+        return range(first, last)
+
+
+def row_of(own: List[Phase], columns: Columns) -> List[str]:
     """A LUN's row: `-` between the phases of a group, and the phases over it."""
-    row = [" "] * columns
+    row = [" "] * columns.width
     for before, behind in zip(own, own[1:]):
         if behind.is_post or not before.is_post:
-            for at in columns_of(before.end, behind.start, scale, columns):
+            for at in columns.of(before.end, behind.start):
                 row[at] = "-"
     for phase in own:
-        for at in columns_of(phase.start, phase.end, scale, columns):
+        for at in columns.of(phase.start, phase.end):
             row[at] = "p" if phase.is_post else "c"
     return row
 
 
-def bus_row(phases: List[Phase], scale: float, columns: int) -> List[str]:
-    row = [" "] * columns
+def bus_row(phases: List[Phase], columns: Columns) -> List[str]:
+    row = [" "] * columns.width
     for phase in phases:
-        for at in columns_of(phase.start, phase.end, scale, columns):
+        for at in columns.of(phase.start, phase.end):
             row[at] = str(phase.lun) if row[at] in (" ", str(phase.lun)) else "*"
     return row
 
 
-def rows_of(phases: List[Phase], columns: int) -> Tuple[List[str], Dict[int, List[str]]]:
+def rows_of(phases: List[Phase], columns: Columns) -> Tuple[List[str], Dict[int, List[str]]]:
     """The bus row and the row of each LUN."""
-    scale = finish_of(phases) / columns
-    luns = {lun: row_of(own, scale, columns) for lun, own in by_lun(phases).items()}
-    return bus_row(phases, scale, columns), luns
+    luns = {lun: row_of(own, columns) for lun, own in by_lun(phases).items()}
+    return bus_row(phases, columns), luns
 
 
-def picture(phases: List[Phase], columns: int) -> str:
-    """The lines of the picture; nothing where there is no phase."""
+def picture(phases: List[Phase], columns: int, window: Optional[Window] = None) -> str:
+    """The lines of the picture, from 0 to the finish or of a window; nothing where there is no phase."""
     if not phases:
         return ""
-    bus, luns = rows_of(phases, columns)
+    window = window or whole(phases)
+    bus, luns = rows_of(phases, Columns(window, columns))
     lines = ["bus    " + "".join(bus).rstrip()]
     lines += [f"LUN {lun}  " + "".join(row).rstrip() for lun, row in luns.items()]
-    lines.append("       0" + f"{finish_of(phases)} ns".rjust(columns - 1))
-    return "\n".join(lines) + "\n"
+    begin = str(window.begin)
+    lines.append(f"       {begin}" + f" {window.end} ns".rjust(columns - len(begin)))
+    return "\n".join(line.rstrip() for line in lines) + "\n"

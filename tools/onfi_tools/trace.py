@@ -3,7 +3,7 @@
 from __future__ import annotations
 
 import enum
-from typing import Dict, Iterable, List, Mapping, NamedTuple, Optional
+from typing import Dict, Iterable, List, Mapping, NamedTuple, Optional, TypeVar
 
 from onfi_tools.device import KINDS, Spans
 
@@ -52,6 +52,21 @@ class Stretch(NamedTuple):
     page: Optional[int] = None
 
 
+Span = TypeVar("Span", Phase, Stretch)
+
+
+class Window(NamedTuple):
+    """The part of a trace that is drawn: from `begin` up to `end`, in ns."""
+
+    begin: int
+    end: int
+
+    def of(self, spans: List[Span]) -> List[Span]:
+        """What lies in it; of what reaches out of it the part within."""
+        within = [it for it in spans if it.start < self.end and self.begin < it.end]
+        return [it._replace(start=max(it.start, self.begin), end=min(it.end, self.end)) for it in within]
+
+
 def read_trace(lines: Iterable[str]) -> List[Phase]:
     """The phases of a trace, in its order; ValueError names the first line that is none."""
     phases: List[Phase] = []
@@ -82,6 +97,11 @@ def phase_of(number: int, line: str) -> Phase:
     if start >= end or lun >= LUNS or kind not in KINDS or part not in PART_WORDS:
         raise ValueError(f"line {number}: not a line of a trace: {line.strip()}")
     return Phase(start, end, lun, kind, part == "post", block, page, fields[7], fields[8])
+
+
+def whole(phases: List[Phase]) -> Window:
+    """From 0 to the finish."""
+    return Window(0, finish_of(phases))
 
 
 def finish_of(phases: List[Phase]) -> int:

@@ -5,7 +5,7 @@ from __future__ import annotations
 from typing import Dict, List, Mapping, NamedTuple, Optional, Tuple
 
 from onfi_tools.device import KINDS, Spans
-from onfi_tools.trace import Part, Phase, Stretch, by_lun, stretches
+from onfi_tools.trace import Part, Phase, Stretch, Window, by_lun, finish_of, stretches, whole
 
 IDLE = "000"
 CODES = {Part.COMMAND: 1, Part.GAP: 2, Part.ARRAY: 3, Part.WAIT: 4, Part.OUTPUT: 5, Part.STATUS: 6}
@@ -63,19 +63,23 @@ def nothing(signal: Signal) -> str:
     return "z" * signal.bits
 
 
-def picture(phases: List[Phase], lengths: Optional[Mapping[str, Spans]]) -> str:
-    """The dump, from 0 to the finish, in ns; waits for the bus are told only where the lengths are known."""
+def picture(phases: List[Phase], lengths: Optional[Mapping[str, Spans]], window: Optional[Window] = None) -> str:
+    """The dump, from 0 to the finish or of a window, in ns; waits for the bus are told only where the lengths are known."""
     luns = by_lun(phases)
+    window = window or whole(phases)
     bus = Signal("!", "bus_owner", 3)
     signals = {lun: OfLun.of(lun) for lun in luns}
-    changes = [(0, bus, nothing(bus))]
+    changes = [(window.begin, bus, nothing(bus))]
     for own in signals.values():
-        changes += own.idle(0)
-    for phase in phases:
+        changes += own.idle(window.begin)
+    for phase in window.of(phases):
         changes += bus_changes(bus, phase)
     for lun, phases_of_lun in luns.items():
-        for stretch in stretches(phases_of_lun, 0, lengths):
+        for stretch in window.of(stretches(phases_of_lun, 0, lengths)):
             changes += lun_changes(signals[lun], stretch)
+    if window.end < finish_of(phases):
+        # What was cut off there goes on.
+        return "\n".join([*header(bus, signals), *dumped([it for it in changes if it[0] < window.end]), f"#{window.end}"]) + "\n"
     return "\n".join(header(bus, signals) + dumped(changes)) + "\n"
 
 
@@ -114,6 +118,6 @@ def dumped(changes: List[Change]) -> List[str]:
     for time in sorted(at):
         told = [signal.line(value) for signal, value in at[time].items() if seen.get(signal) != value]
         if told:
-            lines += [f"#{time}"] + (["$dumpvars"] + told + ["$end"] if time == 0 else told)
+            lines += [f"#{time}"] + (told if lines else ["$dumpvars"] + told + ["$end"])
         seen.update(at[time])
     return lines

@@ -3,6 +3,7 @@ mod Dues
 mod Few
 mod Geometries
 mod Giving
+mod Horizons
 mod Mapped
 mod Next
 mod Orders

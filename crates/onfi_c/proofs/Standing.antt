@@ -15,8 +15,10 @@ use Rattle.onfi_group.specs.declared.rules.Rules.{Rules}
 use Rattle.onfi_timing.specs.Phases.{phase_length, wait_before}
 use Rattle.onfi_problem.specs.declared.lun_state.LunState.{LunState}
 use Rattle.onfi_problem.specs.declared.lun_state.LunState.TheVariants.{Free, Running}
+use Rattle.onfi_problem.specs.Left.{InLimits}
 use Rattle.onfi_problem.specs.Problem.{Problem}
 use Rattle.onfi_problem.specs.Moves.{lun_after, placed, ran_with, without}
+use Rattle.onfi_problem.proofs.Kept.{kept, kept_small}
 use Rattle.onfi_problem.proofs.Lists.{map_found, map_set}
 use Rattle.onfi_schedule.specs.Schedule.{Schedule, Legal}
 use Rattle.onfi_core.specs.Steps.{IsPhase}
@@ -28,13 +30,14 @@ use Rattle.onfi_c.specs.declared.lun.PlainLun.{PlainLun}
 use Rattle.onfi_c.specs.declared.lun.PlainWant.{PlainWant}
 use Rattle.onfi_c.specs.declared.status.Status.{Status}
 use Rattle.onfi_c.specs.declared.status.Status.TheVariants.{NotDue, TooSoon}
-use Rattle.onfi_c.specs.Behind.{IsBehind, IsNotBehind, ends, kept_behind}
+use Rattle.onfi_c.specs.Behind.{IsBehind, IsBeyond, IsInTime, IsNotBehind, ends, kept_behind}
 use Rattle.onfi_c.specs.Coming.{IsComing, left_behind, wants_behind}
 use Rattle.onfi_c.specs.Due.{number_of_kind}
 use Rattle.onfi_core.specs.Times.{later}
-use Rattle.onfi_c.specs.Ran.{IsRan, IsNotRan, ComesOn, Kept, is_late, is_no_memory, is_not_due, is_too_soon, Stands, lun_in, no_want, telling, waits, written_want}
+use Rattle.onfi_c.specs.Ran.{IsRan, IsNotRan, ComesOn, Kept, is_beyond, is_late, is_no_memory, is_not_due, is_too_soon, Stands, lun_in, no_want, telling, waits, written_want}
 use Rattle.onfi_c.specs.Said.{IsSaid, kind_of, members_of, state_of, states_of, want_of, wants_of}
 use Rattle.onfi_c.specs.Written.{filled, written_schedule}
+use Rattle.onfi_c.proofs.Horizons.{one_horizon}
 use Rattle.onfi_c.proofs.Shifted.{late_legal}
 
 -- The LUN of the phase
@@ -202,9 +205,16 @@ comes_on p s c lun number is lun_is number_is = record {
   lun_is = sym lun_is ∙ is.lun_is;
 }
 
+said_there : (old : Kept) (p : Problem) (s : Schedule) (c : Coming) (lun started : ℕ) (b : Behind) → Stands old p s → (is : IsComing p s c) → c.lun ≡ lun → IsBehind p s c started old.wants b
+    → IsSaid (record old.channel { bus_free = b.bus_free }) (slice_set old.luns lun b.lun) b.wants.items (placed p is.move started)
+said_there old p s c lun started b stand is lun_is behind =
+    subst (λ n. IsSaid (record old.channel { bus_free = b.bus_free }) (slice_set old.luns n b.lun) b.wants.items (placed p is.move started)) lun_is
+    (said_behind old.channel old.luns old.wants p s c started b stand.said.problem is behind)
+
 pub ran_behind : (old : Kept) (p : Problem) (s : Schedule) (c : Coming) (lun number started : ℕ) (b : Behind) → Stands old p s → IsComing p s c → c.lun ≡ lun → c.number ≡ number
-    → c.start ≤ started → IsBehind p s c started old.wants b → IsRan old (kept_behind old lun b) lun number started
-ran_behind old p s c lun number started b stand is lun_is number_is on_time behind = record {
+    → c.start ≤ started → IsBehind p s c started old.wants b → InLimits p → IsInTime (record old.channel { bus_free = b.bus_free }) (slice_set old.luns lun b.lun) b.wants.items
+    → IsRan old (kept_behind old lun b) lun number started
+ran_behind old p s c lun number started b stand is lun_is number_is on_time behind in_limits in_time = record {
   problem = p;
   schedule = s;
   stand = stand;
@@ -214,10 +224,29 @@ ran_behind old p s c lun number started b stand is lun_is number_is on_time behi
   comes_on = comes_on p s c lun number is lun_is number_is;
   on_time = on_time;
   legal = late_legal p is.move c.start started (left_behind s c) is.first.is_move on_time (subst (Legal (placed p is.move c.start)) is.left_is is.first.legal);
-  after = subst (λ n. IsSaid (record old.channel { bus_free = b.bus_free }) (slice_set old.luns n b.lun) b.wants.items (placed p is.move started)) lun_is
-      (said_behind old.channel old.luns old.wants p s c started b stand.said.problem is behind);
+  after = said_there old p s c lun started b stand is lun_is behind;
+  limits = record {
+    small = kept_small p is.move started in_limits.small is.first.is_move;
+    problem = kept p is.move started in_limits.problem is.first.is_move;
+    horizon = (
+        let (q, said, within) = in_time in
+        let same = one_horizon (record old.channel { bus_free = b.bus_free }) (slice_set old.luns lun b.lun) b.wants.items q (placed p is.move started) said
+        (said_there old p s c lun started b stand is lun_is behind) in
+        subst (λ n. n < 2 ^ 62) same within
+        );
+  };
   later = behind.schedule;
 }
+
+-- what could reach 2^62 is why nothing is done
+pub not_in_time : (old : Kept) (p : Problem) (s : Schedule) (c : Coming) (lun number started : ℕ) (b : Behind) (status : Status) → Stands old p s → IsComing p s c → c.lun ≡ lun
+    → c.number ≡ number → c.start ≤ started → IsBehind p s c started old.wants b
+    → IsBeyond (record old.channel { bus_free = b.bus_free }) (slice_set old.luns lun b.lun) b.wants.items status → IsNotRan old lun number started status
+not_in_time old p s c lun number started b status stand is lun_is number_is on_time behind (inl memory) = is_no_memory p s stand memory
+not_in_time old p s c lun number started b status stand is lun_is number_is on_time behind (inr (clock, (q, said, late))) =
+    let same = one_horizon (record old.channel { bus_free = b.bus_free }) (slice_set old.luns lun b.lun) b.wants.items q (placed p is.move started) said
+    (said_there old p s c lun started b stand is lun_is behind) in
+    is_beyond p s stand is.move c.start (left_behind s c) (comes_on p s c lun number is lun_is number_is) on_time (subst (λ n. 2 ^ 62 ≤ n) same late) clock
 
 -- why nothing stands behind it is why nothing is done
 pub not_ran : (old : Kept) (p : Problem) (s : Schedule) (c : Coming) (lun number started : ℕ) (status : Status) → Stands old p s → IsComing p s c → c.lun ≡ lun → c.number ≡ number

@@ -1,19 +1,22 @@
 -- What stands behind a phase that comes next, in parts.
-use Rattle.std.specs.Prelude.{◌≡◌, ◌⊎◌, ℕ, ◌+◌, ◌-◌, ◌≤◌, List, length, slice_set}
+use Rattle.std.specs.Prelude.{◌≡◌, ◌⊎◌, ℕ, ◌+◌, ◌-◌, ◌^◌, ◌<◌, ◌≤◌, List, length, slice_set}
 use Rattle.onfi_timing.specs.Phases.{phase_length}
 use Rattle.onfi_group.specs.Group.{group_spans}
 use Rattle.onfi_problem.specs.Problem.{Problem}
+use Rattle.onfi_problem.specs.Left.{horizon}
 use Rattle.onfi_problem.specs.Moves.{lun_after}
 use Rattle.onfi_schedule.specs.Schedule.{Schedule}
 use Rattle.onfi_c.specs.declared.behind.Behind.{Behind}
+use Rattle.onfi_c.specs.declared.channel.PlainChannel.{PlainChannel}
 use Rattle.onfi_c.specs.declared.coming.Coming.{Coming}
+use Rattle.onfi_c.specs.declared.lun.PlainLun.{PlainLun}
 use Rattle.onfi_c.specs.declared.lun.PlainWant.{PlainWant}
 use Rattle.onfi_c.specs.declared.status.Status.{Status}
 use Rattle.onfi_c.specs.declared.status.Status.TheVariants.{Clock, Memory}
 use Rattle.onfi_c.specs.Coming.{left_behind, wants_behind}
 use Rattle.onfi_core.specs.Times.{later}
 use Rattle.onfi_c.specs.Ran.{IsLate, Kept}
-use Rattle.onfi_c.specs.Said.{state_of, wants_of}
+use Rattle.onfi_c.specs.Said.{IsSaid, state_of, wants_of}
 use Rattle.onfi_c.specs.Written.{written_schedule}
 
 -- when the phase ends that starts then
@@ -40,3 +43,11 @@ kept_behind old lun b = record {
   wants = b.wants.items;
   schedule = b.schedule;
 }
+
+-- the problem that is said has times below 2^62, as each call asks
+abbrev pub IsInTime : PlainChannel → List PlainLun → List PlainWant → Type 0
+IsInTime channel luns wants = (p : Problem) × IsSaid channel luns wants p × (horizon p < 2 ^ 62)
+
+-- .. or hasn't; or memory ran out
+abbrev pub IsBeyond : PlainChannel → List PlainLun → List PlainWant → Status → Type 0
+IsBeyond channel luns wants status = (status ≡ Memory) ⊎ ((status ≡ Clock) × ((p : Problem) × IsSaid channel luns wants p × (2 ^ 62 ≤ horizon p)))

@@ -49,7 +49,7 @@ written_geometry g = record {
   multi_plane_reads = g.multi_plane_reads;
 }
 
--- the plain struct of a device; a page doesn't tell whether groups are strict
+-- the plain struct of a device; its groups aren't strict, whatever byte 114 of the page (multi-plane attributes) says of block addresses
 abbrev pub written_device : Geometry → Timing → PlainDevice
 written_device g t = record {
   timing = written_timing t;

@@ -4,6 +4,7 @@ use Rattle.onfi_request.specs.declared.want.Want.{Want}
 use Rattle.onfi_problem.specs.Problem.{Problem}
 use Rattle.onfi_problem.specs.declared.lun_state.LunState.{LunState}
 use Rattle.onfi_problem.specs.declared.lun_state.LunState.TheVariants.{Free, Running}
+use Rattle.onfi_problem.specs.Left.{horizon, InLimits}
 use Rattle.onfi_problem.specs.Moves.{Move, move_lun, placed}
 use Rattle.onfi_group.specs.Group.{is_member}
 use Rattle.onfi_schedule.specs.Schedule.{Schedule, Legal, phases}
@@ -62,8 +63,8 @@ pub record ComesOn (p : Problem) (s : Schedule) (lun number : ℕ) (move : Move)
   pub is : IsPhase p move group number
   pub lun_is : lun ≡ move_lun move
 
--- the phase that was due ran from `started` on: what is kept then is the problem that it leaves, and all other phases, later by
--- as much as it was: a legal schedule of it
+-- the phase that was due ran from `started` on: what is kept then is the problem that it leaves, in the limits that each call
+-- asks, and all other phases, later by as much as it was: a legal schedule of it
 pub record IsRan (old new : Kept) (lun number started : ℕ) : Type 0 where
   pub problem : Problem
   pub schedule : Schedule
@@ -75,6 +76,7 @@ pub record IsRan (old new : Kept) (lun number started : ℕ) : Type 0 where
   pub on_time : start ≤ started
   pub legal : Legal (placed problem move started) (later (started - start) left)
   pub after : IsSaid new.channel new.luns new.wants (placed problem move started)
+  pub limits : InLimits (placed problem move started)
   pub later : new.schedule ≡ written_schedule (later (started - start) left)
 
 -- this phase, or one that is left, would start at 2^62 or later
@@ -91,6 +93,9 @@ pub data IsNotRan (old : Kept) (lun number started : ℕ) (status : Status) : Ty
       → status ≡ TooSoon → IsNotRan old lun number started status
   is_late : (p : Problem) (s : Schedule) → Stands old p s → (move : Move) (start : ℕ) (left : Schedule) → ComesOn p s lun number move start left → start ≤ started
       → IsLate start started left → status ≡ Clock → IsNotRan old lun number started status
+  -- what is left could reach 2^62, so that each later call would refuse it
+  is_beyond : (p : Problem) (s : Schedule) → Stands old p s → (move : Move) (start : ℕ) (left : Schedule) → ComesOn p s lun number move start left → start ≤ started
+      → 2 ^ 62 ≤ horizon (placed p move started) → status ≡ Clock → IsNotRan old lun number started status
   is_no_memory : (p : Problem) (s : Schedule) → Stands old p s → status ≡ Memory → IsNotRan old lun number started status
 
 -- all is as it was

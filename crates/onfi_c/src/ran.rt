@@ -1,12 +1,13 @@
 //! What stands behind a phase, in place of what stood before it.
-ghost use Rattle.std.specs.Prelude.{◌≡◌, ◌↔◌, ◌++◌, ◌<◌, ◌≤◌, drop, length, take, IfOk, IfErr, IsTrue};
-ghost use Rattle.onfi_c.specs.Behind.{kept_behind};
+ghost use Rattle.std.specs.Prelude.{◌≡◌, ◌↔◌, ◌++◌, ◌<◌, ◌≤◌, drop, length, slice_set, take, IfOk, IfErr, IsTrue};
+ghost use Rattle.onfi_c.specs.Behind.{IsBeyond, IsInTime, kept_behind};
 ghost use Rattle.onfi_c.specs.Ran.{GivesRan, IsNotRan, IsRan, Kept};
 
 use crate::behind::{Behind, find_behind};
 use crate::channel::PlainChannel;
 use crate::coming::{Coming, find_coming};
 use crate::lun::{PlainLun, PlainWant};
+use crate::said::problem_of;
 use crate::schedule::PlainSchedule;
 use crate::stand::stand_of;
 use crate::status::Status;
@@ -17,6 +18,36 @@ fn is_due(coming: &Coming, lun: u8, number: u8) -> bool
     ensures { IsTrue result ↔ ((coming.now.lun ≡ lun) × (coming.now.number ≡ number)) }
 {
     coming.lun == lun && coming.number == number
+}
+
+/// Whether the times of what stands behind a phase of that LUN stay below 2^62 ns, by the test of each later call.
+fn look_at_times(
+    alloc: Global,
+    channel: &PlainChannel,
+    luns: &[PlainLun],
+    lun: u8,
+    behind: &Behind,
+) -> Result<(), Status>
+    requires { lun < length luns.now }
+    ensures in_time { IfOk result (λ _. IsInTime (record channel.now { bus_free = behind.now.bus_free }) (slice_set luns.now lun behind.now.lun) behind.now.wants.items) }
+    ensures beyond { IfErr result (λ status. IsBeyond (record channel.now { bus_free = behind.now.bus_free }) (slice_set luns.now lun behind.now.lun) behind.now.wants.items status) }
+{
+    let channel = PlainChannel {
+        bus_free: behind.bus_free,
+        ..*channel
+    };
+    let Ok(mut luns) = Vec::from_slice(alloc, luns) else {
+        return Err(Status::Memory);
+    };
+    luns[usize::from(lun)] = behind.lun;
+    match problem_of(alloc, &channel, luns.as_slice(), behind.wants.as_slice()) {
+        Ok(next) => {
+            let _limits = next.bus_free();
+            Ok(())
+        }
+        Err(Status::Clock) => Err(Status::Clock),
+        Err(_) => Err(Status::Memory),
+    }
 }
 
 /// What stands behind the phase that is due of what is said, if it is this one.
@@ -50,9 +81,17 @@ fn ran_said(
     if started < coming.start {
         return Err(Status::TooSoon);
     }
-    find_behind(
+    let _limits = stand.problem.bus_free();
+    let behind = match find_behind(
         alloc, channel, luns, wants, schedule, &stand, &coming, started,
-    )
+    ) {
+        Ok(behind) => behind,
+        Err(status) => return Err(status),
+    };
+    match look_at_times(alloc, channel, luns, lun, &behind) {
+        Ok(()) => Ok(behind),
+        Err(status) => Err(status),
+    }
 }
 
 /// Puts wants in front of what stands there.
@@ -69,8 +108,9 @@ fn put(room: &mut [PlainWant; 8], wants: &[PlainWant])
 ///
 /// Answers 0; or the first of the numbers that [`onfi_plan`](crate::planning::onfi_plan) tells of the channel, and those of
 /// `BadSchedule`, `Illegal`, `NothingDue`, of `NotDue` where LUN and number aren't those of the phase that is due, of
-/// `TooSoon`, and of `Clock` where a phase would start at 2^62 ns or later; and all is as it was. `TooMany` is told first
-/// where `count` is above 8. `Memory` may stand in place of any behind `BadKind`.
+/// `TooSoon`, and of `Clock` where a phase would start at 2^62 ns or later, or what is left could reach 2^62 ns, so that each
+/// later call would refuse it; and all is as it was. `TooMany` is told first where `count` is above 8. `Memory` may stand in
+/// place of any behind `BadKind`.
 #[unsafe(no_mangle)]
 pub extern "C" fn onfi_ran(
     alloc: Global,

@@ -30,7 +30,7 @@ pub enum Status {
     BadMembers,
     /// More than eight wants, no LUN, or more than eight.
     TooMany,
-    /// A want or a running group that the LUNs can't have.
+    /// A want or a running group that the LUNs can't have, an erase of another page than 0, or ids of wants that are equal or don't rise.
     BadLun,
     /// Times that reach 2^62 ns.
     Clock,
@@ -42,7 +42,7 @@ pub enum Status {
     BadChoice,
     /// A batch of no request, or of more than eight.
     BadBatch,
-    /// Numbers of requests don't rise, or reach the count of all that were accepted.
+    /// Numbers of requests are equal or don't rise, or reach the count of all that were accepted.
     BadOrder,
     /// A count of a schedule is out of its range, or a start is 2^63 ns or more.
     BadSchedule,
@@ -267,13 +267,15 @@ impl Status {
             Status::BadKind => "a kind that is none",
             Status::BadMembers => "a running group of more than 4 members",
             Status::TooMany => "more than 8 wants, or not 1 to 8 LUNs",
-            Status::BadLun => "a want, or a running group, that the LUNs can't have",
+            Status::BadLun =>
+                "a want or running group that the LUNs can't have, or ids that are equal or fall",
             Status::Clock => "times that reach 2^62 ns",
             Status::BadPlace => "a LUN, block or page that the device doesn't have",
             Status::BadGeometry => "a geometry that no parameter page gives",
             Status::BadChoice => "a choice of a batch that is none",
             Status::BadBatch => "a batch that is not 1 to 8",
-            Status::BadOrder => "numbers of requests that don't rise, or reach the count of all",
+            Status::BadOrder =>
+                "numbers of requests that are equal or fall, or reach the count of all",
             Status::BadSchedule =>
                 "a count of the schedule out of its range, or a start of 2^63 ns or more",
             Status::NothingDue => "no phase of the schedule is left",

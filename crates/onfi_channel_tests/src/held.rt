@@ -1,17 +1,17 @@
 ghost use Rattle.std.specs.Prelude.{◌≡◌, ◌<◌};
 
+use crate::opened::{new_chip, setup_of};
 use onfi_addr::Place;
 use onfi_cert::Token;
 use onfi_chip::SimChip;
 use onfi_core::Setup;
-use onfi_group::Rules;
 use onfi_plan::{PlainPlanner, Plan, Planner, PlannerFault};
 use onfi_planner::Planned;
 use onfi_problem::Problem;
 use onfi_queue::Host;
 use onfi_reply::Inbox;
 use onfi_request::Answer;
-use onfi_samples::{request_of, sample_geometry, sample_timing};
+use onfi_samples::{request_of, sample_geometry};
 use onfi_seq::{Ends, Gate, Sequencer, Turn};
 use onfi_timing::Kind;
 use std::alloc::{AllocError, Global};
@@ -149,8 +149,7 @@ fn open(
     requires hosts { setup.hosts ≡ 4 }
     requires channel { channel < setup.channels }
 {
-    let (faults, calls, statuses) = (Vec::new(alloc), Vec::new(alloc), Vec::new(alloc));
-    let chip = SimChip::new(alloc, setup.geometry, setup.timing, faults, calls, statuses)?;
+    let chip = new_chip(alloc, &setup)?;
     let ends = Ends::open(alloc, &setup, channel)?;
     let Ends {
         intake,
@@ -226,19 +225,7 @@ fn serve_other<R: Threads + Wait + Sync>(
 #[test]
 fn a_held_channel_holds_up_no_other(rt: HostRuntime) -> Result<(), AllocError> {
     let alloc = rt.alloc();
-    let rules = Rules::new(true, true, false, 1);
-    let setup = Setup::new(
-        sample_geometry(),
-        sample_timing(),
-        rules,
-        2,
-        4,
-        8,
-        1,
-        1,
-        1_000,
-    );
-    let setup = setup.expect(&rt, "in range");
+    let setup = setup_of(&rt, 2, 1);
     let (first, held) = open(alloc, setup, 0)?;
     let (second, other) = open(alloc, setup, 1)?;
     let signals = Signals::new();

@@ -9,4 +9,6 @@ mod choosing;
 #[cfg(test)]
 mod held;
 #[cfg(test)]
+mod opened;
+#[cfg(test)]
 mod plain;

@@ -1,54 +1,24 @@
 ghost use Rattle.std.specs.Prelude.{◌≡◌, ◌<◌, IfOk};
-ghost use Rattle.onfi_chip.specs.SimChip.{chip_in};
-ghost use Rattle.onfi_core.specs.Queues.{IsFresh};
 ghost use Rattle.onfi_seq.specs.Sequencer.{IsFreshPoster};
 
+use crate::opened::{new_chip, setup_of};
 use onfi_addr::Place;
 use onfi_cert::Token;
 use onfi_check::check;
 use onfi_chip::SimChip;
 use onfi_core::{Core, Event, Outcome, Setup};
-use onfi_group::Rules;
 use onfi_planner::Planned;
 use onfi_problem::Problem;
 use onfi_queue::Host;
 use onfi_reply::{Inbox, Poster};
 use onfi_request::Request;
-use onfi_samples::{request_of, sample_geometry, sample_timing};
+use onfi_samples::{request_of, sample_geometry};
 use onfi_seq::{Gate, Sequencer, Turn};
 use onfi_timing::Kind;
 use std::alloc::{AllocError, Global};
-use std::process::Abort;
 use std::sync::Wait;
 
 // A core and a sequencer whose planner is not named: the plain one.
-
-// One channel of four hosts.
-fn one_channel(rt: &impl Abort) -> Setup
-    ensures { (result.channels ≡ 1) × (result.hosts ≡ 4) }
-{
-    let rules = Rules::new(true, true, false, 1);
-    let setup = Setup::new(
-        sample_geometry(),
-        sample_timing(),
-        rules,
-        1,
-        4,
-        8,
-        8,
-        8,
-        1_000,
-    );
-    setup.expect(rt, "in range")
-}
-
-// A chip of the setup's device.
-fn new_chip(alloc: Global, setup: &Setup) -> Result<SimChip, AllocError>
-    ensures { IfOk result (λ chip. IsFresh setup.now (chip_in chip)) }
-{
-    let (faults, calls, statuses) = (Vec::new(alloc), Vec::new(alloc), Vec::new(alloc));
-    SimChip::new(alloc, setup.geometry, setup.timing, faults, calls, statuses)
-}
 
 // A read of the first page of LUN 0.
 fn read(alloc: Global) -> Result<Request, AllocError> {
@@ -83,7 +53,7 @@ fn is_plan_of_the_read(alloc: Global, last: Option<(&Problem, &Planned)>) -> boo
 #[test]
 fn a_core_tells_its_last_plan(rt: HostRuntime) -> Result<(), AllocError> {
     let alloc = rt.alloc();
-    let setup = one_channel(&rt);
+    let setup = setup_of(&rt, 1, 8);
     let chip = new_chip(alloc, &setup)?;
     let chips = Vec::from_array(alloc, [chip])?;
     let mut core: Core<SimChip> = Core::open(alloc, setup, chips).expect(&rt, "a core");
@@ -153,7 +123,7 @@ fn open_sequencer(
 #[test]
 fn a_sequencer_tells_its_last_plan(rt: HostRuntime) -> Result<(), AllocError> {
     let alloc = rt.alloc();
-    let setup = one_channel(&rt);
+    let setup = setup_of(&rt, 1, 8);
     let (mut sequencer, mut hosts) = open_sequencer(alloc, &setup)?;
     assert!(rt; sequencer.last().is_none());
     assert!(rt; hosts[0].submit(&rt, read(alloc)?).is_ok());

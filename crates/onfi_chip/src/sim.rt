@@ -176,6 +176,8 @@ impl Chip for SimChip {
         ensures err { IfErr result (λ fault. (fault ≡ ChipFault.Bus) × IsLost Bus (chip_in self.old) (chip_in self.new)) }
         ensures bus { FailsAsListed self.old result }
         ensures listed { IfOk result (λ byte. IsReadyAsListed self.old byte) }
+        ensures array_ready { IfOk result (λ byte. IsBitSet byte 6 → IsBitSet byte 5) }
+        ensures not_protected { IfOk result (λ byte. IsBitSet byte 7) }
         ensures lists { KeepsLists self.old self.new }
         ensures counted { IsCounted self.old result self.new }
         ensures counted_status { IsCountedStatus self.old result self.new }

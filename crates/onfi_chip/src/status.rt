@@ -21,6 +21,8 @@ pub fn decode_status(byte: u8) -> Option<Answer>
 /// The status byte of a ready LUN: RDY, ARDY and WP_n are set, and FAIL as the answer says.
 pub(crate) fn encode_status(answer: &Answer) -> u8
     ensures ready { IsBitSet result 6 }
+    ensures array_ready { IsBitSet result 5 }
+    ensures not_protected { IsBitSet result 7 }
     ensures told { IsStatus answer.now → TellsAnswer result answer.now }
 {
     match answer {

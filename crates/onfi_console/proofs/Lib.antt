@@ -1,3 +1,4 @@
+pub mod Appended
 pub mod CommandLemmas
 pub mod EarlyLemmas
 pub mod LimitLemmas

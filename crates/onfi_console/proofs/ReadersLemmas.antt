@@ -8,7 +8,7 @@ use Rattle.onfi_script.specs.declared.command.Finding.{Finding}
 use Rattle.onfi_script.specs.declared.command.Finding.TheVariants as found
 use Rattle.onfi_script.specs.declared.command.Output.{Output}
 use Rattle.onfi_console.specs.declared.parsed.Named.{Named}
-use Rattle.onfi_console.specs.declared.parsed.Named.TheVariants.{Problem, Run}
+use Rattle.onfi_console.specs.declared.parsed.Named.TheVariants.{Problem, Run, Device}
 use Rattle.onfi_console.specs.declared.parsed.Parsed.{Parsed}
 use Rattle.onfi_console.specs.Words.{Ask, IsEarly, IsLimit, IsNamed, IsOptimal, IsOutput, IsParsed, IsWorkers, app, finding_of, given, is_best_so_far, output_of, printed, usual_for}
 use Rattle.onfi_console.specs.Readers.{AreRead, IsRead, is_trace, limit_in, trace_in}
@@ -116,6 +116,7 @@ read (Problem Check workers) name used (e, remember, within, legal, one) = recor
 read (Problem CheckKnown workers) name used (e, remember, within, legal, one) = record { command = sym e; limit = refl; trace = refl; workers = one }
 read (Problem CheckWithin workers) name used (e, remember, within, legal, one) = record { command = sym e; limit = refl; trace = refl; workers = one }
 read (Problem Legal workers) name used (e, remember, within, legal, one) = record { command = sym e; limit = refl; trace = refl; workers = one }
+read Device name used e = record { command = sym e; limit = refl; trace = refl; workers = refl }
 read (Run planner limit clocked) name used (e, clock, run, limited) = record { command = sym e; limit = limited; trace = refl; workers = refl }
 
 of_some : (found : Option (List ℕ × List Row)) (parsed : Parsed) → IsSomeAnd found (λ p. IsParsed parsed p.0 p.1) → IsSomeAnd found (λ p. IsRead parsed.named p.0 p.1)

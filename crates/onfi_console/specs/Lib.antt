@@ -1,2 +1,3 @@
+pub mod Described
 pub mod Readers
 pub mod Words

@@ -1,5 +1,5 @@
 -- What the words of a command line ask for.
-use Rattle.std.specs.Prelude.{◌≡◌, ◌≤◌, ℕ, ◌==◌, ◌&&◌, if◌then◌else◌, List, Bool, true, false, not, is_some, bytes_eq, Option, Some, None, IsSomeAnd, Ok, codes, option_map, unwrap_or}
+use Rattle.std.specs.Prelude.{◌≡◌, ◌≤◌, ℕ, ◌==◌, ◌&&◌, ◌||◌, if◌then◌else◌, ⊤, List, Bool, true, false, not, is_some, bytes_eq, Option, Some, None, IsErrAnd, IsSomeAnd, Ok, codes, option_map, unwrap_or}
 use Rattle.clap.specs.Words.{App, Row as Used, Rule, first_of, new_app, new_rule, subcommand_of, with_rule, with_subcommand}
 use Rattle.clap.specs.declared.builder.ArgAction.TheVariants.{Set, SetTrue}
 use Rattle.onfi_planners.specs.declared.chosen.ChosenPlanner.{ChosenPlanner}
@@ -13,8 +13,10 @@ use Rattle.onfi_script.specs.declared.command.Output.{Output}
 use Rattle.onfi_script.specs.declared.command.Output.TheVariants as output
 use Rattle.onfi_script.specs.Field as field
 use Rattle.onfi_script.specs.Limit.{IsLimited}
+use Rattle.onfi_console.specs.declared.fault.Untaken.{Untaken}
+use Rattle.onfi_console.specs.declared.fault.Untaken.TheVariants.{Refused, Memory, Version}
 use Rattle.onfi_console.specs.declared.parsed.Named.{Named}
-use Rattle.onfi_console.specs.declared.parsed.Named.TheVariants.{Problem, Run}
+use Rattle.onfi_console.specs.declared.parsed.Named.TheVariants.{Problem, Run, Device}
 use Rattle.onfi_console.specs.declared.parsed.Parsed.{Parsed}
 use Rattle.onfi_console.specs.declared.parsed.RunPlanner.{RunPlanner}
 use Rattle.onfi_console.specs.declared.parsed.RunPlanner.TheVariants.{Exact, Inexact}
@@ -70,11 +72,20 @@ run_search = with_rule (with_rule (with_rule (with_rule (command (codes "run")) 
 abbrev pub run : App
 run = with_rule (with_rule (with_rule run_search (value (codes "clock"))) quiet) (file (codes "FILE"))
 
+-- `device [--quiet] [FILE]`
+abbrev pub device : App
+device = with_rule (with_rule (command (codes "device")) quiet) (file (codes "FILE"))
+
 abbrev pub program : App
 program = record (command (codes "onfi_sim")) { top = record (command (codes "onfi_sim")).top { has_version = true } }
 
+-- .. with `plan` and `check`
+abbrev pub planning : App
+planning = with_subcommand (with_subcommand program plan.top) check.top
+
+-- .. with `run` and `device`
 abbrev pub app : App
-app = with_subcommand (with_subcommand (with_subcommand program plan.top) check.top) run.top
+app = with_subcommand (with_subcommand planning run.top) device.top
 
 -- the number that was given, 1 to 1,048,576; where none was the usual one
 abbrev pub IsLimit : ℕ → Option (List ℕ) → ℕ → Type 0
@@ -92,6 +103,11 @@ abbrev pub IsNamedLimit : Option (List ℕ) → Option ℕ → Type 0
 IsNamedLimit None limit = limit ≡ None
 IsNamedLimit (Some text) None = ⊥
 IsNamedLimit (Some text) (Some n) = field.number 1 1048576 text ≡ Ok n
+
+-- something was given that is no number from `least` to `most`
+abbrev pub IsOutside : ℕ → ℕ → Option (List ℕ) → Type 0
+IsOutside least most None = ⊥
+IsOutside least most (Some text) = IsErrAnd (field.number least most text) (λ fault. ⊤)
 
 -- the flag was given: its value is the word true
 abbrev pub is_given : Option (List ℕ) → Bool
@@ -175,6 +191,7 @@ early_command finding slack limit out = if slack == 0 then PlanEarly limit out f
 abbrev pub IsInRange : Named → Type 0
 IsInRange (Problem command workers) = IsLimited command × (1 ≤ workers) × (workers ≤ 8)
 IsInRange (Run planner limit clocked) = (1 ≤ limit) × (limit ≤ 1048576)
+IsInRange Device = ⊤
 
 -- the flag or number of this name
 abbrev pub given : List ℕ → List Used → Bool
@@ -238,6 +255,7 @@ IsNamed (Problem Check workers) name used = (name ≡ codes "check") × (given (
 IsNamed (Problem CheckKnown workers) name used = (name ≡ codes "check") × (given (codes "remember") used ≡ true) × (given (codes "within") used ≡ false) × (given (codes "legal") used ≡ false) × (workers ≡ 1)
 IsNamed (Problem CheckWithin workers) name used = (name ≡ codes "check") × (given (codes "remember") used ≡ false) × (given (codes "within") used ≡ true) × (given (codes "legal") used ≡ false) × (workers ≡ 1)
 IsNamed (Problem Legal workers) name used = (name ≡ codes "check") × (given (codes "remember") used ≡ false) × (given (codes "within") used ≡ false) × (given (codes "legal") used ≡ true) × (workers ≡ 1)
+IsNamed Device name used = name ≡ codes "device"
 IsNamed (Run planner limit clocked) name used = (name ≡ codes "run") × IsClock (first_of (codes "clock") used) clocked × IsRun planner used × IsLimit (usual_of planner) (first_of (codes "limit") used) limit
 
 -- .. with these files, quiet or not
@@ -247,3 +265,13 @@ IsParsed parsed name used = IsNamed parsed.named name used × (option_map (λ s.
 -- the words, of which the first is the program's name, ask for this
 abbrev pub Ask : List (List ℕ) → Parsed → Type 0
 Ask words parsed = IsSomeAnd (subcommand_of app words) (λ p. IsParsed parsed p.0 p.1)
+
+-- a word asks for quiet
+abbrev pub is_quiet_word : List ℕ → Bool
+is_quiet_word word = bytes_eq word (codes "--quiet") || bytes_eq word (codes "-q")
+
+-- .. where words are told as a call for the version
+abbrev pub IfVersion : Untaken → Type 0 → Type 0
+IfVersion (Version text) holds = holds
+IfVersion (Refused text) holds = ⊤
+IfVersion Memory holds = ⊤

@@ -1,6 +1,8 @@
 //! The command line.
-ghost use Rattle.std.specs.Prelude.{◌≡◌, ◌≤◌, Some, false, true, is_some, IfOk, IfSome, codes, map, option_map, string_bytes};
-ghost use Rattle.clap.specs.Words.{first_value, found_of, rows_of, subcommand_of, subcommand_rows_of};
+ghost use Rattle.std.specs.Prelude.{◌≡◌, ◌≤◌, Some, false, true, is_some, IfErr, IfOk, IfSome, codes, map, option_map, string_bytes};
+ghost use Rattle.std.specs.List.{list_any};
+ghost use Rattle.clap.specs.Words.{first_value, found_of, kind_of, rows_of, subcommand_of, subcommand_rows_of};
+ghost use Rattle.clap.specs.declared.error.kind.ErrorKind.{ErrorKind};
 ghost use Rattle.onfi_console.specs.Readers.{AreRead};
 ghost use Rattle.onfi_console.specs.Words as spec;
 
@@ -35,7 +37,7 @@ impl ValueFault {
     /// What is said of it.
     fn text(self) -> &'static str {
         match self {
-            ValueFault::NoCommand => "a command was expected: 'plan', 'check' or 'run'",
+            ValueFault::NoCommand => "a command was expected: 'plan', 'check', 'run' or 'device'",
             ValueFault::Limit => "'--limit' wants a number from 1 to 1048576, digits alone",
             ValueFault::Workers => "'--workers' wants a number from 1 to 8, digits alone",
             ValueFault::WorkersBesideRemember => {
@@ -78,6 +80,7 @@ const MOST_SLACK: u64 = 1_000;
 fn named_limit(matches: &ArgMatches<'_>) -> Result<Option<u32>, ValueFault>
     ensures range { IfOk result (λ limit. IfSome limit (λ n. (1 ≤ n) × (n ≤ 1048576))) }
     ensures value { IfOk result (λ limit. spec.IsNamedLimit (first_value (found_of matches.now) (codes "limit")) limit) }
+    ensures refused { IfErr result (λ fault. spec.IsOutside 1 1048576 (first_value (found_of matches.now) (codes "limit"))) }
 {
     let Some(text) = matches.get_str("limit") else {
         return Ok(None);
@@ -94,6 +97,7 @@ fn limit_of(matches: &ArgMatches<'_>, usual: u32) -> Result<u32, ValueFault>
     requires few { usual ≤ 1048576 }
     ensures range { IfOk result (λ n. (1 ≤ n) × (n ≤ 1048576)) }
     ensures value { IfOk result (λ n. spec.IsLimit usual (first_value (found_of matches.now) (codes "limit")) n) }
+    ensures refused { IfErr result (λ fault. spec.IsOutside 1 1048576 (first_value (found_of matches.now) (codes "limit"))) }
 {
     let named = named_limit(matches)?;
     Ok(named.unwrap_or(usual))
@@ -128,7 +132,8 @@ fn is_given(matches: &ArgMatches<'_>, flag: &str) -> bool
 
 /// The slack that is named, in thousandths, in its range.
 fn named_slack(matches: &ArgMatches<'_>) -> Result<Option<u16>, ValueFault>
-    ensures { IfOk result (λ slack. spec.IsSlack (first_value (found_of matches.now) (codes "slack")) slack) }
+    ensures value { IfOk result (λ slack. spec.IsSlack (first_value (found_of matches.now) (codes "slack")) slack) }
+    ensures refused { IfErr result (λ fault. spec.IsOutside 0 1000 (first_value (found_of matches.now) (codes "slack"))) }
 {
     let Some(text) = matches.get_str("slack") else {
         return Ok(None);
@@ -401,6 +406,7 @@ fn named_of(name: &str, used: &ArgMatches<'_>) -> Result<Named, ValueFault>
         "plan" => plan_of(used),
         "check" => check_of(used),
         "run" => run_of(used),
+        "device" => Ok(Named::Device),
         _ => Err(ValueFault::NoCommand),
     }
 }
@@ -476,17 +482,35 @@ fn shown_words(alloc: Global, words: &[String]) -> Result<Vec<String>, AllocErro
     Ok(shown)
 }
 
+/// A text without the tip to pass an option as a file's name, and without an empty line behind another.
+fn without_tip(alloc: Global, text: &str) -> Result<String, AllocError> {
+    let mut left = String::new(alloc);
+    let mut empty = false;
+    for line in text.lines() {
+        let leave = line.starts_with("  tip: to pass ") || (empty && line.is_empty());
+        if !leave {
+            left.push_str(line)?;
+            left.push('\n')?;
+            empty = line.is_empty();
+        }
+    }
+    Ok(left)
+}
+
 /// What is said of words in which nothing was found.
 fn said(alloc: Global, words: &[String], error: &Error) -> Result<String, AllocError> {
     let shown = shown_words(alloc, words)?;
-    match matches_of(alloc, shown.as_slice()) {
-        Err(again) => format!(in alloc; "{again}"),
-        Ok(_) => format!(in alloc; "{error}"),
-    }
+    let text = match matches_of(alloc, shown.as_slice()) {
+        Err(again) => format!(in alloc; "{again}")?,
+        Ok(_) => format!(in alloc; "{error}")?,
+    };
+    without_tip(alloc, text.as_str())
 }
 
 /// Why nothing was found in the words.
-fn fault_of(alloc: Global, words: &[String], error: &Error) -> Untaken {
+fn fault_of(alloc: Global, words: &[String], error: &Error) -> Untaken
+    ensures version { spec.IfVersion result (kind_of error.now ≡ ErrorKind.DisplayVersion) }
+{
     if error.kind() == ErrorKind::OutOfMemory {
         return Untaken::Memory;
     }
@@ -497,9 +521,16 @@ fn fault_of(alloc: Global, words: &[String], error: &Error) -> Untaken {
     }
 }
 
-/// Whether the words ask for quiet; also where they are no command line.
-pub fn is_quiet(words: &[String]) -> bool {
-    words
-        .iter()
-        .any(|word| word.as_str() == "--quiet" || word.as_str() == "-q")
+/// Whether a word asks for quiet.
+fn is_quiet_word(word: &str) -> bool
+    ensures { result ≡ spec.is_quiet_word word.now }
+{
+    word == "--quiet" || word == "-q"
+}
+
+/// Whether one of the words asks for quiet; also where they are no command line.
+pub fn is_quiet(words: &[String]) -> bool
+    ensures { result ≡ list_any (λ word. spec.is_quiet_word (string_bytes word)) words.now }
+{
+    words.iter().any(|word| is_quiet_word(word.as_str()))
 }

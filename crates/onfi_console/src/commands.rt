@@ -158,12 +158,32 @@ fn run<'a>(alloc: Global) -> Result<Command<'a>, AllocError>
     with(run, file(alloc, "FILE", help::FILE))
 }
 
+/// `device [--quiet] [FILE]`
+fn device<'a>(alloc: Global) -> Result<Command<'a>, AllocError>
+    ensures app { IfOk result (λ a. app_of a ≡ spec.device) }
+    ensures local { IfOk result (λ a. (fields_of a).has_globals ≡ false) }
+{
+    let device = command(alloc, "device", help::DEVICE, help::DEVICE_MORE);
+    let device = with(device, quiet(alloc))?;
+    with(device, file(alloc, "FILE", help::FILE))
+}
+
 /// The program without a command.
 fn program<'a>(alloc: Global) -> Command<'a>
     ensures app { app_of result ≡ spec.program }
     ensures local { (fields_of result).has_globals ≡ false }
 {
     command(alloc, "onfi_sim", help::PROGRAM, help::PROGRAM_MORE).version(help::VERSION)
+}
+
+/// The program with `plan` and `check`.
+fn planning<'a>(alloc: Global) -> Result<Command<'a>, AllocError>
+    ensures { IfOk result (λ a. app_of a ≡ spec.planning) }
+{
+    let plan = plan(alloc)?;
+    let check = check(alloc)?;
+    let app = program(alloc).subcommand(plan)?;
+    app.subcommand(check)
 }
 
 /// What the program understands.
@@ -173,10 +193,8 @@ fn program<'a>(alloc: Global) -> Command<'a>
 pub fn app<'a>(alloc: Global) -> Result<Command<'a>, AllocError>
     ensures { IfOk result (λ a. app_of a ≡ spec.app) }
 {
-    let plan = plan(alloc)?;
-    let check = check(alloc)?;
     let run = run(alloc)?;
-    let app = program(alloc).subcommand(plan)?;
-    let app = app.subcommand(check)?;
-    app.subcommand(run)
+    let device = device(alloc)?;
+    let app = planning(alloc)?.subcommand(run)?;
+    app.subcommand(device)
 }

@@ -9,7 +9,7 @@ pub const PROGRAM_MORE: &str = "\
 The script is read from FILE, or from standard input; the answer goes to standard output, messages to standard error.
 
 Statuses:
-  0  planned, accepted, legal, or each operation has its reply
+  0  planned, accepted, legal, described, or each operation has its reply
   1  the script is refused
   2  the plan text or its certificate is refused
   3  a channel stopped or was left unfinished
@@ -75,6 +75,20 @@ Example:
   onfi_sim run --within --limit 200 examples/two-hosts.onfi
   onfi_sim run --slack 20 examples/two-hosts.onfi
   onfi_sim run --clock simulated examples/two-hosts.onfi";
+
+pub const DEVICE: &str =
+    "Says what a parameter page tells of its device, and how long each kind of operation takes there.";
+
+pub const DEVICE_MORE: &str = "\
+Input: a script as for 'plan', with page rows, and with sheet rows where lengths are to be told, up to the line 'end'.
+Output: a line NAME,N for each field of the page that is looked at, times in ns; then the rows 'shape' and 'spans' that tell of
+the same device, or 'refused,NAME': why none can be planned for.
+
+Statuses: 0 described; 1 the script is refused, or holds no page; 4 memory was refused; 5 the command line is refused; 7 a read
+or write failed.
+
+Example:
+  onfi_sim device examples/program-by-page.onfi";
 
 pub const LIMIT: &str =
     "Open at most N nodes in a search, 1 to 1048576; the greatest where none is named";

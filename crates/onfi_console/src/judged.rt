@@ -1,6 +1,8 @@
 //! Why a plan text or its certificate is refused.
 use crate::escaping::shown;
+use crate::guess::{OtherText, guess};
 use crate::input::{Input, line_at, line_start, word_at};
+use crate::lines::{last_of_text, line_fault, token_at, token_text_fault};
 use onfi_problem::Problem;
 use onfi_schedule::{Schedule, find_breach, finish, legal};
 use onfi_script::{
@@ -32,10 +34,7 @@ pub fn refused_message(
         ("finish", _) => finish_message(alloc, input),
         ("below", _) => below_message(alloc, input),
         ("1", _) => illegal_message(alloc, input),
-        ("cert", what) => {
-            let what = text_fault(what);
-            format!(in alloc; "onfi_sim: the certificate is refused: {what}\n")
-        }
+        ("cert", what) => certificate_message(alloc, command, input, what, word_at(line, 3)),
         (_, what) => {
             let (proof, what, place) = (proof_of(command), token_fault(what), word_at(line, 3));
             if place.is_empty() {
@@ -63,27 +62,51 @@ fn plan_text<'a>(input: &Input<'a>) -> &'a [u8] {
 fn plan_line_message(alloc: Global, input: &Input<'_>, number: &str) -> Result<String, AllocError> {
     let number = number.parse::<usize>().unwrap_or(0);
     let (text, above) = (plan_text(input), number.saturating_sub(1));
+    let start = line_start(text, above);
     let before = input.text.len().saturating_sub(text.len());
-    let (name, line) = input.place(before.saturating_add(line_start(text, above)));
+    let (name, line) = input.place(before.saturating_add(start));
     let found = shown(alloc, line_at(text, above))?;
-    let what = if number == 3 && found.as_str().starts_with("below ") {
-        "a line 'below N', N in ns without leading zeros, is taken by 'check --within' alone"
+    let place = if line == number {
+        format!(in alloc; "onfi_sim: {name}:{line}: '{found}'")?
     } else {
-        expected(number)
+        format!(in alloc; "onfi_sim: {name}:{line}: line {number} of the plan text '{found}'")?
     };
-    if line == number {
-        return format!(in alloc; "onfi_sim: {name}:{line}: '{found}': {what}\n");
+    let expected = expected(number);
+    match line_cause(text.get(start..).unwrap_or(b""), number) {
+        Some(cause) => { format!(in alloc; "{place}: {cause}\n  expected: {expected}\n") }
+        None => format!(in alloc; "{place}: expected {expected}\n"),
     }
-    format!(in alloc; "onfi_sim: {name}:{line}: line {number} of the plan text '{found}': {what}\n")
+}
+
+/// Why what stands in a plan text from a line on, counted from 1, isn't taken, where that can be told.
+fn line_cause(text: &[u8], number: usize) -> Option<&'static str> {
+    let line = line_at(text, 0);
+    match guess(text) {
+        Some(OtherText::Plan) | None => {}
+        Some(guess) if number == 1 => return Some(guess.text()),
+        Some(_) => {}
+    }
+    if number == 3 && line.starts_with(b"below ") {
+        return Some("a line 'below N' is taken by 'check --within' alone");
+    }
+    if text.is_empty() && number > 2 {
+        return Some(
+            "the text ends here without certificate; 'check --legal' judges a schedule without one",
+        );
+    }
+    if text.is_empty() {
+        return Some("the text ends here");
+    }
+    line_fault(line, last_of_text(text))
 }
 
 /// What stands in a line of a plan text, counted from 1.
 fn expected(number: usize) -> &'static str {
     match number {
-        1 => "expected 'ONFIPLAN 1', with a line end",
-        2 => "expected 'finish N', N in ns without leading zeros, with a line end",
+        1 => "'ONFIPLAN 1', with a line end",
+        2 => "'finish N', N in ns without leading zeros, with a line end",
         _ =>
-            "expected 'rest LUN START ..' by rising LUN, then 'group ID+ID.. START ..', at most 8 of each, with line ends, then the certificate",
+            "'rest LUN START ..' by rising LUN, then 'group ID+ID.. START ..', at most 8 of each, with line ends, then the certificate",
     }
 }
 
@@ -174,16 +197,64 @@ fn illegal_message(alloc: Global, input: &Input<'_>) -> Result<String, AllocErro
     }
 }
 
-/// Why a text is no certificate.
-fn text_fault(what: &str) -> &'static str {
-    match what {
-        "Header" =>
-            "its header is of another kind; plain ones are for 'check', those of 'plan --remember' for 'check --remember'",
-        "BadToken" =>
-            "a token isn't one, counted from 0: take the text as it was printed, one space between tokens, one line end",
+/// The text of the certificate in a plan text.
+fn certificate<'a>(text: &'a [u8]) -> &'a [u8] {
+    let above = text
+        .split(|byte| *byte == b'\n')
+        .skip(2)
+        .position(|line| line.starts_with(b"ONFICERT"));
+    match above {
+        Some(above) => text
+            .get(line_start(text, above.saturating_add(2))..)
+            .unwrap_or(b""),
+        None => b"",
+    }
+}
+
+/// The message about a text that is no certificate.
+fn certificate_message(
+    alloc: Global,
+    command: Command,
+    input: &Input<'_>,
+    fault: &str,
+    place: &str,
+) -> Result<String, AllocError> {
+    let text = certificate(plan_text(input));
+    let what = match fault {
+        "Header" => header_fault(command, line_at(text, 0)),
+        "BadToken" => return bad_token_message(alloc, text, place),
         "TooLong" => "it has too many tokens",
         _ =>
             "its header is of the other option: 'strict' of the script differs from that of the plan",
+    };
+    format!(in alloc; "onfi_sim: the certificate is refused: {what}\n")
+}
+
+/// The message about a token that is none, counted from 0.
+fn bad_token_message(alloc: Global, text: &[u8], place: &str) -> Result<String, AllocError> {
+    let behind = text.get(line_start(text, 1)..).unwrap_or(b"");
+    let at = place.parse::<usize>().unwrap_or(0);
+    let (token, why) = (
+        shown(alloc, token_at(behind, at))?,
+        token_text_fault(behind, at),
+    );
+    format!(in alloc;
+        "onfi_sim: the certificate is refused at token {place}, counted from 0, '{token}': {why}\n"
+    )
+}
+
+/// Why a certificate with this header isn't taken by a check.
+fn header_fault(command: Command, header: &[u8]) -> &'static str {
+    let remembers = header == b"ONFICERT 3 remember".as_slice()
+        || header == b"ONFICERT 4 strict remember".as_slice();
+    let plain = header == b"ONFICERT 1".as_slice() || header == b"ONFICERT 2 strict".as_slice();
+    match command {
+        Command::Check if remembers =>
+            "it remembers states; 'check --remember' takes it, and 'check --within' where 'plan --within' made it",
+        Command::CheckKnown | Command::CheckWithin if plain =>
+            "it is a plain one; 'check' takes it, without '--remember' and '--within'",
+        _ =>
+            "its first line is 'ONFICERT 1', 'ONFICERT 2 strict', 'ONFICERT 3 remember' or 'ONFICERT 4 strict remember', with LF behind it",
     }
 }
 

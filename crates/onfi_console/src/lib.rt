@@ -1,23 +1,31 @@
 //! What the program and a person say to each other: the command line, and a message in words beside an answer.
 //!
 //! [`words`] reads a command line, and [`read_words`] says what is wrong with it too; [`message`] says why an answer refuses a
-//! script, a plan or a certificate, and where.
+//! script, a plan or a certificate, and where. [`describe`] says what a parameter page tells of its device.
 #![tactic(auto)]
 
+mod absent;
+mod cautions;
 mod command_line;
 mod commands;
+mod device;
 mod escaping;
 mod fault;
+mod fields;
+mod guess;
 mod help;
 mod input;
 mod judged;
+mod lines;
 mod parsed;
+mod place;
 mod ran;
 mod rows;
 mod saying;
 mod script;
 
 pub use command_line::{is_quiet, read_words, words};
+pub use device::describe;
 pub use escaping::{escaped, shown};
 pub use fault::{Untaken, WordsFault};
 pub use input::Input;

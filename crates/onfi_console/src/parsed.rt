@@ -15,6 +15,22 @@ pub enum CommandName {
     Check,
     /// The operations of a script are run.
     Run,
+    /// The parameter page of a script is described.
+    Device,
+}
+
+impl CommandName {
+    /// Its word.
+    pub fn word(self) -> &'static str
+        ensures { result.now ≡ spec.word_of self }
+    {
+        match self {
+            CommandName::Plan => "plan",
+            CommandName::Check => "check",
+            CommandName::Run => "run",
+            CommandName::Device => "device",
+        }
+    }
 }
 
 /// How a run plans.
@@ -42,6 +58,8 @@ pub enum Named {
         limit: u32,
         clocked: bool,
     },
+    /// The parameter page of a script is described.
+    Device,
 }
 
 /// What a command line asks for.
@@ -68,10 +86,11 @@ impl Parsed<'_> {
         match self.named {
             Named::Problem { command, .. } => command_in(command),
             Named::Run { .. } => CommandName::Run,
+            Named::Device => CommandName::Device,
         }
     }
 
-    /// How many nodes a search may open, 1 to 1,048,576; the greatest limit for `check`, which searches nothing.
+    /// How many nodes a search may open, 1 to 1,048,576; the greatest limit for `check` and `device`, which search nothing.
     pub fn limit(&self) -> u32
         ensures named { result ≡ spec.limit_of self.now.named }
         ensures range { IsInRange self.now.named → (1 ≤ result) × (result ≤ 1048576) }
@@ -79,6 +98,7 @@ impl Parsed<'_> {
         match self.named {
             Named::Problem { command, .. } => limit_in(command),
             Named::Run { limit, .. } => limit,
+            Named::Device => MOST,
         }
     }
 
@@ -88,7 +108,7 @@ impl Parsed<'_> {
     {
         match self.named {
             Named::Problem { command, .. } => trace_in(command),
-            Named::Run { .. } => false,
+            Named::Run { .. } | Named::Device => false,
         }
     }
 
@@ -100,6 +120,7 @@ impl Parsed<'_> {
         match self.named {
             Named::Problem { workers, .. } => workers,
             Named::Run { .. } => 1,
+            Named::Device => 1,
         }
     }
 }

@@ -3,7 +3,7 @@ use std::alloc::{AllocError, Global};
 use strsim::levenshtein;
 
 /// The names of rows, those that `plan` and `check` take first.
-const NAMES: [&str; 21] = [
+const NAMES: [&str; 23] = [
     "shape",
     "spans",
     "page",
@@ -25,6 +25,8 @@ const NAMES: [&str; 21] = [
     "chipfail",
     "notready",
     "array",
+    "at",
+    "geometry",
 ];
 
 /// The form of a row of this name.
@@ -32,6 +34,14 @@ pub fn form_of(name: &[u8]) -> Option<&'static str> {
     match std::str::from_utf8(name) {
         Ok(name) => problem_form(name).or(run_form(name)),
         Err(_) => None,
+    }
+}
+
+/// Whether `run` alone takes rows of this name.
+pub fn is_of_run(name: &[u8]) -> bool {
+    match std::str::from_utf8(name) {
+        Ok(name) => run_form(name).is_some(),
+        Err(_) => false,
     }
 }
 
@@ -87,6 +97,10 @@ fn run_form(name: &str) -> Option<&'static str> {
         ),
         "array" => Some(
             "array,CHANNEL,LUN,NUMBER,NS: operation NUMBER of the LUN's array, counted from 0, really takes NS ns, below 2^50",
+        ),
+        "at" => Some("at,NS: no run takes moments of arrival, so all operations arrive at 0"),
+        "geometry" => Some(
+            "geometry,BLOCKS,PAGES,BYTES,ANYORDER: 1 to 65536 blocks of a LUN, 1 to 4096 pages of a block, 1 to 65535 bytes of a page, 0 or 1",
         ),
         _ => None,
     }

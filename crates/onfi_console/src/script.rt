@@ -1,12 +1,35 @@
 //! Why a script is refused, and where.
+use crate::absent::{absent_field, is_op_too_many};
 use crate::escaping::shown;
-use crate::input::{Input, lines_in, word_at};
-use crate::rows::{form_of, near_name};
+use crate::fields::{field, number_fault, wrong_field};
+use crate::guess::{OtherText, guess};
+use crate::input::{Input, line_at, lines_in, word_at};
+use crate::parsed::CommandName;
+use crate::place::{line_of, row_text};
+use crate::rows::{form_of, is_of_run, near_name};
 use csv::ByteRecord;
 use onfi_problem::{LunState, Problem, ProblemFault};
 use onfi_script::{Purpose, Row, Setup, device_of, read_rows, script_len, set_up};
 use onfi_timing::{Kind, read_records};
 use std::alloc::{AllocError, Global};
+
+/// What the rows of a script are read for by a command.
+pub fn purpose_of(command: CommandName) -> Purpose {
+    match command {
+        CommandName::Run => Purpose::Run,
+        _ => Purpose::Problem,
+    }
+}
+
+/// A refused script, and what it is refused for.
+#[derive(Clone, Copy)]
+struct Refused<'a, 'r> {
+    command: CommandName,
+    input: &'r Input<'a>,
+    records: &'r [ByteRecord],
+    fault: &'r str,
+    inner: &'r str,
+}
 
 /// The message beside a line `script refused ROW NAME..`.
 ///
@@ -14,63 +37,31 @@ use std::alloc::{AllocError, Global};
 /// Want of memory.
 pub fn script_message(
     alloc: Global,
-    purpose: Purpose,
+    command: CommandName,
     input: &Input<'_>,
     line: &str,
 ) -> Result<String, AllocError> {
-    let (row, fault, inner) = (word_at(line, 2), word_at(line, 3), word_at(line, 4));
     let records = match script_len(input.text) {
         Some(size) => read_records(alloc, &input.text[..size])?,
         None => Vec::new(alloc),
     };
-    match row.parse::<usize>() {
-        Ok(0) | Err(_) => whole_message(alloc, purpose, input, records.as_slice(), fault, inner),
-        Ok(row) => row_message(alloc, input, records.as_slice(), row, fault, inner),
-    }
-}
-
-/// A field of a record, counted from 0; nothing where it has fewer.
-fn field(record: &ByteRecord, at: usize) -> &[u8] {
-    record.get(at).unwrap_or(b"")
-}
-
-/// The line of the file, counted from 1, in which a record begins.
-fn line_of(text: &[u8], record: &ByteRecord) -> usize {
-    let byte = match record.position() {
-        Some(position) => position.byte() as usize,
-        None => 0,
+    let refused = Refused {
+        command,
+        input,
+        records: records.as_slice(),
+        fault: word_at(line, 3),
+        inner: word_at(line, 4),
     };
-    let behind = text.get(byte..).unwrap_or(b"");
-    let empty = behind
-        .iter()
-        .take_while(|byte| **byte == b'\n' || **byte == b'\r')
-        .count();
-    let before = text.get(..byte.saturating_add(empty)).unwrap_or(b"");
-    lines_in(before).saturating_add(1)
-}
-
-/// The fields of a record as a script has them.
-fn row_text(alloc: Global, record: &ByteRecord) -> Result<String, AllocError> {
-    let mut bytes = Vec::new(alloc);
-    for (at, field) in record.iter().enumerate() {
-        if at > 0 {
-            bytes.push(b',')?;
-        }
-        bytes.extend_from_slice(field)?;
+    match word_at(line, 2).parse::<usize>() {
+        Ok(0) | Err(_) => whole_message(alloc, &refused),
+        Ok(row) => row_message(alloc, &refused, row),
     }
-    shown(alloc, bytes.as_slice())
 }
 
 /// The message about a row, counted from 1.
-fn row_message(
-    alloc: Global,
-    input: &Input<'_>,
-    records: &[ByteRecord],
-    row: usize,
-    fault: &str,
-    inner: &str,
-) -> Result<String, AllocError> {
-    let Some(record) = records.get(row.saturating_sub(1)) else {
+fn row_message(alloc: Global, refused: &Refused<'_, '_>, row: usize) -> Result<String, AllocError> {
+    let (input, fault) = (refused.input, refused.fault);
+    let Some(record) = refused.records.get(row.saturating_sub(1)) else {
         return format!(in alloc; "onfi_sim: row {row}: {fault}\n");
     };
     let (name, line, text) = (
@@ -78,18 +69,22 @@ fn row_message(
         line_of(input.text, record),
         row_text(alloc, record)?,
     );
-    let what = row_fault(fault, inner);
+    let what = row_fault(alloc, refused, record, row)?;
     let mut message = format!(in alloc; "onfi_sim: {name}:{line}: row {row} '{text}': {what}\n")?;
-    message.push_str(hint(alloc, field(record, 0), fault)?.as_str())?;
+    message.push_str(hint(alloc, refused, field(record, 0))?.as_str())?;
     Ok(message)
 }
 
 /// What was expected in place of a row.
-fn hint(alloc: Global, name: &[u8], fault: &str) -> Result<String, AllocError> {
+fn hint(alloc: Global, refused: &Refused<'_, '_>, name: &[u8]) -> Result<String, AllocError> {
+    if refused.fault == "NotHere" {
+        let rows = taken(refused.command, name);
+        return format!(in alloc; "  expected: {rows}\n");
+    }
     if let Some(form) = form_of(name) {
         return format!(in alloc; "  expected: {form}\n");
     }
-    if fault == "UnknownRow" {
+    if refused.fault == "UnknownRow" {
         if let Some(near) = near_name(alloc, name)? {
             return format!(in alloc; "  did you mean '{near}'?\n");
         }
@@ -100,18 +95,35 @@ fn hint(alloc: Global, name: &[u8], fault: &str) -> Result<String, AllocError> {
     )
 }
 
-/// What is wrong with a row.
-fn row_fault(fault: &str, inner: &str) -> &'static str {
+/// What is wrong with a row, counted from 1.
+fn row_fault(
+    alloc: Global,
+    refused: &Refused<'_, '_>,
+    record: &ByteRecord,
+    row: usize,
+) -> Result<String, AllocError> {
+    match (refused.fault, refused.inner) {
+        ("NotANumber", _) | ("Sheet", "NotANumber") => not_a_number(alloc, record),
+        ("OutOfRange", _) => out_of_range(alloc, refused, record, row),
+        ("NotHere", _) => not_here(alloc, refused, field(record, 0)),
+        ("UnknownRow", _) if row == 1 => {
+            let what = match guess(refused.input.text) {
+                Some(guess) => guess.text(),
+                None => "no row has this name",
+            };
+            String::from_str(alloc, what)
+        }
+        (fault, inner) => String::from_str(alloc, plain_fault(fault, inner)),
+    }
+}
+
+/// What is wrong with a row, where that rests on nothing but the name of the fault.
+fn plain_fault(fault: &str, inner: &str) -> &'static str {
     match (fault, inner) {
         ("UnknownRow", _) => "no row has this name",
         ("FieldCount", _) => "the row has too few fields or too many",
-        ("NotANumber", _) | ("Sheet", "NotANumber") =>
-            "a field isn't a number: digits alone, no sign, point, unit or space",
-        ("OutOfRange", _) =>
-            "a field is out of its range, or names a LUN that the device doesn't have",
         ("Repeated", _) | ("Sheet", "Repeated") => "an earlier row says this already",
         ("Hex", _) => "the bytes aren't pairs of hexadecimal digits",
-        ("NotHere", _) => "this command, or a script of this form, doesn't take such a row",
         ("Sheet", "Unknown") => "no timing parameter has this name",
         ("Sheet", "TooLong") => "the value is 2^32 ns or more; perhaps it is in ps",
         ("Request", "Lun") => "the device has no such LUN",
@@ -122,33 +134,185 @@ fn row_fault(fault: &str, inner: &str) -> &'static str {
     }
 }
 
-/// The message about a script as a whole.
-fn whole_message(
+/// Which field isn't a number, and why.
+fn not_a_number(alloc: Global, record: &ByteRecord) -> Result<String, AllocError> {
+    match wrong_field(record) {
+        Some((found, text)) => {
+            let (name, shown, why) = (found.name, shown(alloc, text)?, number_fault(text));
+            format!(in alloc; "{name} is '{shown}', which isn't a number: {why}")
+        }
+        None => String::from_str(alloc, "a field isn't a number: digits alone"),
+    }
+}
+
+/// Which field is out of its range, or names what the script or its device doesn't have.
+fn out_of_range(
     alloc: Global,
-    purpose: Purpose,
-    input: &Input<'_>,
-    records: &[ByteRecord],
-    fault: &str,
-    inner: &str,
+    refused: &Refused<'_, '_>,
+    record: &ByteRecord,
+    row: usize,
 ) -> Result<String, AllocError> {
-    let name = input.script_name();
-    match (fault, inner) {
-        ("NoEnd", _) => {
-            let line = lines_in(input.text).saturating_add(1);
+    if let Some((found, text)) = wrong_field(record) {
+        let (name, shown, told) = (found.name, shown(alloc, text)?, found.told);
+        return format!(in alloc; "{name} is '{shown}', and has to be {told}");
+    }
+    if is_op_too_many(refused.records, row) {
+        return String::from_str(alloc, "a script has at most 10000 rows 'op'");
+    }
+    if field(record, 0) == b"at".as_slice() {
+        return String::from_str(alloc, "NS is less than that of an 'at' row above");
+    }
+    let (purpose, text) = (purpose_of(refused.command), refused.input.text);
+    match absent_field(alloc, purpose, text, refused.records, record) {
+        Some((name, count)) => {
+            format!(in alloc; "{name} has to be below {count}: so many there are, counted from 0")
+        }
+        None => String::from_str(alloc, "a field is out of its range"),
+    }
+}
+
+/// Whether a row of this name tells of a device in the first form, of a problem as of a run.
+fn is_shape_or_spans(name: &[u8]) -> bool {
+    name == b"shape".as_slice() || name == b"spans".as_slice()
+}
+
+/// Whether a row of this name tells of a device in the first form.
+fn is_of_first(name: &[u8]) -> bool {
+    is_shape_or_spans(name) || name == b"geometry".as_slice()
+}
+
+/// Whether a row of this name tells of a device in either form.
+fn is_of_device(name: &[u8]) -> bool {
+    is_of_first(name) || name == b"page".as_slice() || name == b"sheet".as_slice()
+}
+
+/// Why a row of this name isn't taken by the command, or behind the rows before it.
+fn not_here(alloc: Global, refused: &Refused<'_, '_>, name: &[u8]) -> Result<String, AllocError> {
+    let command = refused.command.word();
+    let told = |record: &ByteRecord| is_of_device(field(record, 0));
+    let first = refused
+        .records
+        .iter()
+        .find(|record| is_of_device(field(record, 0)));
+    let is_begun = match first {
+        Some(record) => !is_shape_or_spans(field(record, 0)),
+        None => false,
+    };
+    match refused.command {
+        CommandName::Run if name == b"at".as_slice() => String::from_str(
+            alloc,
+            "no run takes moments of arrival: all operations arrive at 0",
+        ),
+        CommandName::Run if is_shape_or_spans(name) && !is_begun => String::from_str(
+            alloc,
+            "'run' takes the first form behind a row 'geometry' alone",
+        ),
+        CommandName::Run if !is_of_device(name) => String::from_str(
+            alloc,
+            "'run' doesn't take this row; 'plan' and 'check' do",
+        ),
+        _ if refused.command != CommandName::Run && is_of_run(name) => {
+            format!(in alloc; "'{command}' doesn't take this row; 'run' does")
+        }
+        _ => {
+            let row = refused
+                .records
+                .iter()
+                .position(told)
+                .unwrap_or(0)
+                .saturating_add(1);
+            let (own, other) = if is_of_first(name) {
+                ("second", "first")
+            } else {
+                ("first", "second")
+            };
             format!(in alloc;
-                "onfi_sim: {name}:{line}: the script ends here, and no line 'end' closes it\n"
+                "the device has the {own} form since row {row}, and this row is of the {other}"
             )
         }
+    }
+}
+
+/// Which rows are taken where one of this name isn't.
+fn taken(command: CommandName, name: &[u8]) -> &'static str {
+    match command {
+        CommandName::Run if name == b"at".as_slice() => "a script without 'at' rows",
+        CommandName::Run if is_of_device(name) =>
+            "'geometry', then 'shape' and 'spans' rows; or 'page' and 'sheet' rows",
+        CommandName::Run =>
+            "page, sheet, strict, channels, hosts, batch, choice, submitcap, postcap, op, fault, chipfail, notready, array; or geometry, shape and spans in place of page and sheet",
+        _ if is_of_run(name) =>
+            "shape and spans, or page and sheet; strict, bus, free, running, want or weight",
+        _ => "'shape' and 'spans' rows alone, or 'page' and 'sheet' rows alone",
+    }
+}
+
+/// The message about a script as a whole.
+fn whole_message(alloc: Global, refused: &Refused<'_, '_>) -> Result<String, AllocError> {
+    let (input, name) = (refused.input, refused.input.script_name());
+    match (refused.fault, refused.inner) {
+        ("NoEnd", _) => no_end(alloc, input),
         ("Missing", _) => {
-            let what = missing(purpose, records);
+            let what = missing(refused.command, refused.records);
             format!(in alloc; "onfi_sim: {name}: the script lacks {what}\n")
         }
-        ("Problem", "BadLun") => bad_lun(alloc, purpose, input, records),
-        _ => {
-            let what = whole_fault(fault, inner);
-            format!(in alloc; "onfi_sim: {name}: {what}\n")
+        ("Sheet", "Missing") => {
+            let which = missing_parameters(alloc, refused.records)?;
+            format!(in alloc; "onfi_sim: {name}: no 'sheet' row gives {which}\n")
+        }
+        ("Problem", "BadLun") => bad_lun(alloc, refused),
+        (fault, inner) => {
+            let what = whole_fault(refused.command, fault, inner);
+            let more = advice(refused.command, fault, inner);
+            format!(in alloc; "onfi_sim: {name}: {what}{more}\n")
         }
     }
+}
+
+/// The line of a text, counted from 0, that closes a script but for capitals and blanks.
+fn near_end(text: &[u8]) -> Option<usize> {
+    text.split(|byte| *byte == b'\n')
+        .position(|line| line.trim_ascii().eq_ignore_ascii_case(b"end"))
+}
+
+/// The message about a script that no line closes.
+fn no_end(alloc: Global, input: &Input<'_>) -> Result<String, AllocError> {
+    let name = input.script_name();
+    if let Some(guess) = guess(input.text) {
+        if guess != OtherText::Script {
+            let what = guess.text();
+            return format!(in alloc; "onfi_sim: {name}:1: {what}\n");
+        }
+    }
+    if let Some(at) = near_end(input.text) {
+        let (line, found) = (at.saturating_add(1), shown(alloc, line_at(input.text, at))?);
+        return format!(in alloc;
+            "onfi_sim: {name}:{line}: '{found}' doesn't close the script; the line 'end' does, in small letters and without blanks\n"
+        );
+    }
+    let line = lines_in(input.text).saturating_add(1);
+    format!(in alloc;
+        "onfi_sim: {name}:{line}: the script ends here, and no line 'end' closes it\n"
+    )
+}
+
+/// The timing parameters of a sheet, in the order in which a missing one is told.
+const PARAMETERS: [&str; 9] = [
+    "tWC", "tRC", "tADL", "tWHR", "tRHW", "tWB", "tPLRBSY", "tPLPBSY", "tPLEBSY",
+];
+
+/// The timing parameters that no row gives.
+fn missing_parameters(alloc: Global, records: &[ByteRecord]) -> Result<String, AllocError> {
+    let mut names = String::new(alloc);
+    for name in PARAMETERS {
+        if !has_row(records, b"sheet", name.as_bytes()) {
+            if !names.is_empty() {
+                names.push_str(", ")?;
+            }
+            names.push_str(name)?;
+        }
+    }
+    Ok(names)
 }
 
 /// Whether a row begins with these fields.
@@ -158,13 +322,18 @@ fn has_row(records: &[ByteRecord], name: &[u8], kind: &[u8]) -> bool {
 }
 
 /// Which row of its device a script lacks.
-fn missing(purpose: Purpose, records: &[ByteRecord]) -> &'static str {
-    let first = has_row(records, b"shape", b"") || has_row(records, b"spans", b"");
+fn missing(command: CommandName, records: &[ByteRecord]) -> &'static str {
+    if command == CommandName::Device {
+        return "the device's 'page' rows";
+    }
+    let first = ["shape", "spans", "geometry"]
+        .iter()
+        .any(|name| has_row(records, name.as_bytes(), b""));
     if !first {
         return if has_row(records, b"sheet", b"") {
             "the device's 'page' rows"
-        } else if let Purpose::Run = purpose {
-            "a device: 'page' and 'sheet' rows"
+        } else if command == CommandName::Run {
+            "a device: 'page' and 'sheet' rows, or 'geometry', 'shape' and 'spans' rows"
         } else {
             "a device: 'shape' and 'spans' rows, or 'page' and 'sheet' rows"
         };
@@ -181,17 +350,37 @@ fn missing(purpose: Purpose, records: &[ByteRecord]) -> &'static str {
     "the row 'spans,erase,..'"
 }
 
+/// The message beside a description, where the device can't be planned for.
+///
+/// # Errors
+/// Want of memory.
+pub fn device_message(
+    alloc: Global,
+    input: &Input<'_>,
+    answer: &[u8],
+) -> Result<Option<String>, AllocError> {
+    let refused = answer
+        .split(|byte| *byte == b'\n')
+        .find_map(|line| line.strip_prefix(b"refused,"));
+    let Some(Ok(name)) = refused.map(|name| std::str::from_utf8(name)) else {
+        return Ok(None);
+    };
+    let line = format!(in alloc; "script refused 0 {name}")?;
+    let told = script_message(alloc, CommandName::Device, input, line.as_str())?;
+    Ok(Some(told))
+}
+
 /// What is wrong with a script as a whole.
-fn whole_fault(fault: &str, inner: &str) -> &'static str {
+fn whole_fault(command: CommandName, fault: &str, inner: &str) -> &'static str {
     match (fault, inner) {
         ("Page", "Short") => "the 'page' rows hold fewer than the 256 bytes of one parameter page",
         ("Page", _) =>
             "no copy in the 'page' rows is a parameter page: signature 'ONFI', CRC in bytes 254 and 255",
         ("Geometry", inner) => geometry_fault(inner),
-        ("Sheet", "Missing") =>
-            "a 'sheet' row is missing: tWC, tRC, tADL, tWHR, tRHW, tWB, tPLRBSY, tPLPBSY, tPLEBSY",
         ("Sheet", "ZeroCycle") => "tWC or tRC is 0; round them up to 1 ns",
         ("Sheet", _) => "the 'sheet' rows give no phase lengths",
+        ("Problem", "TooMany") if command == CommandName::Check =>
+            "there are more than eight 'want' rows, and a plan is of at most eight requests",
         ("Problem", "TooMany") =>
             "there are more than eight 'want' rows; plan eight requests at a time",
         ("Problem", "Clock") => "times might reach 2^62 ns; count them from a later zero",
@@ -202,12 +391,14 @@ fn whole_fault(fault: &str, inner: &str) -> &'static str {
 /// Why a device of the 'page' rows can't be driven.
 fn geometry_fault(inner: &str) -> &'static str {
     match inner {
-        "WideBus" => "the device has a 16-bit bus, and only 8-bit ones can be planned for",
-        "NoStatusEnhanced" => "the device has no Read Status Enhanced (78h)",
-        "NoColumnEnhanced" => "the device has no Change Read Column Enhanced (06h-E0h)",
-        "NoMultiLun" => "the device can't run several LUNs at a time",
-        "LunCount" => "the device has no LUN, or more than 8",
-        "PlaneBits" => "the device has more than 2 plane address bits",
+        "WideBus" =>
+            "the device has a 16-bit bus (bit 0 of byte 6), and only 8-bit ones can be planned for",
+        "NoStatusEnhanced" => "the device has no Read Status Enhanced (78h): bit 3 of byte 8 is 0",
+        "NoColumnEnhanced" =>
+            "the device has no Change Read Column Enhanced (06h-E0h): bit 6 of byte 8 is 0",
+        "NoMultiLun" => "the device can't run several LUNs at a time: bit 1 of byte 6 is 0",
+        "LunCount" => "the device has no LUN, or more than 8 (byte 100)",
+        "PlaneBits" => "the device has more than 2 plane address bits (byte 113)",
         "Zero" => "the parameter page tells of no page, no block or no data byte",
         "RowTooWide" =>
             "row addresses don't fit the row address cycles; look at bytes 80 to 101 of the page",
@@ -218,15 +409,21 @@ fn geometry_fault(inner: &str) -> &'static str {
     }
 }
 
+/// What else may be done where a page doesn't tell of a command that the device may have.
+fn advice(command: CommandName, fault: &str, inner: &str) -> &'static str {
+    match (command, fault, inner) {
+        (CommandName::Run, ..) => "",
+        (_, "Geometry", "NoStatusEnhanced" | "NoColumnEnhanced" | "NoMultiLun") =>
+            "; if it can all the same, describe it by 'shape' and 'spans' rows",
+        _ => "",
+    }
+}
+
 /// The message about a request that is none of the device, or a running group that is none.
-fn bad_lun(
-    alloc: Global,
-    purpose: Purpose,
-    input: &Input<'_>,
-    records: &[ByteRecord],
-) -> Result<String, AllocError> {
+fn bad_lun(alloc: Global, refused: &Refused<'_, '_>) -> Result<String, AllocError> {
+    let (input, records) = (refused.input, refused.records);
     let name = input.script_name();
-    let found = match read_rows(alloc, purpose, input.text) {
+    let found = match read_rows(alloc, purpose_of(refused.command), input.text) {
         Ok(rows) => bad_row(alloc, rows.as_slice()),
         Err(_) => None,
     };

@@ -20,3 +20,4 @@ pub use page::Page;
 pub use prepared::Prepared;
 pub use shape::Shape;
 pub use store::Store;
+pub use total::Total;

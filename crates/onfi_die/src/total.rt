@@ -26,14 +26,14 @@ impl Total {
     }
 
     /// Nothing counted.
-    pub(crate) fn none() -> Total
+    pub fn none() -> Total
         ensures { result.count ≡ 0 }
     {
         Total::of(&())
     }
 
     /// One more.
-    pub(crate) fn next(&self) -> Total
+    pub fn next(&self) -> Total
         ensures { result.count ≡ self.now.count + 1 }
     {
         Total::of(self)

@@ -3,7 +3,7 @@ use onfi_console::Parsed;
 use onfi_script::{InputFault, read_all};
 use std::alloc::Global;
 use std::fs;
-use std::fs::Files;
+use std::fs::{Files, OpenFile};
 use std::io::{Error, Input};
 
 /// Why an input can't be read.
@@ -11,6 +11,8 @@ use std::io::{Error, Input};
 pub enum Unread<'a> {
     /// This file can't be opened.
     File(&'a str, Error),
+    /// This is the name of a directory.
+    Directory(&'a str),
     /// A read failed.
     Read,
     /// Memory was refused.
@@ -48,9 +50,18 @@ fn read_file<'a, R: Files + Input>(
     match name {
         None | Some("-") => Ok(read_all(alloc, &mut rt.reader())?),
         Some(name) => match fs::open(rt, name) {
+            Ok(file) if is_directory(&file) => Err(Unread::Directory(name)),
             Ok(mut file) => Ok(read_all(alloc, &mut file)?),
             Err(error) => Err(Unread::File(name, error)),
         },
+    }
+}
+
+/// Whether what was opened is a directory; a file of which that can't be told is none.
+fn is_directory(file: &impl OpenFile) -> bool {
+    match file.metadata() {
+        Ok(metadata) => metadata.is_dir(),
+        Err(_) => false,
     }
 }
 

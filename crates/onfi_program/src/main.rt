@@ -11,7 +11,9 @@ use input::{Unread, read};
 use onfi_console::{Input, Untaken, escaped, is_quiet, message, read_words, shown};
 use onfi_run::run_freely;
 use onfi_script::{engine_split_requests, write_text};
-use onfi_sim::{Command, EngineFault, Named, Parsed, RunPlanner, engine, engine_split};
+use onfi_sim::{Command, EngineFault, Named, Parsed, RunPlanner, describe, engine, engine_split};
+use std::alloc::Global;
+use std::fmt::Display;
 use std::io::{Eprint, ErrorKind, Print};
 use std::process::ExitCode;
 use std::sync::Wait;
@@ -94,19 +96,34 @@ fn unread(rt: &(impl AllocGlobal + Print + Eprint), parsed: &Parsed<'_>, fault: 
             }
             5
         }
+        Unread::Directory(name) => {
+            if !parsed.quiet {
+                tell_unread(rt, name, "it is a directory");
+            }
+            5
+        }
         Unread::Read => 7,
         Unread::Memory => out_of_memory(rt),
     }
 }
 
 /// Says which file can't be read, and why.
-fn tell_unread(rt: &(impl AllocGlobal + Eprint), name: &str, error: &std::io::Error) {
+fn tell_unread(rt: &(impl AllocGlobal + Eprint), name: &str, why: impl Display + Drop) {
     let alloc = rt.alloc();
     if let Ok(name) = escaped(alloc, name) {
-        if let Ok(text) = format!(in alloc; "error: the file '{name}' can't be read: {error}\n") {
+        if let Ok(text) = format!(in alloc; "error: the file '{name}' can't be read: {why}\n") {
             let _ = rt.eprint(text.as_str());
         }
     }
+}
+
+/// Puts behind an answer what the page of a script says; the status.
+fn tell_device(alloc: Global, text: &[u8], answer: &mut Vec<u8>) -> Result<u8, EngineFault> {
+    let Ok(told) = describe(alloc, text) else {
+        return Err(EngineFault::Write);
+    };
+    write_text(answer, told.text.as_slice())?;
+    Ok(told.status)
 }
 
 /// Answers what is asked of an input; the status.
@@ -139,6 +156,7 @@ fn answer_to<R: Threads + Wait + Sync + AllocGlobal>(
             workers,
         } if workers > 1 => engine_split_requests(rt, alloc, limit, workers, &mut text, answer),
         Named::Problem { command, .. } => engine(alloc, command, &mut text, answer),
+        Named::Device => tell_device(alloc, text, answer),
     }
 }
 

@@ -3,7 +3,7 @@ ghost use Rattle.onfi_reply.specs.Ends.{after_collecting, after_refusing, IsFirs
 ghost use Rattle.onfi_reply.specs.Replies.{IsNext};
 
 use crate::inbox_seat::InboxSeat;
-use crate::refusals::Refusals;
+use onfi_die::Total;
 use onfi_request::Reply;
 use std::alloc::{AllocError, Global};
 use std::collections::VecDeque;
@@ -19,7 +19,8 @@ use std::sync::Wait;
 pub struct Inbox {
     pub(crate) seat: InboxSeat,
     pub(crate) waiting: VecDeque<Reply>,
-    pub(crate) refusals: Refusals,
+    // How often a taking in was refused memory, for contracts alone.
+    pub(crate) refusals: Total,
 }
 
 impl Model for Inbox {
@@ -73,7 +74,7 @@ impl Inbox {
         ensures refused { OnErr result (self.new ≡ after_refusing self.old) }
     {
         if let Err(refused) = self.waiting.reserve(1) {
-            self.refusals = self.refusals.one_more();
+            self.refusals = self.refusals.next();
             return Err(refused);
         }
         match self.seat.pop(rt) {

@@ -14,7 +14,6 @@ mod opened_for;
 mod opening;
 mod poster;
 mod poster_seat;
-mod refusals;
 mod rule;
 mod view;
 

@@ -5,8 +5,8 @@ use crate::inbox::Inbox;
 use crate::opened_for::OpenedFor;
 use crate::poster::Poster;
 use crate::poster_seat::PosterSeat;
-use crate::refusals::Refusals;
 use onfi_addr::Geometry;
+use onfi_die::Total;
 use std::alloc::{AllocError, Global};
 use std::collections::VecDeque;
 
@@ -41,7 +41,7 @@ pub fn open(
         Inbox {
             seat: inbox,
             waiting: VecDeque::new(alloc),
-            refusals: Refusals::none(),
+            refusals: Total::none(),
         },
     ))
 }

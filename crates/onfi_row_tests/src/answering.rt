@@ -5,8 +5,8 @@ ghost use Rattle.onfi_console.specs.Words.{IsInRange};
 
 use crate::ended::Ended;
 use onfi_sim::{
-    Command, CommandName, EngineFault, Gate, Parsed, WordsFault, engine, engine_split, run_script,
-    words,
+    Command, CommandName, EngineFault, Gate, Parsed, WordsFault, describe, engine, engine_split,
+    run_script, words,
 };
 use std::alloc::{AllocError, Global};
 use std::sync::Wait;
@@ -85,6 +85,11 @@ fn obey<R: Threads + Wait + Sync>(
         CommandName::Run => {
             let gates = four_gates(alloc)?;
             run_script(rt, alloc, limit, gates, &mut reader, &mut text)?
+        }
+        CommandName::Device => {
+            let described = describe(alloc, input)?;
+            text = described.text;
+            described.status
         }
     };
     Ok(Answer { status, text })

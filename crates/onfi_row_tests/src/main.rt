@@ -5,6 +5,7 @@
 mod answering;
 mod ended;
 mod page;
+mod unflushed;
 
 use crate::answering::{Answer, answer_to};
 use crate::ended::Ended;
@@ -118,13 +119,26 @@ fn play_all<R: Threads + Wait + Sync + Print>(
     Ok(count)
 }
 
+// Counts one row more: a failed flush has to be told.
+fn with_flush<R: Print>(rt: &R, alloc: Global, count: Count) -> Result<Count, Ended> {
+    let told = unflushed::is_told(alloc);
+    if !told {
+        println!(rt; "answered otherwise: a failed flush")?;
+    }
+    Ok(Count {
+        rows: count.rows.saturating_add(1),
+        missed: count.missed.saturating_add(u32::from(!told)),
+    })
+}
+
 fn played<R: Threads + Wait + Sync + Print + Input>(rt: &R, alloc: Global) -> Result<Count, Ended> {
     let mut bytes = Vec::new(alloc);
     rt.reader().read_to_end(&mut bytes)?;
     let Ok(text) = std::str::from_utf8(bytes.as_slice()) else {
         return Err(Ended::Stream);
     };
-    play_all(rt, alloc, text)
+    let count = play_all(rt, alloc, text)?;
+    with_flush(rt, alloc, count)
 }
 
 fn main(rt: HostRuntime) -> ExitCode {

@@ -59,7 +59,7 @@ told_before f front last whole (h ∷ hs) (xs ∷ lists) (x ∷ more) same n m e
     let rest = told_before f front last whole hs lists more same (omega (arith, n)) (omega (arith, m)) (tail_of first (whole h) others (map whole hs) e) in
     (ap (λ l. l ∷ map (map f) lists) both.0 ∙ ap (λ l. front h ∷ l) rest.0, ap (λ z. z ∷ map f more) both.1 ∙ ap (λ l. last h ∷ l) rest.1)
 
-each_longer : {X : Type 0} (P : X → Type 0) (xs : List X) (x : X) → Each P xs → P x → Each P (xs ++ x ∷ [])
+pub each_longer : {X : Type 0} (P : X → Type 0) (xs : List X) (x : X) → Each P xs → P x → Each P (xs ++ x ∷ [])
 each_longer P [] x all one = (one, tt)
 each_longer P (y ∷ xs) x (here, all) one = (here, each_longer P xs x all one)
 
@@ -77,3 +77,7 @@ by_key key f (xs ∷ lists) = ap (λ l. l ∷ map (map (λ x. f (key x))) lists)
 pub same_by_key : {A K B : Type 0} (key : A → K) (f : K → B) (old new : List (List A)) → map (map key) new ≡ map (map key) old
     → map (map (λ x. f (key x))) new ≡ map (map (λ x. f (key x))) old
 same_by_key key f old new same = by_key key f new ∙ ap (map (map f)) same ∙ sym (by_key key f old)
+
+-- four elements that are equal one by one
+pub four_same : {X : Type 0} (a b c d e f g h : X) → a ≡ e → b ≡ f → c ≡ g → d ≡ h → a ∷ b ∷ c ∷ d ∷ [] ≡ e ∷ f ∷ g ∷ h ∷ []
+four_same a b c d e f g h first second third fourth = cc

@@ -12,3 +12,5 @@ pub mod Collecting
 pub mod Fresh
 pub mod Reporting
 pub mod Latencies
+pub mod Resting
+pub mod Moments

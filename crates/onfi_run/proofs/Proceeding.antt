@@ -14,8 +14,8 @@ by_answer : (now : ℕ) (q q' : Seen) (none : Bool) (t : TurnAt) → Turned now 
 by_answer now q q' none (turn.Stopped cause) turned refused = absurd (cc)
 by_answer now q q' true (turn.Over opened) turned refused = absurd (cc)
 by_answer now q q' false (turn.Over opened) turned refused = absurd (cc)
-by_answer now q q' none turn.Memory (mid, passes, inl p) refused = ap (λ (x : Seen). x.0.short) p.after
-by_answer now q q' none turn.Memory (mid, passes, inr (start, r)) refused = ap (λ (x : Seen). x.0.short) r.after
+by_answer now q q' none turn.Memory (mid, passes, inl p, planned) refused = ap (λ (x : Seen). x.0.short) p.after
+by_answer now q q' none turn.Memory (mid, passes, inr (start, r), planned) refused = ap (λ (x : Seen). x.0.short) r.after
 by_answer now q q' none (turn.Waits until) turned refused = absurd (cc)
 by_answer now q q' none turn.Phase turned refused = absurd (cc)
 by_answer now q q' none turn.Planned turned refused = absurd (cc)

@@ -4,24 +4,26 @@ use Rattle.std.specs.Prelude.{IfSome}
 use Rattle.std.specs.Option.{is_some}
 use Rattle.std.proofs.lemmas.List.{length-map}
 use Rattle.onfi_script.specs.declared.row.Row.{Row}
-use Rattle.onfi_run.specs.declared.station.Station.{Station}
+use Rattle.onfi_run.specs.declared.bus_use.BusUse.{BusUse}
 use Rattle.onfi_run.specs.declared.clock_report.ClockReport.{ClockReport}
+use Rattle.onfi_run.specs.declared.port.Port.{Port}
+use Rattle.onfi_run.specs.declared.station.Station.{Station}
 use Rattle.onfi_run.specs.Finishing.{IsGathered}
 use Rattle.onfi_run.specs.Keys.{HaveSamePorts, port_key, ports_of}
 use Rattle.onfi_run.specs.Opening.{AreNew}
 use Rattle.onfi_run.specs.Report.{ReportView}
 use Rattle.onfi_run.specs.Setup.{channels_in}
-use Rattle.onfi_run.specs.Told.{IsClockOf, IsReportOf}
+use Rattle.onfi_run.specs.Told.{IsClockOf, IsReportOf, TellsClock}
 use Rattle.onfi_run.proofs.ByHost.{same_by_key}
 use Rattle.onfi_run.proofs.Collecting.{status_done}
 
 pub same_length : {A B K : Type 0} (f : A → K) (h : B → K) (xs : List A) (ys : List B) → map f xs ≡ map h ys → length xs ≡ length ys
 same_length f h xs ys e = sym (length-map xs f) ∙ ap length e ∙ length-map ys h
 
-pub report_told : (rows : List Row) (before behind : List Station) (channels : ℕ) (r : ReportView) → AreNew rows (channels_in rows) before
+pub report_told : (now : ℕ) (rows : List Row) (before behind : List Station) (channels : ℕ) (r : ReportView) → AreNew rows (channels_in rows) before
     → HaveSamePorts before behind → channels ≡ channels_in rows
-    → IsGathered (ports_of behind) channels r → IsReportOf false rows r
-report_told rows before behind channels r new same count all = record {
+    → IsGathered now (ports_of behind) channels r → IsReportOf false rows r
+report_told now rows before behind channels r new same count all = record {
   places_are = all.places ∙ same_by_key port_key (λ k. k.1) (ports_of before) (ports_of behind) same ∙ new.places;
   ends_are = all.count ∙ count;
   suited = all.suited;
@@ -41,3 +43,16 @@ report_clocked rows r more clock told is tells =
       clock_tells = record { buses = tells.buses; reads = tells.reads; programs = tells.programs; erases = tells.erases };
       complete = told.complete;
     })
+
+-- what was gathered, with a clock that tells these buses
+pub clock_told : (now : ℕ) (ports : List (List Port)) (buses told : List BusUse) (channels : ℕ) (r : ReportView) → channels ≡ length buses → IsGathered now ports channels r
+    → told ≡ buses → (more : ReportView)
+    → (clock : ClockReport) × (more ≡ record r { clock = Some clock }) × IsClockOf r clock × (clock.buses.items ≡ told) → TellsClock now ports buses more
+clock_told now ports buses told channels r count gathered same more (clock, with_it, tells, are) = record {
+  plain = r;
+  gathered = subst (λ n. IsGathered now ports n r) count gathered;
+  clock = clock;
+  with_it = with_it;
+  tells = tells;
+  buses_are = are ∙ same;
+}

@@ -1,10 +1,13 @@
 -- Which ends of queues belong together.
-use Rattle.std.specs.Prelude.{◌≡◌, ◌⊎◌, ℕ, Bool, true, false, List, length, map, Option, Some, slice_get}
+use Rattle.std.specs.Prelude.{◌≡◌, ◌≢◌, ℕ, Bool, true, false, List, length, map, Option, Some, slice_get}
 use Rattle.atomic_table.specs.Seated.{TableId}
 use Rattle.onfi_timing.specs.declared.kind.Kind.{Kind}
 use Rattle.onfi_request.specs.declared.reply.Reply.{Reply}
 use Rattle.onfi_request.specs.declared.request.Item.{Item}
-use Rattle.onfi_queue.specs.Ends.{HostView, AreHostsOf}
+use Rattle.onfi_request.specs.declared.request.Request.{Request}
+use Rattle.onfi_queue.specs.declared.fault.SubmitFault.{SubmitFault}
+use Rattle.onfi_queue.specs.declared.fault.SubmitFault.TheVariants.{Full}
+use Rattle.onfi_queue.specs.Ends.{HostView, AreHostsOf, IsWhyNot, after_sending}
 use Rattle.onfi_reply.specs.Ends.{InboxView, after_collecting}
 use Rattle.onfi_run.specs.declared.port.Port.{Port}
 use Rattle.onfi_run.specs.declared.station.Station.{Station}
@@ -54,9 +57,20 @@ abbrev pub Collects : ℕ → Bool → Port → Port → Type 0
 Collects now true old new = TookReply now old new
 Collects now false old new = new ≡ old
 
--- a request was submitted at that moment, or none was
-abbrev pub Submits : ℕ → Port → Port → Type 0
-Submits now old new = (new.answers ≡ changed (submitted now) old.answers (length old.host.sent)) ⊎ ((new.host.sent ≡ old.host.sent) × (new.answers ≡ old.answers))
+-- an operation was left out
+abbrev pub LeavesOut : Port → Port → Type 0
+LeavesOut old new = new ≡ record old { left_out = true }
+
+-- the queue never takes the request: it isn't full that refuses it
+abbrev pub IsNeverTaken : HostView → Request → Type 0
+IsNeverTaken host request = (why : SubmitFault) × (why ≢ Full) × IsWhyNot host request why
+
+-- a request was submitted at that moment, or left out: since one was before, or since the queue never takes it
+pub data Submits (now : ℕ) (request : Request) (old new : Port) : Type 0 where
+  is_sent : old.left_out ≡ false → new ≡ record old { host = after_sending old.host request; answers = changed (submitted now) old.answers (length old.host.sent) }
+      → Submits now request old new
+  is_behind : old.left_out ≡ true → new ≡ old → Submits now request old new
+  is_refused : IsNeverTaken old.host request → LeavesOut old new → Submits now request old new
 
 -- the same ends, with places for the same answers, in the same order
 abbrev pub HasSamePorts : List Port → List Port → Type 0

@@ -12,6 +12,8 @@ pub mod Ending
 pub mod Told
 pub mod Pace
 pub mod Keys
+pub mod Resting
+pub mod Moments
 pub mod Sending
 pub mod Finishing
 pub mod Threads

@@ -45,6 +45,11 @@ AreOpened setup rows number (gate ∷ gates) [] = ⊥
 abbrev pub AreOpenedOn : {P G : Type 0} → List Row → PageDevice → ℕ → List G → List (Lane (Gated P G)) → Type 0
 AreOpenedOn rows device limit gates lanes = (setup : Setup) × SetsUp rows device limit setup × AreOpened setup rows 0 (take setup.channels gates) lanes
 
+-- these are, behind a run, the channels that the rows set up and that opened with that limit
+abbrev pub AreBehind : {P G : Type 0} → List Row → PageDevice → ℕ → List G → List (Lane (Gated P G)) → Type 0
+AreBehind {P} {G} rows device limit gates lanes =
+    (opened : List (Lane (Gated P G))) × AreOpenedOn rows device limit gates opened × (map lane_queues lanes ≡ map lane_queues opened)
+
 -- ---- hosts
 -- nothing was sent there
 abbrev pub IsUnsent : Port → Type 0

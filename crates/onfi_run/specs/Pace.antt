@@ -1,10 +1,13 @@
 -- When channels make turns in a run with a clock, and how busy their buses are.
-use Rattle.std.specs.Prelude.{ℕ, ◌+◌, ◌-◌, min, max, nat_lt, ◌&&◌, if◌then◌else◌, Bool, Option, None, Some}
+use Rattle.std.specs.Prelude.{◌≡◌, ℕ, ◌+◌, ◌-◌, ◌<◌, ◌≤◌, min, max, nat_lt, if◌then◌else◌, Bool, false, List, Option, None, Some}
+use Rattle.std.specs.List.{AllByRecursion as Each, Contains}
+use Rattle.std.specs.Option.{is_some, unwrap_or}
 use Rattle.onfi_run.specs.declared.bus_use.BusUse.{BusUse}
+use Rattle.onfi_run.specs.declared.lane.Lane.{Lane}
 use Rattle.onfi_run.specs.declared.pace.Pace.{Pace}
 use Rattle.onfi_run.specs.declared.progress.Progress.{Progress}
 use Rattle.onfi_run.specs.declared.progress.Progress.TheVariants as progress
-use Rattle.onfi_run.specs.Ending.{no_clock}
+use Rattle.onfi_run.specs.Ending.{is_spent, no_clock, refusals_behind, thread_end}
 
 -- a turn at `now`, behind which the bus is free from `free` on: where that is later, a phase keeps it busy until then
 abbrev pub bus_behind : ℕ → ℕ → BusUse → BusUse
@@ -29,6 +32,31 @@ pace_behind now free ready p is_last pace = record { wakes = wakes_behind p read
 abbrev pub due_of : Pace → ℕ → ℕ
 due_of pace free = if pace.has_ended then no_clock else max pace.wakes free
 
--- with the moment at which a channel may make its next turn, where that is behind `now`
-abbrev pub sooner : ℕ → Option ℕ → ℕ → Option ℕ
-sooner now other due = if nat_lt now due && nat_lt due no_clock then Some (least_of other due) else other
+-- it may make a turn at that moment: it goes on, its bus is free and what it waits for has come
+pub record MayTurn (now : ℕ) (pace : Pace) (free : ℕ) : Type 0 where
+  pub goes_on : pace.has_ended ≡ false
+  pub awake : pace.wakes ≤ now
+  pub bus : free ≤ now
+
+-- it may make none then
+abbrev pub Waits : ℕ → Pace → ℕ → Type 0
+Waits now pace free = MayTurn now pace free → ⊥
+
+-- it needs no moment behind `now`: what is told of it is due by then, or at no moment
+abbrev pub NeedsNone : ℕ → ℕ → Type 0
+NeedsNone now due = now < due → no_clock ≤ due
+
+-- the moment behind `now` that comes next: the least at which anything is due, if anything is
+abbrev pub IsNext : ℕ → List ℕ → Option ℕ → Type 0
+IsNext now dues None = Each (NeedsNone now) dues
+IsNext now dues (Some next) = (now < next) × (next < no_clock) × Contains dues next × Each (λ due. now < due → next ≤ due) dues
+
+-- a turn at that moment came to this: how it ends, if it does, is kept, and so is how often memory was refused
+pub record IsTurned {X : Type 0} (now : ℕ) (p : Progress) (free : ℕ) (ready : Option ℕ) (old new : Lane X) : Type 0 where
+  pub ended : new.ended ≡ unwrap_or (thread_end (is_spent old.refusals) false p) old.ended
+  pub refusals : new.refusals ≡ refusals_behind old.refusals p
+  pub pace : new.pace ≡ pace_behind now free ready p (is_some (thread_end (is_spent old.refusals) false p)) old.pace
+
+-- a request came: it may make a turn as soon as its bus is free
+abbrev pub woken : {X : Type 0} → Lane X → Lane X
+woken lane = record lane { pace = record lane.pace { wakes = 0 } }

@@ -1,5 +1,5 @@
 -- What a report tells of the rows that were run.
-use Rattle.std.specs.Prelude.{◌≡◌, Bool, List, [], ◌∷◌, length, map, IfSome}
+use Rattle.std.specs.Prelude.{◌≡◌, ℕ, Bool, List, [], ◌∷◌, length, map, IfSome, Some}
 use Rattle.std.specs.Option.{is_some}
 use Rattle.std.specs.List.{AllByRecursion as Each}
 use Rattle.onfi_timing.specs.declared.kind.Kind.{Kind}
@@ -7,7 +7,10 @@ use Rattle.onfi_timing.specs.declared.kind.Kind.TheVariants.{Read, Program, Eras
 use Rattle.onfi_script.specs.declared.row.Row.{Row}
 use Rattle.onfi_run.specs.Answers.{IsSuited, IsComplete}
 use Rattle.onfi_run.specs.Operations.{kinds_of}
+use Rattle.onfi_run.specs.declared.bus_use.BusUse.{BusUse}
 use Rattle.onfi_run.specs.declared.clock_report.ClockReport.{ClockReport}
+use Rattle.onfi_run.specs.declared.port.Port.{Port}
+use Rattle.onfi_run.specs.Finishing.{IsGathered}
 use Rattle.onfi_run.specs.Latency.{IsLatencyOf, latencies}
 use Rattle.onfi_run.specs.Report.{GotView, ReportView, places, status_of}
 use Rattle.onfi_run.specs.Setup.{channels_in}
@@ -22,6 +25,15 @@ pub record IsClockOf (report : ReportView) (clock : ClockReport) : Type 0 where
   pub reads : IsLatencyOf (latencies Read report.got) clock.reads
   pub programs : IsLatencyOf (latencies Program report.got) clock.programs
   pub erases : IsLatencyOf (latencies Erase report.got) clock.erases
+
+-- the report of channels and hosts that stood still at that moment: what was gathered of them then, and what their clock told
+pub record TellsClock (now : ℕ) (ports : List (List Port)) (buses : List BusUse) (report : ReportView) : Type 0 where
+  pub plain : ReportView
+  pub gathered : IsGathered now ports (length buses) plain
+  pub clock : ClockReport
+  pub with_it : report ≡ record plain { clock = Some clock }
+  pub tells : IsClockOf plain clock
+  pub buses_are : clock.buses.items ≡ buses
 
 -- Of each of four hosts there is, by channel, a place for each of its operations there, in the order of their rows, and in it nothing or an answer that suits that operation, collected no sooner than the operation was submitted. Where the status is 0 each place has its answer. Moments are told where the run has a clock.
 pub record IsReportOf (clocked : Bool) (rows : List Row) (report : ReportView) : Type 0 where

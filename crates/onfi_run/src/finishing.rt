@@ -4,7 +4,7 @@ ghost use Rattle.std.specs.List.{list_any, zip, AllZip, AllByRecursion as Each};
 ghost use Rattle.onfi_run.specs.Answers.{AddsReplies, IsSuited};
 ghost use Rattle.onfi_run.specs.ByHost.{with_each};
 ghost use Rattle.onfi_run.specs.Ending as spec;
-ghost use Rattle.onfi_run.specs.Finishing.{Empties, IsFinished, IsGathered, are_complete as spec_are_complete, report_of_none, report_with};
+ghost use Rattle.onfi_run.specs.Finishing.{Concludes, Empties, IsFinished, IsGathered, are_complete as spec_are_complete, report_of_none, report_with};
 ghost use Rattle.onfi_run.specs.Keys.{AreEndsOf, AreLinked, ports_of, queues_of};
 
 use crate::answers::{Answers, Got};
@@ -147,6 +147,7 @@ fn close_channel<R: Wait, C: Channel + Drop>(
     requires { AreEndsOf (C.queues lane.channel) ports }
     ensures got { AllZip (AddsReplies now) (map (λ p. p.answers) ports) result.got }
     ensures finished { IsFinished result }
+    ensures concludes { Concludes (λ d inboxes. (after : C) × C.drains lane.channel (map (λ p. p.host) ports) (map (λ p. p.inbox) ports) d after inboxes) now lane.ended short_of_memory (map (λ p. p.answers) ports) result }
     ensures short { IsTrue (short_of_memory || C.short lane.channel) → IsTrue result.short_of_memory }
 {
     let Lane {
@@ -242,7 +243,9 @@ fn gather<R: Wait, C: Channel + Drop>(
     short_of_memory: bool,
 ) -> Result<Report, AllocError>
     requires { AreLinked (map (λ l. C.queues l.channel) lanes.items) stations }
-    ensures { IfOk result (λ report. IsGathered (ports_of stations) (length lanes.items) report) }
+    ensures gathered { IfOk result (λ report. IsGathered now (ports_of stations) (length lanes.items) report) }
+    ensures short { IfOk result (λ report. IsTrue short_of_memory → IsTrue report.short_of_memory) }
+    ensures refused { IfOk result (λ report. Each (λ l. IsTrue (C.short l.channel) → IsTrue report.short_of_memory) lanes.items) }
 {
     let mut left = lanes;
     let Some(lane) = left.pop() else {
@@ -263,7 +266,9 @@ pub(crate) fn finish_all<R: Wait, C: Channel + Drop>(
     stations: [Station; 4],
 ) -> Result<Report, AllocError>
     requires { AreLinked (map (λ l. C.queues l.channel) lanes.items) stations }
-    ensures { IfOk result (λ report. IsGathered (ports_of stations) (length lanes.items) report) }
+    ensures gathered { IfOk result (λ report. IsGathered now (ports_of stations) (length lanes.items) report) }
+    ensures short { IfOk result (λ report. IsTrue (list_any (λ s. s.short_of_memory) stations) → IsTrue report.short_of_memory) }
+    ensures refused { IfOk result (λ report. Each (λ l. IsTrue (C.short l.channel) → IsTrue report.short_of_memory) lanes.items) }
 {
     let short_of_memory = is_any_short(&stations);
     gather(rt, alloc, now, lanes, stations, short_of_memory)

@@ -1,8 +1,8 @@
 //! A channel in its thread.
-ghost use Rattle.std.specs.Prelude.{◌≡◌, ◌≤◌, Bool, IsTrue, Option, Some, false, is_some};
+ghost use Rattle.std.specs.Prelude.{◌≡◌, Bool, IsTrue, Some, false};
 ghost use Rattle.onfi_run.specs.declared.progress.Progress.{Progress as AProgress};
 ghost use Rattle.onfi_run.specs.declared.channel_end.ChannelEnd.{ChannelEnd};
-ghost use Rattle.onfi_run.specs.Pace.{due_of, pace_behind};
+ghost use Rattle.onfi_run.specs.Pace.{IsTurned, MayTurn, Waits, due_of};
 ghost use Rattle.onfi_run.specs.Ending.{is_spent, refusals_behind, thread_end};
 
 use crate::board::Board;
@@ -34,6 +34,7 @@ impl<C: Channel> Lane<C> {
     /// How the channel's thread ends behind a turn that came to this, if it does.
     fn end_behind(&mut self, progress: Progress, all_ended: bool) -> Option<ChannelEnd>
         ensures channel { self.new.channel ≡ self.old.channel }
+        ensures ended { self.new.ended ≡ self.old.ended }
         ensures pace { self.new.pace ≡ self.old.pace }
         ensures end { result ≡ thread_end (is_spent self.old.refusals) all_ended progress }
         ensures refusals { self.new.refusals ≡ refusals_behind self.old.refusals progress }
@@ -77,23 +78,25 @@ impl<C: Channel> Lane<C> {
         self.pace.due(self.channel.bus_free())
     }
 
-    /// Makes a turn at that moment of the run's clock, if it may make one, and answers whether it did. Its bus is free by then.
+    /// Makes a turn at that moment of the run's clock, if it may make one, and answers whether it did.
     pub(crate) fn turn_at<R: Wait>(&mut self, rt: &R, alloc: Global, now: u64) -> bool
-        ensures due { IsTrue result → C.free self.old.channel ≤ now }
-        ensures turned { IsTrue result → (p : AProgress) × (end : Option ChannelEnd) × C.proceeds now self.old.channel p self.new.channel
-            × (end ≡ thread_end (is_spent self.old.refusals) false p) × (self.new.pace ≡ pace_behind now (C.free self.new.channel) (C.done_behind self.new.channel now) p (is_some end) self.old.pace) }
+        ensures due { IsTrue result → MayTurn now self.old.pace (C.free self.old.channel) }
+        ensures waits { result ≡ false → Waits now self.old.pace (C.free self.old.channel) }
+        ensures turned { IsTrue result → (p : AProgress) × C.proceeds now self.old.channel p self.new.channel
+            × IsTurned now p (C.free self.new.channel) (C.done_behind self.new.channel now) self.old self.new }
         ensures none { result ≡ false → self.new ≡ self.old }
         ensures same { C.queues self.new.channel ≡ C.queues self.old.channel }
         ensures short { IsTrue (C.short self.old.channel) → IsTrue (C.short self.new.channel) }
     {
-        if self.due() > now || self.pace.has_ended {
+        if self.pace.has_ended {
+            return false;
+        }
+        if self.due() > now {
             return false;
         }
         let progress = self.channel.turn(rt, alloc, now);
         let end = self.end_behind(progress, false);
-        if let Some(end) = end {
-            self.ended = end;
-        }
+        self.ended = end.unwrap_or(self.ended);
         let free = self.channel.bus_free();
         let ready = self.channel.next_ready(now);
         self.pace.turn(now, free, ready, progress, end.is_some());

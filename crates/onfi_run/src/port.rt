@@ -1,7 +1,8 @@
 //! A host's ends on a channel.
-ghost use Rattle.std.specs.Prelude.{◌≡◌, ◌++◌, [], ◌∷◌, List, IfSome, IfNone};
+ghost use Rattle.std.specs.Prelude.{◌≡◌, ◌++◌, [], ◌∷◌, List, IfSome, IfNone, false};
 ghost use Rattle.onfi_request.specs.declared.request.Request.{Request as ARequest};
-ghost use Rattle.onfi_run.specs.Keys.{port_key, port_state, Collects, Submits};
+ghost use Rattle.onfi_run.specs.Keys.{port_key, port_state, Collects, LeavesOut, Submits};
+ghost use Rattle.onfi_run.specs.Resting.{IsEmptied, IsFull};
 ghost use Rattle.onfi_run.specs.Sending.{IsSending};
 
 use crate::answers::Answers;
@@ -25,6 +26,7 @@ impl Port {
     pub(crate) fn collect<R: Wait>(&mut self, rt: &R, now: u64) -> bool
         ensures same { port_state self.new ≡ port_state self.old }
         ensures collected { Collects now result self.old self.new }
+        ensures emptied { result ≡ false → IsEmptied self.old }
     {
         match self.inbox.collect(rt) {
             Some(reply) => {
@@ -38,7 +40,7 @@ impl Port {
     /// Leaves an operation out.
     pub(crate) fn leave_out(&mut self)
         ensures same { port_key self.new ≡ port_key self.old }
-        ensures nothing { (self.new.host ≡ self.old.host) × (self.new.answers ≡ self.old.answers) }
+        ensures nothing { LeavesOut self.old self.new }
         ensures left { (requests : List ARequest) (request : ARequest) → IsSending requests self.old → IsSending (requests ++ request ∷ []) self.new }
     {
         self.left_out = true;
@@ -49,8 +51,8 @@ impl Port {
     pub(crate) fn submit<R: Wait>(&mut self, rt: &R, now: u64, request: Request) -> Option<Request>
         ensures same { port_key self.new ≡ port_key self.old }
         ensures sent { IfNone result ((requests : List ARequest) → IsSending requests self.old → IsSending (requests ++ request ∷ []) self.new) }
-        ensures full { IfSome result (λ back. (back ≡ request) × (port_state self.new ≡ port_state self.old)) }
-        ensures moment { Submits now self.old self.new }
+        ensures full { IfSome result (λ back. (back ≡ request) × (self.new ≡ self.old) × IsFull self.old) }
+        ensures submits { IfNone result (Submits now request self.old self.new) }
     {
         if self.left_out {
             return None;

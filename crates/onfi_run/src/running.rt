@@ -1,11 +1,19 @@
 //! From the bytes of an input to the bytes of its answer.
-ghost use Rattle.std.specs.Prelude.{◌≡◌, ◌≤◌, length, IfOk, true, false};
+ghost use Rattle.std.specs.Prelude.{◌≡◌, ◌≤◌, List, length, map, IfOk, true, false};
+ghost use Rattle.onfi_run.specs.declared.gated.Gated.{Gated as AGated};
+ghost use Rattle.onfi_run.specs.declared.lane.Lane.{Lane as ALane};
+ghost use Rattle.onfi_run.specs.declared.simulation.Settled.{Settled as ASettled};
+ghost use Rattle.onfi_run.specs.declared.station.Station.{Station as AStation};
+ghost use Rattle.onfi_run.specs.Finishing.{IsGathered};
+ghost use Rattle.onfi_run.specs.Opening.{AreBehind};
 ghost use Rattle.std.specs.Io.KnownBytes.{Keeps};
 ghost use Rattle.onfi_script.specs.AnswerOf.{answer_of};
 ghost use Rattle.onfi_run.specs.Prepares.{IsPrepared};
 ghost use Rattle.onfi_run.specs.Running.{IsAnswer, Answers, BeginsAnswer};
-ghost use Rattle.onfi_run.specs.Told.{IsReportOf};
+ghost use Rattle.onfi_run.specs.Keys.{AreLinked, ports_of};
+ghost use Rattle.onfi_run.specs.Told.{IsReportOf, TellsClock};
 
+use crate::channel::Channel;
 use crate::finishing::finish_all;
 use crate::no_gate::no_gates;
 use crate::opening::Stage;
@@ -35,7 +43,9 @@ fn run<R: Threads + Wait + Sync, P: Planner + Copy + Send + Drop, G: Gate + Send
     requires some { 1 ≤ limit }
     requires few { limit ≤ 1048576 }
     requires gates { length gates.items ≡ 4 }
-    ensures { IfOk result (λ report. IsReportOf false prepared.now.rows.items report) }
+    ensures report { IfOk result (λ report. IsReportOf false prepared.now.rows.items report) }
+    ensures tells { IfOk result (λ report. (lanes : List (ALane (AGated P G))) × (stations : List AStation) × AreBehind prepared.now.rows.items prepared.now.device limit gates.items lanes
+        × IsGathered 0 (ports_of stations) (length lanes) report) }
 {
     let rows = prepared.rows.as_slice();
     let stage = Stage::open(alloc, rows, &prepared.device, planner, limit, gates)?;
@@ -44,6 +54,25 @@ fn run<R: Threads + Wait + Sync, P: Planner + Copy + Send + Drop, G: Gate + Send
         Some(ran) => finish_all(rt, alloc, NO_MOMENT, ran.0, ran.1),
         None => Err(AllocError),
     }
+}
+
+/// What came of channels and hosts whose clock stood still, and what it told.
+fn report_of<R: Wait, C: Channel + Drop>(
+    rt: &R,
+    alloc: Global,
+    settled: Settled<C>,
+) -> Result<Report, AllocError>
+    requires { AreLinked (map (λ l. C.queues l.channel) settled.lanes.items) settled.stations }
+    ensures { IfOk result (λ report. TellsClock settled.now (ports_of settled.stations) (map (λ l. l.pace.bus) settled.lanes.items) report) }
+{
+    let Settled {
+        lanes,
+        stations,
+        now,
+    } = settled;
+    let buses = buses_of(alloc, lanes.as_slice())?;
+    let report = finish_all(rt, alloc, now, lanes, stations)?;
+    report.with_clock(alloc, buses)
 }
 
 /// Runs what was prepared by a clock, and answers what it came to.
@@ -58,25 +87,20 @@ fn run_by_clock<R: Wait, P: Planner + Copy + Drop, G: Gate + Drop>(
     requires some { 1 ≤ limit }
     requires few { limit ≤ 1048576 }
     requires gates { length gates.items ≡ 4 }
-    ensures { IfOk result (λ report. IsReportOf true prepared.now.rows.items report) }
+    ensures report { IfOk result (λ report. IsReportOf true prepared.now.rows.items report) }
+    ensures tells { IfOk result (λ report. (settled : ASettled (AGated P G)) × AreBehind prepared.now.rows.items prepared.now.device limit gates.items settled.lanes.items
+        × TellsClock settled.now (ports_of settled.stations) (map (λ l. l.pace.bus) settled.lanes.items) report) }
 {
     let rows = prepared.rows.as_slice();
-    let stage = Stage::open(alloc, rows, &prepared.device, planner, limit, gates)?;
-    let Stage { lanes, stations } = stage;
+    let opened = Stage::open(alloc, rows, &prepared.device, planner, limit, gates)?;
+    let Stage { lanes, stations } = opened;
     let course = Course {
         alloc,
         geometry: &prepared.device.geometry,
         rows,
     };
     let settled = simulate(rt, &course, lanes, stations);
-    let Settled {
-        lanes,
-        stations,
-        now,
-    } = settled;
-    let buses = buses_of(alloc, lanes.as_slice())?;
-    let report = finish_all(rt, alloc, now, lanes, stations)?;
-    report.with_clock(alloc, buses)
+    report_of(rt, alloc, settled)
 }
 
 /// Runs what was prepared, by a clock or in threads.

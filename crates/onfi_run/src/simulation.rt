@@ -1,8 +1,14 @@
 //! A run with a clock: one thread goes from moment to moment.
-ghost use Rattle.std.specs.Prelude.{◌≡◌, ◌<◌, ◌++◌, [], ◌∷◌, ℕ, List, IfOk, IfSome, IsTrue, None, false, map, take};
-ghost use Rattle.std.specs.List.{fold};
+ghost use Rattle.std.specs.Prelude.{◌≡◌, ◌<◌, ◌≤◌, ◌++◌, [], ◌∷◌, ℕ, List, IfOk, IsTrue, Some, false, map, take};
+ghost use Rattle.std.specs.List.{AllByRecursion as Each};
+ghost use Rattle.onfi_script.specs.declared.operation.Operation.{Operation as AnOperation};
+ghost use Rattle.onfi_run.specs.Answers.{changed};
+ghost use Rattle.onfi_run.specs.Ending.{no_clock};
 ghost use Rattle.onfi_run.specs.Keys.{HasSamePorts, HaveSamePorts};
-ghost use Rattle.onfi_run.specs.Pace.{due_of, sooner as spec_sooner};
+ghost use Rattle.onfi_run.specs.Moments.{AllAtMoment, AtMoment, Makes};
+ghost use Rattle.onfi_run.specs.Operations.{operation_of as spec_operation_of};
+ghost use Rattle.onfi_run.specs.Pace.{IsNext, Waits, due_of, woken};
+ghost use Rattle.onfi_run.specs.Resting.{IsPutOff, Rests, Stands, has_ended as spec_has_ended};
 ghost use Rattle.onfi_request.specs.declared.request.Request.{Request as ARequest};
 ghost use Rattle.onfi_script.specs.declared.row.Row.{Row as ARow};
 ghost use Rattle.onfi_run.specs.Requests.{request_of};
@@ -37,13 +43,16 @@ pub(crate) struct Settled<C: Channel> {
 }
 
 /// Whether a channel makes no more turns.
-fn has_ended<C: Channel>(lanes: &[Lane<C>], channel: usize) -> bool {
+fn has_ended<C: Channel>(lanes: &[Lane<C>], channel: usize) -> bool
+    ensures { result ≡ spec_has_ended (map (λ l. l.pace) lanes.now) channel }
+{
     channel >= lanes.len() || lanes[channel].pace.has_ended
 }
 
-/// A request came to a channel.
+/// A request came to a channel: it may make a turn as soon as its bus is free.
 fn wake<C: Channel>(lanes: &mut Vec<Lane<C>>, channel: usize)
-    ensures { map (λ l. C.queues l.channel) lanes.new.items ≡ map (λ l. C.queues l.channel) lanes.old.items }
+    ensures woken { lanes.new.items ≡ changed woken lanes.old.items channel }
+    ensures same { map (λ l. C.queues l.channel) lanes.new.items ≡ map (λ l. C.queues l.channel) lanes.old.items }
 {
     if channel < lanes.len() {
         lanes[channel].pace.wake();
@@ -66,7 +75,12 @@ fn make<R: Wait, C: Channel>(
     ensures passed { station.new.passed ≡ station.old.passed }
     ensures sent { IsTrue result → (requests : ℕ → List ARequest) → AreSending requests station.old.ports.items
         → AreSending (with_request requests operation.now.aim.channel (request_of course.now.geometry.now operation.now)) station.new.ports.items }
-    ensures waits { result ≡ false → (requests : ℕ → List ARequest) → AreSending requests station.old.ports.items → AreSending requests station.new.ports.items }
+    ensures made { IsTrue result → Makes now operation.now.aim.channel (request_of course.now.geometry.now operation.now)
+        (spec_has_ended (map (λ l. l.pace) lanes.old.items) operation.now.aim.channel) station.old station.new }
+    ensures woken { IsTrue result → lanes.new.items ≡ changed woken lanes.old.items operation.now.aim.channel }
+    ensures waits { result ≡ false → (lanes.new ≡ lanes.old) × (station.new.ports.items ≡ station.old.ports.items)
+        × IsPutOff (map (λ l. l.pace) lanes.old.items) station.old.ports.items operation.now.aim.channel }
+    ensures moments { AtMoment now station.old.ports.items station.new.ports.items }
 {
     let channel = usize::from(operation.aim.channel);
     let ended = has_ended(lanes.as_slice(), channel);
@@ -93,8 +107,10 @@ fn follow<R: Wait, C: Channel>(
     ensures passed { station.new.passed ≡ station.old.passed }
     ensures sent { IsTrue result → (before : List ARow) → HasSent course.now.geometry.now before station.old.number station.old.ports.items
         → HasSent course.now.geometry.now (before ++ row.now ∷ []) station.old.number station.new.ports.items }
-    ensures waits { result ≡ false → (before : List ARow) → HasSent course.now.geometry.now before station.old.number station.old.ports.items
-        → HasSent course.now.geometry.now before station.old.number station.new.ports.items }
+    ensures waits { result ≡ false → (lanes.new ≡ lanes.old) × (station.new.ports.items ≡ station.old.ports.items)
+        × (op : AnOperation) × (spec_operation_of station.old.number row.now ≡ Some op)
+        × IsPutOff (map (λ l. l.pace) lanes.old.items) station.old.ports.items op.aim.channel }
+    ensures moments { AtMoment now station.old.ports.items station.new.ports.items }
 {
     match operation_of(row, station.number) {
         Some(operation) => make(rt, course, now, lanes, station, operation),
@@ -116,16 +132,19 @@ fn pass_row<R: Wait, C: Channel>(
     ensures number { station.new.number ≡ station.old.number }
     ensures sent { HasSent course.now.geometry.now (take station.old.passed course.now.rows.now) station.old.number station.old.ports.items
         → HasSent course.now.geometry.now (take station.new.passed course.now.rows.now) station.old.number station.new.ports.items }
+    ensures stands { result ≡ false → (lanes.new ≡ lanes.old) × (station.new.ports.items ≡ station.old.ports.items) × (station.new.passed ≡ station.old.passed)
+        × Stands course.now.rows.now (map (λ l. l.pace) lanes.old.items) station.old.number station.old.passed station.old.ports.items }
+    ensures moments { AtMoment now station.old.ports.items station.new.ports.items }
 {
     let at = station.passed;
     if at >= course.rows.len() {
         return false;
     }
-    let passed = follow(rt, course, now, lanes, station, &course.rows[at]);
-    if passed {
-        station.passed = at + 1;
+    if !follow(rt, course, now, lanes, station, &course.rows[at]) {
+        return false;
     }
-    passed
+    station.passed = at + 1;
+    true
 }
 
 /// The host goes behind its next rows at that moment as long as queues have room, and answers whether it went behind one.
@@ -141,6 +160,9 @@ fn pass_rows<R: Wait, C: Channel>(
     ensures number { station.new.number ≡ station.old.number }
     ensures sent { HasSent course.now.geometry.now (take station.old.passed course.now.rows.now) station.old.number station.old.ports.items
         → HasSent course.now.geometry.now (take station.new.passed course.now.rows.now) station.old.number station.new.ports.items }
+    ensures stands { result ≡ false → (lanes.new ≡ lanes.old) × (station.new.ports.items ≡ station.old.ports.items) × (station.new.passed ≡ station.old.passed)
+        × Stands course.now.rows.now (map (λ l. l.pace) lanes.old.items) station.old.number station.old.passed station.old.ports.items }
+    ensures moments { AtMoment now station.old.ports.items station.new.ports.items }
 {
     let mut any = false;
     for _ in course.rows {
@@ -165,6 +187,8 @@ fn act<R: Wait, C: Channel>(
     ensures number { station.new.number ≡ station.old.number }
     ensures sent { HasSent course.now.geometry.now (take station.old.passed course.now.rows.now) station.old.number station.old.ports.items
         → HasSent course.now.geometry.now (take station.new.passed course.now.rows.now) station.old.number station.new.ports.items }
+    ensures rests { result ≡ false → (lanes.new ≡ lanes.old) × Rests course.now.rows.now (map (λ l. l.pace) lanes.new.items) station.new }
+    ensures moments { AtMoment now station.old.ports.items station.new.ports.items }
 {
     let passed = pass_rows(rt, course, now, lanes, station);
     let collected = station.collect_all(rt, now);
@@ -181,23 +205,27 @@ fn act_all<R: Wait, C: Channel>(
 ) -> bool
     ensures lanes { map (λ l. C.queues l.channel) lanes.new.items ≡ map (λ l. C.queues l.channel) lanes.old.items }
     ensures stations { HaveSamePorts stations.old stations.new }
+    ensures rest { result ≡ false → (lanes.new ≡ lanes.old) × Each (Rests course.now.rows.now (map (λ l. l.pace) lanes.new.items)) stations.new }
+    ensures moments { AllAtMoment now stations.old stations.new }
 {
     let first = act(rt, course, now, lanes, &mut stations[0]);
     let second = act(rt, course, now, lanes, &mut stations[1]);
     let third = act(rt, course, now, lanes, &mut stations[2]);
     let fourth = act(rt, course, now, lanes, &mut stations[3]);
-    either(either(first, second), either(third, fourth))
+    let front = either(first, second);
+    let back = either(third, fourth);
+    either(front, back)
 }
 
 /// Each channel in the order of its number makes a turn at that moment, if it may make one; whether one did.
 fn turn_all<R: Wait, C: Channel>(rt: &R, alloc: Global, now: u64, lanes: &mut Vec<Lane<C>>) -> bool
-    ensures { map (λ l. C.queues l.channel) lanes.new.items ≡ map (λ l. C.queues l.channel) lanes.old.items }
+    ensures same { map (λ l. C.queues l.channel) lanes.new.items ≡ map (λ l. C.queues l.channel) lanes.old.items }
+    ensures wait { result ≡ false → (lanes.new.items ≡ lanes.old.items) × Each (λ l. Waits now l.pace (C.free l.channel)) lanes.new.items }
 {
     let mut any = false;
     for channel in 0..lanes.len() {
-        if lanes[channel].turn_at(rt, alloc, now) {
-            any = true;
-        }
+        let turned = lanes[channel].turn_at(rt, alloc, now);
+        any = either(any, turned);
     }
     any
 }
@@ -212,6 +240,9 @@ fn round<R: Wait, C: Channel>(
 ) -> bool
     ensures lanes { map (λ l. C.queues l.channel) lanes.new.items ≡ map (λ l. C.queues l.channel) lanes.old.items }
     ensures stations { HaveSamePorts stations.old stations.new }
+    ensures rest { result ≡ false → Each (Rests course.now.rows.now (map (λ l. l.pace) lanes.new.items)) stations.new }
+    ensures wait { result ≡ false → Each (λ l. Waits now l.pace (C.free l.channel)) lanes.new.items }
+    ensures moments { AllAtMoment now stations.old stations.new }
 {
     let acted = act_all(rt, course, now, lanes, stations);
     let turned = turn_all(rt, course.alloc, now, lanes);
@@ -228,30 +259,34 @@ fn settle<R: Wait, C: Channel>(
 )
     ensures lanes { map (λ l. C.queues l.channel) lanes.new.items ≡ map (λ l. C.queues l.channel) lanes.old.items }
     ensures stations { HaveSamePorts stations.old stations.new }
+    ensures rest { Each (Rests course.now.rows.now (map (λ l. l.pace) lanes.new.items)) stations.new }
+    ensures wait { Each (λ l. Waits now l.pace (C.free l.channel)) lanes.new.items }
+    ensures moments { AllAtMoment now stations.old stations.new }
 {
     for _ in rt.forever() {
         if !round(rt, course, now, lanes, stations) {
-            break;
+            return;
         }
     }
+    unreachable!()
 }
 
 /// The least of the moments behind `now` so far, and of the one at which a channel is due, if that is behind it.
 fn sooner(now: u64, other: Option<u64>, due: u64) -> Option<u64>
-    ensures is { result ≡ spec_sooner now other due }
-    ensures later { IfSome other (λ next. now < next) → IfSome result (λ next. now < next) }
+    ensures { (dues : List ℕ) → IsNext now dues other → IsNext now (dues ++ due ∷ []) result }
 {
-    if due > now && due < NO_CLOCK {
-        Some(least(other, due))
-    } else {
-        other
+    if due <= now {
+        return other;
     }
+    if due >= NO_CLOCK {
+        return other;
+    }
+    Some(least(other, due))
 }
 
-/// The moment that comes next behind `now`: the least at which a channel may make a turn.
+/// The moment that comes next behind `now`: the least at which a channel may make a turn that may make none by then.
 fn next_moment<C: Channel>(lanes: &[Lane<C>], now: u64) -> Option<u64>
-    ensures least { result ≡ fold (spec_sooner now) None (map (λ l. due_of l.pace (C.free l.channel)) lanes.now) }
-    ensures later { IfSome result (λ next. now < next) }
+    ensures { IsNext now (map (λ l. due_of l.pace (C.free l.channel)) lanes.now) result }
 {
     let mut next = None;
     for lane in lanes {
@@ -269,20 +304,24 @@ pub(crate) fn simulate<R: Wait, C: Channel + Drop>(
 ) -> Settled<C>
     ensures lanes { map (λ l. C.queues l.channel) result.lanes.items ≡ map (λ l. C.queues l.channel) lanes.items }
     ensures stations { HaveSamePorts stations result.stations }
+    ensures rest { Each (Rests course.now.rows.now (map (λ l. l.pace) result.lanes.items)) result.stations }
+    ensures wait { (now : ℕ) → result.now ≤ now → now < no_clock → Each (λ l. Waits now l.pace (C.free l.channel)) result.lanes.items }
 {
     let mut now = 0u64;
     for _ in rt.forever() {
         settle(rt, course, now, &mut lanes, &mut stations);
         match next_moment(lanes.as_slice(), now) {
             Some(next) => now = next,
-            None => break,
+            None => {
+                return Settled {
+                    lanes,
+                    stations,
+                    now,
+                };
+            }
         }
     }
-    Settled {
-        lanes,
-        stations,
-        now,
-    }
+    unreachable!()
 }
 
 /// How busy the bus of each channel was.

@@ -1,12 +1,16 @@
 //! A host with its ends on all channels.
-ghost use Rattle.std.specs.Prelude.{◌≡◌, ℕ, ◌++◌, [], ◌∷◌, List, map, IsTrue, false};
+ghost use Rattle.std.specs.Prelude.{◌≡◌, ℕ, ◌++◌, [], ◌∷◌, List, map, IsTrue, IfNone, IfSome, false, true, slice_get};
+ghost use Rattle.std.specs.List.{AllByRecursion as Each};
 ghost use Rattle.onfi_request.specs.declared.request.Request.{Request as ARequest};
 ghost use Rattle.onfi_script.specs.declared.row.Row.{Row as ARow};
-ghost use Rattle.onfi_run.specs.Keys.{HasSamePorts, SendsNothing};
+ghost use Rattle.onfi_run.specs.Keys.{Collects, HasSamePorts, LeavesOut, SendsNothing, Submits};
+ghost use Rattle.onfi_run.specs.Moments.{AtMoment, Makes, OnPort};
 ghost use Rattle.onfi_run.specs.Requests.{request_of as spec_request_of};
+ghost use Rattle.onfi_run.specs.Resting.{IsEmptied, IsFullAt};
 ghost use Rattle.onfi_run.specs.Sending.{AreSending, HasSent, Tried, with_request};
 
 use crate::board::Board;
+use crate::finishing::either;
 use crate::operations::operation_of;
 use crate::port::Port;
 use crate::request::request_of;
@@ -45,6 +49,10 @@ impl Station {
         ensures number { self.new.number ≡ self.old.number }
         ensures passed { self.new.passed ≡ self.old.passed }
         ensures same { SendsNothing self.old.ports.items self.new.ports.items }
+        ensures short { self.new.short_of_memory ≡ self.old.short_of_memory }
+        ensures collected { OnPort (Collects now result) channel self.old.ports.items self.new.ports.items }
+        ensures emptied { result ≡ false → (self.new.ports.items ≡ self.old.ports.items) × IfSome (slice_get self.old.ports.items channel) IsEmptied }
+        ensures moments { AtMoment now self.old.ports.items self.new.ports.items }
     {
         if channel < self.ports.len() {
             self.ports[channel].collect(rt, now)
@@ -58,12 +66,14 @@ impl Station {
         ensures number { self.new.number ≡ self.old.number }
         ensures passed { self.new.passed ≡ self.old.passed }
         ensures same { SendsNothing self.old.ports.items self.new.ports.items }
+        ensures short { self.new.short_of_memory ≡ self.old.short_of_memory }
+        ensures emptied { result ≡ false → (self.new.ports.items ≡ self.old.ports.items) × Each IsEmptied self.new.ports.items }
+        ensures moments { AtMoment now self.old.ports.items self.new.ports.items }
     {
         let mut any = false;
-        for channel in 0..4usize {
-            if self.collect(rt, now, channel) {
-                any = true;
-            }
+        for channel in 0..self.ports.len() {
+            let collected = self.collect(rt, now, channel);
+            any = either(any, collected);
         }
         any
     }
@@ -74,10 +84,25 @@ impl Station {
         ensures passed { self.new.passed ≡ self.old.passed }
         ensures same { HasSamePorts self.old.ports.items self.new.ports.items }
         ensures left { (requests : ℕ → List ARequest) (request : ARequest) → AreSending requests self.old.ports.items → AreSending (with_request requests channel request) self.new.ports.items }
+        ensures short { self.new.short_of_memory ≡ self.old.short_of_memory }
+        ensures leaves { OnPort LeavesOut channel self.old.ports.items self.new.ports.items }
     {
         if channel < self.ports.len() {
             self.ports[channel].leave_out();
         }
+    }
+
+    /// Leaves an operation on a channel out for want of memory.
+    fn leave_out_short(&mut self, channel: usize)
+        ensures number { self.new.number ≡ self.old.number }
+        ensures passed { self.new.passed ≡ self.old.passed }
+        ensures same { HasSamePorts self.old.ports.items self.new.ports.items }
+        ensures left { (requests : ℕ → List ARequest) (request : ARequest) → AreSending requests self.old.ports.items → AreSending (with_request requests channel request) self.new.ports.items }
+        ensures short { self.new.short_of_memory ≡ true }
+        ensures leaves { OnPort LeavesOut channel self.old.ports.items self.new.ports.items }
+    {
+        self.short_of_memory = true;
+        self.leave_out(channel);
     }
 
     /// Submits a request to a channel at that moment; it comes back where the queue was full.
@@ -92,6 +117,9 @@ impl Station {
         ensures passed { self.new.passed ≡ self.old.passed }
         ensures same { HasSamePorts self.old.ports.items self.new.ports.items }
         ensures tried { Tried result channel request self.old.ports.items self.new.ports.items }
+        ensures short { self.new.short_of_memory ≡ self.old.short_of_memory }
+        ensures submits { IfNone result (OnPort (Submits now request) channel self.old.ports.items self.new.ports.items) }
+        ensures full { IfSome result (λ back. (self.new.ports.items ≡ self.old.ports.items) × IsFullAt self.old.ports.items channel) }
     {
         if channel < self.ports.len() {
             self.ports[channel].submit(rt, now, request)
@@ -156,10 +184,7 @@ impl Station {
         let channel = usize::from(operation.aim.channel);
         match request_of(alloc, geometry, operation) {
             Ok(request) => self.submit(rt, board, channel, request),
-            Err(_) => {
-                self.short_of_memory = true;
-                self.leave_out(channel);
-            }
+            Err(_) => self.leave_out_short(channel),
         }
     }
 
@@ -177,7 +202,8 @@ impl Station {
         ensures passed { self.new.passed ≡ self.old.passed }
         ensures same { HasSamePorts self.old.ports.items self.new.ports.items }
         ensures sent { IsTrue result → (requests : ℕ → List ARequest) → AreSending requests self.old.ports.items → AreSending (with_request requests channel request) self.new.ports.items }
-        ensures waits { result ≡ false → (requests : ℕ → List ARequest) → AreSending requests self.old.ports.items → AreSending requests self.new.ports.items }
+        ensures made { IsTrue result → Makes now channel request has_ended self.old self.new }
+        ensures waits { result ≡ false → (self.new.ports.items ≡ self.old.ports.items) × IsFullAt self.old.ports.items channel × (has_ended ≡ false) }
     {
         match self.submit_once(rt, now, channel, request) {
             None => true,
@@ -205,14 +231,14 @@ impl Station {
         ensures same { HasSamePorts self.old.ports.items self.new.ports.items }
         ensures sent { IsTrue result → (requests : ℕ → List ARequest) → AreSending requests self.old.ports.items
             → AreSending (with_request requests operation.now.aim.channel (spec_request_of geometry.now operation.now)) self.new.ports.items }
-        ensures waits { result ≡ false → (requests : ℕ → List ARequest) → AreSending requests self.old.ports.items → AreSending requests self.new.ports.items }
+        ensures made { IsTrue result → Makes now operation.now.aim.channel (spec_request_of geometry.now operation.now) has_ended self.old self.new }
+        ensures waits { result ≡ false → (self.new.ports.items ≡ self.old.ports.items) × IsFullAt self.old.ports.items operation.now.aim.channel × (has_ended ≡ false) }
     {
         let channel = usize::from(operation.aim.channel);
         match request_of(alloc, geometry, operation) {
             Ok(request) => self.submit_at(rt, now, channel, has_ended, request),
             Err(_) => {
-                self.short_of_memory = true;
-                self.leave_out(channel);
+                self.leave_out_short(channel);
                 true
             }
         }

@@ -1,8 +1,11 @@
 //! A thread for each channel, and one for each host that is used.
-ghost use Rattle.std.specs.Prelude.{◌≡◌, List, IfSome, map};
+ghost use Rattle.std.specs.Prelude.{◌≡◌, ℕ, List, IfSome, map};
+ghost use Rattle.std.specs.Option.{is_some};
+ghost use Rattle.onfi_script.specs.declared.row.Row.{Row as ARow};
 ghost use Rattle.onfi_run.specs.declared.port.Port.{Port};
 ghost use Rattle.onfi_run.specs.Keys.{HasSamePorts, HaveSamePorts};
-ghost use Rattle.onfi_run.specs.Threads.{IsWorkerOf};
+ghost use Rattle.onfi_run.specs.Operations.{operation_of};
+ghost use Rattle.onfi_run.specs.Threads.{IsWorkerOf, is_used as spec_is_used};
 
 use crate::board::Board;
 use crate::channel::Channel;
@@ -57,7 +60,9 @@ enum Worker {
 }
 
 /// Whether a row is an operation of that host.
-fn is_of_host(row: &Row, host: u8) -> bool {
+fn is_of_host(row: &Row, host: u8) -> bool
+    ensures { result ≡ is_some (operation_of host row.now) }
+{
     match row {
         Row::Op(operation) => operation.aim.host == host,
         _ => false,
@@ -65,7 +70,9 @@ fn is_of_host(row: &Row, host: u8) -> bool {
 }
 
 /// Whether a row names that host for an operation.
-fn is_used(rows: &[Row], host: u8) -> bool {
+fn is_used(rows: &[Row], host: u8) -> bool
+    ensures { result ≡ spec_is_used rows.now host }
+{
     rows.iter().any(|row| is_of_host(row, host))
 }
 
@@ -99,7 +106,7 @@ fn start_host<'s, E, R: Threads + Wait + Sync>(
     shared: Shared<'s>,
     station: Station,
 ) -> Option<Worker>
-    ensures { IfSome result (λ w. IsWorkerOf station.ports.items w) }
+    ensures { IfSome result (λ w. IsWorkerOf shared.entry.rows.now station.number station.ports.items w) }
 {
     if !is_used(shared.rows, station.number) {
         return Some(Worker::Unused(station));
@@ -115,7 +122,7 @@ fn start_host<'s, E, R: Threads + Wait + Sync>(
 
 /// The host behind its work.
 fn finish_host<R: Threads>(rt: &R, worker: Worker) -> Station
-    ensures { (ports : List Port) → IsWorkerOf ports worker → HasSamePorts ports result.ports.items }
+    ensures { (rows : List ARow) (host : ℕ) (ports : List Port) → IsWorkerOf rows host ports worker → HasSamePorts ports result.ports.items }
 {
     match worker {
         Worker::AtWork(handle) => handle.join(rt),

@@ -5,7 +5,7 @@ use onfi_run::{run_script, run_script_by};
 use onfi_seq::Gate;
 use std::alloc::Global;
 use std::sync::Wait;
-use std::sync::atomic::{AtomicBool, Ordering};
+use std::sync::atomic::{AtomicBool, AtomicU64, Ordering};
 use std::test::*;
 use std::thread::Threads;
 
@@ -27,18 +27,18 @@ const DEVICE: &str = "\
     sheet,tPLPBSY,500\n\
     sheet,tPLEBSY,500\n";
 
-// What the gates of two channels tell each other: which of them were called, and whether one gave up, or was called for
+// What the gates of two channels tell each other: how often each was called, and whether one gave up, or was called for
 // another channel or out of turn.
 #[derive(Drop)]
 struct Meeting {
-    called: [AtomicBool; 2],
+    calls: [AtomicU64; 2],
     missed: AtomicBool,
 }
 
 impl Meeting {
     fn new() -> Meeting {
         Meeting {
-            called: [AtomicBool::new(false), AtomicBool::new(false)],
+            calls: [AtomicU64::new(0), AtomicU64::new(0)],
             missed: AtomicBool::new(false),
         }
     }
@@ -46,34 +46,48 @@ impl Meeting {
     fn tell(&self, channel: usize)
         requires { channel < 2 }
     {
-        self.called[channel].store(true, Ordering::SeqCst);
+        self.calls[channel].fetch_add(1, Ordering::SeqCst);
     }
 
-    fn wait(&self, channel: usize)
+    fn has_called(&self, channel: usize, count: u64) -> bool
+        requires { channel < 2 }
+    {
+        self.calls[channel].load(Ordering::SeqCst) >= count
+    }
+
+    fn wait(&self, channel: usize, count: u64)
         requires { channel < 2 }
     {
         for _ in 0..1_000_000_000u64 {
-            if self.called[channel].load(Ordering::SeqCst) {
+            if self.has_called(channel, count) {
                 return;
             }
         }
         self.missed.store(true, Ordering::SeqCst);
     }
+
+    // Both gates were called, for their channels and in turn, and none gave up.
+    fn went_well(&self) -> bool {
+        let both = self.has_called(0, 1) && self.has_called(1, 1);
+        both && !self.missed.load(Ordering::SeqCst)
+    }
 }
 
-// The gate of one of two channels: it holds its channel until the other's gate was called too.
+// The gate of one of two channels: it holds its channel until the other's gate was called so often.
 #[derive(Drop)]
 struct Party<'a> {
     channel: u8,
     turn: u64,
+    needs: u64,
     meeting: &'a Meeting,
 }
 
 impl<'a> Party<'a> {
-    fn of(meeting: &'a Meeting, channel: u8) -> Party<'a> {
+    fn of(meeting: &'a Meeting, channel: u8, needs: u64) -> Party<'a> {
         Party {
             channel,
             turn: 0,
+            needs,
             meeting,
         }
     }
@@ -87,19 +101,20 @@ impl Gate for Party<'_> {
         self.turn = self.turn.saturating_add(1);
         let place = usize::from(self.channel % 2);
         self.meeting.tell(place);
-        self.meeting.wait(1 - place);
+        self.meeting.wait(1 - place, self.needs);
     }
 }
 
-// The gates of a meeting, one for each channel that a run may have.
-fn gates_of<'a>(alloc: Global, meeting: &'a Meeting) -> Option<Vec<Party<'a>>>
+// The gates of a meeting, one for each channel that a run may have; channel 1 is held until channel 0 comes to its turn of
+// that number, counted from 1.
+fn gates_of<'a>(alloc: Global, meeting: &'a Meeting, turn: u64) -> Option<Vec<Party<'a>>>
     ensures { IfSome result (λ gates. length gates.items ≡ 4) }
 {
     let gates = [
-        Party::of(meeting, 0),
-        Party::of(meeting, 1),
-        Party::of(meeting, 2),
-        Party::of(meeting, 3),
+        Party::of(meeting, 0, 1),
+        Party::of(meeting, 1, turn),
+        Party::of(meeting, 2, 1),
+        Party::of(meeting, 3, 1),
     ];
     Vec::from_array(alloc, gates).ok()
 }
@@ -122,7 +137,7 @@ fn meet<R: Threads + Wait + Sync>(
     requires few { limit ≤ 1048576 }
 {
     let meeting = Meeting::new();
-    let gates = gates_of(alloc, &meeting)?;
+    let gates = gates_of(alloc, &meeting, 1)?;
     let script = script_of(alloc, rows)?;
     let mut reader = script.as_bytes();
     let mut text = Vec::new(alloc);
@@ -137,7 +152,7 @@ fn meet<R: Threads + Wait + Sync>(
         &mut text,
     )
     .ok()?;
-    if meeting.missed.load(Ordering::SeqCst) {
+    if !meeting.went_well() {
         return None;
     }
     Some((status, text))
@@ -151,14 +166,34 @@ const READS_ANSWERED: &[u8] = b"reply,0,0,0,read,*FF\nreply,0,1,0,read,*FF\nclos
 fn two_channels_make_their_turns_at_once(rt: HostRuntime) {
     let alloc = rt.alloc();
     let meeting = Meeting::new();
-    let gates = gates_of(alloc, &meeting).expect(&rt, "gates");
+    let gates = gates_of(alloc, &meeting, 1).expect(&rt, "gates");
     let script = script_of(alloc, READS).expect(&rt, "a script");
     let mut reader = script.as_bytes();
     let mut text = Vec::new(alloc);
     let status = run_script(&rt, alloc, 1_048_576, gates, &mut reader, &mut text);
     assert_eq!(rt; status.expect(&rt, "an answer"), 0);
     assert!(rt; text.as_slice() == READS_ANSWERED);
-    assert!(rt; !meeting.missed.load(Ordering::SeqCst));
+    assert!(rt; meeting.went_well());
+}
+
+// The host's first operation fills the queue of channel 1, which is held: so channel 0 has nothing to do at its first turn,
+// and it has to come to a second one for channel 1 to go on.
+const BEHIND_A_FULL_QUEUE: &str =
+    "submitcap,1\nop,0,1,read,0,0,0\nop,0,1,read,0,2,0\nop,0,0,read,0,0,0\n";
+
+#[test]
+fn a_channel_with_nothing_to_do_goes_on_while_hosts_are_at_work(rt: HostRuntime) {
+    let alloc = rt.alloc();
+    let meeting = Meeting::new();
+    let gates = gates_of(alloc, &meeting, 2).expect(&rt, "gates");
+    let script = script_of(alloc, BEHIND_A_FULL_QUEUE).expect(&rt, "a script");
+    let mut reader = script.as_bytes();
+    let mut text = Vec::new(alloc);
+    let status = run_script(&rt, alloc, 1_048_576, gates, &mut reader, &mut text);
+    assert_eq!(rt; status.expect(&rt, "an answer"), 0);
+    let told = b"reply,0,0,0,read,*FF\nreply,0,1,0,read,*FF\nreply,0,1,1,read,*FF\nclosed\n";
+    assert!(rt; text.as_slice() == told.as_slice());
+    assert!(rt; meeting.went_well());
 }
 
 #[test]

@@ -16,3 +16,8 @@ part_broken (Some b) Part Whole e n part = ((λ z. absurd (true≢false z)), (λ
 pub is_broken : (p : Problem) (s : Schedule) (k : Condition) (o : Option Breach) (Part : Type 0) → (IsNone o ↔ Part) → (Holds p s k → Part) → IfSome o (λ b. condition_of b ≡ k) → IfSome o (Breaks p s)
 is_broken p s k None Part n part about = tt
 is_broken p s k (Some b) Part n part about = λ h. absurd (true≢false (n.1 (part (subst (λ (x : Condition). Holds p s x) about h))))
+
+-- what follows of each follows of what was found
+pub if_some : {A : Type 0} (o : Option A) (P Q : A → Type 0) → ((x : A) → P x → Q x) → IfSome o P → IfSome o Q
+if_some None P Q f h = tt
+if_some (Some x) P Q f h = f x h

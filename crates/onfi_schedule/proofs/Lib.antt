@@ -9,7 +9,9 @@ pub mod Named
 pub mod LegalIs
 pub mod Room
 pub mod Found
-pub mod Overlaps
+pub mod Twos
+pub mod Naming
+pub mod Telling
 pub mod First
 pub mod Begin
 pub mod Least

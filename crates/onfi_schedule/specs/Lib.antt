@@ -3,6 +3,7 @@ pub mod Runs
 pub mod Conditions
 pub mod Slots
 pub mod Breaks
+pub mod Names
 pub mod Tells
 pub mod Trace
 pub mod Laws

@@ -1,13 +1,14 @@
 //! When phases have the bus.
 
-ghost use Rattle.std.specs.Prelude.{◌≡◌, ◌≤◌, ◌↔◌, IsNone, IfSome, length};
+ghost use Rattle.std.specs.Prelude.{◌≡◌, ◌<◌, ◌≤◌, ◌↔◌, IsNone, IfSome, length};
 ghost use Rattle.std.specs.List.{AllByRecursion as Each};
 ghost use Rattle.onfi_group.specs.Words.{Has, Pairs};
 ghost use Rattle.onfi_problem.specs.Problem.{Problem};
-ghost use Rattle.onfi_schedule.specs.Schedule.{Schedule, Apart, phases};
+ghost use Rattle.onfi_schedule.specs.Schedule.{Schedule, Apart, end_of};
 ghost use Rattle.onfi_schedule.specs.Breaks.{condition_of, bus_is_free, no_overlap};
-ghost use Rattle.onfi_schedule.specs.Tells.{Tells, TellsOf};
-ghost use Rattle.onfi_schedule.specs.Slots.{phases_in};
+ghost use Rattle.onfi_schedule.specs.Names.{named};
+ghost use Rattle.onfi_schedule.specs.Tells.{Tells, AreTwo};
+ghost use Rattle.onfi_schedule.specs.Slots.{phases_in, named_slot, named_in};
 
 use crate::breach::Breach;
 use crate::slot::Slot;
@@ -16,7 +17,7 @@ use crate::slot::Slot;
 pub(crate) fn too_early(bus_free: u64, slots: &[Slot]) -> Option<Breach>
     ensures none { IsNone result ↔ Each (λ x. bus_free ≤ x.start) (phases_in slots.now) }
     ensures about { IfSome result (λ b. condition_of b ≡ bus_is_free) }
-    ensures told { (p : Problem) (s : Schedule) → p.bus_free ≡ bus_free → phases p s ≡ phases_in slots.now → IfSome result (Tells p s) }
+    ensures told { (p : Problem) (s : Schedule) → p.bus_free ≡ bus_free → named p s ≡ named_in slots.now → IfSome result (Tells p s) }
 {
     for slot in slots {
         if slot.phase.start < bus_free {
@@ -30,23 +31,32 @@ pub(crate) fn too_early(bus_free: u64, slots: &[Slot]) -> Option<Breach>
     None
 }
 
-// Of two phases that aren't apart, that the one starts while the other holds the bus.
-fn meeting(one: &Slot, other: &Slot) -> Breach
-    requires { Apart one.now.phase other.now.phase → ⊥ }
+// That the one starts while the other holds the bus.
+fn within(slot: &Slot, holder: &Slot) -> Breach
+    requires begun { holder.now.phase.start ≤ slot.now.phase.start }
+    requires lasts { slot.now.phase.start < end_of holder.now.phase }
     ensures about { condition_of result ≡ no_overlap }
-    ensures told { TellsOf one.now.phase other.now.phase result }
+    ensures told { (p : Problem) (s : Schedule) → AreTwo (named p s) (named_slot slot.now) (named_slot holder.now) → Tells p s result }
 {
-    let (slot, holder) = if one.phase.start < other.phase.start {
-        (other, one)
-    } else {
-        (one, other)
-    };
     Breach::Overlap {
         phase: slot.name,
         start: slot.phase.start,
         holder: holder.name,
         from: holder.phase.start,
         to: holder.phase.start + holder.phase.length,
+    }
+}
+
+// Of two phases that aren't apart, that the one starts while the other holds the bus.
+fn meeting(one: &Slot, other: &Slot) -> Breach
+    requires { Apart one.now.phase other.now.phase → ⊥ }
+    ensures about { condition_of result ≡ no_overlap }
+    ensures told { (p : Problem) (s : Schedule) → AreTwo (named p s) (named_slot one.now) (named_slot other.now) → Tells p s result }
+{
+    if one.phase.start < other.phase.start {
+        within(other, one)
+    } else {
+        within(one, other)
     }
 }
 
@@ -68,7 +78,7 @@ fn met(slot: &Slot, others: &[Slot]) -> Option<Slot>
 pub(crate) fn overlap(slots: &[Slot]) -> Option<Breach>
     ensures none { IsNone result ↔ Pairs Apart (phases_in slots.now) }
     ensures about { IfSome result (λ b. condition_of b ≡ no_overlap) }
-    ensures told { (p : Problem) (s : Schedule) → phases p s ≡ phases_in slots.now → IfSome result (Tells p s) }
+    ensures told { (p : Problem) (s : Schedule) → named p s ≡ named_in slots.now → IfSome result (Tells p s) }
 {
     for (at, slot) in slots.iter().enumerate() {
         if let Some(other) = met(slot, &slots[at + 1..]) {

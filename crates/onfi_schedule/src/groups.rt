@@ -1,8 +1,14 @@
 //! Groups by the rules.
 
-ghost use Rattle.std.specs.Prelude.{◌≡◌, ◌≤◌, ◌↔◌, IsNone, IfSome, length};
+ghost use Rattle.std.specs.Prelude.{◌≡◌, ℕ, ◌<◌, ◌≤◌, ◌↔◌, IsNone, IfSome, Some, List, length, slice_get};
 ghost use Rattle.std.specs.List.{AllByRecursion as Each};
+ghost use Rattle.onfi_request.specs.declared.want.Want.{Want as WantValue};
+ghost use Rattle.onfi_group.specs.Words.{Has, Pairs};
 ghost use Rattle.onfi_group.specs.Group.{IsGroup};
+ghost use Rattle.onfi_group.specs.Joining.{GoesWith};
+ghost use Rattle.onfi_problem.specs.Problem.{Problem};
+ghost use Rattle.onfi_schedule.specs.Schedule.{Schedule};
+ghost use Rattle.onfi_schedule.specs.Tells.{Tells, Differs};
 ghost use Rattle.onfi_schedule.specs.Breaks.{condition_of, is_a_group};
 
 use crate::breach::{Breach, Difference};
@@ -12,7 +18,10 @@ use onfi_request::Want;
 use onfi_timing::Kind;
 
 // What members share, and these two don't.
-fn difference(rules: &Rules, first: &Want, member: &Want) -> Option<Difference> {
+fn difference(rules: &Rules, first: &Want, member: &Want) -> Option<Difference>
+    ensures none { IsNone result → GoesWith rules.now first.now member.now }
+    ensures told { IfSome result (λ d. Differs rules.now d first.now member.now) }
+{
     if member.kind != first.kind {
         Some(Difference::Kind)
     } else if member.lun != first.lun {
@@ -29,6 +38,8 @@ fn difference(rules: &Rules, first: &Want, member: &Want) -> Option<Difference> 
 // The first member that differs from the first one in what members share.
 fn mixed(rules: &Rules, members: &[Want]) -> Option<Breach>
     ensures about { IfSome result (λ b. condition_of b ≡ is_a_group) }
+    ensures none { IsNone result → (first : WantValue) → slice_get members.now 0 ≡ Some first → Each (GoesWith rules.now first) members.now }
+    ensures told { (p : Problem) (s : Schedule) (starts : List ℕ) → p.rules ≡ rules.now → Has s.groups (record { members = members.now; starts = starts }) → IfSome result (Tells p s) }
 {
     let first = members.first()?;
     for member in members {
@@ -46,6 +57,8 @@ fn mixed(rules: &Rules, members: &[Want]) -> Option<Breach>
 // The first member whose plane isn't above that of the one before it.
 fn plane_order(members: &[Want]) -> Option<Breach>
     ensures about { IfSome result (λ b. condition_of b ≡ is_a_group) }
+    ensures none { IsNone result → Pairs (λ a b. a.plane < b.plane) members.now }
+    ensures told { (p : Problem) (s : Schedule) (starts : List ℕ) → Has s.groups (record { members = members.now; starts = starts }) → IfSome result (Tells p s) }
 {
     for at in 1..members.len() {
         if members[at].plane <= members[at - 1].plane {
@@ -63,6 +76,7 @@ fn plane_order(members: &[Want]) -> Option<Breach>
 fn fault_of(rules: &Rules, members: &[Want]) -> Breach
     requires some { 1 ≤ length members.now }
     ensures about { condition_of result ≡ is_a_group }
+    ensures told { (p : Problem) (s : Schedule) (starts : List ℕ) → p.rules ≡ rules.now → Has s.groups (record { members = members.now; starts = starts }) → length members.now ≤ 4 → (IsGroup rules.now members.now → ⊥) → Tells p s result }
 {
     if let Some(breach) = mixed(rules, members) {
         return breach;
@@ -79,6 +93,7 @@ fn fault_of(rules: &Rules, members: &[Want]) -> Breach
 fn group_fault(rules: &Rules, group: &Placed) -> Option<Breach>
     ensures none { IsNone result ↔ IsGroup rules.now group.now.members }
     ensures about { IfSome result (λ b. condition_of b ≡ is_a_group) }
+    ensures told { (p : Problem) (s : Schedule) → p.rules ≡ rules.now → Has s.groups group.now → IfSome result (Tells p s) }
 {
     let members = group.members().members();
     if is_group(rules, members) {
@@ -92,6 +107,7 @@ fn group_fault(rules: &Rules, group: &Placed) -> Option<Breach>
 pub(crate) fn no_group(rules: &Rules, groups: &[Placed]) -> Option<Breach>
     ensures none { IsNone result ↔ Each (λ g. IsGroup rules.now g.members) groups.now }
     ensures about { IfSome result (λ b. condition_of b ≡ is_a_group) }
+    ensures told { (p : Problem) (s : Schedule) → p.rules ≡ rules.now → s.groups ≡ groups.now → IfSome result (Tells p s) }
 {
     for group in groups {
         let breach = group_fault(rules, group);

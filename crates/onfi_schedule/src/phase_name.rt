@@ -1,3 +1,6 @@
+ghost use Rattle.std.specs.Prelude.{◌≡◌};
+ghost use Rattle.onfi_schedule.specs.Names.{post_of};
+
 use onfi_timing::Kind;
 use std::fmt;
 
@@ -15,7 +18,9 @@ pub enum Part {
 
 impl Part {
     /// What the post of that kind is.
-    pub(crate) fn post_of(kind: Kind) -> Part {
+    pub(crate) fn post_of(kind: Kind) -> Part
+        ensures { result ≡ post_of kind }
+    {
         match kind {
             Kind::Read => Part::DataOutput,
             Kind::Program | Kind::Erase => Part::Status,

@@ -1,12 +1,12 @@
 //! The shape of a schedule: each request in exactly one group, each phase with one start.
 
-ghost use Rattle.std.specs.Prelude.{◌≡◌, ◌≤◌, ◌↔◌, IsNone, IfSome, IsTrue, length};
+ghost use Rattle.std.specs.Prelude.{◌≡◌, ◌≤◌, ◌↔◌, IsNone, IfSome, IsTrue, Some, length, slice_get};
 ghost use Rattle.std.specs.List.{AllByRecursion as Each, Any};
 ghost use Rattle.onfi_group.specs.Words.{Has, number};
-ghost use Rattle.onfi_problem.specs.Problem.{Problem, has_id};
+ghost use Rattle.onfi_problem.specs.Problem.{Problem, IsProblem, has_id};
 ghost use Rattle.onfi_problem.specs.Position.{state_of};
 ghost use Rattle.onfi_schedule.specs.Conditions.{Names, EachRest, StateFits, StartsFit, MembersAmong, HoldsOnce, id_count, states_of};
-ghost use Rattle.onfi_schedule.specs.Schedule.{Schedule};
+ghost use Rattle.onfi_schedule.specs.Schedule.{Schedule, rest_of};
 ghost use Rattle.onfi_schedule.specs.Tells.{Tells, IsUnknown};
 ghost use Rattle.onfi_schedule.specs.Breaks.{condition_of, lun_count, rest_counts, start_counts, known_requests, each_once};
 
@@ -38,6 +38,7 @@ fn left_count(table: &[Group], at: u8, lun: &Lun, starts: &Starts) -> Option<Bre
     requires named { Names table.now lun.now }
     ensures none { IsNone result ↔ StateFits (state_of table.now lun.now) starts.now }
     ensures about { IfSome result (λ b. condition_of b ≡ rest_counts) }
+    ensures told { (p : Problem) (s : Schedule) → IsProblem p → slice_get p.luns at ≡ Some (state_of table.now lun.now) → rest_of s at ≡ Some starts.now → IfSome result (Tells p s) }
 {
     let starts = starts.as_slice().len();
     if lun.next == 0 {
@@ -66,6 +67,7 @@ pub(crate) fn rest_count(table: &[Group], luns: &[Lun], rest: &[Starts]) -> Opti
     requires named { Each (Names table.now) luns.now }
     ensures none { IsNone result ↔ EachRest StateFits (states_of table.now luns.now) rest.now }
     ensures about { IfSome result (λ b. condition_of b ≡ rest_counts) }
+    ensures told { (p : Problem) (s : Schedule) → IsProblem p → p.luns ≡ states_of table.now luns.now → s.rest ≡ rest.now → IfSome result (Tells p s) }
 {
     for (at, lun) in luns.iter().enumerate() {
         let breach = left_count(table, at as u8, lun, &rest[at]);

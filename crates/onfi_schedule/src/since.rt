@@ -1,9 +1,14 @@
 //! New groups on LUNs that are free.
 
-ghost use Rattle.std.specs.Prelude.{◌≡◌, ◌↔◌, IsNone, IfSome, List};
+ghost use Rattle.std.specs.Prelude.{◌≡◌, ◌↔◌, IsNone, IfSome, List, Some, slice_get};
 ghost use Rattle.std.specs.List.{AllByRecursion as Each};
 ghost use Rattle.onfi_request.specs.declared.want.Want.{Want};
+ghost use Rattle.onfi_group.specs.Words.{Has};
+ghost use Rattle.onfi_group.specs.Group.{lun_of};
+ghost use Rattle.onfi_problem.specs.Problem.{Problem};
 ghost use Rattle.onfi_problem.specs.Position.{state_of};
+ghost use Rattle.onfi_schedule.specs.Schedule.{Schedule};
+ghost use Rattle.onfi_schedule.specs.Tells.{Tells};
 ghost use Rattle.onfi_schedule.specs.Conditions.{StateSince, FromSince, states_of};
 ghost use Rattle.onfi_schedule.specs.Breaks.{condition_of, lun_is_free};
 
@@ -17,6 +22,7 @@ use onfi_timing::Timing;
 fn before_free(timing: &Timing, lun: &Lun, group: &Placed) -> Option<Breach>
     ensures none { (table : List (List Want)) → IsNone result ↔ StateSince (state_of table lun.now) group.now.starts }
     ensures about { IfSome result (λ b. condition_of b ≡ lun_is_free) }
+    ensures told { (table : List (List Want)) (p : Problem) (s : Schedule) → Has s.groups group.now → slice_get p.luns (lun_of group.now.members) ≡ Some (state_of table lun.now) → IfSome result (Tells p s) }
 {
     let starts = group.starts().as_slice();
     if lun.next != 0 || starts.is_empty() || starts[0] >= lun.time {
@@ -39,6 +45,7 @@ fn group_before_free(
 ) -> Option<Breach>
     ensures none { IsNone result ↔ FromSince (states_of table.now luns.now) group.now }
     ensures about { IfSome result (λ b. condition_of b ≡ lun_is_free) }
+    ensures told { (p : Problem) (s : Schedule) → p.luns ≡ states_of table.now luns.now → Has s.groups group.now → IfSome result (Tells p s) }
 {
     let place = group.members().lun() as usize;
     if place >= luns.len() {
@@ -56,6 +63,7 @@ pub(crate) fn lun_not_free(
 ) -> Option<Breach>
     ensures none { IsNone result ↔ Each (FromSince (states_of table.now luns.now)) groups.now }
     ensures about { IfSome result (λ b. condition_of b ≡ lun_is_free) }
+    ensures told { (p : Problem) (s : Schedule) → p.luns ≡ states_of table.now luns.now → s.groups ≡ groups.now → IfSome result (Tells p s) }
 {
     for group in groups {
         let breach = group_before_free(timing, table, luns, group);

@@ -7,7 +7,8 @@ ghost use Rattle.onfi_group.specs.Group.{lun_of, group_spans};
 ghost use Rattle.onfi_problem.specs.Position.{state_of};
 ghost use Rattle.onfi_schedule.specs.Schedule.{phases_from, phases_left, rest_phases, group_phases, latest};
 ghost use Rattle.onfi_schedule.specs.Conditions.{Names, start_count, states_of, phases_of};
-ghost use Rattle.onfi_schedule.specs.Slots.{phases_in};
+ghost use Rattle.onfi_schedule.specs.Names.{owner_of, name_of, named_from, named_left, named_rest, named_group, named_of};
+ghost use Rattle.onfi_schedule.specs.Slots.{phases_in, named_in};
 
 use crate::phase::Phase;
 use crate::phase_name::{Owner, Part, PhaseName};
@@ -63,7 +64,9 @@ impl Work {
         }
     }
 
-    fn owner(&self, member: &Want) -> Owner {
+    fn owner(&self, member: &Want) -> Owner
+        ensures { result ≡ owner_of self.now.next self.now.lun member.now }
+    {
         if self.next == 0 {
             Owner::Request(member.id)
         } else {
@@ -75,7 +78,9 @@ impl Work {
     }
 
     /// The name of phase `number` of these members.
-    pub(crate) fn name(&self, members: &[Want], number: usize) -> PhaseName {
+    pub(crate) fn name(&self, members: &[Want], number: usize) -> PhaseName
+        ensures { result ≡ name_of self.now.next self.now.lun members.now number }
+    {
         if let Some(member) = members.get(number) {
             return PhaseName {
                 part: Part::Command,
@@ -88,7 +93,10 @@ impl Work {
                 part: Part::post_of(member.kind),
                 owner: self.owner(member),
             },
-            None => PhaseName::default(),
+            None => PhaseName {
+                part: Part::Command,
+                owner: Owner::Request(0),
+            },
         }
     }
 }
@@ -104,6 +112,7 @@ fn push_work<const CAP: usize>(
     requires few { work.now.next + length starts.now < 2 ^ 60 }
     requires small { Each (λ t. t < 2 ^ 63) starts.now }
     ensures phases { phases_in slots.new.items ≡ phases_in slots.old.items ++ phases_from work.now.lun work.now.spans (length members.now) work.now.next starts.now }
+    ensures named { named_in slots.new.items ≡ named_in slots.old.items ++ named_from work.now.next work.now.lun work.now.spans members.now work.now.next starts.now }
     ensures len { array_vec_len slots.new ≡ array_vec_len slots.old + length starts.now }
 {
     let mut number = work.next;
@@ -132,6 +141,7 @@ pub(crate) fn push_left<const CAP: usize>(
     requires room { array_vec_len slots.old + 8 ≤ CAP }
     requires named { Names table.now lun.now }
     ensures phases { phases_in slots.new.items ≡ phases_in slots.old.items ++ phases_left timing.now at (state_of table.now lun.now) starts.now }
+    ensures named { named_in slots.new.items ≡ named_in slots.old.items ++ named_left timing.now at (state_of table.now lun.now) starts.now }
     ensures len { array_vec_len slots.new ≤ array_vec_len slots.old + 8 }
 {
     if lun.next == 0 {
@@ -152,6 +162,7 @@ pub(crate) fn push_group<const CAP: usize>(
     requires room { array_vec_len slots.old + length starts.now ≤ CAP }
     requires small { Each (λ t. t < 2 ^ 63) starts.now }
     ensures phases { phases_in slots.new.items ≡ phases_in slots.old.items ++ group_phases timing.now (record { members = members.now; starts = starts.now }) }
+    ensures named { named_in slots.new.items ≡ named_in slots.old.items ++ named_group timing.now (record { members = members.now; starts = starts.now }) }
     ensures len { array_vec_len slots.new ≡ array_vec_len slots.old + length starts.now }
 {
     let work = Work::of_new(timing, members);
@@ -164,6 +175,7 @@ fn push_rest(slots: &mut Slots, timing: &Timing, table: &[Group], luns: &[Lun], 
     requires named { Each (Names table.now) luns.now }
     requires room { array_vec_len slots.old ≡ 0 }
     ensures phases { phases_in slots.new.items ≡ phases_in slots.old.items ++ rest_phases timing.now 0 (states_of table.now luns.now) rest.now }
+    ensures named { named_in slots.new.items ≡ named_in slots.old.items ++ named_rest timing.now 0 (states_of table.now luns.now) rest.now }
     ensures len { array_vec_len slots.new ≤ 64 }
 {
     for (at, lun) in luns.iter().enumerate() {
@@ -174,6 +186,7 @@ fn push_rest(slots: &mut Slots, timing: &Timing, table: &[Group], luns: &[Lun], 
 fn push_groups(slots: &mut Slots, timing: &Timing, groups: &[Placed])
     requires room { array_vec_len slots.old + start_count groups.now ≤ 80 }
     ensures phases { phases_in slots.new.items ≡ phases_in slots.old.items ++ flat_map (group_phases timing.now) groups.now }
+    ensures named { named_in slots.new.items ≡ named_in slots.old.items ++ flat_map (named_group timing.now) groups.now }
 {
     for group in groups {
         push_group(slots, timing, group.members(), group.starts().as_slice());
@@ -192,6 +205,7 @@ pub(crate) fn all_slots(
     requires named { Each (Names table.now) luns.now }
     requires room { start_count schedule.now.groups ≤ 16 }
     ensures phases { phases_in result.items ≡ phases_of timing.now (states_of table.now luns.now) schedule.now }
+    ensures named { named_in result.items ≡ named_of timing.now (states_of table.now luns.now) schedule.now }
 {
     let mut slots = ArrayVec::new();
     push_rest(&mut slots, timing, table, luns, schedule.rest());

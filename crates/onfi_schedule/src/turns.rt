@@ -1,14 +1,18 @@
 //! The order of groups on one LUN.
 
-ghost use Rattle.std.specs.Prelude.{◌≡◌, ◌↔◌, IsNone, IfSome, IsTrue, length};
+ghost use Rattle.std.specs.Prelude.{◌≡◌, ◌⊎◌, ◌≤◌, ◌↔◌, IsNone, IfSome, IsTrue, Some, length, slice_get};
 ghost use Rattle.std.specs.List.{AllByRecursion as Each};
-ghost use Rattle.onfi_group.specs.Words.{Pairs};
+ghost use Rattle.onfi_group.specs.Words.{Has, Pairs};
 ghost use Rattle.onfi_group.specs.Group.{lun_of};
+ghost use Rattle.onfi_problem.specs.Problem.{Problem};
 ghost use Rattle.onfi_problem.specs.Position.{state_of};
-ghost use Rattle.onfi_schedule.specs.Schedule.{Before, phases_left, group_phases, TakeTurns};
+ghost use Rattle.onfi_schedule.specs.Schedule.{Placed as PlacedGroup, Schedule, Before, phases_left, group_phases, latest, rest_of, TakeTurns};
 ghost use Rattle.onfi_schedule.specs.Conditions.{Names, states_of, LeftFirst};
 ghost use Rattle.onfi_schedule.specs.Breaks.{condition_of, running_first, takes_turns};
-ghost use Rattle.onfi_schedule.specs.Slots.{phases_in, EndsFirst};
+ghost use Rattle.onfi_schedule.specs.Names.{Named, StartsFirst, named_group};
+ghost use Rattle.onfi_schedule.specs.Slots.{phases_in, named_slot, named_in, EndsFirst};
+ghost use Rattle.onfi_schedule.specs.Tells.{Tells, AreTwo, first_id};
+ghost use Rattle.onfi_schedule.specs.declared.breach.Breach.TheVariants.{RunningGroupLeft, LunTaken};
 
 use crate::breach::Breach;
 use crate::placed::Placed;
@@ -22,7 +26,8 @@ use onfi_timing::Timing;
 
 /// The phases of a new group.
 pub(crate) fn slots_of(timing: &Timing, group: &Placed) -> GroupSlots
-    ensures { phases_in result.items ≡ group_phases timing.now group.now }
+    ensures phases { phases_in result.items ≡ group_phases timing.now group.now }
+    ensures named { named_in result.items ≡ named_group timing.now group.now }
 {
     let mut slots = ArrayVec::new();
     let starts = group.starts().as_slice();
@@ -54,20 +59,34 @@ pub(crate) fn are_before(slots: &[Slot], others: &[Slot]) -> bool
     true
 }
 
+// The one that starts sooner, of two at a time the first.
+fn sooner(first: Slot, slot: &Slot) -> Slot
+    ensures one { (result ≡ first) ⊎ (result ≡ slot.now) }
+    ensures first { result.phase.start ≤ first.phase.start }
+    ensures other { result.phase.start ≤ slot.now.phase.start }
+{
+    if slot.phase.start < first.phase.start {
+        *slot
+    } else {
+        first
+    }
+}
+
 /// The phase of least start.
-pub(crate) fn first_slot(slots: &[Slot]) -> Slot {
+pub(crate) fn first_slot(slots: &[Slot]) -> Slot
+    ensures { 1 ≤ length slots.now → StartsFirst (named_in slots.now) (named_slot result) }
+{
     let mut first = slots.first().copied().unwrap_or_default();
     for slot in slots {
-        if slot.phase.start < first.phase.start {
-            first = *slot;
-        }
+        first = sooner(first, slot);
     }
     first
 }
 
 // That the group starts before that of the left phases, which runs on its LUN, has ended.
 fn running_left(own: &[Slot], left: &[Slot]) -> Breach
-    ensures { condition_of result ≡ running_first }
+    ensures about { condition_of result ≡ running_first }
+    ensures told { 1 ≤ length own.now → (x : Named) × StartsFirst (named_in own.now) x × (result ≡ RunningGroupLeft x.name x.phase.lun x.phase.start (latest 0 (phases_in left.now))) }
 {
     let first = first_slot(own);
     Breach::RunningGroupLeft {
@@ -76,6 +95,16 @@ fn running_left(own: &[Slot], left: &[Slot]) -> Breach
         start: first.phase.start,
         end: slots::latest(0, left),
     }
+}
+
+// The phases that are left of what runs on a LUN.
+fn left_slots(timing: &Timing, table: &[Group], at: u8, lun: &Lun, starts: &Starts) -> GroupSlots
+    requires named { Names table.now lun.now }
+    ensures { phases_in result.items ≡ phases_left timing.now at (state_of table.now lun.now) starts.now }
+{
+    let mut slots = ArrayVec::new();
+    slots::push_left(&mut slots, timing, table, at, lun, starts);
+    slots
 }
 
 fn before_end_of(
@@ -88,9 +117,9 @@ fn before_end_of(
     requires named { Names table.now lun.now }
     ensures none { IsNone result ↔ Before (phases_left timing.now (lun_of group.now.members) (state_of table.now lun.now) starts.now) (group_phases timing.now group.now) }
     ensures about { IfSome result (λ b. condition_of b ≡ running_first) }
+    ensures told { (p : Problem) (s : Schedule) → p.timing ≡ timing.now → Has s.groups group.now → slice_get p.luns (lun_of group.now.members) ≡ Some (state_of table.now lun.now) → rest_of s (lun_of group.now.members) ≡ Some starts.now → IfSome result (Tells p s) }
 {
-    let mut left: GroupSlots = ArrayVec::new();
-    slots::push_left(&mut left, timing, table, group.members().lun(), lun, starts);
+    let left = left_slots(timing, table, group.members().lun(), lun, starts);
     let own = slots_of(timing, group);
     if are_before(left.as_slice(), own.as_slice()) {
         return None;
@@ -109,6 +138,7 @@ fn before_left(
     requires named { Each (Names table.now) luns.now }
     ensures none { IsNone result ↔ LeftFirst timing.now (states_of table.now luns.now) rest.now group.now }
     ensures about { IfSome result (λ b. condition_of b ≡ running_first) }
+    ensures told { (p : Problem) (s : Schedule) → p.timing ≡ timing.now → p.luns ≡ states_of table.now luns.now → s.rest ≡ rest.now → Has s.groups group.now → IfSome result (Tells p s) }
 {
     let place = group.members().lun() as usize;
     if place >= luns.len() {
@@ -129,6 +159,7 @@ pub(crate) fn running_not_over(
     requires named { Each (Names table.now) luns.now }
     ensures none { IsNone result ↔ Each (LeftFirst timing.now (states_of table.now luns.now) rest.now) groups.now }
     ensures about { IfSome result (λ b. condition_of b ≡ running_first) }
+    ensures told { (p : Problem) (s : Schedule) → p.timing ≡ timing.now → p.luns ≡ states_of table.now luns.now → s.rest ≡ rest.now → s.groups ≡ groups.now → IfSome result (Tells p s) }
 {
     for group in groups {
         let breach = before_left(timing, table, luns, rest, group);
@@ -141,7 +172,8 @@ pub(crate) fn running_not_over(
 
 // That the one group starts while the other one has their LUN.
 fn taken(own: &[Slot], holder: u64, held: &[Slot]) -> Breach
-    ensures { condition_of result ≡ takes_turns }
+    ensures about { condition_of result ≡ takes_turns }
+    ensures told { 1 ≤ length own.now → 1 ≤ length held.now → (x y : Named) × StartsFirst (named_in own.now) x × StartsFirst (named_in held.now) y × (result ≡ LunTaken x.name x.phase.lun x.phase.start holder y.phase.start (latest 0 (phases_in held.now))) }
 {
     let first = first_slot(own);
     Breach::LunTaken {
@@ -154,9 +186,24 @@ fn taken(own: &[Slot], holder: u64, held: &[Slot]) -> Breach
     }
 }
 
+// Whether the ones have ended when any of the others starts, or the other way round.
+fn are_apart(one: &[Slot], two: &[Slot]) -> bool
+    ensures { IsTrue result ↔ (Before (phases_in one.now) (phases_in two.now) ⊎ Before (phases_in two.now) (phases_in one.now)) }
+{
+    are_before(one, two) || are_before(two, one)
+}
+
+// The number of the first request of a group.
+fn first_request(group: &Placed) -> u64
+    ensures { result ≡ first_id group.now.members }
+{
+    group.members().members()[0].id
+}
+
 fn without_turn(timing: &Timing, group: &Placed, other: &Placed) -> Option<Breach>
     ensures none { IsNone result ↔ TakeTurns timing.now group.now other.now }
     ensures about { IfSome result (λ b. condition_of b ≡ takes_turns) }
+    ensures told { (p : Problem) (s : Schedule) → p.timing ≡ timing.now → AreTwo s.groups group.now other.now → IfSome result (Tells p s) }
 {
     if group.members().lun() != other.members().lun() {
         return None;
@@ -164,20 +211,19 @@ fn without_turn(timing: &Timing, group: &Placed, other: &Placed) -> Option<Breac
     let one = slots_of(timing, group);
     let two = slots_of(timing, other);
     let (one, two) = (one.as_slice(), two.as_slice());
-    if are_before(one, two) || are_before(two, one) {
+    if are_apart(one, two) {
         return None;
     }
-    let breach = if first_slot(one).phase.start < first_slot(two).phase.start {
-        taken(two, group.members().members()[0].id, one)
-    } else {
-        taken(one, other.members().members()[0].id, two)
-    };
-    Some(breach)
+    if first_slot(one).phase.start < first_slot(two).phase.start {
+        return Some(taken(two, first_request(group), one));
+    }
+    Some(taken(one, first_request(other), two))
 }
 
 fn without_turn_among(timing: &Timing, group: &Placed, others: &[Placed]) -> Option<Breach>
     ensures none { IsNone result ↔ Each (TakeTurns timing.now group.now) others.now }
     ensures about { IfSome result (λ b. condition_of b ≡ takes_turns) }
+    ensures told { (p : Problem) (s : Schedule) → p.timing ≡ timing.now → ((h : PlacedGroup) → Has others.now h → AreTwo s.groups group.now h) → IfSome result (Tells p s) }
 {
     for other in others {
         let breach = without_turn(timing, group, other);
@@ -192,6 +238,7 @@ fn without_turn_among(timing: &Timing, group: &Placed, others: &[Placed]) -> Opt
 pub(crate) fn lun_taken(timing: &Timing, groups: &[Placed]) -> Option<Breach>
     ensures none { IsNone result ↔ Pairs (TakeTurns timing.now) groups.now }
     ensures about { IfSome result (λ b. condition_of b ≡ takes_turns) }
+    ensures told { (p : Problem) (s : Schedule) → p.timing ≡ timing.now → s.groups ≡ groups.now → IfSome result (Tells p s) }
 {
     for (at, group) in groups.iter().enumerate() {
         let breach = without_turn_among(timing, group, &groups[at + 1..]);

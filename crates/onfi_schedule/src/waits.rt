@@ -1,11 +1,17 @@
 //! The waits between the phases of a group.
 
-ghost use Rattle.std.specs.Prelude.{◌≡◌, ◌+◌, ◌^◌, ◌<◌, ◌≤◌, ◌↔◌, IsNone, IfSome, length};
+ghost use Rattle.std.specs.Prelude.{◌≡◌, ◌+◌, ◌-◌, ◌^◌, ◌<◌, ◌≤◌, ◌↔◌, IsNone, IfSome, Some, length, slice_get};
 ghost use Rattle.std.specs.List.{AllByRecursion as Each};
+ghost use Rattle.onfi_group.specs.Words.{Has};
+ghost use Rattle.onfi_group.specs.Group.{group_spans};
+ghost use Rattle.onfi_problem.specs.Problem.{Problem};
 ghost use Rattle.onfi_problem.specs.Position.{state_of};
-ghost use Rattle.onfi_schedule.specs.Schedule.{InOrder};
+ghost use Rattle.onfi_schedule.specs.Schedule.{Schedule, InOrder, rest_of};
 ghost use Rattle.onfi_schedule.specs.Conditions.{Names, EachRest, StateWaits, GroupWaits, states_of};
 ghost use Rattle.onfi_schedule.specs.Breaks.{condition_of, keeps_waits};
+ghost use Rattle.onfi_schedule.specs.Names.{name_of};
+ghost use Rattle.onfi_schedule.specs.Tells.{Tells, HasWork};
+ghost use Rattle.onfi_schedule.specs.declared.breach.Breach.TheVariants.{NotReady, WaitTooShort};
 
 use crate::breach::Breach;
 use crate::placed::Placed;
@@ -18,7 +24,9 @@ use onfi_timing::Timing;
 
 // That phase `number` of these members starts before its LUN is ready for it.
 fn not_ready(work: &Work, members: &[Want], number: usize, start: u64, ready: u64) -> Breach
-    ensures { condition_of result ≡ keeps_waits }
+    ensures about { condition_of result ≡ keeps_waits }
+    ensures first { number ≤ work.now.next → result ≡ NotReady (name_of work.now.next work.now.lun members.now number) work.now.lun start ready }
+    ensures later { work.now.next < number → result ≡ WaitTooShort (name_of work.now.next work.now.lun members.now number) (name_of work.now.next work.now.lun members.now (number - 1)) work.now.lun start ready }
 {
     let phase = work.name(members, number);
     let lun = work.lun;
@@ -45,6 +53,7 @@ fn in_group(work: &Work, members: &[Want], floor: u64, starts: &[u64]) -> Option
     requires phases { work.now.next + length starts.now < 2 ^ 60 }
     ensures none { IsNone result ↔ InOrder work.now.spans (length members.now) work.now.next floor starts.now }
     ensures about { IfSome result (λ b. condition_of b ≡ keeps_waits) }
+    ensures told { (p : Problem) (s : Schedule) → work.now.spans ≡ group_spans p.timing members.now → HasWork p s work.now.lun members.now work.now.next floor starts.now → IfSome result (Tells p s) }
 {
     let mut floor = floor;
     let mut number = work.next;
@@ -63,6 +72,7 @@ fn in_left(timing: &Timing, table: &[Group], at: u8, lun: &Lun, starts: &Starts)
     requires named { Names table.now lun.now }
     ensures none { IsNone result ↔ StateWaits timing.now (state_of table.now lun.now) starts.now }
     ensures about { IfSome result (λ b. condition_of b ≡ keeps_waits) }
+    ensures told { (p : Problem) (s : Schedule) → p.timing ≡ timing.now → slice_get p.luns at ≡ Some (state_of table.now lun.now) → rest_of s at ≡ Some starts.now → IfSome result (Tells p s) }
 {
     if lun.next == 0 {
         return None;
@@ -84,6 +94,7 @@ pub(crate) fn in_rest(
     requires named { Each (Names table.now) luns.now }
     ensures none { IsNone result ↔ EachRest (StateWaits timing.now) (states_of table.now luns.now) rest.now }
     ensures about { IfSome result (λ b. condition_of b ≡ keeps_waits) }
+    ensures told { (p : Problem) (s : Schedule) → p.timing ≡ timing.now → p.luns ≡ states_of table.now luns.now → s.rest ≡ rest.now → IfSome result (Tells p s) }
 {
     for (at, lun) in luns.iter().enumerate() {
         let breach = in_left(timing, table, at as u8, lun, &rest[at]);
@@ -97,6 +108,7 @@ pub(crate) fn in_rest(
 fn in_new(timing: &Timing, group: &Placed) -> Option<Breach>
     ensures none { IsNone result ↔ GroupWaits timing.now group.now }
     ensures about { IfSome result (λ b. condition_of b ≡ keeps_waits) }
+    ensures told { (p : Problem) (s : Schedule) → p.timing ≡ timing.now → Has s.groups group.now → IfSome result (Tells p s) }
 {
     let members = group.members();
     let work = Work::of_new(timing, members);
@@ -107,6 +119,7 @@ fn in_new(timing: &Timing, group: &Placed) -> Option<Breach>
 pub(crate) fn in_groups(timing: &Timing, groups: &[Placed]) -> Option<Breach>
     ensures none { IsNone result ↔ Each (GroupWaits timing.now) groups.now }
     ensures about { IfSome result (λ b. condition_of b ≡ keeps_waits) }
+    ensures told { (p : Problem) (s : Schedule) → p.timing ≡ timing.now → s.groups ≡ groups.now → IfSome result (Tells p s) }
 {
     for group in groups {
         let breach = in_new(timing, group);

@@ -1,6 +1,7 @@
 pub mod Known
 pub mod Scan
 pub mod BlockLemmas
+pub mod ToldArrays
 pub mod Scripts
 pub mod Told
 pub mod PartsLemmas

@@ -218,9 +218,9 @@ pub data TellsLegal (p : Problem) (s : Schedule) (answer : Answer) : Type 0 wher
   is_illegal : (Legal p s → ⊥) → answer ≡ refused_for (codes "1 Illegal") → TellsLegal p s answer
   is_legal : Legal p s → answer ≡ legal_until (finish p s) → TellsLegal p s answer
 
--- .. to the schedule that a plan text says, or its first wrong line
+-- .. to the schedule that a plan text says, or its first wrong line; a line `below` may stand there, and tells nothing here
 abbrev pub AnswersAlone : Problem → List ℕ → Answer → Type 0
-AnswersAlone p text answer = MatchResult (plan_of p.wants text) (λ r. TellsLegal p (schedule_of p r.0) answer) (λ number. answer ≡ refused_at (codes "plan") number)
+AnswersAlone p text answer = MatchResult (plan_within_of p.wants text) (λ r. TellsLegal p (schedule_of p r.0) answer) (λ number. answer ≡ refused_at (codes "plan") number)
 
 -- .. where the text is read up to its certificate, or to its end where none stands there
 abbrev pub AnswersLegal : Problem → List ℕ → Answer → Type 0

@@ -19,10 +19,12 @@ use Rattle.onfi_script.specs.declared.fault.ScriptFault.{ScriptFault}
 use Rattle.onfi_script.specs.declared.fault.ScriptFault.TheVariants as fault
 use Rattle.onfi_script.specs.declared.row.Row.{Row}
 use Rattle.onfi_script.specs.declared.row.Row.TheVariants.{Shape, Spans, Page}
+use Rattle.onfi_script.specs.declared.row.Row.TheVariants as row_of
 use Rattle.onfi_script.specs.declared.row.Subject.TheVariants as on
 use Rattle.onfi_script.specs.declared.row_name.Form.{Form}
 use Rattle.onfi_script.specs.declared.row_name.Form.TheVariants.{First, Second}
-use Rattle.onfi_script.specs.RowParts.{ShapeRow, SpansRow}
+use Rattle.onfi_script.specs.Layout.{IsLaidOut}
+use Rattle.onfi_script.specs.RowParts.{ShapeRow, SpansRow, GeometryRow}
 use Rattle.onfi_script.specs.Seen.{seen}
 use Rattle.onfi_script.specs.Subject.{row_on}
 
@@ -34,8 +36,15 @@ abbrev pub as_spans : Row → Option SpansRow
 as_spans (Spans row) = Some row
 as_spans _ = None
 
+abbrev pub as_geometry : Row → Option GeometryRow
+as_geometry (row_of.Geometry row) = Some row
+as_geometry _ = None
+
 abbrev pub shape_in : List Row → Option ShapeRow
 shape_in rows = option_and_then as_shape (row_on on.Shape rows)
+
+abbrev pub geometry_in : List Row → Option GeometryRow
+geometry_in rows = option_and_then as_geometry (row_on on.Geometry rows)
 
 abbrev pub spans_in : Kind → List Row → Option SpansRow
 spans_in kind rows = option_and_then as_spans (row_on (on.Spans kind) rows)
@@ -95,9 +104,32 @@ IsUndescribed bytes sheet _ = ⊥
 abbrev pub TellsPageDevice : List ℕ → SheetOf → Result PageDevice ScriptFault → Type 0
 TellsPageDevice bytes sheet told = MatchResult told (λ d. IsPageDevice bytes sheet d.geometry d.timing) (IsUndescribed bytes sheet)
 
--- the chips that the rows tell of, or why they tell of none: without bytes of a page a row is missing
+-- the chips that page and sheet of the rows tell of, or why they tell of none: without bytes of a page a row is missing
+abbrev pub TellsPaged : List Row → Result PageDevice ScriptFault → Type 0
+TellsPaged rows told = MatchBool (list_any is_page rows) (TellsPageDevice (page_bytes rows) (seen rows).sheet told) (told ≡ Err fault.Missing)
+
+-- the chips that the rows `shape`, `geometry` and `spans` tell of
+pub record HasChips (rows : List Row) (chips : PageDevice) : Type 0 where
+  pub shape : ShapeRow
+  pub geometry : GeometryRow
+  pub has_shape : shape_in rows ≡ Some shape
+  pub has_geometry : geometry_in rows ≡ Some geometry
+  pub layout : IsLaidOut shape geometry chips.geometry
+  pub timing : HasTiming rows chips.timing
+
+-- .. or a row is missing
+abbrev pub TellsSpanned : List Row → Result PageDevice ScriptFault → Type 0
+TellsSpanned rows told = MatchResult told (HasChips rows) (λ f. (f ≡ fault.Missing) × IsTrue (is_none (shape_in rows) || is_none (geometry_in rows) || lacks_spans rows))
+
+-- of no form, bytes of a page are missing
+abbrev pub TellsChipsInForm : List Row → Option Form → Result PageDevice ScriptFault → Type 0
+TellsChipsInForm rows None told = TellsPaged rows told
+TellsChipsInForm rows (Some First) told = TellsSpanned rows told
+TellsChipsInForm rows (Some Second) told = TellsPaged rows told
+
+-- the chips that the rows of a run tell of, or why they tell of none
 abbrev pub TellsChips : List Row → Result PageDevice ScriptFault → Type 0
-TellsChips rows told = MatchBool (list_any is_page rows) (TellsPageDevice (page_bytes rows) (seen rows).sheet told) (told ≡ Err fault.Missing)
+TellsChips rows told = TellsChipsInForm rows (seen rows).form told
 
 -- what a problem needs of such chips
 pub record IsDeviceOf (chips : PageDevice) (device : Device) : Type 0 where
@@ -109,7 +141,7 @@ pub record IsDeviceOf (chips : PageDevice) (device : Device) : Type 0 where
 
 -- the second form: what a problem needs of the chips
 abbrev pub TellsSecond : List Row → Result Device ScriptFault → Type 0
-TellsSecond rows told = MatchResult told (λ device. (chips : PageDevice) × TellsChips rows (Ok chips) × IsDeviceOf chips device) (λ f. TellsChips rows (Err f))
+TellsSecond rows told = MatchResult told (λ device. (chips : PageDevice) × TellsPaged rows (Ok chips) × IsDeviceOf chips device) (λ f. TellsPaged rows (Err f))
 
 -- of no form: a row is missing
 abbrev pub TellsInForm : List Row → Option Form → Result Device ScriptFault → Type 0

@@ -5,10 +5,12 @@ pub mod RowName
 pub mod Row
 pub mod RunRow
 pub mod Subject
+pub mod ArraysTold
 pub mod Seen
 pub mod Rows
 pub mod Input
 pub mod Stop
+pub mod Layout
 pub mod Device
 pub mod Setup
 pub mod SetupOf

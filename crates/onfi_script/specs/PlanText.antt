@@ -1,5 +1,5 @@
 -- What a plan text says: its schedule, and the text of the certificate behind it, or which line is the first wrong one.
-use Rattle.std.specs.Prelude.{◌≡◌, ℕ, ◌+◌, ◌==◌, ◌&&◌, nat_eq, nat_le, nat_lt, if◌then◌else◌, Bool, List, [], ◌∷◌, ◌++◌, length, zero, suc, find, option_map, Option, Some, None, Result, Ok, Err, codes}
+use Rattle.std.specs.Prelude.{ℕ, ◌+◌, ◌==◌, ◌&&◌, nat_eq, nat_le, nat_lt, if◌then◌else◌, Bool, List, [], ◌∷◌, ◌++◌, length, zero, suc, find, option_map, Option, Some, None, Result, Ok, Err, codes}
 use Rattle.std.specs.List.{list_all, list_any, starts_with, join_with_byte}
 use Rattle.std.specs.Str.{bytes_eq}
 use Rattle.onfi_request.specs.declared.want.Want.{Want}

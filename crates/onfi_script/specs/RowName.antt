@@ -1,13 +1,13 @@
 -- The names of rows, what they are taken for, and how many fields each has.
-use Rattle.std.specs.Prelude.{ℕ, ◌==◌, ◌&&◌, ◌||◌, not, nat_le, if◌then◌else◌, Bool, true, false, List, length, Option, Some, None, codes}
+use Rattle.std.specs.Prelude.{ℕ, ◌==◌, ◌&&◌, ◌||◌, not, nat_le, if◌then◌else◌, Bool, true, false, List, length, Option, Some, None, is_some, codes}
 use Rattle.std.specs.Str.{bytes_eq}
 use Rattle.onfi_script.specs.Field.{field}
 use Rattle.onfi_script.specs.declared.purpose.Purpose.{Purpose}
-use Rattle.onfi_script.specs.declared.purpose.Purpose.TheVariants.{Problem, Run}
+use Rattle.onfi_script.specs.declared.purpose.Purpose.TheVariants.{Problem, Run, Clocked}
 use Rattle.onfi_script.specs.declared.row_name.Form.{Form}
 use Rattle.onfi_script.specs.declared.row_name.Form.TheVariants.{First, Second}
 use Rattle.onfi_script.specs.declared.row_name.RowName.{RowName}
-use Rattle.onfi_script.specs.declared.row_name.RowName.TheVariants.{Shape, Spans, Page, Sheet, Bus, Free, Running, Want, Weight, Strict, Channels, Hosts, Batch, SubmitCap, PostCap, Choice, Op, Fault, ChipFail, NotReady, Array}
+use Rattle.onfi_script.specs.declared.row_name.RowName.TheVariants.{Shape, Spans, Page, Sheet, Bus, Free, Running, Want, Weight, Strict, Channels, Hosts, Batch, SubmitCap, PostCap, Choice, Op, Fault, ChipFail, NotReady, Array, At, Geometry}
 
 -- the rows that are taken for a run alone
 abbrev pub run_name_of : List ℕ → Option RowName
@@ -23,7 +23,9 @@ run_name_of text =
     else (if bytes_eq text (codes "chipfail") then Some ChipFail
     else (if bytes_eq text (codes "notready") then Some NotReady
     else (if bytes_eq text (codes "array") then Some Array
-    else None))))))))))
+    else (if bytes_eq text (codes "at") then Some At
+    else (if bytes_eq text (codes "geometry") then Some Geometry
+    else None))))))))))))
 
 abbrev pub name_of : List ℕ → Option RowName
 name_of text =
@@ -41,8 +43,6 @@ name_of text =
 
 -- the rows that are taken for a problem alone
 abbrev pub is_of_problem : RowName → Bool
-is_of_problem Shape = true
-is_of_problem Spans = true
 is_of_problem Bus = true
 is_of_problem Free = true
 is_of_problem Running = true
@@ -52,19 +52,28 @@ is_of_problem _ = false
 
 -- .. and for a run too
 abbrev pub is_of_both : RowName → Bool
+is_of_both Shape = true
+is_of_both Spans = true
 is_of_both Page = true
 is_of_both Sheet = true
 is_of_both Strict = true
 is_of_both _ = false
 
+-- the rows that are taken for a run by a clock alone
+abbrev pub is_of_clock : RowName → Bool
+is_of_clock At = true
+is_of_clock _ = false
+
 abbrev pub is_taken : Purpose → RowName → Bool
 is_taken Problem name = is_of_both name || is_of_problem name
-is_taken Run name = is_of_both name || not (is_of_problem name)
+is_taken Run name = is_of_both name || not (is_of_problem name || is_of_clock name)
+is_taken Clocked name = is_of_both name || not (is_of_problem name)
 
 -- the form whose row it is
 abbrev pub form_of : RowName → Option Form
 form_of Shape = Some First
 form_of Spans = Some First
+form_of Geometry = Some First
 form_of Page = Some Second
 form_of Sheet = Some Second
 form_of _ = None
@@ -79,6 +88,17 @@ abbrev pub fits : Option Form → Option Form → Bool
 fits None form = true
 fits (Some own) None = true
 fits (Some own) (Some form) = is_form own form
+
+-- the rows that tell of a device of the first form, of a problem as well as of a run
+abbrev pub is_of_any_device : RowName → Bool
+is_of_any_device Shape = true
+is_of_any_device Spans = true
+is_of_any_device _ = false
+
+-- in a script of a run they stand behind a row `geometry`
+abbrev pub stands : Purpose → RowName → Option Form → Bool
+stands Problem name form = fits (form_of name) form
+stands _ name form = fits (form_of name) form && (is_some form || not (is_of_any_device name))
 
 -- a row `op` has a field for the bytes of a program, and none for those of other kinds
 abbrev pub op_fields : List (List ℕ) → ℕ
@@ -102,8 +122,10 @@ has_fields Batch row = length row == 2
 has_fields Choice row = length row == 2
 has_fields SubmitCap row = length row == 2
 has_fields PostCap row = length row == 2
+has_fields At row = length row == 2
 has_fields ChipFail row = length row == 3
 has_fields NotReady row = length row == 3
 has_fields Fault row = length row == 5
 has_fields Array row = length row == 5
+has_fields Geometry row = length row == 5
 has_fields Op row = length row == op_fields row

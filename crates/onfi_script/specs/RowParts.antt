@@ -17,6 +17,13 @@ pub record SpansRow : Type 0 where
   pub array : ℕ
   pub post : ℕ
 
+-- how many blocks a LUN has, how many pages a block, how many bytes a page, and may pages be programmed in any order
+pub record GeometryRow : Type 0 where
+  pub blocks : ℕ
+  pub pages : ℕ
+  pub bytes : ℕ
+  pub any_order : Bool
+
 -- a LUN runs a group of these blocks, of which phase `next` may start from `ready`
 pub record RunningRow : Type 0 where
   pub lun : ℕ

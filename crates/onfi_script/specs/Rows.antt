@@ -8,13 +8,13 @@ use Rattle.onfi_script.specs.declared.fault.Refusal.{Refusal}
 use Rattle.onfi_script.specs.declared.row.Row.{Row}
 use Rattle.onfi_script.specs.declared.row.Subject.{Subject}
 use Rattle.onfi_script.specs.declared.row_name.RowName.{RowName}
-use Rattle.onfi_script.specs.declared.row_name.RowName.TheVariants.{Shape, Spans, Page, Sheet, Bus, Free, Running, Want, Weight, Strict, Channels, Hosts, Batch, SubmitCap, PostCap, Choice, Op, Fault, ChipFail, NotReady, Array}
+use Rattle.onfi_script.specs.declared.row_name.RowName.TheVariants.{Shape, Spans, Page, Sheet, Bus, Free, Running, Want, Weight, Strict, Channels, Hosts, Batch, SubmitCap, PostCap, Choice, Op, Fault, ChipFail, NotReady, Array, At, Geometry}
 use Rattle.onfi_script.specs.Field.{given, field}
-use Rattle.onfi_script.specs.RowName.{name_of, is_taken, form_of, fits, has_fields}
+use Rattle.onfi_script.specs.RowName.{name_of, is_taken, stands, has_fields}
 use Rattle.onfi_script.specs.Row.{Record, shape_row, spans_row, page_row, sheet_row, bus_row, free_row, running_row, want_row, weight_row, strict_row}
 use Rattle.onfi_script.specs.declared.seen.Seen.{Seen}
 use Rattle.onfi_script.specs.Seen.{seen}
-use Rattle.onfi_script.specs.RunRow.{array_row, channels_row, hosts_row, batch_row, submit_cap_row, post_cap_row, op_row, fault_row, chip_fail_row, not_ready_row, choice_row}
+use Rattle.onfi_script.specs.RunRow.{array_row, at_row, geometry_row, channels_row, hosts_row, batch_row, submit_cap_row, post_cap_row, op_row, fault_row, chip_fail_row, not_ready_row, choice_row}
 use Rattle.onfi_script.specs.Subject.{subject_of, settles, is_op}
 
 -- what row number `number` of that name says; a row of the sheet is read with those before it
@@ -40,6 +40,8 @@ said Fault seen number row = fault_row row
 said ChipFail seen number row = chip_fail_row row
 said NotReady seen number row = not_ready_row row
 said Array seen number row = array_row row
+said At seen number row = at_row seen.moment row
+said Geometry seen number row = geometry_row row
 
 -- an earlier row settles the same
 abbrev pub is_settled : Option Subject → List Row → Bool
@@ -55,7 +57,7 @@ admitted ops_left earlier row =
 abbrev pub row_named : Purpose → Seen → List Row → Option RowName → Record → Result Row ScriptFault
 row_named purpose seen earlier None row = Err UnknownRow
 row_named purpose seen earlier (Some name) row =
-    if is_taken purpose name && fits (form_of name) seen.form
+    if is_taken purpose name && stands purpose name seen.form
     then (if has_fields name row then given (said name seen (length earlier + 1) row) (admitted seen.ops_left earlier) else Err FieldCount)
     else Err NotHere
 

@@ -7,10 +7,10 @@ use Rattle.onfi_script.specs.declared.operation.Aim.{Aim}
 use Rattle.onfi_script.specs.declared.operation.Content.{Content}
 use Rattle.onfi_script.specs.declared.operation.Content.TheVariants.{Given, Filled}
 use Rattle.onfi_script.specs.declared.row.Row.{Row}
-use Rattle.onfi_script.specs.declared.row.Row.TheVariants.{Channels, Hosts, Batch, SubmitCap, PostCap, Op, Fault, ChipFail, NotReady, Array, Choice}
+use Rattle.onfi_script.specs.declared.row.Row.TheVariants.{Channels, Hosts, Batch, SubmitCap, PostCap, Op, Fault, ChipFail, NotReady, Array, At, Choice, Geometry}
 use Rattle.onfi_script.specs.declared.choosing.Choosing.{Choosing}
 use Rattle.onfi_script.specs.declared.choosing.Choosing.TheVariants.{ByLun, ReadsFirst}
-use Rattle.onfi_script.specs.Field.{given, field, hex_bytes, number, kind, lun, block, page, span}
+use Rattle.onfi_script.specs.Field.{given, field, flag, hex_bytes, number, kind, lun, block, page, span}
 use Rattle.onfi_script.specs.Row.{Record}
 
 -- how many places a queue has
@@ -75,6 +75,18 @@ array_row row =
     given (call_number (field row 3)) (λ number.
     given (span 0 (field row 4)) (λ length.
     Ok (Array channel lun number length)))))
+
+-- a moment of arrival, below 2^62 ns and not before that one
+abbrev pub at_row : ℕ → Record → Result Row ScriptFault
+at_row before row = given (number before 4611686018427387903 (field row 1)) (λ moment. Ok (At moment))
+
+abbrev pub geometry_row : Record → Result Row ScriptFault
+geometry_row row =
+    given (number 1 65536 (field row 1)) (λ blocks.
+    given (number 1 4096 (field row 2)) (λ pages.
+    given (number 1 65535 (field row 3)) (λ bytes.
+    given (flag (field row 4)) (λ any_order.
+    Ok (Geometry (record { blocks = blocks; pages = pages; bytes = bytes; any_order = any_order }))))))
 
 -- the only one of the bytes
 abbrev pub only : List ℕ → Result ℕ ScriptFault

@@ -3,7 +3,7 @@ use Rattle.std.specs.Prelude.{◌==◌, ◌&&◌, Bool, true, false, List, Optio
 use Rattle.onfi_timing.specs.declared.kind.Kind.{Kind}
 use Rattle.onfi_timing.specs.declared.kind.Kind.TheVariants.{Read, Program, Erase}
 use Rattle.onfi_script.specs.declared.row.Row.{Row}
-use Rattle.onfi_script.specs.declared.row.Row.TheVariants.{Shape, Spans, Page, Sheet, Bus, Free, Running, Want, Weight, Strict, Channels, Hosts, Batch, SubmitCap, PostCap, Choice, Op, Fault, ChipFail, NotReady, Array}
+use Rattle.onfi_script.specs.declared.row.Row.TheVariants.{Shape, Spans, Page, Sheet, Bus, Free, Running, Want, Weight, Strict, Channels, Hosts, Batch, SubmitCap, PostCap, Choice, Op, Fault, ChipFail, NotReady, Array, At, Geometry}
 use Rattle.onfi_script.specs.declared.row.Subject.{Subject}
 use Rattle.onfi_script.specs.declared.row.Subject.TheVariants as on
 
@@ -29,6 +29,8 @@ subject_of (Fault channel fault) = None
 subject_of (ChipFail channel number) = None
 subject_of (NotReady channel number) = None
 subject_of (Array channel lun number length) = Some (on.Array channel lun number)
+subject_of (At moment) = None
+subject_of (Geometry row) = Some on.Geometry
 
 -- an operation of a host
 abbrev pub is_op : Row → Bool
@@ -54,6 +56,7 @@ is_subject on.Batch on.Batch = true
 is_subject on.Choice on.Choice = true
 is_subject on.SubmitCap on.SubmitCap = true
 is_subject on.PostCap on.PostCap = true
+is_subject on.Geometry on.Geometry = true
 is_subject (on.Array channel lun number) (on.Array on at other) = (channel == on) && (lun == at) && (number == other)
 is_subject subject other = false
 

@@ -3,7 +3,8 @@ ghost use Rattle.std.specs.Prelude.{◌≡◌, ◌++◌, codes, IfOk};
 ghost use Rattle.onfi_script.specs.Answer.{AnswersAlone, AnswersLegal, TellsLegal};
 ghost use Rattle.onfi_script.specs.AnswerOf.{answer_of};
 
-use crate::plan_text::{PlanStop, read_plan};
+use crate::plan_text::PlanStop;
+use crate::plan_within::{PlanWithin, read_plan_within};
 use crate::text::{Answer, legal_until, refused_at, refused_for};
 use onfi_problem::Problem;
 use onfi_schedule::{Schedule, finish, legal};
@@ -34,8 +35,8 @@ fn judged(alloc: Global, problem: &Problem, text: &[u8]) -> Result<Answer, Alloc
     requires begun { problem.now.all ≡ problem.now.problem.wants }
     ensures { IfOk result (λ a. AnswersAlone problem.now.problem text.now (answer_of a)) }
 {
-    match read_plan(alloc, problem.wants(), text) {
-        Ok((plan, _)) => {
+    match read_plan_within(alloc, problem.wants(), text) {
+        Ok(PlanWithin { plan, .. }) => {
             let schedule = plan.schedule(alloc, problem.lun_count())?;
             told(alloc, problem, &schedule)
         }
@@ -44,7 +45,8 @@ fn judged(alloc: Global, problem: &Problem, text: &[u8]) -> Result<Answer, Alloc
     }
 }
 
-/// The answer to the schedule of a plan text, in which a certificate may be missing.
+/// The answer to the schedule of a plan text, in which a certificate may be missing; what a line `below` claims isn't looked
+/// at.
 pub fn judged_alone(alloc: Global, problem: &Problem, text: &[u8]) -> Result<Answer, AllocError>
     requires begun { problem.now.all ≡ problem.now.problem.wants }
     ensures { IfOk result (λ a. AnswersLegal problem.now.problem text.now (answer_of a)) }

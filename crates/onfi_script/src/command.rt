@@ -66,6 +66,6 @@ pub enum Command {
     /// shows that nothing ends before its finish, or before the time of a line `below`.
     CheckWithin,
     /// Say whether the schedule of the plan text behind the script is legal, and when it ends. A certificate need not
-    /// stand there, and isn't looked at; nor is the number behind `finish`.
+    /// stand there, and isn't looked at; nor is the number behind `finish`, nor that of a line `below`.
     Legal,
 }

@@ -20,7 +20,7 @@ pub struct Device {
     ghost few_planes: { plane_bits ≤ 2 },
 }
 
-/// The device that a parameter page and a timing sheet tell of.
+/// The chips that a parameter page and a timing sheet tell of, or those of a run of the first form.
 #[derive(Clone, Copy)]
 pub struct PageDevice {
     pub geometry: Geometry,

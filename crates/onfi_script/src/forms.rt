@@ -8,6 +8,7 @@ ghost use Rattle.onfi_script.specs.Subject.{row_on as spec_row_on};
 
 use crate::device::{Device, PageDevice};
 use crate::fault::{RowStop, ScriptFault};
+use crate::layout::GeometryRow;
 use crate::row::{Row, ShapeRow, Subject};
 use crate::row_name::Form;
 use crate::seen::Seen;
@@ -29,6 +30,16 @@ fn shape(rows: &[Row]) -> Option<&ShapeRow>
 {
     match row_on(rows, Subject::Shape) {
         Some(Row::Shape(shape)) => Some(shape),
+        _ => None,
+    }
+}
+
+/// The row `geometry`.
+fn geometry(rows: &[Row]) -> Option<&GeometryRow>
+    ensures { option_map (λ r. r.now) result ≡ spec.geometry_in rows.now }
+{
+    match row_on(rows, Subject::Geometry) {
+        Some(Row::Geometry(geometry)) => Some(geometry),
         _ => None,
     }
 }
@@ -109,10 +120,10 @@ fn described(bytes: &[u8], sheet: &Sheet) -> Result<PageDevice, ScriptFault>
     Ok(PageDevice { geometry, timing })
 }
 
-/// The chips that rows with this sheet tell of.
-fn chips_of(alloc: Global, rows: &[Row], sheet: &Sheet) -> Result<PageDevice, RowStop>
+/// The chips that page and sheet of rows with this sheet tell of.
+fn paged_chips(alloc: Global, rows: &[Row], sheet: &Sheet) -> Result<PageDevice, RowStop>
     requires { sheet.now ≡ (seen rows.now).sheet }
-    ensures { Tells IfFault (λ device. device) result (spec.TellsChips rows.now) }
+    ensures { Tells IfFault (λ device. device) result (spec.TellsPaged rows.now) }
 {
     if !has_page(rows) {
         return Err(RowStop::Fault(ScriptFault::Missing));
@@ -124,15 +135,38 @@ fn chips_of(alloc: Global, rows: &[Row], sheet: &Sheet) -> Result<PageDevice, Ro
     Ok(device)
 }
 
+/// The chips of a run of the first form.
+fn spanned_chips(rows: &[Row]) -> Result<PageDevice, ScriptFault>
+    ensures { spec.TellsSpanned rows.now result }
+{
+    let Some(shape) = shape(rows) else {
+        return Err(ScriptFault::Missing);
+    };
+    let Some(geometry) = geometry(rows) else {
+        return Err(ScriptFault::Missing);
+    };
+    let Some(timing) = timing(rows) else {
+        return Err(ScriptFault::Missing);
+    };
+    Ok(PageDevice {
+        geometry: geometry.geometry(shape),
+        timing,
+    })
+}
+
 /// The chips that the rows of a run tell of.
 ///
 /// # Errors
-/// `Missing` where no row has bytes of a page, else what is wrong with page, geometry or sheet; want of memory.
+/// `Missing` where no row has bytes of a page, and where the first form lacks its shape, its geometry or lengths of a kind;
+/// else what is wrong with page, geometry or sheet; want of memory.
 pub fn page_device(alloc: Global, rows: &[Row]) -> Result<PageDevice, RowStop>
     ensures { MatchResult result (λ device. spec.TellsChips rows.now (Ok device)) (λ stop. IfFault stop (λ fault. spec.TellsChips rows.now (Err fault))) }
 {
     let seen = Seen::of(rows);
-    chips_of(alloc, rows, &seen.sheet)
+    match seen.form {
+        Some(Form::First) => Ok(spanned_chips(rows)?),
+        None | Some(Form::Second) => paged_chips(alloc, rows, &seen.sheet),
+    }
 }
 
 /// The device of a script of the second form.
@@ -140,7 +174,7 @@ fn second_form(alloc: Global, rows: &[Row], sheet: &Sheet) -> Result<Device, Row
     requires { sheet.now ≡ (seen rows.now).sheet }
     ensures { Tells IfFault (λ device. device) result (spec.TellsSecond rows.now) }
 {
-    let PageDevice { geometry, timing } = chips_of(alloc, rows, sheet)?;
+    let PageDevice { geometry, timing } = paged_chips(alloc, rows, sheet)?;
     Ok(Device {
         luns: geometry.lun_count,
         plane_bits: geometry.plane_address_bits,

@@ -6,6 +6,7 @@
 
 mod alone;
 mod answering;
+mod arrays_told;
 mod choosing;
 mod command;
 mod count;
@@ -15,6 +16,7 @@ mod fault;
 mod field;
 mod forms;
 mod laws;
+mod layout;
 mod operation;
 mod parts;
 mod plan_line;

@@ -5,4 +5,6 @@ pub enum Purpose {
     Problem,
     /// Operations of hosts, which are run on channels.
     Run,
+    /// Operations of hosts, which are run on channels by a clock, from their moments of arrival on.
+    Clocked,
 }

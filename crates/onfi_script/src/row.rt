@@ -3,7 +3,7 @@ ghost use Rattle.std.specs.Prelude.{◌≡◌, ◌<◌, ◌≤◌, length, drop,
 ghost use Rattle.csv.specs.Records.{fields_of};
 ghost use Rattle.onfi_timing.specs.Lengths.{AreLengths};
 ghost use Rattle.onfi_script.specs.Row as spec;
-ghost use Rattle.onfi_script.specs.Seen.{form_in, sheet_in};
+ghost use Rattle.onfi_script.specs.Seen.{form_in, moment_in, sheet_in};
 ghost use Rattle.onfi_script.specs.Stop.{Gives, IfFault};
 ghost use Rattle.onfi_script.specs.Device.{HasLengths, bytes_in, is_page};
 ghost use Rattle.onfi_script.specs.Setup.{names_absent, want_in, members, plane_of as spec_plane_of};
@@ -14,6 +14,7 @@ use crate::choosing::Choosing;
 use crate::count::{Batch, Capacity, Few};
 use crate::fault::{RowStop, ScriptFault};
 use crate::field::{block, field, flag, hex_bytes, kind, lun, page, small, span, time, weight};
+use crate::layout::GeometryRow;
 use crate::operation::Operation;
 use crate::row_name::Form;
 use csv::ByteRecord;
@@ -211,6 +212,12 @@ pub enum Row {
         number: u32,
         length: u64,
     },
+    /// When the operations behind it arrive, up to the next such row; those before the first arrive at 0.
+    At {
+        moment: u64,
+    },
+    /// What a run asks of a device of the first form beside its shape.
+    Geometry(GeometryRow),
 }
 
 /// What a row settles for a script; two rows that settle the same don't go together.
@@ -231,6 +238,7 @@ pub enum Subject {
     PostCap,
     /// An operation of an array.
     Array { channel: u8, lun: u8, number: u32 },
+    Geometry,
 }
 
 impl Row {
@@ -254,7 +262,11 @@ impl Row {
             Row::Choice { .. } => Some(Subject::Choice),
             Row::SubmitCap { .. } => Some(Subject::SubmitCap),
             Row::PostCap { .. } => Some(Subject::PostCap),
-            Row::Op(_) | Row::Fault { .. } | Row::ChipFail { .. } | Row::NotReady { .. } => None,
+            Row::Op(_)
+            | Row::Fault { .. }
+            | Row::ChipFail { .. }
+            | Row::NotReady { .. }
+            | Row::At { .. } => None,
             Row::Array {
                 channel,
                 lun,
@@ -265,6 +277,7 @@ impl Row {
                 lun: *lun,
                 number: *number,
             }),
+            Row::Geometry(_) => Some(Subject::Geometry),
         }
     }
 
@@ -275,12 +288,22 @@ impl Row {
         matches!(self, Row::Op(_))
     }
 
+    /// The moment of arrival that it tells, in ns.
+    pub fn moment(&self) -> Option<u64>
+        ensures { result ≡ moment_in self.now }
+    {
+        match self {
+            Row::At { moment } => Some(*moment),
+            _ => None,
+        }
+    }
+
     /// The form whose row it is.
     pub fn form(&self) -> Option<Form>
         ensures { result ≡ form_in self.now }
     {
         match self {
-            Row::Shape(_) | Row::Spans(_) => Some(Form::First),
+            Row::Shape(_) | Row::Spans(_) | Row::Geometry(_) => Some(Form::First),
             Row::Page(_) | Row::Sheet(_) => Some(Form::Second),
             _ => None,
         }
@@ -372,7 +395,8 @@ impl Subject {
             | (Subject::Batch, Subject::Batch)
             | (Subject::Choice, Subject::Choice)
             | (Subject::SubmitCap, Subject::SubmitCap)
-            | (Subject::PostCap, Subject::PostCap) => true,
+            | (Subject::PostCap, Subject::PostCap)
+            | (Subject::Geometry, Subject::Geometry) => true,
             (Subject::Spans(kind), Subject::Spans(other)) => is_kind(kind, other),
             (Subject::Lun(lun), Subject::Lun(other)) => lun == other,
             (Subject::Weight(request), Subject::Weight(other)) => request == other,

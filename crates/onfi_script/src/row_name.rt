@@ -30,6 +30,8 @@ pub enum RowName {
     ChipFail,
     NotReady,
     Array,
+    At,
+    Geometry,
 }
 
 /// The two forms of a script.
@@ -109,6 +111,10 @@ impl RowName {
             Some(RowName::NotReady)
         } else if is_word(text, "array") {
             Some(RowName::Array)
+        } else if is_word(text, "at") {
+            Some(RowName::At)
+        } else if is_word(text, "geometry") {
+            Some(RowName::Geometry)
         } else {
             None
         }
@@ -120,13 +126,7 @@ impl RowName {
     {
         matches!(
             self,
-            RowName::Shape
-                | RowName::Spans
-                | RowName::Bus
-                | RowName::Free
-                | RowName::Running
-                | RowName::Want
-                | RowName::Weight
+            RowName::Bus | RowName::Free | RowName::Running | RowName::Want | RowName::Weight
         )
     }
 
@@ -134,7 +134,17 @@ impl RowName {
     fn is_of_both(self) -> bool
         ensures { result ≡ spec.is_of_both self }
     {
-        matches!(self, RowName::Page | RowName::Sheet | RowName::Strict)
+        matches!(
+            self,
+            RowName::Shape | RowName::Spans | RowName::Page | RowName::Sheet | RowName::Strict
+        )
+    }
+
+    /// Whether it is taken for a run by a clock alone.
+    fn is_of_clock(self) -> bool
+        ensures { result ≡ spec.is_of_clock self }
+    {
+        matches!(self, RowName::At)
     }
 
     /// Whether rows of this name are taken for that purpose.
@@ -143,7 +153,8 @@ impl RowName {
     {
         match purpose {
             Purpose::Problem => self.is_of_both() || self.is_of_problem(),
-            Purpose::Run => self.is_of_both() || !self.is_of_problem(),
+            Purpose::Run => self.is_of_both() || !(self.is_of_problem() || self.is_of_clock()),
+            Purpose::Clocked => self.is_of_both() || !self.is_of_problem(),
         }
     }
 
@@ -152,19 +163,39 @@ impl RowName {
         ensures { result ≡ spec.form_of self }
     {
         match self {
-            RowName::Shape | RowName::Spans => Some(Form::First),
+            RowName::Shape | RowName::Spans | RowName::Geometry => Some(Form::First),
             RowName::Page | RowName::Sheet => Some(Form::Second),
             _ => None,
         }
     }
 
     /// Whether its rows may stand in a script of that form; no form is known before the first row of one.
-    pub fn fits(self, form: Option<Form>) -> bool
+    fn fits(self, form: Option<Form>) -> bool
         ensures { result ≡ spec.fits (spec.form_of self) form }
     {
         match (self.form(), form) {
             (Some(own), Some(form)) => own.is(form),
             _ => true,
+        }
+    }
+
+    /// Whether it tells of a device of the first form that a problem can have too.
+    fn is_of_any_device(self) -> bool
+        ensures { result ≡ spec.is_of_any_device self }
+    {
+        matches!(self, RowName::Shape | RowName::Spans)
+    }
+
+    /// Whether its rows may stand in a script of that form and for that purpose: a run takes `shape` and `spans` behind a row
+    /// `geometry` alone.
+    pub fn stands(self, purpose: Purpose, form: Option<Form>) -> bool
+        ensures { result ≡ spec.stands purpose self form }
+    {
+        match purpose {
+            Purpose::Problem => self.fits(form),
+            Purpose::Run | Purpose::Clocked => {
+                self.fits(form) && (form.is_some() || !self.is_of_any_device())
+            }
         }
     }
 
@@ -182,13 +213,15 @@ impl RowName {
             | RowName::Batch
             | RowName::Choice
             | RowName::SubmitCap
-            | RowName::PostCap => count == 2,
+            | RowName::PostCap
+            | RowName::At => count == 2,
             RowName::Sheet
             | RowName::Free
             | RowName::Weight
             | RowName::ChipFail
             | RowName::NotReady => count == 3,
-            RowName::Shape | RowName::Want | RowName::Fault | RowName::Array => count == 5,
+            RowName::Shape | RowName::Want | RowName::Fault | RowName::Array | RowName::Geometry =>
+                count == 5,
             RowName::Spans => count == 6,
             RowName::Running => 7 <= count && count <= 10,
             RowName::Op => count == op_fields(row),

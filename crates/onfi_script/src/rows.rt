@@ -1,14 +1,17 @@
 //! The rows of a script, read from the top.
-ghost use Rattle.std.specs.Prelude.{◌≡◌, map, IsTrue};
+ghost use Rattle.std.specs.Prelude.{◌≡◌, [], ◌∷◌, ◌++◌, map, IsTrue, OnOk};
 ghost use Rattle.std.specs.List.{list_any};
 ghost use Rattle.csv.specs.Records.{fields_of};
+ghost use Rattle.onfi_script.specs.ArraysTold.{AreTold};
 ghost use Rattle.onfi_script.specs.Rows as spec;
 ghost use Rattle.onfi_script.specs.RowName.{has_fields};
 ghost use Rattle.onfi_script.specs.Stop.{Gives, IfFault, IfRefused};
 ghost use Rattle.onfi_script.specs.Subject.{settles, subject_of};
 
+use crate::arrays_told::ArraysTold;
 use crate::fault::{RowStop, ScriptFault, Stop};
 use crate::field::field;
+use crate::layout::geometry_row;
 use crate::purpose::Purpose;
 use crate::row::{
     Row, Subject, bus_row, free_row, page_row, running_row, shape_row, sheet_row, spans_row,
@@ -16,12 +19,12 @@ use crate::row::{
 };
 use crate::row_name::RowName;
 use crate::run_row::{
-    array_row, batch_row, channels_row, chip_fail_row, choice_row, fault_row, hosts_row,
+    array_row, at_row, batch_row, channels_row, chip_fail_row, choice_row, fault_row, hosts_row,
     not_ready_row, op_row, post_cap_row, submit_cap_row,
 };
 use crate::seen::Seen;
 use csv::ByteRecord;
-use std::alloc::Global;
+use std::alloc::{AllocError, Global};
 
 /// What row number `number` says, behind rows that show that much.
 fn said(
@@ -56,6 +59,8 @@ fn said(
         RowName::ChipFail => Ok(chip_fail_row(fields)?),
         RowName::NotReady => Ok(not_ready_row(fields)?),
         RowName::Array => Ok(array_row(fields)?),
+        RowName::At => Ok(at_row(seen.moment, fields)?),
+        RowName::Geometry => Ok(geometry_row(fields)?),
     }
 }
 
@@ -66,21 +71,30 @@ fn any_settles(rows: &[Row], subject: Subject) -> bool
     rows.iter().any(|row| row.settles(subject))
 }
 
-/// Whether an earlier row settles the same.
-fn is_settled(row: &Row, earlier: &[Row]) -> bool
+/// Whether an earlier row settles the same. All but operations of arrays are few, so that one of many rows is soon a second.
+fn is_settled(row: &Row, arrays: &ArraysTold, earlier: &[Row]) -> bool
+    requires { AreTold earlier.now arrays.now.names.keys }
     ensures { result ≡ spec.is_settled (subject_of row.now) earlier.now }
 {
     match row.subject() {
+        Some(
+            Subject::Array {
+                channel,
+                lun,
+                number,
+            },
+        ) => arrays.has(channel, lun, number),
         Some(subject) => any_settles(earlier, subject),
         None => false,
     }
 }
 
 /// The row, where no earlier row settles the same, and where an operation may come yet.
-fn admitted(ops_left: u16, earlier: &[Row], row: Row) -> Result<Row, RowStop>
+fn admitted(ops_left: u16, arrays: &ArraysTold, earlier: &[Row], row: Row) -> Result<Row, RowStop>
+    requires { AreTold earlier.now arrays.now.names.keys }
     ensures { Gives IfFault (λ r. r) result (spec.admitted ops_left earlier.now row) }
 {
-    if is_settled(&row, earlier) {
+    if is_settled(&row, arrays, earlier) {
         Err(RowStop::Fault(ScriptFault::Repeated))
     } else if row.is_op() && ops_left == 0 {
         Err(RowStop::Fault(ScriptFault::OutOfRange))
@@ -94,22 +108,34 @@ fn row_of(
     alloc: Global,
     purpose: Purpose,
     seen: &Seen,
+    arrays: &ArraysTold,
     earlier: &[Row],
     fields: &ByteRecord,
 ) -> Result<Row, RowStop>
+    requires { AreTold earlier.now arrays.now.names.keys }
     ensures { Gives IfFault (λ row. row) result (spec.row_of purpose seen.now earlier.now (fields_of fields.now)) }
 {
     let Some(name) = RowName::of(field(fields, 0)) else {
         return Err(RowStop::Fault(ScriptFault::UnknownRow));
     };
-    if !(name.is_taken(purpose) && name.fits(seen.form)) {
+    if !(name.is_taken(purpose) && name.stands(purpose, seen.form)) {
         return Err(RowStop::Fault(ScriptFault::NotHere));
     }
     if !name.has_fields(fields) {
         return Err(RowStop::Fault(ScriptFault::FieldCount));
     }
     let row = said(alloc, name, seen, earlier.len() + 1, fields)?;
-    admitted(seen.ops_left, earlier, row)
+    admitted(seen.ops_left, arrays, earlier, row)
+}
+
+/// Keeps a row behind the others, and with it the operation of an array that it tells of.
+fn keep(rows: &mut Vec<Row>, arrays: &mut ArraysTold, row: Row) -> Result<(), AllocError>
+    ensures rows { OnOk result (rows.new.items ≡ rows.old.items ++ row ∷ []) }
+    ensures arrays { OnOk result (AreTold rows.old.items arrays.old.names.keys → AreTold rows.new.items arrays.new.names.keys) }
+{
+    arrays.put(&row)?;
+    rows.push(row)?;
+    Ok(())
 }
 
 /// All rows, or the first that is refused.
@@ -119,11 +145,12 @@ pub fn rows(alloc: Global, purpose: Purpose, records: &[ByteRecord]) -> Result<V
 {
     let mut rows = Vec::new(alloc);
     let mut seen = Seen::nothing();
+    let mut arrays = ArraysTold::new(alloc);
     for (at, record) in records.iter().enumerate() {
-        match row_of(alloc, purpose, &seen, rows.as_slice(), record) {
+        match row_of(alloc, purpose, &seen, &arrays, rows.as_slice(), record) {
             Ok(row) => {
                 seen = seen.after(&row);
-                if rows.push(row).is_err() {
+                if let Err(AllocError) = keep(&mut rows, &mut arrays, row) {
                     return Err(Stop::Memory);
                 }
             }

@@ -155,6 +155,14 @@ pub fn array_row(row: &ByteRecord) -> Result<Row, ScriptFault>
     })
 }
 
+/// `at,NS`, behind a moment of arrival.
+pub fn at_row(before: u64, row: &ByteRecord) -> Result<Row, ScriptFault>
+    ensures { result ≡ spec.at_row before (fields_of row.now) }
+{
+    let moment = number(field(row, 1), before, (1 << 62) - 1)?;
+    Ok(Row::At { moment })
+}
+
 /// The only one of the bytes.
 fn only(bytes: &[u8]) -> Result<u8, ScriptFault>
     ensures { result ≡ spec.only bytes.now }

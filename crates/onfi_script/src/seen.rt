@@ -16,6 +16,8 @@ pub struct Seen {
     pub sheet: Sheet,
     /// How many operations may come.
     pub ops_left: u16,
+    /// When the operations arrive that come next, in ns.
+    pub moment: u64,
 }
 
 impl Seen {
@@ -27,6 +29,7 @@ impl Seen {
             form: None,
             sheet: Sheet::new(),
             ops_left: MOST_OPS,
+            moment: 0,
         }
     }
 
@@ -42,6 +45,7 @@ impl Seen {
             } else {
                 self.ops_left
             },
+            moment: row.moment().unwrap_or(self.moment),
         }
     }
 

@@ -1,5 +1,6 @@
 //! How much the wants of a script count.
 ghost use Rattle.std.specs.Prelude.{◌≡◌};
+ghost use Rattle.std.specs.List.{AllByRecursion as Each};
 ghost use Rattle.onfi_script.specs.Setup as spec;
 
 use crate::forms::row_on;
@@ -19,6 +20,7 @@ fn weight_of(rows: &[Row], request: u8) -> u16
 /// How much each want counts, as the rows tell; members of running groups count 1.
 pub fn weights(rows: &[Row]) -> Weights
     ensures wants { result.wants ≡ spec.weights rows.now }
+    ensures running { Each (Each (λ w. w ≡ 1)) result.running }
 {
     Weights {
         wants: [

@@ -16,7 +16,7 @@ passes_nothing q q' (inl (why, same)) = same
 passes_nothing q q' (inr p) = let known : 2 ^ 64 - 1 < 2 ^ 62 = p.passes.known in absurd (omega (arith, known))
 
 pub waits_never : (q q' : Seen) (until : ℕ) → Turned greatest q (turn.Waits until) q' → ⊥
-waits_never q q' until (mid, passes, (waits, same)) =
+waits_never q q' until (mid, passes, (waits, same), planned) =
     let behind : 2 ^ 64 - 1 < until = waits.behind in
     let bounded = waits.bounded in
     omega (arith, behind, bounded)
@@ -24,7 +24,7 @@ waits_never q q' until (mid, passes, (waits, same)) =
 -- Turns
 
 goes_at_once : (q : Seen) (answer : TurnAt) (q' : Seen) → PassesThenGoes greatest q answer q' → Goes greatest q answer q'
-goes_at_once q answer q' (mid, passes, goes) = subst (λ (x : Seen). Goes greatest x answer q') (passes_nothing q mid passes) goes
+goes_at_once q answer q' (mid, passes, goes, planned) = subst (λ (x : Seen). Goes greatest x answer q') (passes_nothing q mid passes) goes
 
 pub turned_at_once : (q : Seen) (answer : TurnAt) (q' : Seen) → Turned greatest q answer q' → TurnedAtOnce q answer q'
 turned_at_once q turn.Posted q' t = t
@@ -35,8 +35,8 @@ turned_at_once q turn.Accepted q' t = t
 turned_at_once q turn.Planned q' t = goes_at_once q turn.Planned q' t
 turned_at_once q (turn.Over opened) q' t = goes_at_once q (turn.Over opened) q' t
 turned_at_once q turn.Memory q' t = goes_at_once q turn.Memory q' t
-turned_at_once q turn.PostFull q' t = goes_at_once q turn.PostFull q' t
-turned_at_once q turn.Idle q' t = goes_at_once q turn.Idle q' t
+turned_at_once q turn.PostFull q' t = t
+turned_at_once q turn.Idle q' t = t
 turned_at_once q (turn.Waits until) q' t = waits_never q q' until t
 
 pub goes_now : (q : Seen) (answer : TurnAt) (q' : Seen) → Turned greatest q answer q' → GoesNow answer

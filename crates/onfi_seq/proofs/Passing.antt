@@ -1,8 +1,16 @@
 -- Time that passes: what it comes to, and what it keeps.
-use Rattle.std.proofs.Common.{◌≡◌, ℕ, suc, ◌+◌, ◌^◌, ◌<◌, ◌≤◌, inl, inr, Bool, false, List, Option, Some, None, Result, Ok, Err, IfOk, IfErr, refl, sym, ap, ◌∙◌, subst, arith}
-use Rattle.std.specs.Prelude.{IfSome, MatchOption, OnErr, is_some, max}
+use Rattle.std.proofs.Common.{◌≡◌, ℕ, zero, suc, ◌+◌, ◌-◌, ◌^◌, ◌<◌, ◌≤◌, inl, inr, Bool, true, false, List, [], ◌∷◌, ◌++◌, length, take, Option, Some, None, Result, Ok, Err, IfOk, IfErr, refl, sym, ap, ◌∙◌, subst, arith}
+use Rattle.std.specs.Prelude.{IfSome, MatchOption, if◌then◌else◌, OnErr, is_some, map, max, slice_get, slice_set}
+use Rattle.std.specs.List.{flat_map}
+use Rattle.std.proofs.Math.Seq.{take-nil}
+use Rattle.onfi_timing.specs.declared.spans.Spans.{Spans}
+use Rattle.onfi_timing.specs.declared.timing.Timing.{Timing}
+use Rattle.onfi_group.specs.Group.{group_spans, lun_of}
+use Rattle.onfi_problem.specs.declared.lun_state.LunState.{LunState}
+use Rattle.onfi_problem.specs.declared.lun_state.LunState.TheVariants.{Free, Running}
 use Rattle.onfi_problem.specs.Problem.{Problem}
-use Rattle.onfi_schedule.specs.Schedule.{Schedule}
+use Rattle.onfi_request.specs.declared.want.Want.{Want}
+use Rattle.onfi_schedule.specs.Schedule.{Placed, Schedule, group_phases, phases, phases_from, phases_left, rest_phases}
 use Rattle.onfi_chip.specs.Chip.{Chip, found_ready}
 use Rattle.onfi_core.specs.declared.event.Event.TheVariants as event
 use Rattle.onfi_core.specs.declared.half.passing.WaitRefusal.{WaitRefusal}
@@ -13,8 +21,10 @@ use Rattle.onfi_core.specs.declared.setup.Choice.TheVariants.{InOrder}
 use Rattle.onfi_core.specs.Reaching.{Reaches}
 use Rattle.onfi_core.specs.Refusals.{wait_outcome, waited_outcome}
 use Rattle.onfi_core.specs.State.{HalfState, ChannelState, Planning, quiet}
-use Rattle.onfi_core.specs.Steps.{Step, readied, ready_of, ready_refusal, wait_refusal, waited}
+use Rattle.onfi_core.specs.Steps.{Step, is_current, is_empty, luns_ready_by, none_left, nothing_to_plan, readied, ready_by, ready_of, ready_refusal, taken_next, unplanned, wait_lag, wait_refusal, waited}
+use Rattle.onfi_core.specs.Times.{later_group, later_starts}
 use Rattle.onfi_core.specs.View.{HalfView, WantsBy}
+use Rattle.onfi_core.proofs.HeldFor.{is_nil}
 use Rattle.onfi_core.proofs.Reaching.{step_reaches}
 use Rattle.onfi_core.proofs.Refused.{after_waiting, finds_ready, waiting_posts}
 use Rattle.onfi_lun.specs.declared.lanes.any_lun.AnyLun.{AnyLun}
@@ -23,7 +33,7 @@ use Rattle.onfi_seq.specs.declared.turn.TurnAt.{TurnAt}
 use Rattle.onfi_seq.specs.declared.turn.TurnAt.TheVariants as turn
 use Rattle.onfi_seq.specs.Driver.{Asks, AsksBelow, IsDriven, PassesTo, WaitsUntil, in_time}
 use Rattle.onfi_seq.specs.Sequencer.{Seen, channel_of}
-use Rattle.onfi_seq.specs.Turned.{Goes, LetsPass, TakesNothing, Turned}
+use Rattle.onfi_seq.specs.Turned.{Goes, LetsPass, Plans, PlansAtOnce, Rests, RestsAtOnce, TakesNothing, Turned}
 use Rattle.onfi_seq.proofs.Driving.{quiet_is}
 
 -- What time changes
@@ -81,6 +91,87 @@ module _ (old new : HalfView) (chip : Chip) (now : ℕ) (result : Result ℕ Wai
 
   pub waits_until : old.state.now.bus_free < now → WaitsUntil now old.setup (quiet old.state chip) (quiet new.state chip)
   waits_until before = waits_by result done refused unchanged waiting_step before
+
+-- Time neither adds a phase nor takes one away
+
+left_back : (by : ℕ) (timing : Timing) (lun : ℕ) (x : LunState) (ts : List ℕ) → phases_left timing lun x (later_starts by ts) ≡ [] → phases_left timing lun x ts ≡ []
+left_back by timing lun (Free since) ts none = refl
+left_back by timing lun (Running group next ready) [] none = refl
+left_back by timing lun (Running group next ready) (t ∷ ts) none = cc
+
+none_both : {A : Type 0} (xs ys : List A) → xs ++ ys ≡ [] → (xs ≡ []) × (ys ≡ [])
+none_both [] ys none = (refl, none)
+none_both (x ∷ xs) ys none = cc
+
+rest_back : (by : ℕ) (timing : Timing) (lun : ℕ) (luns : List LunState) (rest : List (List ℕ))
+    → rest_phases timing lun luns (map (later_starts by) rest) ≡ [] → rest_phases timing lun luns rest ≡ []
+rest_back by timing lun [] rest none = refl
+rest_back by timing lun (x ∷ luns) [] none = refl
+rest_back by timing lun (x ∷ luns) (ts ∷ rest) none =
+    let both = none_both (phases_left timing lun x (later_starts by ts)) _ none in
+    let a = left_back by timing lun x ts both.0 in
+    let b = rest_back by timing (lun + 1) luns rest both.1 in
+    rw (a, b) refl
+
+group_back : (by : ℕ) (timing : Timing) (g : Placed) → group_phases timing (later_group by g) ≡ [] → group_phases timing g ≡ []
+group_back by timing g none = from_back (group_spans timing g.members) (length g.members) g.starts none
+  where
+    from_back : (spans : Spans) (k : ℕ) (ts : List ℕ) → phases_from (lun_of g.members) spans k 0 (later_starts by ts) ≡ [] → phases_from (lun_of g.members) spans k 0 ts ≡ []
+    from_back spans k [] none = refl
+    from_back spans k (t ∷ ts) none = cc
+
+groups_back : (by : ℕ) (timing : Timing) (groups : List Placed) → flat_map (group_phases timing) (map (later_group by) groups) ≡ [] → flat_map (group_phases timing) groups ≡ []
+groups_back by timing [] none = refl
+groups_back by timing (g ∷ groups) none =
+    let both = none_both (group_phases timing (later_group by g)) _ none in
+    let a = group_back by timing g both.0 in
+    let b = groups_back by timing groups both.1 in
+    rw (a, b) refl
+
+nil_is : {A : Type 0} (xs : List A) → xs ≡ [] → is_empty xs ≡ true
+nil_is xs none = ap is_empty none
+
+pub waited_none : (moment : ℕ) (h : HalfState) → none_left (waited moment h) ≡ true → none_left h ≡ true
+waited_none moment h over =
+    let by = wait_lag moment h in
+    let both = none_both (rest_phases h.now.timing 0 h.now.luns (map (later_starts by) h.left.rest)) _ (is_nil _ over) in
+    let a = rest_back by h.now.timing 0 h.now.luns h.left.rest both.0 in
+    let b = groups_back by h.now.timing h.left.groups both.1 in
+    nil_is (phases h.now h.left) (rw (a, b) refl)
+
+state_ready : (moment : ℕ) (timing : Timing) (lun : ℕ) (x : LunState) (ts : List ℕ) → phases_left timing lun (ready_by moment x) ts ≡ phases_left timing lun x ts
+state_ready moment timing lun (Free since) ts = refl
+state_ready moment timing lun (Running group next ready) ts = refl
+
+set_ready : (moment : ℕ) (timing : Timing) (first lun : ℕ) (luns : List LunState) (rest : List (List ℕ)) (x : LunState) → slice_get luns lun ≡ Some x
+    → rest_phases timing first (slice_set luns lun (ready_by moment x)) rest ≡ rest_phases timing first luns rest
+set_ready moment timing first lun [] rest x there = refl
+set_ready moment timing first zero (y ∷ luns) [] x there = refl
+set_ready moment timing first zero (y ∷ luns) (ts ∷ rest) x there =
+    let same : y ≡ x = cc in
+    ap (λ ps. ps ++ rest_phases timing (first + 1) luns rest) (state_ready moment timing first x ts ∙ ap (λ (z : LunState). phases_left timing first z ts) (sym same))
+set_ready moment timing first (suc lun) (y ∷ luns) [] x there = refl
+set_ready moment timing first (suc lun) (y ∷ luns) (ts ∷ rest) x there =
+    ap (λ ps. phases_left timing first y ts ++ ps) (set_ready moment timing (first + 1) lun luns rest x there)
+
+luns_ready : (moment : ℕ) (timing : Timing) (lun : ℕ) (luns : List LunState) (rest : List (List ℕ)) (o : Option LunState) → slice_get luns lun ≡ o
+    → rest_phases timing 0 (luns_ready_by moment lun o luns) rest ≡ rest_phases timing 0 luns rest
+luns_ready moment timing lun luns rest None there = refl
+luns_ready moment timing lun luns rest (Some x) there = set_ready moment timing 0 lun luns rest x there
+
+pub readied_none : (lun : ℕ) (h : HalfState) → none_left (readied lun h) ≡ true → none_left h ≡ true
+readied_none lun h over =
+    let same = luns_ready h.now.bus_free h.now.timing lun h.now.luns h.left.rest (slice_get h.now.luns lun) refl in
+    sym (ap (λ ps. is_empty (ps ++ flat_map (group_phases h.now.timing) h.left.groups)) same) ∙ over
+
+module _ (old new : HalfView) (now : ℕ) where
+  pub waited_luns : (r : Result ℕ WaitRefusal) → WaitedAs old new now r → OnErr r (new ≡ old) → new.state.now.luns ≡ old.state.now.luns
+  waited_luns (Ok bus_free) (open', e, is) left = ap (λ (v : HalfView). v.state.now.luns) is
+  waited_luns (Err refusal) was left = ap (λ (v : HalfView). v.state.now.luns) left
+
+  pub waited_phases : (r : Result ℕ WaitRefusal) → WaitedAs old new now r → OnErr r (new ≡ old) → none_left new.state ≡ true → none_left old.state ≡ true
+  waited_phases (Ok bus_free) (open', e, is) left over = waited_none now old.state (sym (ap (λ (v : HalfView). none_left v.state) is) ∙ over)
+  waited_phases (Err refusal) was left over = sym (ap (λ (v : HalfView). none_left v.state) left) ∙ over
 
 -- A LUN is asked
 
@@ -162,10 +253,42 @@ module _ (q q' : Seen) (after : q' ≡ (record q.0 { half = q'.0.half }, q'.1)) 
       let is : q' ≡ (record q.0 { half = k }, q'.1) = after ∙ ap (λ (h : HalfState). let x : Seen = (record q.0 { half = h }, q'.1) in x) half_is in
       subst TakesNothing (sym is) (takes_still q k.now k.left k.outdated q'.1 t)
 
+-- nothing is to be planned before time passes where neither a phase is left behind it nor an item is to be planned
+
+current_is : (outdated over : Bool) → over ≡ true → (if outdated then over else true) ≡ true
+current_is true over is = is
+current_is false over is = refl
+
+taken_none : (s : Setup) (h : HalfState) → taken_next s h ≡ [] → is_current h ≡ true → nothing_to_plan s h ≡ true
+taken_none s h none current = ap (λ (ws : List Want). if is_empty ws then is_current h else false) none ∙ current
+
+pub nothing_before : (s : Setup) (c c' : ChannelState) → c' ≡ in_time c c' → none_left c.half ≡ true → taken_next s c'.half ≡ [] → nothing_to_plan s c.half ≡ true
+nothing_before s c c' kept over none =
+    let taken : taken_next s c.half ≡ [] = sym (ap (λ (x : ChannelState). taken_next s x.half) kept) ∙ none in
+    taken_none s c.half taken (current_is c.half.outdated (none_left c.half) over)
+
 -- What a turn comes to that takes no item in
 
-pub turned_then : (now : ℕ) (q mid : Seen) (answer : TurnAt) (q' : Seen) → LetsPass now q mid → Goes now mid answer q' → Turned now q answer q'
-turned_then now q mid turn.Posted q' passes goes = absurd goes
-turned_then now q mid (turn.Stopped cause) q' passes goes = inr (mid, passes, goes)
-turned_then now q mid turn.Accepted q' passes goes = absurd goes
-turned_then now q mid answer q' passes goes = (mid, passes, goes)
+none_next : (s : Setup) (h : HalfState) → unplanned s h ≡ [] → taken_next s h ≡ []
+none_next s h none = ap (take (h.batch - length h.now.wants)) none ∙ take-nil (h.batch - length h.now.wants)
+
+rests_here : (now : ℕ) (q mid : Seen) (answer : TurnAt) (q' : Seen) → RestsAtOnce q mid → Rests mid → Goes now mid answer q' → Goes now q answer q'
+rests_here now q mid answer q' still rests goes =
+    subst (λ (x : Seen). Goes now x answer q') (still rests.phases (none_next mid.0.setup mid.0.half rests.items)) goes
+
+pub turned_then : (now : ℕ) (q mid : Seen) (answer : TurnAt) (q' : Seen) → LetsPass now q mid → RestsAtOnce q mid → Goes now mid answer q'
+    → PlansAtOnce q mid answer q' → Turned now q answer q'
+turned_then now q mid turn.Posted q' passes still goes planned = absurd goes
+turned_then now q mid (turn.Stopped cause) q' passes still goes planned = inr (mid, passes, goes, planned)
+turned_then now q mid turn.Accepted q' passes still goes planned = absurd goes
+turned_then now q mid turn.PostFull q' passes still goes planned = rests_here now q mid turn.PostFull q' still goes.0 goes
+turned_then now q mid turn.Idle q' passes still goes planned = rests_here now q mid turn.Idle q' still goes.0 goes
+turned_then now q mid answer q' passes still goes planned = (mid, passes, goes, planned)
+
+-- a planning is what a turn does that takes no item in
+pub plans_go : (now : ℕ) (q : Seen) (answer : TurnAt) (q' : Seen) → Plans q answer q' → Goes now q answer q'
+plans_go now q (turn.Stopped cause) q' plans = inl plans
+plans_go now q turn.Planned q' plans = plans
+plans_go now q (turn.Over opened) q' plans = plans
+plans_go now q turn.Memory q' plans = inl plans
+plans_go now q _ q' plans = absurd plans

@@ -91,7 +91,7 @@ same_channel_all q q' q'' a b = record {
 }
 
 stays_then : (now : ℕ) (q : Seen) (answer : TurnAt) (q' : Seen) → PassesThenGoes now q answer q' → Stays q q'
-stays_then now q answer q' (mid, passes, goes) =
+stays_then now q answer q' (mid, passes, goes, planned) =
     let a = stays_passing now q mid passes in
     let b = stays_going now mid answer q' goes in
     record { same = same_channel_all q mid q' a.same b.same; short = λ short. b.short (a.short short) }
@@ -104,6 +104,8 @@ stays_by_turn now q (turn.Stopped cause) q' (inl (posts, stopped, is)) = stays_s
 stays_by_turn now q (turn.Stopped cause) q' (inr t) = stays_then now q (turn.Stopped cause) q' t
 stays_by_turn now q turn.Accepted q' t =
     stays_but q q' (accepting q.0.half t.item) q.0.refused q.0.short (λ short. short) (after_accepting q.0.intake t.item) q.0.posters q.1 refl refl refl t.after
+stays_by_turn now q turn.PostFull q' t = stays_going now q turn.PostFull q' t
+stays_by_turn now q turn.Idle q' t = stays_going now q turn.Idle q' t
 stays_by_turn now q answer q' t = stays_then now q answer q' t
 
 pub same_by_turn : (now : ℕ) (q : Seen) (answer : TurnAt) (q' : Seen) → Turned now q answer q' → IsSameChannel q q'
@@ -114,5 +116,5 @@ short_by_turn now q answer q' t = (stays_by_turn now q answer q' t).short
 
 -- what a turn without memory says
 pub short_by_memory : (now : ℕ) (q q' : Seen) → Turned now q turn.Memory q' → q'.0.short ≡ true
-short_by_memory now q q' (mid, passes, inl p) = ap (λ (x : Seen). x.0.short) p.after
-short_by_memory now q q' (mid, passes, inr (start, r)) = ap (λ (x : Seen). x.0.short) r.after
+short_by_memory now q q' (mid, passes, inl p, planned) = ap (λ (x : Seen). x.0.short) p.after
+short_by_memory now q q' (mid, passes, inr (start, r), planned) = ap (λ (x : Seen). x.0.short) r.after

@@ -116,6 +116,19 @@ pub record RunsTo (now start : ℕ) (q : Seen) (o : Outcome) (refused short : Bo
   pub step : (channel : ℕ) → Step q.0.setup (channel_of q) (event.Bus channel) o (channel_of q')
   pub after : q' ≡ (record q.0 { half = q'.0.half; refused = refused; short = short }, q'.1)
 
+-- a planning came to that answer
+abbrev pub Plans : Seen → TurnAt → Seen → Type 0
+Plans q (turn.Stopped cause) q' = PlansTo q (outcome.Stopped cause) q.0.refused q.0.short q'
+Plans q turn.Planned q' = (finish : ℕ) × PlansTo q (outcome.Planned finish) q.0.refused q.0.short q'
+Plans q (turn.Over opened) q' = PlansTo q (outcome.Over opened) true q.0.short q'
+Plans q turn.Memory q' = PlansTo q (outcome.Memory None) true true q'
+Plans q turn.Posted q' = ⊥
+Plans q turn.Accepted q' = ⊥
+Plans q turn.Phase q' = ⊥
+Plans q (turn.Waits until) q' = ⊥
+Plans q turn.PostFull q' = ⊥
+Plans q turn.Idle q' = ⊥
+
 -- what a turn does that takes no item in, once time has passed
 abbrev pub Goes : ℕ → Seen → TurnAt → Seen → Type 0
 Goes now q turn.Posted q' = ⊥
@@ -131,11 +144,20 @@ Goes now q (turn.Waits until) q' = WaitsFor now until q × (q' ≡ q)
 Goes now q turn.PostFull q' = Rests q × (q.0.half.held ≢ []) × (q' ≡ q)
 Goes now q turn.Idle q' = Rests q × (q.0.half.held ≡ []) × (q' ≡ q)
 
+-- why nothing is planned, whatever was found as time passed: the plan is that of the bus and the LUNs as they stand, or nothing of it is
+-- left; or a planning was refused since the last phase, and a phase is left
+abbrev pub PlansLater : Seen → Type 0
+PlansLater q = (nothing_to_plan q.0.setup q.0.half ≡ true) ⊎ ((q.0.refused ≡ true) × (none_left q.0.half ≡ false))
+
+-- a LUN that is ready is planned with at once: as time passed no LUN changed, or it was planned, or nothing is planned then
+abbrev pub PlansAtOnce : Seen → Seen → TurnAt → Seen → Type 0
+PlansAtOnce q mid answer q' = (mid.0.half.now.luns ≡ q.0.half.now.luns) ⊎ Plans mid answer q' ⊎ PlansLater mid
+
 -- time passes, then that is done
 abbrev pub PassesThenGoes : ℕ → Seen → TurnAt → Seen → Type 0
-PassesThenGoes now q answer q' = (mid : Seen) × LetsPass now q mid × Goes now mid answer q'
+PassesThenGoes now q answer q' = (mid : Seen) × LetsPass now q mid × Goes now mid answer q' × PlansAtOnce q mid answer q'
 
--- what each answer of a turn at the moment says
+-- what each answer of a turn at the moment says; where nothing is left to do no time passes
 abbrev pub Turned : ℕ → Seen → TurnAt → Seen → Type 0
 Turned now q turn.Posted q' = Posts q q'
 Turned now q (turn.Stopped cause) q' = (NothingPosts q 4 × (q.0.half.stopped ≡ Some cause) × (q' ≡ q)) ⊎ PassesThenGoes now q (turn.Stopped cause) q'
@@ -145,10 +167,14 @@ Turned now q (turn.Over opened) q' = PassesThenGoes now q (turn.Over opened) q'
 Turned now q turn.Phase q' = PassesThenGoes now q turn.Phase q'
 Turned now q turn.Memory q' = PassesThenGoes now q turn.Memory q'
 Turned now q (turn.Waits until) q' = PassesThenGoes now q (turn.Waits until) q'
-Turned now q turn.PostFull q' = PassesThenGoes now q turn.PostFull q'
-Turned now q turn.Idle q' = PassesThenGoes now q turn.Idle q'
+Turned now q turn.PostFull q' = Goes now q turn.PostFull q'
+Turned now q turn.Idle q' = Goes now q turn.Idle q'
 
 -- ---- inside a turn
+-- no time passes where nothing is left to do
+abbrev pub RestsAtOnce : Seen → Seen → Type 0
+RestsAtOnce q mid = none_left mid.0.half ≡ true → taken_next mid.0.setup mid.0.half ≡ [] → mid ≡ q
+
 -- what came of all held replies
 abbrev pub OfferedAll : Seen → Offer → Seen → Type 0
 OfferedAll q offer.Posted q' = Posts q q'

@@ -3,7 +3,7 @@
 //! program over readers and writers of its own needs.
 #![tactic(auto)]
 
-pub use onfi_console::{CommandName, Named, Parsed, RunPlanner, WordsFault, words};
+pub use onfi_console::{CommandName, Named, Parsed, RunPlanner, WordsFault, describe, words};
 pub use onfi_planners::{ChosenEarly, ChosenPlanner, ExactPlanner};
 pub use onfi_run::{NoGate, run_script};
 pub use onfi_script::{Command, EngineFault, Finding, Output, engine, engine_split};

@@ -1,7 +1,7 @@
 //! Time that passes.
 
-ghost use Rattle.std.specs.Prelude.{◌≡◌, ◌≤◌, ◌<◌, None, Some, IfSome, IfNone, true};
-ghost use Rattle.onfi_core.specs.Steps.{none_left};
+ghost use Rattle.std.specs.Prelude.{◌≡◌, ◌≤◌, ◌<◌, None, Some, IfSome, IfNone, true, false};
+ghost use Rattle.onfi_core.specs.Steps.{bus_refusal, none_left};
 ghost use Rattle.onfi_seq.specs.Driver.{Asks, AsksBelow, PassesTo, StartsNext, WaitsUntil, channel_in, in_time};
 
 use crate::driver::Driver;
@@ -17,6 +17,7 @@ impl<C: Chip, P: Planner> Driver<C, P> {
     pub(crate) fn next_start(&self, alloc: Global) -> Option<u64>
         ensures some { IfSome result (StartsNext self.now.0.half) }
         ensures none { IfNone result (self.now.0.half.stopped ≡ None → none_left self.now.0.half ≡ true) }
+        ensures left { IfSome result (λ _. bus_refusal self.now.0.half ≡ None) }
     {
         match self.half.due(alloc) {
             Ok(due) => Some(due.start),
@@ -31,6 +32,8 @@ impl<C: Chip, P: Planner> Driver<C, P> {
         ensures passed { PassesTo now self.old.0.setup (channel_in C.state self.old) (channel_in C.state self.new) }
         ensures kept { channel_in C.state self.new ≡ in_time (channel_in C.state self.old) (channel_in C.state self.new) }
         ensures setup { self.new.0.setup ≡ self.old.0.setup }
+        ensures found { result ≡ false → self.new.0.half.now.luns ≡ self.old.0.half.now.luns }
+        ensures phases { none_left self.new.0.half ≡ true → none_left self.old.0.half ≡ true }
     {
         if now >= END {
             return false;
@@ -47,6 +50,8 @@ impl<C: Chip, P: Planner> Driver<C, P> {
         ensures waited { WaitsUntil now self.old.0.setup (channel_in C.state self.old) (channel_in C.state self.new) }
         ensures kept { channel_in C.state self.new ≡ in_time (channel_in C.state self.old) (channel_in C.state self.new) }
         ensures setup { self.new.0.setup ≡ self.old.0.setup }
+        ensures luns { self.new.0.half.now.luns ≡ self.old.0.half.now.luns }
+        ensures phases { none_left self.new.0.half ≡ true → none_left self.old.0.half ≡ true }
     {
         if self.half.bus_free() < now {
             let _waited = self.half.wait(alloc, now);
@@ -58,6 +63,8 @@ impl<C: Chip, P: Planner> Driver<C, P> {
         ensures asked { AsksBelow self.old.0.setup self.old.0.setup.geometry.lun_count (channel_in C.state self.old) (channel_in C.state self.new) }
         ensures kept { channel_in C.state self.new ≡ in_time (channel_in C.state self.old) (channel_in C.state self.new) }
         ensures setup { self.new.0.setup ≡ self.old.0.setup }
+        ensures found { result ≡ false → self.new.0.half.now.luns ≡ self.old.0.half.now.luns }
+        ensures phases { none_left self.new.0.half ≡ true → none_left self.old.0.half ≡ true }
     {
         let luns = self.half.setup().geometry.lun_count;
         let mut found = false;
@@ -74,6 +81,8 @@ impl<C: Chip, P: Planner> Driver<C, P> {
         ensures asked { Asks self.old.0.setup lun (channel_in C.state self.old) (channel_in C.state self.new) }
         ensures kept { channel_in C.state self.new ≡ in_time (channel_in C.state self.old) (channel_in C.state self.new) }
         ensures setup { self.new.0.setup ≡ self.old.0.setup }
+        ensures found { result ≡ false → self.new.0.half.now.luns ≡ self.old.0.half.now.luns }
+        ensures phases { none_left self.new.0.half ≡ true → none_left self.old.0.half ≡ true }
     {
         if self.half.refuses_ready(lun).is_some() {
             return false;

@@ -5,7 +5,7 @@ ghost use Rattle.onfi_core.specs.Steps.{none_left, taken_next};
 ghost use Rattle.onfi_seq.specs.Driver.{StartsNext};
 ghost use Rattle.onfi_seq.specs.NoClock.{TurnedAtOnce, greatest, timed};
 ghost use Rattle.onfi_seq.specs.Sequencer.{IsRight, IsSameChannel, seen_in};
-ghost use Rattle.onfi_seq.specs.Turned.{Goes, IsGoing, IsRest, LetsPass, MayRunPhase, NothingPosts, OfferedAll, OfferedTo, Takes, TakesNothing, Turned, WhyNoItem, WhyNoPlan};
+ghost use Rattle.onfi_seq.specs.Turned.{Goes, IsGoing, IsRest, LetsPass, MayRunPhase, NothingPosts, OfferedAll, OfferedTo, Plans, PlansLater, RestsAtOnce, Takes, TakesNothing, Turned, WhyNoItem, WhyNoPlan};
 
 use crate::clockless::turn_of;
 use crate::gate::Gate;
@@ -122,19 +122,36 @@ impl<C: Chip, P: Planner> Sequencer<C, P> {
         ensures before { TakesNothing (seen_in C.state self.new) }
         ensures held { self.new.0.half.held ≡ self.old.0.half.held }
         ensures none { result ≡ false → taken_next self.new.0.setup self.new.0.half ≡ [] }
+        ensures luns { result ≡ false → self.new.0.half.now.luns ≡ self.old.0.half.now.luns }
+        ensures rests { RestsAtOnce (seen_in C.state self.old) (seen_in C.state self.new) }
     {
-        let stale = !self.driver.half().nothing_to_plan();
-        if !stale && self.is_on_time(alloc, now) {
+        let current = self.driver.half().nothing_to_plan();
+        let stale = !current;
+        if self.is_untold(alloc, now, current) {
             return false;
         }
         let found = self.driver.pass(alloc, now);
         found || stale
     }
 
+    // Whether nothing is told of the moment: the plan stands, and the next phase starts just then, or none is left.
+    fn is_untold(&self, alloc: Global, now: u64, current: bool) -> bool
+        requires { self.now.0.half.stopped ≡ None }
+        ensures current { IsTrue result → IsTrue current }
+        ensures on_time { IsTrue result → StartsNext self.now.0.half now ⊎ (none_left self.now.0.half ≡ true) }
+        ensures told { result ≡ false → none_left self.now.0.half ≡ true → current ≡ false }
+    {
+        if !current {
+            return false;
+        }
+        self.is_on_time(alloc, now)
+    }
+
     // Whether the next phase starts just then, or none is left.
     fn is_on_time(&self, alloc: Global, now: u64) -> bool
         requires { self.now.0.half.stopped ≡ None }
-        ensures { IsTrue result → StartsNext self.now.0.half now ⊎ (none_left self.now.0.half ≡ true) }
+        ensures on_time { IsTrue result → StartsNext self.now.0.half now ⊎ (none_left self.now.0.half ≡ true) }
+        ensures over { none_left self.now.0.half ≡ true → IsTrue result }
     {
         match self.driver.next_start(alloc) {
             Some(start) => start == now,
@@ -188,8 +205,9 @@ impl<C: Chip, P: Planner> Sequencer<C, P> {
     fn plan_once(&mut self, alloc: Global, stale: bool) -> Option<TurnAt>
         requires before { TakesNothing (seen_in C.state self.old) }
         requires stale { stale ≡ false → taken_next self.old.0.setup self.old.0.half ≡ [] }
-        ensures some { IfSome result (λ turn. (now : ℕ) → Goes now (seen_in C.state self.old) turn (seen_in C.state self.new)) }
+        ensures some { IfSome result (λ turn. Plans (seen_in C.state self.old) turn (seen_in C.state self.new)) }
         ensures none { IfNone result ((seen_in C.state self.new ≡ seen_in C.state self.old) × WhyNoPlan (seen_in C.state self.old)) }
+        ensures later { IfNone result ((stale ≡ false) ⊎ PlansLater (seen_in C.state self.old)) }
     {
         if !stale {
             return None;

@@ -1,8 +1,6 @@
 use Rattle.std.proofs.Common.{◌≡◌, ◌≤◌, refl, rules}
-use Rattle.std.proofs.lemmas.Result.{IfOk-weaker, IfErr-weaker}
-use Rattle.onfi_c.specs.Behind.{IsBehind, IsNotBehind, kept_behind}
-use Rattle.onfi_c.specs.Ran.{IsNotRan, IsRan, Kept, is_no_stand, is_over}
-use Rattle.onfi_c.proofs.Standing.{not_due, not_ran, ran_behind, too_soon}
+use Rattle.onfi_c.specs.Ran.{Kept, is_no_stand, is_over}
+use Rattle.onfi_c.proofs.Standing.{not_due, not_in_time, not_ran, ran_behind, too_soon}
 use Rattle.onfi_c.proofs.ran.ran_said.Goals as goal
 
 pub returns-in-Err-clause-none : goal.returns-in-Err-clause-none
@@ -24,26 +22,32 @@ returns-then-started-coming-clause-none c =
     too_soon old c.in-Ok.stand.problem.problem c.in-Ok.stand.schedule c.in-Some.coming c.args.lun c.args.number c.args.started c.in-Ok.ensures.stand c.in-Some.ensures.some lun_is number_is
     c.if-started-coming.true
 
-pub returns-clause-ran : goal.returns-clause-ran
-returns-clause-ran c =
+pub returns-in-Err-find_behind-clause-none : goal.returns-in-Err-find_behind-clause-none
+returns-in-Err-find_behind-clause-none c =
     let old : Kept = record { channel = c.args.channel.now; luns = c.args.luns.now; wants = c.args.wants.now; schedule = c.args.schedule.now } in
-    let p = c.in-Ok.stand.problem.problem in
-    let s = c.in-Ok.stand.schedule in
     let coming = c.in-Some.coming in
     let lun_is : coming.lun ≡ c.args.lun = search rules in
     let number_is : coming.number ≡ c.args.number = search rules in
     let on_time : coming.start ≤ c.args.started = search rules in
-    IfOk-weaker c.find_behind.result (IsBehind p s coming c.args.started c.args.wants.now) (λ b. IsRan old (kept_behind old c.args.lun b) c.args.lun c.args.number c.args.started)
-    (λ b h. ran_behind old p s coming c.args.lun c.args.number c.args.started b c.in-Ok.ensures.stand c.in-Some.ensures.some lun_is number_is on_time h) c.find_behind.ensures.behind
+    not_ran old c.in-Ok.stand.problem.problem c.in-Ok.stand.schedule coming c.args.lun c.args.number c.args.started c.in-Err-find_behind.status c.in-Ok.ensures.stand c.in-Some.ensures.some
+    lun_is number_is on_time c.in-Err-find_behind.ensures.none
+
+pub returns-in-Ok-look_at_times-clause-ran : goal.returns-in-Ok-look_at_times-clause-ran
+returns-in-Ok-look_at_times-clause-ran c =
+    let old : Kept = record { channel = c.args.channel.now; luns = c.args.luns.now; wants = c.args.wants.now; schedule = c.args.schedule.now } in
+    let coming = c.in-Some.coming in
+    let lun_is : coming.lun ≡ c.args.lun = search rules in
+    let number_is : coming.number ≡ c.args.number = search rules in
+    let on_time : coming.start ≤ c.args.started = search rules in
+    ran_behind old c.in-Ok.stand.problem.problem c.in-Ok.stand.schedule coming c.args.lun c.args.number c.args.started c.in-Ok-find_behind.behind c.in-Ok.ensures.stand c.in-Some.ensures.some
+    lun_is number_is on_time c.in-Ok-find_behind.ensures.behind c.bus_free-limits.ensures.limits c.in-Ok-look_at_times.ensures.in_time
 
 pub returns-clause-none : goal.returns-clause-none
 returns-clause-none c =
     let old : Kept = record { channel = c.args.channel.now; luns = c.args.luns.now; wants = c.args.wants.now; schedule = c.args.schedule.now } in
-    let p = c.in-Ok.stand.problem.problem in
-    let s = c.in-Ok.stand.schedule in
     let coming = c.in-Some.coming in
     let lun_is : coming.lun ≡ c.args.lun = search rules in
     let number_is : coming.number ≡ c.args.number = search rules in
     let on_time : coming.start ≤ c.args.started = search rules in
-    IfErr-weaker c.find_behind.result (IsNotBehind s coming c.args.started) (IsNotRan old c.args.lun c.args.number c.args.started)
-    (λ status h. not_ran old p s coming c.args.lun c.args.number c.args.started status c.in-Ok.ensures.stand c.in-Some.ensures.some lun_is number_is on_time h) c.find_behind.ensures.none
+    not_in_time old c.in-Ok.stand.problem.problem c.in-Ok.stand.schedule coming c.args.lun c.args.number c.args.started c.in-Ok-find_behind.behind c.in-Err-look_at_times.status
+    c.in-Ok.ensures.stand c.in-Some.ensures.some lun_is number_is on_time c.in-Ok-find_behind.ensures.behind c.in-Err-look_at_times.ensures.beyond

@@ -18,7 +18,7 @@ returns-clause-named c =
     let within : c.is_given-within.result ≡ spec.given (codes "within") rows = rw first_value-rows at c.is_given-within.ensures in
     let found : spec.finding_of (spec.given (codes "remember") rows) (spec.given (codes "within") rows) ≡ Some finding =
     sym (ap (λ r. spec.finding_of r c.is_given-within.result) remember ∙ ap (λ w. spec.finding_of (spec.given (codes "remember") rows) w) within) ∙ c.in_ok-finding.ensures in
-    let slacked = rw first_value-rows at c.in_ok-slack.ensures in
+    let slacked = rw first_value-rows at c.in_ok-slack.ensures.value in
     let usual = rw first_value-rows at c.in_ok-limit.ensures.value in
     let limited = subst (λ n. spec.IsLimit n (first_of (codes "limit") rows) limit) c.usual_for.ensures.value usual in
     let trace = rw first_value-rows at c.output_of-output.ensures in

@@ -16,7 +16,7 @@ returns-clause-named c =
     let searched : spec.search_of (spec.given (codes "plain") rows) (spec.given (codes "within") rows) ≡ Some search =
     sym (ap (λ p. spec.search_of p c.is_given-within.result) plain ∙ ap (λ w. spec.search_of (spec.given (codes "plain") rows) w) within) ∙ c.in_ok-search.ensures in
     let clock = rw first_value-rows at c.in_ok-clocked.ensures in
-    let slacked = rw first_value-rows at c.in_ok-slack.ensures in
+    let slacked = rw first_value-rows at c.in_ok-slack.ensures.value in
     let planner : c.run_planner-planner.result ≡ spec.run_planner search (unwrap_or slack 0) =
     c.run_planner-planner.ensures ∙ ap (λ n. spec.run_planner search n) c.unwrap_or.ensures in
     let named = rw first_value-rows at c.in_ok-limit.ensures.value in

@@ -1,6 +1,8 @@
-use Rattle.std.proofs.Common.{◌∙◌, map, sym, subst, arith}
+use Rattle.std.proofs.Common.{◌∙◌, ap, map, sym, subst, arith}
 use Rattle.std.specs.List.{AllZip}
 use Rattle.onfi_run.specs.Answers.{AddsReplies}
+use Rattle.onfi_run.specs.Ending.{channel_end}
+use Rattle.onfi_run.specs.Finishing.{are_complete}
 use Rattle.onfi_run.proofs.Collecting.{or_either}
 use Rattle.onfi_run.proofs.Links.{ends_are, still_ends}
 use Rattle.onfi_run.proofs.finishing.close_channel.Goals as goal
@@ -29,3 +31,17 @@ returns-clause-short g c =
     let drained = c.drain-drained in
     or_either c.args.short_of_memory (g.C.Channel.short c.args.lane.channel) drained.result.short_of_memory c.conclude.result.short_of_memory
     c.conclude.ensures.short drained.ensures.short
+
+pub returns-clause-concludes : goal.returns-clause-concludes
+returns-clause-concludes g c =
+    let ends = c.ends_of-hosts in
+    let drained = c.drain-drained in
+    let done = c.conclude in record {
+      drained = drained.result;
+      inboxes = drained.new.inboxes;
+      drained_so = (drained.new.self, rw (sym ends.ensures.hosts, sym ends.ensures.inboxes) drained.ensures.drained);
+      after = c.empty_all.new.inboxes;
+      emptied = rw (sym ends.ensures.answers, done.ensures.got) c.empty_all.ensures.got;
+      end_is = done.ensures.end ∙ ap (λ g. channel_end drained.result.end c.args.lane.ended (are_complete g) done.result.short_of_memory) (sym done.ensures.got);
+      short_is = done.ensures.short;
+    }

@@ -1,10 +1,8 @@
-use Rattle.std.proofs.Common.{ℕ, None, sym, ap, ◌∙◌, map, take, arith}
-use Rattle.std.specs.List.{fold}
-use Rattle.std.proofs.lemmas.List.{length-map}
-use Rattle.std.proofs.lemmas.List.Sums.{fold_more}
-use Rattle.onfi_run.specs.declared.lane.Lane.{Lane}
-use Rattle.onfi_run.specs.Pace.{due_of, sooner}
+use Rattle.std.proofs.Common.{◌≡◌, ◌<◌, ◌++◌, ◌∙◌, ℕ, [], ◌∷◌, get_or, length, map, sym, subst, take, ap, arith}
+use Rattle.std.proofs.lemmas.List.{length-map, take_all, take_more}
 use Rattle.std.proofs.Math.ListN.{get_or-map}
+use Rattle.onfi_run.specs.declared.lane.Lane.{Lane}
+use Rattle.onfi_run.specs.Pace.{IsNext, due_of}
 use Rattle.onfi_run.proofs.simulation.next_moment.Goals as goal
 
 pub loop-lane-preserved : goal.loop-lane-preserved
@@ -15,9 +13,13 @@ loop-lane-preserved g c =
     let due : Lane g.row.C.Denot → ℕ = λ x. due_of x.pace (g.C.Channel.free x.channel) in
     let d = c.lane-item.result in
     let dues = map due lanes in
-    let had = fold (sooner now) None (take at dues) in
-    let here = c.due.ensures ∙ ap due c.lane-item.is ∙ sym (get_or-map due lanes at d) in (
-      c.sooner-next.ensures.is ∙ ap (λ o. sooner now o c.due.result) c.loop-lane.invariant.0 ∙ ap (sooner now had) here
-          ∙ sym (fold_more (sooner now) None dues at (due d) (omega (arith, length-map lanes due, c.loop-lane-test.true))),
-      c.sooner-next.ensures.later c.loop-lane.invariant.1,
-    )
+    let within : at < length dues = omega (arith, length-map lanes due, c.loop-lane-test.true) in
+    let here : c.due.result ≡ get_or dues at (due d) = c.due.ensures ∙ ap due c.lane-item.is ∙ sym (get_or-map due lanes at d) in
+    let more = subst (λ x. IsNext now (take at dues ++ x ∷ []) c.sooner-next.result) here (c.sooner-next.ensures (take at dues) c.loop-lane.invariant) in
+    subst (λ l. IsNext now l c.sooner-next.result) (sym (take_more dues at (due d) within)) more
+
+pub returns : goal.returns
+returns g c =
+    let due : Lane g.row.C.Denot → ℕ = λ x. due_of x.pace (g.C.Channel.free x.channel) in
+    let dues = map due c.args.lanes.now in
+    subst (λ l. IsNext c.args.now l c.loop-lane.next) (take_all c.loop-lane.lane-index dues (omega (arith, length-map c.args.lanes.now due, c.loop-lane-test.false))) c.loop-lane.invariant

@@ -1,8 +1,9 @@
 use Rattle.std.proofs.Common.{◌≡◌, map}
 use Rattle.onfi_run.specs.Keys.{HaveSamePorts}
+use Rattle.onfi_run.specs.Moments.{AllAtMoment}
 use Rattle.onfi_run.proofs.simulation.settle.Given as goal
 
 abbrev pub invariant-loop : goal.invariant-loop
 invariant-loop g l =
     (map (λ x. g.C.Channel.queues x.channel) l.lanes.items ≡ map (λ x. g.C.Channel.queues x.channel) l.fn.lanes.items)
-    × HaveSamePorts l.fn.stations l.stations
+    × HaveSamePorts l.fn.stations l.stations × AllAtMoment l.now l.fn.stations l.stations

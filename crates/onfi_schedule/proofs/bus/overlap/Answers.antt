@@ -1,7 +1,9 @@
-use Rattle.std.proofs.Common.{◌+◌, refl, subst}
+use Rattle.std.proofs.Common.{◌+◌, List, inl, refl, subst, sym}
 use Rattle.onfi_schedule.specs.declared.slot.Slot.{Slot}
-use Rattle.onfi_schedule.specs.Tells.{EitherMeets}
-use Rattle.onfi_schedule.proofs.Overlaps.{has_taken, pair_at, tells_met}
+use Rattle.onfi_schedule.specs.Names.{Named}
+use Rattle.onfi_schedule.specs.Slots.{named_slot}
+use Rattle.onfi_schedule.specs.Tells.{ArePair}
+use Rattle.onfi_schedule.proofs.Twos.{has_taken, pair_at, pair_mapped}
 use Rattle.onfi_schedule.proofs.bus.overlap.Goals as goal
 
 pub returns-in-Some-clause-told : goal.returns-in-Some-clause-told
@@ -10,6 +12,6 @@ returns-in-Some-clause-told c = λ p s e.
     let at = c.loop-at.at in
     let slot = c.index-slots-at.result in
     let other = c.in-Some.other in
-    tells_met p s slot.phase other.phase c.meeting.result c.meeting.ensures.told (λ start from to t.
-    rw e (pair_at (EitherMeets start from to) slots at (at + 1) slot other refl c.loop-at-test.true (has_taken _ _ other c.in-Some.ensures.there)
-    (subst (λ (z : Slot). EitherMeets start from to z.phase other.phase) c.index-slots-at.is t)))
+    let pair : ArePair slots slot other =
+    subst (λ (z : Slot). ArePair slots z other) (sym c.index-slots-at.is) (pair_at slots at (at + 1) slot other refl c.loop-at-test.true (has_taken _ _ other c.in-Some.ensures.there)) in
+    c.meeting.ensures.told p s (inl (subst (λ (xs : List Named). ArePair xs (named_slot slot) (named_slot other)) (sym e) (pair_mapped named_slot slots slot other pair)))

@@ -12,3 +12,6 @@ returns-then-is_some-4-clause-told c = c.unknown-breach.ensures.told c.args.prob
 
 pub returns-clause-told : goal.returns-clause-told
 returns-clause-told c = c.missing_or_repeated.ensures.told c.args.problem.now.problem c.args.schedule.now (sym (c.as_slice-2.ensures.value ∙ c.waiting_wants-wants.ensures)) (sym c.groups-groups.ensures)
+
+pub returns-then-is_some-2-clause-told : goal.returns-then-is_some-2-clause-told
+returns-then-is_some-2-clause-told c = c.rest_count-breach.ensures.told c.args.problem.now.problem c.args.schedule.now c.requires (sym c.luns_and_groups.ensures.states) (sym c.rest-2.ensures)

@@ -23,3 +23,9 @@ pub returns-clause-broken : goal.returns-clause-broken
 returns-clause-broken c =
     let n = rw (c.timing-timing.ensures, c.groups.ensures) at c.in_groups.ensures.none in
     is_broken c.args.problem.now.problem c.args.schedule.now keeps_waits c.in_groups.result _ n (λ h. h.groups_wait) c.in_groups.ensures.about
+
+pub returns-then-is_some-clause-told : goal.returns-then-is_some-clause-told
+returns-then-is_some-clause-told c = c.in_rest-breach.ensures.told c.args.problem.now.problem c.args.schedule.now (sym c.timing-timing.ensures) (sym c.luns_and_groups.ensures.states) (sym c.rest.ensures)
+
+pub returns-clause-told : goal.returns-clause-told
+returns-clause-told c = c.in_groups.ensures.told c.args.problem.now.problem c.args.schedule.now (sym c.timing-timing.ensures) (sym c.groups.ensures)

@@ -1,4 +1,4 @@
-use Rattle.std.proofs.Common.{◌≡◌, ℕ, zero, suc, ◌<◌, ◌↔◌, List, [], ◌∷◌, length, Some, slice_index_or, refl, subst, arith}
+use Rattle.std.proofs.Common.{◌≡◌, ℕ, zero, suc, ◌<◌, ◌↔◌, List, [], ◌∷◌, length, Some, slice_index_or, refl, ap, ◌∙◌, subst, arith}
 use Rattle.std.specs.Prelude.{slice_get}
 use Rattle.onfi_request.specs.declared.want.Want.{Want}
 use Rattle.onfi_group.specs.Group.{lun_of}
@@ -23,3 +23,9 @@ since_at B table luns g i d within here own =
 
 pub returns-clause-none : goal.returns-clause-none
 returns-clause-none c = since_at _ c.args.table.now c.args.luns.now c.args.group.now c.lun-place.result _ c.if-place-luns.false (cc) (c.before_free.ensures.none c.args.table.now)
+
+pub returns-clause-told : goal.returns-clause-told
+returns-clause-told c = λ p s el there.
+    let place = c.lun-place.result in
+    let here : place ≡ lun_of c.args.group.now.members = cc in
+    c.before_free.ensures.told c.args.table.now p s there (rw (← here) (ap (λ z. slice_get z place) el ∙ state_at c.args.table.now c.args.luns.now place _ c.if-place-luns.false))

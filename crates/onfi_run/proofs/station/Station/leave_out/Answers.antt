@@ -1,6 +1,7 @@
-use Rattle.std.proofs.Common.{ap, ◌∙◌, arith}
+use Rattle.std.proofs.Common.{ap, ◌∙◌, subst, arith}
 use Rattle.std.proofs.Math.Seq.{map-set_same}
-use Rattle.onfi_run.specs.Keys.{port_key}
+use Rattle.onfi_run.specs.Keys.{LeavesOut, port_key}
+use Rattle.onfi_run.proofs.Moments.{none_went, there_went}
 use Rattle.onfi_run.proofs.Sends.{none_there, one_more}
 use Rattle.onfi_run.proofs.station.Station.leave_out.Goals as goal
 
@@ -17,3 +18,11 @@ returns-then-channel-len-clause-left c requests request sending =
 pub returns-else-channel-len-clause-left : goal.returns-else-channel-len-clause-left
 returns-else-channel-len-clause-left c requests request sending =
     none_there requests c.args.self.now.ports.items c.args.channel request (omega (arith, c.if-channel-len.false, c.len.ensures)) sending
+
+pub returns-then-channel-len-clause-leaves : goal.returns-then-channel-len-clause-leaves
+returns-then-channel-len-clause-leaves c =
+    there_went LeavesOut c.args.self.now.ports.items c.args.channel c.index_mut.result.now c.leave_out.new.self (omega (arith, c.if-channel-len.true, c.len.ensures))
+    (subst (λ p. LeavesOut p c.leave_out.new.self) c.index_mut.ensures.value c.leave_out.ensures.nothing)
+
+pub returns-else-channel-len-clause-leaves : goal.returns-else-channel-len-clause-leaves
+returns-else-channel-len-clause-leaves c = none_went LeavesOut c.args.self.now.ports.items c.args.channel (omega (arith, c.if-channel-len.false, c.len.ensures))

@@ -30,3 +30,9 @@ returns-clause-kept g c =
     let mid = channel_in g.C.Chip.state c.wait.new.self in
     let new = channel_in g.C.Chip.state c.ask_all.new.self in
     in_time_all old mid new c.wait.ensures.kept c.ask_all.ensures.kept
+
+pub returns-clause-found : goal.returns-clause-found
+returns-clause-found g c none = c.ask_all.ensures.found none ∙ c.wait.ensures.luns
+
+pub returns-clause-phases : goal.returns-clause-phases
+returns-clause-phases g c over = c.wait.ensures.phases (c.ask_all.ensures.phases over)

@@ -1,0 +1,10 @@
+use Rattle.std.proofs.lemmas.Option.{slice_get-get_or}
+use Rattle.onfi_schedule.proofs.Telling.{wait_told}
+use Rattle.onfi_schedule.proofs.waits.in_group.Goals as goal
+
+pub returns-then-start-floor-clause-told : goal.returns-then-start-floor-clause-told
+returns-then-start-floor-clause-told c = λ p s es work.
+    let w = c.args.work.now in
+    let inv = c.loop-start.invariant in
+    wait_told p s w.spans w.lun c.args.members.now w.next c.args.floor c.loop-start.floor c.args.starts.now c.loop-start.start-index c.loop-start.number _ _
+    es work inv.number (slice_get-get_or c.args.starts.now c.loop-start.start-index _ c.loop-start-test.true) c.if-start-floor.true inv.first inv.behind c.not_ready.ensures.first c.not_ready.ensures.later

@@ -1,0 +1,53 @@
+"""How a tool ends: by its status, and without a word where nobody reads any more what it prints."""
+
+from __future__ import annotations
+
+import os
+import select
+import sys
+from pathlib import Path
+from typing import Callable, NoReturn, Optional, Union
+
+# What a shell tells of a program that the closed pipe itself ended.
+CLOSED = 141
+
+Status = Union[int, str, None]
+
+
+def end(main: Callable[[], Optional[int]]) -> NoReturn:
+    """Runs a tool, and ends with its status: 141 where the pipe is closed that it prints to, 1 where the last of it can't be written."""
+    try:
+        status = status_of(main)
+    except BrokenPipeError:
+        if not nobody_reads():
+            raise
+        status = CLOSED
+    sys.exit(written(status, Path(main.__code__.co_filename).name))
+
+
+def status_of(main: Callable[[], Optional[int]]) -> Status:
+    try:
+        return main()
+    except SystemExit as ended:
+        return ended.code
+
+
+def nobody_reads() -> bool:
+    """Whether standard output is a pipe that no one has open for reading."""
+    output = select.poll()
+    output.register(sys.stdout.fileno(), 0)
+    return any(told & select.POLLERR for _, told in output.poll(0))
+
+
+def written(status: Status, name: str) -> Status:
+    """The status once all is written that was printed; Python would try it again at the exit, and tell of it in its own way."""
+    try:
+        sys.stdout.flush()
+    except OSError as wrong:
+        os.dup2(os.open(os.devnull, os.O_WRONLY), sys.stdout.fileno())
+        if isinstance(wrong, BrokenPipeError):
+            return CLOSED
+        if not status:
+            print(f"{name}: {wrong}", file=sys.stderr)
+        return status or 1
+    return status
