@@ -470,12 +470,21 @@ static bool put_words(int count, char **texts, words *w)
 
 /* What help lists: of each word what it may be, the usual value first. */
 
+static void print_name(const char *name)
+{
+    unsigned length = 0;
+    while (name[length])
+        length++;
+    printf("  %s%.*s", name, length < 10 ? (int)(10 - length) : 1, "          ");
+}
+
 static void print_choice(unsigned at)
 {
-    printf("  %-9s %s", CHOSEN[at].name, CHOSEN[at].value[0]);
+    print_name(CHOSEN[at].name);
+    printf("%s", CHOSEN[at].value[0]);
     for (unsigned value = 1; value < 4 && *CHOSEN[at].value[value]; value++)
         printf(", %s", CHOSEN[at].value[value]);
-    putchar('\n');
+    printf("\n");
 }
 
 static void print_choices(void)
@@ -484,19 +493,28 @@ static void print_choices(void)
         print_choice(at);
 }
 
+static void print_number(const char *before, double number)
+{
+    printf("%s%.*f", before, floor(number) == number ? 0 : 3, number);
+}
+
 static void print_numbers(void)
 {
-    for (unsigned at = 0; at < NUMBERS; at++)
-        printf("  %-9s %g; %s from %g to %.10g\n", NUMBER[at].name, NUMBER[at].usual, NUMBER[at].is_whole ? "a whole number" : "a number",
-               NUMBER[at].least, NUMBER[at].most);
+    for (unsigned at = 0; at < NUMBERS; at++) {
+        print_name(NUMBER[at].name);
+        print_number("", NUMBER[at].usual);
+        print_number(NUMBER[at].is_whole ? "; a whole number from " : "; a number from ", NUMBER[at].least);
+        print_number(" to ", NUMBER[at].most);
+        printf("\n");
+    }
 }
 
 static void print_words(void)
 {
-    puts("firmware [NAME VALUE].., of these names; the value named first is the usual one:");
+    printf("firmware [NAME VALUE].., of these names; the value named first is the usual one:\n");
     print_choices();
     print_numbers();
-    puts("  array     1-1; two shares from 0 to 1, the lesser one first");
+    printf("  array     1-1; two shares from 0 to 1, the lesser one first\n");
 }
 
 static planning planning_of(const words *w)

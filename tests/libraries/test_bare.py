@@ -26,6 +26,7 @@ RUNS = [
     "requests 200 device slc load 0.7 array 0.4-0.7 ends yes",
     "way greedy requests 1000 device qlc late 700 slow 90 ends yes",
     "luns 9",
+    "help",
 ]
 NUMBERS = """\
 #include <stdio.h>

@@ -20,6 +20,14 @@ from onfi_tools.device import Spans  # noqa: E402
 
 load = load_tool
 
+# What a make that runs these tests hands on to its commands, and what would name another place or processor.
+HANDED_ON = ("MAKEFLAGS", "MAKELEVEL", "MFLAGS", "PREFIX", "DESTDIR", "TARGET")
+
+
+def plain_environment() -> Dict[str, str]:
+    return {name: value for name, value in os.environ.items() if name not in HANDED_ON}
+
+
 SCRIPTS = {
     "batch": "examples/batch.onfi",
     "diagram": "examples/diagram.onfi",

@@ -2,14 +2,12 @@
 
 from __future__ import annotations
 
-import os
 import shutil
 import subprocess
 import sys
 import tempfile
 import unittest
 from pathlib import Path
-from typing import Dict
 
 import support
 from onfi_tools.kit import NONE
@@ -42,8 +40,8 @@ class WithoutKit(unittest.TestCase):
             (self.top / name).symlink_to(support.ROOT / name)
 
     def ran(self, *words: str) -> "subprocess.CompletedProcess[str]":
-        room: Dict[str, str] = {name: value for name, value in os.environ.items() if name not in ("PREFIX", "DESTDIR", "TARGET", "MAKEFLAGS")}
-        return subprocess.run(words, cwd=self.top, env={**room, "PATH": str(self.path)}, capture_output=True, text=True)
+        room = {**support.plain_environment(), "PATH": str(self.path)}
+        return subprocess.run(words, cwd=self.top, env=room, capture_output=True, text=True)
 
     def test_make_says_so_in_a_line(self) -> None:
         for goal in GOALS:

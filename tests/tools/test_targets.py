@@ -27,13 +27,9 @@ unsigned onfi_plan(void) { rattle_dealloc(rattle_realloc(rattle_alloc(0, 8).bloc
 """
 
 
-# What a make that runs these tests hands on to its commands, and what would name another place or processor.
-HANDED_ON = ("MAKEFLAGS", "MAKELEVEL", "MFLAGS", "PREFIX", "DESTDIR", "TARGET")
-
-
 def make(*words: str) -> "subprocess.CompletedProcess[str]":
-    plain = {name: value for name, value in os.environ.items() if name not in HANDED_ON}
-    return subprocess.run(["make", "--no-print-directory", *words], cwd=support.ROOT, env=plain, capture_output=True, text=True)
+    command = ["make", "--no-print-directory", *words]
+    return subprocess.run(command, cwd=support.ROOT, env=support.plain_environment(), capture_output=True, text=True)
 
 
 def run(*words: str) -> "subprocess.CompletedProcess[str]":
