@@ -196,6 +196,25 @@ class Runs(unittest.TestCase):
         first = ["read,*FF", "read,*FF", "done", "done", "read,*FF", "read,*03", "done", "read,*06"]
         self.assertEqual(told, [*first, "read,*FF", "read,*FF", "done", "done", "read,*03", "read,*03"])
 
+    @unittest.skipUnless(support.program(), "no built program")
+    def test_requests_arrive_at_their_moments(self) -> None:
+        """No reply comes before its request, and of the first one of each channel it is known when it comes."""
+        script = support.run_tool("make-workload", TRACE, "--device", DEVICE, "--channels", "2", "--unit", "us").stdout
+        ran = support.run_program("run", "--clock", "simulated", given=script)
+        self.assertEqual(ran.returncode, 0, ran.stderr)
+        ends = [(int(host), int(at)) for host, at in re.findall(r"^reply,(\d),\d,\d+,(\d+),", ran.stdout, re.MULTILINE)]
+        arrive: Dict[int, List[int]] = {0: [], 1: []}
+        moment = 0
+        for row in script.splitlines():
+            moment = int(row[3:]) if row.startswith("at,") else moment
+            if row.startswith("op,"):
+                arrive[int(row[3])].append(moment)
+        for host, times in arrive.items():
+            told = [at for found, at in ends if found == host]
+            self.assertEqual(len(told), len(times))
+            self.assertTrue(all(came < at for came, at in zip(times, told)), (host, times, told))
+            self.assertGreater(max(told), max(times))
+
 
 class Read(unittest.TestCase):
     def test_the_lines_of_a_trace(self) -> None:

@@ -1,12 +1,11 @@
 //! What is said beside an answer of what a plan doesn't look at in a parameter page.
-use crate::device::page_bytes;
 use crate::fields::{field, number_beyond};
 use crate::input::Input;
 use crate::place::{line_of, row_text};
 use csv::ByteRecord;
 use onfi_addr::Geometry;
 use onfi_param::read_page;
-use onfi_script::{Purpose, Row, page_device, read_rows, script_len};
+use onfi_script::{Purpose, Row, page_bytes, page_device, read_rows, script_len};
 use onfi_timing::read_records;
 use std::alloc::{AllocError, Global};
 

@@ -1,18 +1,17 @@
 //! What a parameter page says of its device.
 ghost use Rattle.std.specs.Prelude.{◌≡◌, ◌++◌, IfOk, MatchResult, OnOk, string_bytes};
-ghost use Rattle.std.specs.List.{list_any};
 ghost use Rattle.onfi_param.specs.Copies.{IsFirstCopy};
 ghost use Rattle.onfi_script.specs.AnswerOf.{answer_of};
 ghost use Rattle.onfi_script.specs.Answer.{whole};
-ghost use Rattle.onfi_script.specs.Device.{is_page, page_bytes as spec_page_bytes, TellsDevice};
+ghost use Rattle.onfi_script.specs.Device.{page_bytes as spec_page_bytes, TellsDevice};
 ghost use Rattle.onfi_script.specs.Stop.{IfFault};
 ghost use Rattle.onfi_script.specs.Text.{refused as spec_refused};
 ghost use Rattle.onfi_console.specs.Described as spec;
 
 use onfi_param::{ParamPage, read_page};
 use onfi_script::{
-    Answer, Device, Purpose, Refusal, Row, RowStop, ScriptFault, Stop, device_of, put_number,
-    read_rows, refused,
+    Answer, Device, Purpose, Refusal, Row, RowStop, ScriptFault, Stop, device_of, has_page,
+    page_bytes, put_number, read_rows, refused,
 };
 use onfi_timing::Spans;
 use std::alloc::{AllocError, Global};
@@ -223,24 +222,6 @@ fn described(
     put_rows(alloc, &mut text, device)?;
     let text = text.into_bytes();
     Ok(Answer { text, status: 0 })
-}
-
-/// All bytes of the page, joined.
-pub fn page_bytes(alloc: Global, rows: &[Row]) -> Result<Vec<u8>, AllocError>
-    ensures { IfOk result (λ v. v.items ≡ spec_page_bytes rows.now) }
-{
-    let mut bytes = Vec::new(alloc);
-    for row in rows {
-        bytes.extend_from_slice(row.bytes())?;
-    }
-    Ok(bytes)
-}
-
-/// Whether there are bytes of the page.
-fn has_page(rows: &[Row]) -> bool
-    ensures { result ≡ list_any is_page rows.now }
-{
-    rows.iter().any(|row| row.is_page())
 }
 
 /// The page that rows give.

@@ -98,7 +98,9 @@ fn run_form(name: &str) -> Option<&'static str> {
         "array" => Some(
             "array,CHANNEL,LUN,NUMBER,NS: operation NUMBER of the LUN's array, counted from 0, really takes NS ns, below 2^50",
         ),
-        "at" => Some("at,NS: no run takes moments of arrival, so all operations arrive at 0"),
+        "at" => Some(
+            "at,NS: the moment at which the rows 'op' behind it arrive, below 2^62; in a run with --clock simulated",
+        ),
         "geometry" => Some(
             "geometry,BLOCKS,PAGES,BYTES,ANYORDER: 1 to 65536 blocks of a LUN, 1 to 4096 pages of a block, 1 to 65535 bytes of a page, 0 or 1",
         ),

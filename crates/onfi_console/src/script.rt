@@ -201,7 +201,7 @@ fn not_here(alloc: Global, refused: &Refused<'_, '_>, name: &[u8]) -> Result<Str
     match refused.command {
         CommandName::Run if name == b"at".as_slice() => String::from_str(
             alloc,
-            "no run takes moments of arrival: all operations arrive at 0",
+            "a run takes moments of arrival with --clock simulated alone",
         ),
         CommandName::Run if is_shape_or_spans(name) && !is_begun => String::from_str(
             alloc,
@@ -236,7 +236,8 @@ fn not_here(alloc: Global, refused: &Refused<'_, '_>, name: &[u8]) -> Result<Str
 /// Which rows are taken where one of this name isn't.
 fn taken(command: CommandName, name: &[u8]) -> &'static str {
     match command {
-        CommandName::Run if name == b"at".as_slice() => "a script without 'at' rows",
+        CommandName::Run if name == b"at".as_slice() =>
+            "--clock simulated, or a script without 'at' rows",
         CommandName::Run if is_of_device(name) =>
             "'geometry', then 'shape' and 'spans' rows; or 'page' and 'sheet' rows",
         CommandName::Run =>

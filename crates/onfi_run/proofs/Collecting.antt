@@ -17,7 +17,7 @@ use Rattle.onfi_run.specs.ByHost.{host_numbers, with_each}
 use Rattle.onfi_run.specs.Finishing.{AddsTo, AreDone, Empties, IsFinished, IsGathered, are_complete, report_of_none, report_with}
 use Rattle.onfi_run.specs.Keys.{AreLinked, ChannelQueues, port_ends, port_places, ports_of}
 use Rattle.onfi_run.specs.Report.{AnswersView, ReportView, is_any_cut_short, is_any_over, places, status_of}
-use Rattle.onfi_run.proofs.Suited.{came_kind, same_places}
+use Rattle.onfi_run.proofs.Suited.{came_place, same_places}
 use Rattle.onfi_run.proofs.ByHost.{each_with, map_with_each, tail_of}
 
 -- ---- collecting
@@ -27,7 +27,7 @@ with_one_more now got (x ∷ more) r = with_one_more now (with_reply now got x) 
 
 places_kept : (now : ℕ) (got : AnswersView) (more : List Reply) → places (with_replies now got more) ≡ places got
 places_kept now got [] = refl
-places_kept now got (r ∷ more) = places_kept now (with_reply now got r) more ∙ same_places (came now r.answer) (came_kind now r.answer) got r.serial
+places_kept now got (r ∷ more) = places_kept now (with_reply now got r) more ∙ same_places (came now r.answer) (came_place now r.answer) got r.serial
 
 adds_places : (now : ℕ) (old new : AnswersView) → AddsReplies now old new → places new ≡ places old
 adds_places now old new (more, is) = ap places is ∙ places_kept now old more

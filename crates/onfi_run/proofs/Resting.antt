@@ -12,8 +12,10 @@ use Rattle.onfi_script.specs.declared.row.Row.{Row}
 use Rattle.onfi_run.specs.declared.lane.Lane.{Lane}
 use Rattle.onfi_run.specs.declared.pace.Pace.{Pace}
 use Rattle.onfi_run.specs.declared.port.Port.{Port}
+use Rattle.onfi_run.specs.declared.station.Station.{Station}
+use Rattle.onfi_run.specs.Arriving.{comes_at}
 use Rattle.onfi_run.specs.Operations.{operation_of}
-use Rattle.onfi_run.specs.Resting.{IsPutOff, Stands, is_before}
+use Rattle.onfi_run.specs.Resting.{IsPutOff, Rests, Stands, is_before, is_early, is_through}
 use Rattle.onfi_run.specs.Ending.{no_clock}
 use Rattle.onfi_run.proofs.ByHost.{each_longer}
 use Rattle.onfi_run.specs.Pace.{IsNext, MayTurn, NeedsNone, Waits, due_of, least_of}
@@ -110,15 +112,34 @@ each_more {X} P xs at h one all = by_place (slice_get_cases xs at).1
     by_place (inr (past, none)) = absurd (omega (arith, past, h))
 
 -- ---- hosts
-pub stands_as : (rows : List Row) (paces paces' : List Pace) (n n' p p' : ℕ) (ports ports' : List Port) → paces' ≡ paces → n' ≡ n → p' ≡ p → ports' ≡ ports
-    → Stands rows paces n p ports → Stands rows paces' n' p' ports'
-stands_as rows paces paces' n n' p p' ports ports' paces_are number passed same s =
-    subst (λ x. Stands rows x n' p' ports') (sym paces_are) (subst (λ x. Stands rows paces x p' ports') (sym number)
-    (subst (λ x. Stands rows paces n x ports') (sym passed) (subst (λ x. Stands rows paces n p x) (sym same) s)))
+pub stands_as : (now : ℕ) (rows : List Row) (paces paces' : List Pace) (n n' p p' : ℕ) (ports ports' : List Port) → paces' ≡ paces → n' ≡ n → p' ≡ p → ports' ≡ ports
+    → Stands now rows paces n p ports → Stands now rows paces' n' p' ports'
+stands_as now rows paces paces' n n' p p' ports ports' paces_are number passed same s =
+    subst (λ x. Stands now rows x n' p' ports') (sym paces_are) (subst (λ x. Stands now rows paces x p' ports') (sym number)
+    (subst (λ x. Stands now rows paces n x ports') (sym passed) (subst (λ x. Stands now rows paces n p x) (sym same) s)))
 
-pub before_row : (rows : List Row) (paces : List Pace) (number passed : ℕ) (ports : List Port) (d : Row) (op : Operation) → passed < length rows
-    → operation_of number (get_or rows passed d) ≡ Some op → IsPutOff paces ports op.aim.channel → Stands rows paces number passed ports
-before_row rows paces number passed ports d op h told waits = is_before (get_or rows passed d) op (slice_get-get_or rows passed d h) told waits
+pub before_row : (now : ℕ) (rows : List Row) (paces : List Pace) (number passed : ℕ) (ports : List Port) (d : Row) (op : Operation) → passed < length rows
+    → operation_of number (get_or rows passed d) ≡ Some op → IsPutOff paces ports op.aim.channel → Stands now rows paces number passed ports
+before_row now rows paces number passed ports d op h told waits = is_before (get_or rows passed d) op (slice_get-get_or rows passed d h) told waits
+
+-- who stands at a moment, and waits for none behind it, stands at each later one
+still_stands : (now at : ℕ) (rows : List Row) (paces : List Pace) (number passed : ℕ) (ports : List Port) → now ≤ at → at < no_clock → NeedsNone now (comes_at rows passed)
+    → Stands now rows paces number passed ports → Stands at rows paces number passed ports
+still_stands now at rows paces number passed ports later before none (is_through h) = is_through h
+still_stands now at rows paces number passed ports later before none (is_early h) = is_early (let far = none h in omega (arith, far, before))
+still_stands now at rows paces number passed ports later before none (is_before row op there told waits) = is_before row op there told waits
+
+pub all_rest : (now at : ℕ) (rows : List Row) (paces : List Pace) (stations : List Station) → now ≤ at → at < no_clock → Each (Rests now rows paces) stations
+    → Each (NeedsNone now) (map (λ (s : Station). comes_at rows s.passed) stations) → Each (Rests at rows paces) stations
+all_rest now at rows paces [] later before rest none = tt
+all_rest now at rows paces (s ∷ stations) later before (here, rest) (due, none) = (
+  record { stands = still_stands now at rows paces s.number s.passed s.ports.items later before due here.stands; emptied = here.emptied },
+  all_rest now at rows paces stations later before rest none,
+)
+
+pub each_apart : {X : Type 0} (P : X → Type 0) (xs ys : List X) → Each P (xs ++ ys) → Each P xs × Each P ys
+each_apart P [] ys all = (tt, all)
+each_apart P (x ∷ xs) ys (here, all) = let both = each_apart P xs ys all in ((here, both.0), both.1)
 
 -- all four
 pub each_set : {X : Type 0} (P : X → Type 0) (xs : List X) (a b c d : X) → length xs ≡ 4 → P a → P b → P c → P d → Each P (set (set (set (set xs 0 a) 1 b) 2 c) 3 d)

@@ -4,11 +4,11 @@ use Rattle.std.specs.Prelude.{max}
 use Rattle.std.specs.List.{AllByRecursion as Each}
 use Rattle.std.proofs.Math.Bool.{cond}
 use Rattle.std.proofs.Math.Nat.{le-max_right}
-use Rattle.onfi_timing.specs.declared.kind.Kind.{Kind}
 use Rattle.onfi_request.specs.declared.answer.Answer.{Answer}
 use Rattle.onfi_run.specs.declared.completion.Completion.{Completion}
 use Rattle.onfi_run.specs.Answers.{IsSuited, awaited, awaiting, came, changed, submitted, suits}
-use Rattle.onfi_run.specs.Report.{places}
+use Rattle.onfi_run.specs.Arriving.{Expected}
+use Rattle.onfi_run.specs.Report.{place, places}
 
 -- ---- one element changed
 pub changed_there : {X : Type 0} (f : X → X) (xs : List X) (at : ℕ) (d : X) → at < length xs → set xs at (f (get_or xs at d)) ≡ changed f xs at
@@ -26,30 +26,30 @@ each_changed P f keeps [] at all = tt
 each_changed P f keeps (x ∷ xs) zero (here, all) = (keeps x here, all)
 each_changed P f keeps (x ∷ xs) (suc at) (here, all) = (here, each_changed P f keeps xs at all)
 
-pub same_places : (f : Completion → Completion) → ((c : Completion) → (f c).kind ≡ c.kind) → (got : List Completion) (at : ℕ) → places (changed f got at) ≡ places got
+pub same_places : (f : Completion → Completion) → ((c : Completion) → place (f c) ≡ place c) → (got : List Completion) (at : ℕ) → places (changed f got at) ≡ places got
 same_places f same [] at = refl
 same_places f same (c ∷ got) zero = ap (λ k. k ∷ places got) (same c)
-same_places f same (c ∷ got) (suc at) = ap (λ l. c.kind ∷ l) (same_places f same got at)
+same_places f same (c ∷ got) (suc at) = ap (λ l. place c ∷ l) (same_places f same got at)
 
 -- ---- operations
-none_suited : (k : Kind) → IsSuited (awaited k)
-none_suited k = record { suits_it = tt; in_order = omega arith }
+none_suited : (e : Expected) → IsSuited (awaited e)
+none_suited e = record { suits_it = tt; in_order = omega arith }
 
-pub all_suited : (kinds : List Kind) → Each IsSuited (awaiting kinds)
+pub all_suited : (all : List Expected) → Each IsSuited (awaiting all)
 all_suited [] = tt
-all_suited (k ∷ kinds) = (none_suited k, all_suited kinds)
+all_suited (e ∷ all) = (none_suited e, all_suited all)
 
-pub places_awaited : (kinds : List Kind) → places (awaiting kinds) ≡ kinds
+pub places_awaited : (all : List Expected) → places (awaiting all) ≡ all
 places_awaited [] = refl
-places_awaited (k ∷ kinds) = ap (λ l. k ∷ l) (places_awaited kinds)
+places_awaited (e ∷ all) = ap (λ l. e ∷ l) (places_awaited all)
 
 pub submitted_suited : (now : ℕ) (c : Completion) → IsSuited c → IsSuited (submitted now c)
 submitted_suited now c s = record { suits_it = s.suits_it; in_order = omega arith }
 
-pub came_kind : (now : ℕ) (a : Answer) (c : Completion) → (came now a c).kind ≡ c.kind
-came_kind now a c = by_test (suits c.kind a)
+pub came_place : (now : ℕ) (a : Answer) (c : Completion) → place (came now a c) ≡ place c
+came_place now a c = by_test (suits c.kind a)
   where
-    by_test : (b : Bool) → (cond b (let d : Completion = record c { answer = Some a; at = max now c.sent } in d) c).kind ≡ c.kind
+    by_test : (b : Bool) → place (cond b (let d : Completion = record c { answer = Some a; at = max now c.sent } in d) c) ≡ place c
     by_test true = refl
     by_test false = refl
 

@@ -8,6 +8,7 @@ use Rattle.onfi_request.specs.declared.answer.Answer.{Answer}
 use Rattle.onfi_request.specs.declared.answer.Answer.TheVariants as answer
 use Rattle.onfi_request.specs.declared.reply.Reply.{Reply}
 use Rattle.onfi_run.specs.declared.completion.Completion.{Completion}
+use Rattle.onfi_run.specs.Arriving.{Expected}
 use Rattle.onfi_run.specs.Report.{AnswersView}
 
 -- a read gives a page, the others say whether they succeeded
@@ -34,12 +35,12 @@ is_complete got = list_all (λ (c : Completion). is_some c.answer) got
 abbrev pub IsComplete : AnswersView → Type 0
 IsComplete got = IsTrue (is_complete got)
 
--- nothing yet of an operation of that kind
-abbrev pub awaited : Kind → Completion
-awaited k = record { kind = k; answer = None; sent = 0; at = 0 }
+-- nothing yet of an operation that is expected
+abbrev pub awaited : Expected → Completion
+awaited e = record { kind = e.kind; arrives = e.arrives; answer = None; sent = 0; at = 0 }
 
-abbrev pub awaiting : List Kind → AnswersView
-awaiting kinds = map awaited kinds
+abbrev pub awaiting : List Expected → AnswersView
+awaiting all = map awaited all
 
 -- its host submitted it at that moment
 abbrev pub submitted : ℕ → Completion → Completion

@@ -1,7 +1,6 @@
 -- Which ends of queues belong together.
 use Rattle.std.specs.Prelude.{◌≡◌, ◌≢◌, ℕ, Bool, true, false, List, length, map, Option, Some, slice_get}
 use Rattle.atomic_table.specs.Seated.{TableId}
-use Rattle.onfi_timing.specs.declared.kind.Kind.{Kind}
 use Rattle.onfi_request.specs.declared.reply.Reply.{Reply}
 use Rattle.onfi_request.specs.declared.request.Item.{Item}
 use Rattle.onfi_request.specs.declared.request.Request.{Request}
@@ -12,6 +11,7 @@ use Rattle.onfi_reply.specs.Ends.{InboxView, after_collecting}
 use Rattle.onfi_run.specs.declared.port.Port.{Port}
 use Rattle.onfi_run.specs.declared.station.Station.{Station}
 use Rattle.onfi_run.specs.Answers.{changed, submitted, with_reply}
+use Rattle.onfi_run.specs.Arriving.{Expected}
 use Rattle.onfi_run.specs.ByHost.{host_numbers}
 use Rattle.onfi_run.specs.Report.{places}
 
@@ -30,16 +30,16 @@ pub record PortEnds : Type 0 where
 abbrev pub port_ends : Port → PortEnds
 port_ends p = record { queue = p.host.queue; number = p.host.number; inbox = Some p.inbox.queue; hosts = 4 }
 
--- the kinds of the operations of which something is kept there
-abbrev pub port_places : Port → List Kind
+-- the operations of which something is kept there
+abbrev pub port_places : Port → List Expected
 port_places p = places p.answers
 
 -- .. both, which a port never changes
-abbrev pub port_key : Port → PortEnds × List Kind
+abbrev pub port_key : Port → PortEnds × List Expected
 port_key p = (port_ends p, port_places p)
 
 -- .. with what was sent there, and whether an operation was left out
-abbrev pub port_state : Port → (PortEnds × List Kind) × List Item × Bool
+abbrev pub port_state : Port → (PortEnds × List Expected) × List Item × Bool
 port_state p = (port_key p, p.host.sent, p.left_out)
 
 -- the ends of that host on a channel

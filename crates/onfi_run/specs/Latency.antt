@@ -1,17 +1,17 @@
--- How long operations took, from their submissions to their replies.
+-- How long operations took, from when they arrived to their replies.
 use Rattle.std.specs.Prelude.{◌≡◌, ℕ, ◌-◌, ◌/◌, ◌&&◌, if◌then◌else◌, List, [], length, filter_map, Option, Some, None, slice_get}
 use Rattle.std.specs.List.{flat_map, sum}
 use Rattle.std.specs.List.Sorted.{IsNonDecreasing, IsPermutation}
-use Rattle.std.specs.Option.{is_some}
+use Rattle.std.specs.Option.{is_some, unwrap_or}
 use Rattle.onfi_timing.specs.declared.kind.Kind.{Kind}
 use Rattle.onfi_script.specs.Subject.{is_kind}
 use Rattle.onfi_run.specs.declared.completion.Completion.{Completion}
 use Rattle.onfi_run.specs.declared.latency.Latency.{Latency}
 use Rattle.onfi_run.specs.Report.{GotView}
 
--- of an operation of that kind that has its reply
+-- of an operation of that kind that has its reply; without a moment of arrival it arrives as it is submitted
 abbrev pub latency_of : Kind → Completion → Option ℕ
-latency_of kind c = if is_kind kind c.kind && is_some c.answer then Some (c.at - c.sent) else None
+latency_of kind c = if is_kind kind c.kind && is_some c.answer then Some (c.at - unwrap_or c.arrives c.sent) else None
 
 -- of all such, by host, channel and serial
 abbrev pub latencies : Kind → List GotView → List ℕ

@@ -15,7 +15,7 @@ use Rattle.onfi_run.specs.declared.port.Port.{Port}
 use Rattle.onfi_run.specs.declared.station.Station.{Station}
 use Rattle.onfi_run.specs.ByHost.{host_numbers}
 use Rattle.onfi_run.specs.Keys.{ChannelQueues, port_places, ports_of}
-use Rattle.onfi_run.specs.Operations.{kinds_of, kinds_on}
+use Rattle.onfi_run.specs.Arriving.{expected_of, expected_on}
 use Rattle.onfi_run.specs.Setup.{SetsUp}
 
 -- the queues of a channel
@@ -58,10 +58,10 @@ IsUnsent p = p.host.sent ≡ []
 -- each host sent nothing on the channel, and has places for the answers to its operations there
 pub record AreNewPorts (rows : List Row) (channel : ℕ) (ports : List Port) : Type 0 where
   pub unsent : Each IsUnsent ports
-  pub places : map port_places ports ≡ map (λ host. kinds_on rows host channel) host_numbers
+  pub places : map port_places ports ≡ map (λ host. expected_on rows host channel) host_numbers
 
 -- .. on each of so many channels
 pub record AreNew (rows : List Row) (channels : ℕ) (stations : List Station) : Type 0 where
   pub numbers : map (λ (s : Station). s.number) stations ≡ host_numbers
   pub unsent : Each (Each IsUnsent) (ports_of stations)
-  pub places : map (map port_places) (ports_of stations) ≡ map (kinds_of rows channels) host_numbers
+  pub places : map (map port_places) (ports_of stations) ≡ map (expected_of rows channels) host_numbers

@@ -1,6 +1,5 @@
 -- The operations of a host on a channel, in the order of their rows.
-use Rattle.std.specs.Prelude.{ℕ, ◌==◌, if◌then◌else◌, List, filter_map, map, Option, Some, None}
-use Rattle.std.specs.List.{range_with_len}
+use Rattle.std.specs.Prelude.{ℕ, ◌==◌, if◌then◌else◌, List, filter_map, Option, Some, None}
 use Rattle.std.specs.Option.{option_map}
 use Rattle.onfi_addr.specs.declared.geometry.Geometry.{Geometry}
 use Rattle.onfi_request.specs.declared.request.Request.{Request}
@@ -26,13 +25,6 @@ operation_in host channel row = on_channel channel (operation_of host row)
 -- its kind
 abbrev pub kind_in : ℕ → ℕ → Row → Option Kind
 kind_in host channel row = option_map (λ (op : Operation). op.aim.kind) (operation_in host channel row)
-
-abbrev pub kinds_on : List Row → ℕ → ℕ → List Kind
-kinds_on rows host channel = filter_map (kind_in host channel) rows
-
--- by channel
-abbrev pub kinds_of : List Row → ℕ → ℕ → List (List Kind)
-kinds_of rows channels host = map (kinds_on rows host) (range_with_len 0 channels)
 
 -- its request
 abbrev pub request_in : Geometry → ℕ → ℕ → Row → Option Request

@@ -8,7 +8,6 @@ use Rattle.onfi_core.specs.declared.outcome.Cause.{Cause}
 use Rattle.onfi_core.specs.declared.outcome.Cause.TheVariants.{Bus, NotReady, Clock}
 use Rattle.onfi_request.specs.declared.answer.Answer.{Answer}
 use Rattle.onfi_request.specs.declared.answer.Answer.TheVariants as answer
-use Rattle.onfi_timing.specs.declared.kind.Kind.{Kind}
 use Rattle.onfi_run.specs.declared.bus_use.BusUse.{BusUse}
 use Rattle.onfi_run.specs.declared.channel_end.ChannelEnd.{ChannelEnd}
 use Rattle.onfi_run.specs.declared.channel_end.ChannelEnd.TheVariants as end
@@ -16,6 +15,7 @@ use Rattle.onfi_run.specs.declared.clock_report.ClockReport.{ClockReport}
 use Rattle.onfi_run.specs.declared.completion.Completion.{Completion}
 use Rattle.onfi_run.specs.declared.latency.Latency.{Latency}
 use Rattle.onfi_script.specs.Text.{Answer as Written}
+use Rattle.onfi_run.specs.Arriving.{Expected, expected}
 
 -- what a host got from a channel: what is known of each of its operations there, by serial from 0
 abbrev pub AnswersView : Type 0
@@ -25,9 +25,12 @@ AnswersView = List Completion
 abbrev pub GotView : Type 0
 GotView = List AnswersView
 
--- the kinds of the operations of which something is kept
-abbrev pub places : AnswersView → List Kind
-places got = map (λ (c : Completion). c.kind) got
+-- the operation of which something is kept: its kind, and when it arrives
+abbrev pub place : Completion → Expected
+place c = expected c.arrives c.kind
+
+abbrev pub places : AnswersView → List Expected
+places got = map place got
 
 -- what each host got, how each channel ended, whether memory was refused on the way, and what a clock told
 pub record ReportView : Type 0 where

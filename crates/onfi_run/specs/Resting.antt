@@ -1,5 +1,5 @@
 -- Where nothing can be done at a moment of a run with a clock.
-use Rattle.std.specs.Prelude.{◌≡◌, ℕ, ◌≤◌, Bool, true, false, List, [], length, Some, slice_get}
+use Rattle.std.specs.Prelude.{◌≡◌, ℕ, ◌<◌, ◌≤◌, Bool, true, false, List, [], length, Some, slice_get}
 use Rattle.std.specs.List.{AllByRecursion as Each}
 use Rattle.std.specs.Option.{option_map, unwrap_or}
 use Rattle.onfi_queue.specs.Ends.{SawFull}
@@ -9,6 +9,7 @@ use Rattle.onfi_script.specs.declared.row.Row.{Row}
 use Rattle.onfi_run.specs.declared.pace.Pace.{Pace}
 use Rattle.onfi_run.specs.declared.port.Port.{Port}
 use Rattle.onfi_run.specs.declared.station.Station.{Station}
+use Rattle.onfi_run.specs.Arriving.{comes_at}
 use Rattle.onfi_run.specs.Operations.{operation_of}
 
 -- its queue was full, and nothing was left out before
@@ -36,13 +37,15 @@ pub record IsPutOff (paces : List Pace) (ports : List Port) (channel : ℕ) : Ty
   pub full : IsFullAt ports channel
   pub goes_on : has_ended paces channel ≡ false
 
--- the host of that number, behind so many rows, goes behind no other: it is behind all, or before an operation of its own that has to wait
-pub data Stands (rows : List Row) (paces : List Pace) (number passed : ℕ) (ports : List Port) : Type 0 where
-  is_through : length rows ≤ passed → Stands rows paces number passed ports
+-- at that moment the host of that number, behind so many rows, goes behind no other: it is behind all, or before a moment of arrival that hasn't come, or before an
+-- operation of its own that has to wait
+pub data Stands (now : ℕ) (rows : List Row) (paces : List Pace) (number passed : ℕ) (ports : List Port) : Type 0 where
+  is_through : length rows ≤ passed → Stands now rows paces number passed ports
+  is_early : now < comes_at rows passed → Stands now rows paces number passed ports
   is_before : (row : Row) (op : Operation) → slice_get rows passed ≡ Some row → operation_of number row ≡ Some op → IsPutOff paces ports op.aim.channel
-      → Stands rows paces number passed ports
+      → Stands now rows paces number passed ports
 
 -- .. and no reply came to it
-pub record Rests (rows : List Row) (paces : List Pace) (s : Station) : Type 0 where
-  pub stands : Stands rows paces s.number s.passed s.ports.items
+pub record Rests (now : ℕ) (rows : List Row) (paces : List Pace) (s : Station) : Type 0 where
+  pub stands : Stands now rows paces s.number s.passed s.ports.items
   pub emptied : Each IsEmptied s.ports.items

@@ -1,19 +1,26 @@
 -- What is written for the input of a run, and with which status.
-use Rattle.std.specs.Prelude.{◌≡◌, ℕ, Bool, List, take, Option, IfSome}
+use Rattle.std.specs.Prelude.{◌≡◌, ℕ, Bool, true, false, List, take, Option, IfSome}
 use Rattle.std.specs.Io.KnownBytes.{Appends}
 use Rattle.onfi_script.specs.declared.device.PageDevice.{PageDevice}
 use Rattle.onfi_script.specs.declared.fault.Refusal.{Refusal}
+use Rattle.onfi_script.specs.declared.purpose.Purpose.{Purpose}
+use Rattle.onfi_script.specs.declared.purpose.Purpose.TheVariants.{Clocked, Run}
 use Rattle.onfi_script.specs.declared.row.Row.{Row}
 use Rattle.onfi_script.specs.Text.{Answer, memory, refused}
 use Rattle.onfi_run.specs.Prepares.{IsPrepared, IsRefused}
 use Rattle.onfi_run.specs.Report.{ReportView, report_answer}
 use Rattle.onfi_run.specs.Told.{IsReportOf}
 
+-- what the rows are read for: moments of arrival stand in a run with a clock alone
+abbrev pub purpose_of : Bool → Purpose
+purpose_of true = Clocked
+purpose_of false = Run
+
 -- the answers to an input: that memory ran out, the line of its refusal, or the text of a report on its rows
 pub data IsAnswer (clocked : Bool) (input : List ℕ) (answer : Answer) : Type 0 where
   is_memory : answer ≡ memory → IsAnswer clocked input answer
-  is_refused : (refusal : Refusal) → IsRefused input refusal → answer ≡ refused refusal → IsAnswer clocked input answer
-  is_report : (rows : List Row) (device : PageDevice) (report : ReportView) → IsPrepared input rows device → IsReportOf clocked rows report → answer ≡ report_answer report → IsAnswer clocked input answer
+  is_refused : (refusal : Refusal) → IsRefused (purpose_of clocked) input refusal → answer ≡ refused refusal → IsAnswer clocked input answer
+  is_report : (rows : List Row) (device : PageDevice) (report : ReportView) → IsPrepared (purpose_of clocked) input rows device → IsReportOf clocked rows report → answer ≡ report_answer report → IsAnswer clocked input answer
 
 -- the writer was given an answer to what the reader had, where both tell their bytes
 abbrev pub Answers : Bool → Option (List ℕ) → Option (List ℕ) → Option (List ℕ) → ℕ → Type 0

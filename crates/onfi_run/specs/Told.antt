@@ -2,11 +2,10 @@
 use Rattle.std.specs.Prelude.{◌≡◌, ℕ, Bool, List, [], ◌∷◌, length, map, IfSome, Some}
 use Rattle.std.specs.Option.{is_some}
 use Rattle.std.specs.List.{AllByRecursion as Each}
-use Rattle.onfi_timing.specs.declared.kind.Kind.{Kind}
 use Rattle.onfi_timing.specs.declared.kind.Kind.TheVariants.{Read, Program, Erase}
 use Rattle.onfi_script.specs.declared.row.Row.{Row}
 use Rattle.onfi_run.specs.Answers.{IsSuited, IsComplete}
-use Rattle.onfi_run.specs.Operations.{kinds_of}
+use Rattle.onfi_run.specs.Arriving.{Expected, expected_of}
 use Rattle.onfi_run.specs.declared.bus_use.BusUse.{BusUse}
 use Rattle.onfi_run.specs.declared.clock_report.ClockReport.{ClockReport}
 use Rattle.onfi_run.specs.declared.port.Port.{Port}
@@ -15,8 +14,8 @@ use Rattle.onfi_run.specs.Latency.{IsLatencyOf, latencies}
 use Rattle.onfi_run.specs.Report.{GotView, ReportView, places, status_of}
 use Rattle.onfi_run.specs.Setup.{channels_in}
 
--- the kinds of the operations of which something is kept, by channel
-abbrev pub places_by_channel : GotView → List (List Kind)
+-- the operations of which something is kept, by channel
+abbrev pub places_by_channel : GotView → List (List Expected)
 places_by_channel got = map places got
 
 -- what a clock tells of a run: of each channel how busy its bus was, and how long operations of each kind took
@@ -35,9 +34,9 @@ pub record TellsClock (now : ℕ) (ports : List (List Port)) (buses : List BusUs
   pub tells : IsClockOf plain clock
   pub buses_are : clock.buses.items ≡ buses
 
--- Of each of four hosts there is, by channel, a place for each of its operations there, in the order of their rows, and in it nothing or an answer that suits that operation, collected no sooner than the operation was submitted. Where the status is 0 each place has its answer. Moments are told where the run has a clock.
+-- Of each of four hosts there is, by channel, a place for each of its operations there, in the order of their rows, with its kind and when it arrives, and in it nothing or an answer that suits that operation, collected no sooner than the operation was submitted. Where the status is 0 each place has its answer. Moments are told where the run has a clock.
 pub record IsReportOf (clocked : Bool) (rows : List Row) (report : ReportView) : Type 0 where
-  pub places_are : map places_by_channel report.got ≡ map (kinds_of rows (channels_in rows)) (0 ∷ 1 ∷ 2 ∷ 3 ∷ [])
+  pub places_are : map places_by_channel report.got ≡ map (expected_of rows (channels_in rows)) (0 ∷ 1 ∷ 2 ∷ 3 ∷ [])
   pub ends_are : length report.ends ≡ channels_in rows
   pub suited : Each (Each (Each IsSuited)) report.got
   pub clock_is : is_some report.clock ≡ clocked

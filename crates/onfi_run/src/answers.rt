@@ -1,12 +1,14 @@
 //! What a host got.
-ghost use Rattle.std.specs.Prelude.{◌≡◌, ◌++◌, [], ◌∷◌, IfOk, MatchOption, None, Some, map};
+ghost use Rattle.std.specs.Prelude.{◌≡◌, ◌++◌, [], ◌∷◌, IfOk, MatchOption, None, OnOk, Some};
+ghost use Rattle.std.specs.List.{cons_option};
+ghost use Rattle.std.specs.Option.{option_map};
 ghost use Rattle.std.specs.List.{AllByRecursion as Each};
 ghost use Rattle.onfi_run.specs.Answers as spec;
-ghost use Rattle.onfi_run.specs.Operations.{kinds_on as spec_kinds_on};
+ghost use Rattle.onfi_run.specs.Arriving.{expected, expected_on};
 ghost use Rattle.onfi_run.specs.Report.{places};
 
 use crate::completion::Completion;
-use crate::operations::kinds_on;
+use crate::operations::kind_in;
 use onfi_request::{Answer, Reply};
 use onfi_script::Row;
 use onfi_timing::Kind;
@@ -43,12 +45,13 @@ fn suits(kind: Kind, answer: &Answer) -> bool
 }
 
 impl Completion {
-    /// Nothing yet, of an operation of that kind.
-    fn awaited(kind: Kind) -> Completion
-        ensures { result ≡ spec.awaited kind }
+    /// Nothing yet, of an operation of that kind that arrives then.
+    fn awaited(kind: Kind, arrives: Option<u64>) -> Completion
+        ensures { result ≡ spec.awaited (expected arrives kind) }
     {
         Completion {
             kind,
+            arrives,
             answer: None,
             sent: 0,
             at: 0,
@@ -75,14 +78,36 @@ impl Completion {
     }
 }
 
-/// Nothing yet, of operations of these kinds.
-fn awaited(alloc: Global, kinds: &[Kind]) -> Result<Vec<Completion>, AllocError>
-    ensures { IfOk result (λ places. places.items ≡ map spec.awaited kinds.now) }
+/// Puts a place for the answer to an operation of that kind, which arrives then, behind others, where there is one.
+fn put_awaited(
+    places: &mut Vec<Completion>,
+    kind: Option<Kind>,
+    arrives: Option<u64>,
+) -> Result<(), AllocError>
+    ensures { OnOk result (places.new.items ≡ places.old.items ++ cons_option (option_map (λ k. spec.awaited (expected arrives k)) kind) []) }
 {
-    kinds
-        .iter()
-        .map(|kind| Completion::awaited(*kind))
-        .collect(alloc)
+    if let Some(kind) = kind {
+        places.push(Completion::awaited(kind, arrives))?;
+    }
+    Ok(())
+}
+
+/// Places for the answers to a host's operations on a channel, in the order of their rows.
+fn awaited_on(
+    alloc: Global,
+    rows: &[Row],
+    host: u8,
+    channel: u8,
+) -> Result<Vec<Completion>, AllocError>
+    ensures { IfOk result (λ places. places.items ≡ spec.awaiting (expected_on rows.now host channel)) }
+{
+    let mut arrives = None;
+    let mut places = Vec::new(alloc);
+    for row in rows {
+        put_awaited(&mut places, kind_in(row, host, channel), arrives)?;
+        arrives = row.moment().or(arrives);
+    }
+    Ok(places)
 }
 
 /// The operation of that serial is submitted, where there is one.
@@ -114,10 +139,9 @@ impl Answers {
         host: u8,
         channel: u8,
     ) -> Result<Answers, AllocError>
-        ensures { IfOk result (λ answers. answers ≡ spec.awaiting (spec_kinds_on rows.now host channel)) }
+        ensures { IfOk result (λ answers. answers ≡ spec.awaiting (expected_on rows.now host channel)) }
     {
-        let kinds = kinds_on(alloc, rows, host, channel)?;
-        let by_serial = awaited(alloc, kinds.as_slice())?;
+        let by_serial = awaited_on(alloc, rows, host, channel)?;
         Ok(Answers { by_serial })
     }
 

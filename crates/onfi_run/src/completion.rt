@@ -5,6 +5,8 @@ use onfi_timing::Kind;
 #[derive(Drop)]
 pub struct Completion {
     pub kind: Kind,
+    /// When it arrived at its host, where a row tells so; else it arrives as it is submitted.
+    pub arrives: Option<u64>,
     /// The answer, where it came; it suits the kind.
     pub answer: Option<Answer>,
     /// When the host put it into the submission queue.

@@ -9,7 +9,8 @@ use crate::completion::Completion;
 use onfi_timing::Kind;
 use std::alloc::{AllocError, Global};
 
-/// How long operations of one kind took, from submission to reply, in ns of the run's clock.
+/// How long operations of one kind took, from arrival to reply, in ns of the run's clock; from submission, where no row tells
+/// when they arrived.
 #[derive(Clone, Copy)]
 pub struct Latency {
     /// How many they are, at least 1.
@@ -37,7 +38,7 @@ impl Completion {
         ensures { result ≡ spec.latency_of kind self.now }
     {
         if is_kind(kind, self.kind) && self.answer.is_some() {
-            Some(self.at.saturating_sub(self.sent))
+            Some(self.at.saturating_sub(self.arrives.unwrap_or(self.sent)))
         } else {
             None
         }

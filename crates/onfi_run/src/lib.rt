@@ -2,6 +2,7 @@
 #![tactic(auto)]
 
 mod answers;
+mod arriving;
 mod board;
 mod bus_use;
 mod channel;
@@ -38,7 +39,7 @@ pub use clock_report::ClockReport;
 pub use completion::Completion;
 pub use latency::Latency;
 pub use no_gate::NoGate;
-pub use preparing::{Prepared, prepare};
+pub use preparing::{Prepared, prepare, prepare_for};
 pub use progress::Progress;
 pub use report::Report;
 pub use request::request_of;

@@ -6,7 +6,7 @@ ghost use Rattle.onfi_run.specs.Answers.{awaiting};
 ghost use Rattle.onfi_run.specs.ByHost.{host_numbers, with_each};
 ghost use Rattle.onfi_run.specs.Keys.{AreEndsOf, AreLinked, ports_of};
 ghost use Rattle.onfi_run.specs.Opening.{AreNew, AreNewPorts, AreOpened, AreOpenedOn, IsOpened, lane_queues};
-ghost use Rattle.onfi_run.specs.Operations.{kinds_on};
+ghost use Rattle.onfi_run.specs.Arriving.{expected_on};
 ghost use Rattle.onfi_run.specs.Setup.{channels_in};
 
 use crate::answers::Answers;
@@ -78,7 +78,7 @@ fn open_lane<P: Planner + Drop, G: Gate + Drop>(
 
 /// Places for the answers to the operations of each host on a channel, in the order of their rows.
 fn places(alloc: Global, rows: &[Row], channel: u8) -> Result<[Answers; 4], AllocError>
-    ensures { IfOk result (λ all. all ≡ map (λ host. awaiting (kinds_on rows.now host channel)) host_numbers) }
+    ensures { IfOk result (λ all. all ≡ map (λ host. awaiting (expected_on rows.now host channel)) host_numbers) }
 {
     Ok([
         Answers::awaiting(alloc, rows, 0, channel)?,

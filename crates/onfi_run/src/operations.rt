@@ -1,10 +1,9 @@
 //! The operations of a host on a channel.
-ghost use Rattle.std.specs.Prelude.{◌≡◌, IfOk, IfSome, IfNone, Some, None};
+ghost use Rattle.std.specs.Prelude.{◌≡◌, IfSome, IfNone, Some, None};
 ghost use Rattle.onfi_run.specs.Operations as spec;
 
 use onfi_script::{Operation, Row};
 use onfi_timing::Kind;
-use std::alloc::{AllocError, Global};
 
 /// The operation that a row tells, where it is one of that host.
 pub(crate) fn operation_of(row: &Row, host: u8) -> Option<&Operation>
@@ -18,7 +17,7 @@ pub(crate) fn operation_of(row: &Row, host: u8) -> Option<&Operation>
 }
 
 /// The kind of that operation, where it is one on that channel too.
-fn kind_in(row: &Row, host: u8, channel: u8) -> Option<Kind>
+pub(crate) fn kind_in(row: &Row, host: u8, channel: u8) -> Option<Kind>
     ensures { result ≡ spec.kind_in host channel row.now }
 {
     let operation = operation_of(row, host)?;
@@ -27,21 +26,4 @@ fn kind_in(row: &Row, host: u8, channel: u8) -> Option<Kind>
     } else {
         None
     }
-}
-
-/// The kinds of a host's operations on a channel, in the order of their rows.
-///
-/// # Errors
-/// Want of memory.
-pub(crate) fn kinds_on(
-    alloc: Global,
-    rows: &[Row],
-    host: u8,
-    channel: u8,
-) -> Result<Vec<Kind>, AllocError>
-    ensures { IfOk result (λ kinds. kinds.items ≡ spec.kinds_on rows.now host channel) }
-{
-    rows.iter()
-        .filter_map(|row| kind_in(row, host, channel))
-        .collect(alloc)
 }

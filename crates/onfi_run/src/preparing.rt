@@ -121,9 +121,19 @@ fn refusal_on(
 /// fields, and what an earlier row said; the device; the rows once more, for hosts, channels, LUNs and blocks that
 /// aren't there and for operations that the device doesn't take. Want of memory.
 pub fn prepare(alloc: Global, input: &[u8]) -> Result<Prepared, Stop>
-    ensures { MatchResult result (λ p. IsPrepared input.now p.rows.items p.device) (λ stop. IfRefused stop (λ refusal. IsRefused input.now refusal)) }
+    ensures { MatchResult result (λ p. IsPrepared Purpose.Run input.now p.rows.items p.device) (λ stop. IfRefused stop (λ refusal. IsRefused Purpose.Run input.now refusal)) }
 {
-    let rows = read_rows(alloc, Purpose::Run, input)?;
+    prepare_for(alloc, Purpose::Run, input)
+}
+
+/// What [`prepare`] does of a script for that purpose: with moments of arrival where it is `Clocked`.
+///
+/// # Errors
+/// As `prepare`.
+pub fn prepare_for(alloc: Global, purpose: Purpose, input: &[u8]) -> Result<Prepared, Stop>
+    ensures { MatchResult result (λ p. IsPrepared purpose input.now p.rows.items p.device) (λ stop. IfRefused stop (λ refusal. IsRefused purpose input.now refusal)) }
+{
+    let rows = read_rows(alloc, purpose, input)?;
     match page_device(alloc, rows.as_slice()) {
         Ok(device) => match refusal_on(alloc, rows.as_slice(), &device) {
             Ok(None) => Ok(Prepared { rows, device }),

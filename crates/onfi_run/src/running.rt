@@ -9,7 +9,7 @@ ghost use Rattle.onfi_run.specs.Opening.{AreBehind};
 ghost use Rattle.std.specs.Io.KnownBytes.{Keeps};
 ghost use Rattle.onfi_script.specs.AnswerOf.{answer_of};
 ghost use Rattle.onfi_run.specs.Prepares.{IsPrepared};
-ghost use Rattle.onfi_run.specs.Running.{IsAnswer, Answers, BeginsAnswer};
+ghost use Rattle.onfi_run.specs.Running.{IsAnswer, Answers, BeginsAnswer, purpose_of as spec_purpose_of};
 ghost use Rattle.onfi_run.specs.Keys.{AreLinked, ports_of};
 ghost use Rattle.onfi_run.specs.Told.{IsReportOf, TellsClock};
 
@@ -17,14 +17,14 @@ use crate::channel::Channel;
 use crate::finishing::finish_all;
 use crate::no_gate::no_gates;
 use crate::opening::Stage;
-use crate::preparing::{Prepared, prepare};
+use crate::preparing::{Prepared, prepare_for};
 use crate::report::Report;
 use crate::simulation::{Course, Settled, buses_of, simulate};
 use crate::station::NO_MOMENT;
 use crate::text::report_answer;
 use crate::threads::run_threads;
 use onfi_plan::{PlainPlanner, Planner};
-use onfi_script::{Answer, EngineFault, InputFault, Stop, read_all, refused, tell};
+use onfi_script::{Answer, EngineFault, InputFault, Purpose, Stop, read_all, refused, tell};
 use onfi_seq::Gate;
 use std::alloc::{AllocError, Global};
 use std::io::{Read, Write};
@@ -125,6 +125,16 @@ fn run_either<R: Threads + Wait + Sync, P: Planner + Copy + Send + Drop, G: Gate
     }
 }
 
+/// What the rows of a run are read for: moments of arrival stand in a run with a clock alone.
+fn purpose_of(clocked: bool) -> Purpose
+    ensures { result ≡ spec_purpose_of clocked }
+{
+    if !clocked {
+        return Purpose::Run;
+    }
+    Purpose::Clocked
+}
+
 /// The answer to an input.
 fn answer<R: Threads + Wait + Sync, P: Planner + Copy + Send + Drop, G: Gate + Send + Drop>(
     rt: &R,
@@ -140,7 +150,7 @@ fn answer<R: Threads + Wait + Sync, P: Planner + Copy + Send + Drop, G: Gate + S
     requires gates { length gates.items ≡ 4 }
     ensures { IfOk result (λ a. IsAnswer clocked input.now (answer_of a)) }
 {
-    match prepare(alloc, input) {
+    match prepare_for(alloc, purpose_of(clocked), input) {
         Ok(prepared) => {
             let report = run_either(rt, alloc, planner, limit, clocked, gates, &prepared)?;
             report_answer(alloc, &report)

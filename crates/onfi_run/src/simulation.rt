@@ -3,6 +3,7 @@ ghost use Rattle.std.specs.Prelude.{◌≡◌, ◌<◌, ◌≤◌, ◌++◌, [],
 ghost use Rattle.std.specs.List.{AllByRecursion as Each};
 ghost use Rattle.onfi_script.specs.declared.operation.Operation.{Operation as AnOperation};
 ghost use Rattle.onfi_run.specs.Answers.{changed};
+ghost use Rattle.onfi_run.specs.Arriving.{HaveCome, comes_at as spec_comes_at};
 ghost use Rattle.onfi_run.specs.Ending.{no_clock};
 ghost use Rattle.onfi_run.specs.Keys.{HasSamePorts, HaveSamePorts};
 ghost use Rattle.onfi_run.specs.Moments.{AllAtMoment, AtMoment, Makes};
@@ -14,6 +15,7 @@ ghost use Rattle.onfi_script.specs.declared.row.Row.{Row as ARow};
 ghost use Rattle.onfi_run.specs.Requests.{request_of};
 ghost use Rattle.onfi_run.specs.Sending.{AreSending, HasSent, with_request};
 
+use crate::arriving::comes_at;
 use crate::bus_use::BusUse;
 use crate::channel::{Channel, NO_CLOCK};
 use crate::finishing::either;
@@ -118,8 +120,8 @@ fn follow<R: Wait, C: Channel>(
     }
 }
 
-/// The host goes behind its next row at that moment, and answers whether it did: it doesn't where none is left, or the queue
-/// of its operation is full.
+/// The host goes behind its next row at that moment, and answers whether it did: it doesn't where none is left, where the row
+/// tells a moment of arrival that hasn't come, or where the queue of its operation is full.
 fn pass_row<R: Wait, C: Channel>(
     rt: &R,
     course: &Course<'_>,
@@ -133,11 +135,16 @@ fn pass_row<R: Wait, C: Channel>(
     ensures sent { HasSent course.now.geometry.now (take station.old.passed course.now.rows.now) station.old.number station.old.ports.items
         → HasSent course.now.geometry.now (take station.new.passed course.now.rows.now) station.old.number station.new.ports.items }
     ensures stands { result ≡ false → (lanes.new ≡ lanes.old) × (station.new.ports.items ≡ station.old.ports.items) × (station.new.passed ≡ station.old.passed)
-        × Stands course.now.rows.now (map (λ l. l.pace) lanes.old.items) station.old.number station.old.passed station.old.ports.items }
+        × Stands now course.now.rows.now (map (λ l. l.pace) lanes.old.items) station.old.number station.old.passed station.old.ports.items }
+    ensures come { HaveCome now (take station.old.passed course.now.rows.now) → HaveCome now (take station.new.passed course.now.rows.now) }
     ensures moments { AtMoment now station.old.ports.items station.new.ports.items }
 {
     let at = station.passed;
     if at >= course.rows.len() {
+        return false;
+    }
+    let comes = comes_at(course.rows, at);
+    if comes > now {
         return false;
     }
     if !follow(rt, course, now, lanes, station, &course.rows[at]) {
@@ -161,7 +168,8 @@ fn pass_rows<R: Wait, C: Channel>(
     ensures sent { HasSent course.now.geometry.now (take station.old.passed course.now.rows.now) station.old.number station.old.ports.items
         → HasSent course.now.geometry.now (take station.new.passed course.now.rows.now) station.old.number station.new.ports.items }
     ensures stands { result ≡ false → (lanes.new ≡ lanes.old) × (station.new.ports.items ≡ station.old.ports.items) × (station.new.passed ≡ station.old.passed)
-        × Stands course.now.rows.now (map (λ l. l.pace) lanes.old.items) station.old.number station.old.passed station.old.ports.items }
+        × Stands now course.now.rows.now (map (λ l. l.pace) lanes.old.items) station.old.number station.old.passed station.old.ports.items }
+    ensures come { HaveCome now (take station.old.passed course.now.rows.now) → HaveCome now (take station.new.passed course.now.rows.now) }
     ensures moments { AtMoment now station.old.ports.items station.new.ports.items }
 {
     let mut any = false;
@@ -187,7 +195,8 @@ fn act<R: Wait, C: Channel>(
     ensures number { station.new.number ≡ station.old.number }
     ensures sent { HasSent course.now.geometry.now (take station.old.passed course.now.rows.now) station.old.number station.old.ports.items
         → HasSent course.now.geometry.now (take station.new.passed course.now.rows.now) station.old.number station.new.ports.items }
-    ensures rests { result ≡ false → (lanes.new ≡ lanes.old) × Rests course.now.rows.now (map (λ l. l.pace) lanes.new.items) station.new }
+    ensures rests { result ≡ false → (lanes.new ≡ lanes.old) × Rests now course.now.rows.now (map (λ l. l.pace) lanes.new.items) station.new }
+    ensures come { HaveCome now (take station.old.passed course.now.rows.now) → HaveCome now (take station.new.passed course.now.rows.now) }
     ensures moments { AtMoment now station.old.ports.items station.new.ports.items }
 {
     let passed = pass_rows(rt, course, now, lanes, station);
@@ -205,7 +214,7 @@ fn act_all<R: Wait, C: Channel>(
 ) -> bool
     ensures lanes { map (λ l. C.queues l.channel) lanes.new.items ≡ map (λ l. C.queues l.channel) lanes.old.items }
     ensures stations { HaveSamePorts stations.old stations.new }
-    ensures rest { result ≡ false → (lanes.new ≡ lanes.old) × Each (Rests course.now.rows.now (map (λ l. l.pace) lanes.new.items)) stations.new }
+    ensures rest { result ≡ false → (lanes.new ≡ lanes.old) × Each (Rests now course.now.rows.now (map (λ l. l.pace) lanes.new.items)) stations.new }
     ensures moments { AllAtMoment now stations.old stations.new }
 {
     let first = act(rt, course, now, lanes, &mut stations[0]);
@@ -240,7 +249,7 @@ fn round<R: Wait, C: Channel>(
 ) -> bool
     ensures lanes { map (λ l. C.queues l.channel) lanes.new.items ≡ map (λ l. C.queues l.channel) lanes.old.items }
     ensures stations { HaveSamePorts stations.old stations.new }
-    ensures rest { result ≡ false → Each (Rests course.now.rows.now (map (λ l. l.pace) lanes.new.items)) stations.new }
+    ensures rest { result ≡ false → Each (Rests now course.now.rows.now (map (λ l. l.pace) lanes.new.items)) stations.new }
     ensures wait { result ≡ false → Each (λ l. Waits now l.pace (C.free l.channel)) lanes.new.items }
     ensures moments { AllAtMoment now stations.old stations.new }
 {
@@ -259,7 +268,7 @@ fn settle<R: Wait, C: Channel>(
 )
     ensures lanes { map (λ l. C.queues l.channel) lanes.new.items ≡ map (λ l. C.queues l.channel) lanes.old.items }
     ensures stations { HaveSamePorts stations.old stations.new }
-    ensures rest { Each (Rests course.now.rows.now (map (λ l. l.pace) lanes.new.items)) stations.new }
+    ensures rest { Each (Rests now course.now.rows.now (map (λ l. l.pace) lanes.new.items)) stations.new }
     ensures wait { Each (λ l. Waits now l.pace (C.free l.channel)) lanes.new.items }
     ensures moments { AllAtMoment now stations.old stations.new }
 {
@@ -284,13 +293,30 @@ fn sooner(now: u64, other: Option<u64>, due: u64) -> Option<u64>
     Some(least(other, due))
 }
 
-/// The moment that comes next behind `now`: the least at which a channel may make a turn that may make none by then.
-fn next_moment<C: Channel>(lanes: &[Lane<C>], now: u64) -> Option<u64>
+/// The least moment behind `now` at which a channel may make a turn that may make none by then.
+fn next_turn<C: Channel>(lanes: &[Lane<C>], now: u64) -> Option<u64>
     ensures { IsNext now (map (λ l. due_of l.pace (C.free l.channel)) lanes.now) result }
 {
     let mut next = None;
     for lane in lanes {
         next = sooner(now, next, lane.due());
+    }
+    next
+}
+
+/// The moment that comes next behind `now`: the least at which a channel may make a turn that may make none by then, or at
+/// which operations arrive for which a host waits.
+fn next_moment<C: Channel>(
+    rows: &[Row],
+    lanes: &[Lane<C>],
+    stations: &[Station],
+    now: u64,
+) -> Option<u64>
+    ensures { IsNext now (map (λ l. due_of l.pace (C.free l.channel)) lanes.now ++ map (λ s. spec_comes_at rows.now s.passed) stations.now) result }
+{
+    let mut next = next_turn(lanes, now);
+    for station in stations {
+        next = sooner(now, next, comes_at(rows, station.passed));
     }
     next
 }
@@ -304,13 +330,13 @@ pub(crate) fn simulate<R: Wait, C: Channel + Drop>(
 ) -> Settled<C>
     ensures lanes { map (λ l. C.queues l.channel) result.lanes.items ≡ map (λ l. C.queues l.channel) lanes.items }
     ensures stations { HaveSamePorts stations result.stations }
-    ensures rest { Each (Rests course.now.rows.now (map (λ l. l.pace) result.lanes.items)) result.stations }
+    ensures rest { (now : ℕ) → result.now ≤ now → now < no_clock → Each (Rests now course.now.rows.now (map (λ l. l.pace) result.lanes.items)) result.stations }
     ensures wait { (now : ℕ) → result.now ≤ now → now < no_clock → Each (λ l. Waits now l.pace (C.free l.channel)) result.lanes.items }
 {
     let mut now = 0u64;
     for _ in rt.forever() {
         settle(rt, course, now, &mut lanes, &mut stations);
-        match next_moment(lanes.as_slice(), now) {
+        match next_moment(course.rows, lanes.as_slice(), &stations, now) {
             Some(next) => now = next,
             None => {
                 return Settled {

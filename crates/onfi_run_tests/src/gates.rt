@@ -1,6 +1,8 @@
 ghost use Rattle.std.specs.Prelude.{◌≡◌, ◌<◌, ◌≤◌, length, IfSome};
 
+use onfi_plan::{PlainPlanner, Plan, Planner, PlannerFault};
 use onfi_planners::ChosenPlanner;
+use onfi_problem::Problem;
 use onfi_run::{run_script, run_script_by};
 use onfi_seq::Gate;
 use std::alloc::Global;
@@ -124,12 +126,34 @@ fn script_of(alloc: Global, rows: &str) -> Option<String> {
     format!(in alloc; "{DEVICE}channels,2\n{rows}end\n").ok()
 }
 
+// Plans as the plain planner does where it is given that limit; given another, it says that memory was refused.
+#[derive(Clone, Copy, Drop)]
+struct Limited {
+    limit: u32,
+}
+
+impl Planner for Limited {
+    ghost use Rattle.std.specs.Prelude.{true};
+    ghost use Rattle.onfi_plan.specs.Certificate.{IsPlain};
+
+    ghost exact = { true };
+
+    ghost certifies = { IsPlain };
+
+    fn plan(&self, alloc: Global, problem: &Problem, limit: u32) -> Result<Plan, PlannerFault> {
+        if limit != self.limit {
+            return Err(PlannerFault::Memory);
+        }
+        PlainPlanner.plan(alloc, problem, limit)
+    }
+}
+
 // Status and text of a run of these rows by that planner, whose two channels wait for each other before their first turns; none where memory
 // was refused or a gate missed something.
-fn meet<R: Threads + Wait + Sync>(
+fn meet<R: Threads + Wait + Sync, P: Planner + Copy + Send + Drop>(
     rt: &R,
     alloc: Global,
-    planner: ChosenPlanner,
+    planner: P,
     limit: u32,
     rows: &str,
 ) -> Option<(u8, Vec<u8>)>
@@ -202,6 +226,17 @@ fn so_they_do_by_searches_that_remember_states(rt: HostRuntime) {
     let (status, text) = meet(&rt, rt.alloc(), planner, 65_536, READS).expect(&rt, "a meeting");
     assert_eq!(rt; status, 0);
     assert!(rt; text.as_slice() == READS_ANSWERED);
+}
+
+// Each of the two channels hands the limit of the run on to its planner, and another one is told by the status.
+#[test]
+fn both_channels_plan_within_the_limit_of_the_run(rt: HostRuntime) {
+    let planner = Limited { limit: 12_345 };
+    let (status, text) = meet(&rt, rt.alloc(), planner, 12_345, READS).expect(&rt, "a meeting");
+    assert_eq!(rt; status, 0);
+    assert!(rt; text.as_slice() == READS_ANSWERED);
+    let (other, _) = meet(&rt, rt.alloc(), planner, 12_344, READS).expect(&rt, "a meeting");
+    assert_eq!(rt; other, 4);
 }
 
 // With one node each of the two can be planned alone, and not both, but by the best plan so far.

@@ -83,15 +83,18 @@ fn first_form(rows: &[Row]) -> Result<Device, ScriptFault>
     })
 }
 
-/// Whether there are bytes of the page.
-fn has_page(rows: &[Row]) -> bool
+/// Whether rows have bytes of a parameter page.
+pub fn has_page(rows: &[Row]) -> bool
     ensures { result ≡ list_any spec.is_page rows.now }
 {
     rows.iter().any(|row| row.is_page())
 }
 
-/// All bytes of the page, joined.
-fn page_bytes(alloc: Global, rows: &[Row]) -> Result<Vec<u8>, AllocError>
+/// The bytes of a parameter page, those of all its rows joined.
+///
+/// # Errors
+/// Want of memory.
+pub fn page_bytes(alloc: Global, rows: &[Row]) -> Result<Vec<u8>, AllocError>
     ensures { IfOk result (λ v. v.items ≡ spec.page_bytes rows.now) }
 {
     let mut bytes = Vec::new(alloc);

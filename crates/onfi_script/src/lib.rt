@@ -47,7 +47,7 @@ pub use device::{Device, PageDevice};
 pub use early::near_within;
 pub use fault::{Refusal, RowStop, ScriptFault, Stop};
 pub use field::number;
-pub use forms::{device_of, page_device, row_on};
+pub use forms::{device_of, has_page, page_bytes, page_device, row_on};
 pub use laws::{strangers_are_illegal, text_is_read_back};
 pub use operation::{Aim, Content, Operation};
 pub use plan_text::{Plan, PlanStop, read_plan};

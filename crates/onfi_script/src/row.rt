@@ -212,7 +212,7 @@ pub enum Row {
         number: u32,
         length: u64,
     },
-    /// When the operations behind it arrive, up to the next such row; those before the first arrive at 0.
+    /// When the operations behind it arrive, up to the next such row; those before the first arrive as they are submitted.
     At {
         moment: u64,
     },

@@ -1,5 +1,6 @@
 use Rattle.std.proofs.Common.{◌∙◌, ap, map, sym, subst, take}
 use Rattle.std.proofs.lemmas.Bool.{or_parts}
+use Rattle.onfi_run.specs.Arriving.{HaveCome}
 use Rattle.onfi_run.specs.Operations.{requests_on}
 use Rattle.onfi_run.specs.Sending.{HasSent}
 use Rattle.onfi_run.proofs.Sends.{all_still_sending, same_keys}
@@ -34,9 +35,13 @@ returns-clause-rests g c none =
     let emptied = c.collect_all-collected.ensures.emptied both.1 in (
       stands.0,
       record {
-        stands = stands_as c.args.course.now.rows.now _ _ c.args.station.now.number _ c.args.station.now.passed _ c.args.station.now.ports.items _
+        stands = stands_as c.args.now c.args.course.now.rows.now _ _ c.args.station.now.number _ c.args.station.now.passed _ c.args.station.now.ports.items _
             (ap (λ ls. map (λ l. l.pace) ls.items) stands.0) (c.collect_all-collected.ensures.number ∙ c.pass_rows-passed.ensures.number)
             (c.collect_all-collected.ensures.passed ∙ stands.2) (emptied.0 ∙ stands.1) stands.3;
         emptied = emptied.1;
       },
     )
+
+pub returns-clause-come : goal.returns-clause-come
+returns-clause-come g c come =
+    subst (λ n. HaveCome c.args.now (take n c.args.course.now.rows.now)) (sym c.collect_all-collected.ensures.passed) (c.pass_rows-passed.ensures.come come)

@@ -17,10 +17,10 @@ returns-clause-rest g c none =
     let r3 = c.act-fourth.ensures.rests back.1 in
     let n : length c.args.stations.now ≡ 4 = omega arith in (
       r3.0 ∙ r2.0 ∙ r1.0 ∙ r0.0,
-      each_set (Rests rows (map (λ l. l.pace) c.act-fourth.new.lanes.items)) c.args.stations.now c.act-first.new.station c.act-second.new.station c.act-third.new.station c.act-fourth.new.station n
-          (subst (λ ls. Rests rows (map (λ l. l.pace) ls.items) c.act-first.new.station) (sym (r3.0 ∙ r2.0 ∙ r1.0)) r0.1)
-          (subst (λ ls. Rests rows (map (λ l. l.pace) ls.items) c.act-second.new.station) (sym (r3.0 ∙ r2.0)) r1.1)
-          (subst (λ ls. Rests rows (map (λ l. l.pace) ls.items) c.act-third.new.station) (sym r3.0) r2.1) r3.1,
+      each_set (Rests c.args.now rows (map (λ l. l.pace) c.act-fourth.new.lanes.items)) c.args.stations.now c.act-first.new.station c.act-second.new.station c.act-third.new.station c.act-fourth.new.station n
+          (subst (λ ls. Rests c.args.now rows (map (λ l. l.pace) ls.items) c.act-first.new.station) (sym (r3.0 ∙ r2.0 ∙ r1.0)) r0.1)
+          (subst (λ ls. Rests c.args.now rows (map (λ l. l.pace) ls.items) c.act-second.new.station) (sym (r3.0 ∙ r2.0)) r1.1)
+          (subst (λ ls. Rests c.args.now rows (map (λ l. l.pace) ls.items) c.act-third.new.station) (sym r3.0) r2.1) r3.1,
     )
 
 pub returns-clause-moments : goal.returns-clause-moments

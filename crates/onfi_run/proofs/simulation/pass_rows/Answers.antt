@@ -13,6 +13,7 @@ loop-init g c = (
   λ sent. sent,
   same_moment c.args.now c.args.station.now.ports.items c.args.station.now.ports.items refl,
   λ none. (refl, refl, refl, refl),
+  λ come. come,
 )
 
 pub loop-preserved : goal.loop-preserved
@@ -29,6 +30,7 @@ loop-preserved g c =
           subst (λ n. HasSent geometry (take is.passed rows) n is.ports.items) c.loop.invariant.2 (c.pass_row.ensures.sent here),
       moment_then c.args.now c.args.station.now.ports.items was.ports.items is.ports.items c.loop.invariant.4 c.pass_row.ensures.moments,
       λ none. absurd (cc),
+      λ come. c.pass_row.ensures.come (c.loop.invariant.6 come),
     )
 
 pub returns-then-not-pass_row-clause-moments : goal.returns-then-not-pass_row-clause-moments
@@ -42,7 +44,7 @@ returns-then-not-pass_row-clause-stands g c none =
       s.0 ∙ same.0,
       s.1 ∙ same.1,
       s.2 ∙ same.2,
-      stands_as c.args.course.now.rows.now _ _ _ _ _ _ _ _ (ap (λ ls. map (λ l. l.pace) ls.items) (sym same.0)) (sym c.loop.invariant.2) (sym same.2) (sym same.1) s.3,
+      stands_as c.args.now c.args.course.now.rows.now _ _ _ _ _ _ _ _ (ap (λ ls. map (λ l. l.pace) ls.items) (sym same.0)) (sym c.loop.invariant.2) (sym same.2) (sym same.1) s.3,
     )
 
 pub returns-then-not-pass_row-clause-sent : goal.returns-then-not-pass_row-clause-sent
@@ -58,3 +60,9 @@ pub returns-after-loop-clause-stands : goal.returns-after-loop-clause-stands
 returns-after-loop-clause-stands g c none =
     let same = c.loop.invariant.5 none in
     (same.0, same.1, same.2, is_through (omega (arith, c.loop-test.false, same.3)))
+
+pub returns-then-not-pass_row-clause-come : goal.returns-then-not-pass_row-clause-come
+returns-then-not-pass_row-clause-come g c come = c.pass_row.ensures.come (c.loop.invariant.6 come)
+
+pub returns-after-loop-clause-come : goal.returns-after-loop-clause-come
+returns-after-loop-clause-come g c come = c.loop.invariant.6 come

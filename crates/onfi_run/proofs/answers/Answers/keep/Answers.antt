@@ -2,7 +2,7 @@ use Rattle.std.proofs.Common.{sym, ap, ◌∙◌, subst}
 use Rattle.std.specs.List.{AllByRecursion as Each}
 use Rattle.onfi_run.specs.Answers.{IsSuited, came}
 use Rattle.onfi_run.specs.Report.{places}
-use Rattle.onfi_run.proofs.Suited.{came_kind, came_suited, each_changed, same_places}
+use Rattle.onfi_run.proofs.Suited.{came_place, came_suited, each_changed, same_places}
 use Rattle.onfi_run.proofs.answers.Answers.keep.Goals as goal
 
 pub invariant_of-self : goal.invariant_of-self
@@ -14,4 +14,4 @@ invariant_of-self c =
 pub returns-clause-same : goal.returns-clause-same
 returns-clause-same c =
     let r = c.args.reply in
-    ap places c.come_at.ensures ∙ same_places (came c.args.now r.answer) (came_kind c.args.now r.answer) c.self.inside.by_serial.items r.serial ∙ ap places c.self.view_is
+    ap places c.come_at.ensures ∙ same_places (came c.args.now r.answer) (came_place c.args.now r.answer) c.self.inside.by_serial.items r.serial ∙ ap places c.self.view_is
