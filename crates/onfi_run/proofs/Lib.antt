@@ -1,3 +1,4 @@
+pub mod Arrivals
 pub mod Numbered
 pub mod Rows
 pub mod ByHost

@@ -1,3 +1,4 @@
+pub mod Arriving
 pub mod Requests
 pub mod Setup
 pub mod Chips

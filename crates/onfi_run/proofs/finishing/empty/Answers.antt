@@ -1,6 +1,6 @@
 use Rattle.std.proofs.Common.{◌∙◌, ap, refl}
 use Rattle.onfi_reply.specs.Ends.{InboxView}
-use Rattle.onfi_run.proofs.Collecting.{empties_more, empties_none, emptied}
+use Rattle.onfi_run.proofs.Collecting.{empties_more, empties_none}
 use Rattle.onfi_run.proofs.finishing.empty.Goals as goal
 
 pub loop-init : goal.loop-init

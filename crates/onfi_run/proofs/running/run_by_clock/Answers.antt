@@ -1,4 +1,4 @@
-use Rattle.std.proofs.Common.{length, ◌∙◌, subst, map, sym, ap}
+use Rattle.std.proofs.Common.{length, ◌∙◌, subst, map}
 use Rattle.std.specs.Prelude.{true}
 use Rattle.std.proofs.lemmas.List.{length-map}
 use Rattle.std.proofs.lemmas.Result.{IfOk-weaker}

@@ -1,4 +1,4 @@
-use Rattle.std.proofs.Common.{◌≡◌, ◌∙◌, ap, map, refl, subst, sym}
+use Rattle.std.proofs.Common.{◌∙◌, ap, map, refl, subst, sym}
 use Rattle.onfi_run.specs.declared.lane.Lane.{Lane}
 use Rattle.onfi_run.specs.declared.pace.Pace.{Pace}
 use Rattle.onfi_run.specs.Moments.{Makes}

@@ -10,7 +10,7 @@ use Rattle.onfi_run.proofs.simulation.next_moment.Goals as goal
 pub loop-station-init : goal.loop-station-init
 loop-station-init g c =
     let due : Lane g.row.C.Denot → ℕ = λ x. due_of x.pace (g.C.Channel.free x.channel) in
-    subst (λ l. IsNext c.args.now l c.next_turn.result) (sym (append-nil (map due c.args.lanes.now))) c.next_turn.ensures
+    subst (λ l. IsNext c.args.now l c.next_turn-next.result) (sym (append-nil (map due c.args.lanes.now))) c.next_turn-next.ensures
 
 pub loop-station-preserved : goal.loop-station-preserved
 loop-station-preserved g c =

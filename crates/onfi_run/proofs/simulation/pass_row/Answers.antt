@@ -1,7 +1,7 @@
-use Rattle.std.proofs.Common.{length, refl, arith, subst, sym, take}
+use Rattle.std.proofs.Common.{refl, arith, subst, sym, take}
 use Rattle.onfi_run.specs.Arriving.{HaveCome}
 use Rattle.onfi_run.specs.Resting.{is_early, is_through}
-use Rattle.onfi_run.proofs.Arriving.{come_more}
+use Rattle.onfi_run.proofs.Arrivals.{come_more}
 use Rattle.onfi_run.proofs.Moments.{same_moment}
 use Rattle.onfi_run.proofs.Resting.{before_row}
 use Rattle.onfi_run.proofs.simulation.pass_row.Goals as goal

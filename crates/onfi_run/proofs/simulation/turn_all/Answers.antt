@@ -1,4 +1,4 @@
-use Rattle.std.proofs.Common.{ap, ◌∙◌, ◌≡◌, ◌<◌, length, length-set, sym, subst, take, arith}
+use Rattle.std.proofs.Common.{ap, ◌∙◌, ◌<◌, length, length-set, sym, subst, arith}
 use Rattle.std.specs.Prelude.{IfSome, slice_get}
 use Rattle.std.specs.List.{AllByRecursion as Each}
 use Rattle.std.proofs.Math.Seq.{map-set_same}

@@ -1,9 +1,8 @@
-use Rattle.std.proofs.Common.{◌≡◌, ◌<◌, ◌∙◌, length, take, refl, sym, ap, subst, arith}
+use Rattle.std.proofs.Common.{◌<◌, ◌∙◌, length, refl, sym, subst, arith}
 use Rattle.std.specs.Prelude.{IfSome, slice_get}
 use Rattle.std.specs.List.{AllByRecursion as Each}
 use Rattle.std.proofs.lemmas.Bool.{or_parts}
-use Rattle.std.proofs.lemmas.List.{length-map, take_all}
-use Rattle.onfi_run.specs.Keys.{port_state}
+use Rattle.std.proofs.lemmas.List.{take_all}
 use Rattle.onfi_run.specs.Resting.{IsEmptied}
 use Rattle.onfi_run.proofs.Moments.{moment_then, same_moment}
 use Rattle.onfi_run.proofs.Resting.{each_more}

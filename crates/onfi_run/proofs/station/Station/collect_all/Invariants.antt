@@ -1,4 +1,4 @@
-use Rattle.std.proofs.Common.{◌≡◌, false, length, take}
+use Rattle.std.proofs.Common.{◌≡◌, false, take}
 use Rattle.std.specs.List.{AllByRecursion as Each}
 use Rattle.onfi_run.specs.Keys.{SendsNothing}
 use Rattle.onfi_run.specs.Moments.{AtMoment}

@@ -1,5 +1,5 @@
-use Rattle.std.proofs.Common.{ap, ◌≡◌, ◌∙◌, List, [], ◌∷◌, ◌++◌, Some, subst, sym, arith}
-use Rattle.std.specs.Prelude.{IfSome, IfNone}
+use Rattle.std.proofs.Common.{ap, ◌∙◌, List, [], ◌∷◌, ◌++◌, Some, subst, sym, arith}
+use Rattle.std.specs.Prelude.{IfNone}
 use Rattle.std.proofs.Math.Seq.{map-set_same}
 use Rattle.onfi_request.specs.declared.request.Request.{Request}
 use Rattle.onfi_run.specs.declared.port.Port.{Port}

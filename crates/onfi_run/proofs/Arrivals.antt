@@ -1,7 +1,7 @@
 -- When operations arrive, row by row.
-use Rattle.std.proofs.Common.{◌≡◌, ◌<◌, ◌≤◌, ◌+◌, ℕ, List, [], ◌∷◌, ◌++◌, length, get_or, take, drop, map, refl, sym, ap, ◌∙◌, subst, arith, append_assoc, append-nil, Some, None}
-use Rattle.std.specs.Prelude.{Option, IfSome, slice_get}
-use Rattle.std.specs.List.{cons_option, AllByRecursion as Each}
+use Rattle.std.proofs.Common.{◌≡◌, ◌<◌, ◌≤◌, ◌+◌, ℕ, List, [], ◌∷◌, ◌++◌, length, get_or, take, drop, refl, sym, ap, ◌∙◌, subst, append_assoc, append-nil, Some, None}
+use Rattle.std.specs.Prelude.{Option, IfSome}
+use Rattle.std.specs.List.{cons_option}
 use Rattle.std.specs.Option.{option_map, option_or, unwrap_or}
 use Rattle.std.proofs.lemmas.List.{at_drop_more, drop_all, take_more}
 use Rattle.std.proofs.lemmas.Option.{slice_get-get_or}
@@ -24,6 +24,7 @@ put_before arrives (Some k) more = refl
 pub next_expected : (arrives : Option ℕ) (rows : List Row) (host channel at : ℕ) (row : Row) (had has : AnswersView) → at < length rows → row ≡ get_or rows at row
     → has ≡ had ++ cons_option (option_map (λ k. awaited (expected arrives k)) (kind_in host channel row)) []
     → had ++ awaiting (expected_from arrives (drop at rows) host channel) ≡ has ++ awaiting (expected_from (option_or (moment_in row) arrives) (drop (at + 1) rows) host channel)
+unfolding expected_from
 next_expected arrives rows host channel at row had has h is put =
     let rest = expected_from (option_or (moment_in row) arrives) (drop (at + 1) rows) host channel in
     let one = cons_option (option_map (λ k. awaited (expected arrives k)) (kind_in host channel row)) [] in
@@ -33,6 +34,7 @@ next_expected arrives rows host channel at row had has h is put =
 
 pub none_expected : (arrives : Option ℕ) (rows : List Row) (host channel at : ℕ) (had : AnswersView) → length rows ≤ at
     → had ++ awaiting (expected_from arrives (drop at rows) host channel) ≡ had
+unfolding expected_from
 none_expected arrives rows host channel at had h =
     ap (λ l. had ++ awaiting (expected_from arrives l host channel)) (drop_all at rows h) ∙ append-nil had
 

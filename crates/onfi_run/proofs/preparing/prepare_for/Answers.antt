@@ -4,7 +4,7 @@ use Rattle.onfi_script.specs.Stop.{IfFault}
 use Rattle.onfi_run.specs.Prepared.{first_refused}
 use Rattle.onfi_run.specs.Prepares.{has_no_device, has_wrong_row}
 use Rattle.onfi_run.specs.Setup.{channels_in, hosts_in}
-use Rattle.onfi_run.proofs.preparing.prepare.Goals as goal
+use Rattle.onfi_run.proofs.preparing.prepare_for.Goals as goal
 
 pub returns-in-Ok-Some : goal.returns-in-Ok-Some
 returns-in-Ok-Some c =
