@@ -1,10 +1,9 @@
 mod Answering
 mod Dues
-mod Few
+mod Filled
 mod Geometries
 mod Giving
 mod Horizons
-mod Mapped
 mod Next
 mod Orders
 mod Recalled
