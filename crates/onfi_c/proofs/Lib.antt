@@ -1,5 +1,6 @@
 mod Answering
 mod Dues
+mod Early
 mod Filled
 mod Geometries
 mod Giving

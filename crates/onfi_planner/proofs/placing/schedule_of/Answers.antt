@@ -39,9 +39,11 @@ taken_from-starts-requires c =
     let e = ap length c.put_in_front-in-Start.ensures ∙ length-set c.loop-begun.rest.items c.lun-lun.result _ in
     omega arith
 
-pub insert-requires-clause-room : goal.insert-requires-clause-room
-insert-requires-clause-room c =
-    start_room c.args.problem.now c.args.steps.now c.loop-begun.begun-index none c.requires.limits.problem c.requires.run c.loop-begun-test.true c.requires.limits c.in-Start.lun c.in-Start.place (record { rest = c.loop-begun.rest.items; groups = c.loop-begun.groups.items }) c.in-Start.is c.loop-begun.invariant
+pub insert-requires : goal.insert-requires
+insert-requires c = (omega arith, (
+  omega arith,
+  start_room c.args.problem.now c.args.steps.now c.loop-begun.begun-index none c.requires.limits.problem c.requires.run c.loop-begun-test.true c.requires.limits c.in-Start.lun c.in-Start.place (record { rest = c.loop-begun.rest.items; groups = c.loop-begun.groups.items }) c.in-Start.is c.loop-begun.invariant,
+))
 
 pub loop-begun-preserved : goal.loop-begun-preserved
 loop-begun-preserved c =
@@ -54,15 +56,15 @@ loop-begun-preserved c =
       | in-Start w ↦ (
           let lun = w.lun-lun.ensures ∙ ap lun_of w.group-group.ensures in
           let fits = start_fits c.args.problem.now c.args.steps.now c.loop-begun.begun-index none c.requires.limits.problem c.requires.run c.loop-begun-test.true w.in-Start.lun w.in-Start.place w.lun-lun.result s w.in-Start.is lun c.loop-begun.invariant in
-          rw (w.rest-is, w.groups-is) (start_stacked x.groups steps i none (empty x.problem) s w.in-Start.lun w.in-Start.place w.lun-lun.result _ _ w.taken_from-starts.result w.new-in-Start.result _ c.loop-begun-test.true c.loop-begun.invariant w.in-Start.is lun fits.there w.put_in_front-in-Start.ensures w.taken_from-starts.ensures.none w.taken_from-starts.ensures.taken (w.new-in-Start.ensures.members ∙ (w.copy.ensures ∙ w.group-group.ensures)) w.new-in-Start.ensures.starts w.insert.ensures.items))
+          rw (w.rest-is, w.groups-is) (start_stacked x.groups steps i none (empty x.problem) s w.in-Start.lun w.in-Start.place w.lun-lun.result _ _ w.taken_from-starts.result w.new.result _ c.loop-begun-test.true c.loop-begun.invariant w.in-Start.is lun fits.there w.put_in_front-in-Start.ensures w.taken_from-starts.ensures.none w.taken_from-starts.ensures.taken (w.new.ensures.members ∙ (w.copy.ensures ∙ w.group-group.ensures)) w.new.ensures.starts w.insert.ensures.items))
     ]
 
 pub returns : goal.returns
 returns c =
     let x = c.args.problem.now in
     let steps = run_of x.groups c.args.steps.now in
-    let is = stacked_all x.problem x.groups c.args.steps.now c.loop-begun.begun-index c.requires.run.0 (record { rest = c.loop-begun.rest.items; groups = c.loop-begun.groups.items }) c.new.result c.requires.run.2 c.loop-begun-test.false c.loop-begun.invariant c.new.ensures.rest c.new.ensures.groups in
-    let plan = legal_plan x.problem steps c.new.result in
+    let is = stacked_all x.problem x.groups c.args.steps.now c.loop-begun.begun-index c.requires.run.0 (record { rest = c.loop-begun.rest.items; groups = c.loop-begun.groups.items }) c.new-2.result c.requires.run.2 c.loop-begun-test.false c.loop-begun.invariant c.new-2.ensures.rest c.new-2.ensures.groups in
+    let plan = legal_plan x.problem steps c.new-2.result in
     record {
       is = is;
       legal = (plan c.requires.run.0 c.requires.limits.problem c.requires.run.2 is).0;
