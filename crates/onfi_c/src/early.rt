@@ -44,9 +44,7 @@ fn tell(
     let Ok(planned) = near_within(alloc, problem, &weights, slack, limit) else {
         return Err(Status::Memory);
     };
-    let Ok(schedule) = written::legal_schedule(alloc, problem, &planned.schedule) else {
-        return Err(Status::Memory);
-    };
+    let schedule = written::legal_schedule(problem, &planned.schedule);
     Ok(Told {
         plan: PlainWithin {
             schedule,

@@ -32,9 +32,7 @@ pub fn tell(alloc: Global, problem: &Problem, limit: u32) -> Result<Told<PlainPl
         Ok(planned) => planned,
         Err(fault) => return Err(Status::of_plan(fault)),
     };
-    let Ok(schedule) = written::legal_schedule(alloc, problem, &planned.schedule) else {
-        return Err(Status::Memory);
-    };
+    let schedule = written::legal_schedule(problem, &planned.schedule);
     Ok(Told {
         plan: PlainPlan {
             schedule,

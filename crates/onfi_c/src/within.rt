@@ -35,9 +35,7 @@ fn tell(alloc: Global, problem: &Problem, limit: u32) -> Result<Told<PlainWithin
     };
     let _limits = problem.bus_free();
     proved_is_below();
-    let Ok(schedule) = written::legal_schedule(alloc, problem, &planned.schedule) else {
-        return Err(Status::Memory);
-    };
+    let schedule = written::legal_schedule(problem, &planned.schedule);
     Ok(Told {
         plan: PlainWithin {
             schedule,

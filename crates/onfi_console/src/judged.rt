@@ -143,7 +143,7 @@ fn said(alloc: Global, input: &Input<'_>) -> Option<PlanSaid> {
         text.as_slice(),
     ).ok()?;
     let ends = plan.finish();
-    let schedule = plan.schedule(alloc, problem.lun_count()).ok()?;
+    let schedule = plan.schedule(problem.lun_count());
     Some(PlanSaid {
         problem,
         schedule,

@@ -63,7 +63,7 @@ pub fn run_batch<C: Chip>(
     let Ok(mut lanes) = Lanes::open(alloc, geometry.lun_count) else {
         return Err(BatchFault::Memory);
     };
-    while let Some(due) = flight.due(alloc) {
+    while let Some(due) = flight.due() {
         flight.run(alloc, chip, &target, &mut lanes, due)?;
     }
     Ok(flight.replies)

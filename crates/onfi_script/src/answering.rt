@@ -10,7 +10,7 @@ use crate::alone::judged_alone;
 use crate::command::{Command, Finding, Output};
 use crate::early::{Early, planned_near};
 use crate::fault::Stop;
-use crate::plan_text::{PlanStop, read_plan};
+use crate::plan_text::read_plan;
 use crate::reading::{Script, read_script};
 use crate::remembered::{judged_known, planned_known};
 use crate::script::plan_text_of;
@@ -102,15 +102,14 @@ fn checked(
     match read_plan(alloc, problem.wants(), text) {
         Ok((plan, certificate)) => {
             let ends = plan.finish();
-            let schedule = plan.schedule(alloc, problem.lun_count())?;
+            let schedule = plan.schedule(problem.lun_count());
             if remember {
                 judged_known(alloc, problem, &schedule, ends, certificate)
             } else {
                 judged(alloc, problem, &schedule, ends, certificate)
             }
         }
-        Err(PlanStop::Wrong(number)) => refused_at(alloc, "plan", number),
-        Err(PlanStop::Memory) => Err(AllocError),
+        Err(number) => refused_at(alloc, "plan", number),
     }
 }
 

@@ -50,7 +50,7 @@ pub use field::number;
 pub use forms::{device_of, has_page, page_bytes, page_device, row_on};
 pub use laws::{strangers_are_illegal, text_is_read_back};
 pub use operation::{Aim, Content, Operation};
-pub use plan_text::{Plan, PlanStop, read_plan};
+pub use plan_text::{Plan, read_plan};
 pub use plan_within::{PlanWithin, read_plan_within};
 pub use purpose::Purpose;
 pub use reading::read_rows;

@@ -7,7 +7,6 @@ ghost use Rattle.onfi_script.specs.Text as spec;
 
 use crate::command::Output;
 use crate::early::{best_within, told_near};
-use crate::plan_text::PlanStop;
 use crate::plan_within::{PlanWithin, read_plan_within};
 use crate::text::{Answer, accepted, refused_at, refused_for, within, within_refused, within_text};
 use onfi_early::Weights;
@@ -98,10 +97,9 @@ pub fn checked_within(alloc: Global, problem: &Problem, text: &[u8]) -> Result<A
             },
         ) => {
             let ends = plan.finish();
-            let schedule = plan.schedule(alloc, problem.lun_count())?;
+            let schedule = plan.schedule(problem.lun_count());
             judged(alloc, problem, &schedule, ends, below, certificate)
         }
-        Err(PlanStop::Wrong(number)) => refused_at(alloc, "plan", number),
-        Err(PlanStop::Memory) => Err(AllocError),
+        Err(number) => refused_at(alloc, "plan", number),
     }
 }
