@@ -65,8 +65,9 @@ class Lengths(unittest.TestCase):
     def test_a_device_of_1200_million_transfers(self) -> None:
         sheet = {**SHEET, "tWC": 25, "tADL": 150}
         strobes = {"tRPRE": 15000, "tRC": 1667, "tRPST": 26000, "tRPSTH": 15000, "tWPRE": 15000, "tDSC": 1667, "tWPST": 7000, "tWPSTH": 25000}
-        for fields, read, program in (({}, 972, 813), ({"spare_bytes": 17}, 973, 814),
-                                      ({"data_bytes": 16384, "spare_bytes": 2048, "tCCS_ns": 400}, 16095, 15736)):
+        pages: List[Tuple[Dict[str, int], int, int]] = [
+            ({}, 972, 813), ({"spare_bytes": 17}, 973, 814), ({"data_bytes": 16384, "spare_bytes": 2048, "tCCS_ns": 400}, 16095, 15736)]
+        for fields, read, program in pages:
             found = device.strobed_spans_of({**NUMBERS, **fields}, sheet, strobes)
             self.assertEqual((found["read"].post, found["program"].cmd, found["erase"].post), (read, program, 338))
 
@@ -85,7 +86,8 @@ class Texts(unittest.TestCase):
         for number in range(DRAWN):
             rest, words = drawn_rows(rng), [*COMMANDS[number % len(COMMANDS)]]
             words += ["--limit", "2000"] if words[0] == "plan" else []
-            texts = ["\n".join(PAGE + rows_of(rng, *told) + rest) for told in ((SHEET, {}), alike(rng))]
+            sheets: List[Told] = [(SHEET, {}), alike(rng)]
+            texts = ["\n".join(PAGE + rows_of(rng, *told) + rest) for told in sheets]
             by_sheet, by_strobes = (support.run_program(*words, given=text) for text in texts)
             self.assertEqual((by_strobes.stdout, by_strobes.returncode), (by_sheet.stdout, by_sheet.returncode), texts[1])
             planned += by_sheet.returncode == 0
