@@ -12,9 +12,10 @@ use Rattle.onfi_timing.specs.declared.sheet.Sheet.{Sheet as SheetOf}
 use Rattle.onfi_timing.specs.declared.spans.Spans.{Spans as Lengths}
 use Rattle.onfi_timing.specs.declared.timing.Timing.{Timing}
 use Rattle.onfi_timing.specs.Kinds.{spans_of}
+use Rattle.onfi_timing.specs.declared.strobe_fault.StrobeFault.{StrobeFault}
 use Rattle.onfi_timing.specs.declared.strobe_fault.StrobeFault.TheVariants as in_strobes
 use Rattle.onfi_timing.specs.declared.strobes.Strobes.{Strobes}
-use Rattle.onfi_timing.specs.Strobes.{IsBesideFault, IsStrobedFault, IsStrobedTiming}
+use Rattle.onfi_timing.specs.Strobes.{IsStrobedFault, IsStrobedTiming}
 use Rattle.onfi_timing.specs.Table.{IsTiming, IsTimingFault}
 use Rattle.onfi_script.specs.declared.device.Device.{Device}
 use Rattle.onfi_script.specs.declared.device.PageDevice.{PageDevice}
@@ -94,12 +95,10 @@ IsTimed page g sheet None t = IsTiming page g sheet t
 IsTimed page g sheet (Some strobes) t = IsStrobedTiming page g sheet strobes t
 
 -- why there are none: what is wrong with the sheet, or with the strobes beside a sheet that is right
-abbrev pub IsUntimed : SheetOf → Option Strobes → ScriptFault → Type 0
-IsUntimed sheet None (fault.Sheet f) = IsTimingFault sheet f
-IsUntimed sheet (Some strobes) (fault.Sheet f) = IsBesideFault sheet f
-IsUntimed sheet (Some strobes) (fault.Strobe (in_strobes.Sheet f)) = ⊥
-IsUntimed sheet (Some strobes) (fault.Strobe f) = IsStrobedFault sheet strobes f
-IsUntimed sheet strobes _ = ⊥
+abbrev pub IsUntimed : SheetOf → Option Strobes → StrobeFault → Type 0
+IsUntimed sheet None (in_strobes.Sheet f) = IsTimingFault sheet f
+IsUntimed sheet None _ = ⊥
+IsUntimed sheet (Some strobes) f = IsStrobedFault sheet strobes f
 
 -- page, sheet and strobes tell of chips of this geometry and timing
 pub record IsPageDevice (bytes : List ℕ) (sheet : SheetOf) (strobes : Option Strobes) (g : Geometry) (t : Timing) : Type 0 where
@@ -114,7 +113,10 @@ abbrev pub IsUndescribed : List ℕ → SheetOf → Option Strobes → ScriptFau
 IsUndescribed bytes sheet strobes (fault.Page Short) = length bytes < 256
 IsUndescribed bytes sheet strobes (fault.Page NoCopy) = (256 ≤ length bytes) × ((number : ℕ) → ¬ IsPageCopy (copy_at bytes number))
 IsUndescribed bytes sheet strobes (fault.Geometry f) = (page : List ℕ) × IsFirstCopy bytes page × IsFirstFault page f
-IsUndescribed bytes sheet strobes f = (page : List ℕ) × IsFirstCopy bytes page × NoFault page × IsUntimed sheet strobes f
+IsUndescribed bytes sheet strobes (fault.Sheet f) = (page : List ℕ) × IsFirstCopy bytes page × NoFault page × IsUntimed sheet strobes (in_strobes.Sheet f)
+IsUndescribed bytes sheet strobes (fault.Strobe (in_strobes.Sheet f)) = ⊥
+IsUndescribed bytes sheet strobes (fault.Strobe f) = (page : List ℕ) × IsFirstCopy bytes page × NoFault page × IsUntimed sheet strobes f
+IsUndescribed bytes sheet strobes _ = ⊥
 
 abbrev pub TellsPageDevice : List ℕ → SheetOf → Option Strobes → Result PageDevice ScriptFault → Type 0
 TellsPageDevice bytes sheet strobes told = MatchResult told (λ d. IsPageDevice bytes sheet strobes d.geometry d.timing) (IsUndescribed bytes sheet strobes)

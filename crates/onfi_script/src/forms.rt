@@ -107,19 +107,15 @@ fn timed(
     geometry: &Geometry,
     sheet: &Sheet,
     strobes: Option<Strobes>,
-) -> Result<Timing, ScriptFault>
+) -> Result<Timing, StrobeFault>
     ensures { MatchResult result (spec.IsTimed page.now geometry.now sheet.now strobes) (spec.IsUntimed sheet.now strobes) }
 {
-    let Some(strobes) = strobes else {
-        return match Timing::of(page, geometry, sheet) {
+    match strobes {
+        Some(strobes) => Timing::of_strobes(page, geometry, sheet, &strobes),
+        None => match Timing::of(page, geometry, sheet) {
             Ok(timing) => Ok(timing),
-            Err(fault) => Err(ScriptFault::Sheet(fault)),
-        };
-    };
-    match Timing::of_strobes(page, geometry, sheet, &strobes) {
-        Ok(timing) => Ok(timing),
-        Err(StrobeFault::Sheet(fault)) => Err(ScriptFault::Sheet(fault)),
-        Err(fault) => Err(ScriptFault::Strobe(fault)),
+            Err(fault) => Err(StrobeFault::Sheet(fault)),
+        },
     }
 }
 
@@ -139,8 +135,11 @@ fn described(
         Ok(geometry) => geometry,
         Err(fault) => return Err(ScriptFault::Geometry(fault)),
     };
-    let timing = timed(&page, &geometry, sheet, strobes)?;
-    Ok(PageDevice { geometry, timing })
+    match timed(&page, &geometry, sheet, strobes) {
+        Ok(timing) => Ok(PageDevice { geometry, timing }),
+        Err(StrobeFault::Sheet(fault)) => Err(ScriptFault::Sheet(fault)),
+        Err(fault) => Err(ScriptFault::Strobe(fault)),
+    }
 }
 
 /// The chips that page, sheet and strobes of rows tell of, which show this.
