@@ -42,6 +42,61 @@ def check_example(test: unittest.TestCase, program: str) -> None:
         test.assertEqual((told.returncode, told.stdout), (1, "refused 83 the value of a row of the sheet is no number, place 2\n"))
 
 
+BESIDE = SHEET.replace("tWC,20", "tWC,25").replace("tRC,20\n", "").replace("tADL,100", "tADL,150")
+STROBES = "tRPRE,15000\ntRC,1667\ntRPST,26000\ntRPSTH,15000\ntWPRE,15000\ntDSC,1667\ntWPST,7000\ntWPSTH,25000\n"
+
+
+class Strobes(unittest.TestCase):
+    def lengths(self, bytes_: bytes, strobes: onfi.calls.Text = STROBES) -> Tuple[int, int, int]:
+        timing = onfi.timing_of_page(bytes_, BESIDE, strobes).timing
+        return timing.read.post, timing.program.cmd, timing.erase.post
+
+    def test_lengths(self) -> None:
+        self.assertEqual(self.lengths(PAGE), (972, 813, 338))
+        self.assertEqual(self.lengths(PAGE, STROBES.encode()), (972, 813, 338))
+        self.assertEqual(self.lengths(page(spare_bytes=17)), (973, 814, 338))
+        self.assertEqual(self.lengths(page(data_bytes=16384, spare_bytes=2048, tCCS_ns=400)), (16095, 15736, 338))
+        self.assertEqual(self.lengths(PAGE, STROBES.replace("1667", "2000")), (1059, 900, 338))
+
+    def test_all_but_data_and_status_is_as_by_the_sheet(self) -> None:
+        found, plain = onfi.timing_of_page(PAGE, BESIDE, strobes=STROBES), onfi.timing_of_page(PAGE, BESIDE + "tRC,20\n")
+        self.assertEqual((found.geometry, found.rules), (plain.geometry, plain.rules))
+        for one, other in zip(*((it.timing.read, it.timing.program, it.timing.erase) for it in (found, plain))):
+            self.assertEqual((one.gap, one.array), (other.gap, other.array))
+
+    def test_a_read_cycle_of_the_sheet_is_not_looked_at(self) -> None:
+        for cycle in (0, 1, 1000):
+            self.assertEqual(onfi.timing_of_page(PAGE, f"tRC,{cycle}\n" + BESIDE, STROBES), onfi.timing_of_page(PAGE, BESIDE, STROBES))
+
+    def refused(self, name: Type[onfi.Refused], strobes: str, place: int = 0, sheet: str = BESIDE, bytes_: bytes = PAGE) -> None:
+        with self.assertRaises(name) as told:
+            onfi.timing_of_page(bytes_, sheet, strobes)
+        self.assertEqual(told.exception.place, place)
+
+    def test_refusals(self) -> None:
+        for place, row in enumerate(STROBES.splitlines(keepends=True), 1):
+            self.refused(onfi.StrobeMissing, STROBES.replace(row, ""), place)
+            self.refused(onfi.StrobeRepeated, STROBES + row, place)
+        self.refused(onfi.StrobeMissing, "", 1)
+        self.refused(onfi.StrobeUnknown, STROBES + "tDQ,5\n", 9)
+        self.refused(onfi.StrobeUnknown, "tRC\n", 1)
+        self.refused(onfi.StrobeNotANumber, "tRPRE,15\ntRC,1.667\n", 2)
+        self.refused(onfi.SheetTooLong, "tRPRE,4294967296\n")
+        self.refused(onfi.SheetZeroCycle, STROBES.replace("tRC,1667", "tRC,0"))
+        self.refused(onfi.SheetZeroCycle, STROBES.replace("tDSC,1667", "tDSC,0"))
+        self.assertRaisesRegex(TypeError, "^a text of strobes is str or bytes, not dict$", onfi.timing_of_page, PAGE, BESIDE, {"tRC": 1667})
+
+    def test_order(self) -> None:
+        """Page, device, text of the sheet, text of the strobes, what the sheet lacks, what the strobes lack."""
+        self.refused(onfi.PageShort, "tDQ,5\n", sheet="x", bytes_=PAGE[:255])
+        self.refused(onfi.WideBus, "tDQ,5\n", sheet="x", bytes_=page(wide_bus=1))
+        self.refused(onfi.SheetUnknown, "tDQ,5\n", 1, sheet="x")
+        self.refused(onfi.StrobeUnknown, "tDQ,5\n", 1, sheet="tWC,0\n")
+        self.refused(onfi.SheetMissing, "tRC,0\n", 3, sheet="tWC,0\n")
+        self.refused(onfi.SheetZeroCycle, "tRC,0\n", sheet=BESIDE.replace("tWC,25", "tWC,0"))
+        self.refused(onfi.StrobeMissing, "tRC,0\n", 1)
+
+
 class Devices(unittest.TestCase):
     def test_lengths(self) -> None:
         found = onfi.timing_of_page(PAGE, SHEET)

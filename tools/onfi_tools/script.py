@@ -5,7 +5,7 @@ from __future__ import annotations
 import csv
 from typing import Dict, List
 
-from onfi_tools.device import KINDS, Spans, first_copy, numbers_of, spans_of
+from onfi_tools.device import KINDS, Spans, first_copy, numbers_of, spans_of, strobed_spans_of
 
 
 def rows_of(text: str) -> List[List[str]]:
@@ -24,7 +24,9 @@ def lengths_of(text: str) -> Dict[str, Spans]:
         return told
     page = bytes.fromhex("".join(row[1] for row in rows if row[:1] == ["page"] and len(row) == 2))
     sheet = {row[1]: int(row[2]) for row in rows if row[:1] == ["sheet"] and len(row) == 3}
+    strobes = {row[1]: int(row[2]) for row in rows if row[:1] == ["strobe"] and len(row) == 3}
     try:
-        return spans_of(numbers_of(first_copy(page)), sheet)
+        numbers = numbers_of(first_copy(page))
+        return strobed_spans_of(numbers, sheet, strobes) if strobes else spans_of(numbers, sheet)
     except KeyError as missing:
         raise ValueError(f"the script has no row for {missing}") from None

@@ -9,6 +9,8 @@ use Rattle.onfi_addr.specs.declared.fault.GeometryFault.{GeometryFault}
 use Rattle.onfi_addr.specs.declared.fault.GeometryFault.TheVariants.{WideBus, NoStatusEnhanced, NoColumnEnhanced, NoMultiLun, LunCount, PlaneBits, Zero, RowTooWide, ColumnTooWide, TooLarge}
 use Rattle.onfi_timing.specs.declared.fault.SheetFault.{SheetFault}
 use Rattle.onfi_timing.specs.declared.fault.SheetFault.TheVariants as sheet
+use Rattle.onfi_timing.specs.declared.strobe_fault.StrobeFault.{StrobeFault}
+use Rattle.onfi_timing.specs.declared.strobe_fault.StrobeFault.TheVariants as strobe
 use Rattle.onfi_problem.specs.declared.fault.ProblemFault.{ProblemFault}
 use Rattle.onfi_problem.specs.declared.fault.ProblemFault.TheVariants.{TooMany, BadLun, Clock, Memory}
 use Rattle.onfi_problem.specs.Problem.{Problem as ProblemOf}
@@ -30,7 +32,7 @@ use Rattle.onfi_known.specs.declared.fault.KnownTextFault.TheVariants as in_know
 use Rattle.onfi_known.specs.declared.fault.WithinTextFault.{WithinTextFault}
 use Rattle.onfi_known.specs.declared.fault.WithinTextFault.TheVariants as in_within
 use Rattle.onfi_script.specs.declared.fault.ScriptFault.{ScriptFault}
-use Rattle.onfi_script.specs.declared.fault.ScriptFault.TheVariants.{NoEnd, UnknownRow, FieldCount, NotANumber, OutOfRange, Repeated, Missing, Hex, Page, Geometry, Sheet, Problem, Request, NotHere}
+use Rattle.onfi_script.specs.declared.fault.ScriptFault.TheVariants.{NoEnd, UnknownRow, FieldCount, NotANumber, OutOfRange, Repeated, Missing, Hex, Page, Geometry, Sheet, Strobe, Problem, Request, NotHere}
 use Rattle.onfi_script.specs.declared.fault.Refusal.{Refusal}
 
 -- what is written, and the status that the program ends with
@@ -70,6 +72,16 @@ sheet_name sheet.ZeroCycle = codes "Sheet ZeroCycle"
 sheet_name sheet.TooLong = codes "Sheet TooLong"
 sheet_name sheet.Memory = codes "Sheet Memory"
 
+abbrev pub strobe_name : StrobeFault → List ℕ
+strobe_name (strobe.Sheet fault) = sheet_name fault
+strobe_name (strobe.Missing parameter) = codes "Strobe Missing"
+strobe_name (strobe.Repeated parameter) = codes "Strobe Repeated"
+strobe_name (strobe.Unknown row) = codes "Strobe Unknown"
+strobe_name (strobe.NotANumber row) = codes "Strobe NotANumber"
+strobe_name strobe.ZeroCycle = codes "Strobe ZeroCycle"
+strobe_name strobe.TooLong = codes "Strobe TooLong"
+strobe_name strobe.Memory = codes "Strobe Memory"
+
 abbrev pub problem_name : ProblemFault → List ℕ
 problem_name TooMany = codes "Problem TooMany"
 problem_name BadLun = codes "Problem BadLun"
@@ -94,6 +106,7 @@ name_of Hex = codes "Hex"
 name_of (Page fault) = page_name fault
 name_of (Geometry fault) = geometry_name fault
 name_of (Sheet fault) = sheet_name fault
+name_of (Strobe fault) = strobe_name fault
 name_of (Problem fault) = problem_name fault
 name_of (Request fault) = request_name fault
 name_of NotHere = codes "NotHere"
