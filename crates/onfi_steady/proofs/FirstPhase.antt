@@ -1,6 +1,6 @@
 -- The phase that goes first of those that LUNs give.
 use Rattle.std.proofs.Common.{◌≡◌, ◌≢◌, ℕ, ◌+◌, ◌<◌, ◌≤◌, ◌⊎◌, inl, inr, Bool, true, false, List, [], ◌∷◌, length, map, take, get_or, Option, Some, None, refl, sym, ap, ◌∙◌, subst, arith}
-use Rattle.std.specs.Prelude.{if◌then◌else◌, MatchOption}
+use Rattle.std.specs.Prelude.{if◌then◌else◌}
 use Rattle.std.specs.List.{AllByRecursion as All}
 use Rattle.std.proofs.lemmas.Bool.{cases_eq}
 use Rattle.onfi_group.specs.Words.{Has}
@@ -179,7 +179,24 @@ module _ (x : Position) (items : List KeptMove) (own : List (Option KeptMove)) (
   pub choice_named : (phase : Phase) → IsFirstBelow x own 8 (Some phase) → IsNamed x.groups phase.step
   choice_named phase first = let at = first.1 in given_named at.0 phase.step at.1 at.2
 
-  -- what was found: nothing where nothing is left
-  pub chosen : (found : Option Phase) → IsProblem x.problem → IsFirstBelow x own 8 found → MatchOption found (IsDone x.problem) (λ phase. IsRuleChoice x.problem (move_of x.groups phase.step))
-  chosen None ip first = nothing_left ip first
-  chosen (Some phase) ip first = is_choice phase first
+-- the moves are listed, and those that LUNs give are found
+pub record Listed (x : Position) (items : List KeptMove) (own : List (Option KeptMove)) : Type 0 where
+  pub are : AreMoves x.problem (moves_of x.groups items)
+  pub named : All (IsNamed x.groups) items
+  pub gives : AreOwn x items own
+
+pub listed : (x : Position) (items moves : List KeptMove) (own : List (Option KeptMove)) → items ≡ moves → AreMoves x.problem (moves_of x.groups moves) → All (IsNamed x.groups) moves → AreOwn x items own → Listed x items own
+listed x items moves own e are named gives = record {
+  are = subst (λ z. AreMoves x.problem (moves_of x.groups z)) (sym e) are;
+  named = subst (All (IsNamed x.groups)) (sym e) named;
+  gives = gives;
+}
+
+pub choice_of : (x : Position) (items : List KeptMove) (own : List (Option KeptMove)) (phase : Phase) → Listed x items own → IsFirstBelow x own 8 (Some phase) → IsRuleChoice x.problem (move_of x.groups phase.step)
+choice_of x items own phase l first = is_choice x items own l.are l.named l.gives phase first
+
+pub named_of : (x : Position) (items : List KeptMove) (own : List (Option KeptMove)) (phase : Phase) → Listed x items own → IsFirstBelow x own 8 (Some phase) → IsNamed x.groups phase.step
+named_of x items own phase l first = choice_named x items own l.are l.named l.gives phase first
+
+pub done_of : (x : Position) (items : List KeptMove) (own : List (Option KeptMove)) → IsProblem x.problem → Listed x items own → IsFirstBelow x own 8 None → IsDone x.problem
+done_of x items own ip l none = nothing_left x items own l.are l.named l.gives ip none

@@ -1,5 +1,5 @@
 -- The greatest of bounds that are tried one after another.
-use Rattle.std.proofs.Common.{◌≡◌, ℕ, ◌+◌, ◌<◌, ◌≤◌, inl, inr, List, [], ◌∷◌, length, nat_lt, Some, None, refl, sym, ap, ◌∙◌, subst, arith}
+use Rattle.std.proofs.Common.{◌≡◌, ℕ, ◌+◌, ◌<◌, ◌≤◌, inl, inr, List, [], ◌∷◌, ◌++◌, length, Some, None, refl, sym, ap, ◌∙◌, subst, arith}
 use Rattle.std.proofs.lemmas.Bool.{cases_eq, cases_lt, lt-ltb, le-ltb}
 use Rattle.onfi_cert.specs.declared.token.Token.{Token}
 use Rattle.onfi_problem.specs.Problem.{Problem}
@@ -58,15 +58,6 @@ most_with p place most bound e own known b h r = elim (cases_eq (place_of b) pla
   | inr d ↦ known b (omega arith) r
 ]
 
--- the bus bound alone
-pub bus_alone : (p : Problem) (at : ℕ) → at ≡ bus p → IsGreatestBefore p 1 (record { bound = Bus; at = at })
-bus_alone p at e = record {
-  is_first = record {
-    is_first = record { reaches = at_least at (bus p) e; none_before = λ b h r. omega arith };
-    comes_to = e;
-  };
-  most = most_with p 0 (at + 1) Bus refl (not_above p Bus at e) (λ b h r. omega arith);
-}
 
 greater_than : (p : Problem) (place : ℕ) (g : BoundAt) (bound : Bound) (at : ℕ) → g.at < at → place_of bound ≡ place → ComesTo p at bound → Reaches p at bound → IsGreatestBefore p place g → IsGreatestBefore p (place + 1) (record { bound = bound; at = at })
 greater_than p place g bound at h e comes reaches known = record {
@@ -90,43 +81,22 @@ greater_more p place g bound at e comes reaches known = elim (cases_lt g.at at) 
   | inr h ↦ rw (le-ltb g.at at h) (not_greater p place g bound at h e comes known)
 ]
 
-pub lead_more : (p : Problem) (g : BoundAt) (at : ℕ) → at ≡ lead p → IsGreatestBefore p 1 g → IsGreatestBefore p 2 (greater g Lead at)
-lead_more p g at e known = greater_more p 1 g Lead at refl e (at_least at (lead p) e) known
-
-pub trail_more : (p : Problem) (g : BoundAt) (at : ℕ) → Some at ≡ trail p → IsGreatestBefore p 2 g → IsGreatestBefore p 3 (greater g Trail at)
-trail_more p g at e known = greater_more p 2 g Trail at refl (sym e) (at, sym e, at_least at at refl) known
-
-pub no_trail : (p : Problem) (g : BoundAt) → None ≡ trail p → IsGreatestBefore p 2 g → IsGreatestBefore p 3 g
-no_trail p g e known = record {
-  is_first = known.is_first;
-  most = most_with p 2 (g.at + 1) Trail refl (λ (t, q, k). cc) known.most;
-}
 
 pub die_more : (p : Problem) (g : BoundAt) (lun at : ℕ) → lun < length p.luns → at ≡ die p lun → IsGreatestBefore p (3 + lun) g → IsGreatestBefore p (3 + (lun + 1)) (greater g (Die lun) at)
 die_more p g lun at there e known =
     let next : 3 + lun + 1 ≡ 3 + (lun + 1) = omega arith in
     subst (λ z. IsGreatestBefore p z (greater g (Die lun) at)) next (greater_more p (3 + lun) g (Die lun) at refl e (there, at_least at (die p lun) e) known)
 
--- all were tried
-pub greatest_of_all : (p : Problem) (g : BoundAt) (lun : ℕ) → length p.luns ≤ lun → IsGreatestBefore p (3 + lun) g → IsGreatest p g
-greatest_of_all p g lun h known = record { is_first = known.is_first; most = go }
-  where
-    go : (b : Bound) → Reaches p (g.at + 1) b → ⊥
-    go Bus r = known.most Bus (omega arith) r
-    go Lead r = known.most Lead (omega arith) r
-    go Trail r = known.most Trail (omega arith) r
-    go (Die l) (there, r) = known.most (Die l) (omega arith) (there, r)
-
--- the LUN of a bound is one of eight
-pub of_lun : (p : Problem) (b : Bound) (e : ℕ) → length p.luns ≤ 8 → Reaches p e b → IsOfLun b
-of_lun p Bus e h r = tt
-of_lun p Lead e h r = tt
-of_lun p Trail e h r = tt
-of_lun p (Die l) e h (there, r) = omega arith
 
 -- its token closes the root
-pub closed_by : (p : Problem) (b : Bound) (e : ℕ) → Reaches p e b → AcceptsTokens (token_by b ∷ []) p e
+closed_by : (p : Problem) (b : Bound) (e : ℕ) → Reaches p e b → AcceptsTokens (token_by b ∷ []) p e
 closed_by p Bus e r = (Closed ByBus, refl, r)
 closed_by p Lead e r = (Closed ByLead, refl, r)
 closed_by p Trail e r = (Closed ByTrail, refl, r)
 closed_by p (Die l) e r = (Closed (ByDie l), refl, r)
+
+-- .. as the one token of a certificate
+pub one_token : (p : Problem) (b : Bound) (e : ℕ) (t : Token) (none tokens : List Token) → Reaches p e b → none ≡ [] → tokens ≡ none ++ t ∷ [] → t ≡ token_by b → AcceptsTokens tokens p e
+one_token p b e t none tokens r empty whole is =
+    let all : tokens ≡ token_by b ∷ [] = whole ∙ (ap (λ z. z ++ t ∷ []) empty ∙ ap (λ z. z ∷ []) is) in
+    subst (λ z. AcceptsTokens z p e) (sym all) (closed_by p b e r)

@@ -1,6 +1,6 @@
 -- From when on the bus is kept, as a walk over LUNs finds it.
-use Rattle.std.proofs.Common.{◌≡◌, ℕ, ◌+◌, ◌^◌, ◌<◌, ◌≤◌, inl, inr, Bool, true, false, List, [], ◌∷◌, ◌++◌, length, map, take, get_or, nat_lt, refl, sym, ap, ◌∙◌, arith}
-use Rattle.std.specs.Prelude.{max, min, if◌then◌else◌, ◌||◌, slice_index_or}
+use Rattle.std.proofs.Common.{◌≡◌, ℕ, ◌+◌, ◌^◌, ◌<◌, ◌≤◌, inl, inr, Bool, true, false, List, [], ◌∷◌, ◌++◌, length, map, take, get_or, nat_lt, Some, refl, sym, ap, ◌∙◌, subst, arith}
+use Rattle.std.specs.Prelude.{max, min, if◌then◌else◌, ◌||◌, slice_get, slice_index_or}
 use Rattle.std.specs.List.{list_any}
 use Rattle.std.proofs.lemmas.List.{take_more, take_all, map-append}
 use Rattle.std.proofs.lemmas.List.Folds.{list_any-append}
@@ -10,7 +10,9 @@ use Rattle.onfi_problem.specs.declared.lun_state.LunState.{LunState}
 use Rattle.onfi_problem.specs.declared.lun_state.LunState.TheVariants.{Running}
 use Rattle.onfi_problem.specs.declared.moves.Lun.{Lun}
 use Rattle.onfi_problem.specs.Problem.{Problem}
+use Rattle.onfi_problem.specs.Moves.{Next, IsMove}
 use Rattle.onfi_problem.specs.Position.{state_of}
+use Rattle.onfi_problem.proofs.Lists.{map_found}
 use Rattle.onfi_steady.specs.Rule.{keeps_bus, keeps_bus_before}
 
 any_one_more : {A : Type 0} (test : A → Bool) (xs : List A) (x : A) → list_any test (xs ++ x ∷ []) ≡ (if list_any test xs then true else test x)
@@ -73,3 +75,9 @@ module _ (p : Problem) (groups : List (List Want)) (luns : List Lun) where
   pub keeps_all : (i from : ℕ) → map (state_of groups) luns ≡ p.luns → length luns ≤ i → ((end : ℕ) → end < 2 ^ 62 → nat_lt from end ≡ found i end) → (end : ℕ) → end < 2 ^ 62 → nat_lt from end ≡ list_any (keeps_bus_before end p) p.luns
   keeps_all i from states h known end small =
       known end small ∙ ap (list_any (keeps_bus_before end p)) (ap (map (state_of groups)) (take_all luns i h) ∙ states)
+
+-- what a LUN does that has a next phase
+pub next_state : (p : Problem) (groups : List (List Want)) (luns : List Lun) → map (state_of groups) luns ≡ p.luns → (l : ℕ) (d : Lun) → IsMove p (Next l) → slice_get p.luns l ≡ Some (state_of groups (get_or luns l d))
+next_state p groups luns states l d (g, n, r, at) =
+    let kept = subst (λ z. slice_get z l ≡ Some (Running g n r)) (sym states) at in
+    rw (map_found (state_of groups) luns l d (Running g n r) kept) at

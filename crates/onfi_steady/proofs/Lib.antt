@@ -4,4 +4,3 @@ pub mod KeptBus
 pub mod FirstPhase
 pub mod GreatestBound
 pub mod RuleRun
-pub mod Turns
