@@ -1,15 +1,15 @@
 -- The greatest of bounds that are tried one after another.
-use Rattle.std.proofs.Common.{◌≡◌, ℕ, ◌+◌, ◌<◌, ◌≤◌, inl, inr, List, [], ◌∷◌, ◌++◌, length, Some, None, refl, sym, ap, ◌∙◌, subst, arith}
+use Rattle.std.proofs.Common.{◌≡◌, ℕ, ◌+◌, ◌<◌, ◌≤◌, inl, inr, List, [], ◌∷◌, ◌++◌, length, refl, sym, ap, ◌∙◌, subst, arith}
 use Rattle.std.proofs.lemmas.Bool.{cases_eq, cases_lt, lt-ltb, le-ltb}
 use Rattle.onfi_cert.specs.declared.token.Token.{Token}
 use Rattle.onfi_problem.specs.Problem.{Problem}
 use Rattle.onfi_bound.specs.declared.bound.Bound.{Bound}
 use Rattle.onfi_bound.specs.declared.bound.Bound.TheVariants.{Bus, Lead, Trail, Die}
 use Rattle.onfi_bound.specs.declared.bound.BoundAt.{BoundAt}
-use Rattle.onfi_bound.specs.Bounds.{bus, lead, trail, die}
-use Rattle.onfi_bound.specs.Reaching.{Reaches, ComesTo, IsFirst, IsFirstAt, place_of}
-use Rattle.onfi_check.specs.Tree.{Closing, Closes, token_of, Closed, ByBus, ByLead, ByTrail, ByDie, AcceptsTokens}
-use Rattle.onfi_steady.specs.Below.{IsGreatest, IsGreatestBefore, greater, token_by, IsOfLun}
+use Rattle.onfi_bound.specs.Bounds.{bus, lead, die}
+use Rattle.onfi_bound.specs.Reaching.{Reaches, ComesTo, place_of}
+use Rattle.onfi_check.specs.Tree.{Closed, ByBus, ByLead, ByTrail, ByDie, AcceptsTokens}
+use Rattle.onfi_steady.specs.Below.{IsGreatestBefore, greater, token_by}
 
 through : (a b c : ℕ) → a ≤ b → b ≤ c → a ≤ c
 through a b c h k = omega arith
@@ -58,7 +58,6 @@ most_with p place most bound e own known b h r = elim (cases_eq (place_of b) pla
   | inr d ↦ known b (omega arith) r
 ]
 
-
 greater_than : (p : Problem) (place : ℕ) (g : BoundAt) (bound : Bound) (at : ℕ) → g.at < at → place_of bound ≡ place → ComesTo p at bound → Reaches p at bound → IsGreatestBefore p place g → IsGreatestBefore p (place + 1) (record { bound = bound; at = at })
 greater_than p place g bound at h e comes reaches known = record {
   is_first = record {
@@ -81,12 +80,10 @@ greater_more p place g bound at e comes reaches known = elim (cases_lt g.at at) 
   | inr h ↦ rw (le-ltb g.at at h) (not_greater p place g bound at h e comes known)
 ]
 
-
 pub die_more : (p : Problem) (g : BoundAt) (lun at : ℕ) → lun < length p.luns → at ≡ die p lun → IsGreatestBefore p (3 + lun) g → IsGreatestBefore p (3 + (lun + 1)) (greater g (Die lun) at)
 die_more p g lun at there e known =
     let next : 3 + lun + 1 ≡ 3 + (lun + 1) = omega arith in
     subst (λ z. IsGreatestBefore p z (greater g (Die lun) at)) next (greater_more p (3 + lun) g (Die lun) at refl e (there, at_least at (die p lun) e) known)
-
 
 -- its token closes the root
 closed_by : (p : Problem) (b : Bound) (e : ℕ) → Reaches p e b → AcceptsTokens (token_by b ∷ []) p e

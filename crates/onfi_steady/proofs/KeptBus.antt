@@ -2,7 +2,7 @@
 use Rattle.std.proofs.Common.{◌≡◌, ℕ, ◌+◌, ◌^◌, ◌<◌, ◌≤◌, inl, inr, Bool, true, false, List, [], ◌∷◌, ◌++◌, length, map, take, get_or, nat_lt, Some, refl, sym, ap, ◌∙◌, subst, arith}
 use Rattle.std.specs.Prelude.{max, min, if◌then◌else◌, ◌||◌, slice_get, slice_index_or}
 use Rattle.std.specs.List.{list_any}
-use Rattle.std.proofs.lemmas.List.{take_more, take_all, map-append}
+use Rattle.std.proofs.lemmas.List.{take_more, map-append}
 use Rattle.std.proofs.lemmas.List.Folds.{list_any-append}
 use Rattle.std.proofs.lemmas.Bool.{cases_eq, cases_lt, eq-eqb, ne_eqb, lt-ltb, le-ltb, false≢true}
 use Rattle.onfi_request.specs.declared.want.Want.{Want}
@@ -71,10 +71,6 @@ module _ (p : Problem) (groups : List (List Want)) (luns : List Lun) where
   keeps_same i from d h keeps known end small =
       let so_far : found i end ≡ nat_lt from end = sym (known end small) in
       rw (one_found i end d h, so_far, keeps_not (get_or luns i d) end keeps) (same_bool (nat_lt from end))
-
-  pub keeps_all : (i from : ℕ) → map (state_of groups) luns ≡ p.luns → length luns ≤ i → ((end : ℕ) → end < 2 ^ 62 → nat_lt from end ≡ found i end) → (end : ℕ) → end < 2 ^ 62 → nat_lt from end ≡ list_any (keeps_bus_before end p) p.luns
-  keeps_all i from states h known end small =
-      known end small ∙ ap (list_any (keeps_bus_before end p)) (ap (map (state_of groups)) (take_all luns i h) ∙ states)
 
 -- what a LUN does that has a next phase
 pub next_state : (p : Problem) (groups : List (List Want)) (luns : List Lun) → map (state_of groups) luns ≡ p.luns → (l : ℕ) (d : Lun) → IsMove p (Next l) → slice_get p.luns l ≡ Some (state_of groups (get_or luns l d))

@@ -2,7 +2,7 @@
 use Rattle.std.proofs.Common.{◌≡◌, ◌≢◌, ℕ, zero, suc, ◌+◌, ◌<◌, ◌≤◌, ◌⊎◌, inl, inr, Bool, true, false, List, [], ◌∷◌, ◌++◌, length, map, take, get_or, Option, Some, None, refl, sym, ap, ◌∙◌, subst, arith, get_or-set_same, get_or-set_other}
 use Rattle.std.specs.Prelude.{slice_set, if◌then◌else◌, IfSome}
 use Rattle.std.specs.List.{AllByRecursion as All}
-use Rattle.std.proofs.lemmas.List.{take_more, take_all}
+use Rattle.std.proofs.lemmas.List.{take_more}
 use Rattle.std.proofs.lemmas.Bool.{cases_eq, cases_Bool}
 use Rattle.onfi_group.specs.Words.{Has, Pairs}
 use Rattle.onfi_problem.specs.declared.moves.Move.{Move as KeptMove}
@@ -26,9 +26,6 @@ earlier_before R f (x ∷ xs) (suc i) d c h p (inr k) = earlier_before R f xs i 
 module _ (x : Position) where
   abbrev Follows : KeptMove → KeptMove → Type 0
   Follows m n = IsOrFollows own_numbers x m n
-
-  pub none_own : (lun : ℕ) → IsOwnAmong x [] lun None
-  none_own lun = tt
 
   own_taken : (ms : List KeptMove) (s c : KeptMove) (lun : ℕ) → lun_named s ≡ lun → is_less (own_numbers x.problem (move_of x.groups s)) (own_numbers x.problem (move_of x.groups c)) ≡ true → IsOwnAmong x ms lun (Some c) → IsOwnAmong x (ms ++ s ∷ []) lun (Some s)
   own_taken ms s c lun e h known = (
@@ -87,7 +84,3 @@ module _ (x : Position) where
   pub own_is_move : (items : List KeptMove) (i lun : ℕ) (known : Option KeptMove) → AreMoves x.problem (moves_of x.groups items) → IsOwnAmong x (take i items) lun known → IfSome known (λ c. IsMove x.problem (move_of x.groups c))
   own_is_move items i lun None are found = tt
   own_is_move items i lun (Some c) are found = has_move items c (has_taken items i c found.0) are
-
-  -- .. once all moves were met
-  pub own_all : (items : List KeptMove) (i : ℕ) (found : List (Option KeptMove)) → length items ≤ i → AreOwn x (take i items) found → AreOwn x items found
-  own_all items i found h known lun small = subst (λ z. IsOwnAmong x z lun (own_at found lun)) (take_all items i h) (known lun small)
