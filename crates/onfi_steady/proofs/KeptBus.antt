@@ -4,16 +4,16 @@ use Rattle.std.specs.Prelude.{max, min, if◌then◌else◌, ◌||◌, slice_get
 use Rattle.std.specs.List.{list_any}
 use Rattle.std.proofs.lemmas.List.{take_more, map-append}
 use Rattle.std.proofs.lemmas.List.Folds.{list_any-append}
-use Rattle.std.proofs.lemmas.Bool.{cases_eq, cases_lt, eq-eqb, ne_eqb, lt-ltb, le-ltb, false≢true}
+use Rattle.std.proofs.lemmas.Bool.{cases_Bool, cases_eq, cases_lt, eq-eqb, ne_eqb, lt-ltb, le-ltb, false≢true}
 use Rattle.onfi_request.specs.declared.want.Want.{Want}
 use Rattle.onfi_problem.specs.declared.lun_state.LunState.{LunState}
 use Rattle.onfi_problem.specs.declared.lun_state.LunState.TheVariants.{Running}
 use Rattle.onfi_problem.specs.declared.moves.Lun.{Lun}
 use Rattle.onfi_problem.specs.Problem.{Problem}
-use Rattle.onfi_problem.specs.Moves.{Next, IsMove}
+use Rattle.onfi_problem.specs.Moves.{Move, Next, IsMove, after}
 use Rattle.onfi_problem.specs.Position.{state_of}
 use Rattle.onfi_problem.proofs.Lists.{map_found}
-use Rattle.onfi_steady.specs.Rule.{keeps_bus, keeps_bus_before}
+use Rattle.onfi_steady.specs.Rule.{keeps_bus, keeps_bus_before, move_keeps_bus, is_kept_from}
 
 any_one_more : {A : Type 0} (test : A → Bool) (xs : List A) (x : A) → list_any test (xs ++ x ∷ []) ≡ (if list_any test xs then true else test x)
 any_one_more test xs x = list_any-append test xs (x ∷ []) ∙ go (list_any test xs) (test x)
@@ -77,3 +77,13 @@ pub next_state : (p : Problem) (groups : List (List Want)) (luns : List Lun) →
 next_state p groups luns states l d (g, n, r, at) =
     let kept = subst (λ z. slice_get z l ≡ Some (Running g n r)) (sym states) at in
     rw (map_found (state_of groups) luns l d (Running g n r) kept) at
+
+-- where the bus is kept from no time on, it is kept from no phase
+pub kept_from_none : (p : Problem) (m : Move) (from : ℕ) → 2 ^ 62 ≤ from → (after p m).bus_free < 2 ^ 62 → ((end : ℕ) → end < 2 ^ 62 → nat_lt from end ≡ list_any (keeps_bus_before end p) p.luns) → false ≡ is_kept_from p m
+kept_from_none p m from h small known =
+    let end = (after p m).bus_free in
+    let none : list_any (keeps_bus_before end p) p.luns ≡ false = sym (known end small) ∙ le-ltb from end (omega arith) in
+    elim (cases_Bool (move_keeps_bus p m)) [
+      | inl k ↦ rw k refl
+      | inr k ↦ rw (k, none) refl
+    ]

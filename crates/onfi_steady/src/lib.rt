@@ -6,6 +6,7 @@
 mod below;
 mod choosing;
 mod dispatch;
+mod given;
 mod own;
 mod phase;
 mod planner;

@@ -8,6 +8,7 @@ ghost use Rattle.onfi_steady.specs.Rule.{IsByRule};
 
 use crate::below::{greatest_bound, token_of};
 use crate::dispatch::rule_run;
+use crate::given::all_given;
 use onfi_plan::Plan;
 use onfi_planner::{Planned, schedule_of};
 use onfi_problem::Problem;
@@ -41,8 +42,9 @@ pub fn plan_by_rule(alloc: Global, problem: &Problem) -> Result<Plan, AllocError
 {
     let _limits = problem.bus_free();
     let mut left = problem.copy(alloc)?;
+    let mut given = all_given(&left);
     let mut steps = Vec::new(alloc);
-    let finish = rule_run(&mut left, &mut steps)?;
+    let finish = rule_run(&mut left, &mut given, &mut steps)?;
     let schedule = schedule_of(alloc, problem, steps.as_slice())?;
     let greatest = greatest_bound(problem);
     let mut cert = Vec::new(alloc);

@@ -7,10 +7,10 @@ ghost use Rattle.onfi_problem.specs.Moves.{IsMove, move_lun, Next};
 ghost use Rattle.onfi_problem.specs.Position.{move_of, lun_named, state_of};
 ghost use Rattle.onfi_check.specs.First.{wants_started};
 ghost use Rattle.onfi_steady.specs.Order.{is_less};
-ghost use Rattle.onfi_steady.specs.Rule.{keeps_bus, keeps_bus_before, move_keeps_bus, phase_numbers, phase_rank, start_rank, post_rank};
-ghost use Rattle.onfi_steady.specs.Choosing.{numbers_of};
+ghost use Rattle.onfi_steady.specs.Rule.{is_kept_from, keeps_bus, keeps_bus_before, move_keeps_bus, phase_numbers, phase_rank, start_rank, post_rank};
+ghost use Rattle.onfi_steady.specs.Choosing.{given_of, numbers_of};
 
-use crate::own::{group_of, oldest};
+use crate::given::Given;
 use onfi_problem::{Lun, Move, Problem};
 use onfi_timing::Kind;
 
@@ -30,20 +30,21 @@ pub struct Turn {
 }
 
 impl Turn {
-    /// That of the phase of a move, where the bus is kept from `kept_from` ns on.
-    pub fn of(problem: &Problem, m: Move, kept_from: u64) -> Turn
-        requires step { IsMove problem.now.problem (move_of problem.now.groups m) }
-        requires lun { move_lun (move_of problem.now.groups m) ≡ lun_named m }
+    /// That of the phase of the move that a LUN gives, where the bus is kept from `kept_from` ns on.
+    pub fn of(problem: &Problem, given: &Given, kept_from: u64) -> Turn
+        requires step { IsMove problem.now.problem (move_of problem.now.groups given.now.step) }
+        requires lun { move_lun (move_of problem.now.groups given.now.step) ≡ lun_named given.now.step }
+        requires given { given.now ≡ given_of problem.now given.now.step }
         requires kept { (end : ℕ) → end < 2 ^ 62 → nat_lt kept_from end ≡ list_any (keeps_bus_before end problem.now.problem) problem.now.problem.luns }
-        ensures { numbers_of result ≡ phase_numbers problem.now.problem (move_of problem.now.groups m) }
+        ensures { numbers_of result ≡ phase_numbers problem.now.problem (move_of problem.now.groups given.now.step) }
     {
-        let end = problem.end_of(m);
+        let step = given.step;
         Turn {
-            kept: !move_keeps_bus(problem, m) && kept_from < end,
-            start: problem.earliest(&m),
-            rank: phase_rank(problem, m),
-            smaller: 4 - started_wants(problem, m),
-            oldest: oldest(group_of(problem, m)),
+            kept: is_kept_from(problem, step, kept_from),
+            start: problem.earliest(&step),
+            rank: given.rank,
+            smaller: given.smaller,
+            oldest: given.oldest,
         }
     }
 
@@ -65,6 +66,20 @@ impl Turn {
         }
         self.oldest < other.oldest
     }
+}
+
+// Whether the bus is kept from the phase of a move, where it is kept from `kept_from` ns on.
+fn is_kept_from(problem: &Problem, m: Move, kept_from: u64) -> bool
+    requires step { IsMove problem.now.problem (move_of problem.now.groups m) }
+    requires lun { move_lun (move_of problem.now.groups m) ≡ lun_named m }
+    requires kept { (end : ℕ) → end < 2 ^ 62 → nat_lt kept_from end ≡ list_any (keeps_bus_before end problem.now.problem) problem.now.problem.luns }
+    ensures { result ≡ is_kept_from problem.now.problem (move_of problem.now.groups m) }
+{
+    let _limits = problem.bus_free();
+    if kept_from == u64::MAX {
+        return false;
+    }
+    !move_keeps_bus(problem, m) && kept_from < problem.end_of(m)
 }
 
 /// From when on the bus is kept, in ns: the first start of a command that keeps it; the greatest number where none does.
@@ -106,8 +121,8 @@ fn move_keeps_bus(problem: &Problem, m: Move) -> bool
     }
 }
 
-// Where the phase of a move stands by what it does.
-fn phase_rank(problem: &Problem, m: Move) -> u8
+/// Where the phase of a move stands by what it does.
+pub fn phase_rank(problem: &Problem, m: Move) -> u8
     requires { IsMove problem.now.problem (move_of problem.now.groups m) }
     ensures { result ≡ phase_rank problem.now.problem (move_of problem.now.groups m) }
 {
@@ -153,8 +168,8 @@ fn post_rank(kind: Kind) -> u8
     }
 }
 
-// How many wants a move starts.
-fn started_wants(problem: &Problem, m: Move) -> usize
+/// How many wants a move starts.
+pub fn started_wants(problem: &Problem, m: Move) -> usize
     requires { IsMove problem.now.problem (move_of problem.now.groups m) }
     ensures value { result ≡ wants_started (move_of problem.now.groups m) }
     ensures few { result ≤ 4 }
