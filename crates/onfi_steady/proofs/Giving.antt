@@ -57,9 +57,9 @@ module _ (x : Position) (items : List KeptMove) (own : List (Option KeptMove)) (
       record {
         is_move = listed_move lun m small e;
         first = λ n im q. (
-          let k = from_map (move_of x.groups) items n (are.each n im) in
-          let kn = All-has (IsNamed x.groups) items k.0 named k.1 in
-          at_move (move_of x.groups m) n k.0 m k.2 refl (All-has (λ j. lun_named j ≡ lun → IsOrFollows own_numbers x m j) items k.0 g.2 k.1 (sym kn.lun ∙ (ap move_lun k.2 ∙ (q ∙ (mn.lun ∙ has.1))))));
+            let k = from_map (move_of x.groups) items n (are.each n im) in
+            let kn = All-has (IsNamed x.groups) items k.0 named k.1 in
+            at_move (move_of x.groups m) n k.0 m k.2 refl (All-has (λ j. lun_named j ≡ lun → IsOrFollows own_numbers x m j) items k.0 g.2 k.1 (sym kn.lun ∙ (ap move_lun k.2 ∙ (q ∙ (mn.lun ∙ has.1))))));
       }
 
   pub given_some : (lun : ℕ) (m : KeptMove) (g : Given) → lun < 8 → own_at own lun ≡ Some m → g ≡ given_of x m → IsGiven x lun (Some g)
@@ -203,8 +203,7 @@ given_stays x m l (Some g) ip im d (named, lun, own, is) =
     let at : move_lun n ≡ l = named.lun ∙ lun in
     let s = other_lun x.problem move t l ip im d in
     let rank = rank_stays x.problem move t ip im l n s at in
-    let group = group_stays x.problem move t ip im l n s at in
-    (
+    let group = group_stays x.problem move t ip im l n s at in (
       named,
       lun,
       own_stays x.problem move t ip im n (λ e. d (sym at ∙ e)) own,

@@ -73,12 +73,7 @@ pub fn given_by(problem: &Problem, lun: u8) -> Option<Given>
 }
 
 // What a LUN gives, of all moves.
-fn given_among(
-    problem: &Problem,
-    moves: &[Move],
-    own: &[Option<Move>; 8],
-    lun: u8,
-) -> Option<Given>
+fn given_among(problem: &Problem, moves: &[Move], own: &[Option<Move>; 8], lun: u8) -> Option<Given>
     requires moves { AreMoves problem.now.problem (moves_of problem.now.groups moves.now) }
     requires named { Each (IsNamed problem.now.groups) moves.now }
     requires own { AreOwn problem.now moves.now own.now }

@@ -131,7 +131,8 @@ fn eight_requests(rt: HostRuntime) -> Result<(), Fail> {
         want(7, Kind::Read, 3, 2),
     ];
     let text = planned(alloc, &luns, &wants)?;
-    let expected = b"675 585||||; 2 3: 0 15 110 130; 0: 25 90; 7: 35 150; 4 5: 45 70 193 195; 6: 170 673; 1: 173 293";
+    let expected =
+        b"675 585||||; 2 3: 0 15 110 130; 0: 25 90; 7: 35 150; 4 5: 45 70 193 195; 6: 170 673; 1: 173 293";
     assert!(rt; text.as_slice() == expected.as_slice());
     Ok(())
 }
@@ -150,6 +151,9 @@ fn the_planner_and_the_certificate(rt: HostRuntime) -> Result<(), Fail> {
     assert_eq!(rt; (by_planner.opened, by_planner.reopened), (0, 0));
     let tokens = plan.planned.cert.as_slice();
     assert_eq!(rt; tokens.len(), 1);
-    assert_eq!(rt; check(alloc, &problem, &plan.planned.schedule, tokens), Ok(100));
+    assert_eq!(rt;
+        check(alloc, &problem, &plan.planned.schedule, tokens),
+        Ok(100)
+    );
     Ok(())
 }

@@ -57,7 +57,13 @@ pub(crate) fn timing(gap: u64) -> Result<Timing, Fail> {
 /// The text of the plan of a problem with these LUNs and wants, two planes and groups of all kinds, whose bus is free from
 /// the start.
 pub(crate) fn planned(alloc: Global, luns: &[LunState], wants: &[Want]) -> Result<Vec<u8>, Fail> {
-    planned_by(alloc, timing(5)?, Rules::new(true, true, false, 1), luns, wants)
+    planned_by(
+        alloc,
+        timing(5)?,
+        Rules::new(true, true, false, 1),
+        luns,
+        wants,
+    )
 }
 
 /// .. with this timing and these rules.
