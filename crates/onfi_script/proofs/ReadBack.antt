@@ -142,7 +142,7 @@ groups_walk wants (g ∷ todo) finish lines groups more are few =
     ∙ groups_walk wants todo finish lines (groups ++ g ∷ []) more are.1 (omega (arith, length-append groups (g ∷ [])))
     ∙ ap (λ x. plan_after wants (plan_with finish lines x) (parts 10 more)) (append_assoc groups (g ∷ []) todo)
 
-regroup_text : (d r g c : List ℕ) → (codes "ONFIPLAN 1\n" ++ (codes "finish " ++ d) ++ codes "\n" ++ r ++ g) ++ c ≡ codes "ONFIPLAN 1" ++ 10 ∷ ((codes "finish" ++ 32 ∷ d) ++ 10 ∷ (r ++ (g ++ c)))
+regroup_text : (d r g c : List ℕ) → (codes "ONFIPLAN 1\n" ++ (codes "finish " ++ d) ++ codes "\n" ++ [] ++ r ++ g) ++ c ≡ codes "ONFIPLAN 1" ++ 10 ∷ ((codes "finish" ++ 32 ∷ d) ++ 10 ∷ (r ++ (g ++ c)))
 regroup_text d r g c = simp append_assoc
 
 finish_read : (ends : ℕ) → ends < 2 ^ 63 → finish_of (codes "finish" ++ 32 ∷ decimal ends) ≡ Some ends
