@@ -3,8 +3,9 @@ ghost use Rattle.std.specs.Prelude.{◌≡◌, ◌++◌, codes, IfOk};
 ghost use Rattle.onfi_script.specs.Answer.{AnswersAlone, AnswersLegal, TellsLegal};
 ghost use Rattle.onfi_script.specs.AnswerOf.{answer_of};
 
+use crate::checking::line_refused;
 use crate::plan_within::{PlanWithin, read_plan_within};
-use crate::text::{Answer, legal_until, refused_at, refused_for};
+use crate::text::{Answer, legal_until, refused_for};
 use onfi_problem::Problem;
 use onfi_schedule::{Schedule, finish, legal};
 use std::alloc::{AllocError, Global};
@@ -39,7 +40,7 @@ fn judged(alloc: Global, problem: &Problem, text: &[u8]) -> Result<Answer, Alloc
             let schedule = plan.schedule(problem.lun_count());
             told(alloc, problem, &schedule)
         }
-        Err(number) => refused_at(alloc, "plan", number),
+        Err(number) => line_refused(alloc, number),
     }
 }
 
