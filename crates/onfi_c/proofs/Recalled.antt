@@ -1,12 +1,9 @@
 -- A plan by a search that remembers states, as it is told.
 use Rattle.std.proofs.Common.{◌≡◌, ℕ, ◌≤◌, List, refl, sym, subst}
-use Rattle.onfi_problem.specs.Left.{InLimits}
 use Rattle.onfi_problem.specs.Position.{Position}
 use Rattle.onfi_problem.specs.Problem.{Problem}
 use Rattle.onfi_schedule.specs.Schedule.{Schedule, Legal, Optimal, finish}
-use Rattle.onfi_known.specs.Laws.{BelowLaw, NoneBefore}
-use Rattle.onfi_known.specs.Proves.{ProvesTokens}
-use Rattle.onfi_check.specs.Nodes.{HasMoreNodes}
+use Rattle.onfi_known.specs.Laws.{NoneBefore}
 use Rattle.onfi_planner.specs.Planning.{AreRising}
 use Rattle.onfi_recall.specs.Text.{HasNodesIn, ProvesText, last_opened}
 use Rattle.onfi_recall.specs.Walks.{EndsSooner, HasSoMany}
