@@ -9,12 +9,12 @@ pub left_of-left-requires : goal.left_of-left-requires
 left_of-left-requires c =
     let low = c.requires.coming.lun_there in
     let same = c.requires.legal.shape.luns in
-    (omega (arith, low, same), λ at e. (c.requires.coming.starting at e).0)
+    record { lun = omega (arith, low, same); place = λ at e. (c.requires.coming.starting at e).0 }
 
 pub delay_schedule-requires : goal.delay_schedule-requires
 delay_schedule-requires c =
     let early = sym c.reaches_limit.ensures ∙ c.if-reaches_limit.false in
-    (early_rest c.args.by c.left_of-left.result early, early_groups c.args.by c.left_of-left.result early)
+    record { rest = early_rest c.args.by c.left_of-left.result early; groups = early_groups c.args.by c.left_of-left.result early }
 
 pub schedule-requires : goal.schedule-requires
 schedule-requires c =

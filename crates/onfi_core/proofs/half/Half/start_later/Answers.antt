@@ -8,7 +8,7 @@ use Rattle.onfi_core.proofs.half.Half.start_later.Goals as goal
 pub delay_schedule-requires : goal.delay_schedule-requires
 delay_schedule-requires c =
     let low = subst (λ (v : HalfView). latest_start (all_starts v.state.left) + c.args.by < 2 ^ 62) (sym c.self.view_is) c.requires.in_time in
-    (early_rest c.args.by c.self.inside.left low, early_groups c.args.by c.self.inside.left low)
+    record { rest = early_rest c.args.by c.self.inside.left low; groups = early_groups c.args.by c.self.inside.left low }
 
 pub invariant_of-self : goal.invariant_of-self
 invariant_of-self c =
