@@ -24,7 +24,7 @@ use crate::schedule::PlainSchedule;
 use crate::stand::Stand;
 use crate::status::Status;
 use crate::written::{self, is_small};
-use onfi_core::{later, leave, lun_after};
+use onfi_core::{delay_schedule, leave, lun_after};
 use onfi_problem::LunState;
 use onfi_request::Want;
 use onfi_schedule::Schedule;
@@ -186,7 +186,7 @@ fn schedule_behind(
     if reaches_limit(by, &left) {
         return Err(Status::Clock);
     }
-    Ok(written::schedule(&later(alloc, by, &left)))
+    Ok(written::schedule(&delay_schedule(alloc, by, &left)))
 }
 
 /// When the phase ends that starts then, in ns.

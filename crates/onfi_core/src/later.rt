@@ -9,7 +9,7 @@ use onfi_schedule::{Placed, Schedule, Starts};
 use std::alloc::Global;
 
 /// The schedule with all starts later by so many ns; this takes no memory.
-pub fn later(alloc: Global, by: u64, schedule: &Schedule) -> Schedule
+pub fn delay_schedule(alloc: Global, by: u64, schedule: &Schedule) -> Schedule
     requires rest { Each (λ starts. Each (λ t. t + by < 2 ^ 63) starts) schedule.now.rest }
     requires groups { Each (λ g. Each (λ t. t + by < 2 ^ 63) g.starts) schedule.now.groups }
     ensures { result ≡ later by schedule.now }

@@ -35,7 +35,7 @@ pub use due::{Due, behind_first, leave, lun_after, wants_without};
 pub use event::Event;
 pub use half::passing::{ReadyRefusal, WaitRefusal};
 pub use half::{AcceptFault, DueRefusal, Half, PlanRefusal};
-pub use later::later;
+pub use later::delay_schedule;
 pub use laws::{
     accepting_reached, batch_reached, events_reach, finish_is_optimal, headline, idle_is,
     later_is_legal, next_behind, nothing_held, opened_is_reached, plain_is_plain, planned_step,

@@ -7,7 +7,7 @@ ghost use Rattle.onfi_core.specs.Refusals.{ready_outcome, wait_outcome};
 
 use crate::half::Half;
 use crate::lag::lag_of;
-use crate::later::later;
+use crate::later::delay_schedule;
 use crate::outcome::Cause;
 use onfi_problem::LunState;
 use std::alloc::Global;
@@ -73,7 +73,7 @@ impl Half {
         let bus_free = self.bus_free.max(moment);
         self.outdated = is_outdated(self.outdated, self.bus_free, moment);
         self.bus_free = bus_free;
-        self.left = later(alloc, by, &self.left);
+        self.left = delay_schedule(alloc, by, &self.left);
         bus_free
     }
 

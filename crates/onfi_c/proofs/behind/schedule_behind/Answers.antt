@@ -9,17 +9,17 @@ pub left_of-left-requires : goal.left_of-left-requires
 left_of-left-requires c =
     let low = c.requires.coming.lun_there in
     let same = c.requires.legal.shape.luns in
-    (omega (arith, low, same), λ at e. (c.requires.coming.starting at e).0)
+    record { lun = omega (arith, low, same); place = λ at e. (c.requires.coming.starting at e).0 }
 
-pub later-requires : goal.later-requires
-later-requires c =
+pub delay_schedule-requires : goal.delay_schedule-requires
+delay_schedule-requires c =
     let early = sym c.reaches_limit.ensures ∙ c.if-reaches_limit.false in
-    (early_rest c.args.by c.left_of-left.result early, early_groups c.args.by c.left_of-left.result early)
+    record { rest = early_rest c.args.by c.left_of-left.result early; groups = early_groups c.args.by c.left_of-left.result early }
 
 pub schedule-requires : goal.schedule-requires
 schedule-requires c =
     let left = c.left_of-left.result in
     let s = c.args.stand.now.schedule in
-    let all = ap (λ (x : Schedule). length x.rest) c.later.ensures ∙ length-map (later_starts c.args.by) left.rest in
+    let all = ap (λ (x : Schedule). length x.rest) c.delay_schedule.ensures ∙ length-map (later_starts c.args.by) left.rest in
     let same = ap (λ (x : Schedule). length x.rest) c.left_of-left.ensures ∙ length-set s.rest c.args.coming.now.lun c.args.coming.now.rest in
     omega (arith, all, same, c.is_small.ensures)

@@ -35,7 +35,7 @@ leave-requires g c =
     let is = due_inside _ _ c.args.due c.self.view_is c.requires.1.1.0 in
     let same = c.self.invariant.sound.legal.shape.luns in
     let lun : c.from-lun.result < length c.self.inside.left.rest = omega (arith, c.from-lun.ensures, same, lun_there c.self.inside.setup _ c.args.due c.self.invariant.sound is) in
-    (lun, is.place_there)
+    record { lun = lun; place = is.place_there }
 
 pub invariant_of-self : goal.invariant_of-self
 invariant_of-self g c =
@@ -47,6 +47,6 @@ invariant_of-self g c =
     let makes = makes_of c.self.inside.history.accepted g.faults c.args.due c.args.ran c.requires.1.1.1 (goes c.self.inside.setup _ c.args.due i.sound is).1.within in
     let e = c.holding-self-inside.ensures in
     let made = c.reply_of-reply.ensures in
-    let r = fields_done _ _ _ _ _ _ _ _ _ _ c.args.due _ _ _ _ _ _ _ f is makes (c.hold.ensures.items ∙ ap (λ rs. c.self.inside.held.items ++ rs) made) c.hold.ensures.capacity
+    let r = fields_done _ _ _ _ _ _ _ _ _ _ c.args.due _ _ _ _ _ _ f is makes (c.hold.ensures.items ∙ ap (λ rs. c.self.inside.held.items ++ rs) made) c.hold.ensures.capacity
     e.0 (e.1 ∙ ap (λ rs. c.self.inside.history.held ++ rs) made) e.2 e.3 (ap (λ l. slice_set c.self.inside.luns.items l c.args.due.next) c.from-lun.ensures) (c.leave.ensures ∙ ap (λ l. let s : Schedule = record { rest = slice_set c.self.inside.left.rest l c.args.due.rest; groups = groups_left c.args.due.place c.self.inside.left.groups } in s) c.from-lun.ensures) in
     rw unlent r

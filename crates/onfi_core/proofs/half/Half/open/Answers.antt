@@ -11,4 +11,4 @@ invariant_of-result c =
     let w = c.new-2.ensures in
     let g = c.new_in.ensures in
     let s = c.new-3.ensures in
-    fields_opened _ _ _ _ _ _ c.in_ok-slots.ensures.empty c.in_ok-slots.ensures.capacity c.in_ok-held.ensures.capacity c.in_ok-held.ensures.items n.3 (rw (n.0, n.1, n.2, l, s.rest, r, a, w, s.groups, g) refl)
+    fields_opened _ _ _ _ _ _ c.in_ok-slots.ensures.empty c.in_ok-slots.ensures.capacity c.in_ok-held.ensures.capacity c.in_ok-held.ensures.items n.3 (rw (n.0, n.1, n.2, l, s.rest, r, c.from.ensures, a, w, s.groups, g) refl)

@@ -13,4 +13,4 @@ leave-requires g c =
     let f = c.args.self.now in
     let same = c.requires.sound.1.legal.shape.luns in
     let lun : c.from-lun.result < length f.left.rest = omega (arith, c.from-lun.ensures, same, lun_there c.requires.sound.0 (state_of f) c.args.due c.requires.sound.1 c.requires.due) in
-    (lun, c.requires.due.place_there)
+    record { lun = lun; place = c.requires.due.place_there }
