@@ -57,7 +57,7 @@ pub fn run_batch<C: Chip>(
         geometry: *geometry,
         timing: problem.timing(),
     };
-    let Ok(mut flight) = Flight::of(alloc, geometry.lun_count, problem, schedule, items) else {
+    let Ok(mut flight) = Flight::of(alloc, geometry, problem, schedule, items) else {
         return Err(BatchFault::Memory);
     };
     let Ok(mut lanes) = Lanes::open(alloc, geometry.lun_count) else {

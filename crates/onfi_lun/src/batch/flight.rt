@@ -13,6 +13,7 @@ use crate::batch::fault::{BatchFault, fault_of};
 use crate::lanes::Lanes;
 use crate::target::Target;
 use arrayvec::ArrayVec;
+use onfi_addr::Geometry;
 use onfi_chip::Chip;
 use onfi_core::{Due, PhaseResult, Turn, free_luns, leave, next_turn, wants_without};
 use onfi_group::Rules;
@@ -38,21 +39,21 @@ pub(crate) struct Flight {
 }
 
 impl Flight {
-    /// A schedule of the items of which nothing is done, on so many LUNs on which nothing runs.
+    /// A schedule of the items of which nothing is done, on the LUNs of the device, on which nothing runs.
     ///
     /// # Errors
     /// Want of memory.
     pub(crate) fn of(
         alloc: Global,
-        luns: u8,
+        geometry: &Geometry,
         problem: &Problem,
         schedule: &Schedule,
         items: Vec<Item>,
     ) -> Result<Flight, AllocError>
-        ensures { IfOk result (λ flight. state_of flight ≡ opening luns problem.now.problem schedule.now items.items) }
+        ensures { IfOk result (λ flight. state_of flight ≡ opening geometry.now.lun_count problem.now.problem schedule.now items.items) }
     {
         let replies = Vec::with_capacity(alloc, items.len())?;
-        let states = free_luns(alloc, luns)?;
+        let states = free_luns(alloc, geometry.lun_count)?;
         Ok(Flight {
             items,
             timing: problem.timing(),
@@ -60,7 +61,10 @@ impl Flight {
             bus_free: problem.bus_free(),
             luns: states,
             wants: waiting(problem.wants(), problem.waiting()),
-            left: Schedule::new(no_starts(usize::from(luns)), schedule.copy_groups()),
+            left: Schedule::new(
+                no_starts(usize::from(geometry.lun_count)),
+                schedule.copy_groups(),
+            ),
             replies,
         })
     }

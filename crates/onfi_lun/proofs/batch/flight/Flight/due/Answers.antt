@@ -26,7 +26,7 @@ returns-in-Running-clause-due c =
     let starts = c.index-rest-next.result in
     let within : next.at < length f.left.rest = within_get f.left.rest next.at _ is.0.1 in
     let same = sound.legal.shape.luns in
-    let starts_there : slice_get f.left.rest next.at ≡ Some starts = is.0.1 ∙ ap Some (sym (read_starts f.left.rest c.rest-starts.result.now next.at _ _ starts c.rest-starts.ensures.value is.0.1 c.index-rest-next.is)) in
+    let starts_there : slice_get f.left.rest next.at ≡ Some starts = is.0.1 ∙ ap Some (sym (read_starts f.left.rest c.rest-in-Some-Next.result.now next.at _ _ starts c.rest-in-Some-Next.ensures.value is.0.1 c.index-rest-next.is)) in
     let there : slice_get f.luns.items next.at ≡ Some (Running c.in-Running.group c.in-Running.phase c.in-Running.ready) =
     slice_get_read f.luns.items _ next.at c.index.result.now refl (omega (arith, within, same)) c.index.ensures ∙ ap Some c.in-Running.is in
     let p = subst (λ ws. IsPhaseOf f.timing c.in-Running.group c.in-Running.phase starts None ws c.of.result)
@@ -42,7 +42,7 @@ returns-in-Some-First-clause-due c =
     (turn_inside _ _ _ _ _ c.rest.ensures.value c.groups.ensures.value c.in-Some-First.ensures) in
     let g = c.index-groups-first.result in
     let m = c.members-group.ensures in
-    let there = (read_group f.left.groups c.groups-placed.result.now first.at _ _ g c.groups-placed.ensures.value is.0.1 c.index-groups-first.is).0 in
+    let there = (read_group f.left.groups c.groups-in-Some-First.result.now first.at _ _ g c.groups-in-Some-First.ensures.value is.0.1 c.index-groups-first.is).0 in
     let wants = c.wants_without-wants.ensures ∙ ap (λ x. without x c.as_slice-in-Some-First.result.now) m
     ∙ ap (without g.members) c.as_slice-in-Some-First.ensures.value in
     let p = subst (λ ws. IsPhaseOf f.timing g.members 0 g.starts (Some first.at) ws c.of-in-Some-First.result) wants
