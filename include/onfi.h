@@ -113,6 +113,11 @@ enum onfi_status {
     ONFI_SHEET_NOT_A_NUMBER = 83, /* The value of a row of the sheet is no number. */
     ONFI_SHEET_ZERO_CYCLE = 84, /* tWC or tRC is 0. */
     ONFI_SHEET_TOO_LONG = 85, /* A value is 2^32 ns or more. */
+    /* strobes; the place is that of the row, counted from 1, or the number of the parameter */
+    ONFI_STROBE_MISSING = 86, /* The strobes give no value for a parameter. */
+    ONFI_STROBE_REPEATED = 87, /* The strobes give a parameter twice. */
+    ONFI_STROBE_UNKNOWN = 88, /* A row of the strobes is no parameter with its value. */
+    ONFI_STROBE_NOT_A_NUMBER = 89, /* The value of a row of the strobes is no number. */
     /* certificates that remember states; the place is that of the token, counted from 0 */
     ONFI_UNKNOWN_NODE = 90, /* No open node has ended as that number. */
     ONFI_OTHER_LEFT = 91, /* Something else is left at the node that is named. */
@@ -416,6 +421,19 @@ uint32_t onfi_row(const onfi_geometry *geometry, uint8_t lun, uint16_t block, ui
  * counted from 1, the parameter of ONFI_SHEET_MISSING and ONFI_SHEET_REPEATED, from 1 in the order above, else 0.
  */
 uint32_t onfi_timing_of_page(const uint8_t *page, size_t page_bytes, const char *sheet, size_t sheet_bytes, onfi_device *device, uint64_t *place);
+
+/*
+ * The same of a device whose data and status bytes go by strobes, NV-DDR2 or NV-DDR3, two in a cycle: the text of its strobes has
+ * rows NAME,VALUE for tRPRE, tRC, tRPST, tRPSTH, tWPRE, tDSC, tWPST and tWPSTH, in ps, digits alone, 0 for one that the device
+ * doesn't have. Each length is its sum in ps, rounded up to whole ns once; docs/DEFINITIONS.md has the sums. tRC of the sheet may be
+ * missing, and isn't looked at.
+ *
+ * Told is as by onfi_timing_of_page: the first fault of the page, of the device, of the text of the sheet, of the text of the
+ * strobes (86 .., where the place is that of its row or parameter likewise), of what the sheet lacks, of what the strobes lack.
+ * ONFI_SHEET_TOO_LONG also says that a value of the strobes is 2^32 ps or more, ONFI_SHEET_ZERO_CYCLE that their tRC or tDSC is 0.
+ */
+uint32_t onfi_timing_of_strobes(const uint8_t *page, size_t page_bytes, const char *sheet, size_t sheet_bytes, const char *strobes,
+                                size_t strobes_bytes, onfi_device *device, uint64_t *place);
 
 /*
  * What `onfi_sim plan` writes for a script (docs/FORMATS.md), or with `trace` what `onfi_sim plan --trace` writes; the

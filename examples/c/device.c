@@ -1,4 +1,4 @@
-/* device PAGE SHEET: what the bytes of a parameter page and a timing sheet tell of a device. */
+/* device PAGE SHEET [STROBES]: what the bytes of a parameter page, a timing sheet and strobes tell of a device. */
 #include <onfi.h>
 
 #include <inttypes.h>
@@ -15,6 +15,17 @@ static size_t contents(const char *name, uint8_t *room, size_t size)
     return bytes;
 }
 
+/* The device of these files; data and status bytes go by strobes where there is a third. */
+static uint32_t told(const char *page_name, const char *sheet_name, const char *strobes_name, onfi_device *device, uint64_t *place)
+{
+    static uint8_t page[8192], sheet[8192], strobes[8192];
+    size_t page_bytes = contents(page_name, page, sizeof page), sheet_bytes = contents(sheet_name, sheet, sizeof sheet);
+    if (!strobes_name)
+        return onfi_timing_of_page(page, page_bytes, (const char *)sheet, sheet_bytes, device, place);
+    size_t strobes_bytes = contents(strobes_name, strobes, sizeof strobes);
+    return onfi_timing_of_strobes(page, page_bytes, (const char *)sheet, sheet_bytes, (const char *)strobes, strobes_bytes, device, place);
+}
+
 static void print_spans(const char *kind, const onfi_spans *spans)
 {
     printf("%s %" PRIu64 " %" PRIu64 " %" PRIu64 " %" PRIu64 "\n", kind, spans->cmd, spans->gap, spans->array, spans->post);
@@ -22,15 +33,13 @@ static void print_spans(const char *kind, const onfi_spans *spans)
 
 int main(int count, char **words)
 {
-    static uint8_t page[8192], sheet[8192];
     onfi_device device;
     uint64_t place;
-    if (count != 3) {
-        fprintf(stderr, "usage: device PAGE SHEET\n");
+    if (count != 3 && count != 4) {
+        fprintf(stderr, "usage: device PAGE SHEET [STROBES]\n");
         return EXIT_FAILURE;
     }
-    size_t page_bytes = contents(words[1], page, sizeof page), sheet_bytes = contents(words[2], sheet, sizeof sheet);
-    uint32_t status = onfi_timing_of_page(page, page_bytes, (const char *)sheet, sheet_bytes, &device, &place);
+    uint32_t status = told(words[1], words[2], count == 4 ? words[3] : NULL, &device, &place);
     if (status != ONFI_DONE) {
         char text[80];
         size_t bytes;

@@ -3,7 +3,7 @@
 from __future__ import annotations
 
 import ctypes
-from typing import Callable, List, Sequence, Tuple, Union
+from typing import Callable, List, Optional, Sequence, Tuple, Union
 
 from onfi.library import library
 from onfi.model import Answer, Channel, Choice, Device, Geometry, Lun, Phase, Plan, PlanWithin, Schedule, Stand, Want
@@ -235,19 +235,28 @@ def row(geometry: Geometry, lun: int, block: int, page: int) -> int:
     return told.value
 
 
-def timing_of_page(page: Octets, sheet: Text) -> Device:
-    """The device that the bytes of a parameter page and the text of a timing sheet tell of.
+def timing_of_page(page: Octets, sheet: Text, strobes: Optional[Text] = None) -> Device:
+    """The device that the bytes of a parameter page and the text of a timing sheet tell of, with strobes or without.
 
     The sheet has a row NAME,VALUE, in ns, for each of tWC, tRC, tADL, tWHR, tRHW, tWB, tPLRBSY, tPLPBSY and tPLEBSY. The rules
     that are given aren't strict: where bit 1 of the page's byte 114 is clear the device has block address restrictions, and its
     channel needs rules with `strict=True`.
 
-    Raises the first fault of the page (`PageShort`, `NoCopy`), of the device (`WideBus` .. `TooLarge`) or of the sheet
-    (`SheetMissing` .. `SheetTooLong`, with the row or the parameter as its place); `Memory`. `TypeError` where the page isn't
-    bytes or the sheet neither str nor bytes.
+    `strobes` is for a device of NV-DDR2 or NV-DDR3: a row NAME,VALUE, in ps, for each of tRPRE, tRC, tRPST, tRPSTH, tWPRE, tDSC,
+    tWPST and tWPSTH. Data and status bytes go by them, two in a cycle, and each length is its sum in ps, rounded up to whole ns
+    once; tRC of the sheet may then be missing.
+
+    Raises the first fault of the page (`PageShort`, `NoCopy`), of the device (`WideBus` .. `TooLarge`), of the sheet
+    (`SheetMissing` .. `SheetTooLong`, with the row or the parameter as its place) or of the strobes (`StrobeMissing` ..
+    `StrobeNotANumber` likewise; `SheetZeroCycle` and `SheetTooLong` speak of them too); `Memory`. `TypeError` where the page
+    isn't bytes, or the sheet or the strobes neither str nor bytes.
     """
     device, place, page, sheet = CDevice(), ctypes.c_uint64(), octets(page, "a parameter page"), text(sheet, "a timing sheet")
-    status = library().onfi_timing_of_page(page, len(page), sheet, len(sheet), ctypes.byref(device), ctypes.byref(place))
+    texts, call = [page, sheet], library().onfi_timing_of_page
+    if strobes is not None:
+        texts, call = [page, sheet, text(strobes, "a text of strobes")], library().onfi_timing_of_strobes
+    words = [word for it in texts for word in (it, len(it))]
+    status = call(*words, ctypes.byref(device), ctypes.byref(place))
     if status != DONE:
         raise refusal(status, place.value)
     return device.told()

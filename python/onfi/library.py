@@ -28,6 +28,7 @@ CALLS = {
     "onfi_ran": (*PROBLEM[:3], ctypes.POINTER(CWant * WANTS), ctypes.POINTER(SIZE), ctypes.POINTER(CSchedule), ctypes.c_uint8, ctypes.c_uint8, ctypes.c_uint64),
     "onfi_row": (ctypes.POINTER(CGeometry), ctypes.c_uint8, ctypes.c_uint16, ctypes.c_uint16, ctypes.POINTER(ctypes.c_uint32)),
     "onfi_timing_of_page": (BYTES, SIZE, BYTES, SIZE, ctypes.POINTER(CDevice), ctypes.POINTER(ctypes.c_uint64)),
+    "onfi_timing_of_strobes": (BYTES, SIZE, BYTES, SIZE, BYTES, SIZE, ctypes.POINTER(CDevice), ctypes.POINTER(ctypes.c_uint64)),
     "onfi_text_plan": (BYTES, SIZE, ctypes.c_uint32, ctypes.c_bool, *ROOM),
     "onfi_text_plan_known": (BYTES, SIZE, ctypes.c_uint32, ctypes.c_bool, *ROOM),
     "onfi_text_trace": (BYTES, SIZE, ctypes.c_uint32, ctypes.c_bool, *ROOM),

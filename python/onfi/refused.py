@@ -324,6 +324,30 @@ class SheetTooLong(Refused):
     status = 85
 
 
+class StrobeMissing(Refused):
+    """The strobes give no value for a parameter."""
+
+    status = 86
+
+
+class StrobeRepeated(Refused):
+    """The strobes give a parameter twice."""
+
+    status = 87
+
+
+class StrobeUnknown(Refused):
+    """A row of the strobes is no parameter with its value."""
+
+    status = 88
+
+
+class StrobeNotANumber(Refused):
+    """The value of a row of the strobes is no number."""
+
+    status = 89
+
+
 class UnknownNode(Refused):
     """No open node has ended as that number."""
 
@@ -404,6 +428,10 @@ REFUSALS: Dict[int, Type[Refused]] = {
         SheetNotANumber,
         SheetZeroCycle,
         SheetTooLong,
+        StrobeMissing,
+        StrobeRepeated,
+        StrobeUnknown,
+        StrobeNotANumber,
         UnknownNode,
         OtherLeft,
         Sooner,
@@ -458,6 +486,10 @@ __all__ = [
     "SheetZeroCycle",
     "Short",
     "Sooner",
+    "StrobeMissing",
+    "StrobeNotANumber",
+    "StrobeRepeated",
+    "StrobeUnknown",
     "TooLarge",
     "TooMany",
     "TooManyNodes",

@@ -58,6 +58,8 @@ static void plans(plan_call *plan_it, check_call *check_it)
     expect("a certificate of no want", check_it(&channel, luns, 1, NOTHING(onfi_want), 0, &plan.schedule, certificate, bytes, &verdict), ONFI_ILLEGAL);
 }
 
+static const char BESIDE[] = "tWC,25\ntADL,150\ntWHR,80\ntRHW,100\ntWB,100\ntPLRBSY,500\ntPLPBSY,500\ntPLEBSY,500\n";
+
 static void devices(const uint8_t *page, size_t bytes)
 {
     onfi_device device;
@@ -66,6 +68,9 @@ static void devices(const uint8_t *page, size_t bytes)
     expect("no page", onfi_timing_of_page(NOTHING(uint8_t), 0, "tWC,20\n", 7, &device, &place), ONFI_PAGE_SHORT);
     expect("no sheet", onfi_timing_of_page(page, bytes, NOTHING(char), 0, &device, &place), ONFI_SHEET_MISSING);
     expect("tells its first parameter", place, 1);
+    expect("no sheet beside strobes", onfi_timing_of_strobes(page, bytes, NOTHING(char), 0, NOTHING(char), 0, &device, &place), ONFI_SHEET_MISSING);
+    expect("no strobes", onfi_timing_of_strobes(page, bytes, BESIDE, sizeof BESIDE - 1, NOTHING(char), 0, &device, &place), ONFI_STROBE_MISSING);
+    expect("tells their first parameter", place, 1);
 }
 
 static const char *const no_script = "script refused 0 NoEnd\n";

@@ -343,6 +343,8 @@ static void devices(void)
     expect("a short page", onfi_timing_of_page(page, 255, "", 0, &device, &place), ONFI_PAGE_SHORT);
     expect("no place", place, 0);
     expect("no copy", onfi_timing_of_page(page, sizeof page, "", 0, &device, &place), ONFI_NO_COPY);
+    expect("a short page, and strobes", onfi_timing_of_strobes(page, 255, "", 0, "tDQ", 3, &device, &place), ONFI_PAGE_SHORT);
+    expect("no copy, and strobes", onfi_timing_of_strobes(page, sizeof page, "", 0, "tDQ", 3, &device, &place), ONFI_NO_COPY);
     expect("the device is as it was", (uint64_t)memcmp(&device, &before, sizeof device), 0);
 }
 

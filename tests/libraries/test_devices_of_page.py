@@ -17,8 +17,15 @@ from onfi_tools import device  # noqa: E402
 from onfi_tools.script import lengths_of  # noqa: E402
 
 SCRIPT = (test_libraries.ROOT / "examples/program-by-page.onfi").read_text()
-SHEET = "".join(line[len("sheet,"):] + "\n" for line in SCRIPT.splitlines() if line.startswith("sheet,"))
-PAGE = bytes.fromhex("".join(line[len("page,"):] for line in SCRIPT.splitlines() if line.startswith("page,")))
+
+
+def rows(script: str, word: str) -> str:
+    """The rows of a script that begin with a word, without it."""
+    return "".join(line[len(word) + 1:] + "\n" for line in script.splitlines() if line.startswith(word + ","))
+
+
+SHEET = rows(SCRIPT, "sheet")
+PAGE = bytes.fromhex(rows(SCRIPT, "page").replace("\n", ""))
 NUMBERS = {name: value for name, value in device.numbers_of(PAGE).items() if value}
 
 
@@ -26,20 +33,88 @@ def page(**fields: int) -> bytes:
     return device.page_of({**NUMBERS, **fields}, {})
 
 
-def check_example(test: unittest.TestCase, program: str) -> None:
-    """The example in C prints the lengths, and what is refused."""
+def run_example(program: str, *texts: bytes) -> "subprocess.CompletedProcess[str]":
     with tempfile.TemporaryDirectory() as room:
-        files = [Path(room) / name for name in ("page", "sheet")]
-        files[0].write_bytes(PAGE)
-        files[1].write_text(SHEET)
-        told = subprocess.run([program, *map(str, files)], capture_output=True, text=True)
-        wanted = [" ".join(map(str, (kind, *spans))) for kind, spans in lengths_of(SCRIPT).items()]
-        test.assertEqual((told.returncode, told.stderr), (0, ""))
-        test.assertEqual(sorted(told.stdout.splitlines()[:3]), sorted(wanted))
-        test.assertEqual(told.stdout.splitlines()[3], "2 LUNs of 1000 blocks of 64 pages of 512 + 16 bytes, 2 planes")
-        files[1].write_text("tWC,20\ntRC,x\n")
-        told = subprocess.run([program, *map(str, files)], capture_output=True, text=True)
-        test.assertEqual((told.returncode, told.stdout), (1, "refused 83 the value of a row of the sheet is no number, place 2\n"))
+        files = [Path(room) / name for name in ("page", "sheet", "strobes")[: len(texts)]]
+        for file, text in zip(files, texts):
+            file.write_bytes(text)
+        return subprocess.run([program, *map(str, files)], capture_output=True, text=True)
+
+
+def check_lengths(test: unittest.TestCase, script: str, told: "subprocess.CompletedProcess[str]") -> None:
+    wanted = [" ".join(map(str, (kind, *spans))) for kind, spans in lengths_of(script).items()]
+    test.assertEqual((told.returncode, told.stderr), (0, ""))
+    test.assertEqual(sorted(told.stdout.splitlines()[:3]), sorted(wanted))
+
+
+def check_example(test: unittest.TestCase, program: str) -> None:
+    """The example in C prints the lengths, also of devices with strobes, and what is refused."""
+    told = run_example(program, PAGE, SHEET.encode())
+    check_lengths(test, SCRIPT, told)
+    test.assertEqual(told.stdout.splitlines()[3], "2 LUNs of 1000 blocks of 64 pages of 512 + 16 bytes, 2 planes")
+    for profile in sorted((test_libraries.ROOT / "examples/devices").glob("*.onfi")):
+        script = profile.read_text()
+        texts = bytes.fromhex(rows(script, "page").replace("\n", "")), rows(script, "sheet").encode(), rows(script, "strobe").encode()
+        check_lengths(test, script, run_example(program, *texts))
+    told = run_example(program, PAGE, b"tWC,20\ntRC,x\n")
+    test.assertEqual((told.returncode, told.stdout), (1, "refused 83 the value of a row of the sheet is no number, place 2\n"))
+    told = run_example(program, PAGE, BESIDE.encode(), b"tDQ,5\n")
+    test.assertEqual((told.returncode, told.stdout[:11]), (1, "refused 88 "))
+
+
+BESIDE = SHEET.replace("tWC,20", "tWC,25").replace("tRC,20\n", "").replace("tADL,100", "tADL,150")
+STROBES = "tRPRE,15000\ntRC,1667\ntRPST,26000\ntRPSTH,15000\ntWPRE,15000\ntDSC,1667\ntWPST,7000\ntWPSTH,25000\n"
+
+
+class Strobes(unittest.TestCase):
+    def lengths(self, bytes_: bytes, strobes: onfi.calls.Text = STROBES) -> Tuple[int, int, int]:
+        timing = onfi.timing_of_page(bytes_, BESIDE, strobes).timing
+        return timing.read.post, timing.program.cmd, timing.erase.post
+
+    def test_lengths(self) -> None:
+        self.assertEqual(self.lengths(PAGE), (972, 813, 338))
+        self.assertEqual(self.lengths(PAGE, STROBES.encode()), (972, 813, 338))
+        self.assertEqual(self.lengths(page(spare_bytes=17)), (973, 814, 338))
+        self.assertEqual(self.lengths(page(data_bytes=16384, spare_bytes=2048, tCCS_ns=400)), (16095, 15736, 338))
+        self.assertEqual(self.lengths(PAGE, STROBES.replace("1667", "2000")), (1059, 900, 338))
+
+    def test_all_but_data_and_status_is_as_by_the_sheet(self) -> None:
+        found, plain = onfi.timing_of_page(PAGE, BESIDE, strobes=STROBES), onfi.timing_of_page(PAGE, BESIDE + "tRC,20\n")
+        self.assertEqual((found.geometry, found.rules), (plain.geometry, plain.rules))
+        for one, other in zip(*((it.timing.read, it.timing.program, it.timing.erase) for it in (found, plain))):
+            self.assertEqual((one.gap, one.array), (other.gap, other.array))
+
+    def test_a_read_cycle_of_the_sheet_is_not_looked_at(self) -> None:
+        for cycle in (0, 1, 1000):
+            self.assertEqual(onfi.timing_of_page(PAGE, f"tRC,{cycle}\n" + BESIDE, STROBES), onfi.timing_of_page(PAGE, BESIDE, STROBES))
+
+    def refused(self, name: Type[onfi.Refused], strobes: str, place: int = 0, sheet: str = BESIDE, bytes_: bytes = PAGE) -> None:
+        with self.assertRaises(name) as told:
+            onfi.timing_of_page(bytes_, sheet, strobes)
+        self.assertEqual(told.exception.place, place)
+
+    def test_refusals(self) -> None:
+        for place, row in enumerate(STROBES.splitlines(keepends=True), 1):
+            self.refused(onfi.StrobeMissing, STROBES.replace(row, ""), place)
+            self.refused(onfi.StrobeRepeated, STROBES + row, place)
+        self.refused(onfi.StrobeMissing, "", 1)
+        self.refused(onfi.StrobeUnknown, STROBES + "tDQ,5\n", 9)
+        self.refused(onfi.StrobeUnknown, "tRC\n", 1)
+        self.refused(onfi.StrobeNotANumber, "tRPRE,15\ntRC,1.667\n", 2)
+        self.refused(onfi.SheetTooLong, "tRPRE,4294967296\n")
+        self.refused(onfi.SheetZeroCycle, STROBES.replace("tRC,1667", "tRC,0"))
+        self.refused(onfi.SheetZeroCycle, STROBES.replace("tDSC,1667", "tDSC,0"))
+        self.assertRaisesRegex(TypeError, "^a text of strobes is str or bytes, not dict$", onfi.timing_of_page, PAGE, BESIDE, {"tRC": 1667})
+
+    def test_order(self) -> None:
+        """Page, device, text of the sheet, text of the strobes, what the sheet lacks, what the strobes lack."""
+        self.refused(onfi.PageShort, "tDQ,5\n", sheet="x", bytes_=PAGE[:255])
+        self.refused(onfi.WideBus, "tDQ,5\n", sheet="x", bytes_=page(wide_bus=1))
+        self.refused(onfi.SheetUnknown, "tDQ,5\n", 1, sheet="x")
+        self.refused(onfi.StrobeUnknown, "tDQ,5\n", 1, sheet="tWC,0\n")
+        self.refused(onfi.SheetMissing, "tRC,0\n", 3, sheet="tWC,0\n")
+        self.refused(onfi.SheetZeroCycle, "tRC,0\n", sheet=BESIDE.replace("tWC,25", "tWC,0"))
+        self.refused(onfi.StrobeMissing, "tRC,0\n", 1)
 
 
 class Devices(unittest.TestCase):

@@ -77,7 +77,8 @@ class Headers(unittest.TestCase):
         self.assertEqual(sorted(told), [
             "onfi_check", "onfi_check_known", "onfi_check_within", "onfi_choose", "onfi_due", "onfi_plan", "onfi_plan_early", "onfi_plan_known",
             "onfi_plan_within", "onfi_ran", "onfi_row", "onfi_status_text", "onfi_text_check", "onfi_text_check_known",
-            "onfi_text_legal", "onfi_text_plan", "onfi_text_plan_known", "onfi_text_trace", "onfi_timing_of_page", "onfi_version"])
+            "onfi_text_legal", "onfi_text_plan", "onfi_text_plan_known", "onfi_text_trace", "onfi_timing_of_page", "onfi_timing_of_strobes",
+            "onfi_version"])
 
     def test_shared_library_is_named_by_its_major_version(self) -> None:
         version = (ROOT / "VERSION").read_text().strip()
@@ -186,7 +187,7 @@ class Nothing(unittest.TestCase):
         for compiler in (C11, CXX):
             told = run(build(ROOT / "tests/libraries/nothing.c", compiler), str(page))
             self.assertEqual((told.returncode, told.stderr), (0, b""), told.stdout.decode())
-            self.assertEqual(told.stdout, b"67 tried, 0 failed\n")
+            self.assertEqual(told.stdout, b"70 tried, 0 failed\n")
 
 
 def said(script: str) -> Tuple[onfi.Channel, List[onfi.Lun], List[onfi.Want]]:

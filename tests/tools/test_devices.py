@@ -15,7 +15,7 @@ from onfi_tools.script import lengths_of
 
 EXAMPLES = support.ROOT / "examples"
 # Those of the program; those of the libraries are built and run by tests/libraries.
-PAGES = [EXAMPLES / user / "README.md" for user in ("firmware", "simulator", "test-bench")]
+PAGES = [EXAMPLES / user / "README.md" for user in ("firmware", "simulator", "test-bench", "devices")]
 WORKED = ("multi_lun=1 multi_plane_writes=1 multi_plane_reads=1 status_enhanced=1 column_enhanced=1 data_bytes=512 "
           "spare_bytes=16 pages_per_block=64 blocks_per_lun=1000 luns=2 column_cycles=2 row_cycles=3 plane_bits=1 "
           "no_block_restrictions=1 tPROG_us=200 tBERS_us=1500 tR_us=25 tCCS_ns=200").split()
@@ -111,7 +111,8 @@ class Examples(unittest.TestCase):
     def test_their_pages_are_those_of_their_fields(self) -> None:
         two, four = "firmware/two-planes", "simulator/four-planes"
         for script, fields, copies in (("firmware/batch", two, 1), ("test-bench/batch", two, 1),
-                                       ("simulator/batch", four, 3), ("simulator/faults", four, 3)):
+                                       ("simulator/batch", four, 3), ("simulator/faults", four, 3),
+                                       *((f"devices/{it}", f"devices/{it}", 1) for it in ("slc", "tlc", "qlc"))):
             ran = support.run_tool("make-page", "--copies", str(copies), f"@examples/{fields}.fields")
             self.assertEqual(ran.stdout.splitlines(), page_rows(EXAMPLES / f"{script}.onfi"))
 

@@ -1,4 +1,4 @@
-"""Parameter pages from named fields and back, and the phase lengths that a page and a timing sheet give."""
+"""Parameter pages from named fields and back, and the phase lengths that a page and a timing sheet give, with strobes or without."""
 
 from __future__ import annotations
 
@@ -10,6 +10,7 @@ SIGNATURE = b"ONFI"
 FIRST_REMAINDER = 0x4F4E
 POLYNOMIAL = 0x8005
 SHEET = ("tWC", "tRC", "tADL", "tWHR", "tRHW", "tWB", "tPLRBSY", "tPLPBSY", "tPLEBSY")
+STROBES = ("tRPRE", "tRC", "tRPST", "tRPSTH", "tWPRE", "tDSC", "tWPST", "tWPSTH")
 SHORT_BUSY = {"read": "tPLRBSY", "program": "tPLPBSY", "erase": "tPLEBSY"}
 ARRAY_MICROSECONDS = {"read": "tR_us", "program": "tPROG_us", "erase": "tBERS_us"}
 
@@ -159,4 +160,25 @@ def spans_of(page: Mapping[str, int], sheet: Mapping[str, int]) -> Dict[str, Spa
             output if kind == "read" else status,
         )
         for kind in KINDS
+    }
+
+
+def by_strobes(plain: int, before: int, cycle: int, behind: int, size: int) -> int:
+    """A phase of so many ns, and so many bytes by strobes, all in ps: two in a cycle, and whole ns behind the end."""
+    picoseconds = 1000 * plain + before + -(-size // 2) * cycle + behind
+    return -(-picoseconds // 1000)
+
+
+def strobed_spans_of(page: Mapping[str, int], sheet: Mapping[str, int], strobes: Mapping[str, int]) -> Dict[str, Spans]:
+    """The same where data and status bytes go by strobes; tRC of the sheet isn't looked at."""
+    cycles = 2 + page["column_cycles"] + page["row_cycles"]
+    size = page["data_bytes"] + page["spare_bytes"]
+    out = (strobes["tRPRE"], strobes["tRC"], strobes["tRPST"] + strobes["tRPSTH"])
+    into = (strobes["tWPRE"], strobes["tDSC"], strobes["tWPST"] + strobes["tWPSTH"])
+    status = by_strobes((1 + page["row_cycles"]) * sheet["tWC"] + sheet["tWHR"] + sheet["tRHW"], *out, 1)
+    found = spans_of(page, {**sheet, "tRC": 0})
+    return {
+        "read": found["read"]._replace(post=by_strobes(cycles * sheet["tWC"] + page["tCCS_ns"] + sheet["tRHW"], *out, size)),
+        "program": found["program"]._replace(cmd=by_strobes(cycles * sheet["tWC"] + sheet["tADL"], *into, size), post=status),
+        "erase": found["erase"]._replace(post=status),
     }

@@ -16,7 +16,7 @@ MOST_OPERATIONS = 10_000
 MOST_TIME = 1 << 62
 # Of each plane's blocks the lower three quarters hold what stands on the drive as the trace begins; the others take writes.
 HOME_SHARE = (3, 4)
-DEVICE_ROWS = ("page", "sheet", "strict", "geometry", "shape", "spans")
+DEVICE_ROWS = ("page", "sheet", "strobe", "strict", "geometry", "shape", "spans")
 
 
 class Request(NamedTuple):

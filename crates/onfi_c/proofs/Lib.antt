@@ -1,10 +1,10 @@
 mod Answering
 mod Dues
-mod Few
+mod EarlyStarts
+mod Filled
 mod Geometries
 mod Giving
 mod Horizons
-mod Mapped
 mod Next
 mod Orders
 mod Recalled

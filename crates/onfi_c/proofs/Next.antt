@@ -4,7 +4,7 @@ use Rattle.std.specs.Prelude.{slice_get, slice_set, slice_index_or}
 use Rattle.std.proofs.lemmas.Bool.Decides.{nat_tests}
 use Rattle.std.proofs.lemmas.Bool.{cases_lt}
 use Rattle.std.proofs.lemmas.List.{length-map}
-use Rattle.std.proofs.lemmas.Option.{slice_get-get_or, slice_get_read}
+use Rattle.std.proofs.lemmas.Option.{slice_get-get_or}
 use Rattle.onfi_request.specs.declared.want.Want.{Want}
 use Rattle.onfi_group.specs.Group.{lun_of}
 use Rattle.onfi_problem.specs.declared.lun_state.LunState.TheVariants.{Free, Running}
@@ -60,23 +60,6 @@ runs_there p s table luns next lun d legal is kept read =
 is_nil : {A : Type 0} (xs : List A) → is_empty xs ≡ true → xs ≡ []
 is_nil [] h = refl
 is_nil (x ∷ xs) h = cc
-
--- what is read at the place of a start begins with it
-pub read_starts : (lists read : List (List ℕ)) (at t : ℕ) (ts starts : List ℕ) → read ≡ lists → slice_get lists at ≡ Some (t ∷ ts) → starts ≡ slice_index_or read at starts → starts ≡ t ∷ ts
-read_starts lists read at t ts starts same there is =
-    let low = within_get lists at (t ∷ ts) there in
-    let got : slice_get lists at ≡ Some starts = slice_get_read lists (length lists) at starts refl low (is ∙ ap (λ xs. slice_index_or xs at starts) same) in
-    let some : Some starts ≡ Some (t ∷ ts) = sym got ∙ there in
-    cc
-
--- the group at the place of a start, whose starts begin with it
-pub read_group : (groups read : List Placed) (at t : ℕ) (ts : List ℕ) (g : Placed) → read ≡ groups → slice_get (starts_in groups) at ≡ Some (t ∷ ts) → g ≡ slice_index_or read at g
-    → (slice_get groups at ≡ Some g) × (g.starts ≡ t ∷ ts)
-read_group groups read at t ts g same there is =
-    let low = within_groups groups at (t ∷ ts) there in
-    let got : slice_get groups at ≡ Some g = slice_get_read groups (length groups) at g refl low (is ∙ ap (λ xs. slice_index_or xs at g) same) in
-    let some : Some g.starts ≡ Some (t ∷ ts) = sym (map_get (λ (x : Placed). x.starts) groups at g got) ∙ there in
-    (got, cc)
 
 -- the next phase of a group that runs comes next
 pub next_is_coming : (p : Problem) (s : Schedule) → IsProblem p → Legal p s → (next : AStart) (is : IsTurn s.rest s.groups (turn.Next next))

@@ -18,5 +18,6 @@ pub mod SaidSchedule
 pub mod Script
 pub mod Status
 pub mod StatusText
+pub mod StrobedDevice
 pub mod Within
 pub mod Written

@@ -9,7 +9,8 @@ use Rattle.onfi_check.specs.Nodes.{HasMoreNodes, OpensNodes}
 use Rattle.onfi_planner.specs.Planning.{AreRising}
 use Rattle.onfi_recall.specs.Text.{HasNodesIn, last_opened}
 use Rattle.onfi_recall.specs.Walks.{EndsSooner, HasSoMany}
-use Rattle.onfi_script.specs.Answer.{IsKnown}
+use Rattle.onfi_planners.specs.declared.chosen.ChosenPlanner.TheVariants.{Remembering}
+use Rattle.onfi_script.specs.Answer.{IsProved}
 use Rattle.onfi_c.specs.declared.channel.PlainChannel.{PlainChannel}
 use Rattle.onfi_c.specs.declared.lun.PlainWant.{PlainWant}
 use Rattle.onfi_c.specs.declared.lun.PlainLun.{PlainLun}
@@ -40,7 +41,7 @@ pub record IsPlan (p : Problem) (limit : ℕ) (plan : PlainPlan) (text : List �
 -- has as many nodes as are told
 pub record IsRecalled (p : Problem) (limit : ℕ) (plan : PlainPlan) (text : List ℕ) : Type 0 where
   pub schedule : Schedule
-  pub known : IsKnown p schedule text
+  pub known : IsProved Remembering p schedule text
   pub rising : AreRising schedule.groups
   pub some : 1 ≤ plan.opened
   pub within : plan.opened ≤ limit

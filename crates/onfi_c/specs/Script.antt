@@ -1,6 +1,7 @@
 -- What a caller is given for the bytes of a script.
 use Rattle.std.specs.Prelude.{◌≡◌, ◌≤◌, ◌<◌, ◌⊎◌, ℕ, Bool, true, false, List}
-use Rattle.onfi_script.specs.Answer.{IsAnswer}
+use Rattle.onfi_planners.specs.declared.chosen.ChosenPlanner.TheVariants.{Plain, Remembering}
+use Rattle.onfi_script.specs.Answer.{IsAnswer, options_of}
 use Rattle.onfi_script.specs.Text.{Answer}
 use Rattle.onfi_script.specs.declared.command.Command.{Command}
 use Rattle.onfi_script.specs.declared.command.Command.TheVariants as asked
@@ -29,8 +30,8 @@ output_of false = Plan
 
 -- the command for a trace whose lines name their requests
 abbrev pub requests_of : ℕ → Bool → Command
-requests_of limit true = asked.PlanKnown limit (Trace true)
-requests_of limit false = asked.PlanRequests limit
+requests_of limit true = asked.PlanBy (options_of Remembering limit (Trace true))
+requests_of limit false = asked.PlanBy (options_of Plain limit (Trace true))
 
 -- the caller is given what a command to plan answers to a script; a number alone where the limit is out of its range
 pub record GivesPlanText (limit : ℕ) (command : Command) (script old new : List ℕ) (bytes result : ℕ) : Type 0 where

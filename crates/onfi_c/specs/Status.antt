@@ -5,7 +5,7 @@ use Rattle.onfi_planner.specs.declared.fault.PlanFault.TheVariants.{Over as Sear
 use Rattle.onfi_timing.specs.declared.spans.SpanFault.{SpanFault}
 use Rattle.onfi_timing.specs.declared.spans.SpanFault.TheVariants.{Zero as ZeroLength, TooLong}
 use Rattle.onfi_c.specs.declared.status.Status.{Status}
-use Rattle.onfi_c.specs.declared.status.Status.TheVariants.{Done, NoRoom, Memory, BadLimit, Over, ZeroSpan, LongSpan, BadPlaneBits, BadKind, BadMembers, TooMany, BadLun, Clock, BadPlace, BadGeometry, BadChoice, BadBatch, BadOrder, BadSchedule, NothingDue, NotDue, TooSoon, BadHeader, BadToken, TooManyTokens, OtherOption, Illegal, Short, Trailing, Width, BoundLow, YieldNoFit, YieldLoop, NotEnd, EndsBefore, PageShort, NoCopy, WideBus, NoStatusEnhanced, NoColumnEnhanced, NoMultiLun, LunCount, PlaneBits, Zero, RowTooWide, ColumnTooWide, TooLarge, SheetMissing, SheetRepeated, SheetUnknown, SheetNotANumber, SheetZeroCycle, SheetTooLong, UnknownNode, OtherLeft, Sooner, TooManyNodes}
+use Rattle.onfi_c.specs.declared.status.Status.TheVariants.{Done, NoRoom, Memory, BadLimit, Over, ZeroSpan, LongSpan, BadPlaneBits, BadKind, BadMembers, TooMany, BadLun, Clock, BadPlace, BadGeometry, BadChoice, BadBatch, BadOrder, BadSchedule, NothingDue, NotDue, TooSoon, BadHeader, BadToken, TooManyTokens, OtherOption, Illegal, Short, Trailing, Width, BoundLow, YieldNoFit, YieldLoop, NotEnd, EndsBefore, PageShort, NoCopy, WideBus, NoStatusEnhanced, NoColumnEnhanced, NoMultiLun, LunCount, PlaneBits, Zero, RowTooWide, ColumnTooWide, TooLarge, SheetMissing, SheetRepeated, SheetUnknown, SheetNotANumber, SheetZeroCycle, SheetTooLong, StrobeMissing, StrobeRepeated, StrobeUnknown, StrobeNotANumber, UnknownNode, OtherLeft, Sooner, TooManyNodes}
 
 abbrev pub number_of : Status → ℕ
 number_of Done = 0
@@ -61,6 +61,10 @@ number_of SheetUnknown = 82
 number_of SheetNotANumber = 83
 number_of SheetZeroCycle = 84
 number_of SheetTooLong = 85
+number_of StrobeMissing = 86
+number_of StrobeRepeated = 87
+number_of StrobeUnknown = 88
+number_of StrobeNotANumber = 89
 number_of UnknownNode = 90
 number_of OtherLeft = 91
 number_of Sooner = 92
@@ -121,6 +125,10 @@ text_of SheetUnknown = codes "a row of the sheet is no parameter with its value"
 text_of SheetNotANumber = codes "the value of a row of the sheet is no number"
 text_of SheetZeroCycle = codes "a cycle without length"
 text_of SheetTooLong = codes "a value of 2^32 ns or more"
+text_of StrobeMissing = codes "the strobes give no value for a parameter"
+text_of StrobeRepeated = codes "the strobes give a parameter twice"
+text_of StrobeUnknown = codes "a row of the strobes is no parameter with its value"
+text_of StrobeNotANumber = codes "the value of a row of the strobes is no number"
 text_of UnknownNode = codes "a node that hasn't ended"
 text_of OtherLeft = codes "a node at which something else is left"
 text_of Sooner = codes "a node that goes on later"

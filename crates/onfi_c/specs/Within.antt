@@ -2,27 +2,24 @@
 use Rattle.std.specs.Prelude.{◌≡◌, ◌≤◌, ℕ, List}
 use Rattle.onfi_problem.specs.Problem.{Problem}
 use Rattle.onfi_schedule.specs.Schedule.{Schedule, finish}
-use Rattle.onfi_check.specs.Nodes.{HasMoreNodes}
-use Rattle.onfi_script.specs.Answer.{IsNear, IsWithin}
+use Rattle.onfi_planners.specs.declared.chosen.ChosenPlanner.TheVariants.{BestSoFar}
+use Rattle.onfi_script.specs.Answer.{IsPlan}
 use Rattle.onfi_c.specs.declared.schedule.PlainWithin.{PlainWithin}
 use Rattle.onfi_c.specs.declared.status.Status.{Status}
 use Rattle.onfi_c.specs.declared.status.Status.TheVariants.{Memory}
 use Rattle.onfi_c.specs.Written.{written_within}
 
--- a schedule, and the text of a certificate that nothing ends before a time, of which this holds
-pub record IsPlanBelow (Holds : Schedule → ℕ → List ℕ → Type 0) (p : Problem) (plan : PlainWithin) (text : List ℕ) : Type 0 where
+-- the best plan so far, made better within so many thousandths: the time is its finish where these are none, and else it ends at
+-- most so much later, unless the tree of the problem has more nodes than the limit
+pub record IsPlanNear (slack : ℕ) (p : Problem) (limit : ℕ) (plan : PlainWithin) (text : List ℕ) : Type 0 where
   pub schedule : Schedule
-  pub holds : Holds schedule plan.below text
+  pub is_plan : IsPlan BestSoFar slack limit p schedule plan.below text
   pub least : plan.below ≤ finish p schedule
   pub written : plan ≡ written_within schedule (finish p schedule) plan.below
 
--- a legal schedule; the time is its finish, unless the tree of the problem has more nodes than the limit
+-- .. as it was found
 abbrev pub IsPlanWithin : Problem → ℕ → PlainWithin → List ℕ → Type 0
-IsPlanWithin p limit plan text = IsPlanBelow (IsWithin limit p) p plan text
-
--- a legal schedule; it ends at most so many thousandths later, unless the tree of the problem has more nodes than the limit
-abbrev pub IsPlanNear : ℕ → Problem → ℕ → PlainWithin → List ℕ → Type 0
-IsPlanNear slack p limit plan text = IsPlanBelow (IsNear (HasMoreNodes p limit) slack p) p plan text
+IsPlanWithin p limit plan text = IsPlanNear 0 p limit plan text
 
 -- memory ran out
 abbrev pub IsNoMemory : Problem → ℕ → Status → Type 0

@@ -1,7 +1,8 @@
 //! Checks of schedules that plain structs say.
 ghost use Rattle.std.specs.Prelude.{◌≡◌, IfOk, IfErr};
 ghost use Rattle.onfi_schedule.specs.Schedule.{finish};
-ghost use Rattle.onfi_script.specs.Answer.{IsAccepted};
+ghost use Rattle.onfi_planners.specs.declared.chosen.ChosenPlanner.TheVariants.{Plain};
+ghost use Rattle.onfi_script.specs.Answer.{IsProved};
 ghost use Rattle.onfi_c.specs.Checked.{GivesVerdict, IsFaultTold, IsRefusedBy};
 
 use crate::channel::PlainChannel;
@@ -34,7 +35,7 @@ pub fn give_verdict(judged: Result<u64, Refusal>, verdict: &mut PlainVerdict) ->
 
 /// When the schedule ends, in ns, where its certificate shows that none ends sooner.
 pub fn judge(alloc: Global, stand: &Stand, certificate: &[u8]) -> Result<u64, Refusal>
-    ensures shown { IfOk result (λ ends. IsAccepted stand.now.problem.problem stand.now.schedule certificate.now
+    ensures shown { IfOk result (λ ends. IsProved Plain stand.now.problem.problem stand.now.schedule certificate.now
         × (finish stand.now.problem.problem stand.now.schedule ≡ ends)) }
     ensures refused { IfErr result (λ refusal. IsFaultTold stand.now.problem.problem stand.now.schedule certificate.now refusal) }
 {
@@ -59,7 +60,7 @@ pub extern "C" fn onfi_check(
     certificate: &[u8],
     verdict: &mut PlainVerdict,
 ) -> u32
-    ensures { GivesVerdict IsAccepted IsFaultTold channel.now luns.now wants.now schedule.now certificate.now verdict.new result }
+    ensures { GivesVerdict (IsProved Plain) IsFaultTold channel.now luns.now wants.now schedule.now certificate.now verdict.new result }
 {
     match said_of(alloc, channel, luns, wants, schedule) {
         Ok(stand) => give_verdict(judge(alloc, &stand, certificate), verdict),

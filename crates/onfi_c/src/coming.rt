@@ -9,7 +9,6 @@ use onfi_core::{Start, Turn, behind_first, next_turn};
 use onfi_group::Group;
 use onfi_problem::Problem;
 use onfi_schedule::{Schedule, Starts};
-use std::alloc::Global;
 
 /// The phase that comes next.
 #[derive(Drop)]
@@ -27,7 +26,7 @@ pub struct Coming {
 }
 
 /// The next phase of the group that runs on that LUN.
-fn next_coming(alloc: Global, problem: &Problem, schedule: &Schedule, next: Start) -> Coming
+fn next_coming(problem: &Problem, schedule: &Schedule, next: Start) -> Coming
     requires legal { Legal problem.now.problem schedule.now }
     requires turn { IsTurn schedule.now.rest schedule.now.groups (turn.Next next) }
     ensures coming { IsComing problem.now.problem schedule.now result }
@@ -42,13 +41,13 @@ fn next_coming(alloc: Global, problem: &Problem, schedule: &Schedule, next: Star
         group: group.copy(),
         number: lun.next,
         lun: group.lun(),
-        rest: behind_first(alloc, starts),
+        rest: behind_first(starts),
         place: None,
     }
 }
 
 /// The first phase of the new group at that place.
-fn first_coming(alloc: Global, problem: &Problem, schedule: &Schedule, first: Start) -> Coming
+fn first_coming(problem: &Problem, schedule: &Schedule, first: Start) -> Coming
     requires legal { Legal problem.now.problem schedule.now }
     requires turn { IsTurn schedule.now.rest schedule.now.groups (turn.First first) }
     ensures coming { IsComing problem.now.problem schedule.now result }
@@ -62,13 +61,13 @@ fn first_coming(alloc: Global, problem: &Problem, schedule: &Schedule, first: St
         group: group.copy(),
         number: 0,
         lun: group.lun(),
-        rest: behind_first(alloc, placed.starts()),
+        rest: behind_first(placed.starts()),
         place: Some(first.at),
     }
 }
 
 /// The undone phase of least start, if any is left.
-pub fn find_coming(alloc: Global, problem: &Problem, schedule: &Schedule) -> Option<Coming>
+pub fn find_coming(problem: &Problem, schedule: &Schedule) -> Option<Coming>
     requires { Legal problem.now.problem schedule.now }
     ensures some { IfSome result (λ c. IsComing problem.now.problem schedule.now c) }
     ensures time { IfSome result (λ c. c.start < 2 ^ 63) }
@@ -76,8 +75,8 @@ pub fn find_coming(alloc: Global, problem: &Problem, schedule: &Schedule) -> Opt
 {
     let _limits = problem.bus_free();
     match next_turn(schedule.rest(), schedule.groups()) {
-        Some(Turn::Next(next)) => Some(next_coming(alloc, problem, schedule, next)),
-        Some(Turn::First(first)) => Some(first_coming(alloc, problem, schedule, first)),
+        Some(Turn::Next(next)) => Some(next_coming(problem, schedule, next)),
+        Some(Turn::First(first)) => Some(first_coming(problem, schedule, first)),
         None => None,
     }
 }

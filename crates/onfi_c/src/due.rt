@@ -124,7 +124,7 @@ fn due_said(
     let Some(geometry) = geometry_of(geometry) else {
         return Err(Status::BadGeometry);
     };
-    let Some(coming) = find_coming(alloc, &stand.problem, &stand.schedule) else {
+    let Some(coming) = find_coming(&stand.problem, &stand.schedule) else {
         return Err(Status::NothingDue);
     };
     match phase_of(&stand.problem.timing(), &geometry, &coming) {

@@ -1,5 +1,4 @@
 //! Plans that are made better.
-ghost use Rattle.std.specs.Prelude.{◌≡◌, ◌≤◌, IfOk, IfErr};
 ghost use Rattle.onfi_c.specs.Planned.{GivesPlan};
 ghost use Rattle.onfi_c.specs.Within.{IsNoMemory, IsPlanNear};
 
@@ -7,12 +6,8 @@ use crate::channel::PlainChannel;
 use crate::lun::{PlainLun, PlainWant};
 use crate::planning::{give_told, problem_posed};
 use crate::schedule::PlainWithin;
-use crate::status::Status;
-use crate::told::Told;
-use crate::written;
+use crate::within::tell;
 use onfi_early::Weights;
-use onfi_problem::Problem;
-use onfi_script::near_within;
 use std::alloc::Global;
 
 /// How much each request counts: the wants by their places, and for each LUN the members of its running group.
@@ -23,38 +18,14 @@ pub struct PlainWeights {
     pub running: [[u16; 4]; 8],
 }
 
-/// A plan within a limit of nodes, made better, as it is told.
-fn tell(
-    alloc: Global,
-    problem: &Problem,
-    weights: &PlainWeights,
-    slack: u16,
-    limit: u32,
-) -> Result<Told<PlainWithin>, Status>
-    requires some { 1 ≤ limit }
-    requires few { limit ≤ 1048576 }
-    requires begun { problem.now.all ≡ problem.now.problem.wants }
-    ensures plan { IfOk result (λ t. IsPlanNear slack problem.now.problem limit t.plan t.text.items) }
-    ensures none { IfErr result (λ status. IsNoMemory problem.now.problem limit status) }
-{
-    let weights = Weights {
-        wants: weights.want,
-        running: weights.running,
-    };
-    let Ok(planned) = near_within(alloc, problem, &weights, slack, limit) else {
-        return Err(Status::Memory);
-    };
-    let Ok(schedule) = written::legal_schedule(alloc, problem, &planned.schedule) else {
-        return Err(Status::Memory);
-    };
-    Ok(Told {
-        plan: PlainWithin {
-            schedule,
-            finish: planned.finish,
-            below: planned.below,
-        },
-        text: planned.cert,
-    })
+impl PlainWeights {
+    /// As the planners have them.
+    fn weights(&self) -> Weights {
+        Weights {
+            wants: self.want,
+            running: self.running,
+        }
+    }
 }
 
 /// Plans the wants of a channel as [`onfi_plan_within`](crate::within::onfi_plan_within) does, and makes the plan better:
@@ -79,7 +50,7 @@ pub extern "C" fn onfi_plan_early(
 {
     match problem_posed(alloc, channel, luns, wants, limit) {
         Ok(problem) => give_told(
-            tell(alloc, &problem, weights, slack, limit),
+            tell(alloc, &problem, &weights.weights(), Some(slack), limit),
             plan,
             certificate,
             bytes,

@@ -30,6 +30,7 @@ mod script;
 mod stand;
 mod status;
 mod status_text;
+mod strobed;
 mod timing;
 mod told;
 mod version;

@@ -94,9 +94,7 @@ pub fn tell(alloc: Global, problem: &Problem, limit: u32) -> Result<Told<PlainPl
     let Ok(text) = certificate(alloc, problem.rules().strict, &planned) else {
         return Err(Status::Memory);
     };
-    let Ok(schedule) = written::legal_schedule(alloc, problem, &planned.schedule) else {
-        return Err(Status::Memory);
-    };
+    let schedule = written::legal_schedule(problem, &planned.schedule);
     Ok(Told {
         plan: PlainPlan {
             schedule,

@@ -72,7 +72,7 @@ fn ran_said(
         Ok(stand) => stand,
         Err(status) => return Err(status),
     };
-    let Some(coming) = find_coming(alloc, &stand.problem, &stand.schedule) else {
+    let Some(coming) = find_coming(&stand.problem, &stand.schedule) else {
         return Err(Status::NothingDue);
     };
     if !is_due(&coming, lun, number) {
@@ -82,9 +82,7 @@ fn ran_said(
         return Err(Status::TooSoon);
     }
     let _limits = stand.problem.bus_free();
-    let behind = match find_behind(
-        alloc, channel, luns, wants, schedule, &stand, &coming, started,
-    ) {
+    let behind = match find_behind(alloc, channel, luns, wants, &stand, &coming, started) {
         Ok(behind) => behind,
         Err(status) => return Err(status),
     };

@@ -1,7 +1,8 @@
 //! Plans by a search that remembers states, and checks by certificates that do so.
 ghost use Rattle.std.specs.Prelude.{◌≡◌, ◌≤◌, IfOk, IfErr};
 ghost use Rattle.onfi_schedule.specs.Schedule.{finish};
-ghost use Rattle.onfi_script.specs.Answer.{IsKnown};
+ghost use Rattle.onfi_planners.specs.declared.chosen.ChosenPlanner.TheVariants.{Remembering};
+ghost use Rattle.onfi_script.specs.Answer.{IsProved};
 ghost use Rattle.onfi_c.specs.Checked.{GivesVerdict, IsKnownFaultTold};
 ghost use Rattle.onfi_c.specs.Planned.{GivesPlan, IsRecalled, IsUnplanned};
 
@@ -32,9 +33,7 @@ pub fn tell(alloc: Global, problem: &Problem, limit: u32) -> Result<Told<PlainPl
         Ok(planned) => planned,
         Err(fault) => return Err(Status::of_plan(fault)),
     };
-    let Ok(schedule) = written::legal_schedule(alloc, problem, &planned.schedule) else {
-        return Err(Status::Memory);
-    };
+    let schedule = written::legal_schedule(problem, &planned.schedule);
     Ok(Told {
         plan: PlainPlan {
             schedule,
@@ -72,7 +71,7 @@ pub extern "C" fn onfi_plan_known(
 /// When the schedule ends, in ns, where its certificate, which remembers states, shows that none ends sooner.
 pub fn judge(alloc: Global, stand: &Stand, certificate: &[u8]) -> Result<u64, Refusal>
     requires begun { stand.now.problem.all ≡ stand.now.problem.problem.wants }
-    ensures shown { IfOk result (λ ends. IsKnown stand.now.problem.problem stand.now.schedule certificate.now
+    ensures shown { IfOk result (λ ends. IsProved Remembering stand.now.problem.problem stand.now.schedule certificate.now
         × (finish stand.now.problem.problem stand.now.schedule ≡ ends)) }
     ensures refused { IfErr result (λ refusal. IsKnownFaultTold stand.now.problem.problem stand.now.schedule certificate.now refusal) }
 {
@@ -96,7 +95,7 @@ pub extern "C" fn onfi_check_known(
     certificate: &[u8],
     verdict: &mut PlainVerdict,
 ) -> u32
-    ensures { GivesVerdict IsKnown IsKnownFaultTold channel.now luns.now wants.now schedule.now certificate.now verdict.new result }
+    ensures { GivesVerdict (IsProved Remembering) IsKnownFaultTold channel.now luns.now wants.now schedule.now certificate.now verdict.new result }
 {
     match said_of(alloc, channel, luns, wants, schedule) {
         Ok(stand) => give_verdict(judge(alloc, &stand, certificate), verdict),

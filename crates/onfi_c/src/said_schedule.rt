@@ -1,16 +1,17 @@
 //! From what a caller says to a schedule.
-ghost use Rattle.std.specs.Prelude.{◌≡◌, ◌≤◌, ◌*◌, ◌==◌, Bool, false, length, map, take, find, option_map, IfOk};
+ghost use Rattle.std.specs.Prelude.{◌≡◌, ◌≤◌, ◌*◌, ◌==◌, Bool, false, length, map, take, find, option_map};
 ghost use Rattle.std.specs.List.{list_any};
 ghost use Rattle.onfi_script.specs.PlanLine.{want_named as spec_want_named};
 ghost use Rattle.onfi_c.specs.SaidSchedule as spec;
 
 use crate::schedule::{PlainGroup, PlainRest, PlainSchedule};
+use arrayvec::ArrayVec;
 use onfi_group::Group;
 use onfi_request::Want;
 use onfi_schedule::{Placed, Schedule, Starts};
 use onfi_timing::Kind;
 use smallvec::SmallVec;
-use std::alloc::{AllocError, Global};
+use std::alloc::Global;
 
 /// No phase starts as late as this, in ns.
 const LATE: u64 = 1 << 63;
@@ -61,12 +62,12 @@ pub fn is_bad_schedule(said: &PlainSchedule) -> bool
 }
 
 /// Starts that are early enough.
-fn starts_of(alloc: Global, said: &[u64]) -> Starts
+fn starts_of(said: &[u64]) -> Starts
     requires few { length said.now ≤ 8 }
     requires early { list_any spec.is_late said.now ≡ false }
     ensures { result ≡ said.now }
 {
-    let mut starts = Starts::new(alloc);
+    let mut starts = Starts::new();
     for start in said {
         starts.push(*start);
     }
@@ -74,23 +75,24 @@ fn starts_of(alloc: Global, said: &[u64]) -> Starts
 }
 
 /// The starts of what is left of a running group.
-fn rest_of(alloc: Global, said: &PlainRest) -> Starts
+fn rest_of(said: &PlainRest) -> Starts
     requires { spec.is_bad_rest said.now ≡ false }
     ensures { result ≡ spec.rest_of said.now }
 {
-    starts_of(alloc, &said.start[..said.starts as usize])
+    starts_of(&said.start[..said.starts as usize])
 }
 
 /// The same of several.
-pub fn rests_of(alloc: Global, said: &[PlainRest]) -> Result<Vec<Starts>, AllocError>
-    requires { list_any spec.is_bad_rest said.now ≡ false }
-    ensures { IfOk result (λ v. v.items ≡ map spec.rest_of said.now) }
+fn rests_of(said: &[PlainRest]) -> ArrayVec<Starts, 9>
+    requires few { length said.now ≤ 8 }
+    requires good { list_any spec.is_bad_rest said.now ≡ false }
+    ensures { result.items ≡ map spec.rest_of said.now }
 {
-    let mut rests = Vec::new(alloc);
+    let mut rests = ArrayVec::new();
     for rest in said {
-        rests.push(rest_of(alloc, rest))?;
+        rests.push(rest_of(rest));
     }
-    Ok(rests)
+    rests
 }
 
 /// The want of that number.
@@ -138,36 +140,29 @@ fn group_of(alloc: Global, wants: &[Want], said: &PlainGroup) -> Placed
     let count = said.members as usize;
     Placed::new(
         members(alloc, wants, &said.want[..count]),
-        starts_of(alloc, &said.start[..2 * count]),
+        starts_of(&said.start[..2 * count]),
     )
 }
 
 /// The same of several.
-pub fn groups_of(
-    alloc: Global,
-    wants: &[Want],
-    said: &[PlainGroup],
-) -> Result<Vec<Placed>, AllocError>
-    requires { list_any spec.is_bad_group said.now ≡ false }
-    ensures { IfOk result (λ v. v.items ≡ map (spec.group_of wants.now) said.now) }
+fn groups_of(alloc: Global, wants: &[Want], said: &[PlainGroup]) -> ArrayVec<Placed, 8, Global>
+    requires few { length said.now ≤ 8 }
+    requires good { list_any spec.is_bad_group said.now ≡ false }
+    ensures { result.items ≡ map (spec.group_of wants.now) said.now }
 {
-    let mut groups = Vec::new(alloc);
+    let mut groups = ArrayVec::new_in(alloc);
     for group in said {
-        groups.push(group_of(alloc, wants, group))?;
+        groups.push(group_of(alloc, wants, group));
     }
-    Ok(groups)
+    groups
 }
 
 /// The schedule that is said of these wants.
-pub fn schedule_of(
-    alloc: Global,
-    wants: &[Want],
-    said: &PlainSchedule,
-) -> Result<Schedule, AllocError>
+pub fn schedule_of(alloc: Global, wants: &[Want], said: &PlainSchedule) -> Schedule
     requires { spec.is_bad_schedule said.now ≡ false }
-    ensures { IfOk result (λ s. s ≡ spec.schedule_of wants.now said.now) }
+    ensures { result ≡ spec.schedule_of wants.now said.now }
 {
-    let rest = rests_of(alloc, &said.rest[..said.luns as usize])?;
-    let groups = groups_of(alloc, wants, &said.group[..said.groups as usize])?;
-    Ok(Schedule::new(rest, groups))
+    let rest = rests_of(&said.rest[..said.luns as usize]);
+    let groups = groups_of(alloc, wants, &said.group[..said.groups as usize]);
+    Schedule::new(rest, groups)
 }

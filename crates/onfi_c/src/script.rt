@@ -1,14 +1,16 @@
 //! Scripts and their answers, as bytes.
 ghost use Rattle.std.specs.Prelude.{◌≡◌, ◌≤◌, IfSome};
-ghost use Rattle.onfi_script.specs.Answer.{IsAnswer};
+ghost use Rattle.onfi_planners.specs.declared.chosen.ChosenPlanner.TheVariants.{Remembering};
+ghost use Rattle.onfi_script.specs.Answer.{IsAnswer, options_of};
 ghost use Rattle.onfi_script.specs.Limit.{IsLimited};
-ghost use Rattle.onfi_script.specs.declared.command.Command.TheVariants.{Check, CheckKnown, Legal, Plan, PlanKnown};
+ghost use Rattle.onfi_script.specs.declared.command.Command.TheVariants.{Check, CheckBy, Legal, Plan, PlanBy};
 ghost use Rattle.onfi_c.specs.Answered.{answer_of};
 ghost use Rattle.onfi_c.specs.Script.{GivesAnswer, GivesPlanText, output_of, requests_of as spec_requests_of};
 
 use crate::answered::Answered;
 use crate::room::give;
-use onfi_script::{Command, Output, engine};
+use onfi_planners::ChosenPlanner;
+use onfi_script::{Command, Output, PlanOptions, engine};
 use std::alloc::Global;
 
 /// The most nodes that a search may open.
@@ -90,11 +92,13 @@ fn requests_of(limit: u32, remember: bool) -> Command
     ensures command { result ≡ spec_requests_of limit remember }
     ensures limited { 1 ≤ limit → limit ≤ 1048576 → IsLimited result }
 {
-    if remember {
-        let output = Output::Trace { requests: true };
-        return Command::PlanKnown { limit, output };
-    }
-    Command::PlanRequests { limit }
+    let planner = if remember {
+        ChosenPlanner::Remembering
+    } else {
+        ChosenPlanner::Plain
+    };
+    let output = Output::Trace { requests: true };
+    Command::PlanBy(PlanOptions::new(planner, limit, output))
 }
 
 /// The bytes of a script in, out the plan that `onfi_sim plan` prints for it, or with `trace` its trace; the search
@@ -130,10 +134,10 @@ pub extern "C" fn onfi_text_plan_known(
     answer: &mut [u8],
     bytes: &mut usize,
 ) -> u32
-    ensures { GivesPlanText limit (PlanKnown limit (output_of trace)) script.now answer.old answer.new bytes.new result }
+    ensures { GivesPlanText limit (PlanBy (options_of Remembering limit (output_of trace))) script.now answer.old answer.new bytes.new result }
 {
-    let output = output(trace);
-    let command = Command::PlanKnown { limit, output };
+    let options = PlanOptions::new(ChosenPlanner::Remembering, limit, output(trace));
+    let command = Command::PlanBy(options);
     give_plan(alloc, script, limit, command, answer, bytes)
 }
 
@@ -184,9 +188,15 @@ pub extern "C" fn onfi_text_check_known(
     answer: &mut [u8],
     bytes: &mut usize,
 ) -> u32
-    ensures { GivesAnswer CheckKnown script.now answer.old answer.new bytes.new result }
+    ensures { GivesAnswer (CheckBy Remembering) script.now answer.old answer.new bytes.new result }
 {
-    give_answer(alloc, Command::CheckKnown, script, answer, bytes)
+    give_answer(
+        alloc,
+        Command::CheckBy(ChosenPlanner::Remembering),
+        script,
+        answer,
+        bytes,
+    )
 }
 
 /// The bytes of a script and of a plan text behind it in, whose certificate may be missing, out the line that `onfi_sim

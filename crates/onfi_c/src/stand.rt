@@ -38,9 +38,7 @@ pub fn said_of(
     if is_bad_schedule(schedule) {
         return Err(Status::BadSchedule);
     }
-    let Ok(schedule) = schedule_of(alloc, problem.wants(), schedule) else {
-        return Err(Status::Memory);
-    };
+    let schedule = schedule_of(alloc, problem.wants(), schedule);
     Ok(Stand { problem, schedule })
 }
 

@@ -114,6 +114,14 @@ pub enum Status {
     SheetZeroCycle,
     /// A value is 2^32 ns or more.
     SheetTooLong,
+    /// The strobes give no value for a parameter.
+    StrobeMissing,
+    /// The strobes give a parameter twice.
+    StrobeRepeated,
+    /// A row of the strobes is no parameter with its value.
+    StrobeUnknown,
+    /// The value of a row of the strobes is no number.
+    StrobeNotANumber,
     /// No open node has ended as that number.
     UnknownNode,
     /// Something else is left at the node that is named.
@@ -125,7 +133,7 @@ pub enum Status {
 }
 
 /// Each of them.
-pub const ALL: [Status; 57] = [
+pub const ALL: [Status; 61] = [
     Status::Done,
     Status::NoRoom,
     Status::Memory,
@@ -179,6 +187,10 @@ pub const ALL: [Status; 57] = [
     Status::SheetNotANumber,
     Status::SheetZeroCycle,
     Status::SheetTooLong,
+    Status::StrobeMissing,
+    Status::StrobeRepeated,
+    Status::StrobeUnknown,
+    Status::StrobeNotANumber,
     Status::UnknownNode,
     Status::OtherLeft,
     Status::Sooner,
@@ -244,6 +256,10 @@ impl Status {
             Status::SheetNotANumber => 83,
             Status::SheetZeroCycle => 84,
             Status::SheetTooLong => 85,
+            Status::StrobeMissing => 86,
+            Status::StrobeRepeated => 87,
+            Status::StrobeUnknown => 88,
+            Status::StrobeNotANumber => 89,
             Status::UnknownNode => 90,
             Status::OtherLeft => 91,
             Status::Sooner => 92,
@@ -313,6 +329,10 @@ impl Status {
             Status::SheetNotANumber => "the value of a row of the sheet is no number",
             Status::SheetZeroCycle => "a cycle without length",
             Status::SheetTooLong => "a value of 2^32 ns or more",
+            Status::StrobeMissing => "the strobes give no value for a parameter",
+            Status::StrobeRepeated => "the strobes give a parameter twice",
+            Status::StrobeUnknown => "a row of the strobes is no parameter with its value",
+            Status::StrobeNotANumber => "the value of a row of the strobes is no number",
             Status::UnknownNode => "a node that hasn't ended",
             Status::OtherLeft => "a node at which something else is left",
             Status::Sooner => "a node that goes on later",

@@ -30,7 +30,7 @@ fn parameter_number(parameter: Parameter) -> u64
 }
 
 /// What tells a fault of a geometry.
-fn geometry_status(fault: GeometryFault) -> Status
+pub fn geometry_status(fault: GeometryFault) -> Status
     ensures { result ≡ spec.geometry_status fault }
 {
     match fault {
@@ -48,7 +48,7 @@ fn geometry_status(fault: GeometryFault) -> Status
 }
 
 /// What tells a fault of a sheet, with the parameter or the row that it names.
-fn sheet_refusal(fault: SheetFault) -> Refusal
+pub fn sheet_refusal(fault: SheetFault) -> Refusal
     ensures { result ≡ spec.sheet_refusal fault }
 {
     match fault {
@@ -109,7 +109,7 @@ fn plain_geometry(geometry: &Geometry) -> PlainGeometry
 }
 
 /// The same of a device.
-fn plain_device(geometry: &Geometry, timing: &Timing) -> PlainDevice
+pub fn plain_device(geometry: &Geometry, timing: &Timing) -> PlainDevice
     ensures { result ≡ spec.written_device geometry.now timing.now }
 {
     PlainDevice {
@@ -129,7 +129,7 @@ fn plain_device(geometry: &Geometry, timing: &Timing) -> PlainDevice
 }
 
 /// The first copy of a parameter page.
-fn page_of(bytes: &[u8]) -> Result<ParamPage, Status>
+pub fn page_of(bytes: &[u8]) -> Result<ParamPage, Status>
     ensures page { IfOk result (λ page. IsFirstCopy bytes.now page) }
     ensures none { IfErr result (λ status. spec.IsNoPage bytes.now status) }
 {

@@ -1,10 +1,12 @@
 //! Plans within a limit of nodes, and checks of such.
 ghost use Rattle.std.specs.Prelude.{◌≡◌, ◌≤◌, IfOk, IfErr};
 ghost use Rattle.onfi_schedule.specs.Schedule.{finish};
+ghost use Rattle.onfi_planners.specs.Choice.{slack_in};
+ghost use Rattle.onfi_planners.specs.declared.chosen.ChosenPlanner.TheVariants.{BestSoFar};
 ghost use Rattle.onfi_script.specs.Answer.{IsShown};
 ghost use Rattle.onfi_c.specs.Checked.{GivesVerdict, IsWithinFaultTold};
 ghost use Rattle.onfi_c.specs.Planned.{GivesPlan};
-ghost use Rattle.onfi_c.specs.Within.{IsNoMemory, IsPlanWithin};
+ghost use Rattle.onfi_c.specs.Within.{IsNoMemory, IsPlanNear, IsPlanWithin};
 
 use crate::channel::PlainChannel;
 use crate::checking::give_verdict;
@@ -16,35 +18,43 @@ use crate::stand::{Stand, said_of};
 use crate::status::Status;
 use crate::told::Told;
 use crate::written;
+use onfi_early::Weights;
 use onfi_known::check_known_within;
-use onfi_known::laws::proved_is_below;
 use onfi_problem::Problem;
-use onfi_recall::plan_within;
+use onfi_script::best_within;
 use std::alloc::Global;
 
-/// A plan within a limit of nodes, as it is told.
-fn tell(alloc: Global, problem: &Problem, limit: u32) -> Result<Told<PlainWithin>, Status>
+/// Weights by which no request counts more than another.
+const EQUAL: Weights = Weights {
+    wants: [1; 8],
+    running: [[1; 4]; 8],
+};
+
+/// The best plan within a limit of nodes, made better where a slack is named, in thousandths; as it is told.
+pub fn tell(
+    alloc: Global,
+    problem: &Problem,
+    weights: &Weights,
+    slack: Option<u16>,
+    limit: u32,
+) -> Result<Told<PlainWithin>, Status>
     requires some { 1 ≤ limit }
     requires few { limit ≤ 1048576 }
     requires begun { problem.now.all ≡ problem.now.problem.wants }
-    ensures plan { IfOk result (λ t. IsPlanWithin problem.now.problem limit t.plan t.text.items) }
+    ensures plan { IfOk result (λ t. IsPlanNear (slack_in slack) problem.now.problem limit t.plan t.text.items) }
     ensures none { IfErr result (λ status. IsNoMemory problem.now.problem limit status) }
 {
-    let Ok(planned) = plan_within(alloc, problem, limit) else {
+    let Ok(planned) = best_within(alloc, problem, weights, slack, limit) else {
         return Err(Status::Memory);
     };
-    let _limits = problem.bus_free();
-    proved_is_below();
-    let Ok(schedule) = written::legal_schedule(alloc, problem, &planned.schedule) else {
-        return Err(Status::Memory);
-    };
+    let schedule = written::legal_schedule(problem, &planned.schedule);
     Ok(Told {
         plan: PlainWithin {
             schedule,
             finish: planned.finish,
             below: planned.below,
         },
-        text: planned.cert,
+        text: planned.certificate,
     })
 }
 
@@ -67,7 +77,12 @@ pub extern "C" fn onfi_plan_within(
     ensures { GivesPlan IsPlanWithin IsNoMemory channel.now luns.now wants.now limit plan.old plan.new certificate.old certificate.new bytes.new result }
 {
     match problem_posed(alloc, channel, luns, wants, limit) {
-        Ok(problem) => give_told(tell(alloc, &problem, limit), plan, certificate, bytes),
+        Ok(problem) => give_told(
+            tell(alloc, &problem, &EQUAL, None, limit),
+            plan,
+            certificate,
+            bytes,
+        ),
         Err(status) => give_told(Err(status), plan, certificate, bytes),
     }
 }
@@ -76,7 +91,7 @@ pub extern "C" fn onfi_plan_within(
 /// doesn't either.
 fn judge(alloc: Global, stand: &Stand, below: u64, certificate: &[u8]) -> Result<u64, Refusal>
     requires begun { stand.now.problem.all ≡ stand.now.problem.problem.wants }
-    ensures shown { IfOk result (λ ends. IsShown stand.now.problem.problem stand.now.schedule below certificate.now
+    ensures shown { IfOk result (λ ends. IsShown BestSoFar stand.now.problem.problem stand.now.schedule below certificate.now
         × (finish stand.now.problem.problem stand.now.schedule ≡ ends)) }
     ensures refused { IfErr result (λ refusal. IsWithinFaultTold stand.now.problem.problem stand.now.schedule below certificate.now refusal) }
 {
@@ -103,7 +118,7 @@ pub extern "C" fn onfi_check_within(
     certificate: &[u8],
     verdict: &mut PlainVerdict,
 ) -> u32
-    ensures { GivesVerdict (λ p s. IsShown p s below) (λ p s. IsWithinFaultTold p s below) channel.now luns.now wants.now schedule.now certificate.now
+    ensures { GivesVerdict (λ p s. IsShown BestSoFar p s below) (λ p s. IsWithinFaultTold p s below) channel.now luns.now wants.now schedule.now certificate.now
         verdict.new result }
 {
     match said_of(alloc, channel, luns, wants, schedule) {

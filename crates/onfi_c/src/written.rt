@@ -1,14 +1,12 @@
 //! From a plan to a plain struct.
-ghost use Rattle.std.specs.Prelude.{◌≡◌, ◌≤◌, ℕ, List, length, map, IfOk};
+ghost use Rattle.std.specs.Prelude.{◌≡◌, ◌≤◌, length, map};
 ghost use Rattle.onfi_schedule.specs.Schedule.{Legal};
-ghost use Rattle.onfi_problem.specs.Left.{InLimits};
 ghost use Rattle.onfi_c.specs.Written as spec;
 
 use crate::schedule::{PlainGroup, PlainRest, PlainSchedule};
 use onfi_problem::Problem;
 use onfi_request::Want;
 use onfi_schedule::{Placed, Schedule, Starts};
-use std::alloc::{AllocError, Global};
 
 /// Starts, and 0 in the places behind them.
 fn filled(starts: &[u64]) -> [u64; 8]
@@ -20,26 +18,16 @@ fn filled(starts: &[u64]) -> [u64; 8]
     all
 }
 
-/// The numbers of wants.
-fn ids(alloc: Global, wants: &[Want]) -> Result<Vec<u64>, AllocError>
-    ensures { IfOk result (λ v. v.items ≡ map (λ w. w.id) wants.now) }
-{
-    let mut ids = Vec::with_capacity(alloc, wants.len())?;
-    for want in wants {
-        ids.push(want.id)?;
-    }
-    Ok(ids)
-}
-
 /// The numbers of a group's members, and 0 in the places behind them.
-fn numbers(alloc: Global, wants: &[Want]) -> Result<[u64; 4], AllocError>
+fn numbers(wants: &[Want]) -> [u64; 4]
     requires { length wants.now ≤ 4 }
-    ensures { IfOk result (λ all. all ≡ spec.filled 4 0 (map (λ w. w.id) wants.now)) }
+    ensures { result ≡ spec.filled 4 0 (map (λ w. w.id) wants.now) }
 {
-    let ids = ids(alloc, wants)?;
     let mut all = [0; 4];
-    all[..ids.len()].copy_from_slice(ids.as_slice());
-    Ok(all)
+    for (at, want) in wants.iter().enumerate() {
+        all[at] = want.id;
+    }
+    all
 }
 
 /// What is left of a running group.
@@ -53,38 +41,16 @@ fn rest(starts: &Starts) -> PlainRest
     }
 }
 
-/// What is left of running groups.
-fn rests(alloc: Global, of: &[Starts]) -> Result<Vec<PlainRest>, AllocError>
-    ensures { IfOk result (λ v. v.items ≡ map spec.written_rest of.now) }
-{
-    let mut rests = Vec::with_capacity(alloc, of.len())?;
-    for starts in of {
-        rests.push(rest(starts))?;
-    }
-    Ok(rests)
-}
-
 /// A new group.
-fn group(alloc: Global, placed: &Placed) -> Result<PlainGroup, AllocError>
-    ensures { IfOk result (λ g. g ≡ spec.written_group placed.now) }
+fn group(placed: &Placed) -> PlainGroup
+    ensures { result ≡ spec.written_group placed.now }
 {
     let members = placed.members().members();
-    Ok(PlainGroup {
+    PlainGroup {
         members: members.len() as u8,
-        want: numbers(alloc, members)?,
+        want: numbers(members),
         start: filled(placed.starts().as_slice()),
-    })
-}
-
-/// New groups.
-fn groups(alloc: Global, placed: &[Placed]) -> Result<Vec<PlainGroup>, AllocError>
-    ensures { IfOk result (λ v. v.items ≡ map spec.written_group placed.now) }
-{
-    let mut groups = Vec::with_capacity(alloc, placed.len())?;
-    for one in placed {
-        groups.push(group(alloc, one)?)?;
     }
-    Ok(groups)
 }
 
 /// What stands where a LUN has nothing left.
@@ -100,44 +66,57 @@ const NO_GROUP: PlainGroup = PlainGroup {
     start: [0; 8],
 };
 
-/// A schedule of up to eight LUNs and groups.
-pub fn schedule(alloc: Global, of: &Schedule) -> Result<PlainSchedule, AllocError>
-    requires luns { length of.now.rest ≤ 8 }
-    requires groups { length of.now.groups ≤ 8 }
-    ensures { IfOk result (λ s. s ≡ spec.written_schedule of.now) }
+/// What is left of running groups, and nothing in the places behind them.
+fn rests(of: &[Starts]) -> [PlainRest; 8]
+    requires { length of.now ≤ 8 }
+    ensures { result ≡ spec.filled 8 spec.no_rest (map spec.written_rest of.now) }
 {
-    let (rests, groups) = (rests(alloc, of.rest())?, groups(alloc, of.groups())?);
-    let mut rest = [NO_REST; 8];
-    rest[..rests.len()].copy_from_slice(rests.as_slice());
-    let mut group = [NO_GROUP; 8];
-    group[..groups.len()].copy_from_slice(groups.as_slice());
-    Ok(PlainSchedule {
-        luns: rests.len() as u8,
-        groups: groups.len() as u8,
-        rest,
-        group,
-    })
+    let mut all = [NO_REST; 8];
+    for (at, starts) in of.iter().enumerate() {
+        all[at] = rest(starts);
+    }
+    all
 }
 
-/// A legal schedule has no more LUNs and groups than there are places.
+/// New groups, and none in the places behind them.
+fn groups(of: &[Placed]) -> [PlainGroup; 8]
+    requires { length of.now ≤ 8 }
+    ensures { result ≡ spec.filled 8 spec.no_group (map spec.written_group of.now) }
+{
+    let mut all = [NO_GROUP; 8];
+    for (at, placed) in of.iter().enumerate() {
+        all[at] = group(placed);
+    }
+    all
+}
+
+/// A schedule of up to eight LUNs.
+pub fn schedule(of: &Schedule) -> PlainSchedule
+    requires { length of.now.rest ≤ 8 }
+    ensures { result ≡ spec.written_schedule of.now }
+{
+    PlainSchedule {
+        luns: of.rest().len() as u8,
+        groups: of.groups().len() as u8,
+        rest: rests(of.rest()),
+        group: groups(of.groups()),
+    }
+}
+
+/// A legal schedule has no more LUNs than there are places.
 pub fn is_small(problem: &Problem, of: &Schedule)
     requires { Legal problem.now.problem of.now }
-    ensures luns { length of.now.rest ≤ 8 }
-    ensures groups { length of.now.groups ≤ 8 }
+    ensures { length of.now.rest ≤ 8 }
 {
     let _ = problem.bus_free();
     let _ = of.rest();
 }
 
 /// A legal schedule of the problem.
-pub fn legal_schedule(
-    alloc: Global,
-    problem: &Problem,
-    of: &Schedule,
-) -> Result<PlainSchedule, AllocError>
+pub fn legal_schedule(problem: &Problem, of: &Schedule) -> PlainSchedule
     requires { Legal problem.now.problem of.now }
-    ensures { IfOk result (λ s. s ≡ spec.written_schedule of.now) }
+    ensures { result ≡ spec.written_schedule of.now }
 {
     is_small(problem, of);
-    schedule(alloc, of)
+    schedule(of)
 }

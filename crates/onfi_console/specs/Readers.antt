@@ -2,7 +2,7 @@
 use Rattle.std.specs.Prelude.{◌≡◌, ℕ, ◌||◌, if◌then◌else◌, List, Bool, true, false, IsSomeAnd, codes}
 use Rattle.clap.specs.Words.{Row as Used, first_of, subcommand_of}
 use Rattle.onfi_script.specs.declared.command.Command.{Command}
-use Rattle.onfi_script.specs.declared.command.Command.TheVariants.{Plan, Check, PlanRequests, PlanKnown, PlanWithin, PlanEarly, PlanNear, CheckKnown, CheckWithin, Legal}
+use Rattle.onfi_script.specs.declared.command.Command.TheVariants.{Plan, Check, PlanBy, CheckBy, Legal}
 use Rattle.onfi_script.specs.declared.command.Output.{Output}
 use Rattle.onfi_script.specs.declared.command.Output.TheVariants as output
 use Rattle.onfi_console.specs.declared.parsed.CommandName.{CommandName}
@@ -15,27 +15,17 @@ use Rattle.onfi_console.specs.Words.{IsLimit, IsWorkers, app, given, usual_of}
 -- which of the commands carries it out
 abbrev pub command_in : Command → CommandName
 command_in (Plan limit trace) = called.Plan
-command_in (PlanRequests limit) = called.Plan
-command_in (PlanKnown limit out) = called.Plan
-command_in (PlanWithin limit out) = called.Plan
-command_in (PlanEarly limit out finding) = called.Plan
-command_in (PlanNear limit out within slack) = called.Plan
+command_in (PlanBy options) = called.Plan
 command_in Check = called.Check
-command_in CheckKnown = called.Check
-command_in CheckWithin = called.Check
+command_in (CheckBy planner) = called.Check
 command_in Legal = called.Check
 
 -- how many nodes a search may open: the greatest limit where nothing is searched
 abbrev pub limit_in : Command → ℕ
 limit_in (Plan limit trace) = limit
-limit_in (PlanRequests limit) = limit
-limit_in (PlanKnown limit out) = limit
-limit_in (PlanWithin limit out) = limit
-limit_in (PlanEarly limit out finding) = limit
-limit_in (PlanNear limit out within slack) = limit
+limit_in (PlanBy options) = options.limit
 limit_in Check = 1048576
-limit_in CheckKnown = 1048576
-limit_in CheckWithin = 1048576
+limit_in (CheckBy planner) = 1048576
 limit_in Legal = 1048576
 
 abbrev pub is_trace : Output → Bool
@@ -45,14 +35,9 @@ is_trace (output.Trace requests) = true
 -- a trace is printed in place of the plan
 abbrev pub trace_in : Command → Bool
 trace_in (Plan limit trace) = trace
-trace_in (PlanRequests limit) = true
-trace_in (PlanKnown limit out) = is_trace out
-trace_in (PlanWithin limit out) = is_trace out
-trace_in (PlanEarly limit out finding) = is_trace out
-trace_in (PlanNear limit out within slack) = is_trace out
+trace_in (PlanBy options) = is_trace options.output
 trace_in Check = false
-trace_in CheckKnown = false
-trace_in CheckWithin = false
+trace_in (CheckBy planner) = false
 trace_in Legal = false
 
 abbrev pub command_of : Named → CommandName

@@ -1,14 +1,12 @@
 -- What the words of a command line ask for.
-use Rattle.std.specs.Prelude.{◌≡◌, ◌≤◌, ℕ, ◌==◌, ◌&&◌, ◌||◌, if◌then◌else◌, ⊤, List, Bool, true, false, not, is_some, bytes_eq, Option, Some, None, IsErrAnd, IsSomeAnd, Ok, codes, option_map, unwrap_or}
+use Rattle.std.specs.Prelude.{◌≡◌, ◌≤◌, ◌⊎◌, ℕ, ◌==◌, ◌||◌, if◌then◌else◌, ⊤, List, Bool, true, false, is_some, bytes_eq, Option, Some, None, IsErrAnd, IsSomeAnd, Ok, codes, option_map, unwrap_or}
 use Rattle.clap.specs.Words.{App, Row as Used, Rule, first_of, new_app, new_rule, subcommand_of, with_rule, with_subcommand}
 use Rattle.clap.specs.declared.builder.ArgAction.TheVariants.{Set, SetTrue}
 use Rattle.onfi_planners.specs.declared.chosen.ChosenPlanner.{ChosenPlanner}
 use Rattle.onfi_planners.specs.declared.chosen.ChosenPlanner.TheVariants.{Plain, Remembering, BestSoFar}
 use Rattle.onfi_planners.specs.declared.exact.ExactPlanner.TheVariants as exact
 use Rattle.onfi_script.specs.declared.command.Command.{Command}
-use Rattle.onfi_script.specs.declared.command.Command.TheVariants.{Plan, Check, PlanRequests, PlanKnown, PlanWithin, PlanEarly, PlanNear, CheckKnown, CheckWithin, Legal}
-use Rattle.onfi_script.specs.declared.command.Finding.{Finding}
-use Rattle.onfi_script.specs.declared.command.Finding.TheVariants as found
+use Rattle.onfi_script.specs.declared.command.Command.TheVariants.{Plan, Check, PlanBy, CheckBy, Legal}
 use Rattle.onfi_script.specs.declared.command.Output.{Output}
 use Rattle.onfi_script.specs.declared.command.Output.TheVariants as output
 use Rattle.onfi_script.specs.Field as field
@@ -162,30 +160,50 @@ abbrev pub IsClock : Option (List ℕ) → Bool → Type 0
 IsClock None clocked = clocked ≡ false
 IsClock (Some text) clocked = (text ≡ codes "simulated") × (clocked ≡ true)
 
--- neither `early` nor `slack` is given
-abbrev pub is_late : Option (List ℕ) → Option (List ℕ) → Bool
-is_late early slack = not (is_given early) && not (is_some slack)
+-- within how many thousandths a plan is to be made better, by the flag `early` and the thousandths that were given; none where it
+-- isn't, and none may be given then
+abbrev pub IsBetter : Bool → Option (List ℕ) → Option ℕ → Type 0
+IsBetter false given better = (is_some given ≡ false) × (better ≡ None)
+IsBetter true given better = (slack : Option ℕ) × IsSlack given slack × (better ≡ Some (unwrap_or slack 0))
 
--- how a schedule is found that is then made better, by the flags `remember` and `within`, of which one at most is given
-abbrev pub finding_of : Bool → Bool → Option Finding
-finding_of false false = Some found.Plain
-finding_of true false = Some found.Remembering
-finding_of false true = Some found.BestSoFar
-finding_of true true = None
+-- the planner that the flags `remember` and `within` name, of which one at most is given
+abbrev pub planner_of : Bool → Bool → Option ChosenPlanner
+planner_of false false = Some Plain
+planner_of true false = Some Remembering
+planner_of false true = Some BestSoFar
+planner_of true true = None
 
 -- its limit where none is named
-abbrev pub usual_for : Finding → ℕ
-usual_for found.Plain = 1048576
-usual_for found.Remembering = 1048576
-usual_for found.BestSoFar = 65536
+abbrev pub usual_for : ChosenPlanner → ℕ
+usual_for Plain = 1048576
+usual_for Remembering = 1048576
+usual_for BestSoFar = 65536
 
-abbrev pub is_best_so_far : Finding → Bool
-is_best_so_far found.BestSoFar = true
-is_best_so_far _ = false
+-- one worker alone plans so: none may be named
+abbrev pub is_alone : ChosenPlanner → Option ℕ → Bool
+is_alone Plain better = is_some better
+is_alone Remembering better = true
+is_alone BestSoFar better = true
 
--- a plan is made better within these thousandths
-abbrev pub early_command : Finding → ℕ → ℕ → Output → Command
-early_command finding slack limit out = if slack == 0 then PlanEarly limit out finding else PlanNear limit out (is_best_so_far finding) slack
+-- the planner whose plans may end later by these thousandths: one that remembers states, where they may
+abbrev pub planner_within : ChosenPlanner → ℕ → ChosenPlanner
+planner_within Plain slack = if slack == 0 then Plain else Remembering
+planner_within Remembering slack = Remembering
+planner_within BestSoFar slack = BestSoFar
+
+-- the command to plan so
+abbrev pub plan_command : ChosenPlanner → Option ℕ → ℕ → Output → Command
+plan_command Plain None limit output.Plan = Plan limit false
+plan_command Plain None limit (output.Trace false) = Plan limit true
+plan_command planner better limit out = PlanBy (record { planner = planner_within planner (unwrap_or better 0); better = better; limit = limit; output = out })
+
+-- the command to check so, by the flags `legal`, `within` and `remember`, of which one at most is given
+abbrev pub check_command : Bool → Bool → Bool → Option Command
+check_command false false false = Some Check
+check_command false false true = Some (CheckBy Remembering)
+check_command false true false = Some (CheckBy BestSoFar)
+check_command true false false = Some Legal
+check_command _ _ _ = None
 
 -- limits are 1 to 1,048,576, workers 1 to 8
 abbrev pub IsInRange : Named → Type 0
@@ -197,43 +215,20 @@ IsInRange Device = ⊤
 abbrev pub given : List ℕ → List Used → Bool
 given name used = is_given (first_of name used)
 
--- a plan is printed as the flags of this name ask for it
-abbrev pub IsOutput : Output → List Used → Type 0
-IsOutput out used = out ≡ output_of (given (codes "trace") used) (given (codes "requests") used)
-
--- `plan` is to be made better
-pub record IsEarly (command : Command) (used : List Used) : Type 0 where
-  pub finding : Finding
-  pub slack : Option ℕ
+-- `plan` is for this, by so many workers
+pub record IsPlan (command : Command) (workers : ℕ) (used : List Used) : Type 0 where
+  pub planner : ChosenPlanner
+  pub better : Option ℕ
   pub limit : ℕ
-  pub out : Output
-  pub is_early : given (codes "early") used ≡ true
-  pub is_finding : finding_of (given (codes "remember") used) (given (codes "within") used) ≡ Some finding
-  pub is_slack : IsSlack (first_of (codes "slack") used) slack
-  pub is_limit : IsLimit (usual_for finding) (first_of (codes "limit") used) limit
-  pub is_output : IsOutput out used
-  pub is_command : command ≡ early_command finding (unwrap_or slack 0) limit out
+  pub is_planner : planner_of (given (codes "remember") used) (given (codes "within") used) ≡ Some planner
+  pub is_better : IsBetter (given (codes "early") used) (first_of (codes "slack") used) better
+  pub is_limit : IsLimit (usual_for planner) (first_of (codes "limit") used) limit
+  pub is_workers : IsWorkers (is_alone planner better) (first_of (codes "workers") used) workers
+  pub is_command : command ≡ plan_command planner better limit (output_of (given (codes "trace") used) (given (codes "requests") used))
 
--- `plan` is for an optimal schedule that isn't made better
-pub record IsOptimal (limit : ℕ) (out : Output) (remembers : Bool) (workers : ℕ) (used : List Used) : Type 0 where
-  pub is_late : is_late (first_of (codes "early") used) (first_of (codes "slack") used) ≡ true
-  pub is_whole : given (codes "within") used ≡ false
-  pub is_limit : IsLimit 1048576 (first_of (codes "limit") used) limit
-  pub is_output : IsOutput out used
-  pub is_remembering : remembers ≡ given (codes "remember") used
-  pub is_workers : IsWorkers remembers (first_of (codes "workers") used) workers
-
--- what is printed by the plain search: a plan, or its trace
-abbrev pub printed : Bool → Output
-printed true = output.Trace false
-printed false = output.Plan
-
--- what plans for an optimal schedule
-abbrev pub optimal_command : ℕ → Output → Bool → Command
-optimal_command limit out true = PlanKnown limit out
-optimal_command limit output.Plan false = Plan limit false
-optimal_command limit (output.Trace false) false = Plan limit true
-optimal_command limit (output.Trace true) false = PlanRequests limit
+-- `check` is for this
+abbrev pub IsCheck : Command → List Used → Type 0
+IsCheck command used = check_command (given (codes "legal") used) (given (codes "within") used) (given (codes "remember") used) ≡ Some command
 
 -- `run` plans by this planner
 pub record IsRun (planner : RunPlanner) (used : List Used) : Type 0 where
@@ -245,16 +240,7 @@ pub record IsRun (planner : RunPlanner) (used : List Used) : Type 0 where
 
 -- a subcommand with these arguments is what is named
 abbrev pub IsNamed : Named → List ℕ → List Used → Type 0
-IsNamed (Problem (Plan limit trace) workers) name used = (name ≡ codes "plan") × IsOptimal limit (printed trace) false workers used
-IsNamed (Problem (PlanRequests limit) workers) name used = (name ≡ codes "plan") × IsOptimal limit (output.Trace true) false workers used
-IsNamed (Problem (PlanKnown limit out) workers) name used = (name ≡ codes "plan") × IsOptimal limit out true workers used
-IsNamed (Problem (PlanWithin limit out) workers) name used = (name ≡ codes "plan") × (is_late (first_of (codes "early") used) (first_of (codes "slack") used) ≡ true) × (given (codes "within") used ≡ true) × (given (codes "remember") used ≡ false) × IsLimit 65536 (first_of (codes "limit") used) limit × IsOutput out used × IsWorkers true (first_of (codes "workers") used) workers
-IsNamed (Problem (PlanEarly limit out finding) workers) name used = (name ≡ codes "plan") × IsEarly (PlanEarly limit out finding) used × (is_some (first_of (codes "workers") used) ≡ false) × (workers ≡ 1)
-IsNamed (Problem (PlanNear limit out within slack) workers) name used = (name ≡ codes "plan") × IsEarly (PlanNear limit out within slack) used × (is_some (first_of (codes "workers") used) ≡ false) × (workers ≡ 1)
-IsNamed (Problem Check workers) name used = (name ≡ codes "check") × (given (codes "remember") used ≡ false) × (given (codes "within") used ≡ false) × (given (codes "legal") used ≡ false) × (workers ≡ 1)
-IsNamed (Problem CheckKnown workers) name used = (name ≡ codes "check") × (given (codes "remember") used ≡ true) × (given (codes "within") used ≡ false) × (given (codes "legal") used ≡ false) × (workers ≡ 1)
-IsNamed (Problem CheckWithin workers) name used = (name ≡ codes "check") × (given (codes "remember") used ≡ false) × (given (codes "within") used ≡ true) × (given (codes "legal") used ≡ false) × (workers ≡ 1)
-IsNamed (Problem Legal workers) name used = (name ≡ codes "check") × (given (codes "remember") used ≡ false) × (given (codes "within") used ≡ false) × (given (codes "legal") used ≡ true) × (workers ≡ 1)
+IsNamed (Problem command workers) name used = ((name ≡ codes "plan") × IsPlan command workers used) ⊎ ((name ≡ codes "check") × IsCheck command used × (workers ≡ 1))
 IsNamed Device name used = name ≡ codes "device"
 IsNamed (Run planner limit clocked) name used = (name ≡ codes "run") × IsClock (first_of (codes "clock") used) clocked × IsRun planner used × IsLimit (usual_of planner) (first_of (codes "limit") used) limit
 

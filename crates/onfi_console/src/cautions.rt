@@ -14,7 +14,10 @@ const PAGE_BYTES: usize = 256;
 
 /// Whether a row of this line may tell of a device of the second form.
 fn is_of_page(line: &[u8]) -> bool {
-    line.starts_with(b"page,") || line.starts_with(b"sheet,") || line.starts_with(b"strict,")
+    line.starts_with(b"page,")
+        || line.starts_with(b"sheet,")
+        || line.starts_with(b"strobe,")
+        || line.starts_with(b"strict,")
 }
 
 /// The rows of a script that tell of its page, as a script of their own.

@@ -3,6 +3,7 @@ ghost use Rattle.std.specs.Prelude.{◌≡◌, ◌≤◌, Some, false, true, is_
 ghost use Rattle.std.specs.List.{list_any};
 ghost use Rattle.clap.specs.Words.{first_value, found_of, kind_of, rows_of, subcommand_of, subcommand_rows_of};
 ghost use Rattle.clap.specs.declared.error.kind.ErrorKind.{ErrorKind};
+ghost use Rattle.onfi_script.specs.Limit.{IsLimited};
 ghost use Rattle.onfi_console.specs.Readers.{AreRead};
 ghost use Rattle.onfi_console.specs.Words as spec;
 
@@ -13,7 +14,7 @@ use crate::parsed::{MOST, Named, Parsed, RunPlanner};
 use clap::error::ErrorKind;
 use clap::{ArgMatches, Error};
 use onfi_planners::{ChosenEarly, ChosenPlanner, ExactPlanner};
-use onfi_script::{Command, Finding, Output, number};
+use onfi_script::{Command, Output, PlanOptions, number};
 use std::alloc::{AllocError, Global};
 
 /// Why a command or the value of an option is not taken.
@@ -165,121 +166,80 @@ fn output_of(matches: &ArgMatches<'_>) -> Output
     }
 }
 
-/// What plans for an optimal schedule.
-fn optimal_command(limit: u32, output: Output, remember: bool) -> Command
-    ensures { result ≡ spec.optimal_command limit output remember }
+/// The planner that the flags `remember` and `within` name.
+fn planner_of(remember: bool, within: bool) -> Result<ChosenPlanner, ValueFault>
+    ensures { IfOk result (λ planner. spec.planner_of remember within ≡ Some planner) }
 {
-    match (remember, output) {
-        (true, output) => Command::PlanKnown { limit, output },
-        (false, Output::Plan) => Command::Plan {
-            limit,
-            trace: false,
-        },
-        (false, Output::Trace { requests: false }) => Command::Plan { limit, trace: true },
-        (false, Output::Trace { requests: true }) => Command::PlanRequests { limit },
-    }
-}
-
-/// What `plan`, for an optimal schedule, with these arguments names.
-fn optimal_of(used: &ArgMatches<'_>) -> Result<Named, ValueFault>
-    requires late { spec.is_late (first_value (found_of used.now) (codes "early")) (first_value (found_of used.now) (codes "slack")) ≡ true }
-    requires optimal { spec.is_given (first_value (found_of used.now) (codes "within")) ≡ false }
-    ensures range { IfOk result (λ named. spec.IsInRange named) }
-    ensures named { IfOk result (λ named. spec.IsNamed named (codes "plan") (rows_of (found_of used.now))) }
-{
-    let limit = limit_of(used, MOST)?;
-    let remember = is_given(used, "remember");
-    let workers = workers_of(used, remember)?;
-    let output = output_of(used);
-    let command = optimal_command(limit, output, remember);
-    Ok(Named::Problem { command, workers })
-}
-
-/// What `plan --within` with these arguments names.
-fn within_of(used: &ArgMatches<'_>) -> Result<Named, ValueFault>
-    requires late { spec.is_late (first_value (found_of used.now) (codes "early")) (first_value (found_of used.now) (codes "slack")) ≡ true }
-    requires within { spec.is_given (first_value (found_of used.now) (codes "within")) ≡ true }
-    ensures range { IfOk result (λ named. spec.IsInRange named) }
-    ensures named { IfOk result (λ named. spec.IsNamed named (codes "plan") (rows_of (found_of used.now))) }
-{
-    if is_given(used, "remember") {
-        return Err(ValueFault::WithinBesideRemember);
-    }
-    let limit = limit_of(used, USUAL)?;
-    let workers = workers_of(used, true)?;
-    let output = output_of(used);
-    let command = Command::PlanWithin { limit, output };
-    Ok(Named::Problem { command, workers })
-}
-
-/// How a schedule is found that is then made better, by the flags `remember` and `within`.
-fn finding_of(remember: bool, within: bool) -> Result<Finding, ValueFault>
-    ensures { IfOk result (λ finding. spec.finding_of remember within ≡ Some finding) }
-{
-    match (remember, within) {
-        (false, false) => Ok(Finding::Plain),
-        (true, false) => Ok(Finding::Remembering),
-        (false, true) => Ok(Finding::BestSoFar),
+    match (within, remember) {
+        (false, false) => Ok(ChosenPlanner::Plain),
+        (false, true) => Ok(ChosenPlanner::Remembering),
+        (true, false) => Ok(ChosenPlanner::BestSoFar),
         (true, true) => Err(ValueFault::WithinBesideRemember),
     }
 }
 
-/// The limit of such a search where none is named.
-fn usual_for(finding: Finding) -> u32
-    ensures value { result ≡ spec.usual_for finding }
+/// The limit of a planner where none is named.
+fn usual_for(planner: ChosenPlanner) -> u32
+    ensures value { result ≡ spec.usual_for planner }
     ensures some { 1 ≤ result }
     ensures few { result ≤ 1048576 }
 {
-    match finding {
-        Finding::Plain | Finding::Remembering => MOST,
-        Finding::BestSoFar => USUAL,
+    match planner {
+        ChosenPlanner::Plain | ChosenPlanner::Remembering => MOST,
+        ChosenPlanner::BestSoFar => USUAL,
     }
 }
 
-/// What a plan is made better by, in thousandths; none where `slack` isn't named.
-fn early_command(finding: Finding, slack: u16, limit: u32, output: Output) -> Command
-    ensures { result ≡ spec.early_command finding slack limit output }
+/// Within how many thousandths a plan is to be made better; none where it isn't.
+fn better_of(used: &ArgMatches<'_>, early: bool) -> Result<Option<u16>, ValueFault>
+    requires late { early ≡ false → is_some (first_value (found_of used.now) (codes "slack")) ≡ false }
+    ensures { IfOk result (λ better. spec.IsBetter early (first_value (found_of used.now) (codes "slack")) better) }
 {
-    if slack == 0 {
-        return Command::PlanEarly {
+    if !early {
+        return Ok(None);
+    }
+    let slack = named_slack(used)?;
+    Ok(Some(slack.unwrap_or(0)))
+}
+
+/// Whether one worker alone plans so.
+fn is_alone(planner: ChosenPlanner, better: Option<u16>) -> bool
+    ensures { result ≡ spec.is_alone planner better }
+{
+    !matches!((planner, better), (ChosenPlanner::Plain, None))
+}
+
+/// The planner whose plans may end later by so many thousandths: one that remembers states, where they may.
+fn planner_within(planner: ChosenPlanner, slack: u16) -> ChosenPlanner
+    ensures { result ≡ spec.planner_within planner slack }
+{
+    match planner {
+        ChosenPlanner::Plain if slack > 0 => ChosenPlanner::Remembering,
+        _ => planner,
+    }
+}
+
+/// The command to plan so.
+fn plan_command(planner: ChosenPlanner, better: Option<u16>, limit: u32, output: Output) -> Command
+    ensures command { result ≡ spec.plan_command planner better limit output }
+    ensures limited { 1 ≤ limit → limit ≤ 1048576 → IsLimited result }
+{
+    match (planner, better, output) {
+        (ChosenPlanner::Plain, None, Output::Plan) => Command::Plan {
+            limit,
+            trace: false,
+        },
+        (ChosenPlanner::Plain, None, Output::Trace { requests: false }) => Command::Plan {
+            limit,
+            trace: true,
+        },
+        _ => Command::PlanBy(PlanOptions {
+            planner: planner_within(planner, better.unwrap_or(0)),
+            better,
             limit,
             output,
-            finding,
-        };
+        }),
     }
-    Command::PlanNear {
-        limit,
-        output,
-        within: matches!(finding, Finding::BestSoFar),
-        slack,
-    }
-}
-
-/// What `plan --early` with these arguments names.
-fn early_of(used: &ArgMatches<'_>) -> Result<Named, ValueFault>
-    requires early { spec.is_given (first_value (found_of used.now) (codes "early")) ≡ true }
-    ensures range { IfOk result (λ named. spec.IsInRange named) }
-    ensures named { IfOk result (λ named. spec.IsNamed named (codes "plan") (rows_of (found_of used.now))) }
-{
-    if has_value(used, "workers") {
-        return Err(ValueFault::WorkersBesideEarly);
-    }
-    let remember = is_given(used, "remember");
-    let within = is_given(used, "within");
-    let finding = finding_of(remember, within)?;
-    let slack = named_slack(used)?;
-    let limit = limit_of(used, usual_for(finding))?;
-    let output = output_of(used);
-    let command = early_command(finding, slack.unwrap_or(0), limit, output);
-    let workers = 1;
-    Ok(Named::Problem { command, workers })
-}
-
-/// Whether neither `early` nor `slack` is given.
-fn is_late(used: &ArgMatches<'_>) -> bool
-    ensures { result ≡ spec.is_late (first_value (found_of used.now) (codes "early")) (first_value (found_of used.now) (codes "slack")) }
-{
-    !is_given(used, "early") && !has_value(used, "slack")
 }
 
 /// What `plan` with these arguments names.
@@ -287,14 +247,37 @@ fn plan_of(used: &ArgMatches<'_>) -> Result<Named, ValueFault>
     ensures range { IfOk result (λ named. spec.IsInRange named) }
     ensures named { IfOk result (λ named. spec.IsNamed named (codes "plan") (rows_of (found_of used.now))) }
 {
-    if is_given(used, "early") {
-        early_of(used)
-    } else if !is_late(used) {
-        Err(ValueFault::SlackWithoutEarly)
-    } else if is_given(used, "within") {
-        within_of(used)
-    } else {
-        optimal_of(used)
+    let early = is_given(used, "early");
+    if early && has_value(used, "workers") {
+        return Err(ValueFault::WorkersBesideEarly);
+    }
+    if !early && has_value(used, "slack") {
+        return Err(ValueFault::SlackWithoutEarly);
+    }
+    let remember = is_given(used, "remember");
+    let within = is_given(used, "within");
+    let planner = planner_of(remember, within)?;
+    let better = better_of(used, early)?;
+    let limit = limit_of(used, usual_for(planner))?;
+    let workers = workers_of(used, is_alone(planner, better))?;
+    let output = output_of(used);
+    let command = plan_command(planner, better, limit, output);
+    Ok(Named::Problem { command, workers })
+}
+
+/// The command to check so, by the flags `legal`, `within` and `remember`.
+fn check_command(legal: bool, within: bool, remember: bool) -> Result<Command, ValueFault>
+    ensures command { IfOk result (λ command. spec.check_command legal within remember ≡ Some command) }
+    ensures limited { IfOk result IsLimited }
+{
+    match (legal, within, remember) {
+        (true, _, true) => Err(ValueFault::RememberBesideLegal),
+        (true, true, false) => Err(ValueFault::WithinBesideLegal),
+        (true, false, false) => Ok(Command::Legal),
+        (false, true, true) => Err(ValueFault::WithinBesideRemember),
+        (false, true, false) => Ok(Command::CheckBy(ChosenPlanner::BestSoFar)),
+        (false, false, true) => Ok(Command::CheckBy(ChosenPlanner::Remembering)),
+        (false, false, false) => Ok(Command::Check),
     }
 }
 
@@ -306,15 +289,7 @@ fn check_of(used: &ArgMatches<'_>) -> Result<Named, ValueFault>
     let remember = is_given(used, "remember");
     let within = is_given(used, "within");
     let legal = is_given(used, "legal");
-    let command = match (legal, within, remember) {
-        (true, _, true) => return Err(ValueFault::RememberBesideLegal),
-        (true, true, false) => return Err(ValueFault::WithinBesideLegal),
-        (true, false, false) => Command::Legal,
-        (false, true, true) => return Err(ValueFault::WithinBesideRemember),
-        (false, true, false) => Command::CheckWithin,
-        (false, false, true) => Command::CheckKnown,
-        (false, false, false) => Command::Check,
-    };
+    let command = check_command(legal, within, remember)?;
     Ok(Named::Problem {
         command,
         workers: 1,

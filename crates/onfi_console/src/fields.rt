@@ -122,6 +122,7 @@ fn problem_field(row: &str, at: usize) -> Option<FieldRange> {
         ("weight", 2) => number("N", 1, 65_535, "1 to 65535"),
         ("strict", 1) => flag("FLAG"),
         ("sheet", 2) => number("VALUE", 0, 4_294_967_295, "0 to 2^32 - 1 ns"),
+        ("strobe", 2) => number("PS", 0, 4_294_967_295, "0 to 2^32 - 1 ps"),
         _ => None,
     }
 }

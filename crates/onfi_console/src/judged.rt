@@ -3,6 +3,7 @@ use crate::escaping::shown;
 use crate::guess::{OtherText, guess};
 use crate::input::{Input, line_at, line_start, word_at};
 use crate::lines::{last_of_text, line_fault, token_at, token_text_fault};
+use onfi_planners::ChosenPlanner;
 use onfi_problem::Problem;
 use onfi_schedule::{Schedule, find_breach, finish, legal};
 use onfi_script::{
@@ -14,7 +15,8 @@ use std::alloc::{AllocError, Global};
 /// What a certificate has to prove for a command.
 fn proof_of(command: Command) -> &'static str {
     match command {
-        Command::CheckWithin => "that nothing ends before the time that is told",
+        Command::CheckBy(ChosenPlanner::BestSoFar) =>
+            "that nothing ends before the time that is told",
         _ => "it optimal",
     }
 }
@@ -143,7 +145,7 @@ fn said(alloc: Global, input: &Input<'_>) -> Option<PlanSaid> {
         text.as_slice(),
     ).ok()?;
     let ends = plan.finish();
-    let schedule = plan.schedule(alloc, problem.lun_count()).ok()?;
+    let schedule = plan.schedule(problem.lun_count());
     Some(PlanSaid {
         problem,
         schedule,
@@ -251,7 +253,7 @@ fn header_fault(command: Command, header: &[u8]) -> &'static str {
     match command {
         Command::Check if remembers =>
             "it remembers states; 'check --remember' takes it, and 'check --within' where 'plan --within' made it",
-        Command::CheckKnown | Command::CheckWithin if plain =>
+        Command::CheckBy(_) if plain =>
             "it is a plain one; 'check' takes it, without '--remember' and '--within'",
         _ =>
             "its first line is 'ONFICERT 1', 'ONFICERT 2 strict', 'ONFICERT 3 remember' or 'ONFICERT 4 strict remember', with LF behind it",

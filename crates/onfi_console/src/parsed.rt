@@ -125,15 +125,13 @@ impl Parsed<'_> {
     }
 }
 
-/// Which of the three commands carries it out.
+/// Which of the commands carries it out.
 fn command_in(command: Command) -> CommandName
     ensures { result ≡ spec.command_in command }
 {
     match command {
-        Command::Check | Command::CheckKnown | Command::CheckWithin | Command::Legal => {
-            CommandName::Check
-        }
-        _ => CommandName::Plan,
+        Command::Plan { .. } | Command::PlanBy(_) => CommandName::Plan,
+        Command::Check | Command::CheckBy(_) | Command::Legal => CommandName::Check,
     }
 }
 
@@ -142,13 +140,9 @@ fn limit_in(command: Command) -> u32
     ensures { result ≡ spec.limit_in command }
 {
     match command {
-        Command::Plan { limit, .. }
-        | Command::PlanRequests { limit }
-        | Command::PlanKnown { limit, .. }
-        | Command::PlanWithin { limit, .. }
-        | Command::PlanEarly { limit, .. }
-        | Command::PlanNear { limit, .. } => limit,
-        Command::Check | Command::CheckKnown | Command::CheckWithin | Command::Legal => MOST,
+        Command::Plan { limit, .. } => limit,
+        Command::PlanBy(options) => options.limit,
+        Command::Check | Command::CheckBy(_) | Command::Legal => MOST,
     }
 }
 
@@ -158,11 +152,7 @@ fn trace_in(command: Command) -> bool
 {
     match command {
         Command::Plan { trace, .. } => trace,
-        Command::PlanRequests { .. } => true,
-        Command::PlanKnown { output, .. }
-        | Command::PlanWithin { output, .. }
-        | Command::PlanEarly { output, .. }
-        | Command::PlanNear { output, .. } => matches!(output, Output::Trace { .. }),
-        Command::Check | Command::CheckKnown | Command::CheckWithin | Command::Legal => false,
+        Command::PlanBy(options) => matches!(options.output, Output::Trace { .. }),
+        Command::Check | Command::CheckBy(_) | Command::Legal => false,
     }
 }

@@ -3,7 +3,7 @@ use std::alloc::{AllocError, Global};
 use strsim::levenshtein;
 
 /// The names of rows, those that `plan` and `check` take first.
-const NAMES: [&str; 23] = [
+const NAMES: [&str; 24] = [
     "shape",
     "spans",
     "page",
@@ -14,6 +14,7 @@ const NAMES: [&str; 23] = [
     "want",
     "weight",
     "strict",
+    "strobe",
     "channels",
     "hosts",
     "batch",
@@ -57,6 +58,9 @@ fn problem_form(name: &str) -> Option<&'static str> {
         "page" => Some("page,HEX: bytes of the parameter page, two hexadecimal digits each"),
         "sheet" => Some(
             "sheet,NAME,VALUE: tWC, tRC, tADL, tWHR, tRHW, tWB, tPLRBSY, tPLPBSY or tPLEBSY, in whole ns",
+        ),
+        "strobe" => Some(
+            "strobe,NAME,PS: tRPRE, tRC, tRPST, tRPSTH, tWPRE, tDSC, tWPST or tWPSTH, in whole ps",
         ),
         "bus" => Some("bus,T: the bus is free from T ns, below 2^62"),
         "free" => Some("free,LUN,T: LUN 0 to 7 of the device is free from T ns, below 2^62"),

@@ -7,7 +7,8 @@ use crate::judged::refused_message;
 use crate::parsed::{MOST, Named, Parsed};
 use crate::ran::run_message;
 use crate::script::{device_message, purpose_of, script_message};
-use onfi_script::{Command, Finding};
+use onfi_planners::ChosenPlanner;
+use onfi_script::Command;
 use std::alloc::{AllocError, Global};
 
 /// What is said, in words and for a person, beside an answer to an input; nothing where the answer says all, or where quiet
@@ -64,8 +65,7 @@ fn about(
 /// Whether a command plans by the search that remembers states.
 fn remembers(command: Command) -> bool {
     match command {
-        Command::PlanKnown { .. } | Command::PlanNear { .. } => true,
-        Command::PlanEarly { finding, .. } => matches!(finding, Finding::Remembering),
+        Command::PlanBy(options) => options.planner == ChosenPlanner::Remembering,
         _ => false,
     }
 }

@@ -103,7 +103,7 @@ fn row_fault(
     row: usize,
 ) -> Result<String, AllocError> {
     match (refused.fault, refused.inner) {
-        ("NotANumber", _) | ("Sheet", "NotANumber") => not_a_number(alloc, record),
+        ("NotANumber", _) | ("Sheet" | "Strobe", "NotANumber") => not_a_number(alloc, record),
         ("OutOfRange", _) => out_of_range(alloc, refused, record, row),
         ("NotHere", _) => not_here(alloc, refused, field(record, 0)),
         ("UnknownRow", _) if row == 1 => {
@@ -122,10 +122,12 @@ fn plain_fault(fault: &str, inner: &str) -> &'static str {
     match (fault, inner) {
         ("UnknownRow", _) => "no row has this name",
         ("FieldCount", _) => "the row has too few fields or too many",
-        ("Repeated", _) | ("Sheet", "Repeated") => "an earlier row says this already",
+        ("Repeated", _) | ("Sheet" | "Strobe", "Repeated") => "an earlier row says this already",
         ("Hex", _) => "the bytes aren't pairs of hexadecimal digits",
         ("Sheet", "Unknown") => "no timing parameter has this name",
         ("Sheet", "TooLong") => "the value is 2^32 ns or more; perhaps it is in ps",
+        ("Strobe", "Unknown") => "no parameter of strobes has this name",
+        ("Strobe", "TooLong") => "the value is 2^32 ps or more",
         ("Request", "Lun") => "the device has no such LUN",
         ("Request", "Block") => "the device has no such block",
         ("Request", "Page") => "the device has no such page, or an erase names a page other than 0",
@@ -181,9 +183,14 @@ fn is_of_first(name: &[u8]) -> bool {
     is_shape_or_spans(name) || name == b"geometry".as_slice()
 }
 
+/// Whether a row of this name tells of a device in the second form.
+fn is_of_second(name: &[u8]) -> bool {
+    name == b"page".as_slice() || name == b"sheet".as_slice() || name == b"strobe".as_slice()
+}
+
 /// Whether a row of this name tells of a device in either form.
 fn is_of_device(name: &[u8]) -> bool {
-    is_of_first(name) || name == b"page".as_slice() || name == b"sheet".as_slice()
+    is_of_first(name) || is_of_second(name)
 }
 
 /// Why a row of this name isn't taken by the command, or behind the rows before it.
@@ -261,6 +268,15 @@ fn whole_message(alloc: Global, refused: &Refused<'_, '_>) -> Result<String, All
             let which = missing_parameters(alloc, refused.records)?;
             format!(in alloc; "onfi_sim: {name}: no 'sheet' row gives {which}\n")
         }
+        ("Sheet", "ZeroCycle") if has_strobes(refused.records) => format!(in alloc;
+            "onfi_sim: {name}: tWC of the 'sheet' rows is 0; round it up to 1 ns\n"
+        ),
+        ("Strobe", "Missing") => {
+            let which = missing_strobes(alloc, refused.records)?;
+            format!(in alloc;
+                "onfi_sim: {name}: no 'strobe' row gives {which}, in ps; one that the device hasn't is 0\n"
+            )
+        }
         ("Problem", "BadLun") => bad_lun(alloc, refused),
         (fault, inner) => {
             let what = whole_fault(refused.command, fault, inner);
@@ -302,18 +318,45 @@ const PARAMETERS: [&str; 9] = [
     "tWC", "tRC", "tADL", "tWHR", "tRHW", "tWB", "tPLRBSY", "tPLPBSY", "tPLEBSY",
 ];
 
-/// The timing parameters that no row gives.
+/// The parameters of strobes, in the order in which a missing one is told.
+const STROBES: [&str; 8] = [
+    "tRPRE", "tRC", "tRPST", "tRPSTH", "tWPRE", "tDSC", "tWPST", "tWPSTH",
+];
+
+/// Puts one more name behind others.
+fn push_name(names: &mut String, name: &str) -> Result<(), AllocError> {
+    if !names.is_empty() {
+        names.push_str(", ")?;
+    }
+    names.push_str(name)
+}
+
+/// The timing parameters that no row gives; beside strobes tRC isn't asked for.
 fn missing_parameters(alloc: Global, records: &[ByteRecord]) -> Result<String, AllocError> {
     let mut names = String::new(alloc);
+    let is_asked = |name: &str| name != "tRC" || !has_strobes(records);
     for name in PARAMETERS {
-        if !has_row(records, b"sheet", name.as_bytes()) {
-            if !names.is_empty() {
-                names.push_str(", ")?;
-            }
-            names.push_str(name)?;
+        if is_asked(name) && !has_row(records, b"sheet", name.as_bytes()) {
+            push_name(&mut names, name)?;
         }
     }
     Ok(names)
+}
+
+/// The parameters of strobes that no row gives.
+fn missing_strobes(alloc: Global, records: &[ByteRecord]) -> Result<String, AllocError> {
+    let mut names = String::new(alloc);
+    for name in STROBES {
+        if !has_row(records, b"strobe", name.as_bytes()) {
+            push_name(&mut names, name)?;
+        }
+    }
+    Ok(names)
+}
+
+/// Whether data and status bytes go by strobes.
+fn has_strobes(records: &[ByteRecord]) -> bool {
+    has_row(records, b"strobe", b"")
 }
 
 /// Whether a row begins with these fields.
@@ -331,7 +374,7 @@ fn missing(command: CommandName, records: &[ByteRecord]) -> &'static str {
         .iter()
         .any(|name| has_row(records, name.as_bytes(), b""));
     if !first {
-        return if has_row(records, b"sheet", b"") {
+        return if has_row(records, b"sheet", b"") || has_strobes(records) {
             "the device's 'page' rows"
         } else if command == CommandName::Run {
             "a device: 'page' and 'sheet' rows, or 'geometry', 'shape' and 'spans' rows"
@@ -380,6 +423,8 @@ fn whole_fault(command: CommandName, fault: &str, inner: &str) -> &'static str {
         ("Geometry", inner) => geometry_fault(inner),
         ("Sheet", "ZeroCycle") => "tWC or tRC is 0; round them up to 1 ns",
         ("Sheet", _) => "the 'sheet' rows give no phase lengths",
+        ("Strobe", "ZeroCycle") => "tRC or tDSC of the 'strobe' rows is 0; two bytes take some ps",
+        ("Strobe", _) => "the 'strobe' rows give no phase lengths",
         ("Problem", "TooMany") if command == CommandName::Check =>
             "there are more than eight 'want' rows, and a plan is of at most eight requests",
         ("Problem", "TooMany") =>

@@ -1,6 +1,7 @@
 -- The turn of least start is the phase that comes next, and what it leaves.
 use Rattle.std.proofs.Common.{◌≡◌, ℕ, zero, suc, ◌+◌, ◌<◌, ◌⊎◌, inl, inr, true, false, List, [], ◌∷◌, ◌++◌, length, take, drop, Some, None, refl, sym, ap, ◌∙◌, subst, arith}
 use Rattle.std.specs.Prelude.{slice_get, slice_set, slice_index_or}
+use Rattle.std.proofs.lemmas.Option.{slice_get_read}
 use Rattle.onfi_timing.specs.Phases.{phase_length}
 use Rattle.onfi_request.specs.declared.want.Want.{Want}
 use Rattle.onfi_group.specs.Group.{lun_of, group_spans}
@@ -34,6 +35,23 @@ group_at (x ∷ groups) (suc i) starts h = group_at groups i starts h
 
 pub within_groups : (groups : List Placed) (i : ℕ) (starts : List ℕ) → slice_get (starts_in groups) i ≡ Some starts → i < length groups
 within_groups groups i starts h = let g = group_at groups i starts h in within_get groups i g.0 g.1
+
+-- what is read at the place of a start begins with it
+pub read_starts : (lists read : List (List ℕ)) (at t : ℕ) (ts starts : List ℕ) → read ≡ lists → slice_get lists at ≡ Some (t ∷ ts) → starts ≡ slice_index_or read at starts → starts ≡ t ∷ ts
+read_starts lists read at t ts starts same there is =
+    let low = within_get lists at (t ∷ ts) there in
+    let got : slice_get lists at ≡ Some starts = slice_get_read lists (length lists) at starts refl low (is ∙ ap (λ xs. slice_index_or xs at starts) same) in
+    let some : Some starts ≡ Some (t ∷ ts) = sym got ∙ there in
+    cc
+
+-- the group at the place of a start, whose starts begin with it
+pub read_group : (groups read : List Placed) (at t : ℕ) (ts : List ℕ) (g : Placed) → read ≡ groups → slice_get (starts_in groups) at ≡ Some (t ∷ ts) → g ≡ slice_index_or read at g
+    → (slice_get groups at ≡ Some g) × (g.starts ≡ t ∷ ts)
+read_group groups read at t ts g same there is =
+    let low = within_groups groups at (t ∷ ts) there in
+    let got : slice_get groups at ≡ Some g = slice_get_read groups (length groups) at g refl low (is ∙ ap (λ xs. slice_index_or xs at g) same) in
+    let some : Some g.starts ≡ Some (t ∷ ts) = sym (map_get (λ (x : Placed). x.starts) groups at g got) ∙ there in
+    (got, cc)
 
 -- the first start of these
 abbrev first_in : List ℕ → ℕ

@@ -143,15 +143,15 @@ room_for s slots n room kept h lent due replies f is makes =
     omega arith
 
 -- the fields once the phase is done
-pub fields_done : (s : Setup) (slots : Slab Slot) (n room room' : ℕ) (kept kept' : List Reply) (h : HalfState) (lent lent' : Option Reply) (due : Due) (replies : List Reply) (accepted' : List Item) (held' posted' : List Reply) (luns' : List LunState) (rest' : List (List ℕ)) (groups' : List Placed)
+pub fields_done : (s : Setup) (slots : Slab Slot) (n room room' : ℕ) (kept kept' : List Reply) (h : HalfState) (lent lent' : Option Reply) (due : Due) (replies : List Reply) (accepted' : List Item) (held' posted' : List Reply) (luns' : List LunState) (left' : Schedule)
     → AreFields s slots n room kept None h lent → IsDue h due → Makes h.accepted due.group due.phase replies → kept' ≡ kept ++ replies → room' ≡ room
     → accepted' ≡ h.accepted → held' ≡ h.held ++ replies → posted' ≡ h.posted → lent' ≡ lent
-    → luns' ≡ slice_set h.now.luns due.lun due.next → rest' ≡ slice_set h.left.rest due.lun due.rest → groups' ≡ groups_left due.place h.left.groups
-    → AreFields s slots n room' kept' None (record h { accepted = accepted'; now = record h.now { bus_free = due.bus_free; luns = luns'; wants = due.wants.items }; left = record { rest = rest'; groups = groups' }; held = held'; posted = posted' }) lent'
-fields_done s slots n room room' kept kept' h lent lent' due replies accepted' held' posted' luns' rest' groups' f is makes k c e0 e1 e2 e3 el er eg =
+    → luns' ≡ slice_set h.now.luns due.lun due.next → left' ≡ record { rest = slice_set h.left.rest due.lun due.rest; groups = groups_left due.place h.left.groups }
+    → AreFields s slots n room' kept' None (record h { accepted = accepted'; now = record h.now { bus_free = due.bus_free; luns = luns'; wants = due.wants.items }; left = left'; held = held'; posted = posted' }) lent'
+fields_done s slots n room room' kept kept' h lent lent' due replies accepted' held' posted' luns' left' f is makes k c e0 e1 e2 e3 el er =
     let l = f.lending in
     let same : kept' ≡ h.held ++ replies = k ∙ ap (λ rs. rs ++ replies) l.1 in
-    rw (e0, e1, e2, e3, el, er, eg) (fields_but s slots n room room' kept kept' None None h (after_due h due replies) lent lent f refl refl c (l.0, same) (sound_due s h due f.sound is replies makes))
+    rw (e0, e1, e2, e3, el, er) (fields_but s slots n room room' kept kept' None None h (after_due h due replies) lent lent f refl refl c (l.0, same) (sound_due s h due f.sound is replies makes))
 
 -- the LUN of the due phase is there
 pub lun_there : (s : Setup) (h : HalfState) (due : Due) → IsSound s h → IsDue h due → due.lun < length h.now.luns

@@ -1,9 +1,8 @@
--- Lags and last starts, list by list; and lists that are mapped in place.
-use Rattle.std.proofs.Common.{◌≡◌, ℕ, zero, suc, ◌+◌, ◌<◌, List, [], ◌∷◌, ◌++◌, length, Some, take, drop, refl, sym, ap, ◌∙◌, arith}
-use Rattle.std.specs.Prelude.{get_or, map, max, slice_get, slice_set}
-use Rattle.std.proofs.lemmas.Option.{slice_get_read}
+-- Lags and last starts, list by list.
+use Rattle.std.proofs.Common.{◌≡◌, ℕ, ◌+◌, ◌<◌, List, [], ◌∷◌, ◌++◌, Some, drop, ap, ◌∙◌, arith}
+use Rattle.std.specs.Prelude.{max, slice_get}
 use Rattle.std.specs.List.{AllByRecursion as All, flat_map}
-use Rattle.onfi_problem.proofs.Places.{drop_next, get_within, same_some, within_get}
+use Rattle.onfi_problem.proofs.Places.{drop_next}
 use Rattle.onfi_core.specs.Times.{lag, latest_start}
 
 pub lag_append : (moment : ℕ) (xs ys : List ℕ) → lag moment (xs ++ ys) ≡ max (lag moment xs) (lag moment ys)
@@ -33,36 +32,3 @@ latest_more f xs i x so now all at inv is =
 pub below_latest : (by bound : ℕ) (ts : List ℕ) → latest_start ts + by < bound → All (λ t. t + by < bound) ts
 below_latest by bound [] h = tt
 below_latest by bound (t ∷ ts) h = (omega (arith, h), below_latest by bound ts (omega (arith, h)))
-
--- A list that is mapped in place, the first elements so far
-
-pub unmapped : {A : Type 0} (f : A → A) (xs : List A) (i : ℕ) → slice_get (map f (take i xs) ++ drop i xs) i ≡ slice_get xs i
-unmapped f [] zero = refl
-unmapped f [] (suc i) = refl
-unmapped f (x ∷ xs) zero = refl
-unmapped f (x ∷ xs) (suc i) = unmapped f xs i
-
-mapped_suc : {A : Type 0} (f : A → A) (xs : List A) (i : ℕ) (x : A) → slice_get xs i ≡ Some x → slice_set (map f (take i xs) ++ drop i xs) i (f x) ≡ map f (take (suc i) xs) ++ drop (suc i) xs
-mapped_suc f [] i x h = cc
-mapped_suc f (y ∷ xs) zero x h = let e : x ≡ y = cc in ap (λ z. f z ∷ xs) e
-mapped_suc f (y ∷ xs) (suc i) x h = ap (λ zs. f y ∷ zs) (mapped_suc f xs i x h)
-
-pub mapped_more : {A : Type 0} (f : A → A) (xs : List A) (i : ℕ) (x : A) → slice_get xs i ≡ Some x → slice_set (map f (take i xs) ++ drop i xs) i (f x) ≡ map f (take (i + 1) xs) ++ drop (i + 1) xs
-mapped_more f xs i x h = let e : i + 1 ≡ suc i = omega arith in rw e (mapped_suc f xs i x h)
-
--- .. and one more
-pub mapped_step : {A : Type 0} (f : A → A) (xs so : List A) (i : ℕ) (x y : A) → so ≡ map f (take i xs) ++ drop i xs → i < length xs → x ≡ get_or so i x → y ≡ f x → slice_set so i y ≡ map f (take (i + 1) xs) ++ drop (i + 1) xs
-mapped_step f xs so i x y is within read e =
-    let (z, there) = get_within xs i within in
-    let here : slice_get so i ≡ Some z = ap (λ zs. slice_get zs i) is ∙ unmapped f xs i ∙ there in
-    let same : slice_get so i ≡ Some x = slice_get_read so (length so) i x refl (within_get so i z here) read in
-    let own : slice_get xs i ≡ Some x = sym (ap (λ zs. slice_get zs i) is ∙ unmapped f xs i) ∙ same in
-    rw (is, e) (mapped_more f xs i x own)
-
--- two reads of one place
-pub read_same : {A : Type 0} (f : A → A) (xs so : List A) (i : ℕ) (x y : A) → so ≡ map f (take i xs) ++ drop i xs → i < length xs → x ≡ get_or so i x → y ≡ get_or so i y → y ≡ x
-read_same f xs so i x y is within read read' =
-    let (z, there) = get_within xs i within in
-    let here : slice_get so i ≡ Some z = ap (λ zs. slice_get zs i) is ∙ unmapped f xs i ∙ there in
-    let low = within_get so i z here in
-    same_some y x (slice_get so i) (slice_get_read so (length so) i y refl low read') (slice_get_read so (length so) i x refl low read)

@@ -1,6 +1,7 @@
 pub mod Lists
 pub mod Halves
 pub mod Lags
+pub mod Mapped
 pub mod Shifted
 pub mod Startable
 pub mod Members

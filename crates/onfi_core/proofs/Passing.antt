@@ -14,7 +14,7 @@ use Rattle.onfi_core.specs.declared.slot.Slot.{Slot}
 use Rattle.onfi_core.specs.Kept.{IsReached, IsSound}
 use Rattle.onfi_core.specs.State.{ChannelState, HalfState}
 use Rattle.onfi_core.specs.Steps.{wait_lag, waited}
-use Rattle.onfi_core.specs.Times.{all_starts, free_at, lag, later, later_group, later_starts, latest_start}
+use Rattle.onfi_core.specs.Times.{all_starts, free_at, lag, later, latest_start}
 use Rattle.onfi_core.specs.View.{AreFields}
 use Rattle.onfi_core.proofs.Halves.{fields_but, same_replies, sound_but}
 use Rattle.onfi_core.proofs.Lags.{below_latest}
@@ -62,11 +62,11 @@ pub fields_waited : (s : Setup) (slots : Slab Slot) (n room : ℕ) (kept : List 
 fields_waited s slots n room kept at h lent moment f = fields_but s slots n room room kept kept at at h (waited moment h) lent lent f refl refl refl f.lending (sound_waited s moment h f.sound)
 
 -- .. where the fields are those of a wait
-pub fields_later : (s : Setup) (slots : Slab Slot) (n room : ℕ) (kept : List Reply) (at : Option Lent) (h : HalfState) (lent : Option Reply) (moment by free : ℕ) (outdated : Bool) (rest : List (List ℕ)) (groups : List Placed)
+pub fields_later : (s : Setup) (slots : Slab Slot) (n room : ℕ) (kept : List Reply) (at : Option Lent) (h : HalfState) (lent : Option Reply) (moment by free : ℕ) (outdated : Bool) (left : Schedule)
     → AreFields s slots n room kept at h lent → by ≡ wait_lag moment h → free ≡ max h.now.bus_free moment → outdated ≡ (if h.outdated then true else nat_lt h.now.bus_free moment)
-    → rest ≡ map (later_starts by) h.left.rest → groups ≡ map (later_group by) h.left.groups
-    → AreFields s slots n room kept at (record h { now = record h.now { bus_free = free }; left = record { rest = rest; groups = groups }; outdated = outdated }) lent
-fields_later s slots n room kept at h lent moment by free outdated rest groups f eb ef eo er eg = rw (ef, eo, er, eg, eb) (fields_waited s slots n room kept at h lent moment f)
+    → left ≡ later by h.left
+    → AreFields s slots n room kept at (record h { now = record h.now { bus_free = free }; left = left; outdated = outdated }) lent
+fields_later s slots n room kept at h lent moment by free outdated left f eb ef eo el = rw (ef, eo, el, eb) (fields_waited s slots n room kept at h lent moment f)
 
 -- the starts of a plan whose last one is early
 early_starts : (by : ℕ) (s : Schedule) → latest_start (all_starts s) + by < 2 ^ 62 → All (λ t. t + by < 2 ^ 63) (all_starts s)

@@ -1,4 +1,4 @@
-ghost use Rattle.std.specs.Prelude.{◌≡◌, ℕ, ◌<◌, ◌≤◌, ◌+◌, ◌*◌, ◌^◌, drop, length, Some, vec_len};
+ghost use Rattle.std.specs.Prelude.{◌≡◌, ℕ, ◌<◌, ◌≤◌, ◌+◌, ◌*◌, ◌^◌, drop, length, Some, slice_set};
 ghost use Rattle.onfi_problem.specs.Moves.{lun_after, without};
 ghost use Rattle.onfi_core.specs.Dues.{IsPhaseOf, groups_left, member_of};
 
@@ -6,9 +6,8 @@ use arrayvec::ArrayVec;
 use onfi_group::Group;
 use onfi_problem::LunState;
 use onfi_request::Want;
-use onfi_schedule::{Placed, Starts};
+use onfi_schedule::{Schedule, Starts};
 use onfi_timing::Timing;
-use std::alloc::Global;
 
 /// The undone phase of least start, with all that stands when it is done. Times are ns of the channel's clock.
 #[derive(Drop)]
@@ -34,7 +33,6 @@ impl Due {
     /// The phase of the group at the first of these starts; the group stood at that place among those that didn't start, if it
     /// did, and these wants are not started then. This takes no memory.
     pub fn of(
-        alloc: Global,
         timing: &Timing,
         group: &Group,
         phase: u8,
@@ -56,7 +54,7 @@ impl Due {
             phase,
             lun: group.lun(),
             next: lun_after(timing, group, phase, ended),
-            rest: behind_first(alloc, starts),
+            rest: behind_first(starts),
             place,
             bus_free: ended,
             wants,
@@ -100,11 +98,11 @@ pub fn lun_after(timing: &Timing, group: &Group, phase: u8, ended: u64) -> LunSt
 }
 
 /// The starts behind the first one; this takes no memory.
-pub fn behind_first(alloc: Global, starts: &Starts) -> Starts
+pub fn behind_first(starts: &Starts) -> Starts
     requires { 1 ≤ length starts.now }
     ensures { result ≡ drop 1 starts.now }
 {
-    let mut later = Starts::new(alloc);
+    let mut later = Starts::new();
     for start in &starts.as_slice()[1..] {
         later.push(*start);
     }
@@ -125,12 +123,14 @@ pub fn wants_without(group: &Group, wants: &[Want]) -> ArrayVec<Want, 8>
     left
 }
 
-/// The group at the place starts, if one does: the others are left.
-pub fn leave(groups: &mut Vec<Placed>, place: Option<usize>)
-    requires { (at : ℕ) → place ≡ Some at → at < vec_len groups.old }
-    ensures { groups.new.items ≡ groups_left place groups.old.items }
+/// A phase is done: these starts are left on its LUN, and where it is the first of the group at a place the others are left.
+pub fn leave(left: &mut Schedule, lun: usize, rest: Starts, place: Option<usize>)
+    requires lun { lun < length left.old.rest }
+    requires place { (at : ℕ) → place ≡ Some at → at < length left.old.groups }
+    ensures { left.new ≡ record { rest = slice_set left.old.rest lun rest; groups = groups_left place left.old.groups } }
 {
+    left.set_rest(lun, rest);
     if let Some(at) = place {
-        groups.remove(at);
+        left.remove_group(at);
     }
 }

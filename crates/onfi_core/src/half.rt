@@ -16,7 +16,7 @@ use crate::batch::Batch;
 use crate::due::{Due, wants_without};
 use crate::finding::find;
 use crate::history::History;
-use crate::left::{free_luns, no_starts};
+use crate::left::free_luns;
 use crate::lent::Lent;
 use crate::oldest::oldest_for;
 use crate::outcome::Cause;
@@ -29,7 +29,7 @@ use onfi_plan::{PlainPlanner, Plan, Planner};
 use onfi_planner::Planned;
 use onfi_problem::{LunState, Problem};
 use onfi_request::{Item, Reply, Want};
-use onfi_schedule::{Placed, Starts};
+use onfi_schedule::{Schedule, no_starts};
 use slab::Slab;
 use std::alloc::{AllocError, Global};
 use std::marker::Model;
@@ -57,8 +57,7 @@ pub struct Half {
     bus_free: u64,
     luns: Vec<LunState>,
     wants: ArrayVec<Want, 8>,
-    rest: Vec<Starts>,
-    groups: Vec<Placed>,
+    left: Schedule,
     outdated: bool,
     last: Option<Batch>,
     held: Vec<Reply>,
@@ -81,7 +80,7 @@ impl Model for Half {
         aside = h.aside.items;
         batch = h.batch;
         now = record { timing = h.setup.timing; rules = h.setup.rules; bus_free = h.bus_free; luns = h.luns.items; wants = h.wants.items };
-        left = record { rest = h.rest.items; groups = h.groups.items };
+        left = h.left;
         outdated = h.outdated;
         last = option_map planning_of h.last;
         held = h.history.held;
@@ -98,7 +97,7 @@ impl Model for Half {
           aside = h.aside.items;
           batch = h.batch;
           now = record { timing = h.setup.timing; rules = h.setup.rules; bus_free = h.bus_free; luns = h.luns.items; wants = h.wants.items };
-          left = record { rest = h.rest.items; groups = h.groups.items };
+          left = h.left;
           outdated = h.outdated;
           last = option_map planning_of h.last;
           held = h.history.held;
@@ -150,7 +149,7 @@ impl Half {
         let slots = Slab::with_capacity(alloc, WINDOW)?;
         let held = Vec::with_capacity(alloc, WINDOW)?;
         let luns = free_luns(alloc, setup.geometry.lun_count)?;
-        let rest = no_starts(alloc, setup.geometry.lun_count)?;
+        let rest = no_starts(usize::from(setup.geometry.lun_count));
         Ok(Half {
             setup,
             batch: setup.batch,
@@ -161,8 +160,7 @@ impl Half {
             bus_free: 0,
             luns,
             wants: ArrayVec::new(),
-            rest,
-            groups: Vec::new(alloc),
+            left: Schedule::new(rest, ArrayVec::new_in(alloc)),
             outdated: false,
             last: None,
             held,
@@ -283,8 +281,7 @@ impl Half {
     // The plan of what was taken takes the old one's place.
     fn take_over(&mut self, taking: Taking, next: NextPlan) -> u64
         requires plans { Plans self.old.setup self.old.state (taken_of taking) (planning_of next.batch) }
-        requires rest { next.rest.items ≡ next.batch.plan.planned.schedule.rest }
-        requires groups { next.groups.items ≡ next.batch.plan.planned.schedule.groups }
+        requires left { next.left ≡ next.batch.plan.planned.schedule }
         ensures planned { self.new ≡ record self.old { state = planned_by self.old.state (taken_of taking) (planning_of next.batch) } }
         ensures finish { result ≡ next.batch.plan.planned.finish }
     {
@@ -292,8 +289,7 @@ impl Half {
         self.planned = taking.planned;
         self.aside = taking.aside;
         self.wants = taking.wants;
-        self.rest = next.rest;
-        self.groups = next.groups;
+        self.left = next.left;
         self.outdated = false;
         self.last = Some(next.batch);
         finish
@@ -303,7 +299,7 @@ impl Half {
     ///
     /// # Errors
     /// `Stopped` where the channel stopped; else `NoPlan` where no phase of the plan is left.
-    pub fn due(&self, alloc: Global) -> Result<Due, DueRefusal>
+    pub fn due(&self, _alloc: Global) -> Result<Due, DueRefusal>
         ensures due { IfOk result (λ due. IsDue self.now.state due) }
         ensures time { IfOk result (λ due. due.start < 2 ^ 63) }
         ensures open { IfOk result (λ due. bus_refusal self.now.state ≡ None) }
@@ -312,15 +308,15 @@ impl Half {
         if let Some(cause) = self.stopped {
             return Err(DueRefusal::Stopped(cause));
         }
-        match next_turn(self.rest.as_slice(), self.groups.as_slice()) {
-            Some(Turn::Next(next)) => Ok(self.next_due(alloc, next)),
-            Some(Turn::First(first)) => Ok(self.first_due(alloc, first)),
+        match next_turn(self.left.rest(), self.left.groups()) {
+            Some(Turn::Next(next)) => Ok(self.next_due(next)),
+            Some(Turn::First(first)) => Ok(self.first_due(first)),
             None => Err(DueRefusal::NoPlan),
         }
     }
 
     // The next phase of the group that runs on that LUN.
-    fn next_due(&self, alloc: Global, next: Start) -> Due
+    fn next_due(&self, next: Start) -> Due
         requires { IsTurn self.now.state.left.rest self.now.state.left.groups (turn.Next next) }
         ensures due { IsDue self.now.state result }
         ensures time { result.start < 2 ^ 63 }
@@ -335,27 +331,25 @@ impl Half {
         };
         let wants = ArrayVec::try_from(self.wants.as_slice()).unwrap();
         Due::of(
-            alloc,
             &self.setup.timing,
             group,
             *phase,
-            &self.rest[next.at],
+            &self.left.rest()[next.at],
             None,
             wants,
         )
     }
 
     // The first phase of the group at that place.
-    fn first_due(&self, alloc: Global, first: Start) -> Due
+    fn first_due(&self, first: Start) -> Due
         requires { IsTurn self.now.state.left.rest self.now.state.left.groups (turn.First first) }
         ensures due { IsDue self.now.state result }
         ensures time { result.start < 2 ^ 63 }
     {
-        let placed = &self.groups[first.at];
+        let placed = &self.left.groups()[first.at];
         let group = placed.members();
         let wants = wants_without(group, self.wants.as_slice());
         Due::of(
-            alloc,
             &self.setup.timing,
             group,
             0,

@@ -1,41 +1,65 @@
-//! A plan whose starts are later.
+//! A schedule whose starts are later.
 
-ghost use Rattle.std.specs.Prelude.{◌≡◌, ◌+◌, ◌<◌, ◌^◌, length, map, vec_len};
+ghost use Rattle.std.specs.Prelude.{◌≡◌, ◌+◌, ◌<◌, ◌≤◌, ◌^◌, length, map};
 ghost use Rattle.std.specs.List.{AllByRecursion as Each};
-ghost use Rattle.onfi_core.specs.Times.{later_group, later_starts};
+ghost use Rattle.onfi_core.specs.Times.{later, later_group, later_starts};
 
-use onfi_schedule::{Placed, Starts};
+use arrayvec::ArrayVec;
+use onfi_schedule::{Placed, Schedule, Starts};
 use std::alloc::Global;
 
-/// The groups that run start later by so much; this takes no memory.
-pub fn delay_rest(alloc: Global, rest: &mut Vec<Starts>, by: u64)
-    requires { Each (λ starts. Each (λ t. t + by < 2 ^ 63) starts) rest.old.items }
-    ensures { rest.new.items ≡ map (later_starts by) rest.old.items }
+/// The schedule with all starts later by so many ns; this takes no memory.
+pub fn delay_schedule(alloc: Global, by: u64, schedule: &Schedule) -> Schedule
+    requires rest { Each (λ starts. Each (λ t. t + by < 2 ^ 63) starts) schedule.now.rest }
+    requires groups { Each (λ g. Each (λ t. t + by < 2 ^ 63) g.starts) schedule.now.groups }
+    ensures { result ≡ later by schedule.now }
 {
-    for lun in 0..rest.len() {
-        let starts = later(alloc, &rest[lun], by);
-        rest[lun] = starts;
-    }
+    Schedule::new(
+        later_rest(by, schedule.rest()),
+        later_groups(alloc, by, schedule.groups()),
+    )
 }
 
-/// The groups that aren't started start later by so much; this takes no memory.
-pub fn delay_groups(alloc: Global, groups: &mut Vec<Placed>, by: u64)
-    requires { Each (λ g. Each (λ t. t + by < 2 ^ 63) g.starts) groups.old.items }
-    ensures { groups.new.items ≡ map (later_group by) groups.old.items }
+// What is left of running groups, later by so much.
+fn later_rest(by: u64, rest: &[Starts]) -> ArrayVec<Starts, 9>
+    requires few { length rest.now ≤ 9 }
+    requires early { Each (λ starts. Each (λ t. t + by < 2 ^ 63) starts) rest.now }
+    ensures { result.items ≡ map (later_starts by) rest.now }
 {
-    for at in 0..groups.len() {
-        let starts = later(alloc, groups[at].starts(), by);
-        let members = groups[at].members().copy();
-        groups[at] = Placed::new(members, starts);
+    let mut later = ArrayVec::new();
+    for starts in rest {
+        later.push(later_starts(by, starts));
     }
+    later
 }
 
-// The same starts later by so much.
-fn later(alloc: Global, starts: &Starts, by: u64) -> Starts
+// New groups, later by so much.
+fn later_groups(alloc: Global, by: u64, groups: &[Placed]) -> ArrayVec<Placed, 8, Global>
+    requires few { length groups.now ≤ 8 }
+    requires early { Each (λ g. Each (λ t. t + by < 2 ^ 63) g.starts) groups.now }
+    ensures { result.items ≡ map (later_group by) groups.now }
+{
+    let mut later = ArrayVec::new_in(alloc);
+    for placed in groups {
+        later.push(later_group(by, placed));
+    }
+    later
+}
+
+// A group, later by so much.
+fn later_group(by: u64, placed: &Placed) -> Placed
+    requires { Each (λ t. t + by < 2 ^ 63) placed.now.starts }
+    ensures { result ≡ later_group by placed.now }
+{
+    Placed::new(placed.members().copy(), later_starts(by, placed.starts()))
+}
+
+// Starts that are later by so much.
+fn later_starts(by: u64, starts: &Starts) -> Starts
     requires { Each (λ t. t + by < 2 ^ 63) starts.now }
     ensures { result ≡ later_starts by starts.now }
 {
-    let mut all = Starts::new(alloc);
+    let mut all = Starts::new();
     for start in starts.as_slice() {
         all.push(*start + by);
     }

@@ -6,20 +6,18 @@ ghost use Rattle.onfi_core.specs.Steps.{IsPlanned, IsPromised};
 ghost use Rattle.onfi_core.specs.View.{planning_of, StopsBecause, stop_of};
 
 use crate::batch::Batch;
-use crate::left::{copy_groups, copy_rest};
 use crate::setup::Setup;
-use onfi_plan::{Plan, Planner, PlannerFault};
+use onfi_plan::{Planner, PlannerFault};
 use onfi_problem::{LunState, Problem, ProblemFault};
 use onfi_request::Want;
-use onfi_schedule::{Placed, Starts};
-use std::alloc::{AllocError, Global};
+use onfi_schedule::Schedule;
+use std::alloc::Global;
 
-/// A plan, and its starts once more, to be used up phase by phase.
+/// A plan, and its schedule once more, to be used up phase by phase.
 #[derive(Drop)]
 pub struct NextPlan {
     pub batch: Batch,
-    pub rest: Vec<Starts>,
-    pub groups: Vec<Placed>,
+    pub left: Schedule,
 }
 
 /// Why nothing was planned.
@@ -48,8 +46,7 @@ pub fn plan_wants<P: Planner>(
     ensures planned { IfOk result (λ next. IsPlanned (planning_of next.batch)) }
     ensures promised { IfOk result (λ next. IsPromised P.exact P.certifies (planning_of next.batch)) }
     ensures in_time { IfOk result (λ next. horizon (problem_of setup.now.timing setup.now.rules bus_free luns.now wants.now) < 2 ^ 62) }
-    ensures rest { IfOk result (λ next. next.rest.items ≡ next.batch.plan.planned.schedule.rest) }
-    ensures groups { IfOk result (λ next. next.groups.items ≡ next.batch.plan.planned.schedule.groups) }
+    ensures left { IfOk result (λ next. next.left ≡ next.batch.plan.planned.schedule) }
     ensures stop { IfErr result (λ stop. StopsBecause (problem_of setup.now.timing setup.now.rules bus_free luns.now wants.now) setup.now.limit stop) }
 {
     let problem = match Problem::new(alloc, setup.timing, setup.rules, bus_free, luns, wants) {
@@ -63,7 +60,11 @@ pub fn plan_wants<P: Planner>(
         Ok(plan) => plan,
         Err(fault) => return Err(stop_of(fault)),
     };
-    with_starts(alloc, problem, plan).map_err(|_| PlanStop::Memory)
+    let left = plan.planned.schedule.copy();
+    Ok(NextPlan {
+        batch: Batch { problem, plan },
+        left,
+    })
 }
 
 // Why the planner gave no plan, as why there is none.
@@ -74,20 +75,4 @@ fn stop_of(fault: PlannerFault) -> PlanStop
         PlannerFault::Over { opened } => PlanStop::Over { opened },
         PlannerFault::Memory => PlanStop::Memory,
     }
-}
-
-fn with_starts(alloc: Global, problem: Problem, plan: Plan) -> Result<NextPlan, AllocError>
-    ensures problem { IfOk result (λ next. next.batch.problem ≡ problem) }
-    ensures plan { IfOk result (λ next. next.batch.plan ≡ plan) }
-    ensures rest { IfOk result (λ next. next.rest.items ≡ plan.planned.schedule.rest) }
-    ensures groups { IfOk result (λ next. next.groups.items ≡ plan.planned.schedule.groups) }
-{
-    let schedule = &plan.planned.schedule;
-    let rest = copy_rest(alloc, schedule.rest())?;
-    let groups = copy_groups(alloc, schedule.groups())?;
-    Ok(NextPlan {
-        batch: Batch { problem, plan },
-        rest,
-        groups,
-    })
 }

@@ -3,7 +3,7 @@ use onfi_addr::GeometryFault;
 use onfi_chip::ChipFault;
 use onfi_param::PageFault;
 use onfi_request::RequestFault;
-use onfi_timing::{Parameter, SheetFault, SpanFault};
+use onfi_timing::{Parameter, SheetFault, SpanFault, Strobe, StrobeFault};
 
 #[test]
 fn texts_of_pages_and_requests(rt: HostRuntime) {
@@ -117,6 +117,45 @@ fn texts_of_sheets_and_lengths(rt: HostRuntime) {
     for (fault, text) in [
         (SpanFault::Zero, "a phase without length"),
         (SpanFault::TooLong, "a length or a wait of 2^50 ns or more"),
+    ] {
+        let told = format!(in rt.alloc(); "{fault}").expect(&rt, "memory");
+        assert_eq!(rt; told.as_str(), text);
+    }
+}
+
+#[test]
+fn texts_of_strobes(rt: HostRuntime) {
+    for (fault, text) in [
+        (
+            StrobeFault::Sheet(SheetFault::Missing(Parameter::Twc)),
+            "no value for tWC",
+        ),
+        (
+            StrobeFault::Missing(Strobe::Trpre),
+            "no value for tRPRE of the strobes",
+        ),
+        (
+            StrobeFault::Missing(Strobe::Twpre),
+            "no value for tWPRE of the strobes",
+        ),
+        (
+            StrobeFault::Repeated(Strobe::Tdsc),
+            "a second value for tDSC of the strobes",
+        ),
+        (
+            StrobeFault::Unknown(1),
+            "row 1 is no parameter of strobes with its value",
+        ),
+        (
+            StrobeFault::NotANumber(2),
+            "the value of row 2 of the strobes is no number",
+        ),
+        (
+            StrobeFault::ZeroCycle,
+            "a cycle of the strobes without length",
+        ),
+        (StrobeFault::TooLong, "a value of 2^32 ps or more"),
+        (StrobeFault::Memory, "out of memory"),
     ] {
         let told = format!(in rt.alloc(); "{fault}").expect(&rt, "memory");
         assert_eq!(rt; told.as_str(), text);

@@ -15,7 +15,7 @@ use crate::weights::Weights;
 use onfi_bound::Loads;
 use onfi_planner::{Best, schedule_of};
 use onfi_problem::Problem;
-use onfi_schedule::{Placed, Schedule, Starts, finish};
+use onfi_schedule::{Schedule, finish};
 use std::alloc::{AllocError, Global};
 
 /// A schedule that costs no more than the one that it was made from.
@@ -72,7 +72,7 @@ pub fn improve(
     let aim = Aim::new(alloc, problem, weights, latest)?;
     let walked = walk(alloc, problem, &aim, cost, limit)?;
     if walked.improved {
-        let better = schedule_found(alloc, problem, &walked.best)?;
+        let better = schedule_found(alloc, problem, &walked.best);
         let found = cost_of(problem, &better, weights);
         if found <= cost && walked.best.finish <= latest {
             return Ok(Improved {
@@ -84,7 +84,7 @@ pub fn improve(
         }
     }
     Ok(Improved {
-        schedule: copy_of(alloc, schedule)?,
+        schedule: schedule.copy(),
         finish,
         cost,
         opened: walked.opened,
@@ -144,43 +144,13 @@ fn walk(
 }
 
 // The schedule of a run.
-fn schedule_found(alloc: Global, problem: &Problem, best: &Best) -> Result<Schedule, AllocError>
+fn schedule_found(alloc: Global, problem: &Problem, best: &Best) -> Schedule
     requires run { IsRunOf problem.now best.now }
     requires small { best.now.finish < 2 ^ 62 }
-    ensures legal { IfOk result (Legal problem.now.problem) }
-    ensures rising { IfOk result (λ s. AreRising s.groups) }
-    ensures finish { IfOk result (λ s. finish problem.now.problem s ≡ best.now.finish) }
+    ensures legal { Legal problem.now.problem result }
+    ensures rising { AreRising result.groups }
+    ensures finish { finish problem.now.problem result ≡ best.now.finish }
 {
     let _limits = problem.bus_free();
-    let schedule = schedule_of(alloc, problem, best.steps.as_slice())?;
-    Ok(schedule)
-}
-
-// The same schedule once more.
-fn copy_of(alloc: Global, schedule: &Schedule) -> Result<Schedule, AllocError>
-    ensures { IfOk result (λ s. s ≡ schedule.now) }
-{
-    let rest = copies_of_starts(alloc, schedule.rest())?;
-    let groups = copies_of_groups(alloc, schedule.groups())?;
-    Ok(Schedule::new(rest, groups))
-}
-
-fn copies_of_starts(alloc: Global, rest: &[Starts]) -> Result<Vec<Starts>, AllocError>
-    ensures { IfOk result (λ v. v.items ≡ rest.now) }
-{
-    let mut copies = Vec::with_capacity(alloc, rest.len())?;
-    for starts in rest {
-        copies.push(starts.copy())?;
-    }
-    Ok(copies)
-}
-
-fn copies_of_groups(alloc: Global, groups: &[Placed]) -> Result<Vec<Placed>, AllocError>
-    ensures { IfOk result (λ v. v.items ≡ groups.now) }
-{
-    let mut copies = Vec::with_capacity(alloc, groups.len())?;
-    for group in groups {
-        copies.push(group.copy())?;
-    }
-    Ok(copies)
+    schedule_of(alloc, problem, best.steps.as_slice())
 }

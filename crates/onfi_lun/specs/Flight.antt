@@ -45,7 +45,7 @@ abbrev pub state_of : Flight → HalfState
 state_of f =
     half_of f.items.items
     (record { timing = f.timing; rules = f.rules; bus_free = f.bus_free; luns = f.luns.items; wants = f.wants.items })
-    (record { rest = f.rest.items; groups = f.groups.items }) f.replies.items
+    f.left f.replies.items
 
 -- nothing of the schedule is done, and so many LUNs are free
 abbrev pub opening : ℕ → Problem → Schedule → List Item → HalfState

@@ -57,13 +57,13 @@ pub fn run_batch<C: Chip>(
         geometry: *geometry,
         timing: problem.timing(),
     };
-    let Ok(mut flight) = Flight::of(alloc, geometry.lun_count, problem, schedule, items) else {
+    let Ok(mut flight) = Flight::of(alloc, geometry, problem, schedule, items) else {
         return Err(BatchFault::Memory);
     };
     let Ok(mut lanes) = Lanes::open(alloc, geometry.lun_count) else {
         return Err(BatchFault::Memory);
     };
-    while let Some(due) = flight.due(alloc) {
+    while let Some(due) = flight.due() {
         flight.run(alloc, chip, &target, &mut lanes, due)?;
     }
     Ok(flight.replies)

@@ -8,6 +8,7 @@ use Rattle.onfi_timing.specs.Phases.{phase_length}
 use Rattle.onfi_request.specs.declared.want.Want.{Want}
 use Rattle.onfi_group.specs.Group.{group_spans, lun_of}
 use Rattle.onfi_problem.specs.Problem.{Problem, IsProblem}
+use Rattle.onfi_problem.specs.Left.{InLimits}
 use Rattle.onfi_problem.specs.Moves.{Move, Next, Start, IsMove, earliest, move_lun, placed, lun_after}
 use Rattle.onfi_problem.specs.declared.lun_state.LunState.{LunState}
 use Rattle.onfi_problem.proofs.Kept.{kept, placed_luns, lun_there}
@@ -18,6 +19,7 @@ use Rattle.onfi_problem.specs.Position.{Position, move_of}
 use Rattle.onfi_schedule.specs.Schedule.{Placed as PlacedGroup, Schedule, IsSchedule, starts_at, with_first}
 use Rattle.onfi_schedule.specs.Runs.{Step, Run, empty, schedule_of}
 use Rattle.onfi_schedule.proofs.RunLegal.{run_legal}
+use Rattle.onfi_schedule.proofs.LegalIs.{few_groups_of}
 use Rattle.onfi_schedule.proofs.Exchange.{bus_after}
 use Rattle.onfi_planner.specs.declared.search.Begun.{Begun}
 use Rattle.onfi_planner.specs.Planning.{run_of, taken}
@@ -115,12 +117,31 @@ run_split groups xs b ys =
     let n = map (taken groups) ys in
     ap reverse (map-append (taken groups) xs (b ∷ ys)) ∙ (reverse-append m (taken groups b ∷ n) ∙ (ap (λ z. z ++ reverse m) (reverse-append (taken groups b ∷ []) n) ∙ append_assoc (reverse n) (taken groups b ∷ []) (reverse m)))
 
-pub room_of_step : (p : Problem) (groups : List (List Want)) (steps : List Begun) (i : ℕ) (d : Begun) (f : ℕ) → IsProblem p → Run p (run_of groups steps) f → i < length steps → Room (taken groups (get_or steps i d)) (stacked (empty p) (run_of groups (take i steps))) f
-room_of_step p groups steps i d f ip run h =
+run_split_at : (groups : List (List Want)) (steps : List Begun) (i : ℕ) (d : Begun) → i < length steps → run_of groups steps ≡ run_of groups (drop (i + 1) steps) ++ taken groups (get_or steps i d) ∷ run_of groups (take i steps)
+run_split_at groups steps i d h =
     let back = drop (i + 1) steps in
     let whole : steps ≡ take i steps ++ get_or steps i d ∷ back = sym (take-append-drop i steps) ∙ ap (λ z. take i steps ++ z) (drop_more steps i d h) in
-    let e : run_of groups steps ≡ run_of groups back ++ taken groups (get_or steps i d) ∷ run_of groups (take i steps) = ap (run_of groups) whole ∙ run_split groups (take i steps) (get_or steps i d) back in
-    room_at (run_of groups back) (taken groups (get_or steps i d)) (run_of groups (take i steps)) p f ip (subst (λ z. Run p z f) e run)
+    ap (run_of groups) whole ∙ run_split groups (take i steps) (get_or steps i d) back
+
+pub room_of_step : (p : Problem) (groups : List (List Want)) (steps : List Begun) (i : ℕ) (d : Begun) (f : ℕ) → IsProblem p → Run p (run_of groups steps) f → i < length steps → Room (taken groups (get_or steps i d)) (stacked (empty p) (run_of groups (take i steps))) f
+room_of_step p groups steps i d f ip run h =
+    room_at (run_of groups (drop (i + 1) steps)) (taken groups (get_or steps i d)) (run_of groups (take i steps)) p f ip (subst (λ z. Run p z f) (run_split_at groups steps i d h) run)
+
+-- steps in front leave no group out
+first_grows : (m : Move) (t : ℕ) (s : Schedule) → length s.groups ≤ length (with_first m t s).groups
+first_grows (Next l) t s = omega arith
+first_grows (Start g) t s = omega arith
+
+groups_grow : (front : List Step) (s : Schedule) (back : List Step) → length (stacked s back).groups ≤ length (stacked s (front ++ back)).groups
+groups_grow [] s back = omega arith
+groups_grow (x ∷ front) s back = omega (arith, groups_grow front s back, first_grows x.move x.start (stacked s (front ++ back)))
+
+one_more : (m : Move) (g : List Want) (t : ℕ) (s : Schedule) → m ≡ Start g → length (with_first m t s).groups ≡ length s.groups + 1
+one_more m g t s e = rw e (omega arith)
+
+few_stacked : (p : Problem) (steps : List Step) (f : ℕ) → InLimits p → Run p steps f → length (stacked (empty p) steps).groups ≤ 8
+few_stacked p steps f limits run =
+    subst (λ (s : Schedule). length s.groups ≤ 8) (schedule_stacked steps p f run) (few_groups_of p (schedule_of p steps) limits (run_legal steps p f limits.problem run).0)
 
 pub one_taken : (groups : List (List Want)) (steps : List Begun) (i : ℕ) (d : Begun) → i < length steps → run_of groups (take (i + 1) steps) ≡ taken groups (get_or steps i d) ∷ run_of groups (take i steps)
 one_taken groups steps i d h = ap (run_of groups) (take_more steps i d h) ∙ run_split groups (take i steps) (get_or steps i d) []
@@ -159,6 +180,17 @@ module _ (x : Position) (steps : List Begun) (i : ℕ) (d : Begun) (problem : Is
 
   pub start_some : (l place : ℕ) → (get_or steps i d).step ≡ KeptStart l place → 1 ≤ length (slice_index_or x.groups place [])
   start_some l place e = room.some (slice_index_or x.groups place []) (ap (move_of x.groups) e)
+
+  -- .. and there is room for one group more
+  pub start_room : InLimits x.problem → (l place : ℕ) (s : Schedule) → (get_or steps i d).step ≡ KeptStart l place → s ≡ stacked (empty x.problem) (run_of x.groups (take i steps)) → length s.groups < 8
+  start_room limits l place s e q =
+      let b = get_or steps i d in
+      let back = run_of x.groups (take i steps) in
+      let few = few_stacked x.problem (run_of x.groups steps) run.0 limits run.2 in
+      let whole = ap (λ (z : List Step). length (stacked (empty x.problem) z).groups) (run_split_at x.groups steps i d within) in
+      let grown = groups_grow (run_of x.groups (drop (i + 1) steps)) (empty x.problem) (taken x.groups b ∷ back) in
+      let one = one_more (move_of x.groups b.step) (slice_index_or x.groups place []) b.start (stacked (empty x.problem) back) (ap (move_of x.groups) e) in
+      subst (λ (z : Schedule). length z.groups < 8) (sym q) (omega (arith, few, whole, grown, one))
 
 more : (groups : List (List Want)) (steps : List Begun) (i : ℕ) (d : Begun) (e s : Schedule) (m : Move) → i < length steps → s ≡ stacked e (run_of groups (take i steps)) → move_of groups (get_or steps i d).step ≡ m → with_first m (get_or steps i d).start s ≡ stacked e (run_of groups (take (i + 1) steps))
 more groups steps i d e s m h q k =

@@ -14,7 +14,7 @@ use crate::search::{self, Best, Stop};
 use onfi_bound::bus;
 use onfi_cert::Token;
 use onfi_problem::Problem;
-use std::alloc::{AllocError, Global};
+use std::alloc::Global;
 
 /// The legal schedule of a problem that ends first, its groups by rising first start, with the certificate that shows
 /// it; the search opens at most `limit` nodes, 1 to 1,048,576.
@@ -74,35 +74,25 @@ pub fn plan_counted(alloc: Global, problem: &Problem, limit: u32) -> Result<Coun
     let Ok(_) = certificate::write(&mut at, &loads, bus_bound, best.finish, &mut cert) else {
         return Err(PlanFault::Memory);
     };
-    let Ok(planned) = found_plan(alloc, problem, &best, cert) else {
-        return Err(PlanFault::Memory);
-    };
+    let planned = found_plan(alloc, problem, &best, cert);
     Ok(Counted { planned, opened })
 }
 
 /// The plan of what a search found, with the certificate that was written for it.
-///
-/// # Errors
-/// Only where memory was refused.
-pub fn found_plan(
-    alloc: Global,
-    problem: &Problem,
-    best: &Best,
-    cert: Vec<Token>,
-) -> Result<Planned, AllocError>
+pub fn found_plan(alloc: Global, problem: &Problem, best: &Best, cert: Vec<Token>) -> Planned
     requires limits { InLimits problem.now.problem }
     requires found { Found problem.now best.now }
     requires cert { AcceptsTokens cert.items problem.now.problem best.now.finish }
-    ensures optimal { IfOk result (λ plan. Optimal problem.now.problem plan.schedule) }
-    ensures finish { IfOk result (λ plan. finish problem.now.problem plan.schedule ≡ plan.finish) }
-    ensures rising { IfOk result (λ plan. AreRising plan.schedule.groups) }
-    ensures accepted { IfOk result (λ plan. AcceptsTokens plan.cert.items problem.now.problem plan.finish) }
-    ensures ends { IfOk result (λ plan. plan.finish ≡ best.now.finish) }
+    ensures optimal { Optimal problem.now.problem result.schedule }
+    ensures finish { finish problem.now.problem result.schedule ≡ result.finish }
+    ensures rising { AreRising result.schedule.groups }
+    ensures accepted { AcceptsTokens result.cert.items problem.now.problem result.finish }
+    ensures ends { result.finish ≡ best.now.finish }
 {
-    let schedule = schedule_of(alloc, problem, best.steps.as_slice())?;
-    Ok(Planned {
+    let schedule = schedule_of(alloc, problem, best.steps.as_slice());
+    Planned {
         schedule,
         finish: best.finish,
         cert,
-    })
+    }
 }

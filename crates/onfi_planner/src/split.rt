@@ -54,8 +54,5 @@ pub fn plan_split<R: Threads + Sync, G: PartGate + Sync>(
     let Ok(cert) = write_parts(rt, alloc, &root, workers) else {
         return Err(PlanFault::Memory);
     };
-    let Ok(planned) = found_plan(alloc, problem, &root.best, cert) else {
-        return Err(PlanFault::Memory);
-    };
-    Ok(planned)
+    Ok(found_plan(alloc, problem, &root.best, cert))
 }

@@ -10,7 +10,7 @@ mod input;
 use input::{Unread, read};
 use onfi_console::{Input, Untaken, escaped, is_quiet, message, read_words, shown};
 use onfi_run::run_freely;
-use onfi_script::{engine_split_requests, write_text};
+use onfi_script::{engine_split_by, write_text};
 use onfi_sim::{Command, EngineFault, Named, Parsed, RunPlanner, describe, engine, engine_split};
 use std::alloc::Global;
 use std::fmt::Display;
@@ -152,9 +152,9 @@ fn answer_to<R: Threads + Wait + Sync + AllocGlobal>(
             workers,
         } if workers > 1 => engine_split(rt, alloc, limit, trace, workers, &mut text, answer),
         Named::Problem {
-            command: Command::PlanRequests { limit },
+            command: Command::PlanBy(options),
             workers,
-        } if workers > 1 => engine_split_requests(rt, alloc, limit, workers, &mut text, answer),
+        } if workers > 1 => engine_split_by(rt, alloc, options, workers, &mut text, answer),
         Named::Problem { command, .. } => engine(alloc, command, &mut text, answer),
         Named::Device => tell_device(alloc, text, answer),
     }

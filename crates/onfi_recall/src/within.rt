@@ -142,7 +142,7 @@ pub fn best_plan(
     ensures opened { IfOk result (λ plan. plan.opened ≡ opened) }
     ensures reopened { IfOk result (λ plan. plan.reopened ≡ reopened) }
 {
-    let schedule = schedule_of(alloc, problem, best.steps.as_slice())?;
+    let schedule = schedule_of(alloc, problem, best.steps.as_slice());
     let cert = text_of(alloc, problem.rules().strict, shown.tokens.as_slice())?;
     Ok(PlannedWithin {
         schedule,

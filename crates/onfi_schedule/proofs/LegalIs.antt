@@ -1,10 +1,11 @@
 -- The words of the functions that look for a broken condition say that a schedule is legal.
-use Rattle.std.proofs.Common.{◌≡◌, ℕ, zero, suc, ◌≤◌, ◌⊎◌, List, [], ◌∷◌, Some, inl, inr, refl, sym, ◌∙◌, subst, arith}
+use Rattle.std.proofs.Common.{◌≡◌, ℕ, zero, suc, ◌*◌, ◌≤◌, ◌⊎◌, List, [], ◌∷◌, length, Some, inl, inr, refl, sym, ◌∙◌, subst, arith}
 use Rattle.std.specs.Prelude.{slice_get}
 use Rattle.onfi_timing.specs.declared.timing.Timing.{Timing}
 use Rattle.onfi_request.specs.declared.want.Want.{Want}
 use Rattle.std.specs.List.{AllByRecursion as All}
 use Rattle.onfi_group.specs.Words.{Has, Pairs, number}
+use Rattle.onfi_group.specs.declared.rules.Rules.{Rules}
 use Rattle.onfi_group.specs.Group.{IsGroup}
 use Rattle.onfi_problem.specs.Problem.{Problem, IsProblem, has_id}
 use Rattle.onfi_problem.specs.Left.{InLimits}
@@ -130,6 +131,21 @@ module _ (p : Problem) (s : Schedule) (ip : IsProblem p) where
 -- a legal schedule has few starts
 pub few_starts_of : (p : Problem) (s : Schedule) → InLimits p → Legal p s → start_count s.groups ≤ 16
 few_starts_of p s limits lg = few_starts p.luns p.wants s limits.problem.ids limits.small.wants (shape_from p s limits.problem lg.shape)
+
+-- each group has two starts or more
+twice_at_most : (rules : Rules) (groups : List Placed) → All (λ g. length g.starts ≡ 2 * length g.members) groups → All (λ g. IsGroup rules g.members) groups → 2 * length groups ≤ start_count groups
+twice_at_most rules [] starts group = omega arith
+twice_at_most rules (g ∷ groups) starts group =
+    let more = twice_at_most rules groups starts.1 group.1 in
+    let some = group.0.some in
+    omega (arith, starts.0, some, more)
+
+-- .. so it has few groups
+pub few_groups_of : (p : Problem) (s : Schedule) → InLimits p → Legal p s → length s.groups ≤ 8
+few_groups_of p s limits lg =
+    let few = few_starts_of p s limits lg in
+    let twice = twice_at_most p.rules s.groups lg.shape.starts lg.group in
+    omega (arith, few, twice)
 
 -- .. and its running groups as many as they have phases left
 pub rest_fits_of : (p : Problem) (s : Schedule) (luns : List LunState) (rest : List (List ℕ)) → IsProblem p → luns ≡ p.luns → rest ≡ s.rest → Legal p s → EachRest StateFits luns rest

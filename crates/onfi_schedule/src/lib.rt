@@ -28,6 +28,6 @@ pub use finding::{find_breach, legal};
 pub use phase::Phase;
 pub use phase_name::{Owner, Part, PhaseName};
 pub use placed::Placed;
-pub use schedule::Schedule;
+pub use schedule::{Schedule, no_starts};
 pub use starts::Starts;
 pub use tracing::{trace, trace_requests};

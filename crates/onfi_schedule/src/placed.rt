@@ -2,6 +2,9 @@ ghost use Rattle.std.specs.Prelude.{◌≡◌};
 
 use crate::starts::Starts;
 use onfi_group::Group;
+use onfi_request::Want;
+use std::alloc::Global;
+use std::default::MadeWith;
 use std::marker::Model;
 
 /// A group with the starts of its phases.
@@ -28,7 +31,7 @@ impl Placed {
         Placed { members, starts }
     }
 
-    /// The same group with the same starts once more; this takes no memory.
+    /// The same group with the same starts once more.
     pub fn copy(&self) -> Placed
         ensures { result ≡ self.now }
     {
@@ -50,5 +53,15 @@ impl Placed {
         ensures { result.now ≡ self.now.starts }
     {
         &self.starts
+    }
+}
+
+/// What stands in a place of a schedule that no group has.
+impl MadeWith<Global> for Placed {
+    fn made_with(alloc: Global) -> Placed {
+        Placed {
+            members: Group::of(alloc, &[Want::default()]),
+            starts: Starts::new(),
+        }
     }
 }

@@ -7,7 +7,7 @@ pub mod Told
 pub mod PartsLemmas
 pub mod NumbersLemmas
 pub mod LineLemmas
-pub mod NearPlans
+pub mod Plans
 pub mod PlanLemmas
 pub mod Spelled
 pub mod ReadBack

@@ -15,7 +15,7 @@ use Rattle.onfi_script.specs.Parts.{parts}
 use Rattle.onfi_script.specs.PlanLine.{and_then, numbers, want_named, line_of, line_of_words, finish_of, number_in_words}
 use Rattle.onfi_script.specs.PlanText.{Plan, takes, with_line, is_certificate, and_on, lines_of, plan_after, plan_of, starts_in, starts_on, rests, names_absent, schedule_on}
 use Rattle.onfi_script.specs.Laws.{AreStarts, IsLineOf, HasText, rest_written, written}
-use Rattle.onfi_script.specs.Text.{spaced, joined, ids, group_line, rest_lines, schedule_text}
+use Rattle.onfi_script.specs.Text.{spaced, joined, ids, group_line, rest_lines, below_line, schedule_text}
 use Rattle.onfi_script.proofs.PlanLemmas.{finish_told, plan_ended, line_taken}
 use Rattle.onfi_script.proofs.Spelled.{Lacks, decimal_lacks, number_read, numbers_read, part_ended, part_whole, spaced_parts, joined_parts, lacks_both, lacks_by, lacks_more, same, spaced_lacks, joined_lacks, differs}
 
@@ -142,7 +142,7 @@ groups_walk wants (g ∷ todo) finish lines groups more are few =
     ∙ groups_walk wants todo finish lines (groups ++ g ∷ []) more are.1 (omega (arith, length-append groups (g ∷ [])))
     ∙ ap (λ x. plan_after wants (plan_with finish lines x) (parts 10 more)) (append_assoc groups (g ∷ []) todo)
 
-regroup_text : (d r g c : List ℕ) → (codes "ONFIPLAN 1\n" ++ (codes "finish " ++ d) ++ codes "\n" ++ r ++ g) ++ c ≡ codes "ONFIPLAN 1" ++ 10 ∷ ((codes "finish" ++ 32 ∷ d) ++ 10 ∷ (r ++ (g ++ c)))
+regroup_text : (d r g c : List ℕ) → (codes "ONFIPLAN 1\n" ++ (codes "finish " ++ d) ++ codes "\n" ++ [] ++ r ++ g) ++ c ≡ codes "ONFIPLAN 1" ++ 10 ∷ ((codes "finish" ++ 32 ∷ d) ++ 10 ∷ (r ++ (g ++ c)))
 regroup_text d r g c = simp append_assoc
 
 finish_read : (ends : ℕ) → ends < 2 ^ 63 → finish_of (codes "finish" ++ 32 ∷ decimal ends) ≡ Some ends
@@ -155,8 +155,11 @@ finish_ends : (ends : ℕ) → ends < 2 ^ 63 → Lacks 10 (codes "finish" ++ 32 
 finish_ends ends small =
     lacks_both 10 (codes "finish") (32 ∷ decimal ends) (lacks_by 10 (codes "finish") refl) (lacks_more 10 32 (decimal ends) refl (decimal_lacks 10 ends (omega arith) (λ a b. omega arith)))
 
+no_below : (ends : ℕ) → below_line ends ends ≡ []
+no_below ends = let none : nat_lt ends ends ≡ false = grind (arith, nat_tests) in ap (λ b. cond b (codes "below " ++ decimal ends ++ codes "\n") []) none
+
 pub text_read : (wants : List Want) (s : Schedule) (ends : ℕ) (line more : List ℕ) → HasText wants s → ends < 2 ^ 63 → is_certificate line ≡ true → Lacks 10 line
-    → plan_of wants (schedule_text s ends ++ (line ++ 10 ∷ more)) ≡ Ok (written s ends, line ++ 10 ∷ more)
+    → plan_of wants (schedule_text s ends ends ++ (line ++ 10 ∷ more)) ≡ Ok (written s ends, line ++ 10 ∷ more)
 text_read wants s ends line more has small certificate lacks =
     let c = line ++ 10 ∷ more in
     let r = rest_lines 0 s.rest in
@@ -164,7 +167,8 @@ text_read wants s ends line more has small certificate lacks =
     let second = codes "finish" ++ 32 ∷ decimal ends in
     let left = r ++ (g ++ c) in
     let text = codes "ONFIPLAN 1" ++ 10 ∷ (second ++ 10 ∷ left) in
-    ap (plan_of wants) (regroup_text (decimal ends) r g c)
+    ap (λ b. plan_of wants ((codes "ONFIPLAN 1\n" ++ (codes "finish " ++ decimal ends) ++ codes "\n" ++ b ++ r ++ g) ++ c)) (no_below ends)
+    ∙ ap (plan_of wants) (regroup_text (decimal ends) r g c)
     ∙ ap (λ o. and_on o (λ o. lines_of wants o.0 o.1)) (finish_told text (codes "ONFIPLAN 1") (second ++ 10 ∷ left) second left (Some ends) (part_ended 10 (codes "ONFIPLAN 1") (second ++ 10 ∷ left) (lacks_by 10 (codes "ONFIPLAN 1") refl)) refl
     (part_ended 10 second left (finish_ends ends small)) (sym (finish_read ends small)))
     ∙ rests_walk wants s.rest 0 ends [] (g ++ c) has.rest tt (omega (arith, has.luns)) (omega (arith, has.luns))

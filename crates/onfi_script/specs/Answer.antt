@@ -9,24 +9,26 @@ use Rattle.onfi_cert.specs.declared.token.Token.{Token}
 use Rattle.onfi_cert.specs.Text.{IsCertificate}
 use Rattle.onfi_check.specs.Tree.{AcceptsTokens}
 use Rattle.onfi_check.specs.Faults.{IsTextFault}
+use Rattle.onfi_check.specs.Nodes.{HasMoreNodes, IsSplitOver}
 use Rattle.onfi_check.specs.declared.fault.TextFault.{TextFault}
 use Rattle.onfi_known.specs.Faults.{IsTextFault as IsKnownTextFault}
 use Rattle.onfi_known.specs.Laws.{NoneBefore}
 use Rattle.onfi_known.specs.Proves.{ProvesTokens}
-use Rattle.onfi_known.specs.Within.{IsWithinTextFault}
-use Rattle.onfi_known.specs.declared.fault.WithinTextFault.{WithinTextFault}
 use Rattle.onfi_known.specs.Text.{IsCertificate as IsKnownCertificate}
+use Rattle.onfi_known.specs.Within.{IsWithinTextFault}
 use Rattle.onfi_known.specs.declared.fault.KnownTextFault.{KnownTextFault}
+use Rattle.onfi_known.specs.declared.fault.WithinTextFault.{WithinTextFault}
 use Rattle.onfi_known.specs.declared.token.Token.{Token as KnownToken}
-use Rattle.onfi_check.specs.Nodes.{HasMoreNodes, IsSplitOver}
 use Rattle.onfi_planner.specs.Planning.{AreRising}
 use Rattle.onfi_early.specs.Slack.{slack_of}
+use Rattle.onfi_planners.specs.Choice.{slack_in}
+use Rattle.onfi_planners.specs.declared.chosen.ChosenPlanner.{ChosenPlanner}
+use Rattle.onfi_planners.specs.declared.chosen.ChosenPlanner.TheVariants.{Plain, Remembering, BestSoFar}
 use Rattle.onfi_script.specs.declared.command.Command.{Command}
 use Rattle.onfi_script.specs.declared.command.Command.TheVariants as asked
-use Rattle.onfi_script.specs.declared.command.Finding.{Finding}
-use Rattle.onfi_script.specs.declared.command.Finding.TheVariants as found
 use Rattle.onfi_script.specs.declared.command.Output.{Output}
 use Rattle.onfi_script.specs.declared.command.Output.TheVariants.{Plan, Trace}
+use Rattle.onfi_script.specs.declared.command.PlanOptions.{PlanOptions}
 use Rattle.onfi_script.specs.declared.fault.ScriptFault.{ScriptFault}
 use Rattle.onfi_script.specs.declared.fault.ScriptFault.TheVariants.{OutOfRange, Problem as Fault}
 use Rattle.onfi_problem.specs.declared.fault.ProblemFault.TheVariants.{TooMany, BadLun, Clock}
@@ -39,100 +41,46 @@ use Rattle.onfi_script.specs.declared.device.Device.{Device}
 use Rattle.onfi_script.specs.Device.{TellsDevice}
 use Rattle.onfi_script.specs.Setup.{names_absent, SetsUp}
 use Rattle.onfi_script.specs.PlanText.{plan_of, plan_within_of, schedule_of}
-use Rattle.onfi_script.specs.Text.{Answer, memory, refused, planned, recalled, planned_within, over, accepted, within, legal_until, refused_for, refused_at, text_refused, known_text_refused, within_refused}
+use Rattle.onfi_script.specs.Text.{Answer, memory, refused, planned, over, accepted, within, legal_until, refused_for, refused_at, text_refused, known_text_refused, within_refused}
 
 -- a fault of the script as a whole
 abbrev pub whole : ScriptFault → Refusal
 whole fault = record { row = 0; fault = fault }
 
--- the text is a certificate by which nothing ends before the schedule
-pub record IsAccepted (p : Problem) (s : Schedule) (text : List ℕ) : Type 0 where
-  pub optimal : Optimal p s
-  pub tokens : List Token
-  pub certificate : IsCertificate text p.rules.strict tokens
-  pub certified : AcceptsTokens tokens p (finish p s)
+-- the text is that of tokens which are accepted for this time: plain ones of the plain planner, of the others ones that
+-- remember states
+abbrev pub Certifies : ChosenPlanner → Problem → ℕ → List ℕ → Type 0
+Certifies Plain p below text = (tokens : List Token) × IsCertificate text p.rules.strict tokens × AcceptsTokens tokens p below
+Certifies _ p below text = (tokens : List KnownToken) × IsKnownCertificate text p.rules.strict tokens × ProvesTokens p.wants tokens p below
 
--- .. one that remembers states
-pub record IsKnown (p : Problem) (s : Schedule) (text : List ℕ) : Type 0 where
-  pub optimal : Optimal p s
-  pub tokens : List KnownToken
-  pub certificate : IsKnownCertificate text p.rules.strict tokens
-  pub certified : ProvesTokens p.wants tokens p (finish p s)
-
--- the text of an optimal schedule, its groups by rising first start, with tokens that show that none ends before it
-pub record Plans (p : Problem) (answer : Answer) : Type 0 where
-  pub schedule : Schedule
-  pub ends : ℕ
-  pub tokens : List Token
-  pub optimal : Optimal p schedule
-  pub finish : finish p schedule ≡ ends
-  pub rising : AreRising schedule.groups
-  pub certified : AcceptsTokens tokens p ends
-  pub text : answer ≡ planned p schedule ends tokens
-
--- .. with a certificate that remembers states
-pub record Recalls (p : Problem) (answer : Answer) : Type 0 where
-  pub schedule : Schedule
-  pub ends : ℕ
-  pub certificate : List ℕ
-  pub finish : finish p schedule ≡ ends
-  pub rising : AreRising schedule.groups
-  pub known : IsKnown p schedule certificate
-  pub text : answer ≡ recalled schedule ends certificate
-
--- the trace of an optimal schedule, whose lines name their requests where that is asked for
-pub record Traces (requests : Bool) (p : Problem) (answer : Answer) : Type 0 where
-  pub schedule : Schedule
-  pub optimal : Optimal p schedule
-  pub is_trace : IsTrace requests p schedule answer.text
-  pub fine : answer.status ≡ 0
-
--- a trace or a plan, as asked for; the plan of a search that remembers states has a certificate that does so too
-abbrev pub Prints : Output → Bool → Problem → Answer → Type 0
-Prints (Trace requests) remember p answer = Traces requests p answer
-Prints Plan true p answer = Recalls p answer
-Prints Plan false p answer = Plans p answer
-
--- the text is a certificate, which remembers states, that nothing ends before this time
-pub record ShowsBelow (p : Problem) (below : ℕ) (text : List ℕ) : Type 0 where
-  pub tokens : List KnownToken
-  pub certificate : IsKnownCertificate text p.rules.strict tokens
-  pub certified : ProvesTokens p.wants tokens p below
+-- .. and nothing ends before it
+pub record ShowsBelow (planner : ChosenPlanner) (p : Problem) (below : ℕ) (text : List ℕ) : Type 0 where
+  pub certificate : Certifies planner p below text
   pub none_before : NoneBefore p below
 
--- a legal schedule, its groups by rising first start, with the text of a certificate that nothing ends before `below`; that
--- is its finish, unless the tree of the problem has more nodes than the limit
-pub record IsWithin (limit : ℕ) (p : Problem) (s : Schedule) (below : ℕ) (text : List ℕ) : Type 0 where
+-- a plan: a legal schedule, its groups by rising first start, and the text of a certificate that nothing ends before
+-- `below`. It ends at most so many thousandths later, with none it is optimal; save that the best so far may end at any time
+-- where the tree of the problem has more nodes than the limit
+pub record IsPlan (planner : ChosenPlanner) (slack limit : ℕ) (p : Problem) (s : Schedule) (below : ℕ) (text : List ℕ) : Type 0 where
   pub legal : Legal p s
   pub rising : AreRising s.groups
-  pub shown : ShowsBelow p below text
-  pub short : below < finish p s → HasMoreNodes p limit
+  pub shown : ShowsBelow planner p below text
+  pub optimal : planner ≢ BestSoFar → slack ≡ 0 → Optimal p s × (below ≡ finish p s)
+  pub near : below + slack_of slack p.bus_free below < finish p s → (planner ≡ BestSoFar) × HasMoreNodes p limit
 
--- the text of a plan that is so: a schedule, before which time nothing ends, and a certificate
-pub record PlansBelow (Is : Schedule → ℕ → List ℕ → Type 0) (p : Problem) (answer : Answer) : Type 0 where
-  pub schedule : Schedule
-  pub ends : ℕ
-  pub below : ℕ
-  pub certificate : List ℕ
-  pub finish : finish p schedule ≡ ends
-  pub is : Is schedule below certificate
-  pub text : answer ≡ planned_within schedule ends below certificate
+-- a plan is printed as asked for: the plan text with its certificate, or its trace, whose lines name their requests where that
+-- is asked for
+abbrev pub Prints : Output → Problem → Schedule → ℕ → List ℕ → Answer → Type 0
+Prints Plan p s below text answer = answer ≡ planned s (finish p s) below text
+Prints (Trace requests) p s below text answer = IsTrace requests p s answer.text × (answer.status ≡ 0)
 
--- its trace
-pub record TracesBelow (Is : Schedule → ℕ → List ℕ → Type 0) (requests : Bool) (p : Problem) (answer : Answer) : Type 0 where
+-- a plan as the options ask for it
+pub record PrintsPlan (options : PlanOptions) (p : Problem) (answer : Answer) : Type 0 where
   pub schedule : Schedule
   pub below : ℕ
   pub certificate : List ℕ
-  pub is : Is schedule below certificate
-  pub is_trace : IsTrace requests p schedule answer.text
-  pub fine : answer.status ≡ 0
-
-abbrev pub PrintsBelow : (Schedule → ℕ → List ℕ → Type 0) → Output → Problem → Answer → Type 0
-PrintsBelow Is (Trace requests) p answer = TracesBelow Is requests p answer
-PrintsBelow Is Plan p answer = PlansBelow Is p answer
-
-abbrev pub PrintsWithin : ℕ → Output → Problem → Answer → Type 0
-PrintsWithin limit output p answer = PrintsBelow (IsWithin limit p) output p answer
+  pub plan : IsPlan options.planner (slack_in options.better) options.limit p schedule below certificate
+  pub printed : Prints options.output p schedule below certificate answer
 
 -- one search with a limit tells that limit, where the tree of the problem has more nodes
 abbrev pub OneTells : ℕ → Problem → ℕ → Type 0
@@ -142,76 +90,53 @@ OneTells limit p opened = (opened ≡ limit) × HasMoreNodes p limit
 abbrev pub PartsTell : ℕ → Problem → ℕ → Type 0
 PartsTell limit p opened = IsSplitOver p limit opened
 
--- a plan, or how many nodes were opened, where a search tells so
-abbrev pub AnswersPlan : (ℕ → Problem → ℕ → Type 0) → ℕ → Output → Bool → Problem → Answer → Type 0
-AnswersPlan Tells limit output remember p answer = Prints output remember p answer ⊎ ((opened : ℕ) × Tells limit p opened × (answer ≡ over opened))
+-- what a planner tells as over, where the plain search tells so: the best so far is never over
+abbrev pub TellsOver : (ℕ → Problem → ℕ → Type 0) → ChosenPlanner → ℕ → Problem → ℕ → Type 0
+TellsOver Tells Plain limit p opened = Tells limit p opened
+TellsOver Tells Remembering limit p opened = OneTells limit p opened
+TellsOver Tells BestSoFar limit p opened = ⊥
 
--- a legal schedule, its groups by rising first start, with the text of a certificate that nothing ends before `below`; it
--- ends at most so many thousandths later, of what lies between the bus and that time, or else this is so
-pub record IsNear (Else : Type 0) (slack : ℕ) (p : Problem) (s : Schedule) (below : ℕ) (text : List ℕ) : Type 0 where
+-- a plan, or how many nodes were opened
+abbrev pub AnswersPlan : (ℕ → Problem → ℕ → Type 0) → PlanOptions → Problem → Answer → Type 0
+AnswersPlan Tells options p answer = PrintsPlan options p answer ⊎ ((opened : ℕ) × TellsOver Tells options.planner options.limit p opened × (answer ≡ over opened))
+
+-- a schedule is optimal, and the text a certificate of that
+pub record IsProved (planner : ChosenPlanner) (p : Problem) (s : Schedule) (text : List ℕ) : Type 0 where
+  pub optimal : Optimal p s
+  pub certificate : Certifies planner p (finish p s) text
+
+-- .. is legal, and the text a certificate that nothing ends before `below`, when it may not have ended yet
+pub record IsShown (planner : ChosenPlanner) (p : Problem) (s : Schedule) (below : ℕ) (text : List ℕ) : Type 0 where
   pub legal : Legal p s
-  pub rising : AreRising s.groups
-  pub shown : ShowsBelow p below text
-  pub near : below + slack_of slack p.bus_free below < finish p s → Else
-
-abbrev pub PrintsNear : Type 0 → ℕ → Output → Problem → Answer → Type 0
-PrintsNear Else slack output p answer = PrintsBelow (IsNear Else slack p) output p answer
-
--- a schedule is printed, with its finish, what nothing ends before, and the text of a certificate
-abbrev pub TellsNear : Output → Problem → Schedule → ℕ → ℕ → List ℕ → Answer → Type 0
-TellsNear (Trace requests) p s ends below certificate answer = IsTrace requests p s answer.text × (answer.status ≡ 0)
-TellsNear Plan p s ends below certificate answer = answer ≡ planned_within s ends below certificate
-
--- such a plan; it may end later only where it is the best within a limit, and the tree of the problem has more nodes.
--- Where it isn't, a search may be over
-abbrev pub AnswersNear : Bool → ℕ → ℕ → Output → Problem → Answer → Type 0
-AnswersNear true slack limit output p answer = PrintsNear (HasMoreNodes p limit) slack output p answer
-AnswersNear false slack limit output p answer = PrintsNear ⊥ slack output p answer ⊎ ((opened : ℕ) × OneTells limit p opened × (answer ≡ over opened))
-
--- a plan that is made better is still one of its search
-abbrev pub AnswersEarly : (ℕ → Problem → ℕ → Type 0) → Finding → ℕ → Output → Problem → Answer → Type 0
-AnswersEarly Tells found.Plain limit output p answer = AnswersPlan Tells limit output false p answer
-AnswersEarly Tells found.Remembering limit output p answer = AnswersPlan OneTells limit output true p answer
-AnswersEarly Tells found.BestSoFar limit output p answer = PrintsWithin limit output p answer
-
--- a certificate is taken, one that remembers states or a plain one
-abbrev pub IsTaken : Bool → Problem → Schedule → List ℕ → Type 0
-IsTaken true p s text = IsKnown p s text
-IsTaken false p s text = IsAccepted p s text
-
--- what is wrong with the schedule or its certificate is told
-abbrev pub TellsFault : Bool → Problem → Schedule → List ℕ → Answer → Type 0
-TellsFault true p s text answer = (fault : KnownTextFault) × IsKnownTextFault p.wants p s text fault × (answer ≡ known_text_refused fault)
-TellsFault false p s text answer = (fault : TextFault) × IsTextFault p s text fault × (answer ≡ text_refused fault)
-
--- the answer to a schedule that is said to end at `ends`, and the text of its certificate: what is wrong with them,
--- that the schedule ends at another time, or that it is accepted
-pub data AnswersSchedule (remember : Bool) (p : Problem) (s : Schedule) (ends : ℕ) (text : List ℕ) (answer : Answer) : Type 0 where
-  is_refused : TellsFault remember p s text answer → AnswersSchedule remember p s ends text answer
-  ends_otherwise : IsTaken remember p s text → finish p s ≢ ends → answer ≡ refused_for (codes "finish") → AnswersSchedule remember p s ends text answer
-  is_accepted : IsTaken remember p s text → finish p s ≡ ends → answer ≡ accepted ends → AnswersSchedule remember p s ends text answer
-
--- the answer to a plan text: its first wrong line, or the answer to the schedule and the certificate that it says
-abbrev pub AnswersCheck : Bool → Problem → List ℕ → Answer → Type 0
-AnswersCheck remember p text answer = MatchResult (plan_of p.wants text) (λ r. AnswersSchedule remember p (schedule_of p r.0) r.0.finish r.1 answer) (λ number. answer ≡ refused_at (codes "plan") number)
-
--- the schedule is legal, and its certificate shows that nothing ends before `below`, when it may not have ended yet
-pub record IsShown (p : Problem) (s : Schedule) (below : ℕ) (text : List ℕ) : Type 0 where
-  pub legal : Legal p s
-  pub shown : ShowsBelow p below text
+  pub shown : ShowsBelow planner p below text
   pub least : below ≤ finish p s
 
--- the answer to a schedule that is said to end at `ends`, where nothing is said to end before `below`, and the text of its
--- certificate: what is wrong with them, that the schedule ends at another time, or that it is legal and so near the optimum
-pub data AnswersWithin (p : Problem) (s : Schedule) (ends below : ℕ) (text : List ℕ) (answer : Answer) : Type 0 where
-  tells_fault : (fault : WithinTextFault) → IsWithinTextFault p.wants p s below text fault → answer ≡ within_refused fault → AnswersWithin p s ends below text answer
-  ends_elsewhere : IsShown p s below text → finish p s ≢ ends → answer ≡ refused_for (codes "finish") → AnswersWithin p s ends below text answer
-  is_within : IsShown p s below text → finish p s ≡ ends → below < ends → answer ≡ within ends below → AnswersWithin p s ends below text answer
-  is_optimal : IsKnown p s text → finish p s ≡ ends → answer ≡ accepted ends → AnswersWithin p s ends below text answer
+-- what is wrong with the schedule or its certificate is told
+abbrev pub TellsFault : ChosenPlanner → Problem → Schedule → ℕ → List ℕ → Answer → Type 0
+TellsFault Plain p s below text answer = (fault : TextFault) × IsTextFault p s text fault × (answer ≡ text_refused fault)
+TellsFault Remembering p s below text answer = (fault : KnownTextFault) × IsKnownTextFault p.wants p s text fault × (answer ≡ known_text_refused fault)
+TellsFault BestSoFar p s below text answer = (fault : WithinTextFault) × IsWithinTextFault p.wants p s below text fault × (answer ≡ within_refused fault)
 
--- the answer to a plan text in which a line `below` may stand: its first wrong line, or the answer to what it says
-abbrev pub AnswersCheckWithin : Problem → List ℕ → Answer → Type 0
-AnswersCheckWithin p text answer = MatchResult (plan_within_of p.wants text) (λ r. AnswersWithin p (schedule_of p r.0) r.0.finish r.1 r.2 answer) (λ number. answer ≡ refused_at (codes "plan") number)
+-- the answer to a schedule that is said to end at `ends`, where its certificate is to show that nothing ends before `below`:
+-- what is wrong with them, that the schedule ends at another time, that it is legal and so near the optimum, or optimal
+pub data AnswersSchedule (planner : ChosenPlanner) (p : Problem) (s : Schedule) (ends below : ℕ) (text : List ℕ) (answer : Answer) : Type 0 where
+  is_refused : TellsFault planner p s below text answer → AnswersSchedule planner p s ends below text answer
+  ends_otherwise : IsShown planner p s below text → finish p s ≢ ends → answer ≡ refused_for (codes "finish") → AnswersSchedule planner p s ends below text answer
+  is_within : IsShown planner p s below text → finish p s ≡ ends → below < ends → answer ≡ within ends below → AnswersSchedule planner p s ends below text answer
+  is_accepted : IsProved planner p s text → finish p s ≡ ends → answer ≡ accepted ends → AnswersSchedule planner p s ends below text answer
+
+-- the answer to a plan text whose certificate is to show that its schedule is optimal: its first wrong line, or the answer to
+-- what it says
+abbrev pub AnswersOptimal : ChosenPlanner → Problem → List ℕ → Answer → Type 0
+AnswersOptimal planner p text answer = MatchResult (plan_of p.wants text)
+    (λ r. AnswersSchedule planner p (schedule_of p r.0) r.0.finish (finish p (schedule_of p r.0)) r.1 answer) (λ number. answer ≡ refused_at (codes "plan") number)
+
+-- .. to one as a planner's are: in that of the best so far a line `below` may stand
+abbrev pub AnswersCheck : ChosenPlanner → Problem → List ℕ → Answer → Type 0
+AnswersCheck Plain p text answer = AnswersOptimal Plain p text answer
+AnswersCheck Remembering p text answer = AnswersOptimal Remembering p text answer
+AnswersCheck BestSoFar p text answer = MatchResult (plan_within_of p.wants text)
+    (λ r. AnswersSchedule BestSoFar p (schedule_of p r.0) r.0.finish r.1 r.2 answer) (λ number. answer ≡ refused_at (codes "plan") number)
 
 -- the answer to a schedule alone: that a condition is broken, or when it ends
 pub data TellsLegal (p : Problem) (s : Schedule) (answer : Answer) : Type 0 where
@@ -231,18 +156,16 @@ abbrev pub output_of : Bool → Output
 output_of true = Trace false
 output_of false = Plan
 
--- what the command asks for; a search that remembers states tells what one search tells, and the other commands read the
--- plan text behind the script
+-- a plan of a planner as it is
+abbrev pub options_of : ChosenPlanner → ℕ → Output → PlanOptions
+options_of planner limit output = record { planner = planner; better = None; limit = limit; output = output }
+
+-- what the command asks for; all but those that plan read the plan text behind the script
 abbrev pub AnswersCommand : (ℕ → Problem → ℕ → Type 0) → Command → List ℕ → Problem → Answer → Type 0
-AnswersCommand Tells (asked.Plan limit trace) text p answer = AnswersPlan Tells limit (output_of trace) false p answer
-AnswersCommand Tells asked.Check text p answer = AnswersCheck false p text answer
-AnswersCommand Tells (asked.PlanRequests limit) text p answer = AnswersPlan Tells limit (Trace true) false p answer
-AnswersCommand Tells (asked.PlanKnown limit output) text p answer = AnswersPlan OneTells limit output true p answer
-AnswersCommand Tells (asked.PlanWithin limit output) text p answer = PrintsWithin limit output p answer
-AnswersCommand Tells (asked.PlanEarly limit output finding) text p answer = AnswersEarly Tells finding limit output p answer
-AnswersCommand Tells (asked.PlanNear limit output within slack) text p answer = AnswersNear within slack limit output p answer
-AnswersCommand Tells asked.CheckKnown text p answer = AnswersCheck true p text answer
-AnswersCommand Tells asked.CheckWithin text p answer = AnswersCheckWithin p text answer
+AnswersCommand Tells (asked.Plan limit trace) text p answer = AnswersPlan Tells (options_of Plain limit (output_of trace)) p answer
+AnswersCommand Tells asked.Check text p answer = AnswersCheck Plain p text answer
+AnswersCommand Tells (asked.PlanBy options) text p answer = AnswersPlan Tells options p answer
+AnswersCommand Tells (asked.CheckBy planner) text p answer = AnswersCheck planner p text answer
 AnswersCommand Tells asked.Legal text p answer = AnswersLegal p text answer
 
 -- a problem that is set up: its first fault, or the problem itself

@@ -12,6 +12,10 @@ use Rattle.onfi_timing.specs.declared.sheet.Sheet.{Sheet as SheetOf}
 use Rattle.onfi_timing.specs.declared.spans.Spans.{Spans as Lengths}
 use Rattle.onfi_timing.specs.declared.timing.Timing.{Timing}
 use Rattle.onfi_timing.specs.Kinds.{spans_of}
+use Rattle.onfi_timing.specs.declared.strobe_fault.StrobeFault.{StrobeFault}
+use Rattle.onfi_timing.specs.declared.strobe_fault.StrobeFault.TheVariants as in_strobes
+use Rattle.onfi_timing.specs.declared.strobes.Strobes.{Strobes}
+use Rattle.onfi_timing.specs.Strobes.{IsStrobedFault, IsStrobedTiming}
 use Rattle.onfi_timing.specs.Table.{IsTiming, IsTimingFault}
 use Rattle.onfi_script.specs.declared.device.Device.{Device}
 use Rattle.onfi_script.specs.declared.device.PageDevice.{PageDevice}
@@ -85,28 +89,42 @@ bytes_in _ = []
 abbrev pub page_bytes : List Row → List ℕ
 page_bytes rows = flat_map bytes_in rows
 
--- page and sheet tell of chips of this geometry and timing
-pub record IsPageDevice (bytes : List ℕ) (sheet : SheetOf) (g : Geometry) (t : Timing) : Type 0 where
+-- the phase lengths are those of page and sheet, by strobes where there are any
+abbrev pub IsTimed : List ℕ → Geometry → SheetOf → Option Strobes → Timing → Type 0
+IsTimed page g sheet None t = IsTiming page g sheet t
+IsTimed page g sheet (Some strobes) t = IsStrobedTiming page g sheet strobes t
+
+-- why there are none: what is wrong with the sheet, or with the strobes beside a sheet that is right
+abbrev pub IsUntimed : SheetOf → Option Strobes → StrobeFault → Type 0
+IsUntimed sheet None (in_strobes.Sheet f) = IsTimingFault sheet f
+IsUntimed sheet None _ = ⊥
+IsUntimed sheet (Some strobes) f = IsStrobedFault sheet strobes f
+
+-- page, sheet and strobes tell of chips of this geometry and timing
+pub record IsPageDevice (bytes : List ℕ) (sheet : SheetOf) (strobes : Option Strobes) (g : Geometry) (t : Timing) : Type 0 where
   pub page : List ℕ
   pub copy : IsFirstCopy bytes page
   pub sound : NoFault page
   pub layout : IsGeometryOf page g
-  pub timing : IsTiming page g sheet t
+  pub timing : IsTimed page g sheet strobes t
 
--- why page and sheet tell of none: no page, no geometry, or no phase lengths
-abbrev pub IsUndescribed : List ℕ → SheetOf → ScriptFault → Type 0
-IsUndescribed bytes sheet (fault.Page Short) = length bytes < 256
-IsUndescribed bytes sheet (fault.Page NoCopy) = (256 ≤ length bytes) × ((number : ℕ) → ¬ IsPageCopy (copy_at bytes number))
-IsUndescribed bytes sheet (fault.Geometry f) = (page : List ℕ) × IsFirstCopy bytes page × IsFirstFault page f
-IsUndescribed bytes sheet (fault.Sheet f) = (page : List ℕ) × IsFirstCopy bytes page × NoFault page × IsTimingFault sheet f
-IsUndescribed bytes sheet _ = ⊥
+-- why they tell of none: no page, no geometry, or no phase lengths
+abbrev pub IsUndescribed : List ℕ → SheetOf → Option Strobes → ScriptFault → Type 0
+IsUndescribed bytes sheet strobes (fault.Page Short) = length bytes < 256
+IsUndescribed bytes sheet strobes (fault.Page NoCopy) = (256 ≤ length bytes) × ((number : ℕ) → ¬ IsPageCopy (copy_at bytes number))
+IsUndescribed bytes sheet strobes (fault.Geometry f) = (page : List ℕ) × IsFirstCopy bytes page × IsFirstFault page f
+IsUndescribed bytes sheet strobes (fault.Sheet f) = (page : List ℕ) × IsFirstCopy bytes page × NoFault page × IsUntimed sheet strobes (in_strobes.Sheet f)
+IsUndescribed bytes sheet strobes (fault.Strobe (in_strobes.Sheet f)) = ⊥
+IsUndescribed bytes sheet strobes (fault.Strobe f) = (page : List ℕ) × IsFirstCopy bytes page × NoFault page × IsUntimed sheet strobes f
+IsUndescribed bytes sheet strobes _ = ⊥
 
-abbrev pub TellsPageDevice : List ℕ → SheetOf → Result PageDevice ScriptFault → Type 0
-TellsPageDevice bytes sheet told = MatchResult told (λ d. IsPageDevice bytes sheet d.geometry d.timing) (IsUndescribed bytes sheet)
+abbrev pub TellsPageDevice : List ℕ → SheetOf → Option Strobes → Result PageDevice ScriptFault → Type 0
+TellsPageDevice bytes sheet strobes told = MatchResult told (λ d. IsPageDevice bytes sheet strobes d.geometry d.timing) (IsUndescribed bytes sheet strobes)
 
--- the chips that page and sheet of the rows tell of, or why they tell of none: without bytes of a page a row is missing
+-- the chips that page, sheet and strobes of the rows tell of, or why they tell of none: without bytes of a page a row is missing
 abbrev pub TellsPaged : List Row → Result PageDevice ScriptFault → Type 0
-TellsPaged rows told = MatchBool (list_any is_page rows) (TellsPageDevice (page_bytes rows) (seen rows).sheet told) (told ≡ Err fault.Missing)
+TellsPaged rows told =
+    MatchBool (list_any is_page rows) (TellsPageDevice (page_bytes rows) (seen rows).sheet (seen rows).strobes told) (told ≡ Err fault.Missing)
 
 -- the chips that the rows `shape`, `geometry` and `spans` tell of
 pub record HasChips (rows : List Row) (chips : PageDevice) : Type 0 where

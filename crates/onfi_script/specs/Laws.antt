@@ -44,7 +44,7 @@ written s ends = record { finish = ends; rest = rest_written 0 s.rest; groups = 
 abbrev pub ReadBackLaw : Type 0
 ReadBackLaw = (wants : List Want) (s : Schedule) (ends : ℕ) (line more : List ℕ) → HasText wants s → ends < 2 ^ 63
     → is_certificate line ≡ true → All (λ b. (b == 10) ≡ false) line
-    → (plan_of wants (schedule_text s ends ++ (line ++ 10 ∷ more)) ≡ Ok (written s ends, line ++ 10 ∷ more))
+    → (plan_of wants (schedule_text s ends ends ++ (line ++ 10 ∷ more)) ≡ Ok (written s ends, line ++ 10 ∷ more))
     × (schedule_on (length s.rest) (written s ends) ≡ s)
 
 -- no legal schedule has a LUN that isn't there

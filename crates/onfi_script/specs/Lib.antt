@@ -18,7 +18,6 @@ pub mod Text
 pub mod Parts
 pub mod PlanLine
 pub mod PlanText
-pub mod Wrong
 pub mod Limit
 pub mod Answer
 pub mod AnswerOf

@@ -1,12 +1,15 @@
 -- What a row says, by its name.
-use Rattle.std.specs.Prelude.{ℕ, List, [], ◌∷◌, drop, Result, Ok, Err}
+use Rattle.std.specs.Prelude.{ℕ, List, [], ◌∷◌, drop, unwrap_or, Option, Result, Ok, Err}
 use Rattle.onfi_timing.specs.declared.fault.SheetFault.{SheetFault}
 use Rattle.onfi_timing.specs.declared.sheet.Sheet.{Sheet as SheetOf}
 use Rattle.onfi_timing.specs.Sheet.{with_row}
+use Rattle.onfi_timing.specs.declared.strobe_fault.StrobeFault.{StrobeFault}
+use Rattle.onfi_timing.specs.declared.strobes.Strobes.{Strobes}
+use Rattle.onfi_timing.specs.StrobeRows.{no_strobes, with_strobe_row}
 use Rattle.onfi_script.specs.declared.fault.ScriptFault.{ScriptFault}
-use Rattle.onfi_script.specs.declared.fault.ScriptFault.TheVariants.{Sheet as InSheet}
+use Rattle.onfi_script.specs.declared.fault.ScriptFault.TheVariants.{Sheet as InSheet, Strobe as InStrobes}
 use Rattle.onfi_script.specs.declared.row.Row.{Row}
-use Rattle.onfi_script.specs.declared.row.Row.TheVariants.{Shape, Spans, Page, Sheet, Bus, Free, Running, Want, Weight, Strict}
+use Rattle.onfi_script.specs.declared.row.Row.TheVariants.{Shape, Spans, Page, Sheet, Strobe, Bus, Free, Running, Want, Weight, Strict}
 use Rattle.onfi_script.specs.Field.{given, field, hex_bytes, number, flag, kind, lun, block, page, span, time, weight}
 
 -- the fields of a row, its name first
@@ -40,6 +43,14 @@ values_row (Err fault) = Err (InSheet fault)
 
 abbrev pub sheet_row : SheetOf → ℕ → Record → Result Row ScriptFault
 sheet_row sheet number row = values_row (with_row sheet number (field row 1) (field row 2))
+
+-- strobes with one value more
+abbrev pub strobe_values_row : Result Strobes StrobeFault → Result Row ScriptFault
+strobe_values_row (Ok strobes) = Ok (Strobe strobes)
+strobe_values_row (Err fault) = Err (InStrobes fault)
+
+abbrev pub strobe_row : Option Strobes → ℕ → Record → Result Row ScriptFault
+strobe_row strobes number row = strobe_values_row (with_strobe_row (unwrap_or strobes no_strobes) number (field row 1) (field row 2))
 
 abbrev pub bus_row : Record → Result Row ScriptFault
 bus_row row = given (time (field row 1)) (λ bus_free. Ok (Bus bus_free))

@@ -7,7 +7,7 @@ use Rattle.onfi_script.specs.declared.purpose.Purpose.TheVariants.{Problem, Run,
 use Rattle.onfi_script.specs.declared.row_name.Form.{Form}
 use Rattle.onfi_script.specs.declared.row_name.Form.TheVariants.{First, Second}
 use Rattle.onfi_script.specs.declared.row_name.RowName.{RowName}
-use Rattle.onfi_script.specs.declared.row_name.RowName.TheVariants.{Shape, Spans, Page, Sheet, Bus, Free, Running, Want, Weight, Strict, Channels, Hosts, Batch, SubmitCap, PostCap, Choice, Op, Fault, ChipFail, NotReady, Array, At, Geometry}
+use Rattle.onfi_script.specs.declared.row_name.RowName.TheVariants.{Shape, Spans, Page, Sheet, Strobe, Bus, Free, Running, Want, Weight, Strict, Channels, Hosts, Batch, SubmitCap, PostCap, Choice, Op, Fault, ChipFail, NotReady, Array, At, Geometry}
 
 -- the rows that are taken for a run alone
 abbrev pub run_name_of : List ℕ → Option RowName
@@ -33,13 +33,14 @@ name_of text =
     else (if bytes_eq text (codes "spans") then Some Spans
     else (if bytes_eq text (codes "page") then Some Page
     else (if bytes_eq text (codes "sheet") then Some Sheet
+    else (if bytes_eq text (codes "strobe") then Some Strobe
     else (if bytes_eq text (codes "bus") then Some Bus
     else (if bytes_eq text (codes "free") then Some Free
     else (if bytes_eq text (codes "running") then Some Running
     else (if bytes_eq text (codes "want") then Some Want
     else (if bytes_eq text (codes "weight") then Some Weight
     else (if bytes_eq text (codes "strict") then Some Strict
-    else run_name_of text)))))))))
+    else run_name_of text))))))))))
 
 -- the rows that are taken for a problem alone
 abbrev pub is_of_problem : RowName → Bool
@@ -56,6 +57,7 @@ is_of_both Shape = true
 is_of_both Spans = true
 is_of_both Page = true
 is_of_both Sheet = true
+is_of_both Strobe = true
 is_of_both Strict = true
 is_of_both _ = false
 
@@ -76,6 +78,7 @@ form_of Spans = Some First
 form_of Geometry = Some First
 form_of Page = Some Second
 form_of Sheet = Some Second
+form_of Strobe = Some Second
 form_of _ = None
 
 abbrev pub is_form : Form → Form → Bool
@@ -110,6 +113,7 @@ has_fields Shape row = length row == 5
 has_fields Spans row = length row == 6
 has_fields Page row = length row == 2
 has_fields Sheet row = length row == 3
+has_fields Strobe row = length row == 3
 has_fields Bus row = length row == 2
 has_fields Free row = length row == 3
 has_fields Running row = nat_le 7 (length row) && nat_le (length row) 10

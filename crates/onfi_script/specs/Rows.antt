@@ -8,21 +8,22 @@ use Rattle.onfi_script.specs.declared.fault.Refusal.{Refusal}
 use Rattle.onfi_script.specs.declared.row.Row.{Row}
 use Rattle.onfi_script.specs.declared.row.Subject.{Subject}
 use Rattle.onfi_script.specs.declared.row_name.RowName.{RowName}
-use Rattle.onfi_script.specs.declared.row_name.RowName.TheVariants.{Shape, Spans, Page, Sheet, Bus, Free, Running, Want, Weight, Strict, Channels, Hosts, Batch, SubmitCap, PostCap, Choice, Op, Fault, ChipFail, NotReady, Array, At, Geometry}
+use Rattle.onfi_script.specs.declared.row_name.RowName.TheVariants.{Shape, Spans, Page, Sheet, Strobe, Bus, Free, Running, Want, Weight, Strict, Channels, Hosts, Batch, SubmitCap, PostCap, Choice, Op, Fault, ChipFail, NotReady, Array, At, Geometry}
 use Rattle.onfi_script.specs.Field.{given, field}
 use Rattle.onfi_script.specs.RowName.{name_of, is_taken, stands, has_fields}
-use Rattle.onfi_script.specs.Row.{Record, shape_row, spans_row, page_row, sheet_row, bus_row, free_row, running_row, want_row, weight_row, strict_row}
+use Rattle.onfi_script.specs.Row.{Record, shape_row, spans_row, page_row, sheet_row, strobe_row, bus_row, free_row, running_row, want_row, weight_row, strict_row}
 use Rattle.onfi_script.specs.declared.seen.Seen.{Seen}
 use Rattle.onfi_script.specs.Seen.{seen}
 use Rattle.onfi_script.specs.RunRow.{array_row, at_row, geometry_row, channels_row, hosts_row, batch_row, submit_cap_row, post_cap_row, op_row, fault_row, chip_fail_row, not_ready_row, choice_row}
 use Rattle.onfi_script.specs.Subject.{subject_of, settles, is_op}
 
--- what row number `number` of that name says; a row of the sheet is read with those before it
+-- what row number `number` of that name says; a row of the sheet or of strobes is read with those before it
 abbrev pub said : RowName → Seen → ℕ → Record → Result Row ScriptFault
 said Shape seen number row = shape_row row
 said Spans seen number row = spans_row row
 said Page seen number row = page_row row
 said Sheet seen number row = sheet_row seen.sheet number row
+said Strobe seen number row = strobe_row seen.strobes number row
 said Bus seen number row = bus_row row
 said Free seen number row = free_row row
 said Running seen number row = running_row row

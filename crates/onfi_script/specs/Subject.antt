@@ -3,7 +3,7 @@ use Rattle.std.specs.Prelude.{◌==◌, ◌&&◌, Bool, true, false, List, Optio
 use Rattle.onfi_timing.specs.declared.kind.Kind.{Kind}
 use Rattle.onfi_timing.specs.declared.kind.Kind.TheVariants.{Read, Program, Erase}
 use Rattle.onfi_script.specs.declared.row.Row.{Row}
-use Rattle.onfi_script.specs.declared.row.Row.TheVariants.{Shape, Spans, Page, Sheet, Bus, Free, Running, Want, Weight, Strict, Channels, Hosts, Batch, SubmitCap, PostCap, Choice, Op, Fault, ChipFail, NotReady, Array, At, Geometry}
+use Rattle.onfi_script.specs.declared.row.Row.TheVariants.{Shape, Spans, Page, Sheet, Strobe, Bus, Free, Running, Want, Weight, Strict, Channels, Hosts, Batch, SubmitCap, PostCap, Choice, Op, Fault, ChipFail, NotReady, Array, At, Geometry}
 use Rattle.onfi_script.specs.declared.row.Subject.{Subject}
 use Rattle.onfi_script.specs.declared.row.Subject.TheVariants as on
 
@@ -12,6 +12,7 @@ subject_of (Shape row) = Some on.Shape
 subject_of (Spans row) = Some (on.Spans row.kind)
 subject_of (Page bytes) = None
 subject_of (Sheet sheet) = None
+subject_of (Strobe strobes) = None
 subject_of (Bus bus_free) = Some on.Bus
 subject_of (Free lun since) = Some (on.Lun lun)
 subject_of (Running row) = Some (on.Lun row.lun)

@@ -9,16 +9,15 @@ use Rattle.onfi_addr.specs.declared.fault.GeometryFault.{GeometryFault}
 use Rattle.onfi_addr.specs.declared.fault.GeometryFault.TheVariants.{WideBus, NoStatusEnhanced, NoColumnEnhanced, NoMultiLun, LunCount, PlaneBits, Zero, RowTooWide, ColumnTooWide, TooLarge}
 use Rattle.onfi_timing.specs.declared.fault.SheetFault.{SheetFault}
 use Rattle.onfi_timing.specs.declared.fault.SheetFault.TheVariants as sheet
+use Rattle.onfi_timing.specs.declared.strobe_fault.StrobeFault.{StrobeFault}
+use Rattle.onfi_timing.specs.declared.strobe_fault.StrobeFault.TheVariants as strobe
 use Rattle.onfi_problem.specs.declared.fault.ProblemFault.{ProblemFault}
 use Rattle.onfi_problem.specs.declared.fault.ProblemFault.TheVariants.{TooMany, BadLun, Clock, Memory}
-use Rattle.onfi_problem.specs.Problem.{Problem as ProblemOf}
 use Rattle.onfi_request.specs.declared.checking.RequestFault.{RequestFault}
 use Rattle.onfi_request.specs.declared.checking.RequestFault.TheVariants as request
 use Rattle.onfi_schedule.specs.Schedule.{Placed, Schedule}
-use Rattle.onfi_cert.specs.declared.token.Token.{Token}
 use Rattle.onfi_cert.specs.declared.fault.CertTextFault.{CertTextFault}
 use Rattle.onfi_cert.specs.declared.fault.CertTextFault.TheVariants as cert_text
-use Rattle.onfi_cert.specs.Text.{text_of}
 use Rattle.onfi_check.specs.declared.fault.CertFault.{CertFault}
 use Rattle.onfi_check.specs.declared.fault.CertFault.TheVariants as cert
 use Rattle.onfi_check.specs.declared.fault.TextFault.{TextFault}
@@ -30,7 +29,7 @@ use Rattle.onfi_known.specs.declared.fault.KnownTextFault.TheVariants as in_know
 use Rattle.onfi_known.specs.declared.fault.WithinTextFault.{WithinTextFault}
 use Rattle.onfi_known.specs.declared.fault.WithinTextFault.TheVariants as in_within
 use Rattle.onfi_script.specs.declared.fault.ScriptFault.{ScriptFault}
-use Rattle.onfi_script.specs.declared.fault.ScriptFault.TheVariants.{NoEnd, UnknownRow, FieldCount, NotANumber, OutOfRange, Repeated, Missing, Hex, Page, Geometry, Sheet, Problem, Request, NotHere}
+use Rattle.onfi_script.specs.declared.fault.ScriptFault.TheVariants.{NoEnd, UnknownRow, FieldCount, NotANumber, OutOfRange, Repeated, Missing, Hex, Page, Geometry, Sheet, Strobe, Problem, Request, NotHere}
 use Rattle.onfi_script.specs.declared.fault.Refusal.{Refusal}
 
 -- what is written, and the status that the program ends with
@@ -70,6 +69,16 @@ sheet_name sheet.ZeroCycle = codes "Sheet ZeroCycle"
 sheet_name sheet.TooLong = codes "Sheet TooLong"
 sheet_name sheet.Memory = codes "Sheet Memory"
 
+abbrev pub strobe_name : StrobeFault → List ℕ
+strobe_name (strobe.Sheet fault) = sheet_name fault
+strobe_name (strobe.Missing parameter) = codes "Strobe Missing"
+strobe_name (strobe.Repeated parameter) = codes "Strobe Repeated"
+strobe_name (strobe.Unknown row) = codes "Strobe Unknown"
+strobe_name (strobe.NotANumber row) = codes "Strobe NotANumber"
+strobe_name strobe.ZeroCycle = codes "Strobe ZeroCycle"
+strobe_name strobe.TooLong = codes "Strobe TooLong"
+strobe_name strobe.Memory = codes "Strobe Memory"
+
 abbrev pub problem_name : ProblemFault → List ℕ
 problem_name TooMany = codes "Problem TooMany"
 problem_name BadLun = codes "Problem BadLun"
@@ -94,6 +103,7 @@ name_of Hex = codes "Hex"
 name_of (Page fault) = page_name fault
 name_of (Geometry fault) = geometry_name fault
 name_of (Sheet fault) = sheet_name fault
+name_of (Strobe fault) = strobe_name fault
 name_of (Problem fault) = problem_name fault
 name_of (Request fault) = request_name fault
 name_of NotHere = codes "NotHere"
@@ -126,29 +136,17 @@ unfoldable pub rest_lines : ℕ → List (List ℕ) → List ℕ
 rest_lines lun [] = []
 rest_lines lun (starts ∷ rest) = rest_line lun starts ++ rest_lines (lun + 1) rest
 
--- the lines of a schedule that ends at `ends`
-abbrev pub schedule_text : Schedule → ℕ → List ℕ
-schedule_text s ends = codes "ONFIPLAN 1\n" ++ (codes "finish " ++ decimal ends) ++ codes "\n" ++ rest_lines 0 s.rest ++ flat_map group_line s.groups
-
 -- a line of the time before which nothing ends, where that isn't the finish
 abbrev pub below_line : ℕ → ℕ → List ℕ
 below_line ends below = if nat_lt below ends then codes "below " ++ decimal below ++ codes "\n" else []
 
--- .. behind the finish
-abbrev pub schedule_within : Schedule → ℕ → ℕ → List ℕ
-schedule_within s ends below = codes "ONFIPLAN 1\n" ++ (codes "finish " ++ decimal ends) ++ codes "\n" ++ below_line ends below ++ rest_lines 0 s.rest ++ flat_map group_line s.groups
+-- the lines of a schedule that ends at `ends`, where nothing ends before `below`
+abbrev pub schedule_text : Schedule → ℕ → ℕ → List ℕ
+schedule_text s ends below = codes "ONFIPLAN 1\n" ++ (codes "finish " ++ decimal ends) ++ codes "\n" ++ below_line ends below ++ rest_lines 0 s.rest ++ flat_map group_line s.groups
 
--- the answer that plans a problem: the schedule, and behind it the certificate of these tokens, which names the option strict
-abbrev pub planned : ProblemOf → Schedule → ℕ → List Token → Answer
-planned p s ends tokens = record { text = schedule_text s ends ++ text_of p.rules.strict tokens; status = 0 }
-
--- .. with the text of a certificate
-abbrev pub recalled : Schedule → ℕ → List ℕ → Answer
-recalled s ends certificate = record { text = schedule_text s ends ++ certificate; status = 0 }
-
--- the answer that plans a problem within a limit of nodes: nothing ends before `below`
-abbrev pub planned_within : Schedule → ℕ → ℕ → List ℕ → Answer
-planned_within s ends below certificate = record { text = schedule_within s ends below ++ certificate; status = 0 }
+-- the answer that plans a problem: the schedule, and behind it the text of its certificate
+abbrev pub planned : Schedule → ℕ → ℕ → List ℕ → Answer
+planned s ends below certificate = record { text = schedule_text s ends below ++ certificate; status = 0 }
 
 -- what is refused for this reason
 abbrev pub refused_for : List ℕ → Answer

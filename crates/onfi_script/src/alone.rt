@@ -3,9 +3,9 @@ ghost use Rattle.std.specs.Prelude.{◌≡◌, ◌++◌, codes, IfOk};
 ghost use Rattle.onfi_script.specs.Answer.{AnswersAlone, AnswersLegal, TellsLegal};
 ghost use Rattle.onfi_script.specs.AnswerOf.{answer_of};
 
-use crate::plan_text::PlanStop;
+use crate::checking::line_refused;
 use crate::plan_within::{PlanWithin, read_plan_within};
-use crate::text::{Answer, legal_until, refused_at, refused_for};
+use crate::text::{Answer, legal_until, refused_for};
 use onfi_problem::Problem;
 use onfi_schedule::{Schedule, finish, legal};
 use std::alloc::{AllocError, Global};
@@ -37,11 +37,10 @@ fn judged(alloc: Global, problem: &Problem, text: &[u8]) -> Result<Answer, Alloc
 {
     match read_plan_within(alloc, problem.wants(), text) {
         Ok(PlanWithin { plan, .. }) => {
-            let schedule = plan.schedule(alloc, problem.lun_count())?;
+            let schedule = plan.schedule(problem.lun_count());
             told(alloc, problem, &schedule)
         }
-        Err(PlanStop::Wrong(number)) => refused_at(alloc, "plan", number),
-        Err(PlanStop::Memory) => Err(AllocError),
+        Err(number) => line_refused(alloc, number),
     }
 }
 

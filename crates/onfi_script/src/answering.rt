@@ -1,139 +1,44 @@
 //! From the bytes of an input to the bytes of its answer.
-ghost use Rattle.std.specs.Prelude.{◌≡◌, ◌≤◌, false, IfOk};
+ghost use Rattle.std.specs.Prelude.{◌≡◌, ◌≤◌, IfOk};
 ghost use Rattle.std.specs.Io.KnownBytes.{Keeps};
-ghost use Rattle.onfi_script.specs.Text.{planned as spec_planned};
-ghost use Rattle.onfi_script.specs.Answer.{AnswersCheck, AnswersCommand, AnswersEarly, AnswersPlan, AnswersSchedule, IsAnswerBy, Answers, AnswersBy, BeginsAnswer, BeginsAnswerBy, PartsTell, output_of};
+ghost use Rattle.onfi_script.specs.Answer.{AnswersCommand, AnswersPlan, IsAnswerBy, Answers, AnswersBy, BeginsAnswer, BeginsAnswerBy, PartsTell, output_of};
 ghost use Rattle.onfi_script.specs.AnswerOf.{answer_of};
 ghost use Rattle.onfi_script.specs.Limit.{IsLimited};
 
 use crate::alone::judged_alone;
-use crate::command::{Command, Finding, Output};
-use crate::early::{Early, planned_near};
+use crate::checking::checked;
+use crate::command::{Command, Output, PlanOptions};
 use crate::fault::Stop;
-use crate::plan_text::{PlanStop, read_plan};
+use crate::found::{plan_by, printed};
 use crate::reading::{Script, read_script};
-use crate::remembered::{judged_known, planned_known};
 use crate::script::plan_text_of;
 use crate::search::{One, Search, Team};
-use crate::text::{
-    Answer, accepted, over, plan_text, refused, refused_at, refused_for, text_refused,
-};
-use crate::traced::trace_answer;
+use crate::text::{Answer, over, refused};
 use crate::transfer::{EngineFault, InputFault, read_all, tell};
-use crate::within::{checked_within, planned_within};
-use onfi_cert::write;
-use onfi_check::check_text;
-use onfi_early::Weights;
-use onfi_planner::{PlanFault, Planned};
-use onfi_problem::Problem;
-use onfi_schedule::Schedule;
+use onfi_planner::PlanFault;
+use onfi_planners::ChosenPlanner;
 use std::alloc::{AllocError, Global};
 use std::io::{Read, Write};
 use std::thread::Threads;
 
-/// The text of a plan, with its certificate behind it.
-fn plan_answer(alloc: Global, problem: &Problem, planned: &Planned) -> Result<Answer, AllocError>
-    ensures { IfOk result (λ a. answer_of a ≡ spec_planned problem.now.problem planned.now.schedule planned.now.finish planned.now.cert.items) }
-{
-    let Ok(certificate) = write(alloc, problem.rules().strict, planned.cert.as_slice()) else {
-        return Err(AllocError);
-    };
-    let text = plan_text(
-        alloc,
-        &planned.schedule,
-        planned.finish,
-        certificate.as_slice(),
-    )?;
-    Ok(Answer { text, status: 0 })
-}
-
-/// The answer that plans a problem by a search with this limit of nodes.
+/// The answer that plans a problem; where the planner is the plain one, by this search.
 fn planned<S: Search>(
     alloc: Global,
     search: &S,
-    problem: &Problem,
-    limit: u32,
-    output: Output,
+    options: PlanOptions,
+    script: &Script,
 ) -> Result<Answer, AllocError>
     requires ready { S.ready search.now }
-    requires some { 1 ≤ limit }
-    requires few { limit ≤ 1048576 }
-    ensures { IfOk result (λ a. AnswersPlan S.tells limit output false problem.now.problem (answer_of a)) }
+    requires some { 1 ≤ options.limit }
+    requires few { options.limit ≤ 1048576 }
+    requires begun { script.now.problem.all ≡ script.now.problem.problem.wants }
+    ensures { IfOk result (λ a. AnswersPlan S.tells options script.now.problem.problem (answer_of a)) }
 {
-    match search.plan(alloc, problem, limit) {
-        Ok(planned) => match output {
-            Output::Trace { requests } => {
-                trace_answer(alloc, problem, &planned.schedule, requests)
-            }
-            Output::Plan => plan_answer(alloc, problem, &planned),
-        },
+    let problem = &script.problem;
+    match plan_by(alloc, search, problem, &script.weights, options) {
+        Ok(found) => printed(alloc, problem, &found, options.output),
         Err(PlanFault::Over { opened }) => over(alloc, opened),
         Err(PlanFault::Memory) => Err(AllocError),
-    }
-}
-
-/// The answer to a schedule that is said to end at `ends`, in ns, and the text of its certificate.
-fn judged(
-    alloc: Global,
-    problem: &Problem,
-    schedule: &Schedule,
-    ends: u64,
-    certificate: &[u8],
-) -> Result<Answer, AllocError>
-    ensures { IfOk result (λ a. AnswersSchedule false problem.now.problem schedule.now ends certificate.now (answer_of a)) }
-{
-    match check_text(alloc, problem, schedule, certificate) {
-        Ok(finish) if finish == ends => accepted(alloc, ends),
-        Ok(_) => refused_for(alloc, "finish"),
-        Err(fault) => text_refused(alloc, fault),
-    }
-}
-
-/// The answer to a plan text, whose certificate remembers states where `remember` says so.
-fn checked(
-    alloc: Global,
-    remember: bool,
-    problem: &Problem,
-    text: &[u8],
-) -> Result<Answer, AllocError>
-    requires begun { problem.now.all ≡ problem.now.problem.wants }
-    ensures { IfOk result (λ a. AnswersCheck remember problem.now.problem text.now (answer_of a)) }
-{
-    match read_plan(alloc, problem.wants(), text) {
-        Ok((plan, certificate)) => {
-            let ends = plan.finish();
-            let schedule = plan.schedule(alloc, problem.lun_count())?;
-            if remember {
-                judged_known(alloc, problem, &schedule, ends, certificate)
-            } else {
-                judged(alloc, problem, &schedule, ends, certificate)
-            }
-        }
-        Err(PlanStop::Wrong(number)) => refused_at(alloc, "plan", number),
-        Err(PlanStop::Memory) => Err(AllocError),
-    }
-}
-
-/// The answer that plans a problem and makes the plan better, by these weights.
-fn planned_early<S: Search>(
-    alloc: Global,
-    search: &S,
-    finding: Finding,
-    weights: &Weights,
-    problem: &Problem,
-    limit: u32,
-    output: Output,
-) -> Result<Answer, AllocError>
-    requires ready { S.ready search.now }
-    requires some { 1 ≤ limit }
-    requires few { limit ≤ 1048576 }
-    requires begun { problem.now.all ≡ problem.now.problem.wants }
-    ensures { IfOk result (λ a. AnswersEarly S.tells finding limit output problem.now.problem (answer_of a)) }
-{
-    match finding {
-        Finding::Plain => planned(alloc, &Early { search, weights }, problem, limit, output),
-        Finding::Remembering => planned_known(alloc, problem, Some(weights), limit, output),
-        Finding::BestSoFar => planned_within(alloc, problem, Some(weights), limit, output),
     }
 }
 
@@ -161,35 +66,15 @@ fn commanded<S: Search>(
     requires begun { script.now.problem.all ≡ script.now.problem.problem.wants }
     ensures { IfOk result (λ a. AnswersCommand S.tells command text.now script.now.problem.problem (answer_of a)) }
 {
-    let (problem, weights) = (&script.problem, &script.weights);
+    let problem = &script.problem;
     match command {
         Command::Plan { limit, trace } => {
-            planned(alloc, search, problem, limit, output_of(trace))
+            let options = PlanOptions::new(ChosenPlanner::Plain, limit, output_of(trace));
+            planned(alloc, search, options, script)
         }
-        Command::Check => checked(alloc, false, problem, text),
-        Command::PlanRequests { limit } => {
-            let output = Output::Trace { requests: true };
-            planned(alloc, search, problem, limit, output)
-        }
-        Command::PlanKnown { limit, output } => {
-            planned_known(alloc, problem, None, limit, output)
-        }
-        Command::PlanWithin { limit, output } => {
-            planned_within(alloc, problem, None, limit, output)
-        }
-        Command::PlanEarly {
-            limit,
-            output,
-            finding,
-        } => planned_early(alloc, search, finding, weights, problem, limit, output),
-        Command::PlanNear {
-            limit,
-            output,
-            within,
-            slack,
-        } => planned_near(alloc, problem, weights, slack, within, limit, output),
-        Command::CheckKnown => checked(alloc, true, problem, text),
-        Command::CheckWithin => checked_within(alloc, problem, text),
+        Command::Check => checked(alloc, ChosenPlanner::Plain, problem, text),
+        Command::PlanBy(options) => planned(alloc, search, options, script),
+        Command::CheckBy(planner) => checked(alloc, planner, problem, text),
         Command::Legal => judged_alone(alloc, problem, text),
     }
 }
@@ -265,29 +150,28 @@ pub fn engine_split<T: Threads + Sync, R: Read, W: Write>(
     engine_by(alloc, &team, command, reader, writer)
 }
 
-/// What [`engine_split`] does for a trace; each line names its request.
+/// What [`engine`] does for `PlanBy`, where the plain planner searches as [`engine_split`] does.
 ///
 /// # Errors
 /// As `engine`.
-pub fn engine_split_requests<T: Threads + Sync, R: Read, W: Write>(
+pub fn engine_split_by<T: Threads + Sync, R: Read, W: Write>(
     rt: &T,
     alloc: Global,
-    limit: u32,
+    options: PlanOptions,
     workers: usize,
     reader: &mut R,
     writer: &mut W,
 ) -> Result<u8, EngineFault>
-    requires some { 1 ≤ limit }
-    requires few { limit ≤ 1048576 }
+    requires some { 1 ≤ options.limit }
+    requires few { options.limit ≤ 1048576 }
     requires some_workers { 1 ≤ workers }
     requires few_workers { workers ≤ 8 }
-    ensures answer { IfOk result (λ status. AnswersBy PartsTell (Command.PlanRequests limit) (R.remaining reader.old) (W.contents writer.old) (W.contents writer.new) status) }
+    ensures answer { IfOk result (λ status. AnswersBy PartsTell (Command.PlanBy options) (R.remaining reader.old) (W.contents writer.old) (W.contents writer.new) status) }
     ensures unread { result ≡ Err EngineFault.Read → Keeps (W.contents writer.old) (W.contents writer.new) }
-    ensures unwritten { result ≡ Err EngineFault.Write → BeginsAnswerBy PartsTell (Command.PlanRequests limit) (R.remaining reader.old) (W.contents writer.old) (W.contents writer.new) }
+    ensures unwritten { result ≡ Err EngineFault.Write → BeginsAnswerBy PartsTell (Command.PlanBy options) (R.remaining reader.old) (W.contents writer.old) (W.contents writer.new) }
 {
     let team = Team { rt, workers };
-    let command = Command::PlanRequests { limit };
-    engine_by(alloc, &team, command, reader, writer)
+    engine_by(alloc, &team, Command::PlanBy(options), reader, writer)
 }
 
 /// Reads all that there is, and writes the answer to it, with this search, and nothing else.

@@ -1,3 +1,8 @@
+ghost use Rattle.std.specs.Prelude.{◌≡◌};
+ghost use Rattle.onfi_script.specs.Answer.{options_of};
+
+use onfi_planners::ChosenPlanner;
+
 /// What is printed of a plan.
 #[derive(Clone, Copy)]
 pub enum Output {
@@ -7,15 +12,32 @@ pub enum Output {
     Trace { requests: bool },
 }
 
-/// How a schedule is found that is then made better.
+/// How a problem is planned, and what is printed of the plan.
 #[derive(Clone, Copy)]
-pub enum Finding {
-    /// By the plain search.
-    Plain,
-    /// By the search that remembers states.
-    Remembering,
-    /// Likewise, the best that is found within the limit.
-    BestSoFar,
+pub struct PlanOptions {
+    /// What finds the plan; the plain planner is a search by as many workers as there are.
+    pub planner: ChosenPlanner,
+    /// Where it is to be made better: requests end sooner by the weights of the script, and the last phase may end later by so
+    /// many thousandths, 1,000 at most, of what lies between the time from when on the bus is free and the one before which
+    /// nothing ends.
+    pub better: Option<u16>,
+    /// How many nodes a search opens at most, 1 to 1,048,576.
+    pub limit: u32,
+    pub output: Output,
+}
+
+impl PlanOptions {
+    /// A plan of a planner as it is.
+    pub fn new(planner: ChosenPlanner, limit: u32, output: Output) -> PlanOptions
+        ensures { result ≡ options_of planner limit output }
+    {
+        PlanOptions {
+            planner,
+            better: None,
+            limit,
+            output,
+        }
+    }
 }
 
 /// What the program is asked to do with a script.
@@ -23,48 +45,14 @@ pub enum Finding {
 pub enum Command {
     /// Print an optimal schedule with its certificate, or in their place its trace where `trace` says so; the search opens
     /// at most `limit` nodes, 1 to 1,048,576.
-    Plan {
-        limit: u32,
-        trace: bool,
-    },
+    Plan { limit: u32, trace: bool },
     /// Say whether the plan text behind the script shows by its certificate that its schedule is optimal.
     Check,
-    /// Print the trace that `Plan` prints; each line names its request.
-    PlanRequests {
-        limit: u32,
-    },
-    /// As `Plan`, by a search that remembers states; its certificate does so too.
-    PlanKnown {
-        limit: u32,
-        output: Output,
-    },
-    /// Print the best schedule that is found within `limit` nodes, 1 to 1,048,576, by a search that remembers states, with a
-    /// certificate of a time before which nothing ends; or its trace in their place.
-    PlanWithin {
-        limit: u32,
-        output: Output,
-    },
-    /// As `Plan`, `PlanKnown` or `PlanWithin`, by how it is found; behind that the schedule is made better: requests end
-    /// sooner by the weights of the script, and the last phase no later.
-    PlanEarly {
-        limit: u32,
-        output: Output,
-        finding: Finding,
-    },
-    /// Likewise by a search that remembers states, which gives the best so far where `within` says so; and the last phase
-    /// may end later by `slack` thousandths, 1,000 at most, of what lies between the time from when on the bus is free and
-    /// the one before which nothing ends.
-    PlanNear {
-        limit: u32,
-        output: Output,
-        within: bool,
-        slack: u16,
-    },
-    /// As `Check`, by a certificate that remembers states.
-    CheckKnown,
-    /// Say whether the schedule of the plan text behind the script is legal, and its certificate, which remembers states,
-    /// shows that nothing ends before its finish, or before the time of a line `below`.
-    CheckWithin,
+    /// Print a plan by these options.
+    PlanBy(PlanOptions),
+    /// Say whether the plan text behind the script shows what plans of that planner do: as `Check`, by a certificate that
+    /// remembers states where the planner does. Of the best so far a line `below` may tell before which time nothing ends.
+    CheckBy(ChosenPlanner),
     /// Say whether the schedule of the plan text behind the script is legal, and when it ends. A certificate need not
     /// stand there, and isn't looked at; nor is the number behind `finish`, nor that of a line `below`.
     Legal,

@@ -1,13 +1,13 @@
 ghost use Rattle.std.specs.Prelude.{◌≡◌};
 ghost use Rattle.onfi_script.specs.declared.fault.RowStop.TheVariants.{Fault};
 ghost use Rattle.onfi_script.specs.Stop.{stop_at};
-ghost use Rattle.onfi_script.specs.Text.{name_of, page_name, geometry_name, sheet_name, problem_name, request_name};
+ghost use Rattle.onfi_script.specs.Text.{name_of, page_name, geometry_name, sheet_name, strobe_name, problem_name, request_name};
 
 use onfi_addr::GeometryFault;
 use onfi_param::PageFault;
 use onfi_problem::ProblemFault;
 use onfi_request::RequestFault;
-use onfi_timing::SheetFault;
+use onfi_timing::{SheetFault, StrobeFault};
 
 /// Why a script is refused.
 #[derive(Clone, Copy)]
@@ -34,6 +34,8 @@ pub enum ScriptFault {
     Geometry(GeometryFault),
     /// A timing sheet that gives no phase lengths.
     Sheet(SheetFault),
+    /// Strobes that give no phase lengths.
+    Strobe(StrobeFault),
     /// What the rows set up is no problem.
     Problem(ProblemFault),
     /// The device doesn't take an operation.
@@ -82,6 +84,21 @@ fn sheet_name(fault: SheetFault) -> &'static str
     }
 }
 
+fn strobe_name(fault: StrobeFault) -> &'static str
+    ensures { result.now ≡ strobe_name fault }
+{
+    match fault {
+        StrobeFault::Sheet(fault) => sheet_name(fault),
+        StrobeFault::Missing(_) => "Strobe Missing",
+        StrobeFault::Repeated(_) => "Strobe Repeated",
+        StrobeFault::Unknown(_) => "Strobe Unknown",
+        StrobeFault::NotANumber(_) => "Strobe NotANumber",
+        StrobeFault::ZeroCycle => "Strobe ZeroCycle",
+        StrobeFault::TooLong => "Strobe TooLong",
+        StrobeFault::Memory => "Strobe Memory",
+    }
+}
+
 fn problem_name(fault: ProblemFault) -> &'static str
     ensures { result.now ≡ problem_name fault }
 {
@@ -121,6 +138,7 @@ impl ScriptFault {
             ScriptFault::Page(fault) => page_name(fault),
             ScriptFault::Geometry(fault) => geometry_name(fault),
             ScriptFault::Sheet(fault) => sheet_name(fault),
+            ScriptFault::Strobe(fault) => strobe_name(fault),
             ScriptFault::Problem(fault) => problem_name(fault),
             ScriptFault::Request(fault) => request_name(fault),
             ScriptFault::NotHere => "NotHere",

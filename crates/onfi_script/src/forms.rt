@@ -2,7 +2,7 @@
 ghost use Rattle.std.specs.Prelude.{◌≡◌, IsTrue, IsSomeAnd, IfOk, MatchOption, MatchResult, option_map, Ok, Err, None, false};
 ghost use Rattle.std.specs.List.{list_any};
 ghost use Rattle.onfi_script.specs.Device as spec;
-ghost use Rattle.onfi_script.specs.Seen.{seen};
+ghost use Rattle.onfi_script.specs.Seen.{seen as spec_seen};
 ghost use Rattle.onfi_script.specs.Stop.{IfFault, Tells};
 ghost use Rattle.onfi_script.specs.Subject.{row_on as spec_row_on};
 
@@ -13,8 +13,8 @@ use crate::row::{Row, ShapeRow, Subject};
 use crate::row_name::Form;
 use crate::seen::Seen;
 use onfi_addr::Geometry;
-use onfi_param::read_page;
-use onfi_timing::{Kind, Sheet, Spans, Timing};
+use onfi_param::{ParamPage, read_page};
+use onfi_timing::{Kind, Sheet, Spans, StrobeFault, Strobes, Timing};
 use std::alloc::{AllocError, Global};
 
 /// The row that settles a subject.
@@ -104,9 +104,31 @@ pub fn page_bytes(alloc: Global, rows: &[Row]) -> Result<Vec<u8>, AllocError>
     Ok(bytes)
 }
 
-/// The chips that page and sheet tell of.
-fn described(bytes: &[u8], sheet: &Sheet) -> Result<PageDevice, ScriptFault>
-    ensures { spec.TellsPageDevice bytes.now sheet.now result }
+/// The phase lengths by page and sheet, and by strobes where there are any.
+fn timed(
+    page: &ParamPage,
+    geometry: &Geometry,
+    sheet: &Sheet,
+    strobes: Option<Strobes>,
+) -> Result<Timing, StrobeFault>
+    ensures { MatchResult result (spec.IsTimed page.now geometry.now sheet.now strobes) (spec.IsUntimed sheet.now strobes) }
+{
+    match strobes {
+        Some(strobes) => Timing::of_strobes(page, geometry, sheet, &strobes),
+        None => match Timing::of(page, geometry, sheet) {
+            Ok(timing) => Ok(timing),
+            Err(fault) => Err(StrobeFault::Sheet(fault)),
+        },
+    }
+}
+
+/// The chips that page, sheet and strobes tell of.
+fn described(
+    bytes: &[u8],
+    sheet: &Sheet,
+    strobes: Option<Strobes>,
+) -> Result<PageDevice, ScriptFault>
+    ensures { spec.TellsPageDevice bytes.now sheet.now strobes result }
 {
     let page = match read_page(bytes) {
         Ok(page) => page,
@@ -116,16 +138,16 @@ fn described(bytes: &[u8], sheet: &Sheet) -> Result<PageDevice, ScriptFault>
         Ok(geometry) => geometry,
         Err(fault) => return Err(ScriptFault::Geometry(fault)),
     };
-    let timing = match Timing::of(&page, &geometry, sheet) {
-        Ok(timing) => timing,
-        Err(fault) => return Err(ScriptFault::Sheet(fault)),
-    };
-    Ok(PageDevice { geometry, timing })
+    match timed(&page, &geometry, sheet, strobes) {
+        Ok(timing) => Ok(PageDevice { geometry, timing }),
+        Err(StrobeFault::Sheet(fault)) => Err(ScriptFault::Sheet(fault)),
+        Err(fault) => Err(ScriptFault::Strobe(fault)),
+    }
 }
 
-/// The chips that page and sheet of rows with this sheet tell of.
-fn paged_chips(alloc: Global, rows: &[Row], sheet: &Sheet) -> Result<PageDevice, RowStop>
-    requires { sheet.now ≡ (seen rows.now).sheet }
+/// The chips that page, sheet and strobes of rows tell of, which show this.
+fn paged_chips(alloc: Global, rows: &[Row], seen: &Seen) -> Result<PageDevice, RowStop>
+    requires { seen.now ≡ spec_seen rows.now }
     ensures { Tells IfFault (λ device. device) result (spec.TellsPaged rows.now) }
 {
     if !has_page(rows) {
@@ -134,7 +156,7 @@ fn paged_chips(alloc: Global, rows: &[Row], sheet: &Sheet) -> Result<PageDevice,
     let Ok(bytes) = page_bytes(alloc, rows) else {
         return Err(RowStop::Memory);
     };
-    let device = described(bytes.as_slice(), sheet)?;
+    let device = described(bytes.as_slice(), &seen.sheet, seen.strobes)?;
     Ok(device)
 }
 
@@ -161,23 +183,23 @@ fn spanned_chips(rows: &[Row]) -> Result<PageDevice, ScriptFault>
 ///
 /// # Errors
 /// `Missing` where no row has bytes of a page, and where the first form lacks its shape, its geometry or lengths of a kind;
-/// else what is wrong with page, geometry or sheet; want of memory.
+/// else what is wrong with page, geometry, sheet or strobes; want of memory.
 pub fn page_device(alloc: Global, rows: &[Row]) -> Result<PageDevice, RowStop>
     ensures { MatchResult result (λ device. spec.TellsChips rows.now (Ok device)) (λ stop. IfFault stop (λ fault. spec.TellsChips rows.now (Err fault))) }
 {
     let seen = Seen::of(rows);
     match seen.form {
         Some(Form::First) => Ok(spanned_chips(rows)?),
-        None | Some(Form::Second) => paged_chips(alloc, rows, &seen.sheet),
+        None | Some(Form::Second) => paged_chips(alloc, rows, &seen),
     }
 }
 
 /// The device of a script of the second form.
-fn second_form(alloc: Global, rows: &[Row], sheet: &Sheet) -> Result<Device, RowStop>
-    requires { sheet.now ≡ (seen rows.now).sheet }
+fn second_form(alloc: Global, rows: &[Row], seen: &Seen) -> Result<Device, RowStop>
+    requires { seen.now ≡ spec_seen rows.now }
     ensures { Tells IfFault (λ device. device) result (spec.TellsSecond rows.now) }
 {
-    let PageDevice { geometry, timing } = paged_chips(alloc, rows, sheet)?;
+    let PageDevice { geometry, timing } = paged_chips(alloc, rows, seen)?;
     Ok(Device {
         luns: geometry.lun_count,
         plane_bits: geometry.plane_address_bits,
@@ -195,6 +217,6 @@ pub fn device_of(alloc: Global, rows: &[Row]) -> Result<Device, RowStop>
     match seen.form {
         None => Err(RowStop::Fault(ScriptFault::Missing)),
         Some(Form::First) => Ok(first_form(rows)?),
-        Some(Form::Second) => second_form(alloc, rows, &seen.sheet),
+        Some(Form::Second) => second_form(alloc, rows, &seen),
     }
 }

@@ -1,20 +1,21 @@
 //! From the bytes of an input to the bytes of its answer: what a script sets up is planned, or a plan of it is checked.
 //!
-//! [`engine`] carries out a [`Command`] on an input, [`engine_split`] plans by several workers, [`engine_split_requests`]
-//! likewise for a trace that names requests.
+//! [`engine`] carries out a [`Command`] on an input, [`engine_split`] plans by several workers, [`engine_split_by`] likewise
+//! by other options.
 #![tactic(auto)]
 
 mod alone;
 mod answering;
 mod arrays_told;
+mod checking;
 mod choosing;
 mod command;
 mod count;
 mod device;
-mod early;
 mod fault;
 mod field;
 mod forms;
+mod found;
 mod laws;
 mod layout;
 mod operation;
@@ -24,7 +25,6 @@ mod plan_text;
 mod plan_within;
 mod purpose;
 mod reading;
-mod remembered;
 mod row;
 mod row_name;
 mod rows;
@@ -34,23 +34,21 @@ mod search;
 mod seen;
 mod setup;
 mod text;
-mod traced;
 mod transfer;
 mod weights;
-mod within;
 
-pub use answering::{engine, engine_split, engine_split_requests};
+pub use answering::{engine, engine_split, engine_split_by};
 pub use choosing::Choosing;
-pub use command::{Command, Finding, Output};
+pub use command::{Command, Output, PlanOptions};
 pub use count::{Batch, Capacity, Few};
 pub use device::{Device, PageDevice};
-pub use early::near_within;
 pub use fault::{Refusal, RowStop, ScriptFault, Stop};
 pub use field::number;
 pub use forms::{device_of, has_page, page_bytes, page_device, row_on};
+pub use found::{Found, best_within};
 pub use laws::{strangers_are_illegal, text_is_read_back};
 pub use operation::{Aim, Content, Operation};
-pub use plan_text::{Plan, PlanStop, read_plan};
+pub use plan_text::{Plan, read_plan};
 pub use plan_within::{PlanWithin, read_plan_within};
 pub use purpose::Purpose;
 pub use reading::read_rows;

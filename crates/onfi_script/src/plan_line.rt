@@ -13,7 +13,7 @@ use smallvec::SmallVec;
 use std::alloc::Global;
 
 /// A line `rest`: the starts, in ns, of what is left of a LUN's running group.
-#[derive(Drop)]
+#[derive(Default, Drop)]
 pub struct RestLine {
     /// The number of the LUN, which need not be there.
     pub lun: u64,
@@ -59,12 +59,12 @@ fn with_last(mut numbers: Starts, last: &[u8]) -> Option<Starts>
 
 /// One number to `most` with such a byte between each two; kept as starts are, in room for eight.
 #[tactic(auto, using(crate::proofs::NumbersLemmas::read_over))]
-fn numbers(alloc: Global, text: &[u8], byte: u8, most: u8) -> Option<Starts>
+fn numbers(text: &[u8], byte: u8, most: u8) -> Option<Starts>
     requires { most ≤ 8 }
     ensures value { result ≡ spec.numbers most (parts byte text.now) }
     ensures count { IfSome result (λ ns. (1 ≤ length ns) × (length ns ≤ most)) }
 {
-    let mut numbers = Starts::new(alloc);
+    let mut numbers = Starts::new();
     let mut left = text;
     for _at in 0..most {
         let Some((word, behind)) = cut(left, byte) else {
@@ -114,12 +114,12 @@ fn members(alloc: Global, wants: &[Want], ids: &[u64]) -> Group
 }
 
 /// `LUN START ..`
-fn rest_of(alloc: Global, words: &[u8]) -> Option<Line>
+fn rest_of(words: &[u8]) -> Option<Line>
     ensures { result ≡ spec.rest_of (parts 32 words.now) }
 {
     let (lun, starts) = cut(words, b' ')?;
     let lun = number(lun)?;
-    let starts = numbers(alloc, starts, b' ', 8)?;
+    let starts = numbers(starts, b' ', 8)?;
     Some(Line::Rest(RestLine { lun, starts }))
 }
 
@@ -128,8 +128,8 @@ fn group_of(alloc: Global, wants: &[Want], words: &[u8]) -> Option<Line>
     ensures { result ≡ spec.group_of wants.now (parts 32 words.now) }
 {
     let (ids, starts) = cut(words, b' ')?;
-    let ids = numbers(alloc, ids, b'+', 4)?;
-    let starts = numbers(alloc, starts, b' ', 8)?;
+    let ids = numbers(ids, b'+', 4)?;
+    let starts = numbers(starts, b' ', 8)?;
     let members = members(alloc, wants, ids.as_slice());
     Some(Line::Group(Placed::new(members, starts)))
 }
@@ -141,7 +141,7 @@ pub fn line_of(alloc: Global, wants: &[Want], line: &[u8]) -> Option<Line>
 {
     let (name, words) = cut(line, b' ')?;
     if is_word(name, "rest") {
-        rest_of(alloc, words)
+        rest_of(words)
     } else if is_word(name, "group") {
         group_of(alloc, wants, words)
     } else {

@@ -1,25 +1,24 @@
 //! Plan texts: a schedule, its finish, and the text of a certificate behind them.
-ghost use Rattle.std.specs.Prelude.{◌≡◌, ◌==◌, ◌≤◌, find, option_map, IfOk, IfErr, OnOk, IsTrue, MatchResult, Ok, Err, Some, None};
+ghost use Rattle.std.specs.Prelude.{◌≡◌, ◌==◌, ◌≤◌, find, option_map, IfErr, OnOk, IsTrue, MatchResult, Ok, Err, Some, None, length};
 ghost use Rattle.onfi_script.specs.Parts.{parts};
 ghost use Rattle.onfi_script.specs.PlanLine.{line_of};
 ghost use Rattle.onfi_script.specs.PlanText as spec;
-ghost use Rattle.onfi_script.specs.Stop.{Gives};
-ghost use Rattle.onfi_script.specs.Wrong.{IfWrong};
 
 use crate::field::is_word;
 use crate::parts::cut;
 use crate::plan_line::{Line, RestLine, finish_of, line_of};
+use arrayvec::ArrayVec;
 use onfi_request::Want;
 use onfi_schedule::{Placed, Schedule, Starts};
-use std::alloc::{AllocError, Global};
+use std::alloc::Global;
 use std::marker::Model;
 
 /// What the lines of a plan text say.
 #[derive(Drop)]
 pub struct Plan {
     finish: u64,
-    rest: Vec<RestLine>,
-    groups: Vec<Placed>,
+    rest: ArrayVec<RestLine, 8>,
+    groups: ArrayVec<Placed, 8, Global>,
 }
 
 impl Model for Plan {
@@ -33,15 +32,6 @@ impl Model for Plan {
     ghost invariant = { λ p. (length p.rest.items ≤ 8) × (length p.groups.items ≤ 8) };
 }
 
-/// What stands in the way of reading a plan text.
-#[derive(Clone, Copy)]
-pub enum PlanStop {
-    /// This line, counted from 1, is the first wrong one.
-    Wrong(u64),
-    /// A growth was refused.
-    Memory,
-}
-
 impl Plan {
     /// A plan of which only the finish is known, in ns.
     fn new(alloc: Global, finish: u64) -> Plan
@@ -49,8 +39,8 @@ impl Plan {
     {
         Plan {
             finish,
-            rest: Vec::new(alloc),
-            groups: Vec::new(alloc),
+            rest: ArrayVec::new(),
+            groups: ArrayVec::new_in(alloc),
         }
     }
 
@@ -89,41 +79,41 @@ impl Plan {
     }
 
     /// Puts a line behind the others.
-    fn put(&mut self, line: Line) -> Result<(), AllocError>
+    fn put(&mut self, line: Line)
         requires { IsTrue (spec.takes self.old line) }
-        ensures { OnOk result (self.new ≡ spec.with_line self.old line) }
+        ensures { self.new ≡ spec.with_line self.old line }
     {
         match line {
-            Line::Rest(line) => self.rest.push(line)?,
-            Line::Group(group) => self.groups.push(group)?,
+            Line::Rest(line) => self.rest.push(line),
+            Line::Group(group) => self.groups.push(group),
         }
-        Ok(())
     }
 
     /// Reads the line that comes next, and puts it behind the others.
     ///
     /// # Errors
-    /// `Wrong` where it is not of its form or may not come next; `Memory` where a growth was refused.
-    fn read_line(&mut self, alloc: Global, wants: &[Want], line: &[u8]) -> Result<(), PlanStop>
+    /// Its number where it is not of its form or may not come next.
+    fn read_line(&mut self, alloc: Global, wants: &[Want], line: &[u8]) -> Result<(), u64>
         ensures read { OnOk result (spec.grown self.old (line_of wants.now line.now) ≡ Some self.new) }
-        ensures wrong { IfErr result (λ stop. IfWrong stop (λ number. (spec.grown self.old (line_of wants.now line.now) ≡ None) × (number ≡ spec.next_number self.old))) }
-        ensures few { IfErr result (λ stop. IfWrong stop (λ number. number ≤ 19)) }
+        ensures wrong { IfErr result (λ number. (spec.grown self.old (line_of wants.now line.now) ≡ None) × (number ≡ spec.next_number self.old)) }
+        ensures few { IfErr result (λ number. number ≤ 19) }
     {
         match line_of(alloc, wants, line) {
-            Some(line) if self.takes(&line) => match self.put(line) {
-                Ok(()) => Ok(()),
-                Err(AllocError) => Err(PlanStop::Memory),
-            },
-            _ => Err(PlanStop::Wrong(self.next_number())),
+            Some(line) if self.takes(&line) => {
+                self.put(line);
+                Ok(())
+            }
+            _ => Err(self.next_number()),
         }
     }
 
     /// The schedule that the plan says of a problem with so many LUNs.
-    pub fn schedule(self, alloc: Global, luns: usize) -> Result<Schedule, AllocError>
-        ensures { IfOk result (λ s. s ≡ spec.schedule_on luns self) }
+    pub fn schedule(self, luns: usize) -> Schedule
+        requires { luns ≤ 8 }
+        ensures { result ≡ spec.schedule_on luns self }
     {
-        let rest = rest_on(alloc, self.rest.as_slice(), luns)?;
-        Ok(Schedule::new(rest, self.groups))
+        let rest = rest_on(self.rest.as_slice(), luns);
+        Schedule::new(rest, self.groups)
     }
 }
 
@@ -135,25 +125,27 @@ fn line_on(lines: &[RestLine], lun: u64) -> Option<&RestLine>
 }
 
 /// The starts of a LUN's line, none where there is no such line.
-fn starts_on(alloc: Global, lines: &[RestLine], lun: u64) -> Starts
+fn starts_on(lines: &[RestLine], lun: u64) -> Starts
     ensures { result ≡ spec.starts_on lines.now lun }
 {
     match line_on(lines, lun) {
         Some(line) => line.starts.copy(),
-        None => Starts::new(alloc),
+        None => Starts::new(),
     }
 }
 
 /// The starts of each LUN.
 #[tactic(auto, unfolding(crate::specs::PlanText::rests))]
-fn rests(alloc: Global, lines: &[RestLine], luns: usize) -> Result<Vec<Starts>, AllocError>
-    ensures { IfOk result (λ v. v.items ≡ spec.rests lines.now luns) }
+fn rests(lines: &[RestLine], luns: usize) -> ArrayVec<Starts, 9>
+    requires { luns ≤ 8 }
+    ensures value { result.items ≡ spec.rests lines.now luns }
+    ensures count { length result.items ≡ luns }
 {
-    let mut rests = Vec::new(alloc);
+    let mut rests = ArrayVec::new();
     for lun in 0..luns {
-        rests.push(starts_on(alloc, lines, lun as u64))?;
+        rests.push(starts_on(lines, lun as u64));
     }
-    Ok(rests)
+    rests
 }
 
 /// Whether a line tells of a LUN that isn't there.
@@ -164,14 +156,15 @@ fn names_absent(lines: &[RestLine], luns: usize) -> bool
 }
 
 /// The starts of each LUN, and a place more where a line tells of a LUN that isn't there.
-fn rest_on(alloc: Global, lines: &[RestLine], luns: usize) -> Result<Vec<Starts>, AllocError>
-    ensures { IfOk result (λ v. v.items ≡ spec.rest_on luns lines.now) }
+fn rest_on(lines: &[RestLine], luns: usize) -> ArrayVec<Starts, 9>
+    requires { luns ≤ 8 }
+    ensures { result.items ≡ spec.rest_on luns lines.now }
 {
-    let mut rest = rests(alloc, lines, luns)?;
+    let mut rest = rests(lines, luns);
     if names_absent(lines, luns) {
-        rest.push(Starts::new(alloc))?;
+        rest.push(Starts::new());
     }
-    Ok(rest)
+    rest
 }
 
 /// Whether the line begins the text of a certificate.
@@ -200,16 +193,17 @@ pub fn opening(text: &[u8]) -> Result<(u64, &[u8]), u64>
     }
 }
 
-/// The plan of that finish, in ns, with the lines that stand in a text up to its certificate, and the text of that.
+/// The plan of that finish, in ns, with the lines that stand in a text up to its certificate, and the text of that; or which
+/// line is wrong.
 #[tactic(auto, using(crate::proofs::PlanLemmas::read_wrong, crate::proofs::PlanLemmas::text_ended))]
 pub fn read_lines<'a>(
     alloc: Global,
     wants: &[Want],
     finish: u64,
     text: &'a [u8],
-) -> Result<(Plan, &'a [u8]), PlanStop>
-    ensures read { Gives IfWrong (λ r. (r.0, r.1.now)) result (spec.lines_of wants.now finish (parts 10 text.now)) }
-    ensures few { IfErr result (λ stop. IfWrong stop (λ number. number ≤ 19)) }
+) -> Result<(Plan, &'a [u8]), u64>
+    ensures read { MatchResult result (λ r. spec.lines_of wants.now finish (parts 10 text.now) ≡ Ok (r.0, r.1.now)) (λ number. spec.lines_of wants.now finish (parts 10 text.now) ≡ Err number) }
+    ensures few { IfErr result (λ number. number ≤ 19) }
 {
     let mut left = text;
     let mut plan = Plan::new(alloc, finish);
@@ -217,28 +211,22 @@ pub fn read_lines<'a>(
         if is_certificate(line) {
             return Ok((plan, left));
         }
-        if let Err(stop) = plan.read_line(alloc, wants, line) {
-            return Err(stop);
+        if let Err(number) = plan.read_line(alloc, wants, line) {
+            return Err(number);
         }
         left = behind;
     }
-    Err(PlanStop::Wrong(plan.next_number()))
+    Err(plan.next_number())
 }
 
 /// What a plan text says of these wants, and the text of its certificate.
 ///
 /// # Errors
-/// `Wrong` with the first line that is wrong: not of its form, a `rest` whose LUN doesn't rise or that stands behind a
-/// `group`, the ninth of either, or the one that is missing where the text ends; `Memory` where a growth was refused.
-pub fn read_plan<'a>(
-    alloc: Global,
-    wants: &[Want],
-    text: &'a [u8],
-) -> Result<(Plan, &'a [u8]), PlanStop>
-    ensures { MatchResult result (λ r. spec.plan_of wants.now text.now ≡ Ok (r.0, r.1.now)) (λ stop. IfWrong stop (λ number. spec.plan_of wants.now text.now ≡ Err number)) }
+/// The first line that is wrong, counted from 1: not of its form, a `rest` whose LUN doesn't rise or that stands behind a
+/// `group`, the ninth of either, or the one that is missing where the text ends.
+pub fn read_plan<'a>(alloc: Global, wants: &[Want], text: &'a [u8]) -> Result<(Plan, &'a [u8]), u64>
+    ensures { MatchResult result (λ r. spec.plan_of wants.now text.now ≡ Ok (r.0, r.1.now)) (λ number. spec.plan_of wants.now text.now ≡ Err number) }
 {
-    match opening(text) {
-        Ok((finish, behind)) => read_lines(alloc, wants, finish, behind),
-        Err(number) => Err(PlanStop::Wrong(number)),
-    }
+    let (finish, behind) = opening(text)?;
+    read_lines(alloc, wants, finish, behind)
 }

@@ -2,12 +2,10 @@
 ghost use Rattle.std.specs.Prelude.{◌≡◌, MatchOption, MatchResult, Ok, Err, Some, None};
 ghost use Rattle.onfi_script.specs.Parts.{parts};
 ghost use Rattle.onfi_script.specs.PlanText as spec;
-ghost use Rattle.onfi_script.specs.Stop.{Gives};
-ghost use Rattle.onfi_script.specs.Wrong.{IfWrong};
 
 use crate::parts::cut;
 use crate::plan_line::below_of;
-use crate::plan_text::{Plan, PlanStop, opening, read_lines};
+use crate::plan_text::{Plan, opening, read_lines};
 use onfi_request::Want;
 use std::alloc::Global;
 
@@ -37,8 +35,9 @@ fn read_below<'a>(
     finish: u64,
     below: u64,
     text: &'a [u8],
-) -> Result<PlanWithin<'a>, PlanStop>
-    ensures { Gives IfWrong (λ r. (r.plan, r.below, r.certificate.now)) result (spec.behind_below below (spec.lines_of wants.now finish (parts 10 text.now))) }
+) -> Result<PlanWithin<'a>, u64>
+    ensures { let said = spec.behind_below below (spec.lines_of wants.now finish (parts 10 text.now)) in
+        MatchResult result (λ r. said ≡ Ok (r.plan, r.below, r.certificate.now)) (λ number. said ≡ Err number) }
 {
     match read_lines(alloc, wants, finish, text) {
         Ok((plan, certificate)) => Ok(PlanWithin {
@@ -46,8 +45,7 @@ fn read_below<'a>(
             below,
             certificate,
         }),
-        Err(PlanStop::Wrong(number)) => Err(PlanStop::Wrong(number + 1)),
-        Err(PlanStop::Memory) => Err(PlanStop::Memory),
+        Err(number) => Err(number + 1),
     }
 }
 
@@ -57,8 +55,9 @@ fn read_optimal<'a>(
     wants: &[Want],
     finish: u64,
     text: &'a [u8],
-) -> Result<PlanWithin<'a>, PlanStop>
-    ensures { Gives IfWrong (λ r. (r.plan, r.below, r.certificate.now)) result (spec.without_below finish (spec.lines_of wants.now finish (parts 10 text.now))) }
+) -> Result<PlanWithin<'a>, u64>
+    ensures { let said = spec.without_below finish (spec.lines_of wants.now finish (parts 10 text.now)) in
+        MatchResult result (λ r. said ≡ Ok (r.plan, r.below, r.certificate.now)) (λ number. said ≡ Err number) }
 {
     let (plan, certificate) = read_lines(alloc, wants, finish, text)?;
     Ok(PlanWithin {
@@ -72,19 +71,15 @@ fn read_optimal<'a>(
 /// `below N` may stand behind the finish.
 ///
 /// # Errors
-/// `Wrong` with the first line that is wrong, as [`read_plan`](crate::read_plan) tells it; `Memory` where a growth was
-/// refused.
+/// The first line that is wrong, as [`read_plan`](crate::read_plan) tells it.
 pub fn read_plan_within<'a>(
     alloc: Global,
     wants: &[Want],
     text: &'a [u8],
-) -> Result<PlanWithin<'a>, PlanStop>
-    ensures { MatchResult result (λ r. spec.plan_within_of wants.now text.now ≡ Ok (r.plan, r.below, r.certificate.now)) (λ stop. IfWrong stop (λ number. spec.plan_within_of wants.now text.now ≡ Err number)) }
+) -> Result<PlanWithin<'a>, u64>
+    ensures { MatchResult result (λ r. spec.plan_within_of wants.now text.now ≡ Ok (r.plan, r.below, r.certificate.now)) (λ number. spec.plan_within_of wants.now text.now ≡ Err number) }
 {
-    let (finish, behind) = match opening(text) {
-        Ok(opened) => opened,
-        Err(number) => return Err(PlanStop::Wrong(number)),
-    };
+    let (finish, behind) = opening(text)?;
     match below_first(behind) {
         Some((below, rest)) => read_below(alloc, wants, finish, below, rest),
         None => read_optimal(alloc, wants, finish, behind),

@@ -3,7 +3,7 @@ ghost use Rattle.std.specs.Prelude.{◌≡◌, ◌<◌, ◌≤◌, length, drop,
 ghost use Rattle.csv.specs.Records.{fields_of};
 ghost use Rattle.onfi_timing.specs.Lengths.{AreLengths};
 ghost use Rattle.onfi_script.specs.Row as spec;
-ghost use Rattle.onfi_script.specs.Seen.{form_in, moment_in, sheet_in};
+ghost use Rattle.onfi_script.specs.Seen.{form_in, moment_in, sheet_in, strobes_in};
 ghost use Rattle.onfi_script.specs.Stop.{Gives, IfFault};
 ghost use Rattle.onfi_script.specs.Device.{HasLengths, bytes_in, is_page};
 ghost use Rattle.onfi_script.specs.Setup.{names_absent, want_in, members, plane_of as spec_plane_of};
@@ -21,7 +21,7 @@ use csv::ByteRecord;
 use onfi_group::Group;
 use onfi_problem::LunState;
 use onfi_request::{Fault, Want};
-use onfi_timing::{Kind, Sheet, Spans};
+use onfi_timing::{Kind, Sheet, Spans, Strobes};
 use smallvec::SmallVec;
 use std::alloc::Global;
 use std::marker::Model;
@@ -143,6 +143,8 @@ pub enum Row {
     Page(PageRow),
     /// The timing sheet with this row and the rows before it.
     Sheet(Sheet),
+    /// The strobes with this row and the rows before it.
+    Strobe(Strobes),
     Bus {
         bus_free: u64,
     },
@@ -242,14 +244,14 @@ pub enum Subject {
 }
 
 impl Row {
-    /// What the row settles; wants, bytes of a page and values of a sheet settle nothing here.
+    /// What the row settles; wants, bytes of a page and values of a sheet or of strobes settle nothing here.
     pub fn subject(&self) -> Option<Subject>
         ensures { result ≡ subject_of self.now }
     {
         match self {
             Row::Shape(_) => Some(Subject::Shape),
             Row::Spans(row) => Some(Subject::Spans(row.kind())),
-            Row::Page(_) | Row::Sheet(_) => None,
+            Row::Page(_) | Row::Sheet(_) | Row::Strobe(_) => None,
             Row::Bus { .. } => Some(Subject::Bus),
             Row::Free { lun, .. } => Some(Subject::Lun(*lun)),
             Row::Running(row) => Some(Subject::Lun(row.lun())),
@@ -304,7 +306,7 @@ impl Row {
     {
         match self {
             Row::Shape(_) | Row::Spans(_) | Row::Geometry(_) => Some(Form::First),
-            Row::Page(_) | Row::Sheet(_) => Some(Form::Second),
+            Row::Page(_) | Row::Sheet(_) | Row::Strobe(_) => Some(Form::Second),
             _ => None,
         }
     }
@@ -315,6 +317,16 @@ impl Row {
     {
         match self {
             Row::Sheet(sheet) => Some(*sheet),
+            _ => None,
+        }
+    }
+
+    /// The strobes of a row of them.
+    pub fn strobes(&self) -> Option<Strobes>
+        ensures { result ≡ strobes_in self.now }
+    {
+        match self {
+            Row::Strobe(strobes) => Some(*strobes),
             _ => None,
         }
     }
@@ -551,6 +563,21 @@ pub fn sheet_row(sheet: &Sheet, number: usize, row: &ByteRecord) -> Result<Row, 
     match sheet.put(number, field(row, 1), field(row, 2)) {
         Ok(()) => Ok(Row::Sheet(sheet)),
         Err(fault) => Err(ScriptFault::Sheet(fault)),
+    }
+}
+
+/// `strobe,NAME,PS`, behind rows that made these strobes, where there were any.
+pub fn strobe_row(
+    strobes: Option<Strobes>,
+    number: usize,
+    row: &ByteRecord,
+) -> Result<Row, ScriptFault>
+    ensures { result ≡ spec.strobe_row strobes number (fields_of row.now) }
+{
+    let mut strobes = strobes.unwrap_or(Strobes::new());
+    match strobes.put(number, field(row, 1), field(row, 2)) {
+        Ok(()) => Ok(Row::Strobe(strobes)),
+        Err(fault) => Err(ScriptFault::Strobe(fault)),
     }
 }
 

@@ -13,6 +13,7 @@ pub enum RowName {
     Spans,
     Page,
     Sheet,
+    Strobe,
     Bus,
     Free,
     Running,
@@ -39,7 +40,7 @@ pub enum RowName {
 pub enum Form {
     /// Phase lengths stand in the script.
     First,
-    /// They come from a parameter page and a timing sheet.
+    /// They come from a parameter page and a timing sheet, and from strobes where there are any.
     Second,
 }
 
@@ -68,6 +69,8 @@ impl RowName {
             Some(RowName::Page)
         } else if is_word(text, "sheet") {
             Some(RowName::Sheet)
+        } else if is_word(text, "strobe") {
+            Some(RowName::Strobe)
         } else if is_word(text, "bus") {
             Some(RowName::Bus)
         } else if is_word(text, "free") {
@@ -136,7 +139,12 @@ impl RowName {
     {
         matches!(
             self,
-            RowName::Shape | RowName::Spans | RowName::Page | RowName::Sheet | RowName::Strict
+            RowName::Shape
+                | RowName::Spans
+                | RowName::Page
+                | RowName::Sheet
+                | RowName::Strobe
+                | RowName::Strict
         )
     }
 
@@ -164,7 +172,7 @@ impl RowName {
     {
         match self {
             RowName::Shape | RowName::Spans | RowName::Geometry => Some(Form::First),
-            RowName::Page | RowName::Sheet => Some(Form::Second),
+            RowName::Page | RowName::Sheet | RowName::Strobe => Some(Form::Second),
             _ => None,
         }
     }
@@ -216,6 +224,7 @@ impl RowName {
             | RowName::PostCap
             | RowName::At => count == 2,
             RowName::Sheet
+            | RowName::Strobe
             | RowName::Free
             | RowName::Weight
             | RowName::ChipFail

@@ -15,7 +15,7 @@ use crate::layout::geometry_row;
 use crate::purpose::Purpose;
 use crate::row::{
     Row, Subject, bus_row, free_row, page_row, running_row, shape_row, sheet_row, spans_row,
-    strict_row, want_row, weight_row,
+    strict_row, strobe_row, want_row, weight_row,
 };
 use crate::row_name::RowName;
 use crate::run_row::{
@@ -42,6 +42,7 @@ fn said(
         RowName::Spans => Ok(spans_row(fields)?),
         RowName::Page => page_row(alloc, fields),
         RowName::Sheet => Ok(sheet_row(&seen.sheet, number, fields)?),
+        RowName::Strobe => Ok(strobe_row(seen.strobes, number, fields)?),
         RowName::Bus => Ok(bus_row(fields)?),
         RowName::Free => Ok(free_row(fields)?),
         RowName::Running => Ok(running_row(alloc, fields)?),

@@ -3,7 +3,7 @@ ghost use Rattle.onfi_script.specs.Seen as spec;
 
 use crate::row::Row;
 use crate::row_name::Form;
-use onfi_timing::Sheet;
+use onfi_timing::{Sheet, Strobes};
 
 /// The most operations of a script.
 const MOST_OPS: u16 = 10_000;
@@ -14,6 +14,8 @@ pub struct Seen {
     /// The form of the script, where a row told it.
     pub form: Option<Form>,
     pub sheet: Sheet,
+    /// The strobes, where a row told of any.
+    pub strobes: Option<Strobes>,
     /// How many operations may come.
     pub ops_left: u16,
     /// When the operations arrive that come next, in ns.
@@ -28,6 +30,7 @@ impl Seen {
         Seen {
             form: None,
             sheet: Sheet::new(),
+            strobes: None,
             ops_left: MOST_OPS,
             moment: 0,
         }
@@ -40,6 +43,7 @@ impl Seen {
         Seen {
             form: self.form.or(row.form()),
             sheet: row.sheet().unwrap_or(self.sheet),
+            strobes: row.strobes().or(self.strobes),
             ops_left: if row.is_op() {
                 self.ops_left.saturating_sub(1)
             } else {

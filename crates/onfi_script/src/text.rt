@@ -270,19 +270,6 @@ fn put_rests(alloc: Global, text: &mut String, rest: &[Starts]) -> Result<(), Al
     Ok(())
 }
 
-/// The lines of a schedule that ends at `finish`, in ns.
-fn schedule_text(alloc: Global, schedule: &Schedule, finish: u64) -> Result<String, AllocError>
-    ensures { IfOk result (λ t. string_bytes t ≡ spec.schedule_text schedule.now finish) }
-{
-    let mut text = String::new(alloc);
-    text.push_str("ONFIPLAN 1\n")?;
-    put_number(alloc, &mut text, "finish ", finish)?;
-    text.push_str("\n")?;
-    put_rests(alloc, &mut text, schedule.rest())?;
-    put_groups(alloc, &mut text, schedule.groups())?;
-    Ok(text)
-}
-
 /// Puts a line of the time before which nothing ends, in ns, behind a text, where that isn't the finish.
 fn put_below(alloc: Global, text: &mut String, finish: u64, below: u64) -> Result<(), AllocError>
     ensures { OnOk result (string_bytes text.new ≡ string_bytes text.old ++ spec.below_line finish below) }
@@ -295,49 +282,35 @@ fn put_below(alloc: Global, text: &mut String, finish: u64, below: u64) -> Resul
 }
 
 /// The lines of a schedule that ends at `finish` where nothing ends before `below`, both in ns.
-fn schedule_within(
+fn schedule_text(
     alloc: Global,
     schedule: &Schedule,
     finish: u64,
     below: u64,
 ) -> Result<String, AllocError>
-    ensures { IfOk result (λ t. string_bytes t ≡ spec.schedule_within schedule.now finish below) }
+    ensures { IfOk result (λ t. string_bytes t ≡ spec.schedule_text schedule.now finish below) }
 {
-    let mut lines = String::new(alloc);
-    lines.push_str("ONFIPLAN 1\n")?;
-    put_number(alloc, &mut lines, "finish ", finish)?;
-    lines.push_str("\n")?;
-    put_below(alloc, &mut lines, finish, below)?;
-    put_rests(alloc, &mut lines, schedule.rest())?;
-    put_groups(alloc, &mut lines, schedule.groups())?;
-    Ok(lines)
+    let mut text = String::new(alloc);
+    text.push_str("ONFIPLAN 1\n")?;
+    put_number(alloc, &mut text, "finish ", finish)?;
+    text.push_str("\n")?;
+    put_below(alloc, &mut text, finish, below)?;
+    put_rests(alloc, &mut text, schedule.rest())?;
+    put_groups(alloc, &mut text, schedule.groups())?;
+    Ok(text)
 }
 
 /// .. with the text of its certificate behind them.
-pub fn within_text(
+pub fn plan_text(
     alloc: Global,
     schedule: &Schedule,
     finish: u64,
     below: u64,
     certificate: &[u8],
 ) -> Result<Vec<u8>, AllocError>
-    ensures { IfOk result (λ text. text.items ≡ spec.schedule_within schedule.now finish below ++ certificate.now) }
+    ensures { IfOk result (λ text. text.items ≡ spec.schedule_text schedule.now finish below ++ certificate.now) }
 {
-    let mut text = schedule_within(alloc, schedule, finish, below)?.into_bytes();
-    text.extend_from_slice(certificate)?;
-    Ok(text)
-}
-
-/// The text of a schedule that ends at `finish`, in ns, with the text of its certificate behind it.
-pub fn plan_text(
-    alloc: Global,
-    schedule: &Schedule,
-    finish: u64,
-    certificate: &[u8],
-) -> Result<Vec<u8>, AllocError>
-    ensures { IfOk result (λ text. text.items ≡ spec.schedule_text schedule.now finish ++ certificate.now) }
-{
-    let mut text = schedule_text(alloc, schedule, finish)?.into_bytes();
+    let mut text = schedule_text(alloc, schedule, finish, below)?.into_bytes();
     text.extend_from_slice(certificate)?;
     Ok(text)
 }

@@ -6,5 +6,5 @@
 pub use onfi_console::{CommandName, Named, Parsed, RunPlanner, WordsFault, describe, words};
 pub use onfi_planners::{ChosenEarly, ChosenPlanner, ExactPlanner};
 pub use onfi_run::{NoGate, run_script};
-pub use onfi_script::{Command, EngineFault, Finding, Output, engine, engine_split};
+pub use onfi_script::{Command, EngineFault, Output, PlanOptions, engine, engine_split};
 pub use onfi_seq::Gate;

@@ -5,4 +5,6 @@ pub mod Decimal
 pub mod Record
 pub mod Sheet
 pub mod Table
+pub mod StrobeRows
+pub mod Strobes
 pub use Rattle.onfi_param.specs.Fields

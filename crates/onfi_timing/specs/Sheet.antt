@@ -1,5 +1,5 @@
 -- Timing sheets: what a parameter is called, and what a sheet says of it.
-use Rattle.std.specs.Prelude.{◌≡◌, ◌⊎◌, ◌==◌, ℕ, ◌+◌, ◌^◌, nat_lt, length, if◌then◌else◌, List, [], ◌∷◌, Option, Some, None, Result, Ok, Err, codes}
+use Rattle.std.specs.Prelude.{◌≡◌, ◌⊎◌, ◌==◌, ℕ, ◌^◌, nat_lt, length, if◌then◌else◌, List, Option, Some, None, Result, Ok, Err, codes}
 use Rattle.std.specs.Str.{bytes_eq}
 use Rattle.csv.specs.Reading.{AreRecords, default_config, strip_bom}
 use Rattle.csv.specs.declared.parser.State.TheVariants as st
@@ -9,7 +9,7 @@ use Rattle.onfi_timing.specs.declared.sheet.Sheet.{Sheet}
 use Rattle.onfi_timing.specs.declared.fault.SheetFault.{SheetFault}
 use Rattle.onfi_timing.specs.declared.fault.SheetFault.TheVariants.{Repeated, Unknown, NotANumber, TooLong, Memory}
 use Rattle.onfi_timing.specs.Decimal.{number_of}
-use Rattle.onfi_timing.specs.Record.{field}
+use Rattle.onfi_timing.specs.Record.{field, with_each}
 
 abbrev pub busy_time_named : List ℕ → Option Parameter
 busy_time_named name =
@@ -76,14 +76,9 @@ nothing = record { t_wc = None; t_rc = None; t_adl = None; t_whr = None; t_rhw =
 abbrev pub with_record : Sheet → ℕ → List (List ℕ) → Result Sheet SheetFault
 with_record sheet row fields = if length fields == 2 then with_row sheet row (field fields 0) (field fields 1) else Err (Unknown row)
 
-abbrev pub goes_on : Result Sheet SheetFault → (Sheet → Result Sheet SheetFault) → Result Sheet SheetFault
-goes_on (Ok sheet) next = next sheet
-goes_on (Err fault) next = Err fault
-
 -- .. with these rows more, of which the first has that number; or the first that is refused
-unfoldable pub with_records : Sheet → ℕ → List (List (List ℕ)) → Result Sheet SheetFault
-with_records sheet row [] = Ok sheet
-with_records sheet row (fields ∷ records) = goes_on (with_record sheet row fields) (λ more. with_records more (row + 1) records)
+abbrev pub with_records : Sheet → ℕ → List (List (List ℕ)) → Result Sheet SheetFault
+with_records = with_each with_record
 
 -- the sheet that a text gives, or its first fault, unless memory was refused
 abbrev pub IsSheetOf : List ℕ → Result Sheet SheetFault → Type 0

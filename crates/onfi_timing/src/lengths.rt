@@ -7,8 +7,8 @@ use crate::values::Values;
 use onfi_addr::Geometry;
 use onfi_param::ParamPage;
 
-// How long a command with column and row cycles holds the bus.
-fn command_time(geometry: &Geometry, t_wc: u32) -> u64
+/// How long a command with column and row cycles holds the bus.
+pub fn command_time(geometry: &Geometry, t_wc: u32) -> u64
     ensures value { result ≡ command_cycles geometry.now * t_wc }
     ensures small { result ≤ 2 ^ 37 }
 {

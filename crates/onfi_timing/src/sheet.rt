@@ -1,20 +1,12 @@
 ghost use Rattle.std.specs.Prelude.{◌≡◌, Ok, Err, map, MatchResult};
 ghost use Rattle.csv.specs.Records.{fields_of};
-ghost use Rattle.onfi_timing.specs.Record.{field as field_in};
 
 use crate::decimal::read_number;
 use crate::fault::SheetFault;
 use crate::parameter::Parameter;
-use crate::records::read_records;
+use crate::records::{field, read_records};
 use csv::ByteRecord;
 use std::alloc::Global;
-
-// A field of a row; nothing where the row is shorter.
-fn field(row: &ByteRecord, at: usize) -> &[u8]
-    ensures { result.now ≡ field_in (fields_of row.now) at }
-{
-    row.get(at).unwrap_or(b"")
-}
 
 /// The timing parameters of a device in ns, as far as they were given.
 #[derive(Clone, Copy, Debug, PartialEq, Eq)]

@@ -2,6 +2,7 @@ ghost use Rattle.std.specs.Prelude.{◌≤◌, length};
 
 use crate::ended::Ended;
 use crate::sample::{problem, running, want};
+use arrayvec::ArrayVec;
 use onfi_cert::{CertTextFault, Token, read};
 use onfi_check::{CertFault, TextFault, check, check_text};
 use onfi_group::Group;
@@ -10,7 +11,7 @@ use onfi_request::Want;
 use onfi_samples::sample_timing;
 use onfi_schedule::{Placed, Schedule, Starts};
 use onfi_timing::Kind;
-use std::alloc::{AllocError, Global};
+use std::alloc::Global;
 
 /// Certificates of the schedule below: one that is accepted, and one for each refusal.
 const TEXTS: [&str; 9] = [
@@ -40,8 +41,8 @@ fn status_and_read(alloc: Global) -> Result<Problem, Ended> {
 }
 
 /// The starts of one LUN or one group.
-fn starts(alloc: Global, times: &[u64]) -> Starts {
-    let mut starts = Starts::new(alloc);
+fn starts(times: &[u64]) -> Starts {
+    let mut starts = Starts::new();
     for time in times {
         if starts.as_slice().len() < 8 && *time < 1 << 63 {
             starts.push(*time);
@@ -51,14 +52,14 @@ fn starts(alloc: Global, times: &[u64]) -> Starts {
 }
 
 /// Its schedule: the status at 1000, the read's phases at 0 and from then on.
-fn read_first(alloc: Global, output: u64) -> Result<Schedule, AllocError> {
-    let mut rest = Vec::new(alloc);
-    rest.push(starts(alloc, &[1000]))?;
-    rest.push(starts(alloc, &[]))?;
-    let mut groups = Vec::new(alloc);
+fn read_first(alloc: Global, output: u64) -> Schedule {
+    let mut rest = ArrayVec::new();
+    rest.push(starts(&[1000]));
+    rest.push(starts(&[]));
+    let mut groups = ArrayVec::new_in(alloc);
     let read = Group::of(alloc, &[read_of_lun_1()]);
-    groups.push(Placed::new(read, starts(alloc, &[0, output])))?;
-    Ok(Schedule::new(rest, groups))
+    groups.push(Placed::new(read, starts(&[0, output])));
+    Schedule::new(rest, groups)
 }
 
 /// The tokens of a text; once more where memory was refused.
@@ -115,7 +116,7 @@ fn judge_by_text(
 /// `check` of each certificate, then of a schedule whose data output starts too early.
 pub(crate) fn judge_tokens(rt: &impl Print, alloc: Global) -> Result<(), Ended> {
     let problem = status_and_read(alloc)?;
-    let (legal, early) = (read_first(alloc, 25_240)?, read_first(alloc, 25_239)?);
+    let (legal, early) = (read_first(alloc, 25_240), read_first(alloc, 25_239));
     for text in TEXTS {
         judge_by_tokens(rt, alloc, &problem, &legal, text)?;
     }
@@ -125,7 +126,7 @@ pub(crate) fn judge_tokens(rt: &impl Print, alloc: Global) -> Result<(), Ended> 
 /// `check_text` of the same.
 pub(crate) fn judge_text(rt: &impl Print, alloc: Global) -> Result<(), Ended> {
     let problem = status_and_read(alloc)?;
-    let (legal, early) = (read_first(alloc, 25_240)?, read_first(alloc, 25_239)?);
+    let (legal, early) = (read_first(alloc, 25_240), read_first(alloc, 25_239));
     for text in TEXTS {
         judge_by_text(rt, alloc, &problem, &legal, text)?;
     }

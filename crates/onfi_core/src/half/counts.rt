@@ -25,7 +25,7 @@ impl Half {
     pub fn has_phase(&self) -> bool
         ensures { IsTrue result ↔ (none_left self.now.state ≡ false) }
     {
-        next_turn(self.rest.as_slice(), self.groups.as_slice()).is_some()
+        next_turn(self.left.rest(), self.left.groups()).is_some()
     }
 
     /// From when on the bus is free, in ns of the channel's clock.

@@ -7,7 +7,7 @@ ghost use Rattle.onfi_core.specs.Refusals.{ready_outcome, wait_outcome};
 
 use crate::half::Half;
 use crate::lag::lag_of;
-use crate::later::{delay_groups, delay_rest};
+use crate::later::delay_schedule;
 use crate::outcome::Cause;
 use onfi_problem::LunState;
 use std::alloc::Global;
@@ -56,7 +56,7 @@ impl Half {
         if let Some(cause) = self.stopped {
             return Err(WaitRefusal::Stopped(cause));
         }
-        let lag = lag_of(moment, self.rest.as_slice(), self.groups.as_slice());
+        let lag = lag_of(moment, self.left.rest(), self.left.groups());
         if moment.max(lag.latest.saturating_add(lag.by)) >= END {
             return Err(WaitRefusal::TooLate);
         }
@@ -73,8 +73,7 @@ impl Half {
         let bus_free = self.bus_free.max(moment);
         self.outdated = is_outdated(self.outdated, self.bus_free, moment);
         self.bus_free = bus_free;
-        delay_rest(alloc, &mut self.rest, by);
-        delay_groups(alloc, &mut self.groups, by);
+        self.left = delay_schedule(alloc, by, &self.left);
         bus_free
     }
 

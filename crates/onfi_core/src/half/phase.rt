@@ -56,9 +56,8 @@ impl Half {
         let lun = usize::from(lun);
         self.bus_free = bus_free;
         self.luns[lun] = next;
-        self.rest[lun] = rest;
         self.wants = wants;
-        leave(&mut self.groups, place);
+        leave(&mut self.left, lun, rest, place);
     }
 
     /// Stops the channel for that cause: from now on it accepts, plans and runs nothing.

@@ -13,14 +13,13 @@ use crate::batch::fault::{BatchFault, fault_of};
 use crate::lanes::Lanes;
 use crate::target::Target;
 use arrayvec::ArrayVec;
+use onfi_addr::Geometry;
 use onfi_chip::Chip;
-use onfi_core::{
-    Due, PhaseResult, Turn, copy_groups, free_luns, leave, next_turn, no_starts, wants_without,
-};
+use onfi_core::{Due, PhaseResult, Turn, free_luns, leave, next_turn, wants_without};
 use onfi_group::Rules;
 use onfi_problem::{LunState, Problem};
 use onfi_request::{Answer, Basis, Item, Reply, Want};
-use onfi_schedule::{Placed, Schedule, Starts};
+use onfi_schedule::{Schedule, no_starts};
 use onfi_timing::Timing;
 use std::alloc::{AllocError, Global};
 
@@ -34,30 +33,27 @@ pub(crate) struct Flight {
     pub bus_free: u64,
     pub luns: Vec<LunState>,
     pub wants: ArrayVec<Want, 8>,
-    /// For each LUN the starts that are left of its group, and the groups not started.
-    pub rest: Vec<Starts>,
-    pub groups: Vec<Placed>,
+    /// The starts that are left.
+    pub left: Schedule,
     pub replies: Vec<Reply>,
 }
 
 impl Flight {
-    /// A schedule of the items of which nothing is done, on so many LUNs on which nothing runs.
+    /// A schedule of the items of which nothing is done, on the LUNs of the device, on which nothing runs.
     ///
     /// # Errors
     /// Want of memory.
     pub(crate) fn of(
         alloc: Global,
-        luns: u8,
+        geometry: &Geometry,
         problem: &Problem,
         schedule: &Schedule,
         items: Vec<Item>,
     ) -> Result<Flight, AllocError>
-        ensures { IfOk result (λ flight. state_of flight ≡ opening luns problem.now.problem schedule.now items.items) }
+        ensures { IfOk result (λ flight. state_of flight ≡ opening geometry.now.lun_count problem.now.problem schedule.now items.items) }
     {
         let replies = Vec::with_capacity(alloc, items.len())?;
-        let states = free_luns(alloc, luns)?;
-        let rest = no_starts(alloc, luns)?;
-        let groups = copy_groups(alloc, schedule.groups())?;
+        let states = free_luns(alloc, geometry.lun_count)?;
         Ok(Flight {
             items,
             timing: problem.timing(),
@@ -65,20 +61,22 @@ impl Flight {
             bus_free: problem.bus_free(),
             luns: states,
             wants: waiting(problem.wants(), problem.waiting()),
-            rest,
-            groups,
+            left: Schedule::new(
+                no_starts(usize::from(geometry.lun_count)),
+                schedule.copy_groups(),
+            ),
             replies,
         })
     }
 
     /// The undone phase of least start, with all that stands when it is done; none where no phase is left.
-    pub(crate) fn due(&self, alloc: Global) -> Option<Due>
+    pub(crate) fn due(&self) -> Option<Due>
         requires sound { (s : ASetup) × IsSound s (state_of self.now) }
         ensures due { IfSome result (IsDue (state_of self.now)) }
         ensures time { IfSome result (λ due. due.start < 2 ^ 63) }
         ensures none { IfNone result (none_left (state_of self.now) ≡ true) }
     {
-        match next_turn(self.rest.as_slice(), self.groups.as_slice()) {
+        match next_turn(self.left.rest(), self.left.groups()) {
             Some(Turn::Next(next)) => {
                 let LunState::Running {
                     group,
@@ -88,16 +86,16 @@ impl Flight {
                 else {
                     unreachable!();
                 };
-                let starts = &self.rest[next.at];
+                let starts = &self.left.rest()[next.at];
                 let wants = ArrayVec::try_from(self.wants.as_slice()).unwrap();
-                Some(Due::of(alloc, &self.timing, group, *phase, starts, None, wants))
+                Some(Due::of(&self.timing, group, *phase, starts, None, wants))
             }
             Some(Turn::First(first)) => {
-                let placed = &self.groups[first.at];
+                let placed = &self.left.groups()[first.at];
                 let group = placed.members();
                 let starts = placed.starts();
                 let wants = wants_without(group, self.wants.as_slice());
-                Some(Due::of(alloc, &self.timing, group, 0, starts, Some(first.at), wants))
+                Some(Due::of(&self.timing, group, 0, starts, Some(first.at), wants))
             }
             None => None,
         }
@@ -162,9 +160,8 @@ impl Flight {
         let lun = usize::from(lun);
         self.bus_free = bus_free;
         self.luns[lun] = next;
-        self.rest[lun] = rest;
         self.wants = wants;
-        leave(&mut self.groups, place);
+        leave(&mut self.left, lun, rest, place);
         Ok(())
     }
 

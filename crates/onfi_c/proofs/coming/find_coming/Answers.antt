@@ -7,4 +7,4 @@ pub returns-in-None-clause-none : goal.returns-in-None-clause-none
 returns-in-None-clause-none c =
     let none = c.in-None.ensures in
     none_left c.args.problem.now.problem c.args.schedule.now c.bus_free-limits.ensures.limits.problem c.requires
-    (subst NoneStart c.rest.ensures none.0) (subst (λ gs. NoneStart (starts_in gs)) c.groups.ensures none.1)
+    (subst NoneStart c.rest.ensures.value none.0) (subst (λ gs. NoneStart (starts_in gs)) c.groups.ensures.value none.1)

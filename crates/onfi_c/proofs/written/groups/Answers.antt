@@ -1,11 +1,10 @@
-use Rattle.std.proofs.Common.{◌∙◌, ap}
-use Rattle.onfi_c.specs.Written.{written_group}
-use Rattle.onfi_c.proofs.Mapped.{mapped_more, mapped_all}
+use Rattle.std.proofs.Common.{ap, ◌∙◌}
+use Rattle.onfi_c.specs.Written.{no_group, written_group}
+use Rattle.onfi_c.proofs.Filled.{filled_more, filled_all}
 use Rattle.onfi_c.proofs.written.groups.Goals as goal
 
-pub loop-one-preserved : goal.loop-one-preserved
-loop-one-preserved c =
-    c.in_ok-push.ensures.items ∙ mapped_more written_group c.args.placed.now c.loop-one.one-index c.loop-one.groups.items _ c.in_ok-group.field-0 c.loop-one-test.true (c.in_ok-group.ensures ∙ ap written_group c.one-item.is) c.loop-one.invariant
+pub loop-at-preserved : goal.loop-at-preserved
+loop-at-preserved c = filled_more written_group 8 no_group c.args.of.now c.loop-at.at _ c.group.result c.loop-at.all c.loop-at-test.true c.requires (c.group.ensures ∙ ap written_group c.index-of-at.is) c.loop-at.invariant
 
 pub returns : goal.returns
-returns c = mapped_all written_group c.args.placed.now c.loop-one.one-index c.loop-one.groups.items c.loop-one-test.false c.loop-one.invariant
+returns c = filled_all written_group 8 no_group c.args.of.now c.loop-at.at c.loop-at.all c.loop-at-test.false c.loop-at.invariant

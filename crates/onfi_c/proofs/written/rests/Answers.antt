@@ -1,11 +1,10 @@
-use Rattle.std.proofs.Common.{◌∙◌, ap}
-use Rattle.onfi_c.specs.Written.{written_rest}
-use Rattle.onfi_c.proofs.Mapped.{mapped_more, mapped_all}
+use Rattle.std.proofs.Common.{ap, ◌∙◌}
+use Rattle.onfi_c.specs.Written.{no_rest, written_rest}
+use Rattle.onfi_c.proofs.Filled.{filled_more, filled_all}
 use Rattle.onfi_c.proofs.written.rests.Goals as goal
 
-pub loop-starts-preserved : goal.loop-starts-preserved
-loop-starts-preserved c =
-    c.in_ok-push.ensures.items ∙ mapped_more written_rest c.args.of.now c.loop-starts.starts-index c.loop-starts.rests.items _ c.rest.result c.loop-starts-test.true (c.rest.ensures ∙ ap written_rest c.starts-item.is) c.loop-starts.invariant
+pub loop-at-preserved : goal.loop-at-preserved
+loop-at-preserved c = filled_more written_rest 8 no_rest c.args.of.now c.loop-at.at _ c.rest.result c.loop-at.all c.loop-at-test.true c.requires (c.rest.ensures ∙ ap written_rest c.index-of-at.is) c.loop-at.invariant
 
 pub returns : goal.returns
-returns c = mapped_all written_rest c.args.of.now c.loop-starts.starts-index c.loop-starts.rests.items c.loop-starts-test.false c.loop-starts.invariant
+returns c = filled_all written_rest 8 no_rest c.args.of.now c.loop-at.at c.loop-at.all c.loop-at-test.false c.loop-at.invariant

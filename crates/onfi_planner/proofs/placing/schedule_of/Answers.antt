@@ -6,16 +6,16 @@ use Rattle.onfi_schedule.specs.Runs.{empty}
 use Rattle.onfi_planner.specs.declared.search.Begun.{Begun}
 use Rattle.onfi_planner.specs.Planning.{run_of}
 use Rattle.onfi_planner.proofs.Whole.{legal_plan}
-use Rattle.onfi_planner.proofs.Stacking.{Fits, none_placed, next_fits, start_fits, start_some, next_stacked, start_stacked, stacked_all}
+use Rattle.onfi_planner.proofs.Stacking.{Fits, none_placed, next_fits, start_fits, start_room, start_some, next_stacked, start_stacked, stacked_all}
 use Rattle.onfi_planner.proofs.placing.schedule_of.Goals as goal
-use Rattle.onfi_planner.proofs.placing.schedule_of.Goals.{After-lun-lun, in-Next, in-Start+in_ok-insert-in-Start}
+use Rattle.onfi_planner.proofs.placing.schedule_of.Goals.{After-lun-lun, in-Next, in-Start}
 
 abbrev none : Begun
 none = record { step = Next 0; start = 0 }
 
 pub loop-begun-init : goal.loop-begun-init
 loop-begun-init c =
-    ap (λ gs. record { rest = c.in_ok-rest.rest.items; groups = gs }) c.new-groups.ensures.items ∙ none_placed c.args.problem.now.problem c.lun_count.result c.in_ok-rest.rest.items c.lun_count.ensures.value c.in_ok-rest.ensures
+    ap (λ gs. record { rest = c.no_starts-rest.result.items; groups = gs }) c.new_in-groups.ensures ∙ none_placed c.args.problem.now.problem c.lun_count.result c.no_starts-rest.result.items c.lun_count.ensures.value c.no_starts-rest.ensures
 
 pub put_in_front-requires : goal.put_in_front-requires
 put_in_front-requires c =
@@ -39,6 +39,15 @@ taken_from-starts-requires c =
     let e = ap length c.put_in_front-in-Start.ensures ∙ length-set c.loop-begun.rest.items c.lun-lun.result _ in
     omega arith
 
+pub insert-requires : goal.insert-requires
+insert-requires c = (
+  omega arith,
+  (
+    omega arith,
+    start_room c.args.problem.now c.args.steps.now c.loop-begun.begun-index none c.requires.limits.problem c.requires.run c.loop-begun-test.true c.requires.limits c.in-Start.lun c.in-Start.place (record { rest = c.loop-begun.rest.items; groups = c.loop-begun.groups.items }) c.in-Start.is c.loop-begun.invariant,
+  ),
+)
+
 pub loop-begun-preserved : goal.loop-begun-preserved
 loop-begun-preserved c =
     let x = c.args.problem.now in
@@ -47,10 +56,10 @@ loop-begun-preserved c =
     let s : Schedule = record { rest = c.loop-begun.rest.items; groups = c.loop-begun.groups.items } in
     elim c.match-begun.branch [
       | in-Next w ↦ rw (w.rest-is, w.groups-is) (next_stacked x.groups steps i none (empty x.problem) s w.in-Next.lun _ c.loop-begun-test.true c.loop-begun.invariant w.in-Next.is w.put_in_front.ensures)
-      | in-Start+in_ok-insert-in-Start w ↦ (
+      | in-Start w ↦ (
           let lun = w.lun-lun.ensures ∙ ap lun_of w.group-group.ensures in
           let fits = start_fits c.args.problem.now c.args.steps.now c.loop-begun.begun-index none c.requires.limits.problem c.requires.run c.loop-begun-test.true w.in-Start.lun w.in-Start.place w.lun-lun.result s w.in-Start.is lun c.loop-begun.invariant in
-          rw (w.rest-is, w.groups-is) (start_stacked x.groups steps i none (empty x.problem) s w.in-Start.lun w.in-Start.place w.lun-lun.result _ _ w.taken_from-starts.result w.new.result _ c.loop-begun-test.true c.loop-begun.invariant w.in-Start.is lun fits.there w.put_in_front-in-Start.ensures w.taken_from-starts.ensures.none w.taken_from-starts.ensures.taken (w.new.ensures.members ∙ (w.copy.ensures ∙ w.group-group.ensures)) w.new.ensures.starts w.in_ok-insert-in-Start.ensures.items))
+          rw (w.rest-is, w.groups-is) (start_stacked x.groups steps i none (empty x.problem) s w.in-Start.lun w.in-Start.place w.lun-lun.result _ _ w.taken_from-starts.result w.new.result _ c.loop-begun-test.true c.loop-begun.invariant w.in-Start.is lun fits.there w.put_in_front-in-Start.ensures w.taken_from-starts.ensures.none w.taken_from-starts.ensures.taken (w.new.ensures.members ∙ (w.copy.ensures ∙ w.group-group.ensures)) w.new.ensures.starts w.insert.ensures.items))
     ]
 
 pub returns : goal.returns

@@ -8,13 +8,13 @@ use Rattle.onfi_planner.proofs.planning.plan_counted.Goals as goal
 pub write-requires-clause-bus : goal.write-requires-clause-bus
 write-requires-clause-bus c = subst (λ (z : Position). c.bus-bus_bound.result ≡ bus z.problem) (sym c.in-Ok-search.ensures.problem) c.bus-bus_bound.ensures.value
 
-pub found_plan-requires-clause-found : goal.found_plan-requires-clause-found
-found_plan-requires-clause-found c = root_found c.args.problem.now c.in-Ok.root c.search.new.best c.in-Ok-search.field-0 c.in-Ok.ensures c.in-Ok-search.ensures.found
+pub found_plan-planned-requires-clause-found : goal.found_plan-planned-requires-clause-found
+found_plan-planned-requires-clause-found c = root_found c.args.problem.now c.in-Ok.root c.search.new.best c.in-Ok-search.field-0 c.in-Ok.ensures c.in-Ok-search.ensures.found
 
 pub returns-clause-opened : goal.returns-clause-opened
 returns-clause-opened c =
     let n = nodes_opened c.args.problem.now c.in-Ok.root c.search.new.best.finish c.search.new.opened c.in-Ok.ensures c.in-Ok-search.ensures.opened in
-    subst (λ e. OpensNodes c.args.problem.now.problem e c.search.new.opened) (sym c.in-Ok-found_plan.ensures.ends) n
+    subst (λ e. OpensNodes c.args.problem.now.problem e c.search.new.opened) (sym c.found_plan-planned.ensures.ends) n
 
 pub returns-clause-some_opened : goal.returns-clause-some_opened
 returns-clause-some_opened c = some_opened c.in-Ok.root.problem.problem _ _ c.search.new.opened c.in-Ok-search.ensures.opened

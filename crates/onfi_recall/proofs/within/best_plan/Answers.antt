@@ -6,7 +6,7 @@ use Rattle.onfi_recall.proofs.within.best_plan.Goals as goal
 pub returns-clause-plan : goal.returns-clause-plan
 returns-clause-plan c =
     let x = c.args.problem.now in
-    let schedule = c.in_ok-schedule.ensures in
+    let schedule = c.schedule_of-schedule.ensures in
     within_plan x c.args.best.now c.args.shown.now _ c.requires.limits schedule.legal (schedule.finish c.args.best.now.finish (rw c.as_slice.ensures.value c.requires.run)) schedule.rising c.requires.shown refl refl
     (c.in_ok-cert.ensures ∙ (ap (λ rules. header rules.strict ++ line c.as_slice-2.result.now) c.rules.ensures ∙ ap (λ z. header x.problem.rules.strict ++ line z) c.as_slice-2.ensures.value))
 

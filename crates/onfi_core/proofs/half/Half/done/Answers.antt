@@ -1,5 +1,7 @@
-use Rattle.std.proofs.Common.{◌≡◌, ◌++◌, length, None, sym, ap, ◌∙◌, subst, arith}
+use Rattle.std.proofs.Common.{◌≡◌, ◌<◌, ◌++◌, length, None, sym, ap, ◌∙◌, subst, arith}
 use Rattle.std.specs.Prelude.{slice_set}
+use Rattle.onfi_schedule.specs.Schedule.{Schedule}
+use Rattle.onfi_core.specs.Dues.{groups_left}
 use Rattle.onfi_core.specs.View.{HalfView}
 use Rattle.onfi_core.proofs.Becoming.{due_inside}
 use Rattle.onfi_core.proofs.Done.{goes, lun_there, makes_of, member_slot, room_for, fields_done}
@@ -28,16 +30,12 @@ index_mut-requires g c =
     let is = due_inside _ _ c.args.due c.self.view_is c.requires.1.1.0 in
     omega (arith, c.from-lun.ensures, c.self.inside.luns.ok.0, lun_there c.self.inside.setup _ c.args.due c.self.invariant.sound is)
 
-pub index_mut-requires-2 : goal.index_mut-requires-2
-index_mut-requires-2 g c =
+pub leave-requires : goal.leave-requires
+leave-requires g c =
     let is = due_inside _ _ c.args.due c.self.view_is c.requires.1.1.0 in
     let same = c.self.invariant.sound.legal.shape.luns in
-    omega (arith, c.from-lun.ensures, c.self.inside.rest.ok.0, same, lun_there c.self.inside.setup _ c.args.due c.self.invariant.sound is)
-
-pub leave-requires : goal.leave-requires
-leave-requires g c at e =
-    let is = due_inside _ _ c.args.due c.self.view_is c.requires.1.1.0 in
-    omega (arith, c.self.inside.groups.ok.0, is.place_there at e)
+    let lun : c.from-lun.result < length c.self.inside.left.rest = omega (arith, c.from-lun.ensures, same, lun_there c.self.inside.setup _ c.args.due c.self.invariant.sound is) in
+    record { lun = lun; place = is.place_there }
 
 pub invariant_of-self : goal.invariant_of-self
 invariant_of-self g c =
@@ -49,6 +47,6 @@ invariant_of-self g c =
     let makes = makes_of c.self.inside.history.accepted g.faults c.args.due c.args.ran c.requires.1.1.1 (goes c.self.inside.setup _ c.args.due i.sound is).1.within in
     let e = c.holding-self-inside.ensures in
     let made = c.reply_of-reply.ensures in
-    let r = fields_done _ _ _ _ _ _ _ _ _ _ c.args.due _ _ _ _ _ _ _ f is makes (c.hold.ensures.items ∙ ap (λ rs. c.self.inside.held.items ++ rs) made) c.hold.ensures.capacity
-    e.0 (e.1 ∙ ap (λ rs. c.self.inside.history.held ++ rs) made) e.2 e.3 (ap (λ l. slice_set c.self.inside.luns.items l c.args.due.next) c.from-lun.ensures) (ap (λ l. slice_set c.self.inside.rest.items l c.args.due.rest) c.from-lun.ensures) c.leave.ensures in
+    let r = fields_done _ _ _ _ _ _ _ _ _ _ c.args.due _ _ _ _ _ _ f is makes (c.hold.ensures.items ∙ ap (λ rs. c.self.inside.held.items ++ rs) made) c.hold.ensures.capacity
+    e.0 (e.1 ∙ ap (λ rs. c.self.inside.history.held ++ rs) made) e.2 e.3 (ap (λ l. slice_set c.self.inside.luns.items l c.args.due.next) c.from-lun.ensures) (c.leave.ensures ∙ ap (λ l. let s : Schedule = record { rest = slice_set c.self.inside.left.rest l c.args.due.rest; groups = groups_left c.args.due.place c.self.inside.left.groups } in s) c.from-lun.ensures) in
     rw unlent r

@@ -17,4 +17,4 @@ pub returns-in-None-clause-refused : goal.returns-in-None-clause-refused
 returns-in-None-clause-refused c =
     let going : c.self.inside.stopped ≡ None = cc in
     let none = c.in-None.ensures in
-    none_outside _ _ c.self.view_is c.self.invariant.sound going (subst NoneStart c.as_slice.ensures.value none.0) (subst (λ gs. NoneStart (starts_in gs)) c.as_slice-2.ensures.value none.1)
+    none_outside _ _ c.self.view_is c.self.invariant.sound going (subst NoneStart c.rest.ensures.value none.0) (subst (λ gs. NoneStart (starts_in gs)) c.groups.ensures.value none.1)

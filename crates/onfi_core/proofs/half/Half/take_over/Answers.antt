@@ -7,4 +7,4 @@ use Rattle.onfi_core.proofs.half.Half.take_over.Goals as goal
 pub invariant_of-self : goal.invariant_of-self
 invariant_of-self c =
     let plans = subst (λ (x : HalfView). Plans x.setup x.state (taken_of c.args.taking) (planning_of c.args.next.batch)) (sym c.self.view_is) c.requires.plans in
-    fields_planned _ _ _ _ _ _ _ _ (planning_of c.args.next.batch) (taken_of c.args.taking) _ _ _ _ _ c.self.invariant plans refl refl refl c.requires.rest c.requires.groups
+    fields_planned _ _ _ _ _ _ _ _ (planning_of c.args.next.batch) (taken_of c.args.taking) _ _ _ _ c.self.invariant plans refl refl refl c.requires.left

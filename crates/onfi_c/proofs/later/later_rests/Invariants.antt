@@ -1,6 +1,0 @@
-use Rattle.std.proofs.Common.{◌≡◌, map, take}
-use Rattle.onfi_core.specs.Times.{later_starts}
-use Rattle.onfi_c.proofs.later.later_rests.Given as goal
-
-abbrev pub invariant-loop-starts : goal.invariant-loop-starts
-invariant-loop-starts l = l.later.items ≡ map (later_starts l.by) (take l.starts-index l.rests)

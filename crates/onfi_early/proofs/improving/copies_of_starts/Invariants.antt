@@ -1,5 +1,0 @@
-use Rattle.std.proofs.Common.{◌≡◌, take}
-use Rattle.onfi_early.proofs.improving.copies_of_starts.Given as goal
-
-abbrev pub invariant-loop-starts : goal.invariant-loop-starts
-invariant-loop-starts l = l.copies.items ≡ take l.starts-index l.rest

@@ -1,0 +1,145 @@
+//! Plan texts are checked.
+ghost use Rattle.std.specs.Prelude.{◌≡◌, codes, IfOk, if◌then◌else◌};
+ghost use Rattle.onfi_schedule.specs.Schedule.{finish};
+ghost use Rattle.onfi_planners.specs.declared.chosen.ChosenPlanner.TheVariants as by;
+ghost use Rattle.onfi_script.specs.Answer.{AnswersCheck, AnswersOptimal, AnswersSchedule};
+ghost use Rattle.onfi_script.specs.AnswerOf.{answer_of};
+ghost use Rattle.onfi_script.specs.Text.{refused_at as spec_refused_at};
+
+use crate::plan_text::read_plan;
+use crate::plan_within::{PlanWithin, read_plan_within};
+use crate::text::{
+    Answer, accepted, known_text_refused, refused_at, refused_for, text_refused, within,
+    within_refused,
+};
+use onfi_check::check_text;
+use onfi_known::{check_known_text, check_known_within};
+use onfi_planners::ChosenPlanner;
+use onfi_problem::Problem;
+use onfi_schedule::Schedule;
+use std::alloc::{AllocError, Global};
+
+/// The answer to a plan text of which that line, counted from 1, is the first wrong one.
+pub fn line_refused(alloc: Global, number: u64) -> Result<Answer, AllocError>
+    ensures { IfOk result (λ a. answer_of a ≡ spec_refused_at (codes "plan") number) }
+{
+    refused_at(alloc, "plan", number)
+}
+
+/// The answer to a schedule that is said to end at `ends`, in ns, and the text of its plain certificate.
+fn judged(
+    alloc: Global,
+    problem: &Problem,
+    schedule: &Schedule,
+    ends: u64,
+    certificate: &[u8],
+) -> Result<Answer, AllocError>
+    ensures { IfOk result (λ a. AnswersSchedule by.Plain problem.now.problem schedule.now ends (finish problem.now.problem schedule.now) certificate.now (answer_of a)) }
+{
+    match check_text(alloc, problem, schedule, certificate) {
+        Ok(finish) if finish == ends => accepted(alloc, ends),
+        Ok(_) => refused_for(alloc, "finish"),
+        Err(fault) => text_refused(alloc, fault),
+    }
+}
+
+/// .. of its certificate, which remembers states.
+fn judged_known(
+    alloc: Global,
+    problem: &Problem,
+    schedule: &Schedule,
+    ends: u64,
+    certificate: &[u8],
+) -> Result<Answer, AllocError>
+    requires begun { problem.now.all ≡ problem.now.problem.wants }
+    ensures { IfOk result (λ a. AnswersSchedule by.Remembering problem.now.problem schedule.now ends (finish problem.now.problem schedule.now) certificate.now (answer_of a)) }
+{
+    match check_known_text(alloc, problem, schedule, certificate) {
+        Ok(end) if end == ends => accepted(alloc, ends),
+        Ok(_) => refused_for(alloc, "finish"),
+        Err(fault) => known_text_refused(alloc, fault),
+    }
+}
+
+/// .. where nothing is said to end before `below`, in ns.
+fn judged_within(
+    alloc: Global,
+    problem: &Problem,
+    schedule: &Schedule,
+    ends: u64,
+    below: u64,
+    certificate: &[u8],
+) -> Result<Answer, AllocError>
+    requires begun { problem.now.all ≡ problem.now.problem.wants }
+    ensures { IfOk result (λ a. AnswersSchedule by.BestSoFar problem.now.problem schedule.now ends below certificate.now (answer_of a)) }
+{
+    match check_known_within(alloc, problem, schedule, below, certificate) {
+        Ok(finish) if finish != ends => refused_for(alloc, "finish"),
+        Ok(_) if below < ends => within(alloc, ends, below),
+        Ok(_) => accepted(alloc, ends),
+        Err(fault) => within_refused(alloc, fault),
+    }
+}
+
+/// The answer to a plan text whose certificate is to show that its schedule is optimal, and remembers states where `remember`
+/// says so.
+fn checked_optimal(
+    alloc: Global,
+    remember: bool,
+    problem: &Problem,
+    text: &[u8],
+) -> Result<Answer, AllocError>
+    requires begun { problem.now.all ≡ problem.now.problem.wants }
+    ensures { IfOk result (λ a. AnswersOptimal (if remember then by.Remembering else by.Plain) problem.now.problem text.now (answer_of a)) }
+{
+    match read_plan(alloc, problem.wants(), text) {
+        Ok((plan, certificate)) => {
+            let ends = plan.finish();
+            let schedule = plan.schedule(problem.lun_count());
+            if remember {
+                judged_known(alloc, problem, &schedule, ends, certificate)
+            } else {
+                judged(alloc, problem, &schedule, ends, certificate)
+            }
+        }
+        Err(number) => line_refused(alloc, number),
+    }
+}
+
+/// The answer to a plan text in which a line `below` may stand.
+fn checked_within(alloc: Global, problem: &Problem, text: &[u8]) -> Result<Answer, AllocError>
+    requires begun { problem.now.all ≡ problem.now.problem.wants }
+    ensures { IfOk result (λ a. AnswersCheck by.BestSoFar problem.now.problem text.now (answer_of a)) }
+{
+    match read_plan_within(alloc, problem.wants(), text) {
+        Ok(
+            PlanWithin {
+                plan,
+                below,
+                certificate,
+            },
+        ) => {
+            let ends = plan.finish();
+            let schedule = plan.schedule(problem.lun_count());
+            judged_within(alloc, problem, &schedule, ends, below, certificate)
+        }
+        Err(number) => line_refused(alloc, number),
+    }
+}
+
+/// The answer to a plan text as this planner's are.
+pub fn checked(
+    alloc: Global,
+    planner: ChosenPlanner,
+    problem: &Problem,
+    text: &[u8],
+) -> Result<Answer, AllocError>
+    requires begun { problem.now.all ≡ problem.now.problem.wants }
+    ensures { IfOk result (λ a. AnswersCheck planner problem.now.problem text.now (answer_of a)) }
+{
+    match planner {
+        ChosenPlanner::Plain => checked_optimal(alloc, false, problem, text),
+        ChosenPlanner::Remembering => checked_optimal(alloc, true, problem, text),
+        ChosenPlanner::BestSoFar => checked_within(alloc, problem, text),
+    }
+}

@@ -1,0 +1,17 @@
+//! Plans by a rule, without a search: of each LUN the group that it would begin, of all LUNs the phase that starts soonest,
+//! one phase after another. Alone, it makes a legal schedule of a problem in one pass, and says how far that is from the best
+//! at most; as [`RulePlanner`] it stands behind the trait of `onfi_plan`.
+#![tactic(auto)]
+
+mod below;
+mod choosing;
+mod dispatch;
+mod given;
+mod own;
+mod phase;
+mod planner;
+mod planning;
+mod turn;
+
+pub use planner::RulePlanner;
+pub use planning::plan_by_rule;

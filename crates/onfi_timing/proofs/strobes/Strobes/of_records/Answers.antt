@@ -1,0 +1,27 @@
+use Rattle.std.proofs.Common.{◌≤◌, ◌∙◌, ◌+◌, length, map, sym, ap, arith}
+use Rattle.csv.specs.Records.{fields_of}
+use Rattle.onfi_timing.specs.StrobeRows.{with_strobe_record, with_strobe_records}
+use Rattle.onfi_timing.proofs.Walk.{walk_on, walk_stopped, walk_ended}
+use Rattle.onfi_timing.proofs.strobes.Strobes.of_records.Goals as goal
+
+pub loop-at-init : goal.loop-at-init
+loop-at-init c = ap (λ s. with_strobe_records s 1 (map fields_of c.args.records.now)) (sym c.new-strobes.ensures)
+
+pub loop-at-preserved : goal.loop-at-preserved
+loop-at-preserved c =
+    let at = c.loop-at.at in
+    let row = c.index-records-at.result in
+    let step = ap (λ r. with_strobe_record c.loop-at.strobes (at + 1) (fields_of r)) (sym c.index-records-at.is) ∙ c.in_default.ensures in
+    c.loop-at.invariant ∙ walk_on fields_of with_strobe_record c.args.records.now at row c.loop-at.strobes c.put_record.new.self c.loop-at-test.true step
+
+pub returns-in-Err : goal.returns-in-Err
+returns-in-Err c =
+    let at = c.loop-at.at in
+    let row = c.index-records-at.result in
+    let step = ap (λ r. with_strobe_record c.loop-at.strobes (at + 1) (fields_of r)) (sym c.index-records-at.is) ∙ c.in-Err.ensures in
+    c.loop-at.invariant ∙ walk_stopped fields_of with_strobe_record c.args.records.now at row c.loop-at.strobes c.in-Err.fault c.loop-at-test.true step
+
+pub returns : goal.returns
+returns c =
+    let size : length c.args.records.now ≤ c.loop-at.at = omega arith in
+    c.loop-at.invariant ∙ walk_ended fields_of with_strobe_record c.args.records.now c.loop-at.at c.loop-at.strobes size
