@@ -16,6 +16,6 @@ mod walk;
 mod weights;
 
 pub use cost::cost_of;
-pub use improving::{Improved, improve};
+pub use improving::improve;
 pub use slack::slack_of;
 pub use weights::Weights;

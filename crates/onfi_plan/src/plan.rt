@@ -20,6 +20,23 @@ pub struct Plan {
 }
 
 impl Plan {
+    /// The plan of a search that remembers nothing and opened so many nodes; nothing ends before its finish.
+    pub fn of(planned: Planned, opened: u32) -> Plan
+        ensures planned { result.planned ≡ planned }
+        ensures below { result.below ≡ planned.finish }
+        ensures cert { certificate_in result ≡ Plain planned.cert.items }
+        ensures opened { result.opened ≡ opened }
+        ensures reopened { result.reopened ≡ 0 }
+    {
+        Plan {
+            below: planned.finish,
+            planned,
+            text: None,
+            opened,
+            reopened: 0,
+        }
+    }
+
     /// The tokens of a certificate that remembers nothing, as `onfi_check` checks them.
     pub fn tokens(&self) -> Option<&[Token]>
         ensures { MatchOption result (IsRemembering (certificate_in self.now)) (λ tokens. certificate_in self.now ≡ Plain tokens.now) }

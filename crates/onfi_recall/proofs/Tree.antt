@@ -15,6 +15,8 @@ use Rattle.onfi_known.specs.Text.{InRange, IsCertificate, header, line}
 use Rattle.onfi_known.proofs.Sound.{proved_is_optimal}
 use Rattle.onfi_known.proofs.Views.{Begin, by_closing, by_again, by_opening, begin_of}
 use Rattle.onfi_planner.specs.Planning.{run_of, AreRising, IsRoot}
+use Rattle.onfi_plan.specs.Certificate.{Remembering, ShowsBelow, certificate_in}
+use Rattle.onfi_plan.specs.declared.plan.Plan.{Plan}
 use Rattle.onfi_check.specs.Nodes.{HasMoreNodes, IsOpen}
 use Rattle.onfi_planner.specs.declared.fault.PlanFault.TheVariants.{Over}
 use Rattle.onfi_planner.specs.declared.search.Best.{Best}
@@ -26,7 +28,6 @@ use Rattle.onfi_bound.specs.Loads.{AreLoads}
 use Rattle.onfi_bound.specs.declared.loads.Loads.{Loads}
 use Rattle.onfi_recall.specs.declared.closing.Closing.{Closing}
 use Rattle.onfi_recall.specs.declared.notes.Notes.{Notes}
-use Rattle.onfi_recall.specs.declared.planned.PlannedWithin.{PlannedWithin}
 use Rattle.onfi_recall.specs.declared.search.Shown.{Shown}
 use Rattle.onfi_recall.specs.declared.planning.Searched.{Searched}
 use Rattle.onfi_recall.specs.Searched.{IsSearched}
@@ -104,9 +105,9 @@ text_is x tokens text e p is =
     record { some = some_begin e x tokens d behind (begin_of e x.all x.problem [] tokens d behind [] proves); in_range = All-from_recursion InRange tokens p.in_range; spelled = is }
 
 -- the plan by a run, where tokens show that nothing ends before a number
-pub within_plan : (x : Position) (best : Best) (shown : ShownBefore) (plan : PlannedWithin) → InLimits x.problem → Legal x.problem plan.schedule → finish x.problem plan.schedule ≡ best.finish → AreRising plan.schedule.groups → IsShownBefore x best.finish shown
-    → plan.finish ≡ best.finish → plan.below ≡ shown.below → plan.cert.items ≡ header x.problem.rules.strict ++ line shown.tokens.items → IsWithin x plan
-within_plan x best shown plan limits legal is rising h ends below text =
+pub within_plan : (x : Position) (best : Best) (shown : ShownBefore) (plan : Plan) (text : List ℕ) → InLimits x.problem → Legal x.problem plan.planned.schedule → finish x.problem plan.planned.schedule ≡ best.finish → AreRising plan.planned.schedule.groups
+    → IsShownBefore x best.finish shown → plan.planned.finish ≡ best.finish → plan.below ≡ shown.below → certificate_in plan ≡ Remembering text → text ≡ header x.problem.rules.strict ++ line shown.tokens.items → IsWithin x plan
+within_plan x best shown plan text limits legal is rising h ends below kind spelled =
     let le = h.within in
     let proved = subst (IsProved x shown.tokens.items) (sym below) h.proved in
     record {
@@ -114,9 +115,10 @@ within_plan x best shown plan limits legal is rising h ends below text =
       ends = is ∙ sym ends;
       rising = rising;
       below = omega arith;
-      cert = (shown.tokens.items, text_is x shown.tokens.items plan.cert.items plan.below proved text, proved.proves);
+      cert = subst (λ c. ShowsBelow c x.all x.problem plan.below) (sym kind) (shown.tokens.items, text_is x shown.tokens.items text plan.below proved spelled, proved.proves);
+      kind = (text, kind);
       greatest = λ less. subst (λ n. IsOpen (n + 1) x.problem) (sym below) (h.greatest (omega arith));
-      optimal = λ e. proved_is_optimal x.all x.problem plan.schedule shown.tokens.items limits.problem limits.small legal (subst (ProvesTokens x.all shown.tokens.items x.problem) (e ∙ (ends ∙ sym is)) proved.proves);
+      optimal = λ e. proved_is_optimal x.all x.problem plan.planned.schedule shown.tokens.items limits.problem limits.small legal (subst (ProvesTokens x.all shown.tokens.items x.problem) (e ∙ (ends ∙ sym is)) proved.proves);
     }
 
 -- a token that closes the root shows what it reaches
@@ -223,6 +225,6 @@ is_searched x root limit s b better loads opened reopened nodes more again prove
     }
 
 -- the plan tells how many nodes were opened
-pub counts_told : {E : Type 0} (p : Problem) (r : Result PlannedWithin E) (opened reopened : ℕ) → IfOk r (λ plan. plan.opened ≡ opened) → IfOk r (λ plan. plan.reopened ≡ reopened) → HasSoMany p opened × HasSoMany p reopened → IfOk r (λ plan. HasSoMany p plan.opened × HasSoMany p plan.reopened)
+pub counts_told : {E : Type 0} (p : Problem) (r : Result Plan E) (opened reopened : ℕ) → IfOk r (λ plan. plan.opened ≡ opened) → IfOk r (λ plan. plan.reopened ≡ reopened) → HasSoMany p opened × HasSoMany p reopened → IfOk r (λ plan. HasSoMany p plan.opened × HasSoMany p plan.reopened)
 counts_told p (Ok plan) opened reopened a b many = (subst (HasSoMany p) (sym a) many.0, subst (HasSoMany p) (sym b) many.1)
 counts_told p (Err fault) opened reopened a b many = tt

@@ -1,15 +1,10 @@
 -- What the text of a certificate shows.
 use Rattle.std.specs.Prelude.{◌≡◌, ℕ, zero, suc, ◌+◌, List, [], ◌∷◌}
-use Rattle.onfi_problem.specs.Position.{Position}
 use Rattle.onfi_problem.specs.Problem.{Problem}
 use Rattle.onfi_known.specs.declared.token.Token.{Token}
 use Rattle.onfi_known.specs.declared.token.Token.TheVariants.{Yield}
-use Rattle.onfi_known.specs.Proves.{ProvesTokens}
 use Rattle.onfi_known.specs.Text.{IsCertificate}
-
--- the text is that of tokens which are accepted for e, under the position's option
-abbrev pub ProvesText : Position → List ℕ → ℕ → Type 0
-ProvesText x text e = (tokens : List Token) × IsCertificate text x.problem.rules.strict tokens × ProvesTokens x.all tokens x.problem e
+use Rattle.onfi_plan.specs.Certificate.{Certificate, Plain, Remembering}
 
 -- each token is a node, but that of a move that yields
 abbrev pub nodes_at : Token → ℕ
@@ -21,9 +16,10 @@ abbrev pub nodes_in : List Token → ℕ
 nodes_in [] = 0
 nodes_in (token ∷ tokens) = nodes_at token + nodes_in tokens
 
--- the text is that of tokens with so many nodes, under the problem's option
-abbrev pub HasNodesIn : Problem → List ℕ → ℕ → Type 0
-HasNodesIn p text n = (tokens : List Token) × IsCertificate text p.rules.strict tokens × (nodes_in tokens ≡ n)
+-- a certificate that remembers states is the text of tokens with so many nodes, under the problem's option
+abbrev pub HasNodesIn : Problem → Certificate → ℕ → Type 0
+HasNodesIn p (Plain tokens) n = ⊥
+HasNodesIn p (Remembering text) n = (tokens : List Token) × IsCertificate text p.rules.strict tokens × (nodes_in tokens ≡ n)
 
 -- how many nodes the walk opened that wrote the text: the first one, unless it was walked again
 abbrev pub last_opened : ℕ → ℕ → ℕ

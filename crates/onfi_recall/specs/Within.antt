@@ -7,10 +7,10 @@ use Rattle.onfi_schedule.specs.Schedule.{Legal, Optimal, finish}
 use Rattle.onfi_check.specs.First.{EndsFirstRun}
 use Rattle.onfi_check.specs.Nodes.{HasMoreNodes, IsOpen}
 use Rattle.onfi_planner.specs.Planning.{AreRising}
-use Rattle.onfi_recall.specs.Text.{ProvesText}
+use Rattle.onfi_plan.specs.Certificate.{IsRemembering, ShowsBelow, certificate_in}
+use Rattle.onfi_plan.specs.declared.plan.Plan.{Plan}
 use Rattle.onfi_recall.specs.Walks.{ClosesBy, HasSoMany, IsProved, IsRunOf}
 use Rattle.onfi_recall.specs.declared.gap.Gap.{Gap}
-use Rattle.onfi_recall.specs.declared.planned.PlannedWithin.{PlannedWithin}
 use Rattle.onfi_recall.specs.declared.sought.Sought.{Sought}
 use Rattle.onfi_recall.specs.declared.within.ShownBefore.{ShownBefore}
 
@@ -42,11 +42,12 @@ pub record IsGap (x : Position) (limit : ℕ) (gap : Gap) : Type 0 where
 
 -- a legal schedule is told with its finish, and with what no other ends before: all that the root's bounds reach, and the
 -- finish only where the schedule is optimal
-pub record IsWithin (x : Position) (plan : PlannedWithin) : Type 0 where
-  pub legal : Legal x.problem plan.schedule
-  pub ends : finish x.problem plan.schedule ≡ plan.finish
-  pub rising : AreRising plan.schedule.groups
-  pub below : plan.below ≤ plan.finish
-  pub cert : ProvesText x plan.cert.items plan.below
-  pub greatest : plan.below < plan.finish → IsOpen (plan.below + 1) x.problem
-  pub optimal : plan.below ≡ plan.finish → Optimal x.problem plan.schedule
+pub record IsWithin (x : Position) (plan : Plan) : Type 0 where
+  pub legal : Legal x.problem plan.planned.schedule
+  pub ends : finish x.problem plan.planned.schedule ≡ plan.planned.finish
+  pub rising : AreRising plan.planned.schedule.groups
+  pub below : plan.below ≤ plan.planned.finish
+  pub cert : ShowsBelow (certificate_in plan) x.all x.problem plan.below
+  pub kind : IsRemembering (certificate_in plan)
+  pub greatest : plan.below < plan.planned.finish → IsOpen (plan.below + 1) x.problem
+  pub optimal : plan.below ≡ plan.planned.finish → Optimal x.problem plan.planned.schedule

@@ -5,7 +5,7 @@ ghost use Rattle.onfi_recall.specs.Within.{IsGap};
 
 use crate::planning::{Walked, begin, walk_on};
 use crate::within::ShownBefore;
-use onfi_planner::{Best, Root};
+use onfi_planner::{Best, Limit, Root};
 use onfi_problem::Problem;
 use std::alloc::{AllocError, Global};
 
@@ -42,9 +42,8 @@ impl Gap {
 ///
 /// # Errors
 /// Only where memory was refused.
-pub fn narrow_gap(alloc: Global, problem: &Problem, gap: Gap, limit: u32) -> Result<Gap, AllocError>
-    requires few { limit ≤ 1048576 }
-    requires gap { IsGap problem.now limit gap }
+pub fn narrow_gap(alloc: Global, problem: &Problem, gap: Gap, limit: Limit) -> Result<Gap, AllocError>
+    requires { IsGap problem.now limit gap }
     ensures { IfOk result (IsGap problem.now limit) }
 {
     if gap.is_done() {

@@ -12,7 +12,6 @@ mod gap;
 mod guessed;
 mod notes;
 mod phases;
-mod planned;
 mod planning;
 mod records;
 mod search;
@@ -21,6 +20,5 @@ mod standing;
 mod within;
 mod yields;
 
-pub use planned::{PlannedKnown, PlannedWithin};
 pub use planning::plan_known;
 pub use within::plan_within;

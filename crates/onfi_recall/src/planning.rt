@@ -4,48 +4,48 @@ ghost use Rattle.std.specs.Prelude.{◌≡◌, ◌+◌, ℕ, ◌≤◌, ◌<◌,
 ghost use Rattle.onfi_schedule.specs.Schedule.{Optimal, finish};
 ghost use Rattle.onfi_check.specs.Nodes.{HasMoreNodes};
 ghost use Rattle.onfi_planner.specs.Planning.{AreRising};
-ghost use Rattle.onfi_recall.specs.Text.{HasNodesIn, ProvesText, last_opened, nodes_in};
+ghost use Rattle.onfi_plan.specs.Certificate.{IsRemembering, ShowsBelow, certificate_in};
+ghost use Rattle.onfi_recall.specs.Text.{HasNodesIn, last_opened, nodes_in};
 ghost use Rattle.onfi_recall.specs.Walks.{AreMore, EndsSooner, HasSoMany, IsBegun, IsBetter, IsProved, IsTree};
 ghost use Rattle.onfi_recall.specs.Searched.{IsSearched};
 
 use crate::choosing::best_of_rules;
 use crate::notes::Notes;
-use crate::planned::PlannedKnown;
 use crate::search::search;
 use crate::within::{ShownBefore, best_plan};
 use onfi_bound::Loads;
 use onfi_known::Token;
-use onfi_planner::{Best, PlanFault, Root, root_of};
+use onfi_plan::{Limit, Plan, PlanFault};
+use onfi_planner::{Best, Root, root_of};
 use onfi_problem::Problem;
 use std::alloc::{AllocError, Global};
 
 /// The legal schedule of a problem that ends first, its groups by rising first start, with the certificate that shows
-/// it; the search that finds it and the one that writes the certificate open at most `limit` nodes each, 1 to
-/// 1,048,576, all of the plain search's tree. The one that writes has a token for each node that it opens.
+/// it; the search that finds it and the one that writes the certificate open at most `limit` nodes each, all of the plain
+/// search's tree. The one that writes has a token for each node that it opens.
 ///
 /// # Errors
 /// `Over` where a search opened `limit` nodes and the tree of the problem has more: its nodes are the paths of moves on
 /// which no bound reaches the finish of the first schedule. `Memory` where memory was refused.
-pub fn plan_known(alloc: Global, problem: &Problem, limit: u32) -> Result<PlannedKnown, PlanFault>
-    requires some { 1 ≤ limit }
-    requires few { limit ≤ 1048576 }
-    ensures optimal { IfOk result (λ plan. Optimal problem.now.problem plan.schedule) }
-    ensures finish { IfOk result (λ plan. finish problem.now.problem plan.schedule ≡ plan.finish) }
-    ensures rising { IfOk result (λ plan. AreRising plan.schedule.groups) }
-    ensures cert { IfOk result (λ plan. ProvesText problem.now plan.cert.items plan.finish) }
+pub fn plan_known(alloc: Global, problem: &Problem, limit: Limit) -> Result<Plan, PlanFault>
+    ensures optimal { IfOk result (λ plan. Optimal problem.now.problem plan.planned.schedule) }
+    ensures finish { IfOk result (λ plan. finish problem.now.problem plan.planned.schedule ≡ plan.planned.finish) }
+    ensures rising { IfOk result (λ plan. AreRising plan.planned.schedule.groups) }
+    ensures below { IfOk result (λ plan. plan.below ≡ plan.planned.finish) }
+    ensures cert { IfOk result (λ plan. ShowsBelow (certificate_in plan) problem.now.all problem.now.problem plan.below) }
+    ensures kind { IfOk result (λ plan. IsRemembering (certificate_in plan)) }
     ensures some_opened { IfOk result (λ plan. 1 ≤ plan.opened) }
     ensures opened { IfOk result (λ plan. plan.opened ≤ limit) }
     ensures reopened { IfOk result (λ plan. plan.reopened ≤ limit) }
-    ensures counted { IfOk result (λ plan. HasNodesIn problem.now.problem plan.cert.items (last_opened plan.opened plan.reopened)) }
-    ensures again { IfOk result (λ plan. 1 ≤ plan.reopened → EndsSooner problem.now.problem plan.finish) }
+    ensures counted { IfOk result (λ plan. HasNodesIn problem.now.problem (certificate_in plan) (last_opened plan.opened plan.reopened)) }
+    ensures again { IfOk result (λ plan. 1 ≤ plan.reopened → EndsSooner problem.now.problem plan.planned.finish) }
     ensures nodes { IfOk result (λ plan. HasSoMany problem.now.problem plan.opened × HasSoMany problem.now.problem plan.reopened) }
     ensures over { IfErr result (λ fault. (opened : ℕ) → fault ≡ PlanFault.Over opened → (opened ≡ limit) × HasMoreNodes problem.now.problem limit) }
 {
-    let Ok(searched) = search_tree(alloc, problem, limit) else {
-        return Err(PlanFault::Memory);
-    };
+    let searched = search_tree(alloc, problem, limit)?;
     if searched.cut {
-        return Err(PlanFault::Over { opened: limit });
+        let opened = limit.get();
+        return Err(PlanFault::Over { opened });
     }
     let (opened, reopened) = (searched.opened, searched.reopened);
     let Searched { best, tokens, .. } = searched;
@@ -53,16 +53,8 @@ pub fn plan_known(alloc: Global, problem: &Problem, limit: u32) -> Result<Planne
         below: best.finish,
         tokens,
     };
-    let Ok(plan) = best_plan(alloc, problem, &best, &shown, opened, reopened) else {
-        return Err(PlanFault::Memory);
-    };
-    Ok(PlannedKnown {
-        schedule: plan.schedule,
-        finish: plan.finish,
-        cert: plan.cert,
-        opened: plan.opened,
-        reopened: plan.reopened,
-    })
+    let plan = best_plan(alloc, problem, &best, &shown, opened, reopened)?;
+    Ok(plan)
 }
 
 /// What the walks over a problem's tree have found.
@@ -82,14 +74,11 @@ pub struct Searched {
     pub reopened: u32,
 }
 
-/// Walks over the tree of a problem until a walk finds nothing sooner or is cut; each opens at most `limit` nodes, 1 to
-/// 1,048,576.
+/// Walks over the tree of a problem until a walk finds nothing sooner or is cut; each opens at most `limit` nodes.
 ///
 /// # Errors
 /// Only where memory was refused.
-pub fn search_tree(alloc: Global, problem: &Problem, limit: u32) -> Result<Searched, AllocError>
-    requires some { 1 ≤ limit }
-    requires few { limit ≤ 1048576 }
+pub fn search_tree(alloc: Global, problem: &Problem, limit: Limit) -> Result<Searched, AllocError>
     ensures { IfOk result (IsSearched problem.now limit) }
 {
     let root = begin(alloc, problem)?;
@@ -167,10 +156,9 @@ fn walk(
     at: &mut Problem,
     loads: &Loads,
     best: &mut Best,
-    limit: u32,
+    limit: Limit,
 ) -> Result<Walked, AllocError>
-    requires root { IsTree at.old loads.now }
-    requires few { limit ≤ 1048576 }
+    requires { IsTree at.old loads.now }
     ensures problem { OnOk result (at.new ≡ at.old) }
     ensures found { OnOk result (IsBetter at.old best.old best.new) }
     ensures fallen { IfOk result (λ walked. walked.improved ≡ true → best.new.finish < best.old.finish) }
@@ -193,7 +181,7 @@ fn walk(
 }
 
 /// Walks until a walk finds nothing sooner, which has written the tokens then, or is cut; each opens at most `limit`
-/// nodes, 1,048,576 at most.
+/// nodes.
 ///
 /// # Errors
 /// Only where memory was refused.
@@ -202,10 +190,9 @@ pub fn walk_on(
     at: &mut Problem,
     loads: &Loads,
     best: &mut Best,
-    limit: u32,
+    limit: Limit,
 ) -> Result<Walked, AllocError>
-    requires root { IsTree at.old loads.now }
-    requires few { limit ≤ 1048576 }
+    requires { IsTree at.old loads.now }
     ensures found { OnOk result (IsBetter at.old best.old best.new) }
     ensures proved { IfOk result (λ walked. walked.cut ≡ false → IsProved at.old walked.tokens.items best.new.finish) }
     ensures counted { IfOk result (λ walked. walked.cut ≡ false → nodes_in walked.tokens.items ≡ walked.opened) }

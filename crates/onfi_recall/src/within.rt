@@ -7,44 +7,40 @@ ghost use Rattle.onfi_bound.specs.Loads.{AreLoads};
 ghost use Rattle.onfi_check.specs.Nodes.{HasMoreNodes};
 ghost use Rattle.onfi_check.specs.Nodes.{IsOpen};
 ghost use Rattle.onfi_planner.specs.Planning.{AreRising};
-ghost use Rattle.onfi_recall.specs.Text.{HasNodesIn, ProvesText, nodes_in};
+ghost use Rattle.onfi_plan.specs.Certificate.{IsRemembering, ShowsBelow, certificate_in};
+ghost use Rattle.onfi_recall.specs.Text.{HasNodesIn, nodes_in};
 ghost use Rattle.onfi_recall.specs.Walks.{HasSoMany, IsProved, IsRunOf};
 ghost use Rattle.onfi_recall.specs.Within.{IsShownBefore, IsWithin};
 
 use crate::gap::{Gap, narrow_gap};
-use crate::planned::PlannedWithin;
 use crate::planning::{Searched, search_tree};
 use crate::sought::greatest_bound;
 use onfi_bound::Loads;
 use onfi_known::{Token, text_of};
-use onfi_planner::{Best, schedule_of};
+use onfi_plan::{Limit, Plan};
+use onfi_planner::{Best, Planned, schedule_of};
 use onfi_problem::Problem;
 use std::alloc::{AllocError, Global};
 
 /// A legal schedule of a problem, its groups by rising first start, with what no schedule ends before, in ns, and the
-/// certificate that shows that. Where the searches of [`crate::plan_known`] with the same `limit`, 1 to 1,048,576, find
-/// the schedule that ends first, it is that one, and the certificate shows its finish. Where one of them opened `limit`
-/// nodes and wasn't over, it is the best that they have found, and the certificate shows what the bounds reach before
-/// anything is started; where that was the first one, another walk of at most `limit` nodes looks for what ends before
-/// the middle between the two, and shows that where nothing does.
+/// certificate that shows that. Where the searches of [`crate::plan_known`] with the same `limit` find the schedule that
+/// ends first, it is that one, and the certificate shows its finish. Where one of them opened `limit` nodes and wasn't
+/// over, it is the best that they have found, and the certificate shows what the bounds reach before anything is started;
+/// where that was the first one, another walk of at most `limit` nodes looks for what ends before the middle between the
+/// two, and shows that where nothing does.
 ///
 /// # Errors
 /// Only where memory was refused.
-pub fn plan_within(
-    alloc: Global,
-    problem: &Problem,
-    limit: u32,
-) -> Result<PlannedWithin, AllocError>
-    requires some { 1 ≤ limit }
-    requires few { limit ≤ 1048576 }
-    ensures legal { IfOk result (λ plan. Legal problem.now.problem plan.schedule) }
-    ensures finish { IfOk result (λ plan. finish problem.now.problem plan.schedule ≡ plan.finish) }
-    ensures rising { IfOk result (λ plan. AreRising plan.schedule.groups) }
-    ensures below { IfOk result (λ plan. plan.below ≤ plan.finish) }
-    ensures cert { IfOk result (λ plan. ProvesText problem.now plan.cert.items plan.below) }
-    ensures greatest { IfOk result (λ plan. plan.below < plan.finish → IsOpen (plan.below + 1) problem.now.problem) }
-    ensures optimal { IfOk result (λ plan. plan.below ≡ plan.finish → Optimal problem.now.problem plan.schedule) }
-    ensures short { IfOk result (λ plan. plan.below < plan.finish → HasMoreNodes problem.now.problem limit) }
+pub fn plan_within(alloc: Global, problem: &Problem, limit: Limit) -> Result<Plan, AllocError>
+    ensures legal { IfOk result (λ plan. Legal problem.now.problem plan.planned.schedule) }
+    ensures finish { IfOk result (λ plan. finish problem.now.problem plan.planned.schedule ≡ plan.planned.finish) }
+    ensures rising { IfOk result (λ plan. AreRising plan.planned.schedule.groups) }
+    ensures below { IfOk result (λ plan. plan.below ≤ plan.planned.finish) }
+    ensures cert { IfOk result (λ plan. ShowsBelow (certificate_in plan) problem.now.all problem.now.problem plan.below) }
+    ensures kind { IfOk result (λ plan. IsRemembering (certificate_in plan)) }
+    ensures greatest { IfOk result (λ plan. plan.below < plan.planned.finish → IsOpen (plan.below + 1) problem.now.problem) }
+    ensures optimal { IfOk result (λ plan. plan.below ≡ plan.planned.finish → Optimal problem.now.problem plan.planned.schedule) }
+    ensures short { IfOk result (λ plan. plan.below < plan.planned.finish → HasMoreNodes problem.now.problem limit) }
     ensures opened { IfOk result (λ plan. plan.opened ≤ limit) }
     ensures reopened { IfOk result (λ plan. plan.reopened ≤ limit) }
     ensures nodes { IfOk result (λ plan. HasSoMany problem.now.problem plan.opened × HasSoMany problem.now.problem plan.reopened) }
@@ -130,25 +126,29 @@ pub fn best_plan(
     shown: &ShownBefore,
     opened: u32,
     reopened: u32,
-) -> Result<PlannedWithin, AllocError>
+) -> Result<Plan, AllocError>
     requires limits { InLimits problem.now.problem }
     requires run { IsRunOf problem.now best.now }
     requires small { best.now.finish < 2 ^ 63 }
     requires shown { IsShownBefore problem.now best.now.finish shown.now }
     ensures plan { IfOk result (IsWithin problem.now) }
-    ensures finish { IfOk result (λ plan. plan.finish ≡ best.now.finish) }
+    ensures finish { IfOk result (λ plan. plan.planned.finish ≡ best.now.finish) }
     ensures below { IfOk result (λ plan. plan.below ≡ shown.now.below) }
-    ensures counted { IfOk result (λ plan. HasNodesIn problem.now.problem plan.cert.items (nodes_in shown.now.tokens.items)) }
+    ensures counted { IfOk result (λ plan. HasNodesIn problem.now.problem (certificate_in plan) (nodes_in shown.now.tokens.items)) }
     ensures opened { IfOk result (λ plan. plan.opened ≡ opened) }
     ensures reopened { IfOk result (λ plan. plan.reopened ≡ reopened) }
 {
     let schedule = schedule_of(alloc, problem, best.steps.as_slice());
-    let cert = text_of(alloc, problem.rules().strict, shown.tokens.as_slice())?;
-    Ok(PlannedWithin {
+    let text = text_of(alloc, problem.rules().strict, shown.tokens.as_slice())?;
+    let planned = Planned {
         schedule,
         finish: best.finish,
+        cert: Vec::new(alloc),
+    };
+    Ok(Plan {
+        planned,
         below: shown.below,
-        cert,
+        text: Some(text),
         opened,
         reopened,
     })

@@ -6,8 +6,8 @@ use Rattle.onfi_recall.proofs.Gaps.{narrowed}
 use Rattle.onfi_recall.proofs.Tree.{tree_at}
 use Rattle.onfi_recall.proofs.gap.narrow_gap.Goals as goal
 
-pub walk_on-requires-clause-root : goal.walk_on-requires-clause-root
-walk_on-requires-clause-root c = tree_at c.args.problem.now c.in_ok-root.root.problem c.in_ok-root.root c.in_ok-root.ensures refl
+pub walk_on-requires : goal.walk_on-requires
+walk_on-requires c = tree_at c.args.problem.now c.in_ok-root.root.problem c.in_ok-root.root c.in_ok-root.ensures refl
 
 pub returns : goal.returns
 returns c =
@@ -16,7 +16,7 @@ returns c =
     let e = root.ensures.same in
     let walked = c.in_ok-walked in
     let aim : Best = record { finish = c.middle-half.result; steps = c.new.result } in
-    narrowed x c.args.limit c.middle-half.result c.args.gap _ aim c.walk_on.new.best walked.walked c.requires.gap (c.if-is_done.ensures refl) c.middle-half.ensures.above c.middle-half.ensures.within refl
+    narrowed x c.args.limit c.middle-half.result c.args.gap _ aim c.walk_on.new.best walked.walked c.requires (c.if-is_done.ensures refl) c.middle-half.ensures.above c.middle-half.ensures.within refl
     (subst (λ (z : Position). IsBetter z aim c.walk_on.new.best) e walked.ensures.found) c.found_or-best.ensures.found c.found_or-best.ensures.kept
     (λ q. subst (λ (z : Position). IsProved z walked.walked.tokens.items c.walk_on.new.best.finish) e (walked.ensures.proved q)) c.shown_by_walk-shown.ensures.below c.shown_by_walk-shown.ensures.tokens c.shown_by_walk-shown.ensures.kept
     walked.ensures.opened (subst (λ (z : Position). AreMore z.problem c.middle-half.result walked.walked.opened) e walked.ensures.nodes) refl

@@ -10,11 +10,11 @@ last_some : (opened last : ℕ) → 1 ≤ last → last_opened opened last ≡ l
 last_some opened zero some = absurd (omega arith)
 last_some opened (suc last) some = refl
 
-pub walk-requires-clause-root : goal.walk-requires-clause-root
-walk-requires-clause-root c = tree_at c.args.problem.now c.in_ok-root.root.problem c.in_ok-root.root c.in_ok-root.ensures refl
+pub walk-requires : goal.walk-requires
+walk-requires c = tree_at c.args.problem.now c.in_ok-root.root.problem c.in_ok-root.root c.in_ok-root.ensures refl
 
-pub walk_on-requires-clause-root : goal.walk_on-requires-clause-root
-walk_on-requires-clause-root c = tree_at c.args.problem.now c.walk.new.at c.in_ok-root.root c.in_ok-root.ensures c.in_ok-found.ensures.problem
+pub walk_on-requires : goal.walk_on-requires
+walk_on-requires c = tree_at c.args.problem.now c.walk.new.at c.in_ok-root.root c.in_ok-root.ensures c.in_ok-found.ensures.problem
 
 pub returns-then-not-is_outdone : goal.returns-then-not-is_outdone
 returns-then-not-is_outdone c =

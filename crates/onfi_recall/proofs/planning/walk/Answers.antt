@@ -3,7 +3,7 @@ use Rattle.onfi_recall.proofs.Tree.{nodes_from_none, over_from_none, still_bette
 use Rattle.onfi_recall.proofs.planning.walk.Goals as goal
 
 pub search-requires : goal.search-requires
-search-requires c = walk_at c.args.at.now c.args.loads.now c.args.best.now c.new-notes.result c.args.limit c.requires.root c.requires.few c.new-notes.ensures.finish c.new-notes.ensures.opened c.new-notes.ensures.limit c.new-notes.ensures.none c.new-notes.ensures.uncut
+search-requires c = walk_at c.args.at.now c.args.loads.now c.args.best.now c.new-notes.result c.args.limit c.requires c.new-notes.ensures.few c.new-notes.ensures.finish c.new-notes.ensures.opened c.new-notes.ensures.limit c.new-notes.ensures.none c.new-notes.ensures.uncut
 
 pub returns-clause-found : goal.returns-clause-found
 returns-clause-found c = still_better c.args.at.now c.args.best.now c.search.new.best _ c.in_ok-search.ensures.shown.found
@@ -12,7 +12,7 @@ pub returns-clause-fallen : goal.returns-clause-fallen
 returns-clause-fallen c = λ q. walk_fallen c.search.new.best.finish c.search.new.notes.cert.finish c.args.best.now.finish (c.in_ok-search.ensures.shown.opened.same_finish ∙ c.new-notes.ensures.finish) q
 
 pub returns-clause-proved : goal.returns-clause-proved
-returns-clause-proved c = λ uncut q. walk_stands c.args.at.now c.args.best.now c.search.new.best c.new-notes.result c.search.new.notes _ c.in_ok-search.ensures.shown c.new-notes.ensures.opened (omega (arith, c.requires.few, c.new-notes.ensures.limit)) c.new-notes.ensures.none c.new-notes.ensures.tokens c.new-notes.ensures.finish uncut q
+returns-clause-proved c = λ uncut q. walk_stands c.args.at.now c.args.best.now c.search.new.best c.new-notes.result c.search.new.notes _ c.in_ok-search.ensures.shown c.new-notes.ensures.opened (omega (arith, c.new-notes.ensures.few, c.new-notes.ensures.limit)) c.new-notes.ensures.none c.new-notes.ensures.tokens c.new-notes.ensures.finish uncut q
 
 pub returns-clause-some : goal.returns-clause-some
 returns-clause-some c = λ uncut. let a = c.in_ok-search.ensures.shown.opened.some uncut in omega arith
