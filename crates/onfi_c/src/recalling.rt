@@ -17,6 +17,7 @@ use crate::status::Status;
 use crate::told::Told;
 use crate::written;
 use onfi_known::check_known_text;
+use onfi_plan::{Limit, certificate_text};
 use onfi_problem::Problem;
 use onfi_recall::plan_known;
 use std::alloc::Global;
@@ -29,18 +30,22 @@ pub fn tell(alloc: Global, problem: &Problem, limit: u32) -> Result<Told<PlainPl
     ensures plan { IfOk result (λ t. IsRecalled problem.now.problem limit t.plan t.text.items) }
     ensures none { IfErr result (λ status. IsUnplanned problem.now.problem limit status) }
 {
-    let planned = match plan_known(alloc, problem, limit) {
-        Ok(planned) => planned,
+    let plan = match plan_known(alloc, problem, Limit::of(limit).unwrap()) {
+        Ok(plan) => plan,
         Err(fault) => return Err(Status::of_plan(fault)),
     };
-    let schedule = written::legal_schedule(problem, &planned.schedule);
+    let strict = problem.rules().strict;
+    let Ok(text) = certificate_text(alloc, strict, plan.planned.cert.as_slice(), plan.text) else {
+        return Err(Status::Memory);
+    };
+    let schedule = written::legal_schedule(problem, &plan.planned.schedule);
     Ok(Told {
         plan: PlainPlan {
             schedule,
-            finish: planned.finish,
-            opened: planned.opened,
+            finish: plan.planned.finish,
+            opened: plan.opened,
         },
-        text: planned.cert,
+        text,
     })
 }
 

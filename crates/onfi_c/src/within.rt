@@ -20,8 +20,10 @@ use crate::told::Told;
 use crate::written;
 use onfi_early::Weights;
 use onfi_known::check_known_within;
+use onfi_plan::certificate_text;
+use onfi_planners::ChosenPlanner;
 use onfi_problem::Problem;
-use onfi_script::best_within;
+use onfi_script::{Output, PlanOptions, plan_by};
 use std::alloc::Global;
 
 /// Weights by which no request counts more than another.
@@ -44,17 +46,27 @@ pub fn tell(
     ensures plan { IfOk result (λ t. IsPlanNear (slack_in slack) problem.now.problem limit t.plan t.text.items) }
     ensures none { IfErr result (λ status. IsNoMemory problem.now.problem limit status) }
 {
-    let Ok(planned) = best_within(alloc, problem, weights, slack, limit) else {
+    let options = PlanOptions {
+        planner: ChosenPlanner::BestSoFar,
+        better: slack,
+        limit,
+        output: Output::Plan,
+    };
+    let Ok(plan) = plan_by(alloc, problem, weights, options) else {
         return Err(Status::Memory);
     };
-    let schedule = written::legal_schedule(problem, &planned.schedule);
+    let strict = problem.rules().strict;
+    let Ok(text) = certificate_text(alloc, strict, plan.planned.cert.as_slice(), plan.text) else {
+        return Err(Status::Memory);
+    };
+    let schedule = written::legal_schedule(problem, &plan.planned.schedule);
     Ok(Told {
         plan: PlainWithin {
             schedule,
-            finish: planned.finish,
-            below: planned.below,
+            finish: plan.planned.finish,
+            below: plan.below,
         },
-        text: planned.certificate,
+        text,
     })
 }
 

@@ -11,8 +11,8 @@ use Rattle.onfi_check.specs.Nodes.{HasMoreNodes}
 use Rattle.onfi_planner.specs.declared.planned.Planned.{Planned}
 use Rattle.onfi_plan.specs.Certificate.{Plain, certificate_in}
 use Rattle.onfi_plan.specs.declared.plan.Plan.{Plan}
-use Rattle.onfi_plan.specs.declared.fault.PlannerFault.{PlannerFault}
-use Rattle.onfi_plan.specs.declared.fault.PlannerFault.TheVariants as planner
+use Rattle.onfi_planner.specs.declared.fault.PlanFault.{PlanFault}
+use Rattle.onfi_planner.specs.declared.fault.PlanFault.TheVariants as planner
 use Rattle.slab.specs.Slab.{Slab, get, slab_len}
 use Rattle.onfi_core.specs.declared.setup.Setup.{Setup}
 use Rattle.onfi_core.specs.declared.setup.Choice.{Choice}
@@ -123,7 +123,7 @@ StopsBecause p limit (Over opened) = (horizon p < 2 ^ 62) × (opened ≡ limit) 
 StopsBecause p limit Memory = horizon p < 2 ^ 62
 
 -- why the planner gave no plan, as why there is none
-abbrev pub stop_of : PlannerFault → PlanStop
+abbrev pub stop_of : PlanFault → PlanStop
 stop_of (planner.Over opened) = Over opened
 stop_of planner.Memory = Memory
 

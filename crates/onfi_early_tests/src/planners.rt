@@ -1,8 +1,8 @@
 use crate::early::{timing, with_status_due};
 use onfi_early::{Weights, cost_of, slack_of};
 use onfi_group::Rules;
-use onfi_plan::{Planner, PlannerFault};
-use onfi_planners::{ChosenEarly, ChosenPlanner, EarlyPlanner, PlainPlanner, Weighing};
+use onfi_plan::{Limit, PlanFault, Planner};
+use onfi_planners::{ChosenPlanner, EarlyPlanner, PlainPlanner, SlackPlanner, Weighing};
 use onfi_problem::{LunState, Problem};
 use onfi_request::Want;
 use onfi_timing::Kind;
@@ -14,8 +14,8 @@ fn told(
     alloc: Global,
     planner: &impl Planner,
     problem: &Problem,
-) -> Result<(u128, u64, u64), PlannerFault> {
-    let plan = planner.plan(alloc, problem, 1000)?;
+) -> Result<(u128, u64, u64), PlanFault> {
+    let plan = planner.plan(alloc, problem, Limit::of(1000).unwrap())?;
     let equal = Weights {
         wants: [1; 8],
         running: [[1; 4]; 8],
@@ -44,19 +44,19 @@ fn a_planner_and_a_slack_are_chosen(rt: HostRuntime) -> Result<(), Fail> {
         ChosenPlanner::BestSoFar,
     ];
     for planner in planners {
-        let none = ChosenEarly {
+        let weighing = Weighing::ByAge;
+        let early = EarlyPlanner { planner, weighing };
+        assert!(rt; told(alloc, &early, &problem) == Ok((1377, 908, 908)));
+        let zero = SlackPlanner {
             planner,
-            slack: None,
-        };
-        assert!(rt; told(alloc, &none, &problem) == told(alloc, &planner, &problem));
-        let zero = ChosenEarly {
-            planner,
-            slack: Some(0),
+            weighing,
+            per_mille: 0,
         };
         assert!(rt; told(alloc, &zero, &problem) == Ok((1377, 908, 908)));
-        let more = ChosenEarly {
+        let more = SlackPlanner {
             planner,
-            slack: Some(4),
+            weighing,
+            per_mille: 4,
         };
         assert!(rt; told(alloc, &more, &problem) == Ok((1375, 911, 908)));
     }
@@ -98,7 +98,7 @@ fn the_older_of_two_reads_ends_first(rt: HostRuntime) -> Result<(), Fail> {
         planner: PlainPlanner,
         weighing: Weighing::default(),
     };
-    let plan = by_age.plan(alloc, &problem, 1000)?;
+    let plan = by_age.plan(alloc, &problem, Limit::of(1000).unwrap())?;
     let first = Weights {
         wants: [1, 0, 0, 0, 0, 0, 0, 0],
         running: [[1; 4]; 8],

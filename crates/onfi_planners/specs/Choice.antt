@@ -23,7 +23,7 @@ IsAny _ = Unit {0}
 pub record IsChosen (planner : ChosenPlanner) (p : Problem) (limit : ℕ) (plan : Plan) : Type 0 where
   pub optimal : planner ≢ BestSoFar → plan.below ≡ plan.planned.finish
   pub certified : certified_by planner (certificate_in plan)
-  pub short : plan.below < plan.planned.finish → HasMoreNodes p limit
+  pub short : plan.below < plan.planned.finish → (planner ≡ BestSoFar) × HasMoreNodes p limit
 
 -- the plan was made from one of which another planner promises this, and ends later by so many thousandths at most; where that one
 -- is exact, no legal schedule ends sooner by more

@@ -9,9 +9,9 @@ mod input;
 
 use input::{Unread, read};
 use onfi_console::{Input, Untaken, escaped, is_quiet, message, read_words, shown};
-use onfi_run::run_freely;
+use onfi_run::{Limit, run_freely};
 use onfi_script::{engine_split_by, write_text};
-use onfi_sim::{Command, EngineFault, Named, Parsed, RunPlanner, describe, engine, engine_split};
+use onfi_sim::{Command, EngineFault, Named, Parsed, describe, engine, engine_split};
 use std::alloc::Global;
 use std::fmt::Display;
 use std::io::{Eprint, ErrorKind, Print};
@@ -138,15 +138,13 @@ fn answer_to<R: Threads + Wait + Sync + AllocGlobal>(
     let alloc = rt.alloc();
     match parsed.named {
         Named::Run {
-            planner: RunPlanner::Exact(planner),
+            planner,
             limit,
             clocked,
-        } => run_freely(rt, alloc, planner, limit, clocked, &mut text, answer),
-        Named::Run {
-            planner: RunPlanner::Inexact(planner),
-            limit,
-            clocked,
-        } => run_freely(rt, alloc, planner, limit, clocked, &mut text, answer),
+        } => {
+            let limit = Limit::of(limit).unwrap();
+            run_freely(rt, alloc, planner, limit, clocked, &mut text, answer)
+        }
         Named::Problem {
             command: Command::Plan { limit, trace },
             workers,

@@ -3,6 +3,7 @@ ghost use Rattle.std.specs.Prelude.{◌≡◌, ◌≤◌};
 use onfi_addr::Place;
 use onfi_group::{Group, Rules};
 use onfi_known::{check_known_text, check_known_within};
+use onfi_plan::Limit;
 use onfi_planner::plan_counted;
 use onfi_problem::{LunState, Problem, ProblemFault};
 use onfi_recall::{plan_known, plan_within};
@@ -53,12 +54,12 @@ fn a_plan_ends_when_that_of_the_plain_search_does(rt: HostRuntime) -> Result<(),
     let alloc = rt.alloc();
     let problem = mixed(alloc)?;
     let plain = plan_counted(alloc, &problem, 1_048_576)?;
-    let planned = plan_known(alloc, &problem, 1_048_576)?;
-    assert_eq!(rt; planned.finish, plain.planned.finish);
+    let planned = plan_known(alloc, &problem, Limit::of(1_048_576).unwrap())?;
+    assert_eq!(rt; planned.planned.finish, plain.planned.finish);
     assert!(rt; planned.opened <= plain.opened);
     assert_eq!(rt; (planned.opened, planned.reopened), (1, 0));
-    let text = planned.cert.as_slice();
-    let checked = check_known_text(alloc, &problem, &planned.schedule, text);
+    let text = planned.text().expect(&rt, "a text");
+    let checked = check_known_text(alloc, &problem, &planned.planned.schedule, text);
     assert_eq!(rt; checked, Ok(plain.planned.finish));
     Ok(())
 }
@@ -87,12 +88,12 @@ fn six_reads(alloc: Global) -> Result<Problem, ProblemFault> {
 fn a_tree_is_walked_once_more_where_a_sooner_finish_was_found(rt: HostRuntime) -> Result<(), Fail> {
     let alloc = rt.alloc();
     let problem = six_reads(alloc)?;
-    let planned = plan_known(alloc, &problem, 1000)?;
-    assert_eq!(rt; planned.finish, 92_120);
+    let planned = plan_known(alloc, &problem, Limit::of(1000).unwrap())?;
+    assert_eq!(rt; planned.planned.finish, 92_120);
     assert_eq!(rt; (planned.opened, planned.reopened), (256, 126));
-    let text = planned.cert.as_slice();
+    let text = planned.text().expect(&rt, "a text");
     assert!(rt; text.starts_with(b"ONFICERT 3 remember\nB"));
-    let checked = check_known_text(alloc, &problem, &planned.schedule, text);
+    let checked = check_known_text(alloc, &problem, &planned.planned.schedule, text);
     assert_eq!(rt; checked, Ok(92_120));
     Ok(())
 }
@@ -101,12 +102,12 @@ fn a_tree_is_walked_once_more_where_a_sooner_finish_was_found(rt: HostRuntime) -
 fn a_plan_within_an_ample_limit_is_the_one_that_ends_first(rt: HostRuntime) -> Result<(), Fail> {
     let alloc = rt.alloc();
     let problem = six_reads(alloc)?;
-    let known = plan_known(alloc, &problem, 1000)?;
-    let planned = plan_within(alloc, &problem, 1000)?;
-    assert_eq!(rt; (planned.finish, planned.below), (92_120, 92_120));
-    assert!(rt; planned.cert.as_slice() == known.cert.as_slice());
-    let text = planned.cert.as_slice();
-    let checked = check_known_text(alloc, &problem, &planned.schedule, text);
+    let known = plan_known(alloc, &problem, Limit::of(1000).unwrap())?;
+    let planned = plan_within(alloc, &problem, Limit::of(1000).unwrap())?;
+    assert_eq!(rt; (planned.planned.finish, planned.below), (92_120, 92_120));
+    assert!(rt; planned.text() == known.text());
+    let text = planned.text().expect(&rt, "a text");
+    let checked = check_known_text(alloc, &problem, &planned.planned.schedule, text);
     assert_eq!(rt; checked, Ok(92_120));
     Ok(())
 }
@@ -117,12 +118,12 @@ fn a_plan_within_an_ample_limit_is_the_one_that_ends_first(rt: HostRuntime) -> R
 fn a_plan_within_a_small_limit_tells_what_nothing_ends_before(rt: HostRuntime) -> Result<(), Fail> {
     let alloc = rt.alloc();
     let problem = six_reads(alloc)?;
-    let planned = plan_within(alloc, &problem, 100)?;
-    assert!(rt; legal(&problem, &planned.schedule));
-    assert_eq!(rt; finish(&problem, &planned.schedule), planned.finish);
-    assert!(rt; planned.finish >= 92_120);
+    let planned = plan_within(alloc, &problem, Limit::of(100).unwrap())?;
+    assert!(rt; legal(&problem, &planned.planned.schedule));
+    assert_eq!(rt; finish(&problem, &planned.planned.schedule), planned.planned.finish);
+    assert!(rt; planned.planned.finish >= 92_120);
     assert_eq!(rt; planned.below, 91_240);
-    assert!(rt; planned.cert.as_slice() == b"ONFICERT 3 remember\nL\n".as_slice());
+    assert!(rt; planned.text() == Some(b"ONFICERT 3 remember\nL\n".as_slice()));
     assert_eq!(rt; (planned.opened, planned.reopened), (100, 100));
     Ok(())
 }
@@ -133,13 +134,13 @@ fn a_plan_within_a_small_limit_tells_what_nothing_ends_before(rt: HostRuntime) -
 fn a_plan_within_a_limit_is_the_best_that_was_found(rt: HostRuntime) -> Result<(), Fail> {
     let alloc = rt.alloc();
     let problem = six_reads(alloc)?;
-    let planned = plan_within(alloc, &problem, 255)?;
-    assert!(rt; legal(&problem, &planned.schedule));
-    assert_eq!(rt; (planned.finish, planned.below), (92_120, 91_680));
+    let planned = plan_within(alloc, &problem, Limit::of(255).unwrap())?;
+    assert!(rt; legal(&problem, &planned.planned.schedule));
+    assert_eq!(rt; (planned.planned.finish, planned.below), (92_120, 91_680));
     assert_eq!(rt; planned.opened, 255);
     assert!(rt; planned.reopened >= 1);
-    let text = planned.cert.as_slice();
-    let checked = check_known_within(alloc, &problem, &planned.schedule, 91_680, text);
+    let text = planned.text().expect(&rt, "a text");
+    let checked = check_known_within(alloc, &problem, &planned.planned.schedule, 91_680, text);
     assert_eq!(rt; checked, Ok(92_120));
     Ok(())
 }

@@ -7,6 +7,7 @@ ghost use Rattle.onfi_run.specs.Setup as spec;
 
 use onfi_core::{Choice, Setup};
 use onfi_group::Rules;
+use onfi_plan::Limit;
 use onfi_script::{Choosing, PageDevice, Row, Subject, is_strict, row_on};
 
 /// How many channels there are.
@@ -96,9 +97,7 @@ fn rules(rows: &[Row], device: &PageDevice) -> Rules
 
 /// What the rows set up on their device; one planning opens at most `limit` nodes. There are always four hosts, and one
 /// that isn't used sends nothing.
-pub fn setup_of(rows: &[Row], device: &PageDevice, limit: u32) -> Setup
-    requires some { 1 ≤ limit }
-    requires few { limit ≤ 1048576 }
+pub fn setup_of(rows: &[Row], device: &PageDevice, limit: Limit) -> Setup
     ensures { spec.SetsUp rows.now device.now limit result }
 {
     Setup::new(
@@ -110,7 +109,7 @@ pub fn setup_of(rows: &[Row], device: &PageDevice, limit: u32) -> Setup
         batch(rows),
         submit_cap(rows),
         post_cap(rows),
-        limit,
+        limit.get(),
     )
     .unwrap()
     .with_choice(choice(rows))
