@@ -326,8 +326,9 @@ fn usual_of(planner: SlackPlanner<ChosenPlanner>) -> u32
     ensures few { result ≤ 1048576 }
 {
     match planner.planner {
-        ChosenPlanner::Remembering if planner.per_mille > 0 => USUAL,
-        _ => usual_for(planner.planner),
+        ChosenPlanner::Plain => MOST,
+        ChosenPlanner::Remembering if planner.per_mille == 0 => MOST,
+        ChosenPlanner::Remembering | ChosenPlanner::BestSoFar => USUAL,
     }
 }
 

@@ -1,6 +1,6 @@
 -- Plans of the planners, and those that are made better.
 use Rattle.std.proofs.Common.{◌≡◌, ◌≢◌, ℕ, ◌+◌, ◌-◌, ◌/◌, ◌<◌, ◌≤◌, List, refl, sym, ap, ◌∙◌, subst, arith}
-use Rattle.std.proofs.Math.Nat.{mul-zero}
+use Rattle.std.specs.Prelude.{Result, Ok, Err, IfOk}
 use Rattle.onfi_cert.specs.declared.token.Token.{Token}
 use Rattle.onfi_problem.specs.Position.{Position}
 use Rattle.onfi_problem.specs.Problem.{Problem}
@@ -14,10 +14,8 @@ use Rattle.onfi_early.specs.Slack.{slack_of}
 use Rattle.onfi_planners.specs.Choice.{IsChosen, certified_by}
 use Rattle.onfi_planners.specs.declared.chosen.ChosenPlanner.{ChosenPlanner}
 use Rattle.onfi_planners.specs.declared.chosen.ChosenPlanner.TheVariants as by
+use Rattle.onfi_planners.proofs.Promises.{no_slack}
 use Rattle.onfi_script.specs.Answer.{IsPlan}
-
-no_slack : (from to : ℕ) → slack_of 0 from to ≡ 0
-no_slack from to = ap (λ n. n / 1000) (mul-zero (to - from))
 
 -- a legal schedule that ends when nothing ends before is optimal
 optimal_at : (p : Problem) (s : Schedule) (below ends : ℕ) → Legal p s → finish p s ≡ ends → NoneBefore p below → below ≡ ends → Optimal p s
@@ -76,3 +74,8 @@ better_plan planner slack limit p plan better first legal is rising made = recor
         let t = made.in_time in
         let b = made.below in
         omega (arith, optimal.1, slack_none, t, b, least)
+
+pub better_plans : {E : Type 0} (planner : ChosenPlanner) (slack limit : ℕ) (p : Problem) (plan : OnePlan) (r : Result OnePlan E) → IsPlan planner 0 limit p plan → IfOk r (λ better. Legal p better.planned.schedule)
+    → IfOk r (λ better. finish p better.planned.schedule ≡ better.planned.finish) → IfOk r (λ better. AreRising better.planned.schedule.groups) → IfOk r (IsMadeFrom plan (slack_of slack p.bus_free plan.below)) → IfOk r (IsPlan planner slack limit p)
+better_plans planner slack limit p plan (Ok better) first legal is rising made = better_plan planner slack limit p plan better first legal is rising made
+better_plans planner slack limit p plan (Err fault) first legal is rising made = tt

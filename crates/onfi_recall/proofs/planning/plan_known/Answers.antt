@@ -4,7 +4,7 @@ use Rattle.onfi_recall.proofs.Tree.{finish_shown, over_limit}
 use Rattle.onfi_recall.proofs.planning.plan_known.Goals as goal
 
 pub returns-then-searched-clause-over : goal.returns-then-searched-clause-over
-returns-then-searched-clause-over c = λ opened q. over_limit c.args.problem.now.problem c.args.limit _ opened q (grind arith) (c.in_ok-searched.ensures.over c.if-searched.true)
+returns-then-searched-clause-over c = λ opened q. over_limit c.args.problem.now.problem c.args.limit _ opened q c.get-opened.ensures.value (c.in_ok-searched.ensures.over c.if-searched.true)
 
 pub best_plan-requires-clause-shown : goal.best_plan-requires-clause-shown
 best_plan-requires-clause-shown c = finish_shown c.args.problem.now c.in_ok-searched.searched.best.finish _ (c.in_ok-searched.ensures.proved c.if-searched.false) refl
