@@ -50,11 +50,12 @@ pub fn plan_counted(alloc: Global, problem: &Problem, limit: u32) -> Result<Coun
     ensures within { IfOk result (λ counted. counted.opened ≤ limit) }
     ensures over { IfErr result (λ fault. (opened : ℕ) → fault ≡ PlanFault.Over opened → (opened ≡ limit) × HasMoreNodes problem.now.problem limit) }
 {
+    let root = root_of(alloc, problem)?;
     let Root {
         problem: mut at,
         loads,
         mut best,
-    } = root_of(alloc, problem)?;
+    } = root;
     let mut opened = 0;
     let bus_bound = bus(&at);
     match search::search(&mut at, &loads, bus_bound, &mut best, &mut opened, limit) {
