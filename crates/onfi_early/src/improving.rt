@@ -62,6 +62,7 @@ pub fn improve(
         if cost_of(problem, &better, weights) <= cost && walked.best.finish <= latest {
             plan.planned.schedule = better;
             plan.planned.finish = walked.best.finish;
+            return Ok(walked.opened);
         }
     }
     Ok(walked.opened)
