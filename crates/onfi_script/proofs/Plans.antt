@@ -1,6 +1,7 @@
 -- Plans of the planners, and those that are made better.
 use Rattle.std.proofs.Common.{◌≡◌, ◌≢◌, ℕ, ◌+◌, ◌-◌, ◌/◌, ◌<◌, ◌≤◌, List, refl, sym, ap, ◌∙◌, subst, arith}
 use Rattle.std.specs.Prelude.{Result, Ok, Err, IfOk}
+use Rattle.std.proofs.Math.Nat.{mul-zero}
 use Rattle.onfi_cert.specs.declared.token.Token.{Token}
 use Rattle.onfi_problem.specs.Position.{Position}
 use Rattle.onfi_problem.specs.Problem.{Problem}
@@ -14,8 +15,10 @@ use Rattle.onfi_early.specs.Slack.{slack_of}
 use Rattle.onfi_planners.specs.Choice.{IsChosen, certified_by}
 use Rattle.onfi_planners.specs.declared.chosen.ChosenPlanner.{ChosenPlanner}
 use Rattle.onfi_planners.specs.declared.chosen.ChosenPlanner.TheVariants as by
-use Rattle.onfi_planners.proofs.Promises.{no_slack}
 use Rattle.onfi_script.specs.Answer.{IsPlan}
+
+no_slack : (from to : ℕ) → slack_of 0 from to ≡ 0
+no_slack from to = ap (λ n. n / 1000) (mul-zero (to - from))
 
 -- a legal schedule that ends when nothing ends before is optimal
 optimal_at : (p : Problem) (s : Schedule) (below ends : ℕ) → Legal p s → finish p s ≡ ends → NoneBefore p below → below ≡ ends → Optimal p s
