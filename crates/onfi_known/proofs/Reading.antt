@@ -11,8 +11,7 @@ use Rattle.onfi_cert.specs.Reading.IsWrongAfter.{no_token, no_end, goes_on}
 use Rattle.onfi_cert.proofs.Whole.{holds_once, start_holds}
 use Rattle.onfi_known.specs.declared.token.Token.{Token}
 use Rattle.onfi_known.specs.Faults.{HasNoToken, IsWrongAt, NoHeader}
-use Rattle.onfi_known.specs.Text.{Holds, InRange, IsCertificate, MOST, header, line, spelling}
-use Rattle.onfi_known.specs.Within.{IsReading}
+use Rattle.onfi_known.specs.Text.{Holds, InRange, IsCertificate, IsReading, MOST, header, line, spelling}
 use Rattle.onfi_known.specs.Word.{token_of}
 use Rattle.onfi_known.proofs.Spelled.{language}
 

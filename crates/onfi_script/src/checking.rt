@@ -10,7 +10,6 @@ use crate::plan_text::read_plan;
 use crate::plan_within::{PlanWithin, read_plan_within};
 use crate::text::{
     Answer, accepted, known_text_refused, refused_at, refused_for, text_refused, within,
-    within_refused,
 };
 use onfi_check::check_text;
 use onfi_known::{check_known_text, check_known_within};
@@ -77,7 +76,7 @@ fn judged_within(
         Ok(finish) if finish != ends => refused_for(alloc, "finish"),
         Ok(_) if below < ends => within(alloc, ends, below),
         Ok(_) => accepted(alloc, ends),
-        Err(fault) => within_refused(alloc, fault),
+        Err(fault) => known_text_refused(alloc, fault),
     }
 }
 

@@ -8,7 +8,7 @@ ghost use Rattle.onfi_script.specs.AnswerOf.{answer_of};
 use crate::fault::Refusal;
 use onfi_cert::CertTextFault;
 use onfi_check::{CertFault, TextFault};
-use onfi_known::{KnownFault, KnownTextFault, WithinTextFault};
+use onfi_known::{KnownFault, KnownTextFault};
 use onfi_request::Want;
 use onfi_schedule::{Placed, Schedule, Starts};
 use std::alloc::{AllocError, Global};
@@ -136,47 +136,34 @@ pub fn text_refused(alloc: Global, fault: TextFault) -> Result<Answer, AllocErro
     }
 }
 
-/// The line that refuses the tokens of a certificate that remembers states; none where memory was refused.
+/// The line that refuses a schedule or the tokens of a certificate that remembers states; none where memory was refused.
 fn known_refused(alloc: Global, fault: KnownFault) -> Result<Answer, AllocError>
     ensures { IfOk result (λ a. answer_of a ≡ spec.known_refused fault) }
 {
     match fault {
-        KnownFault::Illegal => refused_for(alloc, "1 Illegal"),
-        KnownFault::Short => refused_for(alloc, "2 Short"),
-        KnownFault::Trailing(place) => refused_at(alloc, "3 Trailing", place as u64),
-        KnownFault::Width(place) => refused_at(alloc, "4 Width", place as u64),
-        KnownFault::BoundLow(place) => refused_at(alloc, "5 BoundLow", place as u64),
-        KnownFault::YieldNoFit(place) => refused_at(alloc, "6 YieldNoFit", place as u64),
-        KnownFault::YieldLoop(place) => refused_at(alloc, "7 YieldLoop", place as u64),
-        KnownFault::NotEnd(place) => refused_at(alloc, "8 NotEnd", place as u64),
-        KnownFault::Memory => Err(AllocError),
+        KnownFault::Cert(fault) => cert_refused(alloc, fault),
         KnownFault::Unknown(place) => refused_at(alloc, "10 Unknown", place as u64),
         KnownFault::OtherLeft(place) => refused_at(alloc, "11 OtherLeft", place as u64),
         KnownFault::Sooner(place) => refused_at(alloc, "12 Sooner", place as u64),
         KnownFault::TooMany(place) => refused_at(alloc, "13 TooMany", place as u64),
+        KnownFault::Above => refused_for(alloc, "below"),
     }
 }
 
-/// The line that refuses the text of a certificate that remembers states; none where memory was refused.
-pub fn known_text_refused(alloc: Global, fault: KnownTextFault) -> Result<Answer, AllocError>
+/// The line that refuses a schedule or the text of a certificate that remembers states; none where memory was refused.
+pub fn known_text_refused(
+    alloc: Global,
+    fault: TextFault<KnownFault, KnownTextFault>,
+) -> Result<Answer, AllocError>
     ensures { IfOk result (λ a. answer_of a ≡ spec.known_text_refused fault) }
 {
     match fault {
-        KnownTextFault::Header => refused_for(alloc, "cert Header"),
-        KnownTextFault::BadToken(place) => refused_at(alloc, "cert BadToken", place as u64),
-        KnownTextFault::Option => refused_for(alloc, "cert Option"),
-        KnownTextFault::Cert(fault) => known_refused(alloc, fault),
-    }
-}
-
-/// The line that refuses a schedule, or the text of a certificate of a time before which nothing ends; none where memory was
-/// refused.
-pub fn within_refused(alloc: Global, fault: WithinTextFault) -> Result<Answer, AllocError>
-    ensures { IfOk result (λ a. answer_of a ≡ spec.within_refused fault) }
-{
-    match fault {
-        WithinTextFault::Known(fault) => known_text_refused(alloc, fault),
-        WithinTextFault::Above => refused_for(alloc, "below"),
+        TextFault::Text(KnownTextFault::Header) => refused_for(alloc, "cert Header"),
+        TextFault::Text(KnownTextFault::BadToken(place)) => {
+            refused_at(alloc, "cert BadToken", place as u64)
+        }
+        TextFault::Cert(fault) => known_refused(alloc, fault),
+        TextFault::Option => refused_for(alloc, "cert Option"),
     }
 }
 

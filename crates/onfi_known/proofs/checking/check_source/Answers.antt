@@ -1,8 +1,8 @@
-use Rattle.std.proofs.Common.{refl, sym, subst}
-use Rattle.onfi_known.specs.Laws.{NoneBefore}
+use Rattle.std.proofs.Common.{refl, subst, arith}
+use Rattle.onfi_known.proofs.Refused.{known_fault}
 use Rattle.onfi_known.proofs.checking.check_source.Goals as goal
 
-pub returns-clause-optimal : goal.returns-clause-optimal
-returns-clause-optimal g c =
-    let e = c.finish-e.ensures in
-    (record { legal = c.if-not-legal.ensures.0 refl; least = subst (NoneBefore c.args.problem.now.problem) e c.in_ok-read_source.ensures.least }, sym e)
+pub returns-in-Err-clause-fault : goal.returns-in-Err-clause-fault
+returns-in-Err-clause-fault g c =
+    let ends = c.finish-e.ensures in
+    known_fault c.args.problem.now.all c.args.problem.now.problem c.args.schedule.now c.unwrap_or-below.result (g.S.TokenSource.left c.args.tokens.now.source) c.in-Err.fault (c.if-not-legal.ensures.0 refl) (omega arith) c.in-Err.ensures.refused c.in-Err.ensures.kind

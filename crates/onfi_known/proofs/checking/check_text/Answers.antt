@@ -1,7 +1,7 @@
 use Rattle.std.proofs.lemmas.Result.{err_from_is_err_and}
 use Rattle.std.proofs.Common.{arith}
 use Rattle.onfi_known.proofs.Reading.{read_on}
-use Rattle.onfi_known.proofs.checking.check_known_text.Goals as goal
+use Rattle.onfi_known.proofs.checking.check_text.Goals as goal
 
 pub returns-in-Ok-clause-accepted : goal.returns-in-Ok-clause-accepted
 returns-in-Ok-clause-accepted c =
