@@ -99,7 +99,7 @@ impl Refusal {
                 place: place as u64,
             },
             TextFault::Cert(fault) => Refusal::of_known(fault),
-            TextFault::Option => Refusal::whole(Status::OtherOption),
+            TextFault::Option => Refusal::of_text(TextFault::Option),
         }
     }
 }

@@ -28,6 +28,8 @@ use Rattle.onfi_known.specs.declared.fault.KnownTextFault.{KnownTextFault}
 use Rattle.onfi_known.specs.declared.fault.KnownTextFault.TheVariants as in_known
 use Rattle.onfi_script.specs.declared.fault.ScriptFault.{ScriptFault}
 use Rattle.onfi_script.specs.declared.fault.ScriptFault.TheVariants.{NoEnd, UnknownRow, FieldCount, NotANumber, OutOfRange, Repeated, Missing, Hex, Page, Geometry, Sheet, Strobe, Problem, Request, NotHere}
+use Rattle.onfi_script.specs.declared.why.Why.{Why}
+use Rattle.onfi_script.specs.declared.why.Why.TheVariants as why
 use Rattle.onfi_script.specs.declared.fault.Refusal.{Refusal}
 
 -- what is written, and the status that the program ends with
@@ -209,3 +211,15 @@ known_text_refused in_text.Option = refused_for (codes "cert Option")
 -- the answer where so many nodes were opened, and the search is not over
 abbrev pub over : ℕ → Answer
 over opened = line (codes "over") opened 6
+
+-- the answer that says why
+abbrev pub refused_by : Why → Answer
+refused_by (why.Script refusal) = refused refusal
+refused_by (why.Over opened) = over opened
+refused_by (why.Line number) = refused_at (codes "plan") number
+refused_by (why.Illegal breach) = refused_for (codes "1 Illegal")
+refused_by (why.Finish said is) = refused_for (codes "finish")
+refused_by (why.Below said is) = refused_for (codes "below")
+refused_by (why.Cert fault) = text_refused fault
+refused_by (why.Known fault) = known_text_refused fault
+refused_by why.Memory = memory

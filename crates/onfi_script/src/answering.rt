@@ -1,7 +1,7 @@
 //! From the bytes of an input to the bytes of its answer.
-ghost use Rattle.std.specs.Prelude.{◌≡◌, ◌≤◌, IfOk};
+ghost use Rattle.std.specs.Prelude.{◌≡◌, ◌≤◌, ◌<◌, IfOk};
 ghost use Rattle.std.specs.Io.KnownBytes.{Keeps};
-ghost use Rattle.onfi_script.specs.Answer.{AnswersCommand, AnswersPlan, IsAnswerBy, Answers, AnswersBy, BeginsAnswer, BeginsAnswerBy, PartsTell, output_of};
+ghost use Rattle.onfi_script.specs.Answer.{AnswersCommand, AnswersPlan, IsAnswer, IsAnswerBy, Answers, AnswersBy, BeginsAnswer, BeginsAnswerBy, PartsTell, output_of};
 ghost use Rattle.onfi_script.specs.AnswerOf.{answer_of};
 ghost use Rattle.onfi_script.specs.Limit.{IsLimited};
 
@@ -196,5 +196,29 @@ fn engine_by<S: Search, R: Read, W: Write>(
     match answer(alloc, search, command, input.as_slice()) {
         Ok(answer) => tell(writer, answer.text.as_slice(), answer.status),
         Err(AllocError) => tell(writer, b"memory\n", 4),
+    }
+}
+
+/// The answer to an input, with why it refuses: what [`engine`] writes with one worker, and what [`engine_split`] and
+/// [`engine_split_by`] write with several, 1 to 8.
+///
+/// # Errors
+/// Want of memory.
+pub fn answer_by<T: Threads + Sync>(
+    rt: &T,
+    alloc: Global,
+    command: Command,
+    workers: usize,
+    input: &[u8],
+) -> Result<Answer, AllocError>
+    requires limit { IsLimited command }
+    requires few_workers { workers ≤ 8 }
+    ensures one { workers ≤ 1 → IfOk result (λ a. IsAnswer command input.now (answer_of a)) }
+    ensures several { 1 < workers → IfOk result (λ a. IsAnswerBy PartsTell command input.now (answer_of a)) }
+{
+    if workers > 1 {
+        answer(alloc, &Team { rt, workers }, command, input)
+    } else {
+        answer(alloc, &One, command, input)
     }
 }

@@ -250,5 +250,5 @@ pub fn printed(
         )?,
         Output::Trace { requests } => trace_of(alloc, problem, &found.schedule, requests)?,
     };
-    Ok(Answer { text, status: 0 })
+    Ok(Answer::of(text, 0))
 }

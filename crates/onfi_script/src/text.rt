@@ -1,11 +1,12 @@
 //! The texts that are written.
-ghost use Rattle.std.specs.Prelude.{◌≡◌, ◌++◌, string_bytes, IfOk, OnOk};
+ghost use Rattle.std.specs.Prelude.{◌≡◌, ◌++◌, string_bytes, IfOk, OnOk, Some};
 ghost use Rattle.std.specs.Fmt.{decimal};
 ghost use Rattle.std.specs.List.{flat_map};
 ghost use Rattle.onfi_script.specs.Text as spec;
 ghost use Rattle.onfi_script.specs.AnswerOf.{answer_of};
 
 use crate::fault::Refusal;
+use crate::why::Why;
 use onfi_cert::CertTextFault;
 use onfi_check::{CertFault, TextFault};
 use onfi_known::{KnownFault, KnownTextFault};
@@ -13,34 +14,35 @@ use onfi_request::Want;
 use onfi_schedule::{Placed, Schedule, Starts};
 use std::alloc::{AllocError, Global};
 
-/// The text that is written, and the status that the program ends with.
+/// The text that is written, the status that the program ends with, and for a person why it refuses, where it does.
 #[derive(Drop)]
 pub struct Answer {
     pub text: Vec<u8>,
     pub status: u8,
+    pub why: Option<Why>,
 }
 
 impl Answer {
-    /// This text, with this status.
-    fn of(text: String, status: u8) -> Answer
-        ensures { answer_of result ≡ record { text = string_bytes text; status = status } }
+    /// This text, with this status; it refuses nothing.
+    pub fn of(text: Vec<u8>, status: u8) -> Answer
+        ensures { answer_of result ≡ record { text = text.items; status = status } }
     {
-        let text = text.into_bytes();
-        Answer { text, status }
+        Answer {
+            text,
+            status,
+            why: None,
+        }
     }
 }
 
 /// The line that refuses a script.
-///
-/// # Errors
-/// Want of memory.
-pub fn refused(alloc: Global, refusal: Refusal) -> Result<Answer, AllocError>
+fn script_refused(alloc: Global, refusal: Refusal) -> Result<Answer, AllocError>
     ensures { IfOk result (λ a. answer_of a ≡ spec.refused refusal) }
 {
     let row = refusal.row;
     let name = refusal.fault.name();
     let text = format!(in alloc; "script refused {row} {name}\n")?;
-    Ok(Answer::of(text, 1))
+    Ok(Answer::of(text.into_bytes(), 1))
 }
 
 /// A line of a word and a number.
@@ -48,30 +50,23 @@ fn line(alloc: Global, word: &str, number: u64, status: u8) -> Result<Answer, Al
     ensures { IfOk result (λ a. answer_of a ≡ spec.line word.now number status) }
 {
     let text = format!(in alloc; "{word} {number}\n")?;
-    Ok(Answer::of(text, status))
-}
-
-/// The line of a search that opened as many nodes as it may, and is not over.
-pub fn over(alloc: Global, opened: u32) -> Result<Answer, AllocError>
-    ensures { IfOk result (λ a. answer_of a ≡ spec.over opened) }
-{
-    line(alloc, "over", u64::from(opened), 6)
+    Ok(Answer::of(text.into_bytes(), status))
 }
 
 /// The line that refuses for this reason.
-pub fn refused_for(alloc: Global, reason: &str) -> Result<Answer, AllocError>
+fn refused_for(alloc: Global, reason: &str) -> Result<Answer, AllocError>
     ensures { IfOk result (λ a. answer_of a ≡ spec.refused_for reason.now) }
 {
     let text = format!(in alloc; "refused {reason}\n")?;
-    Ok(Answer::of(text, 2))
+    Ok(Answer::of(text.into_bytes(), 2))
 }
 
 /// The line that refuses for this reason, with a place.
-pub fn refused_at(alloc: Global, reason: &str, place: u64) -> Result<Answer, AllocError>
+fn refused_at(alloc: Global, reason: &str, place: u64) -> Result<Answer, AllocError>
     ensures { IfOk result (λ a. answer_of a ≡ spec.refused_at reason.now place) }
 {
     let text = format!(in alloc; "refused {reason} {place}\n")?;
-    Ok(Answer::of(text, 2))
+    Ok(Answer::of(text.into_bytes(), 2))
 }
 
 /// The line of a schedule that ends at `ends`, in ns, and that nothing beats.
@@ -86,7 +81,7 @@ pub fn within(alloc: Global, ends: u64, below: u64) -> Result<Answer, AllocError
     ensures { IfOk result (λ a. answer_of a ≡ spec.within ends below) }
 {
     let text = format!(in alloc; "within {ends} {below}\n")?;
-    Ok(Answer::of(text, 8))
+    Ok(Answer::of(text.into_bytes(), 8))
 }
 
 /// The line of a schedule that is legal and ends at `ends`, in ns.
@@ -126,7 +121,7 @@ fn cert_text_refused(alloc: Global, fault: CertTextFault) -> Result<Answer, Allo
 }
 
 /// The line that refuses the text of a certificate; none where memory was refused.
-pub fn text_refused(alloc: Global, fault: TextFault) -> Result<Answer, AllocError>
+fn text_refused(alloc: Global, fault: TextFault) -> Result<Answer, AllocError>
     ensures { IfOk result (λ a. answer_of a ≡ spec.text_refused fault) }
 {
     match fault {
@@ -151,7 +146,7 @@ fn known_refused(alloc: Global, fault: KnownFault) -> Result<Answer, AllocError>
 }
 
 /// The line that refuses a schedule or the text of a certificate that remembers states; none where memory was refused.
-pub fn known_text_refused(
+fn known_text_refused(
     alloc: Global,
     fault: TextFault<KnownFault, KnownTextFault>,
 ) -> Result<Answer, AllocError>
@@ -163,8 +158,55 @@ pub fn known_text_refused(
             refused_at(alloc, "cert BadToken", place as u64)
         }
         TextFault::Cert(fault) => known_refused(alloc, fault),
-        TextFault::Option => refused_for(alloc, "cert Option"),
+        TextFault::Option => text_refused(alloc, TextFault::Option),
     }
+}
+
+/// The line that says why; none where memory was refused.
+fn line_of(alloc: Global, why: Why) -> Result<Answer, AllocError>
+    ensures { IfOk result (λ a. answer_of a ≡ spec.refused_by why) }
+{
+    match why {
+        Why::Script(refusal) => script_refused(alloc, refusal),
+        Why::Over(opened) => line(alloc, "over", u64::from(opened), 6),
+        Why::Line(number) => refused_at(alloc, "plan", number),
+        Why::Illegal(_) => refused_for(alloc, "1 Illegal"),
+        Why::Finish { .. } => refused_for(alloc, "finish"),
+        Why::Below { .. } => refused_for(alloc, "below"),
+        Why::Cert(fault) => text_refused(alloc, fault),
+        Why::Known(fault) => known_text_refused(alloc, fault),
+        Why::Memory => Err(AllocError),
+    }
+}
+
+/// The answer that refuses so: its line, and why.
+///
+/// # Errors
+/// Want of memory.
+pub fn refuse(alloc: Global, why: Why) -> Result<Answer, AllocError>
+    ensures answer { IfOk result (λ a. answer_of a ≡ spec.refused_by why) }
+    ensures why { IfOk result (λ a. a.why ≡ Some why) }
+{
+    let mut answer = line_of(alloc, why)?;
+    answer.why = Some(why);
+    Ok(answer)
+}
+
+/// The answer to a script that is refused.
+///
+/// # Errors
+/// Want of memory.
+pub fn refused(alloc: Global, refusal: Refusal) -> Result<Answer, AllocError>
+    ensures { IfOk result (λ a. answer_of a ≡ spec.refused refusal) }
+{
+    refuse(alloc, Why::Script(refusal))
+}
+
+/// .. where a search opened as many nodes as it may, and is not over.
+pub fn over(alloc: Global, opened: u32) -> Result<Answer, AllocError>
+    ensures { IfOk result (λ a. answer_of a ≡ spec.over opened) }
+{
+    refuse(alloc, Why::Over(opened))
 }
 
 /// Puts a mark and a number behind a text.

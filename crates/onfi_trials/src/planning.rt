@@ -2,6 +2,7 @@ ghost use Rattle.std.specs.Prelude.{◌≤◌};
 
 use crate::ended::Ended;
 use crate::sample::{problem, running, want};
+use onfi_check::{CertFault, TextFault};
 use onfi_known::{KnownFault, check_known_text};
 use onfi_planner::{NoGate, PlanFault, Planned, plan, plan_split};
 use onfi_problem::{LunState, Problem};
