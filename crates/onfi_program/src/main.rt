@@ -163,7 +163,7 @@ fn main(rt: HostRuntime) -> ExitCode {
     let answered = answer_to(&rt, &parsed, input.text);
     let (text, status, why) = match &answered {
         Ok(answer) => (answer.text.as_slice(), answer.status, answer.why),
-        Err(AllocError) => (b"memory\n".as_slice(), 4, Some(Why::Memory)),
+        Err(_) => (b"memory\n".as_slice(), 4, Some(Why::Memory)),
     };
     if write_text(&mut std::io::writer(&rt), text).is_err() {
         return ExitCode::from(7);
