@@ -12,7 +12,7 @@ use Rattle.onfi_known.specs.declared.given.Given.{Given}
 use Rattle.onfi_known.specs.declared.known.Known.{Known}
 use Rattle.onfi_known.specs.Proves.{Proves}
 use Rattle.onfi_known.specs.Refused.{Refuses}
-use Rattle.onfi_known.specs.Faults.{FaultFits, GoesRound, IsAt, IsBound, IsBranch, IsNameFault, IsTokenFault, NamesNode, IsToYield, IsTrailing, IsYieldFault, NoTree, OfTokens, ReadOn}
+use Rattle.onfi_known.specs.Faults.{FaultFits, GoesRound, IsBound, IsBranch, IsNameFault, IsTokenFault, NamesNode, IsToYield, IsTrailing, IsYieldFault, NoTree, OfTokens, ReadOn}
 use Rattle.onfi_known.proofs.Refusing.{none_refuses}
 use Rattle.onfi_check.specs.declared.fault.CertFault.TheVariants.{Memory}
 use Rattle.onfi_check.proofs.Causes.{none_trails}

@@ -1,5 +1,5 @@
 -- Texts of certificates that remember states, and how they are read.
-use Rattle.std.proofs.Common.{◌≡◌, ◌⊎◌, ◌<◌, ◌≤◌, inl, inr, ℕ, zero, suc, ◌+◌, ◌^◌, List, [], ◌∷◌, ◌++◌, Bool, true, false, not, cond, length, drop, get_or, refl, sym, ap, ◌∙◌, subst, arith, length-append, lit<}
+use Rattle.std.proofs.Common.{◌≡◌, ◌<◌, ◌≤◌, inl, inr, ℕ, zero, suc, ◌+◌, ◌^◌, List, [], ◌∷◌, ◌++◌, Bool, true, false, not, cond, length, drop, get_or, refl, sym, ap, ◌∙◌, subst, arith, length-append, lit<}
 use Rattle.std.specs.Prelude.{Option, Some, None, Result, Ok, Err, IfErr, OnOk, is_err, ◌≢◌, ◌==◌}
 use mathlib.Core.Bool.{beq}
 use Rattle.onfi_cert.specs.declared.fault.LineFault.{LineFault}
