@@ -109,7 +109,7 @@ fn judge(alloc: Global, stand: &Stand, below: u64, certificate: &[u8]) -> Result
 {
     match check_known_within(alloc, &stand.problem, &stand.schedule, below, certificate) {
         Ok(finish) => Ok(finish),
-        Err(fault) => Err(Refusal::of_within(fault)),
+        Err(fault) => Err(Refusal::of_known_text(fault)),
     }
 }
 

@@ -1,3 +1,4 @@
+pub mod Causes
 pub mod Views
 pub mod Unique
 pub mod Refusing
@@ -10,4 +11,3 @@ pub mod Keeping
 pub mod Walking
 pub mod Placing
 pub mod Reading
-pub mod WithinFaults

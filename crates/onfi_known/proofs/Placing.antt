@@ -7,13 +7,16 @@ use Rattle.onfi_demand.specs.declared.demand.Demand.{Demand as Kept}
 use Rattle.onfi_known.specs.declared.token.Token.{Token}
 use Rattle.onfi_known.specs.declared.token.Token.TheVariants.{Branch, Bus, Lead, Trail, Die, Yield, End, Window, Again}
 use Rattle.onfi_known.specs.declared.fault.KnownFault.{KnownFault}
-use Rattle.onfi_known.specs.declared.fault.KnownFault.TheVariants.{Illegal, Short, Trailing, Width, BoundLow, YieldNoFit, YieldLoop, NotEnd, Memory, Unknown, OtherLeft, Sooner, TooMany}
+use Rattle.onfi_known.specs.declared.fault.KnownFault.TheVariants.{Cert, Unknown, OtherLeft, Sooner, TooMany, Above}
 use Rattle.onfi_known.specs.declared.given.Given.{Given}
 use Rattle.onfi_known.specs.declared.known.Known.{Known}
 use Rattle.onfi_known.specs.Proves.{Proves}
 use Rattle.onfi_known.specs.Refused.{Refuses}
-use Rattle.onfi_known.specs.Faults.{FaultFits, IsAt, IsBound, IsBranch, IsNameFault, IsTokenFault, NamesNode, IsToYield, IsTrailing, IsYieldFault, NoTree, OfTokens, ReadOn}
+use Rattle.onfi_known.specs.Faults.{FaultFits, GoesRound, IsBound, IsBranch, IsNameFault, IsTokenFault, NamesNode, IsToYield, IsTrailing, IsYieldFault, NoTree, OfTokens, ReadOn}
 use Rattle.onfi_known.proofs.Refusing.{none_refuses}
+use Rattle.onfi_check.specs.declared.fault.CertFault.TheVariants.{Memory}
+use Rattle.onfi_check.proofs.Causes.{none_trails}
+use Rattle.onfi_check.proofs.Placing.{kind_behind, yield_fits as unfit}
 pub use Rattle.onfi_check.proofs.Placing.{read_none, read_one, read_more, few_on, here, at_behind}
 
 -- no token was read, where none is left
@@ -41,35 +44,21 @@ bound_of (Again number) nb ny na ne = absurd (na number refl)
 
 -- what fits the tokens behind some fits the whole
 pub fits_behind : (first next : ℕ) (tokens left rest : List Token) (f : KnownFault) → ReadOn first next tokens left → FaultFits next left rest f → FaultFits first tokens rest f
-fits_behind first next tokens left rest Illegal r h = h
-fits_behind first next tokens left rest Short r h = h
-fits_behind first next tokens left rest (Trailing place) r h = h
-fits_behind first next tokens left rest (Width place) r h = at_behind first next place tokens left _ r h
-fits_behind first next tokens left rest (BoundLow place) r h = at_behind first next place tokens left _ r h
-fits_behind first next tokens left rest (YieldNoFit place) r h = at_behind first next place tokens left _ r h
-fits_behind first next tokens left rest (YieldLoop place) r h = at_behind first next place tokens left _ r h
-fits_behind first next tokens left rest (NotEnd place) r h = at_behind first next place tokens left _ r h
-fits_behind first next tokens left rest Memory r h = h
+fits_behind first next tokens left rest (Cert f) r h = kind_behind IsBranch IsBound (λ token. IsToYield token ⊎ IsBranch token) IsToYield (λ token. token ≡ End) (Unit {0}) first next tokens left rest f r h
 fits_behind first next tokens left rest (Unknown place) r h = at_behind first next place tokens left _ r h
 fits_behind first next tokens left rest (OtherLeft place) r h = at_behind first next place tokens left _ r h
 fits_behind first next tokens left rest (Sooner place) r h = at_behind first next place tokens left _ r h
 fits_behind first next tokens left rest (TooMany place) r h = at_behind first next place tokens left _ r h
+fits_behind first next tokens left rest Above r h = h
 
 -- why a yield isn't taken, told at its place
 yield_fits : (given : List Given) (j l place told lun : ℕ) (token : Token) (behind left : List Token) (f : KnownFault) → told ≡ place → token ≡ Yield lun → IsYieldFault given j l told f → FaultFits place (token ∷ behind) left f
-yield_fits given j l place told lun token behind left Illegal n t h = h
-yield_fits given j l place told lun token behind left Short n t h = absurd h
-yield_fits given j l place told lun token behind left (Trailing at) n t h = h
-yield_fits given j l place told lun token behind left (Width at) n t h = absurd h
-yield_fits given j l place told lun token behind left (BoundLow at) n t h = absurd h
-yield_fits given j l place told lun token behind left (YieldNoFit at) n t h = subst (λ z. IsAt place z (token ∷ behind) (λ token. IsToYield token ⊎ IsBranch token)) (sym (h.0 ∙ n)) (here place token behind (λ token. IsToYield token ⊎ IsBranch token) (inl (lun, t)))
-yield_fits given j l place told lun token behind left (YieldLoop at) n t h = subst (λ z. IsAt place z (token ∷ behind) IsToYield) (sym (h.0 ∙ n)) (here place token behind IsToYield (lun, t))
-yield_fits given j l place told lun token behind left (NotEnd at) n t h = absurd h
-yield_fits given j l place told lun token behind left Memory n t h = absurd h
+yield_fits given j l place told lun token behind left (Cert f) n t h = unfit IsBranch IsBound (λ token. IsToYield token ⊎ IsBranch token) IsToYield (λ token. token ≡ End) (Unit {0}) (GoesRound given j l) place told token behind left f n (inl (lun, t)) (lun, t) h
 yield_fits given j l place told lun token behind left (Unknown at) n t h = absurd h
 yield_fits given j l place told lun token behind left (OtherLeft at) n t h = absurd h
 yield_fits given j l place told lun token behind left (Sooner at) n t h = absurd h
 yield_fits given j l place told lun token behind left (TooMany at) n t h = absurd h
+yield_fits given j l place told lun token behind left Above n t h = h
 
 pub err_yield : {A : Type 0} (result : Result A KnownFault) (given : List Given) (j l place told lun : ℕ) (token : Token) (tokens behind left : List Token) → tokens ≡ token ∷ behind → told ≡ place → token ≡ Yield lun → IfErr result (IsYieldFault given j l told) → IfErr result (FaultFits place tokens left)
 err_yield (Ok x) given j l place told lun token tokens behind left ts n t h = tt
@@ -83,7 +72,7 @@ pub err_each : {A : Type 0} (result : Result A KnownFault) (place : ℕ) (token 
 err_each (Ok x) place token behind left h = tt
 err_each (Err f) place token behind left h = h behind left
 
-pub err_branch : {A : Type 0} (result : Result A KnownFault) (place width : ℕ) (behind left : List Token) → IfErr result (λ f. (f ≡ TooMany place) ⊎ (f ≡ Memory)) → IfErr result (FaultFits place (Branch width ∷ behind) left)
+pub err_branch : {A : Type 0} (result : Result A KnownFault) (place width : ℕ) (behind left : List Token) → IfErr result (λ f. (f ≡ TooMany place) ⊎ (f ≡ Cert Memory)) → IfErr result (FaultFits place (Branch width ∷ behind) left)
 err_branch (Ok x) place width behind left h = tt
 err_branch (Err f) place width behind left (inl e) = subst (FaultFits place (Branch width ∷ behind) left) (sym e) (here place (Branch width) behind IsBranch (width, refl))
 err_branch (Err f) place width behind left (inr e) = subst (FaultFits place (Branch width ∷ behind) left) (sym e) tt
@@ -109,19 +98,12 @@ module _ (e : ℕ) (all : List Want) where
   no_tree_behind p known tokens left token t k none = subst (NoTree all p e) (sym t) (no_tree p (token ∷ left) (subst (λ z. Refuses e all p z (token ∷ left)) k none))
 
   pub fault_of : (p : Problem) (tokens left : List Token) (f : KnownFault) → OfTokens f (NoTree all p e tokens) → FaultFits 0 tokens left f → IsTokenFault all p e tokens left f
-  fault_of p tokens left Illegal none h = absurd h
-  fault_of p tokens left Short none h = (none, h)
-  fault_of p tokens left (Trailing place) none h = absurd h
-  fault_of p tokens left (Width place) none h = (none, h)
-  fault_of p tokens left (BoundLow place) none h = (none, h)
-  fault_of p tokens left (YieldNoFit place) none h = (none, h)
-  fault_of p tokens left (YieldLoop place) none h = (none, h)
-  fault_of p tokens left (NotEnd place) none h = (none, h)
-  fault_of p tokens left Memory none h = tt
+  fault_of p tokens left (Cert f) none h = none_trails (IsTrailing all p e tokens) f (λ place q. subst (λ z. FaultFits 0 tokens left (Cert z)) q h) (none, h)
   fault_of p tokens left (Unknown place) none h = (none, h)
   fault_of p tokens left (OtherLeft place) none h = (none, h)
   fault_of p tokens left (Sooner place) none h = (none, h)
   fault_of p tokens left (TooMany place) none h = (none, h)
+  fault_of p tokens left Above none h = absurd h
 
   pub trailing_at : (p : Problem) (first next place : ℕ) (tokens begun left more : List Token) (token last : Token) (d : Kept) (known : List Known) → first ≡ 1 → tokens ≡ token ∷ begun → ReadOn first next begun left → left ≡ last ∷ more → place ≡ next → Proves e all p [] tokens d known left → IsTrailing all p e tokens place
   trailing_at p first next place tokens begun left more token last d known f t r l q proves =

@@ -1,5 +1,5 @@
 -- Texts of certificates that remember states, and how they are read.
-use Rattle.std.proofs.Common.{◌≡◌, ◌⊎◌, ◌<◌, ◌≤◌, inl, inr, ℕ, zero, suc, ◌+◌, ◌^◌, List, [], ◌∷◌, ◌++◌, Bool, true, false, not, cond, length, drop, get_or, refl, sym, ap, ◌∙◌, subst, arith, length-append, lit<}
+use Rattle.std.proofs.Common.{◌≡◌, ◌<◌, ◌≤◌, inl, inr, ℕ, zero, suc, ◌+◌, ◌^◌, List, [], ◌∷◌, ◌++◌, Bool, true, false, not, cond, length, drop, get_or, refl, sym, ap, ◌∙◌, subst, arith, length-append, lit<}
 use Rattle.std.specs.Prelude.{Option, Some, None, Result, Ok, Err, IfErr, OnOk, is_err, ◌≢◌, ◌==◌}
 use mathlib.Core.Bool.{beq}
 use Rattle.onfi_cert.specs.declared.fault.LineFault.{LineFault}
@@ -11,8 +11,7 @@ use Rattle.onfi_cert.specs.Reading.IsWrongAfter.{no_token, no_end, goes_on}
 use Rattle.onfi_cert.proofs.Whole.{holds_once, start_holds}
 use Rattle.onfi_known.specs.declared.token.Token.{Token}
 use Rattle.onfi_known.specs.Faults.{HasNoToken, IsWrongAt, NoHeader}
-use Rattle.onfi_known.specs.Text.{Holds, InRange, IsCertificate, MOST, header, line, spelling}
-use Rattle.onfi_known.specs.Within.{IsReading}
+use Rattle.onfi_known.specs.Text.{Holds, InRange, IsCertificate, IsReading, MOST, header, line, spelling}
 use Rattle.onfi_known.specs.Word.{token_of}
 use Rattle.onfi_known.proofs.Spelled.{language}
 

@@ -1,5 +1,5 @@
 -- When a tree isn't accepted.
-use Rattle.std.proofs.Common.{◌≡◌, ◌≢◌, ℕ, zero, suc, ◌+◌, ◌≤◌, ◌<◌, List, [], ◌∷◌, ◌++◌, length, take, drop, get_or, inl, inr, refl, sym, ap, ◌∙◌, subst, arith, append_assoc, append-nil, length-append}
+use Rattle.std.proofs.Common.{◌≡◌, ◌≢◌, ◌⊎◌, ℕ, zero, suc, ◌+◌, ◌≤◌, ◌<◌, List, [], ◌∷◌, ◌++◌, length, take, drop, get_or, inl, inr, refl, sym, ap, ◌∙◌, subst, arith, append_assoc, append-nil, length-append}
 use Rattle.std.specs.Prelude.{Result, Ok, Err, IfErr, slice_get}
 use Rattle.std.proofs.lemmas.List.{same_from_push}
 use Rattle.onfi_request.specs.declared.want.Want.{Want}
@@ -13,7 +13,8 @@ use Rattle.onfi_problem.proofs.Perm.{Has-append_left}
 use Rattle.onfi_demand.specs.declared.demand.Demand.{Demand as Kept}
 use Rattle.onfi_demand.proofs.Keeping.{left_few}
 use Rattle.onfi_known.specs.declared.fault.KnownFault.{KnownFault}
-use Rattle.onfi_known.specs.declared.fault.KnownFault.TheVariants.{Illegal, Short, Trailing, Width, BoundLow, YieldNoFit, YieldLoop, NotEnd, Memory, Unknown, OtherLeft, Sooner, TooMany}
+use Rattle.onfi_check.specs.declared.fault.CertFault.TheVariants.{Illegal}
+use Rattle.onfi_known.specs.declared.fault.KnownFault.TheVariants.{Cert, Above}
 use Rattle.onfi_known.specs.declared.given.Given.{Given}
 use Rattle.onfi_known.specs.declared.known.Known.{Known}
 use Rattle.onfi_known.specs.declared.token.Token.{Token}
@@ -23,54 +24,30 @@ use Rattle.onfi_known.specs.Closing.{Closes}
 use Rattle.onfi_known.specs.Faults.{IsNameFault, OfTokens}
 use Rattle.onfi_known.specs.Proves.{Children, FitTimes, IsAgain, MayYield, Proves, ProvesTokens, with_yields}
 use Rattle.onfi_known.specs.Refused.{AreAlike, Refuses, RefusesChild, RefusesChildren}
+use Rattle.onfi_known.proofs.Causes.{cause_all, cause_so}
 use Rattle.onfi_known.proofs.Unique.{Stands, alike_length, alike_self, alike_there, given_few, grows, no_yield, same_left, same_token, same_yields, snoc_some, unique, unique_children}
 use Rattle.onfi_known.proofs.Views.{Begin, Last, begin_of, by_closing, by_again, by_opening, last_of, last_tree, last_yield, no_child}
 
 pub of_so : (f : KnownFault) (P Q : Type 0) → (P → Q) → OfTokens f P → OfTokens f Q
-of_so Illegal P Q g h = h
-of_so Short P Q g h = g h
-of_so (Trailing n) P Q g h = g h
-of_so (Width n) P Q g h = g h
-of_so (BoundLow n) P Q g h = g h
-of_so (YieldNoFit n) P Q g h = g h
-of_so (YieldLoop n) P Q g h = g h
-of_so (NotEnd n) P Q g h = g h
-of_so Memory P Q g h = h
-of_so (Unknown n) P Q g h = g h
-of_so (OtherLeft n) P Q g h = g h
-of_so (Sooner n) P Q g h = g h
-of_so (TooMany n) P Q g h = g h
-
--- no fault of a yield or of a leaf is another
-of_all : (f : KnownFault) (P : Type 0) → (f ≢ Illegal) → P → OfTokens f P
-of_all Illegal P k h = absurd (k refl)
-of_all Short P k h = h
-of_all (Trailing n) P k h = h
-of_all (Width n) P k h = h
-of_all (BoundLow n) P k h = h
-of_all (YieldNoFit n) P k h = h
-of_all (YieldLoop n) P k h = h
-of_all (NotEnd n) P k h = h
-of_all Memory P k h = tt
-of_all (Unknown n) P k h = h
-of_all (OtherLeft n) P k h = h
-of_all (Sooner n) P k h = h
-of_all (TooMany n) P k h = h
+of_so f P Q g h = cause_so f (λ z. z) (λ z. z) (λ z. z) g h
 
 -- a fault that says one thing says another
 pub err_so : {A : Type 0} (r : Result A KnownFault) (P Q : Type 0) → (P → Q) → IfErr r (λ f. OfTokens f P) → IfErr r (λ f. OfTokens f Q)
 err_so (Ok x) P Q g h = h
 err_so (Err f) P Q g h = of_so f P Q g h
 
-pub err_of : {A : Type 0} (r : Result A KnownFault) (P Q : Type 0) (Fits : KnownFault → Type 0) → (P → Q) → (Fits Illegal → ⊥) → IfErr r (λ _. P) → IfErr r Fits → IfErr r (λ f. OfTokens f Q)
-err_of (Ok x) P Q Fits g never h k = tt
-err_of (Err f) P Q Fits g never h k = of_all f Q (λ e. never (subst Fits e k)) (g h)
+pub err_of : {A : Type 0} (r : Result A KnownFault) (P Q : Type 0) (Fits : KnownFault → Type 0) → (P → Q) → (Fits (Cert Illegal) → ⊥) → (Fits Above → ⊥) → IfErr r (λ _. P) → IfErr r Fits → IfErr r (λ f. OfTokens f Q)
+err_of (Ok x) P Q Fits g never nor h k = tt
+err_of (Err f) P Q Fits g never nor h k = cause_all f (λ e. never (subst Fits e k)) tt (λ e. nor (subst Fits e k)) (g h)
 
 -- a name's fault isn't one of the schedule
-pub name_of_tokens : (place : ℕ) → IsNameFault place Illegal → ⊥
-name_of_tokens place (inl e) = cc
-name_of_tokens place (inr (inl e)) = cc
-name_of_tokens place (inr (inr e)) = cc
+pub name_of_tokens : (place : ℕ) (f : KnownFault) → (f ≡ Cert Illegal) ⊎ (f ≡ Above) → IsNameFault place f → ⊥
+name_of_tokens place f (inl s) (inl e) = cc
+name_of_tokens place f (inl s) (inr (inl e)) = cc
+name_of_tokens place f (inl s) (inr (inr e)) = cc
+name_of_tokens place f (inr s) (inl e) = cc
+name_of_tokens place f (inr s) (inr (inl e)) = cc
+name_of_tokens place f (inr s) (inr (inr e)) = cc
 
 module _ (e : ℕ) (all : List Want) where
   -- tokens that begin with none that closes or opens the node

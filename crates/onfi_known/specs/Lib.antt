@@ -5,4 +5,3 @@ pub mod Text
 pub mod Word
 pub mod Faults
 pub mod Refused
-pub mod Within

@@ -1,5 +1,5 @@
 -- The one text of a list of tokens.
-use Rattle.std.specs.Prelude.{ℕ, ◌^◌, ◌≤◌, ◌<◌, ◌≡◌, List, [], ◌∷◌, ◌++◌, ⊤, Bool, All, length, codes, decimal, if◌then◌else◌}
+use Rattle.std.specs.Prelude.{ℕ, ◌+◌, ◌^◌, ◌≤◌, ◌<◌, ◌≡◌, List, [], ◌∷◌, ◌++◌, ⊤, Bool, All, length, codes, decimal, if◌then◌else◌}
 use Rattle.onfi_cert.specs.Reading.{HoldsLine, Line}
 use Rattle.onfi_cert.specs.Text.{digit, number as digits, line_of}
 use Rattle.onfi_known.specs.declared.token.Token.{Token}
@@ -50,3 +50,10 @@ pub record IsCertificate (text : List ℕ) (strict : Bool) (tokens : List Token)
   pub some : 1 ≤ length tokens
   pub in_range : All InRange tokens
   pub spelled : text ≡ header strict ++ line tokens
+
+-- a text of which the tokens before a place were read, with this option and this line behind its header
+pub record IsReading (text : List ℕ) (strict : Bool) (whole : Line Token) (place : ℕ) (left : Line Token) : Type 0 where
+  pub holds : Holds text strict whole
+  pub short : length text < 2 ^ 64
+  pub fault_is : left.fault ≡ whole.fault
+  pub counted : place + length left.tokens ≡ length whole.tokens

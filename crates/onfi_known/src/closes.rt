@@ -13,7 +13,7 @@ use crate::fault::KnownFault;
 use crate::known::Known;
 use crate::token::Token;
 use onfi_bound::{Load, bus, die, lead, trail};
-use onfi_check::is_over;
+use onfi_check::{CertFault, is_over};
 use onfi_demand::{Demand, Window};
 use onfi_problem::Problem;
 
@@ -112,9 +112,9 @@ fn closing_fault(token: Token, place: usize) -> KnownFault
     ensures { (behind left : List OneToken) → FaultFits place (token ∷ behind) left result }
 {
     match token {
-        Token::Yield(_) => KnownFault::YieldNoFit(place),
-        Token::End => KnownFault::NotEnd(place),
-        _ => KnownFault::BoundLow(place),
+        Token::Yield(_) => KnownFault::Cert(CertFault::YieldNoFit(place)),
+        Token::End => KnownFault::Cert(CertFault::NotEnd(place)),
+        _ => KnownFault::Cert(CertFault::BoundLow(place)),
     }
 }
 

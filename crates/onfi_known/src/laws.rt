@@ -9,9 +9,9 @@ ghost use Rattle.onfi_known.specs.Faults.{IsKnownFault, IsTextFault};
 ghost use Rattle.onfi_known.specs.Laws.{BelowLaw, ProvedLaw};
 ghost use Rattle.onfi_known.specs.Proves.{ProvesTokens};
 ghost use Rattle.onfi_known.specs.Text.{IsCertificate};
-ghost use Rattle.onfi_known.specs.Within.{IsWithinFault, IsWithinTextFault};
 
-use crate::fault::{KnownFault, KnownTextFault, WithinFault, WithinTextFault};
+use crate::fault::{KnownFault, KnownTextFault};
+use onfi_check::{CertFault, TextFault};
 
 /// A legal schedule is optimal where tokens are accepted for its finish.
 pub fn proved_is_optimal()
@@ -23,22 +23,13 @@ pub fn proved_is_below()
     ensures { BelowLaw }
 {}
 
-/// A legal schedule with tokens that are accepted for its finish is refused for no cause but memory, and so is the
-/// text of these tokens under the problem's option.
+/// A legal schedule that ends at a number or later, with tokens that are accepted for it, is refused for no cause but
+/// memory, and so is the text of these tokens under the problem's option.
 pub fn accepted_is_refused_for_memory_alone()
-    ensures tokens { (all : List Want) (p : Problem) (s : Schedule) (tokens : List Token) (fault : KnownFault) → Legal p s
-        → ProvesTokens all tokens p (finish p s) → IsKnownFault all p s tokens fault → fault ≡ KnownFault.Memory }
-    ensures text { (all : List Want) (p : Problem) (s : Schedule) (text : List ℕ) (tokens : List Token) (fault : KnownTextFault)
-        → IsCertificate text p.rules.strict tokens → Legal p s → ProvesTokens all tokens p (finish p s)
-        → IsTextFault all p s text fault → fault ≡ KnownTextFault.Cert KnownFault.Memory }
-{}
-
-/// The same of a number that a legal schedule doesn't end before, with tokens that are accepted for it.
-pub fn accepted_within_is_refused_for_memory_alone()
-    ensures tokens { (all : List Want) (p : Problem) (s : Schedule) (below : ℕ) (tokens : List Token) (fault : WithinFault)
-        → Legal p s → below ≤ finish p s → ProvesTokens all tokens p below → IsWithinFault all p s below tokens fault
-        → fault ≡ WithinFault.Known KnownFault.Memory }
-    ensures text { (all : List Want) (p : Problem) (s : Schedule) (below : ℕ) (text : List ℕ) (tokens : List Token) (fault : WithinTextFault)
+    ensures tokens { (all : List Want) (p : Problem) (s : Schedule) (below : ℕ) (tokens : List Token) (fault : KnownFault)
+        → Legal p s → below ≤ finish p s → ProvesTokens all tokens p below → IsKnownFault all p s below tokens fault
+        → fault ≡ KnownFault.Cert CertFault.Memory }
+    ensures text { (all : List Want) (p : Problem) (s : Schedule) (below : ℕ) (text : List ℕ) (tokens : List Token) (fault : TextFault KnownFault KnownTextFault)
         → IsCertificate text p.rules.strict tokens → Legal p s → below ≤ finish p s → ProvesTokens all tokens p below
-        → IsWithinTextFault all p s below text fault → fault ≡ WithinTextFault.Known (KnownTextFault.Cert KnownFault.Memory) }
+        → IsTextFault all p s below text fault → fault ≡ TextFault.Cert (KnownFault.Cert CertFault.Memory) }
 {}

@@ -16,15 +16,13 @@ pub mod laws;
 mod standing;
 mod token;
 mod walk;
-mod within;
 mod word;
 mod writing;
 
-pub use checking::{check_known, check_known_text};
-pub use fault::{KnownFault, KnownTextFault, WithinFault, WithinTextFault};
+pub use checking::{check_known_text, check_known_within};
+pub use fault::{KnownFault, KnownTextFault};
 pub use given::Given;
 pub use known::Known;
 pub use standing::step_behind;
 pub use token::{MOST_KNOWN, Token, Tokens};
-pub use within::{check_known_tokens_within, check_known_within};
 pub use writing::text_of;

@@ -12,6 +12,7 @@ ghost use Rattle.onfi_known.specs.declared.given.Given.{Given as OneGiven};
 use crate::fault::KnownFault;
 use crate::given::Given;
 use arrayvec::ArrayVec;
+use onfi_check::CertFault;
 use onfi_demand::{Step, has_left};
 use onfi_problem::Problem;
 
@@ -134,13 +135,13 @@ pub(crate) fn take_yield(
 {
     let _limits = problem.bus_free();
     if lun == own || goes_round(&standing.given, own, lun) {
-        return Err(KnownFault::YieldLoop(place));
+        return Err(KnownFault::Cert(CertFault::YieldLoop(place)));
     }
     let Some(end) = ends[lun as usize] else {
-        return Err(KnownFault::YieldNoFit(place));
+        return Err(KnownFault::Cert(CertFault::YieldNoFit(place)));
     };
     if lun as usize >= problem.lun_count() || end > problem.may_go(own) {
-        return Err(KnownFault::YieldNoFit(place));
+        return Err(KnownFault::Cert(CertFault::YieldNoFit(place)));
     }
     standing.given.push(Given {
         own,

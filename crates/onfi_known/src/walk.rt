@@ -17,7 +17,7 @@ use crate::known::Known;
 use crate::standing::{Standing, step_behind, take_yield};
 use crate::token::{MOST_KNOWN, Token};
 use onfi_cert::{Numbered, TokenSource, Width};
-use onfi_check::last_ends;
+use onfi_check::{CertFault, last_ends};
 use onfi_demand::Demand;
 use onfi_problem::{Move, Moves, Problem};
 
@@ -31,7 +31,7 @@ fn remember(
     ensures ok { IfOk result (λ d. Remembers problem.now.all problem.now.problem times known.old.items known.new.items d) }
     ensures few { OnOk result (length known.new.items ≤ MOST_KNOWN) }
     ensures err { IfErr result (λ f. OfTokens f (MOST_KNOWN ≤ length known.old.items)) }
-    ensures kind { IfErr result (λ f. (f ≡ KnownFault.TooMany place) ⊎ (f ≡ KnownFault.Memory)) }
+    ensures kind { IfErr result (λ f. (f ≡ KnownFault.TooMany place) ⊎ (f ≡ KnownFault.Cert CertFault.Memory)) }
 {
     if known.len() >= MOST_KNOWN as usize {
         return Err(KnownFault::TooMany(place));
@@ -41,7 +41,7 @@ fn remember(
             bus: 0,
             luns: times,
         }),
-        Err(_) => Err(KnownFault::Memory),
+        Err(_) => Err(KnownFault::Cert(CertFault::Memory)),
     }
 }
 
@@ -107,11 +107,11 @@ fn read_branch<S: TokenSource<Token = Token>>(
     let mut moves = Moves::new();
     problem.list_steps(&mut moves);
     if moves.len() != width.get() as usize {
-        return Err(KnownFault::Width(place));
+        return Err(KnownFault::Cert(CertFault::Width(place)));
     }
     let standing = read_children(problem, e, &moves, tokens, known)?;
     let Some(times) = standing.times() else {
-        return Err(KnownFault::YieldNoFit(place));
+        return Err(KnownFault::Cert(CertFault::YieldNoFit(place)));
     };
     remember(problem, times, known, place)
 }
@@ -179,7 +179,7 @@ fn read_child<S: TokenSource<Token = Token>>(
     ensures kind { IfErr result (FaultFits tokens.old.place (S.left tokens.old.source) (S.left tokens.new.source)) }
 {
     let Some((token, place)) = tokens.take() else {
-        return Err(KnownFault::Short);
+        return Err(KnownFault::Cert(CertFault::Short));
     };
     match token {
         Token::Yield(lun) => take_yield(problem, ends, standing, m.lun(), lun.get(), place),
@@ -248,11 +248,11 @@ pub(crate) fn read_whole<S: TokenSource<Token = Token>>(
 {
     let _limits = problem.bus_free();
     let Some((token, place)) = tokens.take() else {
-        return Err(KnownFault::Short);
+        return Err(KnownFault::Cert(CertFault::Short));
     };
     read_tree(problem, e, token, place, tokens, known)?;
     match tokens.take() {
-        Some((_, place)) => Err(KnownFault::Trailing(place)),
+        Some((_, place)) => Err(KnownFault::Cert(CertFault::Trailing(place))),
         None => Ok(()),
     }
 }

@@ -223,25 +223,20 @@ pub fn run_script_by<
     }
 }
 
-/// What [`run_script_by`] does, with gates that hold nothing up: the command `run` of the program.
+/// The answer to a script, run as [`run_script_by`] does, with gates that hold nothing up: the command `run` of the program.
 ///
 /// # Errors
-/// As `run_script`.
-pub fn run_freely<R: Threads + Wait + Sync, P: Planner + Copy + Send + Drop, I: Read, O: Write>(
+/// Want of memory.
+pub fn run_freely<R: Threads + Wait + Sync, P: Planner + Copy + Send + Drop>(
     rt: &R,
     alloc: Global,
     planner: P,
     limit: Limit,
     clocked: bool,
-    reader: &mut I,
-    writer: &mut O,
-) -> Result<u8, EngineFault>
-    ensures answer { IfOk result (λ status. Answers clocked (I.remaining reader.old) (O.contents writer.old) (O.contents writer.new) status) }
-    ensures unread { result ≡ Err EngineFault.Read → Keeps (O.contents writer.old) (O.contents writer.new) }
-    ensures unwritten { result ≡ Err EngineFault.Write → BeginsAnswer clocked (I.remaining reader.old) (O.contents writer.old) (O.contents writer.new) }
+    input: &[u8],
+) -> Result<Answer, AllocError>
+    ensures answer { IfOk result (λ a. IsAnswer clocked input.now (answer_of a)) }
 {
-    match no_gates(alloc) {
-        Ok(gates) => run_script_by(rt, alloc, planner, limit, clocked, gates, reader, writer),
-        Err(AllocError) => tell(writer, b"memory\n", 4),
-    }
+    let gates = no_gates(alloc)?;
+    answer(rt, alloc, planner, limit, clocked, gates, input)
 }

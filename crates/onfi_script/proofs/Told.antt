@@ -2,7 +2,15 @@
 use Rattle.std.proofs.Common.{◌≡◌, ℕ, List, Ok, Err, Some, None, refl, sym, inl, take, subst}
 use Rattle.std.specs.Prelude.{Option, Result, IfOk, IfErr, IfSome}
 use Rattle.std.specs.Io.KnownBytes.{Appends}
+use Rattle.onfi_request.specs.declared.want.Want.{Want}
 use Rattle.onfi_problem.specs.Problem.{Problem}
+use Rattle.onfi_schedule.specs.Schedule.{Schedule, Legal}
+use Rattle.onfi_check.specs.declared.fault.TextFault.{TextFault}
+use Rattle.onfi_check.specs.declared.fault.TextFault.TheVariants.{Cert}
+use Rattle.onfi_known.specs.declared.fault.KnownFault.{KnownFault}
+use Rattle.onfi_known.specs.declared.fault.KnownFault.TheVariants.{Above}
+use Rattle.onfi_known.specs.declared.fault.KnownTextFault.{KnownTextFault}
+use Rattle.onfi_known.specs.Faults.{IsTextFault}
 use Rattle.onfi_script.specs.Text.{Answer, memory}
 use Rattle.std.specs.declared.alloc.AllocError.{AllocError}
 use Rattle.onfi_script.specs.declared.text.Answer.{Answer as Made}
@@ -41,3 +49,8 @@ pub told_part : (Tells : ℕ → Problem → ℕ → Type 0) (command : Command)
 told_part Tells command input old new answer (Ok s) is w e = absurd (cc)
 told_part Tells command None old new answer (Err f) is w e = tt
 told_part Tells command (Some xs) old new answer (Err f) is w e = (answer, w.1, is, w.2)
+
+-- a certificate's schedule that is told as one that ends too soon is legal
+pub above_is_legal : (all : List Want) (p : Problem) (s : Schedule) (below : ℕ) (text : List ℕ) (fault : TextFault KnownFault KnownTextFault)
+    → IsTextFault all p s below text fault → fault ≡ Cert Above → Legal p s
+above_is_legal all p s below text fault is e = let (tokens, certificate, ends) = subst (IsTextFault all p s below text) e is in ends.0

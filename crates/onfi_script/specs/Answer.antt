@@ -10,14 +10,15 @@ use Rattle.onfi_cert.specs.Text.{IsCertificate}
 use Rattle.onfi_check.specs.Tree.{AcceptsTokens}
 use Rattle.onfi_check.specs.Faults.{IsTextFault}
 use Rattle.onfi_check.specs.Nodes.{HasMoreNodes, IsSplitOver}
+use Rattle.onfi_cert.specs.declared.fault.CertTextFault.{CertTextFault}
+use Rattle.onfi_check.specs.declared.fault.CertFault.{CertFault}
 use Rattle.onfi_check.specs.declared.fault.TextFault.{TextFault}
 use Rattle.onfi_known.specs.Faults.{IsTextFault as IsKnownTextFault}
 use Rattle.onfi_known.specs.Laws.{NoneBefore}
 use Rattle.onfi_known.specs.Proves.{ProvesTokens}
 use Rattle.onfi_known.specs.Text.{IsCertificate as IsKnownCertificate}
-use Rattle.onfi_known.specs.Within.{IsWithinTextFault}
+use Rattle.onfi_known.specs.declared.fault.KnownFault.{KnownFault}
 use Rattle.onfi_known.specs.declared.fault.KnownTextFault.{KnownTextFault}
-use Rattle.onfi_known.specs.declared.fault.WithinTextFault.{WithinTextFault}
 use Rattle.onfi_known.specs.declared.token.Token.{Token as KnownToken}
 use Rattle.onfi_planner.specs.Planning.{AreRising}
 use Rattle.onfi_early.specs.Slack.{slack_of}
@@ -43,7 +44,7 @@ use Rattle.onfi_script.specs.declared.device.Device.{Device}
 use Rattle.onfi_script.specs.Device.{TellsDevice}
 use Rattle.onfi_script.specs.Setup.{names_absent, SetsUp}
 use Rattle.onfi_script.specs.PlanText.{plan_of, plan_within_of, schedule_of}
-use Rattle.onfi_script.specs.Text.{Answer, memory, refused, planned, over, accepted, within, legal_until, refused_for, refused_at, text_refused, known_text_refused, within_refused}
+use Rattle.onfi_script.specs.Text.{Answer, memory, refused, planned, over, accepted, within, legal_until, refused_for, refused_at, text_refused, known_text_refused}
 
 -- a fault of the script as a whole
 abbrev pub whole : ScriptFault → Refusal
@@ -118,9 +119,8 @@ pub record IsShown (planner : ChosenPlanner) (p : Problem) (s : Schedule) (below
 
 -- what is wrong with the schedule or its certificate is told
 abbrev pub TellsFault : ChosenPlanner → Problem → Schedule → ℕ → List ℕ → Answer → Type 0
-TellsFault Plain p s below text answer = (fault : TextFault) × IsTextFault p s text fault × (answer ≡ text_refused fault)
-TellsFault Remembering p s below text answer = (fault : KnownTextFault) × IsKnownTextFault p.wants p s text fault × (answer ≡ known_text_refused fault)
-TellsFault BestSoFar p s below text answer = (fault : WithinTextFault) × IsWithinTextFault p.wants p s below text fault × (answer ≡ within_refused fault)
+TellsFault Plain p s below text answer = (fault : TextFault CertFault CertTextFault) × IsTextFault p s text fault × (answer ≡ text_refused fault)
+TellsFault _ p s below text answer = (fault : TextFault KnownFault KnownTextFault) × IsKnownTextFault p.wants p s below text fault × (answer ≡ known_text_refused fault)
 
 -- the answer to a schedule that is said to end at `ends`, where its certificate is to show that nothing ends before `below`:
 -- what is wrong with them, that the schedule ends at another time, that it is legal and so near the optimum, or optimal

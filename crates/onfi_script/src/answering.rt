@@ -1,7 +1,7 @@
 //! From the bytes of an input to the bytes of its answer.
-ghost use Rattle.std.specs.Prelude.{◌≡◌, ◌≤◌, ℕ, IfOk, IfErr, take};
+ghost use Rattle.std.specs.Prelude.{◌≡◌, ◌≤◌, ◌<◌, ℕ, IfOk, IfErr, take};
 ghost use Rattle.std.specs.Io.KnownBytes.{Appends, Keeps};
-ghost use Rattle.onfi_script.specs.Answer.{AnswersCommand, AnswersPlan, IsAnswerBy, Answers, AnswersBy, BeginsAnswer, BeginsAnswerBy, OneTells, PartsTell, output_of};
+ghost use Rattle.onfi_script.specs.Answer.{AnswersCommand, AnswersPlan, IsAnswer, IsAnswerBy, Answers, AnswersBy, BeginsAnswer, BeginsAnswerBy, OneTells, PartsTell, output_of};
 ghost use Rattle.onfi_script.specs.AnswerOf.{answer_of, told_of};
 ghost use Rattle.onfi_script.specs.Limit.{IsLimit, IsLimited};
 
@@ -219,5 +219,35 @@ pub fn engine_split_by<T: Threads + Sync, R: Read, W: Write>(
         }
         Err(InputFault::Read) => Err(EngineFault::Read),
         Err(InputFault::Memory) => tell_answer(writer, Err(AllocError)),
+    }
+}
+
+/// The answer to an input, with why it refuses: what [`engine`] writes with one worker, and what [`engine_split`] and
+/// [`engine_split_by`] write with several, 1 to 8.
+///
+/// # Errors
+/// Want of memory.
+pub fn answer_by<T: Threads + Sync>(
+    rt: &T,
+    alloc: Global,
+    command: Command,
+    workers: usize,
+    input: &[u8],
+) -> Result<Answer, AllocError>
+    requires limit { IsLimited command }
+    requires few_workers { workers ≤ 8 }
+    ensures one { workers ≤ 1 → IfOk result (λ a. IsAnswer command input.now (answer_of a)) }
+    ensures several { 1 < workers → IfOk result (λ a. IsAnswerBy PartsTell command input.now (answer_of a)) }
+{
+    if workers <= 1 {
+        return answer(alloc, command, input);
+    }
+    match command {
+        Command::Plan { limit, trace } => {
+            let options = PlanOptions::new(ChosenPlanner::Plain, limit, output_of(trace));
+            answer_by_workers(rt, alloc, options, workers, input)
+        }
+        Command::PlanBy(options) => answer_by_workers(rt, alloc, options, workers, input),
+        Command::Check | Command::CheckBy(_) | Command::Legal => answer(alloc, command, input),
     }
 }

@@ -35,8 +35,9 @@ mod setup;
 mod text;
 mod transfer;
 mod weights;
+mod why;
 
-pub use answering::{engine, engine_split, engine_split_by};
+pub use answering::{answer_by, engine, engine_split, engine_split_by};
 pub use choosing::Choosing;
 pub use command::{Command, Output, PlanOptions};
 pub use count::{Batch, Capacity, Few};
@@ -54,5 +55,6 @@ pub use reading::read_rows;
 pub use row::{Row, Subject};
 pub use script::{behind_end, script_len};
 pub use setup::{Setup, is_strict, set_up};
-pub use text::{Answer, put_number, refused};
+pub use text::{Answer, put_number, refuse, refused};
 pub use transfer::{EngineFault, InputFault, read_all, tell, write_text};
+pub use why::Why;

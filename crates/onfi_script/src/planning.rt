@@ -134,5 +134,5 @@ pub fn printed(
         Output::Plan => plan_text(alloc, &schedule, finish, below, certificate.as_slice())?,
         Output::Trace { requests } => trace_of(alloc, problem, &schedule, requests)?,
     };
-    Ok(Answer { text, status: 0 })
+    Ok(Answer::of(text, 0))
 }

@@ -2,7 +2,8 @@ ghost use Rattle.std.specs.Prelude.{◌≤◌};
 
 use crate::ended::Ended;
 use crate::sample::{problem, running, want};
-use onfi_known::{KnownFault, KnownTextFault, check_known_text};
+use onfi_check::{CertFault, TextFault};
+use onfi_known::{KnownFault, check_known_text};
 use onfi_plan::{Limit, Plan};
 use onfi_planner::{NoGate, PlanFault, Planned, plan, plan_split};
 use onfi_problem::{LunState, Problem};
@@ -83,7 +84,7 @@ fn judge_known(
                 println!(rt; "accepted {finish}")?;
                 return Ok(());
             }
-            Err(KnownTextFault::Cert(KnownFault::Memory)) => println!(rt; "memory")?,
+            Err(TextFault::Cert(KnownFault::Cert(CertFault::Memory))) => println!(rt; "memory")?,
             Err(fault) => {
                 println!(rt; "{fault}")?;
                 return Ok(());

@@ -5,11 +5,11 @@ use Rattle.onfi_known.proofs.Reading.{ended, missed, other_flag, same_flag}
 use Rattle.onfi_known.proofs.checking.read_to_end.Goals as goal
 
 pub returns-then-is_err-clause-fault : goal.returns-then-is_err-clause-fault
-returns-then-is_err-clause-fault c = λ all s text whole r.
+returns-then-is_err-clause-fault c = λ all s below text whole r.
     missed c.finish.result r c.read_on.ensures.place c.read_on.ensures.behind c.finish.ensures.err (sym c.is_err.ensures.value ∙ c.if-is_err.true)
 
 pub returns-then-strict-rules-clause-fault : goal.returns-then-strict-rules-clause-fault
-returns-then-strict-rules-clause-fault c = λ all s text whole r.
+returns-then-strict-rules-clause-fault c = λ all s below text whole r.
     let no_fault = sym c.is_err.ensures.value ∙ c.if-is_err.false in
     let is = ended c.finish.result r c.read_on.ensures.place c.read_on.ensures.behind c.finish.ensures.ok no_fault c.if-tokens-eq0.false in
     let rules = ap (λ (x : Rules). x.strict) c.rules.ensures in

@@ -1,4 +1,4 @@
-use Rattle.std.proofs.Common.{◌≡◌, ◌<◌, [], ◌∷◌, length, get_or, ◌^◌, inr, refl, sym, ap, ◌∙◌, subst, arith}
+use Rattle.std.proofs.Common.{◌≡◌, ◌<◌, [], ◌∷◌, length, get_or, ◌^◌, inl, inr, refl, sym, ap, ◌∙◌, subst, arith}
 use Rattle.std.specs.List.{AllByRecursion as All}
 use Rattle.onfi_problem.specs.declared.moves.Move.TheVariants.{Next}
 use Rattle.onfi_problem.specs.Moves.{IsMove, AreMoves}
@@ -169,7 +169,7 @@ read_tree-returns-in_default g t c =
       behind = refl;
       ok = IfOk-weaker c.read_closing.result _ _ (λ d h. closed x.problem c.args.known.now.items c.args.token d left h.0 h.1) c.read_closing.ensures.ok;
       few = on_ok c.read_closing.result (λ h. h);
-      err = err_of c.read_closing.result _ _ _ (closing_refuses c.args.e x.all x.problem c.args.known.now.items c.args.token left c.in_default.not-Branch c.in_default.not-Again) (λ k. k [] []) c.read_closing.ensures.err c.read_closing.ensures.kind;
+      err = err_of c.read_closing.result _ _ _ (closing_refuses c.args.e x.all x.problem c.args.known.now.items c.args.token left c.in_default.not-Branch c.in_default.not-Again) (λ k. k [] []) (λ k. k [] []) c.read_closing.ensures.err c.read_closing.ensures.kind;
     }
 
 pub read_tree-returns-in-Again-clause-err : goal.read_tree-returns-in-Again-clause-err
@@ -178,7 +178,7 @@ read_tree-returns-in-Again-clause-err g t c =
     let left = g.S.TokenSource.left c.args.tokens.now.source in
     let limits = c.bus_free-limits.ensures.limits in
     let e : c.deref.result.now ≡ c.args.known.now.items = cc in
-    err_of c.read_again.result _ _ _ (λ none. again_refuses c.args.e x.all x.problem c.args.known.now.items c.args.token c.in-Again.number left (record { problem = limits.problem; small = limits.small }) c.in-Again.is (λ d h. none d (subst (λ z. IsAgain x.all x.problem z c.in-Again.number d) (sym e) h))) (name_of_tokens c.args.place) c.read_again.ensures.err c.read_again.ensures.kind
+    err_of c.read_again.result _ _ _ (λ none. again_refuses c.args.e x.all x.problem c.args.known.now.items c.args.token c.in-Again.number left (record { problem = limits.problem; small = limits.small }) c.in-Again.is (λ d h. none d (subst (λ z. IsAgain x.all x.problem z c.in-Again.number d) (sym e) h))) (name_of_tokens c.args.place _ (inl refl)) (name_of_tokens c.args.place _ (inr refl)) c.read_again.ensures.err c.read_again.ensures.kind
 
 pub read_branch-returns-then-len-get-clause-err : goal.read_branch-returns-then-len-get-clause-err
 read_branch-returns-then-len-get-clause-err g t c =
@@ -215,7 +215,7 @@ read_branch-returns-clause-err g t c =
 pub read_child-returns-in-Yield-clause-err : goal.read_child-returns-in-Yield-clause-err
 read_child-returns-in-Yield-clause-err g t c =
     let x = c.args.problem.now in
-    err_of c.take_yield.result _ _ _ (λ none. yield_child c.args.e x.all x.problem (moves_of x.groups c.args.moves.now) (move_of x.groups c.args.m) c.args.standing.now.given.items c.args.known.now.items (g.S.TokenSource.left c.args.tokens.now.source) (g.S.TokenSource.left c.take.new.self.source) c.in-Some.token c.in-Yield.lun c.in-Some.ensures.token c.in-Yield.is (λ y q may. none (moves_of x.groups c.args.moves.now) (move_of x.groups c.args.m) y c.requires.moves c.requires.ends (c.requires.named.lun ∙ sym c.lun.ensures) (q ∙ sym c.get.ensures.value) may)) (λ k. k) c.take_yield.ensures.err c.take_yield.ensures.kind
+    err_of c.take_yield.result _ _ _ (λ none. yield_child c.args.e x.all x.problem (moves_of x.groups c.args.moves.now) (move_of x.groups c.args.m) c.args.standing.now.given.items c.args.known.now.items (g.S.TokenSource.left c.args.tokens.now.source) (g.S.TokenSource.left c.take.new.self.source) c.in-Some.token c.in-Yield.lun c.in-Some.ensures.token c.in-Yield.is (λ y q may. none (moves_of x.groups c.args.moves.now) (move_of x.groups c.args.m) y c.requires.moves c.requires.ends (c.requires.named.lun ∙ sym c.lun.ensures) (q ∙ sym c.get.ensures.value) may)) (λ k. k) (λ k. k) c.take_yield.ensures.err c.take_yield.ensures.kind
 
 pub read_children-returns-in_err-read_child-clause-err : goal.read_children-returns-in_err-read_child-clause-err
 read_children-returns-in_err-read_child-clause-err g t c =

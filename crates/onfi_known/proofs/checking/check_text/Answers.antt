@@ -1,7 +1,9 @@
 use Rattle.std.proofs.lemmas.Result.{err_from_is_err_and}
 use Rattle.std.proofs.Common.{arith}
+use Rattle.std.specs.Option.{unwrap_or}
+use Rattle.onfi_schedule.specs.Schedule.{finish}
 use Rattle.onfi_known.proofs.Reading.{read_on}
-use Rattle.onfi_known.proofs.checking.check_known_text.Goals as goal
+use Rattle.onfi_known.proofs.checking.check_text.Goals as goal
 
 pub returns-in-Ok-clause-accepted : goal.returns-in-Ok-clause-accepted
 returns-in-Ok-clause-accepted c =
@@ -20,4 +22,4 @@ pub returns-in_err-read_to_end-clause-fault : goal.returns-in_err-read_to_end-cl
 returns-in_err-read_to_end-clause-fault c =
     let r = read_on c.in-Some.ensures.text c.check_source-checked.ensures.behind c.check_source-checked.ensures.counted in
     let p = err_from_is_err_and c.from_residual.result c.from_residual.ensures.1 in
-    rw (p.1, p.2) (c.in_err-read_to_end.ensures.fault c.args.problem.now.all c.args.schedule.now c.args.text.now c.in-Some.tokens.source r)
+    rw (p.1, p.2) (c.in_err-read_to_end.ensures.fault c.args.problem.now.all c.args.schedule.now (unwrap_or c.args.below (finish c.args.problem.now.problem c.args.schedule.now)) c.args.text.now c.in-Some.tokens.source r)
