@@ -1,5 +1,5 @@
 //! From what a caller says to a problem.
-ghost use Rattle.std.specs.Prelude.{◌≡◌, ◌≤◌, ◌%◌, ◌^◌, Bool, false, true, IfOk, IfErr, MatchResult};
+ghost use Rattle.std.specs.Prelude.{◌≡◌, ◌≤◌, Bool, false, true, IfOk, IfErr, MatchResult};
 ghost use Rattle.std.specs.List.{list_any};
 ghost use Rattle.onfi_c.specs.Said as spec;
 ghost use Rattle.onfi_c.specs.Refused.{AreBadSpans, AreGoodSpans, IsBadTiming, IsGoodTiming, IsBadProblem, IsBadSaid, IsRefused, IsUnsaid, AreSaid};
@@ -8,6 +8,7 @@ ghost use Rattle.onfi_problem.specs.Kept.{problem_of as parts_of};
 use crate::channel::{PlainChannel, PlainRules, PlainSpans, PlainTiming};
 use crate::lun::{PlainLun, PlainWant};
 use crate::status::Status;
+use onfi_addr::plane_at;
 use onfi_group::{Group, Rules};
 use onfi_problem::{LunState, Problem, ProblemFault};
 use onfi_request::Want;
@@ -36,14 +37,6 @@ fn timing(said: &PlainTiming) -> Result<Timing, Status>
     Ok(Timing::new(read, program, erase))
 }
 
-/// The plane of a block.
-fn plane_of(plane_bits: u8, block: u16) -> u8
-    requires { plane_bits ≤ 2 }
-    ensures { result ≡ block % 2 ^ plane_bits }
-{
-    (block % (1 << plane_bits)) as u8
-}
-
 /// The kind of a number.
 fn kind_of(kind: u8) -> Kind
     ensures { result ≡ spec.kind_of kind }
@@ -66,7 +59,7 @@ pub fn want_of(plane_bits: u8, said: &PlainWant) -> Want
         id: said.id,
         kind: kind_of(said.kind),
         lun: said.lun,
-        plane: plane_of(plane_bits, said.block),
+        plane: plane_at(plane_bits, said.block),
         block: said.block,
         page: said.page,
     }

@@ -11,7 +11,8 @@ use Rattle.std.proofs.lemmas.Str.Parse.{digit_from_value, numerals_by_value, IsN
 use Rattle.std.proofs.lemmas.List.{drop_at}
 use Rattle.std.proofs.lemmas.List.Sums.{split_at_first, passes_at_first}
 use Rattle.std.proofs.Math.Seq.{take-append_seam}
-use Rattle.onfi_timing.specs.Decimal.{is_number, number_of}
+use Rattle.onfi_timing.specs.Decimal.{below, written_number}
+use Rattle.onfi_timing.proofs.Written.{below_again, below_some, number_again, number_read}
 use Rattle.onfi_cert.specs.declared.token.Token.{Token as PlainToken}
 use Rattle.onfi_cert.specs.declared.token.Token.TheVariants as plain_tk
 use Rattle.onfi_cert.specs.Word.{token_of as plain_token_of}
@@ -22,7 +23,7 @@ use Rattle.onfi_known.specs.declared.token.Token.{Token}
 use Rattle.onfi_known.specs.declared.token.Token.TheVariants as tk
 use Rattle.onfi_known.specs.declared.token.TheConstants.{MOST_KNOWN}
 use Rattle.onfi_known.specs.Text.{InRange, spelling}
-use Rattle.onfi_known.specs.Word.{has_leading_zero, below, number, of_plain, again_token, window_token, token_of}
+use Rattle.onfi_known.specs.Word.{of_plain, again_token, window_token, token_of}
 
 -- digits are no separators and no commas
 plain_digits : (ds : List ℕ) → AllDigits 10 ds → Plain ds
@@ -50,76 +51,6 @@ plain tk.End h = is_plain plain_tk.End
 plain (tk.Window a b) h = (refl, plain_append (decimal a) (44 ∷ decimal b) (plain_decimal a (omega (arith, h.0))) (refl, plain_decimal b (omega (arith, h.1))))
 plain (tk.Again n) h = (refl, plain_decimal n (omega arith))
 
-all_digits : (ds : List ℕ) → AllDigits 10 ds → list_all is_ascii_digit ds ≡ true
-all_digits [] d = refl
-all_digits (c ∷ cs) d =
-    let one : is_ascii_digit c ≡ true = let r = digit_from_value c d.0 in grind (arith, nat_tests) in
-    ap (λ b. b && list_all is_ascii_digit cs) one ∙ all_digits cs d.1
-
-abbrev Digits : List ℕ → Type 0
-Digits ds = list_all is_ascii_digit ds ≡ true
-
-are_digits : IsNumeralModel Digits (digits_value 10)
-are_digits = numerals_by_value _ (search rules)
-
-no_zero : (ds : List ℕ) → 48 < get_or ds 0 0 → has_leading_zero ds ≡ false
-no_zero [] h = refl
-no_zero (c ∷ []) h = refl
-no_zero (c ∷ d ∷ more) h = ne_eqb c 48 (λ e. omega arith)
-
-no_leading_zero : (n : ℕ) → n < 2 ^ 64 → has_leading_zero (decimal n) ≡ false
-no_leading_zero zero h = ap has_leading_zero (decimal_digit 0 (omega arith))
-no_leading_zero (suc n) h = no_zero (decimal (suc n)) (first_decimal (suc n) (omega arith) h)
-
-below_again : (limit n : ℕ) → n < limit → below limit n ≡ Some n
-below_again limit n h = rw (lt-ltb n limit h)
-
-below_some : (limit n m : ℕ) → below limit n ≡ Some m → (m ≡ n) × (m < limit)
-below_some limit n m e = by_test (nat_lt n limit) refl e
-  where
-    by_test : (b : Bool) → nat_lt n limit ≡ b → cond b (Some n) None ≡ Some m → (m ≡ n) × (m < limit)
-    by_test true t s = let same : n ≡ m = cc in (sym same, let l = ltb-true n limit t in omega arith)
-    by_test false t s = cc
-
--- a number as it is written is read
-number_again : (n : ℕ) → n < 2 ^ 63 → number (decimal n) ≡ Some n
-number_again n h =
-    let numeral = decimal_is_IsNumeral n (omega arith) in
-    let digits : list_all is_ascii_digit (decimal n) ≡ true = all_digits (decimal n) numeral.0.1 in
-    let some : (length (decimal n) == 0) ≡ false = ne_eqb (length (decimal n)) 0 (λ e. omega (arith, numeral.0.0)) in
-    ap (λ b. cond b None (option_and_then (below (2 ^ 63)) (number_of (decimal n)))) (no_leading_zero n (omega arith))
-    ∙ ap (λ b. option_and_then (below (2 ^ 63)) (cond (not b && list_all is_ascii_digit (decimal n)) (Some (digits_value 10 (decimal n))) None)) some
-    ∙ ap (λ b. option_and_then (below (2 ^ 63)) (cond b (Some (digits_value 10 (decimal n))) None)) digits
-    ∙ ap (below (2 ^ 63)) numeral.1
-    ∙ below_again (2 ^ 63) n h
-
-one_digit : (ds : List ℕ) → has_leading_zero ds ≡ false → 0 < length ds → get_or ds 0 0 ≡ 48 → length ds ≡ 1
-one_digit [] z s f = absurd (omega arith)
-one_digit (c ∷ []) z s f = refl
-one_digit (c ∷ d ∷ more) z s f = absurd (eqb-false c 48 z f)
-
--- what is read as a number is as it is written
-number_read : (ds : List ℕ) (n : ℕ) → number ds ≡ Some n → (decimal n ≡ ds) × (n < 2 ^ 63)
-number_read ds n e = by_zero (has_leading_zero ds) refl e
-  where
-    spelled : (v : ℕ) → has_leading_zero ds ≡ false → is_number ds ≡ true → digits_value 10 ds ≡ v → v < 2 ^ 63 → decimal v ≡ ds
-    spelled v z is same small =
-        let parts = and_parts (not (length ds == 0)) (list_all is_ascii_digit ds) is in
-        let some : 0 < length ds = some_of (length ds) parts.0 in
-        ap decimal (sym same) ∙ decimal-digits_value are_digits ds parts.1 some (one_digit ds z some) (omega arith)
-      where
-        some_of : (k : ℕ) → not (k == 0) ≡ true → 0 < k
-        some_of zero h = cc
-        some_of (suc k) h = omega arith
-
-    by_number : (b : Bool) → has_leading_zero ds ≡ false → is_number ds ≡ b → option_and_then (below (2 ^ 63)) (cond b (Some (digits_value 10 ds)) None) ≡ Some n → (decimal n ≡ ds) × (n < 2 ^ 63)
-    by_number true z t s = let b = below_some (2 ^ 63) (digits_value 10 ds) n s in (spelled n z t (sym b.0) b.1, b.1)
-    by_number false z t s = cc
-
-    by_zero : (b : Bool) → has_leading_zero ds ≡ b → cond b None (option_and_then (below (2 ^ 63)) (number_of ds)) ≡ Some n → (decimal n ≡ ds) × (n < 2 ^ 63)
-    by_zero true z s = cc
-    by_zero false z s = by_number (is_number ds) z refl s
-
 abbrev is_comma : ℕ → Bool
 is_comma b = b == 44
 
@@ -143,9 +74,9 @@ window_again : (a b : ℕ) → a < 2 ^ 63 → b < 2 ^ 63 → window_token (decim
 window_again a b h k =
     let text = decimal a ++ 44 ∷ decimal b in
     let digits = (decimal_is_IsNumeral a (omega arith)).0.1 in
-    ap (λ o. option_and_then (λ at. option_and_then (λ start. option_map (tk.Window start) (number (drop (at + 1) text))) (number (take at text))) o) (comma_at (decimal a) (decimal b) digits)
-    ∙ ap (λ o. option_and_then (λ start. option_map (tk.Window start) (number (drop (length (decimal a) + 1) text))) o) (ap number (take-append_seam (decimal a) (44 ∷ decimal b)) ∙ number_again a h)
-    ∙ ap (λ o. option_map (tk.Window a) o) (ap number (behind_comma (decimal a) (decimal b)) ∙ number_again b k)
+    ap (λ o. option_and_then (λ at. option_and_then (λ start. option_map (tk.Window start) (written_number (drop (at + 1) text))) (written_number (take at text))) o) (comma_at (decimal a) (decimal b) digits)
+    ∙ ap (λ o. option_and_then (λ start. option_map (tk.Window start) (written_number (drop (length (decimal a) + 1) text))) o) (ap written_number (take-append_seam (decimal a) (44 ∷ decimal b)) ∙ number_again a h)
+    ∙ ap (λ o. option_map (tk.Window a) o) (ap written_number (behind_comma (decimal a) (decimal b)) ∙ number_again b k)
 
 -- a spelling spells its token
 pub spelling_again : (t : Token) → InRange t → token_of (spelling t) ≡ Some t
@@ -172,7 +103,7 @@ chained P f (Some a) h = h a refl
 
 again_sound : (text : List ℕ) → IfSome (again_token text) (Spells (82 ∷ text))
 again_sound text =
-    chained _ _ (number text) (λ n read.
+    chained _ _ (written_number text) (λ n read.
     mapped (Spells (82 ∷ text)) tk.Again (below MOST_KNOWN n) (λ m s.
     let b = below_some MOST_KNOWN n m s in
     (b.1, ap (λ z. 82 ∷ z) (ap decimal b.0 ∙ (number_read text n read).0))))
@@ -193,8 +124,8 @@ cut_comma text at e = by_test (nat_lt (position_or_len is_comma text) (length te
 window_sound : (text : List ℕ) → IfSome (window_token text) (Spells (87 ∷ text))
 window_sound text =
     chained _ _ (position is_comma text) (λ at here.
-    chained _ _ (number (take at text)) (λ a first.
-    mapped (Spells (87 ∷ text)) (tk.Window a) (number (drop (at + 1) text)) (λ b second.
+    chained _ _ (written_number (take at text)) (λ a first.
+    mapped (Spells (87 ∷ text)) (tk.Window a) (written_number (drop (at + 1) text)) (λ b second.
     let x = number_read (take at text) a first in
     let y = number_read (drop (at + 1) text) b second in
     ((x.1, y.1), ap (λ z. 87 ∷ z) (ap (λ z. z ++ 44 ∷ decimal b) x.0 ∙ ap (λ z. take at text ++ 44 ∷ z) y.0 ∙ sym (cut_comma text at here))))))

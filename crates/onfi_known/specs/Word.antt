@@ -1,27 +1,13 @@
 -- Words of a text, and the tokens that they spell. What a token looks like is said by `spelling` alone; here stands
 -- the way back, for the readers' own contracts.
-use Rattle.std.specs.Prelude.{ℕ, ◌+◌, ◌==◌, ◌^◌, List, [], ◌∷◌, Bool, false, Option, Some, None, option_map, option_and_then, take, drop, position, nat_lt, if◌then◌else◌}
-use Rattle.onfi_timing.specs.Decimal.{number_of}
+use Rattle.std.specs.Prelude.{ℕ, ◌+◌, ◌==◌, List, [], ◌∷◌, Option, Some, None, option_map, option_and_then, take, drop, position, if◌then◌else◌}
+use Rattle.onfi_timing.specs.Decimal.{below, written_number}
 use Rattle.onfi_cert.specs.declared.token.Token.{Token as PlainToken}
 use Rattle.onfi_cert.specs.declared.token.Token.TheVariants as plain
 use Rattle.onfi_cert.specs.Word.{token_of as plain_token_of}
 use Rattle.onfi_known.specs.declared.token.Token.{Token}
 use Rattle.onfi_known.specs.declared.token.Token.TheVariants as tk
 use Rattle.onfi_known.specs.declared.token.TheConstants.{MOST_KNOWN}
-
--- more digits than one, the first a zero
-abbrev pub has_leading_zero : List ℕ → Bool
-has_leading_zero [] = false
-has_leading_zero (c ∷ []) = false
-has_leading_zero (c ∷ d ∷ more) = c == 48
-
--- a number, where it is below a limit
-abbrev pub below : ℕ → ℕ → Option ℕ
-below limit n = if nat_lt n limit then Some n else None
-
--- a number below 2^63 in digits, without a leading zero
-abbrev pub number : List ℕ → Option ℕ
-number text = if has_leading_zero text then None else option_and_then (below (2 ^ 63)) (number_of text)
 
 -- a token of a plain certificate
 abbrev pub of_plain : PlainToken → Token
@@ -35,12 +21,12 @@ of_plain plain.End = tk.End
 
 -- the number of a node
 abbrev pub again_token : List ℕ → Option Token
-again_token text = option_and_then (λ n. option_map tk.Again (below MOST_KNOWN n)) (number text)
+again_token text = option_and_then (λ n. option_map tk.Again (below MOST_KNOWN n)) (written_number text)
 
 -- two numbers with a comma between them
 abbrev pub window_token : List ℕ → Option Token
 window_token text =
-    option_and_then (λ at. option_and_then (λ start. option_map (tk.Window start) (number (drop (at + 1) text))) (number (take at text))) (position (λ b. b == 44) text)
+    option_and_then (λ at. option_and_then (λ start. option_map (tk.Window start) (written_number (drop (at + 1) text))) (written_number (take at text))) (position (λ b. b == 44) text)
 
 -- the token that a word spells
 abbrev pub token_of : List ℕ → Option Token

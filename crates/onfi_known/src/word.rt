@@ -1,37 +1,15 @@
 //! From a word to its token.
-ghost use Rattle.std.specs.Prelude.{◌≡◌, ◌^◌, ◌<◌, ◌==◌, IfSome, position, length};
-ghost use Rattle.onfi_known.specs.Word.{has_leading_zero, number, of_plain, again_token, window_token, token_of};
+ghost use Rattle.std.specs.Prelude.{◌≡◌, ◌<◌, ◌==◌, IfSome, position, length};
+ghost use Rattle.onfi_known.specs.Word.{of_plain, again_token, window_token, token_of};
 
 use crate::token::{MOST_KNOWN, Token};
 use onfi_cert::{Token as PlainToken, token_of as plain_token_of};
-use onfi_timing::read_number;
-
-// Whether there are more digits than one, the first a zero.
-fn has_leading_zero(text: &[u8]) -> bool
-    ensures { result ≡ has_leading_zero text.now }
-{
-    match text {
-        [first, _, ..] => *first == b'0',
-        _ => false,
-    }
-}
-
-// A number below 2^63 in digits, of which the first of several is no zero.
-fn number(text: &[u8]) -> Option<u64>
-    ensures value { result ≡ number text.now }
-    ensures range { IfSome result (λ n. n < 2 ^ 63) }
-{
-    if has_leading_zero(text) {
-        return None;
-    }
-    let value = read_number(text)?;
-    if value < 1 << 63 { Some(value) } else { None }
-}
+use onfi_timing::read_written;
 
 fn again_token(text: &[u8]) -> Option<Token>
     ensures { result ≡ again_token text.now }
 {
-    let n = number(text)?;
+    let n = read_written(text)?;
     if n < u64::from(MOST_KNOWN) {
         Some(Token::Again(n as u32))
     } else {
@@ -66,8 +44,8 @@ fn window_token(text: &[u8]) -> Option<Token>
     ensures { result ≡ window_token text.now }
 {
     let at = comma(text)?;
-    let start = number(&text[..at])?;
-    let tail = number(&text[at + 1..])?;
+    let start = read_written(&text[..at])?;
+    let tail = read_written(&text[at + 1..])?;
     Some(Token::Window { start, tail })
 }
 

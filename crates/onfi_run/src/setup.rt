@@ -17,7 +17,7 @@ pub fn channel_count(rows: &[Row]) -> u8
     ensures few { result ≤ 4 }
 {
     match row_on(rows, Subject::Channels) {
-        Some(Row::Channels { count }) => count.get(),
+        Some(Row::Channels { count }) => count.get() as u8,
         _ => 1,
     }
 }
@@ -29,7 +29,7 @@ pub fn host_count(rows: &[Row]) -> u8
     ensures few { result ≤ 4 }
 {
     match row_on(rows, Subject::Hosts) {
-        Some(Row::Hosts { count }) => count.get(),
+        Some(Row::Hosts { count }) => count.get() as u8,
         _ => 1,
     }
 }
@@ -41,7 +41,7 @@ fn batch(rows: &[Row]) -> u8
     ensures few { result ≤ 8 }
 {
     match row_on(rows, Subject::Batch) {
-        Some(Row::Batch { count }) => count.get(),
+        Some(Row::Batch { count }) => count.get() as u8,
         _ => 8,
     }
 }

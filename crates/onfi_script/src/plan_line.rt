@@ -1,5 +1,6 @@
 //! The lines of a plan text.
 ghost use Rattle.std.specs.Prelude.{◌≡◌, ◌==◌, ◌+◌, ◌<◌, ◌≤◌, ◌^◌, length, map, find, option_map, IfSome};
+ghost use Rattle.onfi_timing.specs.Decimal.{written_number};
 ghost use Rattle.onfi_script.specs.Parts.{parts};
 ghost use Rattle.onfi_script.specs.PlanLine as spec;
 
@@ -8,7 +9,7 @@ use crate::parts::cut;
 use onfi_group::Group;
 use onfi_request::Want;
 use onfi_schedule::{Placed, Starts};
-use onfi_timing::{Kind, read_number};
+use onfi_timing::{Kind, read_written};
 use smallvec::SmallVec;
 use std::alloc::Global;
 
@@ -28,32 +29,13 @@ pub enum Line {
     Group(Placed),
 }
 
-/// Whether there are more digits than one, the first a zero.
-fn has_leading_zero(text: &[u8]) -> bool
-    ensures { result ≡ spec.has_leading_zero text.now }
-{
-    text.starts_with(b"0") && text.len() > 1
-}
-
-/// A number below 2^63 in digits, of which the first of several is no zero.
-fn number(text: &[u8]) -> Option<u64>
-    ensures value { result ≡ spec.number text.now }
-    ensures range { IfSome result (λ n. n < 2 ^ 63) }
-{
-    if has_leading_zero(text) {
-        return None;
-    }
-    let value = read_number(text)?;
-    if value < 1 << 63 { Some(value) } else { None }
-}
-
 /// The numbers before the last one, and the last one.
 fn with_last(mut numbers: Starts, last: &[u8]) -> Option<Starts>
     requires { length numbers < 8 }
-    ensures value { result ≡ spec.and_then (spec.number last.now) (λ n. spec.with_last numbers n) }
+    ensures value { result ≡ spec.and_then (written_number last.now) (λ n. spec.with_last numbers n) }
     ensures count { IfSome result (λ ns. length ns ≡ length numbers + 1) }
 {
-    numbers.push(number(last)?);
+    numbers.push(read_written(last)?);
     Some(numbers)
 }
 
@@ -70,7 +52,7 @@ fn numbers(text: &[u8], byte: u8, most: u8) -> Option<Starts>
         let Some((word, behind)) = cut(left, byte) else {
             return with_last(numbers, left);
         };
-        numbers.push(number(word)?);
+        numbers.push(read_written(word)?);
         left = behind;
     }
     None
@@ -118,7 +100,7 @@ fn rest_of(words: &[u8]) -> Option<Line>
     ensures { result ≡ spec.rest_of (parts 32 words.now) }
 {
     let (lun, starts) = cut(words, b' ')?;
-    let lun = number(lun)?;
+    let lun = read_written(lun)?;
     let starts = numbers(starts, b' ', 8)?;
     Some(Line::Rest(RestLine { lun, starts }))
 }
@@ -160,7 +142,7 @@ fn number_in(line: &[u8], name: &str) -> Option<u64>
     }
     match cut(text, b' ') {
         Some(_) => None,
-        None => number(text),
+        None => read_written(text),
     }
 }
 

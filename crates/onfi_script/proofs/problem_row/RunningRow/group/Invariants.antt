@@ -1,6 +1,6 @@
 use Rattle.std.proofs.Common.{◌≡◌, ◌≤◌, map, take, length}
 use Rattle.onfi_script.specs.Setup.{member}
-use Rattle.onfi_script.proofs.row.RunningRow.group.Given as goal
+use Rattle.onfi_script.proofs.problem_row.RunningRow.group.Given as goal
 
 abbrev pub invariant-loop-block : goal.invariant-loop-block
 invariant-loop-block l = record {

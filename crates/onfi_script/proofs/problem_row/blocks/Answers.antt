@@ -3,7 +3,7 @@ use Rattle.csv.specs.Records.{fields_of}
 use Rattle.onfi_script.specs.Field.{field, block}
 use Rattle.onfi_script.specs.Row.{blocks_of}
 use Rattle.onfi_script.proofs.BlockLemmas.{blocks_passed}
-use Rattle.onfi_script.proofs.row.blocks.Goals as goal
+use Rattle.onfi_script.proofs.problem_row.blocks.Goals as goal
 
 pub loop-at-preserved : goal.loop-at-preserved
 loop-at-preserved c =

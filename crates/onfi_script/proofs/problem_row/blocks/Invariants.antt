@@ -2,7 +2,7 @@ use Rattle.std.proofs.Common.{◌≡◌, ◌+◌, ◌++◌, length, drop, Ok}
 use Rattle.csv.specs.Records.{fields_of}
 use Rattle.onfi_script.specs.Field.{given}
 use Rattle.onfi_script.specs.Row.{blocks_of}
-use Rattle.onfi_script.proofs.row.blocks.Given as goal
+use Rattle.onfi_script.proofs.problem_row.blocks.Given as goal
 
 abbrev pub invariant-loop-at : goal.invariant-loop-at
 invariant-loop-at l = record {
