@@ -29,7 +29,7 @@ ahead_onfi_addr := onfi_param
 ahead_onfi_request := onfi_timing
 ahead_onfi_script := onfi_group onfi_problem onfi_schedule onfi_bound onfi_cert onfi_check onfi_demand onfi_known onfi_planner onfi_recall
 # Of onfi_script the modules that only read and write text.
-only_onfi_script := script row device_row problem_row rows row_name field forms text fault seen parts transfer plan_line plan_text
+only_onfi_script := script row device_row problem_row rows row_name field forms text fault seen parts transfer members plan_line plan_text
 
 # What is built is for x86-64, or for the processor that TARGET names, and stands in folders of its name then.
 ifneq ($(filter library wheel install install-library install-program,$(MAKECMDGOALS)),)

@@ -1,16 +1,15 @@
 //! The lines of a plan text.
-ghost use Rattle.std.specs.Prelude.{◌≡◌, ◌==◌, ◌+◌, ◌<◌, ◌≤◌, ◌^◌, length, map, find, option_map, IfSome};
+ghost use Rattle.std.specs.Prelude.{◌≡◌, ◌+◌, ◌<◌, ◌≤◌, ◌^◌, length, IfSome};
 ghost use Rattle.onfi_timing.specs.Decimal.{written_number};
 ghost use Rattle.onfi_script.specs.Parts.{parts};
 ghost use Rattle.onfi_script.specs.PlanLine as spec;
 
 use crate::field::is_word;
+use crate::members::group_named;
 use crate::parts::cut;
-use onfi_group::Group;
 use onfi_request::Want;
 use onfi_schedule::{Placed, Starts};
-use onfi_timing::{Kind, read_written};
-use smallvec::SmallVec;
+use onfi_timing::read_written;
 use std::alloc::Global;
 
 /// A line `rest`: the starts, in ns, of what is left of a LUN's running group.
@@ -58,43 +57,6 @@ fn numbers(text: &[u8], byte: u8, most: u8) -> Option<Starts>
     None
 }
 
-/// The want of that number.
-fn find_want(wants: &[Want], id: u64) -> Option<&Want>
-    ensures { option_map (λ w. w.now) result ≡ find (λ w. w.id == id) wants.now }
-{
-    wants.iter().find(|want| want.id == id)
-}
-
-/// The want of that number, else one that no problem with these wants has.
-fn want_named(wants: &[Want], id: u64) -> Want
-    ensures { result ≡ spec.want_named wants.now id }
-{
-    match find_want(wants, id) {
-        Some(want) => *want,
-        None => Want {
-            id,
-            kind: Kind::Read,
-            lun: 0,
-            plane: 0,
-            block: 0,
-            page: 0,
-        },
-    }
-}
-
-/// The group of the wants of these numbers.
-fn members(alloc: Global, wants: &[Want], ids: &[u64]) -> Group
-    requires some { 1 ≤ length ids.now }
-    requires few { length ids.now ≤ 4 }
-    ensures { result ≡ map (spec.want_named wants.now) ids.now }
-{
-    let mut members = SmallVec::<Want, 4>::new(alloc);
-    for id in ids {
-        members.push_reserved(want_named(wants, *id));
-    }
-    Group::of(alloc, members.as_slice())
-}
-
 /// `LUN START ..`
 fn rest_of(words: &[u8]) -> Option<Line>
     ensures { result ≡ spec.rest_of (parts 32 words.now) }
@@ -112,7 +74,7 @@ fn group_of(alloc: Global, wants: &[Want], words: &[u8]) -> Option<Line>
     let (ids, starts) = cut(words, b' ')?;
     let ids = numbers(ids, b'+', 4)?;
     let starts = numbers(starts, b' ', 8)?;
-    let members = members(alloc, wants, ids.as_slice());
+    let members = group_named(alloc, wants, ids.as_slice());
     Some(Line::Group(Placed::new(members, starts)))
 }
 

@@ -1,6 +1,6 @@
 use Rattle.std.proofs.Common.{◌≡◌, map, take, length}
 use Rattle.onfi_script.specs.PlanLine.{want_named}
-use Rattle.onfi_script.proofs.plan_line.members.Given as goal
+use Rattle.onfi_script.proofs.members.group_named.Given as goal
 
 abbrev pub invariant-loop-id : goal.invariant-loop-id
 invariant-loop-id l = record {
