@@ -42,7 +42,12 @@ impl Gap {
 ///
 /// # Errors
 /// Only where memory was refused.
-pub fn narrow_gap(alloc: Global, problem: &Problem, gap: Gap, limit: Limit) -> Result<Gap, AllocError>
+pub fn narrow_gap(
+    alloc: Global,
+    problem: &Problem,
+    gap: Gap,
+    limit: Limit,
+) -> Result<Gap, AllocError>
     requires { IsGap problem.now limit gap }
     ensures { IfOk result (IsGap problem.now limit) }
 {

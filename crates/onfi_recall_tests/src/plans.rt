@@ -120,7 +120,10 @@ fn a_plan_within_a_small_limit_tells_what_nothing_ends_before(rt: HostRuntime) -
     let problem = six_reads(alloc)?;
     let planned = plan_within(alloc, &problem, Limit::of(100).unwrap())?;
     assert!(rt; legal(&problem, &planned.planned.schedule));
-    assert_eq!(rt; finish(&problem, &planned.planned.schedule), planned.planned.finish);
+    assert_eq!(rt;
+        finish(&problem, &planned.planned.schedule),
+        planned.planned.finish
+    );
     assert!(rt; planned.planned.finish >= 92_120);
     assert_eq!(rt; planned.below, 91_240);
     assert!(rt; planned.text() == Some(b"ONFICERT 3 remember\nL\n".as_slice()));
