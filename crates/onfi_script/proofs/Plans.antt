@@ -1,14 +1,14 @@
 -- Plans of the planners, and those that are made better.
-use Rattle.std.proofs.Common.{◌≡◌, ◌≢◌, ℕ, ◌+◌, ◌-◌, ◌/◌, ◌<◌, ◌≤◌, List, refl, sym, ap, ◌∙◌, subst, arith}
+use Rattle.std.proofs.Common.{◌≡◌, ◌≢◌, ℕ, ◌+◌, ◌-◌, ◌/◌, ◌<◌, ◌≤◌, refl, sym, ap, ◌∙◌, subst, arith}
 use Rattle.std.specs.Prelude.{Result, Ok, Err, IfOk}
 use Rattle.std.proofs.Math.Nat.{mul-zero}
-use Rattle.onfi_cert.specs.declared.token.Token.{Token}
 use Rattle.onfi_problem.specs.Position.{Position}
 use Rattle.onfi_problem.specs.Problem.{Problem}
 use Rattle.onfi_schedule.specs.Schedule.{Schedule, Legal, Optimal, finish}
 use Rattle.onfi_check.specs.Tree.{AcceptsTokens}
 use Rattle.onfi_known.specs.Laws.{NoneBefore}
 use Rattle.onfi_planner.specs.Planning.{AreRising}
+use Rattle.onfi_planner.specs.declared.planned.Planned.{Planned}
 use Rattle.onfi_plan.specs.Certificate.{IsMadeFrom, Plain, ShowsBelow, certificate_in}
 use Rattle.onfi_plan.specs.declared.plan.Plan.{Plan as OnePlan}
 use Rattle.onfi_early.specs.Slack.{slack_of}
@@ -39,18 +39,22 @@ chosen_plan planner limit x plan begun legal is rising none shown chosen = recor
 }
 
 -- what several workers plan
-pub split_plan : (limit : ℕ) (p : Problem) (plan : OnePlan) (tokens : List Token) → Optimal p plan.planned.schedule → finish p plan.planned.schedule ≡ plan.planned.finish → AreRising plan.planned.schedule.groups
-    → AcceptsTokens tokens p plan.planned.finish → plan.below ≡ plan.planned.finish → certificate_in plan ≡ Plain tokens → IsPlan by.Plain 0 limit p plan
-split_plan limit p plan tokens optimal is rising accepted below cert = record {
-  legal = optimal.legal;
-  ends = is;
-  rising = rising;
-  kind = (tokens, cert);
-  shown = subst (λ c. ShowsBelow c p.wants p plan.below) (sym cert) (subst (AcceptsTokens tokens p) (sym below) accepted);
-  none_before = λ other legal. subst (λ e. e ≤ finish p other) (is ∙ sym below) (optimal.least other legal);
-  optimal = λ exact _. (optimal, below);
-  near = λ late. absurd (let e = no_slack p.bus_free plan.below in omega (arith, below, e, late));
-}
+pub split_plan : (limit : ℕ) (p : Problem) (plan : OnePlan) (planned : Planned) → plan.planned ≡ planned → Optimal p planned.schedule → finish p planned.schedule ≡ planned.finish → AreRising planned.schedule.groups
+    → AcceptsTokens planned.cert.items p planned.finish → plan.below ≡ planned.finish → certificate_in plan ≡ Plain planned.cert.items → IsPlan by.Plain 0 limit p plan
+split_plan limit p plan planned same optimal is rising accepted below cert =
+    let best = subst (λ (z : Planned). Optimal p z.schedule) (sym same) optimal in
+    let ends = subst (λ (z : Planned). finish p z.schedule ≡ z.finish) (sym same) is in
+    let least = below ∙ sym (ap (λ (z : Planned). z.finish) same) in
+    record {
+      legal = best.legal;
+      ends = ends;
+      rising = subst (λ (z : Planned). AreRising z.schedule.groups) (sym same) rising;
+      kind = (planned.cert.items, cert);
+      shown = subst (λ c. ShowsBelow c p.wants p plan.below) (sym cert) (subst (AcceptsTokens planned.cert.items p) (sym below) accepted);
+      none_before = λ other legal. subst (λ e. e ≤ finish p other) (ends ∙ sym least) (best.least other legal);
+      optimal = λ exact _. (best, least);
+      near = λ late. absurd (let e = no_slack p.bus_free plan.below in omega (arith, least, e, late));
+    }
 
 -- a plan that ends later by a slack at most
 pub better_plan : (planner : ChosenPlanner) (slack limit : ℕ) (p : Problem) (plan better : OnePlan) → IsPlan planner 0 limit p plan → Legal p better.planned.schedule
@@ -62,7 +66,7 @@ better_plan planner slack limit p plan better first legal is rising made = recor
   kind = subst (certified_by planner) (sym made.certificate) first.kind;
   shown = subst (λ c. ShowsBelow c p.wants p better.below) (sym made.certificate) (subst (ShowsBelow (certificate_in plan) p.wants p) (sym made.below) first.shown);
   none_before = none;
-  optimal = λ exact no. (optimal_at p better.planned.schedule better.below better.planned.finish legal is none (same exact no), same exact no);
+  optimal = λ exact none_given. (optimal_at p better.planned.schedule better.below better.planned.finish legal is none (same exact none_given), same exact none_given);
   near = λ late. first.near (let e = no_slack p.bus_free plan.below in let b = made.below in let t = made.in_time in let l = subst (λ n. n + slack_of slack p.bus_free n < better.planned.finish) made.below late in omega (arith, e, t, l));
 }
   where
@@ -70,8 +74,8 @@ better_plan planner slack limit p plan better first legal is rising made = recor
     none = subst (NoneBefore p) (sym made.below) first.none_before
 
     same : planner ≢ by.BestSoFar → slack ≡ 0 → better.below ≡ better.planned.finish
-    same exact no =
-        let slack_none : slack_of slack p.bus_free plan.below ≡ 0 = ap (λ n. slack_of n p.bus_free plan.below) no ∙ no_slack p.bus_free plan.below in
+    same exact none_given =
+        let slack_none : slack_of slack p.bus_free plan.below ≡ 0 = ap (λ n. slack_of n p.bus_free plan.below) none_given ∙ no_slack p.bus_free plan.below in
         let least : better.below ≤ better.planned.finish = subst (λ e. better.below ≤ e) is (none better.planned.schedule legal) in
         let optimal = first.optimal exact refl in
         let t = made.in_time in
