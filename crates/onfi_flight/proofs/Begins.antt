@@ -2,7 +2,6 @@
 use Rattle.std.proofs.Common.{◌≡◌, ℕ, suc, ◌+◌, ◌*◌, ◌-◌, ◌<◌, ◌≤◌, ◌⊎◌, ◌↔◌, ◌^◌, inl, inr, Bool, true, false, List, [], ◌∷◌, ◌++◌, length, take, drop, Some, None, Option, refl, sym, ap, ◌∙◌, subst, arith}
 use Rattle.std.specs.Prelude.{max, nat_lt, not, if◌then◌else◌, is_some, remove, IsTrue, MatchOption, slice_get, slice_set, slice_index_or}
 use Rattle.std.proofs.lemmas.Bool.{lt-ltb, le-ltb, cases_lt}
-use Rattle.std.proofs.lemmas.Option.{slice_get_read}
 use Rattle.onfi_timing.specs.Phases.{phase_length}
 use Rattle.onfi_request.specs.declared.want.Want.{Want}
 use Rattle.onfi_group.specs.Group.{IsStartable, group_spans, lun_of}
@@ -54,10 +53,6 @@ group_begins s g place t ts there is =
       ap (group_behind s g.members place) (index_get (starts_in s.groups) place (t ∷ ts) [] at)
           ∙ ap (λ n. let z : Schedule = record { rest = slice_set s.rest (lun_of g.members) ts; groups = take place s.groups ++ drop n s.groups } in z) (sym one),
     )
-
--- what is read at a place that is there
-pub read_group : (groups read : List Placed) (at : ℕ) (g : Placed) → read ≡ groups → at < length groups → g ≡ slice_index_or read at g → slice_get groups at ≡ Some g
-read_group groups read at g same low is = slice_get_read groups (length groups) at g refl low (is ∙ ap (λ xs. slice_index_or xs at g) same)
 
 module _ (f : Flight) (s : AStart) where
   module _ (is : IsTurn f.left.rest f.left.groups (turn.Next s)) where

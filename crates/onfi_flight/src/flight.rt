@@ -1,4 +1,4 @@
-ghost use Rattle.std.specs.Prelude.{◌≡◌, ◌≢◌, ◌↔◌, ◌<◌, ◌≤◌, ◌^◌, [], length, None, Some, slice_get, IfSome, IsTrue, MatchOption};
+ghost use Rattle.std.specs.Prelude.{◌≡◌, ◌≢◌, ℕ, ◌↔◌, ◌<◌, ◌≤◌, ◌^◌, [], length, List, None, Some, slice_get, IfSome, IsTrue, MatchOption};
 ghost use Rattle.onfi_problem.specs.Position.{waiting_of};
 ghost use Rattle.onfi_schedule.specs.Schedule.{phases};
 ghost use Rattle.onfi_flight.specs.Flight.{IsFlight, IsOver, Tells, idle};
@@ -14,7 +14,7 @@ use crate::luns::Luns;
 use crate::startable::is_startable;
 use crate::turn::{Start, Turn, next_turn};
 use arrayvec::ArrayVec;
-use onfi_group::Rules;
+use onfi_group::{Group, Rules};
 use onfi_problem::{LunState, Problem};
 use onfi_request::Want;
 use onfi_schedule::{Schedule, no_starts};
@@ -135,7 +135,7 @@ impl Flight {
         ensures over { IsTrue result ↔ IsOver self.now.left }
         ensures done { IsFlight self.now → IsTrue result ↔ (phases self.now.now self.now.left ≡ []) }
     {
-        next_turn(self.left.rest(), self.left.groups()).is_none()
+        self.turn().is_none()
     }
 
     /// The undone phase of least start, if it may run: that is a fact of this phase alone. Where what is left is legal it may.
@@ -144,11 +144,27 @@ impl Flight {
         ensures legal { IsFlight self.now → result ≢ next.Illegal }
         ensures done { IsFlight self.now → (result ≡ next.Done) ↔ (phases self.now.now self.now.left ≡ []) }
     {
-        match next_turn(self.left.rest(), self.left.groups()) {
+        match self.turn() {
             Some(Turn::Next(next)) => self.next_of(next),
             Some(Turn::First(first)) => self.first_of(first),
             None => Next::Done,
         }
+    }
+
+    // Where the least start stands, if one is left.
+    fn turn(&self) -> Option<Turn>
+        ensures turn { MatchOption result (IsOver self.now.left) (IsTurn self.now.left.rest self.now.left.groups) }
+        ensures time { IfSome result (λ t. turn_time t < 2 ^ 63) }
+    {
+        next_turn(self.left.rest(), self.left.groups())
+    }
+
+    // The members of the new group at that place.
+    fn group_at(&self, place: usize) -> &Group
+        requires { place < length self.now.left.groups }
+        ensures { (starts : List ℕ) × (slice_get self.now.left.groups place ≡ Some (record { members = result.now; starts = starts })) }
+    {
+        self.left.groups()[place].members()
     }
 
     // What that LUN does, if it is there.
@@ -194,7 +210,7 @@ impl Flight {
         requires time { turn_time (turn.First first) < 2 ^ 63 }
         ensures { Tells self.now result }
     {
-        let group = self.left.groups()[first.at].members();
+        let group = self.group_at(first.at);
         let lun = usize::from(group.lun());
         let Some(state) = self.lun_at(lun) else {
             return Next::Illegal;
