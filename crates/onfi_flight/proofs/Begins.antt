@@ -1,6 +1,8 @@
 -- The turn of least start is a phase that comes next, and may run where what is left is legal.
-use Rattle.std.proofs.Common.{◌≡◌, ℕ, suc, ◌+◌, ◌*◌, ◌-◌, ◌<◌, ◌≤◌, ◌⊎◌, ◌↔◌, ◌^◌, inl, inr, Bool, true, false, List, [], ◌∷◌, ◌++◌, length, take, drop, Some, None, Option, refl, sym, ap, ◌∙◌, subst, arith}
-use Rattle.std.specs.Prelude.{max, nat_lt, not, if◌then◌else◌, is_some, remove, IsTrue, MatchOption, slice_get, slice_set, slice_index_or}
+use Rattle.std.proofs.Common.{◌≡◌, ℕ, zero, suc, ◌+◌, ◌*◌, ◌-◌, ◌<◌, ◌≤◌, ◌⊎◌, ◌↔◌, ◌^◌, inl, inr, Bool, true, false, List, [], ◌∷◌, ◌++◌, length, take, drop, Some, None, Option, refl, sym, ap, ◌∙◌, subst, arith}
+use Rattle.std.specs.Prelude.{◌==◌, max, nat_lt, not, if◌then◌else◌, is_some, remove, IsTrue, MatchOption, slice_get, slice_set, slice_index_or}
+use Rattle.std.specs.List.{AllByRecursion as All}
+use Rattle.std.proofs.lemmas.Bool.Decides.{nat_tests}
 use Rattle.std.proofs.lemmas.Bool.{lt-ltb, le-ltb, cases_lt}
 use Rattle.onfi_timing.specs.Phases.{phase_length}
 use Rattle.onfi_request.specs.declared.want.Want.{Want}
@@ -8,7 +10,7 @@ use Rattle.onfi_group.specs.Group.{IsStartable, group_spans, lun_of}
 use Rattle.onfi_problem.specs.declared.lun_state.LunState.{LunState}
 use Rattle.onfi_problem.specs.declared.lun_state.LunState.TheVariants.{Free, Running}
 use Rattle.onfi_problem.specs.Problem.{Problem}
-use Rattle.onfi_problem.specs.Moves.{Move, Next, Start, IsMove, earliest, lun_after, move_lun, next_ran, placed}
+use Rattle.onfi_problem.specs.Moves.{Move, Next, Start, IsDone, IsMove, earliest, lun_after, move_lun, next_ran, placed}
 use Rattle.onfi_problem.proofs.Kept.{lun_there}
 use Rattle.onfi_problem.proofs.Lists.{map_get}
 use Rattle.onfi_problem.proofs.Places.{get_within, within_get}
@@ -23,7 +25,7 @@ use Rattle.onfi_flight.specs.declared.turn.Start.{Start as AStart}
 use Rattle.onfi_flight.specs.declared.turn.Turn.{Turn}
 use Rattle.onfi_flight.specs.declared.turn.Turn.TheVariants as turn
 use Rattle.onfi_flight.specs.Turns.{IsTurn, NoneStart, starts_in}
-use Rattle.onfi_flight.specs.Flight.{Flight, IsDue, IsFlight, IsOver, IsPhase, Tells, left_behind, member_of, move_by, move_of, turn_by, wants_behind}
+use Rattle.onfi_flight.specs.Flight.{Flight, IsDue, IsFlight, IsFree, IsOver, IsPhase, Tells, left_behind, member_of, move_by, move_of, turn_by, wants_behind}
 use Rattle.onfi_flight.proofs.Lists.{cut_there, get_map, index_get}
 use Rattle.onfi_flight.proofs.Shifted.{phases_start}
 use Rattle.onfi_flight.proofs.Turns.{within_groups}
@@ -188,10 +190,29 @@ over_left f None false flight e is = absurd (let z : false ≡ true = e in cc)
 over_left f (Some t) true flight e is = absurd (let z : true ≡ false = e in cc)
 over_left f (Some t) false flight e is = (λ z. absurd (let y : false ≡ true = z in cc), λ empty. absurd (turn_left f t flight is empty))
 
+-- .. and nothing is left to do
+pub over_is_done : (f : Flight) → IsFlight f → IsOver f.left → IsDone f.now
+over_is_done f flight over = (done_law f.now f.left flight.problem flight.legal).1 (none_is_left f flight over.0 over.1)
+
+pub none_there : {A : Type 0} (xs : List A) → (length xs == 0) ≡ true → xs ≡ []
+none_there [] h = refl
+none_there (x ∷ xs) h = absurd (let e : length (x ∷ xs) ≡ 0 = grind (arith, nat_tests) in omega (arith, e))
+
+pub none_runs : (luns : List LunState) → All IsFree luns → (lun : ℕ) (group : List Want) (next ready : ℕ) → slice_get luns lun ≡ Some (Running group next ready) → ⊥
+none_runs [] free lun group next ready at = cc
+none_runs (Free since ∷ luns) free zero group next ready at = cc
+none_runs (Running g n r ∷ luns) free zero group next ready at = absurd free.0
+none_runs (x ∷ luns) free (suc lun) group next ready at = none_runs luns free.1 lun group next ready at
+
+pub all_free : (luns : List LunState) → ((lun : ℕ) (group : List Want) (next ready : ℕ) → slice_get luns lun ≡ Some (Running group next ready) → ⊥) → All IsFree luns
+all_free [] none = tt
+all_free (Free since ∷ luns) none = (tt, all_free luns (λ lun. none (suc lun)))
+all_free (Running g n r ∷ luns) none = absurd (none zero g n r refl)
+
 -- so what comes next is done exactly where no phase is left
 pub done_exactly : (f : Flight) (is : NextIs) → IsFlight f → Tells f is → (is ≡ next.Done) ↔ (phases f.now f.left ≡ [])
 done_exactly f (next.Due due) flight tells = (λ e. absurd (let z : next.Due due ≡ next.Done = e in cc), λ none. absurd (one_is_left f due flight tells none))
-done_exactly f next.Done flight tells = (λ _. none_is_left f flight tells.0 tells.1, λ _. refl)
+done_exactly f next.Done flight tells = (λ _. none_is_left f flight tells.0.0 tells.0.1, λ _. refl)
 done_exactly f next.Illegal flight tells = absurd (tells flight)
 
 -- What a phase makes of the problem

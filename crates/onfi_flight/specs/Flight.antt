@@ -5,7 +5,7 @@ use Rattle.onfi_request.specs.declared.want.Want.{Want}
 use Rattle.onfi_group.specs.declared.rules.Rules.{Rules}
 use Rattle.onfi_problem.specs.declared.lun_state.LunState.{LunState}
 use Rattle.onfi_problem.specs.declared.lun_state.LunState.TheVariants.{Free, Running}
-use Rattle.onfi_problem.specs.Moves.{Move, Next, Start, IsMove, earliest, free_from, move_lun, placed, without}
+use Rattle.onfi_problem.specs.Moves.{Move, Next, Start, IsDone, IsMove, earliest, free_from, move_lun, placed, without}
 use Rattle.onfi_problem.specs.Problem.{Problem, IsProblem}
 use Rattle.onfi_schedule.specs.Laws.{ComesNext}
 use Rattle.onfi_schedule.specs.Schedule.{Placed, Schedule, Legal}
@@ -96,10 +96,16 @@ pub record IsDue (f : Flight) (due : Due) : Type 0 where
 abbrev pub IsOver : Schedule → Type 0
 IsOver s = NoneStart s.rest × NoneStart (starts_in s.groups)
 
--- what comes next: the due phase; or nothing has a start; or the phase of least start may not run, so what is left isn't legal
+-- nothing runs on the LUN
+abbrev pub IsFree : LunState → Type 0
+IsFree (Free since) = Unit {0}
+IsFree (Running group next ready) = ⊥
+
+-- what comes next: the due phase; or nothing is left to do; or the phase of least start may not run, or something has no start, so
+-- what is left isn't legal
 abbrev pub Tells : Flight → NextIs → Type 0
 Tells f (next.Due due) = IsDue f due
-Tells f next.Done = IsOver f.left
+Tells f next.Done = IsOver f.left × IsDone f.now
 Tells f next.Illegal = IsFlight f → ⊥
 
 -- What happens

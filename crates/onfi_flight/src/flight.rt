@@ -1,7 +1,8 @@
 ghost use Rattle.std.specs.Prelude.{◌≡◌, ◌≢◌, ℕ, ◌↔◌, ◌<◌, ◌≤◌, ◌^◌, [], length, List, None, Some, slice_get, IfSome, IsTrue, MatchOption};
+ghost use Rattle.std.specs.List.{AllByRecursion as Each};
 ghost use Rattle.onfi_problem.specs.Position.{waiting_of};
 ghost use Rattle.onfi_schedule.specs.Schedule.{phases};
-ghost use Rattle.onfi_flight.specs.Flight.{IsFlight, IsOver, Tells, idle};
+ghost use Rattle.onfi_flight.specs.Flight.{IsFlight, IsFree, IsOver, Tells, idle};
 ghost use Rattle.onfi_flight.specs.Turns.{IsTurn, turn_time};
 ghost use Rattle.onfi_flight.specs.declared.flight.Next.TheVariants as next;
 ghost use Rattle.onfi_flight.specs.declared.turn.Turn.TheVariants as turn;
@@ -50,9 +51,9 @@ impl Model for Flight {
 pub enum Next {
     /// The undone phase of least start, which may run; of equals that of a running group, then that which stands first.
     Due(Due),
-    /// No start is left.
+    /// No start is left, nothing waits and nothing runs.
     Done,
-    /// The phase of least start may not run, so what is left is not legal.
+    /// The phase of least start may not run, or what waits or runs has no start: what is left isn't legal.
     Illegal,
 }
 
@@ -147,8 +148,19 @@ impl Flight {
         match self.turn() {
             Some(Turn::Next(next)) => self.next_of(next),
             Some(Turn::First(first)) => self.first_of(first),
-            None => Next::Done,
+            None => self.without_start(),
         }
+    }
+
+    // What comes next where no start is left: nothing, or what waits or runs has no start, so what is left isn't legal.
+    fn without_start(&self) -> Next
+        requires { IsOver self.now.left }
+        ensures { Tells self.now result }
+    {
+        if !self.wants.is_empty() || !are_free(self.luns()) {
+            return Next::Illegal;
+        }
+        Next::Done
     }
 
     // Where the least start stands, if one is left.
@@ -232,6 +244,18 @@ impl Flight {
             place: Some(first.at),
         })
     }
+}
+
+// Whether nothing runs on any of them.
+fn are_free(luns: &[LunState]) -> bool
+    ensures { IsTrue result ↔ Each IsFree luns.now }
+{
+    for state in luns {
+        if let LunState::Running { .. } = state {
+            return false;
+        }
+    }
+    true
 }
 
 /// The wants of a problem that wait.
