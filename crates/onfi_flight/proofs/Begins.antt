@@ -25,7 +25,7 @@ use Rattle.onfi_flight.specs.declared.turn.Start.{Start as AStart}
 use Rattle.onfi_flight.specs.declared.turn.Turn.{Turn}
 use Rattle.onfi_flight.specs.declared.turn.Turn.TheVariants as turn
 use Rattle.onfi_flight.specs.Turns.{IsTurn, NoneStart, starts_in}
-use Rattle.onfi_flight.specs.Flight.{Flight, IsDue, IsFlight, IsFree, IsOver, IsPhase, Tells, left_behind, member_of, move_by, move_of, turn_by, wants_behind}
+use Rattle.onfi_flight.specs.Flight.{Flight, IsDue, IsFlight, IsFree, IsOver, IsPhase, Tells, left_behind, member_of, move_by, move_of, turn_of, wants_behind}
 use Rattle.onfi_flight.proofs.Lists.{cut_there, get_map, index_get}
 use Rattle.onfi_flight.proofs.Shifted.{phases_start}
 use Rattle.onfi_flight.proofs.Turns.{within_groups}
@@ -162,10 +162,6 @@ none_is_left f flight rest groups =
           begins_none f.left rest groups n.0 n.1 n.2 n.3.begins)
     ]
 
--- where a phase is due one is
-pub one_is_left : (f : Flight) (due : Due) → IsFlight f → IsDue f due → phases f.now f.left ≡ [] → ⊥
-one_is_left f due flight is none = not_done f.now (move_of due) ((done_law f.now f.left flight.problem flight.legal).1 none) is.is_move
-
 -- where a list of starts is the least something starts, and a phase is left
 turn_starts : (s : Schedule) (t : Turn) → IsTurn s.rest s.groups t → IsOver s → ⊥
 turn_starts s (turn.Next first) is over = let (starts, at) = is.0.there in let e = over.0 first.at (first.time ∷ starts) at in cc
@@ -211,7 +207,7 @@ all_free (Running g n r ∷ luns) none = absurd (none zero g n r refl)
 
 -- so what comes next is done exactly where no phase is left
 pub done_exactly : (f : Flight) (is : NextIs) → IsFlight f → Tells f is → (is ≡ next.Done) ↔ (phases f.now f.left ≡ [])
-done_exactly f (next.Due due) flight tells = (λ e. absurd (let z : next.Due due ≡ next.Done = e in cc), λ none. absurd (one_is_left f due flight tells none))
+done_exactly f (next.Due due) flight tells = (λ e. absurd (let z : next.Due due ≡ next.Done = e in cc), λ none. absurd (turn_left f (turn_of due) flight tells.turn none))
 done_exactly f next.Done flight tells = (λ _. none_is_left f flight tells.0.0 tells.0.1, λ _. refl)
 done_exactly f next.Illegal flight tells = absurd (tells flight)
 
@@ -249,17 +245,6 @@ run_is v f due started ended luns wants left same is e l w s =
 -- its LUN is there
 pub due_lun : (f : Flight) (due : Due) → IsDue f due → due.lun < length f.now.luns
 due_lun f due is = let low = lun_there f.now (move_of due) is.is_move in let same = is.lun in omega (arith, low, same)
-
--- .. and so are the starts that it is the first of
-pub place_there : (f : Flight) (due : Due) (place : ℕ) → IsDue f due → due.place ≡ Some place → (g : Placed) × (slice_get f.left.groups place ≡ Some g) × (1 ≤ length g.starts)
-place_there f due place is at =
-    let (ts, there) = (subst (λ (o : Option ℕ). IsTurn f.left.rest f.left.groups (turn_by due.start due.lun o)) at is.turn).0.there in
-    let (g, got, starts) = get_map (λ (g : Placed). g.starts) f.left.groups place (due.start ∷ ts) there in
-    let e = ap length starts in
-    (g, got, omega (arith, e))
-
-pub lun_starts : (f : Flight) (due : Due) → IsDue f due → due.place ≡ None → (ts : List ℕ) × (slice_get f.left.rest due.lun ≡ Some (due.start ∷ ts))
-lun_starts f due is at = (subst (λ (o : Option ℕ). IsTurn f.left.rest f.left.groups (turn_by due.start due.lun o)) at is.turn).0.there
 
 -- the member of a phase stands at that place of its group
 pub member_at : (group : List Want) (phase number : ℕ) (d : Want) → phase < 2 * length group
