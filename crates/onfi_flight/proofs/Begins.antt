@@ -72,6 +72,7 @@ module _ (f : Flight) (s : AStart) where
         → s.time < 2 ^ 63 → copy ≡ group → lun ≡ s.at → IsDue f (record { start = s.time; group = copy; phase = phase; lun = lun; place = None })
     next_is_due group copy phase ready lun there late within time c l = rw (c, l) (record {
       turn = is;
+      begins = rest_begins f.left s.at s.time is.0.there.0 is.0.there.1;
       phase = (ready, there);
       lun = refl;
       there = is.0.within;
@@ -112,6 +113,7 @@ module _ (f : Flight) (s : AStart) where
         → lun < length f.left.rest → s.time < 2 ^ 63 → copy ≡ g.members → lun ≡ lun_of g.members → IsDue f (record { start = s.time; group = copy; phase = 0; lun = lun; place = Some s.at })
     first_is_due copy since lun free late startable there' time c l = rw (c, l) (record {
       turn = is;
+      begins = group_begins f.left g s.at s.time is.0.there.0 there begun;
       phase = (refl, refl);
       lun = refl;
       there = rw l at there';

@@ -7,7 +7,7 @@ use Rattle.onfi_problem.specs.declared.lun_state.LunState.{LunState}
 use Rattle.onfi_problem.specs.declared.lun_state.LunState.TheVariants.{Free, Running}
 use Rattle.onfi_problem.specs.Moves.{Move, Next, Start, IsDone, IsMove, earliest, free_from, move_lun, placed, without}
 use Rattle.onfi_problem.specs.Problem.{Problem, IsProblem}
-use Rattle.onfi_schedule.specs.Laws.{ComesNext}
+use Rattle.onfi_schedule.specs.Laws.{Begins, ComesNext}
 use Rattle.onfi_schedule.specs.Schedule.{Placed, Schedule, Legal}
 use Rattle.onfi_flight.specs.declared.due.Due.{Due}
 use Rattle.onfi_flight.specs.declared.flight.Next.{Next as NextIs}
@@ -83,6 +83,7 @@ left_behind s due = record { rest = slice_set s.rest due.lun (drop 1 (starts_of 
 -- the undone phase of least start; it is a move of the problem as it stands, and no earlier than it may be
 pub record IsDue (f : Flight) (due : Due) : Type 0 where
   pub turn : IsTurn f.left.rest f.left.groups (turn_of due)
+  pub begins : Begins f.left (move_of due) due.start (left_behind f.left due)
   pub phase : IsPhase f.now (move_of due) due.group due.phase
   pub lun : move_lun (move_of due) ≡ due.lun
   pub there : due.lun < length f.left.rest
