@@ -10,7 +10,7 @@ use Rattle.onfi_plan.specs.declared.plan.Plan.{Plan}
 use Rattle.onfi_recall.specs.Text.{HasNodesIn, last_opened}
 use Rattle.onfi_recall.specs.Walks.{EndsSooner, HasSoMany}
 use Rattle.onfi_planners.specs.declared.chosen.ChosenPlanner.TheVariants.{Remembering, BestSoFar}
-use Rattle.onfi_script.specs.Answer.{Certifies, IsPlan, IsProved, IsShown}
+use Rattle.onfi_script.specs.Answer.{Certifies, IsPlan, IsShown}
 use Rattle.onfi_known.specs.Proves.{ProvesTokens}
 use Rattle.onfi_c.specs.declared.schedule.PlainSchedule.{PlainSchedule}
 use Rattle.onfi_c.specs.Planned.{IsRecalled}

@@ -17,7 +17,7 @@ use crate::status::Status;
 use crate::told::Told;
 use crate::written;
 use onfi_known::check_known_text;
-use onfi_plan::{Limit, certificate_text};
+use onfi_plan::{Limit, Plan, certificate_text};
 use onfi_problem::Problem;
 use onfi_recall::plan_known;
 use std::alloc::Global;
@@ -34,16 +34,22 @@ pub fn tell(alloc: Global, problem: &Problem, limit: u32) -> Result<Told<PlainPl
         Ok(plan) => plan,
         Err(fault) => return Err(Status::of_plan(fault)),
     };
+    let Plan {
+        planned,
+        text,
+        opened,
+        ..
+    } = plan;
     let strict = problem.rules().strict;
-    let Ok(text) = certificate_text(alloc, strict, plan.planned.cert.as_slice(), plan.text) else {
+    let Ok(text) = certificate_text(alloc, strict, planned.cert.as_slice(), text) else {
         return Err(Status::Memory);
     };
-    let schedule = written::legal_schedule(problem, &plan.planned.schedule);
+    let schedule = written::legal_schedule(problem, &planned.schedule);
     Ok(Told {
         plan: PlainPlan {
             schedule,
-            finish: plan.planned.finish,
-            opened: plan.opened,
+            finish: planned.finish,
+            opened,
         },
         text,
     })

@@ -20,7 +20,7 @@ use crate::told::Told;
 use crate::written;
 use onfi_early::Weights;
 use onfi_known::check_known_within;
-use onfi_plan::certificate_text;
+use onfi_plan::{Plan, certificate_text};
 use onfi_planners::ChosenPlanner;
 use onfi_problem::Problem;
 use onfi_script::{Output, PlanOptions, plan_by};
@@ -55,16 +55,22 @@ pub fn tell(
     let Ok(plan) = plan_by(alloc, problem, weights, options) else {
         return Err(Status::Memory);
     };
+    let Plan {
+        planned,
+        below,
+        text,
+        ..
+    } = plan;
     let strict = problem.rules().strict;
-    let Ok(text) = certificate_text(alloc, strict, plan.planned.cert.as_slice(), plan.text) else {
+    let Ok(text) = certificate_text(alloc, strict, planned.cert.as_slice(), text) else {
         return Err(Status::Memory);
     };
-    let schedule = written::legal_schedule(problem, &plan.planned.schedule);
+    let schedule = written::legal_schedule(problem, &planned.schedule);
     Ok(Told {
         plan: PlainWithin {
             schedule,
-            finish: plan.planned.finish,
-            below: plan.below,
+            finish: planned.finish,
+            below,
         },
         text,
     })
