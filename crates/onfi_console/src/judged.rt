@@ -86,7 +86,11 @@ fn plan_text<'a>(input: &Input<'a>) -> &'a [u8] {
 }
 
 /// The message about a line of a plan text, counted from 1.
-fn plan_line_message(alloc: Global, input: &Input<'_>, number: usize) -> Result<String, AllocError> {
+fn plan_line_message(
+    alloc: Global,
+    input: &Input<'_>,
+    number: usize,
+) -> Result<String, AllocError> {
     let (text, above) = (plan_text(input), number.saturating_sub(1));
     let start = line_start(text, above);
     let before = input.text.len().saturating_sub(text.len());
@@ -205,7 +209,10 @@ fn plain_token_fault(fault: CertFault) -> (&'static str, Option<usize>) {
     match fault {
         CertFault::Short => ("its tokens end too early", None),
         CertFault::Trailing(at) => ("stands behind the end of the tree", Some(at)),
-        CertFault::Width(at) => ("has another number of moves than the problem there", Some(at)),
+        CertFault::Width(at) => (
+            "has another number of moves than the problem there",
+            Some(at),
+        ),
         CertFault::BoundLow(at) => ("names a bound that is below the finish", Some(at)),
         CertFault::YieldNoFit(at) => ("yields to a LUN whose moves don't fit", Some(at)),
         CertFault::YieldLoop(at) => ("yields in a circle", Some(at)),

@@ -287,9 +287,10 @@ fn whole_message(alloc: Global, refused: &Refused<'_, '_>) -> Result<String, All
             let which = missing_parameters(alloc, refused.records)?;
             format!(in alloc; "onfi_sim: {name}: no 'sheet' row gives {which}\n")
         }
-        ScriptFault::Sheet(SheetFault::ZeroCycle) if has_strobes(refused.records) => format!(in alloc;
-            "onfi_sim: {name}: tWC of the 'sheet' rows is 0; round it up to 1 ns\n"
-        ),
+        ScriptFault::Sheet(SheetFault::ZeroCycle) if has_strobes(refused.records) =>
+            format!(in alloc;
+                "onfi_sim: {name}: tWC of the 'sheet' rows is 0; round it up to 1 ns\n"
+            ),
         ScriptFault::Strobe(StrobeFault::Missing(_)) => {
             let which = missing_strobes(alloc, refused.records)?;
             format!(in alloc;
@@ -441,10 +442,12 @@ fn geometry_fault(fault: GeometryFault) -> &'static str {
     match fault {
         GeometryFault::WideBus =>
             "the device has a 16-bit bus (bit 0 of byte 6), and only 8-bit ones can be planned for",
-        GeometryFault::NoStatusEnhanced => "the device has no Read Status Enhanced (78h): bit 3 of byte 8 is 0",
+        GeometryFault::NoStatusEnhanced =>
+            "the device has no Read Status Enhanced (78h): bit 3 of byte 8 is 0",
         GeometryFault::NoColumnEnhanced =>
             "the device has no Change Read Column Enhanced (06h-E0h): bit 6 of byte 8 is 0",
-        GeometryFault::NoMultiLun => "the device can't run several LUNs at a time: bit 1 of byte 6 is 0",
+        GeometryFault::NoMultiLun =>
+            "the device can't run several LUNs at a time: bit 1 of byte 6 is 0",
         GeometryFault::LunCount => "the device has no LUN, or more than 8 (byte 100)",
         GeometryFault::PlaneBits => "the device has more than 2 plane address bits (byte 113)",
         GeometryFault::Zero => "the parameter page tells of no page, no block or no data byte",
