@@ -11,8 +11,8 @@ use onfi_planners::ChosenPlanner;
 use onfi_script::{Command, Why};
 use std::alloc::{AllocError, Global};
 
-/// What is said, in words and for a person, beside an answer to an input; nothing where the answer says all, or where quiet
-/// was asked for. Which words is free: no program may rely on them.
+/// What is said, in words and for a person, beside an answer to an input, which refuses for that reason; nothing where the
+/// answer says all, or where quiet was asked for. Which words is free: no program may rely on them.
 ///
 /// # Errors
 /// Want of memory; the answer is none the worse for it.
