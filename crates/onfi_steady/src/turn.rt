@@ -147,8 +147,8 @@ fn running_rank(problem: &Problem, lun: u8) -> u8
     }
 }
 
-// .. what begins
-fn start_rank(kind: Kind) -> u8
+/// .. what begins
+pub fn start_rank(kind: Kind) -> u8
     ensures { result ≡ start_rank kind }
 {
     match kind {
@@ -158,8 +158,8 @@ fn start_rank(kind: Kind) -> u8
     }
 }
 
-// .. a data output or a status
-fn post_rank(kind: Kind) -> u8
+/// .. a data output or a status
+pub fn post_rank(kind: Kind) -> u8
     ensures { result ≡ post_rank kind }
 {
     match kind {

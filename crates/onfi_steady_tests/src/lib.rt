@@ -6,6 +6,10 @@ mod gaps;
 #[cfg(test)]
 mod groups;
 #[cfg(test)]
+mod next_sample;
+#[cfg(test)]
 mod sample;
 #[cfg(test)]
 mod ties;
+#[cfg(test)]
+mod waiting;
