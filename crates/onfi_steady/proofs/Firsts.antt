@@ -1,8 +1,8 @@
 -- The requests of a LUN that may begin: request after request, and each the first of its block among all that waits.
-use Rattle.std.proofs.Common.{◌≡◌, ◌≢◌, ℕ, ◌+◌, ◌<◌, inl, inr, Bool, true, false, List, [], ◌∷◌, ◌++◌, length, take, get_or, Some, refl, sym, ap, ◌∙◌, subst, arith}
+use Rattle.std.proofs.Common.{◌≡◌, ℕ, ◌+◌, ◌<◌, inl, inr, Bool, true, false, List, [], ◌∷◌, ◌++◌, length, take, get_or, Some, refl, sym, ap, ◌∙◌, subst}
 use Rattle.std.specs.Prelude.{◌||◌, ◌==◌, cond, not, if◌then◌else◌, slice_get}
 use Rattle.std.specs.List.{filter, list_any}
-use Rattle.std.proofs.lemmas.Bool.{cases_Bool, eq-eqb, eqb-true, ne_eqb, false≢true}
+use Rattle.std.proofs.lemmas.Bool.{cases_Bool, eq-eqb, eqb-true, false≢true}
 use Rattle.std.proofs.lemmas.List.{append-nil, take_more}
 use Rattle.std.proofs.lemmas.List.Elements.{filter-append}
 use Rattle.std.proofs.lemmas.Map.Views.{any-filter_same}
@@ -12,7 +12,7 @@ use Rattle.onfi_group.specs.Words.{Has}
 use Rattle.onfi_group.specs.Group.{IsFirst, on_block}
 use Rattle.onfi_group.proofs.Firsts.{on_own_block}
 use Rattle.onfi_steady.specs.declared.waiter.Waiter.{Waiter}
-use Rattle.onfi_steady.specs.Waiting.{is_on, want_of, wants_of}
+use Rattle.onfi_steady.specs.Waiting.{is_on, wants_of}
 use Rattle.onfi_steady.specs.Offer.{firsts, is_kind, on_lun, ready_on}
 use Rattle.onfi_steady.specs.Kept.{is_read_on, ready_with}
 
@@ -84,9 +84,9 @@ pub filter_has : {A : Type 0} (test : A → Bool) (xs : List A) (x : A) → Has 
 filter_has test [] x h = absurd h
 filter_has test (y ∷ ys) x h = elim (cases_Bool (test y)) [
   | inl k ↦ (let q : Has (y ∷ filter test ys) x = rw k at h in elim q [
-      | inl e ↦ (inl e, ap test (sym e) ∙ k)
-      | inr i ↦ (let f = filter_has test ys x i in (inr f.0, f.1))
-    ])
+    | inl e ↦ (inl e, ap test (sym e) ∙ k)
+    | inr i ↦ (let f = filter_has test ys x i in (inr f.0, f.1))
+  ])
   | inr k ↦ (let q : Has (filter test ys) x = rw k at h in let f = filter_has test ys x q in (inr f.0, f.1))
 ]
 

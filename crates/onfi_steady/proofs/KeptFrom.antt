@@ -1,6 +1,6 @@
 -- From when on the bus is kept, LUN after LUN, and the numbers of the phases that LUNs give.
 use Rattle.std.proofs.Common.{◌≡◌, ℕ, ◌+◌, ◌-◌, ◌<◌, ◌≤◌, inl, inr, Bool, true, false, List, [], ◌∷◌, ◌++◌, length, take, get_or, nat_lt, Option, Some, None, refl, sym, ap, ◌∙◌, subst, arith}
-use Rattle.std.specs.Prelude.{max, min, if◌then◌else◌, slice_get}
+use Rattle.std.specs.Prelude.{max, if◌then◌else◌, slice_get}
 use Rattle.std.specs.List.{list_any}
 use Rattle.std.proofs.lemmas.List.{take_all, take_more}
 use Rattle.std.proofs.lemmas.Bool.{cases_Bool, lt-ltb, false≢true}
@@ -72,8 +72,8 @@ module _ (timing : Timing) (from : ℕ) (luns : List LunState) (books : Books) (
       let at : earliest p (Start group) ≡ max from since = ap (λ z. max from (free_from z)) state in
       let cmd : phase_length (group_spans timing group) (length group) 0 ≡ (group_spans timing group).cmd = rw (lt-ltb 0 (length group) (omega arith)) refl in
       let behind : is_kept kept (max from since) (group_spans timing group).cmd ≡ is_kept_from p (Start group) =
-          kept_is p kept (max from since) (group_spans timing group).cmd by
-          ∙ (ap (λ z. list_any (keeps_bus_before (z + (group_spans timing group).cmd) p) luns) (sym at) ∙ ap (λ z. list_any (keeps_bus_before (earliest p (Start group) + z) p) luns) (sym cmd)) in
+      kept_is p kept (max from since) (group_spans timing group).cmd by
+      ∙ (ap (λ z. list_any (keeps_bus_before (z + (group_spans timing group).cmd) p) luns) (sym at) ∙ ap (λ z. list_any (keeps_bus_before (earliest p (Start group) + z) p) luns) (sym cmd)) in
       same_five _ _ _ _ _ _ _ (ap one_of behind) (sym at)
 
   -- what a LUN that goes on has of these numbers

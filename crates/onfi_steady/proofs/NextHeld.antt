@@ -1,22 +1,21 @@
 -- What a LUN holds; that nothing is left where it holds none; and that what is due goes first on its LUN.
-use Rattle.std.proofs.Common.{◌≡◌, ◌≢◌, ℕ, ◌+◌, ◌<◌, ◌≤◌, inl, inr, Bool, true, false, List, [], ◌∷◌, length, Option, Some, None, refl, sym, ap, ◌∙◌, subst, arith}
-use Rattle.std.specs.Prelude.{if◌then◌else◌, max, slice_get}
+use Rattle.std.proofs.Common.{◌≡◌, ◌≢◌, ℕ, ◌<◌, ◌≤◌, inl, inr, Bool, false, List, [], ◌∷◌, length, Option, Some, None, refl, sym, ap, ◌∙◌, subst}
+use Rattle.std.specs.Prelude.{max, slice_get}
 use Rattle.std.specs.List.{AllByRecursion as All, find}
-use Rattle.std.proofs.lemmas.Bool.{cases_Bool, cases_lt, eq-eqb}
+use Rattle.std.proofs.lemmas.Bool.{cases_lt, eq-eqb}
 use Rattle.onfi_request.specs.declared.want.Want.{Want}
 use Rattle.onfi_group.specs.Words.{Has}
-use Rattle.onfi_group.proofs.Lists.{All-each, Has-filter}
+use Rattle.onfi_group.proofs.Lists.{Has-filter}
 use Rattle.onfi_problem.specs.declared.lun_state.LunState.{LunState}
 use Rattle.onfi_problem.specs.declared.lun_state.LunState.TheVariants.{Free, Running}
 use Rattle.onfi_problem.specs.Problem.{Problem}
-use Rattle.onfi_problem.specs.Moves.{Move, Next, Start, IsMove, earliest, free_from, move_lun}
+use Rattle.onfi_problem.specs.Moves.{Next, Start, IsMove, earliest, free_from, move_lun}
 use Rattle.onfi_problem.proofs.Places.{get_within}
 use Rattle.onfi_steady.specs.declared.waiter.Waiter.{Waiter}
-use Rattle.onfi_steady.specs.declared.next.NextPhase.{NextPhase}
 use Rattle.onfi_steady.specs.Waiting.{Books, is_on, wants_of}
-use Rattle.onfi_steady.specs.Offer.{firsts, group_with, is_due, on_lun, own_group, ready_on, turned_to}
+use Rattle.onfi_steady.specs.Offer.{firsts, is_due, on_lun, own_group, ready_on, turned_to}
 use Rattle.onfi_steady.specs.Next.{IsFirstHeld, IsIdle, any_work, begin_with, given_by, given_group, given_move, is_held, move_by, own_move}
-use Rattle.onfi_steady.specs.Kept.{IsHeldAt, NoneBelow, held_group}
+use Rattle.onfi_steady.specs.Kept.{NoneBelow, held_group}
 use Rattle.onfi_steady.proofs.Starting.{found, has_head, none_begins}
 use Rattle.onfi_steady.proofs.NextMove.{none_some, begin_is, move_owned}
 

@@ -1,12 +1,11 @@
 -- The phase that goes first of those that LUNs give, LUN after LUN.
 use Rattle.std.proofs.Common.{◌≡◌, ◌≢◌, ℕ, ◌+◌, ◌<◌, ◌≤◌, ◌⊎◌, inl, inr, Bool, true, false, List, [], ◌∷◌, length, Option, Some, None, refl, sym, ap, ◌∙◌, subst, arith}
-use Rattle.std.specs.Prelude.{if◌then◌else◌, MatchOption, slice_get}
-use Rattle.std.specs.List.{AllByRecursion as All, find, list_any}
+use Rattle.std.specs.Prelude.{MatchOption, slice_get}
+use Rattle.std.specs.List.{AllByRecursion as All, list_any}
 use Rattle.std.proofs.lemmas.Bool.{cases_Bool, cases_eq}
-use Rattle.std.proofs.lemmas.Option.{slice_get_past, slice_get_within}
+use Rattle.std.proofs.lemmas.Option.{slice_get_within}
 use Rattle.onfi_timing.specs.declared.timing.Timing.{Timing}
 use Rattle.onfi_request.specs.declared.want.Want.{Want}
-use Rattle.onfi_group.specs.Words.{Has}
 use Rattle.onfi_group.specs.Group.{lun_of}
 use Rattle.onfi_problem.specs.declared.lun_state.LunState.{LunState}
 use Rattle.onfi_problem.specs.declared.lun_state.LunState.TheVariants.{Free, Running}
@@ -18,19 +17,19 @@ use Rattle.onfi_steady.specs.Order.{GoesBefore, is_less}
 use Rattle.onfi_steady.specs.Rule.{phase_numbers}
 use Rattle.onfi_steady.specs.Choosing.{numbers_of}
 use Rattle.onfi_steady.specs.Waiting.{Books, channel, wants_of}
-use Rattle.onfi_steady.specs.Offer.{erase_group, is_due, is_open, own_group, ready_on, turned_to}
+use Rattle.onfi_steady.specs.Offer.{erase_group, own_group, ready_on}
 use Rattle.onfi_steady.specs.Next.{IsFirstGiven, any_work, begin_with, given_by, given_group, given_move, is_held, is_number, move_by}
 use Rattle.onfi_steady.specs.Kept.{IsBeginOf, IsFirstBelow, IsGivenBy, IsKeptFrom, candidate_with, first_of}
 use Rattle.onfi_steady.proofs.Order.{behind, before_all}
 use Rattle.onfi_steady.proofs.Starting.{Starts, erase_starts, own_starts}
 
-none_some : {A B : Type 0} (o : Option A) (a : A) → o ≡ None → o ≡ Some a → B
+pub none_some : {A B : Type 0} (o : Option A) (a : A) → o ≡ None → o ≡ Some a → B
 none_some o a h k = absurd cc
 
 same_some : {A : Type 0} (o : Option A) (a b : A) → o ≡ Some a → o ≡ Some b → a ≡ b
 same_some o a b h k = cc
 
-begin_is : (g : List Want) (n : Move) → begin_with g ≡ Some n → (m : Want) × (ms : List Want) × (g ≡ m ∷ ms) × (n ≡ Start (m ∷ ms))
+pub begin_is : (g : List Want) (n : Move) → begin_with g ≡ Some n → (m : Want) × (ms : List Want) × (g ≡ m ∷ ms) × (n ≡ Start (m ∷ ms))
 begin_is [] n h = absurd cc
 begin_is (m ∷ ms) n h = (m, ms, refl, cc)
 
@@ -92,7 +91,7 @@ module _ (books : Books) (small : All (λ w. w.want.plane ≤ 3) books.waiting) 
     move_given lun n h = gives_move (given_group books (any_work books p)) (given_starts (any_work books p)) lun n (slice_get p.luns lun) refl h
 
     pub move_owned : (lun : ℕ) (n : Move) → given_by (own_group books.rules) books lun (slice_get p.luns lun) ≡ Some n → IsLunMove lun n
-    move_owned lun n h = gives_move (own_group books.rules) (own_starts books.rules books.waiting small) lun n (slice_get p.luns lun) refl h
+    move_owned lun n h = gives_move (own_group books.rules) (λ l. own_starts books.rules books.waiting l small) lun n (slice_get p.luns lun) refl h
 
     abbrev moved : Candidate → Move
     moved c = move_by c.lun c.members.now
@@ -114,7 +113,7 @@ module _ (books : Books) (small : All (λ w. w.want.plane ≤ 3) books.waiting) 
       given_at i other is,
       (let e = is.lun in omega arith),
       subst (λ z. (lun : ℕ) (n : Move) → lun < i + 1 → given_move books p lun ≡ Some n → Leads (move_by z other.members.now) n) (sym is.lun)
-        (last_or_earlier (Leads own) i own is.given (inl refl) (λ lun n h q. inr (over n (first.2 lun n h q)))),
+          (last_or_earlier (Leads own) i own is.given (inl refl) (λ lun n h q. inr (over n (first.2 lun n h q)))),
     )
       where
         own : Move
@@ -151,7 +150,7 @@ module _ (books : Books) (small : All (λ w. w.want.plane ≤ 3) books.waiting) 
       given_at i other is,
       (let e = is.lun in omega arith),
       subst (λ z. (lun : ℕ) (n : Move) → lun < i + 1 → given_move books p lun ≡ Some n → Leads (move_by z other.members.now) n) (sym is.lun)
-        (last_or_earlier (Leads (move_by i other.members.now)) i (move_by i other.members.now) is.given (inl refl) (λ lun n h q. none_some (given_move books p lun) n (none lun h) q)),
+          (last_or_earlier (Leads (move_by i other.members.now)) i (move_by i other.members.now) is.given (inl refl) (λ lun n h q. none_some (given_move books p lun) n (none lun h) q)),
     )
     with_known i (Some c) other is first = elim (cases_Bool (is_less (numbers_of other.turn) (numbers_of c.turn))) [
       | inl k ↦ rw k (taken i c other is k first)

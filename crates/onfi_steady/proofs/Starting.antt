@@ -1,6 +1,6 @@
 -- The group of a request, with its mates, may be started.
-use Rattle.std.proofs.Common.{◌≡◌, ◌≢◌, ℕ, zero, suc, ◌+◌, ◌<◌, ◌≤◌, ◌⊎◌, inl, inr, Bool, true, false, List, [], ◌∷◌, length, Option, Some, None, refl, sym, ap, ◌∙◌, subst, arith}
-use Rattle.std.specs.Prelude.{◌==◌, if◌then◌else◌, IsTrue}
+use Rattle.std.proofs.Common.{◌≡◌, ◌≢◌, ℕ, zero, suc, ◌+◌, ◌<◌, ◌≤◌, inl, inr, Bool, true, false, List, [], ◌∷◌, length, Option, Some, None, refl, sym, ap, ◌∙◌, subst, arith}
+use Rattle.std.specs.Prelude.{◌==◌, IsTrue}
 use Rattle.std.specs.List.{AllByRecursion as All, cons_option, filter_map, find}
 use Rattle.std.specs.Option.{option_map}
 use Rattle.std.proofs.lemmas.Bool.{cases_Bool, eq-eqb, eqb-true, false≢true}
@@ -9,14 +9,14 @@ use Rattle.onfi_timing.specs.declared.kind.Kind.TheVariants.{Read, Program, Eras
 use Rattle.onfi_request.specs.declared.want.Want.{Want}
 use Rattle.onfi_group.specs.declared.rules.Rules.{Rules}
 use Rattle.onfi_group.specs.Words.{Has, Pairs}
-use Rattle.onfi_group.specs.Group.{IsFirst, IsGroup, IsStartable, above_planes, above_planes_of, kind_of, lun_of, may_group, page_of}
+use Rattle.onfi_group.specs.Group.{IsFirst, IsGroup, IsStartable, above_planes, lun_of, may_group}
 use Rattle.onfi_group.specs.Joining.{GoesWith}
 use Rattle.onfi_group.proofs.Lists.{All-each, All-has}
 use Rattle.onfi_steady.specs.declared.waiter.Waiter.{Waiter}
 use Rattle.onfi_steady.specs.Rule.{kind_rank}
 use Rattle.onfi_steady.specs.Waiting.{want_of, wants_of}
-use Rattle.onfi_steady.specs.Offer.{erase_group, goes_with, group_with, is_due, is_kind, is_mate, is_same_page, is_same_row, member_on, on_lun, or_else, own_group, ready_on, turned_to}
-use Rattle.onfi_steady.proofs.Firsts.{IsReady, ready_is}
+use Rattle.onfi_steady.specs.Offer.{erase_group, goes_with, group_with, is_due, is_kind, is_mate, is_same_page, is_same_row, member_on, or_else, own_group, ready_on, turned_to}
+use Rattle.onfi_steady.proofs.Firsts.{ready_is}
 
 -- what a look-up finds
 pub found : {A : Type 0} (test : A → Bool) (xs : List A) (x : A) → find test xs ≡ Some x → Has xs x × (test x ≡ true)
@@ -40,9 +40,9 @@ or_else_in P (Some v) b f g w h = f w h
 pub turned_in : (ready : List Waiter) (w : Waiter) → turned_to ready ≡ Some w → Has ready w
 turned_in ready w h =
     or_else_in (Has ready) (find is_due ready) _ (λ v e. (found is_due ready v e).0)
-      (or_else_in (Has ready) (find (is_kind Read) ready) _ (λ v e. (found (is_kind Read) ready v e).0)
-        (or_else_in (Has ready) (find (is_kind Program) ready) _ (λ v e. (found (is_kind Program) ready v e).0)
-          (λ v e. (found (is_kind Erase) ready v e).0))) w h
+    (or_else_in (Has ready) (find (is_kind Read) ready) _ (λ v e. (found (is_kind Read) ready v e).0)
+    (or_else_in (Has ready) (find (is_kind Program) ready) _ (λ v e. (found (is_kind Program) ready v e).0)
+    (λ v e. (found (is_kind Erase) ready v e).0))) w h
 
 or_else_none : (a b : Option Waiter) → or_else a b ≡ None → (a ≡ None) × (b ≡ None)
 or_else_none None b h = (refl, h)

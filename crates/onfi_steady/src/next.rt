@@ -110,16 +110,16 @@ fn first_given<'a>(
     let _planes = waiting.as_slice();
     let mut first = None;
     for (lun, state) in luns.iter().enumerate() {
-        first = first_of(first, given(timing, from, kept, state, lun as u8, waiting, work));
+        first = first_of(
+            first,
+            given(timing, from, kept, state, lun as u8, waiting, work),
+        );
     }
     first
 }
 
 // Of two phases, where there are any, the one that goes first.
-fn first_of<'a>(
-    known: Option<Candidate<'a>>,
-    other: Option<Candidate<'a>>,
-) -> Option<Candidate<'a>>
+fn first_of<'a>(known: Option<Candidate<'a>>, other: Option<Candidate<'a>>) -> Option<Candidate<'a>>
     ensures { result ≡ first_of known.entry other.entry }
 {
     match other {
@@ -159,7 +159,7 @@ fn given<'a>(
         → work ≡ any_work waiting.now (channel timing.now from luns waiting.now)
         → slice_get luns lun ≡ Some state.now
         → MatchOption result (given_move waiting.now (channel timing.now from luns waiting.now) lun ≡ None)
-            (IsGivenBy waiting.now (channel timing.now from luns waiting.now) lun) }
+        (IsGivenBy waiting.now (channel timing.now from luns waiting.now) lun) }
 {
     match state {
         LunState::Running { group, next, ready } => Some(Candidate {
@@ -168,7 +168,14 @@ fn given<'a>(
             turn: turn_of_running(timing, from, kept, group, *next, *ready),
         }),
         LunState::Free { since } => {
-            begin(timing, from, kept, *since, lun, given_group(waiting, lun, work))
+            begin(
+                timing,
+                from,
+                kept,
+                *since,
+                lun,
+                given_group(waiting, lun, work),
+            )
         }
     }
 }

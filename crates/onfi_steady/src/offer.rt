@@ -51,7 +51,11 @@ impl Offer {
         let head = turned_to(ready.as_slice());
         let group = group_with(rules, ready.as_slice(), head);
         let is_open = may_grow(rules, head, group.as_slice());
-        let erase = group_with(rules, ready.as_slice(), oldest_of(ready.as_slice(), Kind::Erase));
+        let erase = group_with(
+            rules,
+            ready.as_slice(),
+            oldest_of(ready.as_slice(), Kind::Erase),
+        );
         Offer {
             group,
             is_open,
@@ -142,7 +146,9 @@ fn mate_on(rules: &Rules, ready: &[Waiter], head: &Want, plane: u8) -> Option<Wa
 fn is_mate(rules: &Rules, head: &Want, plane: u8, waiter: &Waiter) -> bool
     ensures { result ≡ is_mate rules.now head.now plane waiter.now }
 {
-    waiter.want.plane == plane && may_group(rules, head.kind) && goes_with(rules, head, &waiter.want)
+    waiter.want.plane == plane
+        && may_group(rules, head.kind)
+        && goes_with(rules, head, &waiter.want)
 }
 
 // Whether several requests of that kind may run as one.

@@ -54,7 +54,5 @@ pub fn has_read(waiting: &[Waiter], lun: u8) -> bool
 fn any_read(waiting: &[Waiter], lun: u8) -> bool
     ensures { result ≡ list_any (is_read_on lun) waiting.now }
 {
-    waiting
-        .iter()
-        .any(|waiter| waiter.want.lun == lun && waiter.is_kind(Kind::Read))
+    waiting.iter().any(|waiter| waiter.want.lun == lun && waiter.is_kind(Kind::Read))
 }

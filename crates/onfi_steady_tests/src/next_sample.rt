@@ -21,13 +21,25 @@ pub(crate) fn accept(
     lun: u8,
     block: u16,
 ) -> Result<(), Full> {
+    accept_page(waiting, id, kind, lun, block, 0)
+}
+
+/// .. or of that page.
+pub(crate) fn accept_page(
+    waiting: &mut Waiting,
+    id: u64,
+    kind: Kind,
+    lun: u8,
+    block: u16,
+    page: u16,
+) -> Result<(), Full> {
     waiting.accept(Want {
         id,
         kind,
         lun: lun % 8,
         plane: (block % 2) as u8,
         block,
-        page: 0,
+        page,
     })
 }
 

@@ -1,4 +1,4 @@
-use Rattle.std.proofs.Common.{◌≡◌, length, None, Some, refl, subst}
+use Rattle.std.proofs.Common.{length, refl, subst}
 use Rattle.std.specs.Prelude.{MatchOption, max}
 use Rattle.onfi_steady.specs.Waiting.{channel}
 use Rattle.onfi_steady.specs.Kept.{IsFirstBelow, IsHeldBy, NoneBelow}

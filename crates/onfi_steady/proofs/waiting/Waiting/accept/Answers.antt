@@ -1,4 +1,4 @@
-use Rattle.std.proofs.Common.{◌≡◌, ◌<◌, ◌∙◌, inl, inr, ◌∷◌, [], ◌++◌, length, sym, subst, arith}
+use Rattle.std.proofs.Common.{◌<◌, ◌∙◌, inl, inr, ◌∷◌, [], ◌++◌, length, sym, subst, arith}
 use Rattle.std.specs.Prelude.{slice_set}
 use Rattle.std.proofs.lemmas.Bool.{cases_eq, eq-eqb, false≢true}
 use Rattle.onfi_steady.specs.Offer.{IsOffer}

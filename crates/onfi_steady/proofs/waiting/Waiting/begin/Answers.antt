@@ -10,6 +10,6 @@ invariant_of-self c =
     let members = c.args.members.now in
     let left = c.left_waiting-self-inside.result.items in
     kept_begun rules c.self.inside.waiting.items left c.self.inside.offers c.args.lun members c.of.result c.self.invariant
-      (c.left_waiting-self-inside.ensures ∙ ap (left_waiting c.args.lun members) c.as_slice.ensures.value)
-      (subst (λ z. length z ≤ 64) c.as_slice-2.ensures.value c.as_slice-2.ensures.fits)
-      (subst (λ z. IsOffer rules z c.args.lun c.of.result) c.as_slice-2.ensures.value c.of.ensures)
+    (c.left_waiting-self-inside.ensures ∙ ap (left_waiting c.args.lun members) c.as_slice.ensures.value)
+    (subst (λ z. length z ≤ 64) c.as_slice-2.ensures.value c.as_slice-2.ensures.fits)
+    (subst (λ z. IsOffer rules z c.args.lun c.of.result) c.as_slice-2.ensures.value c.of.ensures)
