@@ -5,6 +5,7 @@ use Rattle.std.specs.List.{filter, list_any}
 use Rattle.std.proofs.lemmas.Bool.{cases_Bool, eq-eqb, eqb-true, false≢true}
 use Rattle.std.proofs.lemmas.List.{append-nil, take_more}
 use Rattle.std.proofs.lemmas.List.Elements.{filter-append}
+use Rattle.std.proofs.lemmas.List.Folds.{list_any-append}
 use Rattle.std.proofs.lemmas.Map.Views.{any-filter_same}
 use Rattle.onfi_timing.specs.declared.kind.Kind.TheVariants.{Read}
 use Rattle.onfi_request.specs.declared.want.Want.{Want}
@@ -71,6 +72,13 @@ ready_more lun waiting i d h = ap (ready_on lun) (take_more waiting i d h) ∙ (
     by_test : (ws : List Waiter) (x : Waiter) (b : Bool) → firsts (ws ++ cond b (x ∷ []) []) ≡ (if b then (if list_any (is_behind x) (firsts ws) then firsts ws else firsts ws ++ x ∷ []) else firsts ws)
     by_test ws x true = firsts_push ws x
     by_test ws x false = ap firsts (append-nil ws)
+
+pub reads_more : (lun : ℕ) (waiting : List Waiter) (i : ℕ) (d : Waiter) → i < length waiting → list_any (is_read_on lun) (take (i + 1) waiting) ≡ (list_any (is_read_on lun) (take i waiting) || is_read_on lun (get_or waiting i d))
+reads_more lun waiting i d h = ap (list_any (is_read_on lun)) (take_more waiting i d h) ∙ (list_any-append (is_read_on lun) (take i waiting) (get_or waiting i d ∷ []) ∙ ap (λ z. list_any (is_read_on lun) (take i waiting) || z) (no_more (is_read_on lun (get_or waiting i d))))
+  where
+    no_more : (b : Bool) → (b || false) ≡ b
+    no_more true = refl
+    no_more false = refl
 
 pub any_on : (lun : ℕ) (waiting : List Waiter) → list_any (is_read_on lun) waiting ≡ list_any (is_kind Read) (on_lun lun waiting)
 any_on lun [] = refl

@@ -1,9 +1,9 @@
 -- What waits for a LUN stays, whatever comes or begins on another one.
-use Rattle.std.proofs.Common.{◌≡◌, ◌≢◌, ℕ, zero, suc, ◌+◌, ◌<◌, ◌≤◌, inl, inr, Bool, true, false, List, [], ◌∷◌, ◌++◌, length, map, take, get_or, Option, Some, None, refl, sym, ap, ◌∙◌, subst, arith, length-append}
-use Rattle.std.specs.Prelude.{◌==◌, cond, not, nat_lt, if◌then◌else◌, IfSome, slice_get, slice_set}
+use Rattle.std.proofs.Common.{◌≡◌, ◌≢◌, ℕ, zero, suc, ◌+◌, ◌<◌, ◌≤◌, inl, inr, Bool, true, false, List, [], ◌∷◌, ◌++◌, length, map, take, drop, get_or, Option, Some, None, refl, sym, ap, ◌∙◌, subst, arith, append_assoc, length-append}
+use Rattle.std.specs.Prelude.{◌==◌, cond, not, nat_lt, if◌then◌else◌, IfSome, remove, slice_get, slice_set}
 use Rattle.std.specs.List.{AllByRecursion as All, filter}
 use Rattle.std.proofs.lemmas.Bool.{cases_Bool, cases_eq, eqb-true, ne_eqb}
-use Rattle.std.proofs.lemmas.List.{append-nil, map-append, take_more}
+use Rattle.std.proofs.lemmas.List.{append-nil, drop_all, drop_more, length-take-le, take_all, take_more}
 use Rattle.std.proofs.lemmas.List.Elements.{filter-append}
 use Rattle.onfi_request.specs.declared.want.Want.{Want}
 use Rattle.onfi_group.specs.declared.rules.Rules.{Rules}
@@ -14,7 +14,7 @@ use Rattle.onfi_steady.specs.declared.waiter.Waiter.{Waiter}
 use Rattle.onfi_steady.specs.declared.offer.Offer.{Offer}
 use Rattle.onfi_steady.specs.Waiting.{begins_with, greatest_number, is_on, left_waiting, passed_by}
 use Rattle.onfi_steady.specs.Offer.{IsOffer, on_lun}
-use Rattle.onfi_steady.specs.Kept.{AreKept, IsNothing, left_with}
+use Rattle.onfi_steady.specs.Kept.{AreKept, IsNothing, settled, settled_by}
 
 elsewhere : (lun other : ℕ) (w : Waiter) → other ≢ lun → is_on lun w ≡ true → is_on other w ≡ false
 elsewhere lun other w d k = ne_eqb w.want.lun other (λ e. d (sym e ∙ eqb-true w.want.lun lun k))
@@ -58,12 +58,48 @@ module _ (lun : ℕ) (members : List Want) where
         rw (b, p) (ap (λ z. cond (is_on other w) (w ∷ z) z) (on_left other d ws)))
   ]
 
-  pub left_more : (waiting : List Waiter) (i : ℕ) (d : Waiter) → i < length waiting → left_waiting lun members (take (i + 1) waiting) ≡ left_with lun members (greatest_number 0 members) (left_waiting lun members (take i waiting)) (get_or waiting i d)
-  left_more waiting i d h = ap (left_waiting lun members) (take_more waiting i d h) ∙ (ap (map pass) (filter-append stays (take i waiting) (get_or waiting i d ∷ [])) ∙ (map-append pass (filter stays (take i waiting)) (filter stays (get_or waiting i d ∷ [])) ∙ by_test (left_waiting lun members (take i waiting)) (get_or waiting i d) (begins_with lun members (get_or waiting i d))))
-    where
-      by_test : (left : List Waiter) (w : Waiter) (b : Bool) → left ++ map pass (cond (not b) (w ∷ []) []) ≡ (if b then left else left ++ pass w ∷ [])
-      by_test left w true = append-nil left
-      by_test left w false = refl
+  get_between : (front back : List Waiter) (w : Waiter) → slice_get (front ++ w ∷ back) (length front) ≡ Some w
+  get_between [] back w = refl
+  get_between (v ∷ front) back w = get_between front back w
+
+  set_between : (front back : List Waiter) (w v : Waiter) → slice_set (front ++ w ∷ back) (length front) v ≡ front ++ v ∷ back
+  set_between [] back w v = refl
+  set_between (u ∷ front) back w v = ap (λ z. u ∷ z) (set_between front back w v)
+
+  remove_between : (front back : List Waiter) (w : Waiter) → remove (front ++ w ∷ back) (length front) ≡ front ++ back
+  remove_between [] back w = refl
+  remove_between (u ∷ front) back w = ap (λ z. u ∷ z) (remove_between front back w)
+
+  settled_between : (front rest : List Waiter) (w : Waiter) → settled lun members (greatest_number 0 members) (length front) (front ++ w ∷ left_waiting lun members rest) ≡ front ++ left_waiting lun members (w ∷ rest)
+  settled_between front rest w =
+      let back = left_waiting lun members rest in
+      ap (settled_by lun members (greatest_number 0 members) (length front) (front ++ w ∷ back)) (get_between front back w)
+      ∙ elim (cases_Bool (begins_with lun members w)) [
+        | inl b ↦ rw b (remove_between front back w)
+        | inr b ↦ rw b (set_between front back w (pass w))
+      ]
+
+  pub settled_kept : (waiting : List Waiter) (at last : ℕ) (w : Waiter) → slice_get waiting at ≡ Some w → begins_with lun members w ≡ false → settled lun members last at waiting ≡ slice_set waiting at (passed_by lun last w)
+  settled_kept waiting at last w e b = ap (settled_by lun members last at waiting) e ∙ rw b refl
+
+  -- one more is settled, from the last on
+  pub settle_more : (waiting : List Waiter) (at : ℕ) (d : Waiter) → at < length waiting →
+      settled lun members (greatest_number 0 members) at (take (at + 1) waiting ++ left_waiting lun members (drop (at + 1) waiting)) ≡ take at waiting ++ left_waiting lun members (drop at waiting)
+  settle_more waiting at d h =
+      let w = get_or waiting at d in
+      let rest = drop (at + 1) waiting in
+      let len : length (take at waiting) ≡ at = length-take-le at waiting (omega arith) in
+      let spelled : take (at + 1) waiting ++ left_waiting lun members rest ≡ take at waiting ++ w ∷ left_waiting lun members rest =
+      ap (λ z. z ++ left_waiting lun members rest) (take_more waiting at d h) ∙ append_assoc (take at waiting) (w ∷ []) (left_waiting lun members rest) in
+      ap (settled lun members (greatest_number 0 members) at) spelled
+      ∙ (subst (λ z. settled lun members (greatest_number 0 members) z (take at waiting ++ w ∷ left_waiting lun members rest) ≡ take at waiting ++ left_waiting lun members (w ∷ rest)) len (settled_between (take at waiting) rest w)
+      ∙ ap (λ z. take at waiting ++ left_waiting lun members z) (sym (drop_more waiting at d h)))
+
+  pub settle_none : (waiting : List Waiter) (n : ℕ) → length waiting ≤ n → waiting ≡ take n waiting ++ left_waiting lun members (drop n waiting)
+  settle_none waiting n h = sym (rw (take_all n waiting h, drop_all n waiting h) (append-nil waiting))
+
+  pub settle_all : (waiting left : List Waiter) (n : ℕ) → n ≡ 0 → left ≡ take n waiting ++ left_waiting lun members (drop n waiting) → left ≡ left_waiting lun members waiting
+  settle_all waiting left n e h = subst (λ z. left ≡ take z waiting ++ left_waiting lun members (drop z waiting)) e h
 
   pub left_planes : (waiting : List Waiter) → All (λ w. w.want.plane ≤ 3) waiting → All (λ w. w.want.plane ≤ 3) (left_waiting lun members waiting)
   left_planes [] h = tt

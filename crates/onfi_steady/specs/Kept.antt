@@ -1,5 +1,5 @@
 -- What is kept beside the requests that wait, and what a walk over LUNs has found.
-use Rattle.std.specs.Prelude.{◌≡◌, ◌≢◌, ◌⊎◌, ℕ, ◌+◌, ◌<◌, ◌≤◌, max, min, nat_lt, if◌then◌else◌, Bool, false, List, [], ◌∷◌, ◌++◌, length, Option, Some, None, IfSome, slice_get}
+use Rattle.std.specs.Prelude.{◌≡◌, ◌≢◌, ◌⊎◌, ℕ, ◌+◌, ◌<◌, ◌≤◌, max, min, nat_lt, if◌then◌else◌, Bool, false, List, [], ◌∷◌, ◌++◌, length, Option, Some, None, IfSome, remove, slice_get, slice_set}
 use Rattle.std.specs.List.{AllByRecursion as Each, list_any}
 use Rattle.onfi_timing.specs.declared.kind.Kind.TheVariants.{Read}
 use Rattle.onfi_timing.specs.declared.timing.Timing.{Timing}
@@ -41,9 +41,13 @@ ready_with lun ready w = if is_on lun w then (if list_any (λ v. on_block v.want
 abbrev pub is_read_on : ℕ → Waiter → Bool
 is_read_on lun w = if is_on lun w then is_kind Read w else false
 
--- one more of those that wait once a group began
-abbrev pub left_with : ℕ → List Want → ℕ → List Waiter → Waiter → List Waiter
-left_with lun members last left w = if begins_with lun members w then left else left ++ passed_by lun last w ∷ []
+-- of those that wait the one at that place is taken out where it begins; else it may be passed over
+abbrev pub settled_by : ℕ → List Want → ℕ → ℕ → List Waiter → Option Waiter → List Waiter
+settled_by lun members last at waiting None = waiting
+settled_by lun members last at waiting (Some w) = if begins_with lun members w then remove waiting at else slice_set waiting at (passed_by lun last w)
+
+abbrev pub settled : ℕ → List Want → ℕ → ℕ → List Waiter → List Waiter
+settled lun members last at waiting = settled_by lun members last at waiting (slice_get waiting at)
 
 -- the bus is kept from that time on, by what one of these LUNs runs
 abbrev pub IsKeptBy : Problem → List LunState → Option ℕ → Type 0

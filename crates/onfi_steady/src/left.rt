@@ -3,33 +3,34 @@
 ghost use Rattle.std.specs.Prelude.{◌≡◌, ◌+◌, ◌<◌, ◌≤◌, length};
 ghost use Rattle.onfi_group.specs.Group.{is_member};
 ghost use Rattle.onfi_steady.specs.Waiting.{begins_with, greatest_number, left_waiting, passed_by};
-ghost use Rattle.onfi_steady.specs.Kept.{left_with};
+ghost use Rattle.onfi_steady.specs.Kept.{settled};
 
 use crate::waiter::Waiter;
 use arrayvec::ArrayVec;
 use onfi_request::Want;
 
-/// Those that wait once the group of these members began on the LUN.
-pub fn left_waiting(waiting: &[Waiter], lun: u8, members: &[Want]) -> ArrayVec<Waiter, 64>
-    requires { length waiting.now ≤ 64 }
-    ensures { result.items ≡ left_waiting lun members.now waiting.now }
+/// Leaves those that wait once the group of these members began on the LUN.
+pub fn leave(waiting: &mut ArrayVec<Waiter, 64>, lun: u8, members: &[Want])
+    ensures { waiting.new.items ≡ left_waiting lun members.now waiting.old.items }
 {
     let last = greatest_number(members);
-    let mut left = ArrayVec::new();
-    for waiter in waiting {
-        put(&mut left, lun, members, last, *waiter);
+    let count = waiting.len();
+    for settled in 0..count {
+        settle(waiting, count - 1 - settled, lun, members, last);
     }
-    left
 }
 
-// Puts one behind the others, passed over, where it isn't one of those that begin.
-fn put(left: &mut ArrayVec<Waiter, 64>, lun: u8, members: &[Want], last: u64, waiter: Waiter)
-    requires { length left.old.items < 64 }
-    ensures items { left.new.items ≡ left_with lun members.now last left.old.items waiter }
-    ensures few { length left.new.items ≤ length left.old.items + 1 }
+// Takes out the one at that place where it is one of those that begin; else it may be passed over.
+fn settle(waiting: &mut ArrayVec<Waiter, 64>, at: usize, lun: u8, members: &[Want], last: u64)
+    requires { at < length waiting.old.items }
+    ensures items { waiting.new.items ≡ settled lun members.now last at waiting.old.items }
+    ensures few { length waiting.old.items ≤ length waiting.new.items + 1 }
 {
-    if !begins_with(lun, members, &waiter) {
-        left.push(passed_by(lun, last, waiter));
+    let waiter = waiting[at];
+    if begins_with(lun, members, &waiter) {
+        waiting.remove(at);
+    } else {
+        pass(&mut waiting[at], lun, last);
     }
 }
 
@@ -56,16 +57,11 @@ fn is_member(members: &[Want], want: &Want) -> bool
     members.iter().any(|m| m.id == want.id)
 }
 
-// It, passed over once more where the group is of its LUN and a member is later.
-fn passed_by(lun: u8, last: u64, waiter: Waiter) -> Waiter
-    ensures { result ≡ passed_by lun last waiter }
+// Passes over it once more where the group is of its LUN and a member is later.
+fn pass(waiter: &mut Waiter, lun: u8, last: u64)
+    ensures { waiter.new ≡ passed_by lun last waiter.old }
 {
     if waiter.want.lun == lun && waiter.want.id < last {
-        Waiter {
-            want: waiter.want,
-            passed: waiter.passed.saturating_add(1),
-        }
-    } else {
-        waiter
+        waiter.passed = waiter.passed.saturating_add(1);
     }
 }

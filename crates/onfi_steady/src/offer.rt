@@ -9,7 +9,7 @@ ghost use Rattle.onfi_steady.specs.Kept.{IsNothing};
 ghost use Rattle.onfi_steady.specs.Offer.{IsOffer, ready_on, turned_to, group_with, goes_with, is_mate, is_on_last_plane, is_same_page, is_same_row, is_due as is_due_waiter, is_kind as is_kind_of, may_grow, member_on};
 
 use crate::own::kind_rank;
-use crate::ready::{has_read, ready_on};
+use crate::ready::list_ready;
 use crate::waiter::Waiter;
 use arrayvec::ArrayVec;
 use onfi_group::Rules;
@@ -47,7 +47,8 @@ impl Offer {
         requires { length waiting.now ≤ 64 }
         ensures { IsOffer rules.now waiting.now lun result }
     {
-        let ready = ready_on(waiting, lun);
+        let mut ready = ArrayVec::new();
+        let reads = list_ready(&mut ready, waiting, lun);
         let head = turned_to(ready.as_slice());
         let group = group_with(rules, ready.as_slice(), head);
         let is_open = may_grow(rules, head, group.as_slice());
@@ -60,7 +61,7 @@ impl Offer {
             group,
             is_open,
             erase,
-            reads: has_read(waiting, lun),
+            reads,
         }
     }
 }

@@ -5,7 +5,7 @@ ghost use Rattle.onfi_steady.specs.Waiting.{accepted, begun, newest_with};
 ghost use Rattle.onfi_steady.specs.Offer.{IsOffer};
 ghost use Rattle.onfi_steady.specs.Kept.{IsNothing};
 
-use crate::left::left_waiting;
+use crate::left::leave;
 use crate::offer::Offer;
 use crate::waiter::Waiter;
 use arrayvec::ArrayVec;
@@ -81,7 +81,7 @@ impl Waiting {
         requires { lun < 8 }
         ensures { self.new ≡ begun self.old lun members.now }
     {
-        self.waiting = left_waiting(self.waiting.as_slice(), lun, members);
+        leave(&mut self.waiting, lun, members);
         self.offers[lun as usize] = Offer::of(&self.rules, self.waiting.as_slice(), lun);
     }
 

@@ -12,6 +12,7 @@ use onfi_timing::Kind;
 use std::alloc::Global;
 use std::test::Fail;
 
+#[derive(Drop)]
 struct Numbers {
     last: u64,
 }

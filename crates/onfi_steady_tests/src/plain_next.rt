@@ -22,7 +22,7 @@ pub(crate) struct Plain<'a> {
 
 /// A phase: the LUN, the start and those that begin, behind what it is compared by.
 #[derive(Clone, Copy)]
-struct Offered {
+struct Candidate {
     key: [u64; 6],
     ids: [u64; 2],
 }
@@ -39,7 +39,7 @@ pub(crate) fn plain_next(plain: &Plain) -> Option<(u8, u64, [u64; 4])> {
     }
 }
 
-fn told(offered: &Offered) -> (u8, u64, [u64; 4]) {
+fn told(offered: &Candidate) -> (u8, u64, [u64; 4]) {
     let (low, high) = (offered.ids[0], offered.ids[1]);
     let ids = if low == NONE {
         [high, NONE, NONE, NONE]
@@ -50,7 +50,7 @@ fn told(offered: &Offered) -> (u8, u64, [u64; 4]) {
 }
 
 // Of what LUNs offer, what has the least key; of what they hold, where that counts, what the lowest holds.
-fn least(plain: &Plain, work: bool, held: bool) -> Option<Offered> {
+fn least(plain: &Plain, work: bool, held: bool) -> Option<Candidate> {
     let mut least = None;
     for lun in 0..8u8 {
         if let Some(other) = offered(plain, lun, work, held) {
@@ -60,7 +60,7 @@ fn least(plain: &Plain, work: bool, held: bool) -> Option<Offered> {
     least
 }
 
-fn lesser(known: Option<Offered>, other: Offered, held: bool) -> Offered {
+fn lesser(known: Option<Candidate>, other: Candidate, held: bool) -> Candidate {
     match known {
         Some(known) => {
             if !held && is_less(&other.key, &known.key) {
@@ -82,7 +82,7 @@ fn is_less(a: &[u64; 6], b: &[u64; 6]) -> bool {
     false
 }
 
-fn offered(plain: &Plain, lun: u8, work: bool, held: bool) -> Option<Offered> {
+fn offered(plain: &Plain, lun: u8, work: bool, held: bool) -> Option<Candidate> {
     match plain.luns.get(lun as usize) {
         Some(LunState::Running { group, next, ready }) => {
             Some(going_on(plain, lun, group, *next, *ready))
@@ -92,7 +92,7 @@ fn offered(plain: &Plain, lun: u8, work: bool, held: bool) -> Option<Offered> {
     }
 }
 
-fn going_on(plain: &Plain, lun: u8, group: &Group, next: u8, ready: u64) -> Offered {
+fn going_on(plain: &Plain, lun: u8, group: &Group, next: u8, ready: u64) -> Candidate {
     let spans = plain.timing.spans(group.kind());
     let command = (next as usize) < group.len();
     let start = plain.from.max(ready);
@@ -107,7 +107,7 @@ fn going_on(plain: &Plain, lun: u8, group: &Group, next: u8, ready: u64) -> Offe
         .members()
         .iter()
         .fold(u64::MAX, |least, m| least.min(m.id));
-    Offered {
+    Candidate {
         key: [
             u64::from(!keeps && is_kept(plain, end)),
             start,
@@ -133,7 +133,7 @@ fn is_kept(plain: &Plain, end: u64) -> bool {
     })
 }
 
-fn beginning(plain: &Plain, lun: u8, since: u64, work: bool, held: bool) -> Option<Offered> {
+fn beginning(plain: &Plain, lun: u8, since: u64, work: bool, held: bool) -> Option<Candidate> {
     let Some(head) = head_of(plain, lun) else {
         return None;
     };
@@ -148,7 +148,7 @@ fn beginning(plain: &Plain, lun: u8, since: u64, work: bool, held: bool) -> Opti
     Some(begun(plain, lun, since, &head.want))
 }
 
-fn begun(plain: &Plain, lun: u8, since: u64, head: &Want) -> Offered {
+fn begun(plain: &Plain, lun: u8, since: u64, head: &Want) -> Candidate {
     let ids = group_of(plain, head);
     let start = plain.from.max(since);
     let end = start.saturating_add(plain.timing.spans(head.kind).cmd);
@@ -158,7 +158,7 @@ fn begun(plain: &Plain, lun: u8, since: u64, head: &Want) -> Offered {
         Kind::Program => 5,
     };
     let smaller = u64::from(ids[0] == NONE) + u64::from(ids[1] == NONE);
-    Offered {
+    Candidate {
         key: [
             u64::from(is_kept(plain, end)),
             start,
@@ -204,11 +204,9 @@ fn head_of(plain: &Plain, lun: u8) -> Option<Waiter> {
 
 // The oldest that may begin of those that are due, of reads, of programs, of erases.
 fn oldest(plain: &Plain, lun: u8, class: u8) -> Option<Waiter> {
-    plain
-        .waiting
-        .iter()
-        .copied()
-        .find(|w| w.want.lun == lun && is_of(w, class) && waits_first(plain, w))
+    plain.waiting.iter().copied().find(|w| w.want.lun == lun
+        && is_of(w, class)
+        && waits_first(plain, w))
 }
 
 fn is_of(waiter: &Waiter, class: u8) -> bool {
@@ -228,10 +226,8 @@ fn is_due(waiter: &Waiter) -> bool {
 }
 
 fn waits_first(plain: &Plain, waiter: &Waiter) -> bool {
-    let first = plain
-        .waiting
-        .iter()
-        .find(|v| v.want.lun == waiter.want.lun && v.want.block == waiter.want.block);
+    let first = plain.waiting.iter().find(|v| v.want.lun == waiter.want.lun
+        && v.want.block == waiter.want.block);
     match first {
         Some(first) => first.want.id == waiter.want.id,
         None => false,

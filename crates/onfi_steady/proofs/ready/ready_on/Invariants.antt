@@ -1,6 +1,0 @@
-use Rattle.std.proofs.Common.{◌≡◌, ◌≤◌, length, take}
-use Rattle.onfi_steady.specs.Offer.{ready_on}
-use Rattle.onfi_steady.proofs.ready.ready_on.Given as goal
-
-abbrev pub invariant-loop-waiter : goal.invariant-loop-waiter
-invariant-loop-waiter l = record { is : l.ready.items ≡ ready_on l.lun (take l.waiter-index l.waiting); few : length l.ready.items ≤ l.waiter-index }
