@@ -66,14 +66,17 @@ firsts_push [] x = refl
 firsts_push (w ∷ ws) x = ap (λ z. w ∷ filter (beside w) z) (firsts_push ws x) ∙ pushed w x (firsts ws) _ _ refl refl
 
 -- one request more
-pub ready_more : (lun : ℕ) (waiting : List Waiter) (i : ℕ) (d : Waiter) → i < length waiting → ready_on lun (take (i + 1) waiting) ≡ ready_with lun (ready_on lun (take i waiting)) (get_or waiting i d)
+pub ready_more : (lun : ℕ) (waiting : List Waiter) (i : ℕ) (d : Waiter) → i < length waiting →
+    ready_on lun (take (i + 1) waiting) ≡ ready_with lun (ready_on lun (take i waiting)) (get_or waiting i d)
 ready_more lun waiting i d h = ap (ready_on lun) (take_more waiting i d h) ∙ (ap firsts (filter-append (is_on lun) (take i waiting) (get_or waiting i d ∷ [])) ∙ by_test (on_lun lun (take i waiting)) (get_or waiting i d) (is_on lun (get_or waiting i d)))
   where
-    by_test : (ws : List Waiter) (x : Waiter) (b : Bool) → firsts (ws ++ cond b (x ∷ []) []) ≡ (if b then (if list_any (is_behind x) (firsts ws) then firsts ws else firsts ws ++ x ∷ []) else firsts ws)
+    by_test : (ws : List Waiter) (x : Waiter) (b : Bool) →
+        firsts (ws ++ cond b (x ∷ []) []) ≡ (if b then (if list_any (is_behind x) (firsts ws) then firsts ws else firsts ws ++ x ∷ []) else firsts ws)
     by_test ws x true = firsts_push ws x
     by_test ws x false = ap firsts (append-nil ws)
 
-pub reads_more : (lun : ℕ) (waiting : List Waiter) (i : ℕ) (d : Waiter) → i < length waiting → list_any (is_read_on lun) (take (i + 1) waiting) ≡ (list_any (is_read_on lun) (take i waiting) || is_read_on lun (get_or waiting i d))
+pub reads_more : (lun : ℕ) (waiting : List Waiter) (i : ℕ) (d : Waiter) → i < length waiting →
+    list_any (is_read_on lun) (take (i + 1) waiting) ≡ (list_any (is_read_on lun) (take i waiting) || is_read_on lun (get_or waiting i d))
 reads_more lun waiting i d h = ap (list_any (is_read_on lun)) (take_more waiting i d h) ∙ (list_any-append (is_read_on lun) (take i waiting) (get_or waiting i d ∷ []) ∙ ap (λ z. list_any (is_read_on lun) (take i waiting) || z) (no_more (is_read_on lun (get_or waiting i d))))
   where
     no_more : (b : Bool) → (b || false) ≡ b
@@ -84,7 +87,8 @@ pub any_on : (lun : ℕ) (waiting : List Waiter) → list_any (is_read_on lun) w
 any_on lun [] = refl
 any_on lun (w ∷ ws) = by_test (is_on lun w) (list_any (is_read_on lun) ws) (on_lun lun ws) (any_on lun ws)
   where
-    by_test : (b r : Bool) (rest : List Waiter) → r ≡ list_any (is_kind Read) rest → ((if b then is_kind Read w else false) || r) ≡ list_any (is_kind Read) (cond b (w ∷ rest) rest)
+    by_test : (b r : Bool) (rest : List Waiter) → r ≡ list_any (is_kind Read) rest →
+        ((if b then is_kind Read w else false) || r) ≡ list_any (is_kind Read) (cond b (w ∷ rest) rest)
     by_test true r rest e = ap (λ z. is_kind Read w || z) e
     by_test false r rest e = e
 
@@ -115,7 +119,8 @@ has_first [] w h = absurd h
 has_first (v ∷ ws) w (inl e) = inl e
 has_first (v ∷ ws) w (inr h) = inr (has_first ws w (filter_has (beside v) (firsts ws) w h).0)
 
-same_block : (m : Want) (lun : ℕ) → m.lun ≡ lun → (waiting : List Waiter) → filter (on_block m) (wants_of (on_lun lun waiting)) ≡ filter (on_block m) (wants_of waiting)
+same_block : (m : Want) (lun : ℕ) → m.lun ≡ lun → (waiting : List Waiter) →
+    filter (on_block m) (wants_of (on_lun lun waiting)) ≡ filter (on_block m) (wants_of waiting)
 same_block m lun e [] = refl
 same_block m lun e (w ∷ ws) = elim (cases_Bool (is_on lun w)) [
   | inl k ↦ rw k (ap (λ z. cond (on_block m w.want) (w.want ∷ z) z) (same_block m lun e ws))

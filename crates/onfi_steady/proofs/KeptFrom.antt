@@ -37,7 +37,8 @@ module _ (p : Problem) where
     | inr k ↦ rw k (not_kept known h k)
   ]
     where
-      by_known : (o : Option ℕ) → IsKeptBy p luns o → keeps_bus p s ≡ true → IsKeptBy p (luns ++ s ∷ []) (Some (earlier o (max p.bus_free (free_from (Some s)))))
+      by_known : (o : Option ℕ) → IsKeptBy p luns o → keeps_bus p s ≡ true →
+          IsKeptBy p (luns ++ s ∷ []) (Some (earlier o (max p.bus_free (free_from (Some s)))))
       by_known None h k = λ end. any_one_more (keeps_bus_before end p) luns s ∙ rw (h end) (keeps_before s end k)
       by_known (Some f) h k = λ end. any_one_more (keeps_bus_before end p) luns s ∙ rw (h end, keeps_before s end k) (sym (min_less f (max p.bus_free (free_from (Some s))) end))
 
@@ -45,14 +46,16 @@ module _ (p : Problem) where
       not_kept None h k = λ end. any_one_more (keeps_bus_before end p) luns s ∙ rw (h end, keeps_none s end k) refl
       not_kept (Some f) h k = λ end. any_one_more (keeps_bus_before end p) luns s ∙ rw (h end, keeps_none s end k) (same_bool (nat_lt f end))
 
-  pub kept_more : (luns : List LunState) (i : ℕ) (d : LunState) (known : Option ℕ) → i < length luns → IsKeptBy p (take i luns) known → IsKeptBy p (take (i + 1) luns) (kept_with p known (get_or luns i d))
+  pub kept_more : (luns : List LunState) (i : ℕ) (d : LunState) (known : Option ℕ) → i < length luns → IsKeptBy p (take i luns) known →
+      IsKeptBy p (take (i + 1) luns) (kept_with p known (get_or luns i d))
   kept_more luns i d known h k = subst (λ z. IsKeptBy p z (kept_with p known (get_or luns i d))) (sym (take_more luns i d h)) (kept_push (take i luns) (get_or luns i d) known k)
 
   pub kept_all : (luns : List LunState) (i : ℕ) (known : Option ℕ) → length luns ≤ i → IsKeptBy p (take i luns) known → IsKeptBy p luns known
   kept_all luns i known h k = subst (λ z. IsKeptBy p z known) (take_all i luns h) k
 
   -- whether the bus is kept from a phase
-  pub kept_is : (kept : Option ℕ) (start length : ℕ) → IsKeptBy p p.luns kept → is_kept kept start length ≡ list_any (keeps_bus_before (start + length) p) p.luns
+  pub kept_is : (kept : Option ℕ) (start length : ℕ) → IsKeptBy p p.luns kept →
+      is_kept kept start length ≡ list_any (keeps_bus_before (start + length) p) p.luns
   kept_is None start length h = sym (h (start + length))
   kept_is (Some from) start length h = sym (h (start + length))
 

@@ -21,7 +21,8 @@ module _ (books : Books) (small : All (λ w. w.want.plane ≤ 3) books.waiting) 
   moved c = move_by c.lun c.members.now
 
   -- what goes first of that which LUNs give
-  pub given_phase : (c : Candidate) (phase : NextPhase) → IsFirstBelow books p (length p.luns) (Some c) → phase.lun ≡ c.lun → phase.members.items ≡ c.members.now → phase.start ≡ c.turn.start → IsNextPhase books p phase
+  pub given_phase : (c : Candidate) (phase : NextPhase) → IsFirstBelow books p (length p.luns) (Some c) → phase.lun ≡ c.lun →
+      phase.members.items ≡ c.members.now → phase.start ≡ c.turn.start → IsNextPhase books p phase
   given_phase c phase first lun members start =
       let same : move_of_phase phase ≡ moved c = ap (λ z. move_by z phase.members.items) lun ∙ ap (move_by c.lun) members in
       let is = move_given books small p rules wants c.lun (moved c) first.0.given in
@@ -35,7 +36,8 @@ module _ (books : Books) (small : All (λ w. w.want.plane ≤ 3) books.waiting) 
       }
 
   -- where none gives any, what the lowest one holds
-  pub held_phase : ((lun : ℕ) → given_move books p lun ≡ None) → (lun : ℕ) (state : LunState) (phase : NextPhase) → slice_get p.luns lun ≡ Some state → IsHeldAt p.bus_free state lun books (Some phase) → NoneBelow books p.luns lun → IsNextPhase books p phase
+  pub held_phase : ((lun : ℕ) → given_move books p lun ≡ None) → (lun : ℕ) (state : LunState) (phase : NextPhase) →
+      slice_get p.luns lun ≡ Some state → IsHeldAt p.bus_free state lun books (Some phase) → NoneBelow books p.luns lun → IsNextPhase books p phase
   held_phase none lun state phase there is below =
       let members = phase.members.items in
       let h = held_is books small p rules wants none lun state members phase.start there is.0 is.1 is.3 in
@@ -49,7 +51,8 @@ module _ (books : Books) (small : All (λ w. w.want.plane ≤ 3) books.waiting) 
       }
 
   -- .. or nothing is left
-  pub held_found : (o : Option NextPhase) → ((lun : ℕ) → given_move books p lun ≡ None) → MatchOption o (NoneBelow books p.luns (length p.luns)) (IsHeldBy p.bus_free p.luns books) → MatchOption o (IsIdle p) (IsNextPhase books p)
+  pub held_found : (o : Option NextPhase) → ((lun : ℕ) → given_move books p lun ≡ None) →
+      MatchOption o (NoneBelow books p.luns (length p.luns)) (IsHeldBy p.bus_free p.luns books) → MatchOption o (IsIdle p) (IsNextPhase books p)
   held_found None none h = idle books small p rules wants none h
   held_found (Some phase) none h = held_phase none h.0 h.1 phase h.2 h.3 h.4
 

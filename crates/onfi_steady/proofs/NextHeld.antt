@@ -30,7 +30,8 @@ module _ (books : Books) (small : All (λ w. w.want.plane ≤ 3) books.waiting) 
     pub move : IsMove p (move_by lun members)
     pub soonest : start ≡ earliest p (move_by lun members)
 
-  pub held_is : (lun : ℕ) (state : LunState) (members : List Want) (start : ℕ) → slice_get p.luns lun ≡ Some state → members ≡ held_group books lun (Some state) → members ≢ [] → start ≡ max p.bus_free (free_from (Some state)) → IsHeld lun members start
+  pub held_is : (lun : ℕ) (state : LunState) (members : List Want) (start : ℕ) → slice_get p.luns lun ≡ Some state →
+      members ≡ held_group books lun (Some state) → members ≢ [] → start ≡ max p.bus_free (free_from (Some state)) → IsHeld lun members start
   held_is lun (Running group next ready) members start e is some at = absurd (some is)
   held_is lun (Free since) [] start e is some at = absurd (some refl)
   held_is lun (Free since) (m ∷ ms) start e is some at =
@@ -51,7 +52,8 @@ module _ (books : Books) (small : All (λ w. w.want.plane ≤ 3) books.waiting) 
       by_state (Some (Running group next ready)) e h = absurd (none_runs lun group next ready e)
       by_state (Some (Free since)) e h = ap begin_with h
 
-  pub first_held : (lun : ℕ) (members : List Want) (start : ℕ) → IsHeld lun members start → NoneBelow books p.luns lun → IsFirstHeld books p (move_by lun members)
+  pub first_held : (lun : ℕ) (members : List Want) (start : ℕ) → IsHeld lun members start → NoneBelow books p.luns lun →
+      IsFirstHeld books p (move_by lun members)
   first_held lun members start is below = record {
     none = none;
     own = subst (λ z. own_move books p z ≡ Some (move_by lun members)) (sym is.on) is.own;
@@ -102,7 +104,8 @@ module _ (books : Books) (small : All (λ w. w.want.plane ≤ 3) books.waiting) 
   given_has : (work : Bool) → Has (given_group books work ready) w.want
   given_has work = rw (not_held work) own_has
 
-  has_by : (group : List Waiter → List Want) → Has (group ready) w.want → (members : List Want) (o : Option LunState) → given_by group books lun o ≡ Some (move_by lun members) → members ≢ [] → Has members w.want
+  has_by : (group : List Waiter → List Want) → Has (group ready) w.want → (members : List Want) (o : Option LunState) →
+      given_by group books lun o ≡ Some (move_by lun members) → members ≢ [] → Has members w.want
   has_by group has [] o h some = absurd (some refl)
   has_by group has (m ∷ ms) None h some = absurd cc
   has_by group has (m ∷ ms) (Some (Running g k r)) h some = absurd cc

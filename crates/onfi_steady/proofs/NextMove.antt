@@ -34,7 +34,8 @@ begin_is [] n h = absurd cc
 begin_is (m ∷ ms) n h = (m, ms, refl, cc)
 
 module _ (books : Books) (small : All (λ w. w.want.plane ≤ 3) books.waiting) where
-  given_starts : (work : Bool) (lun : ℕ) (m : Want) (ms : List Want) → given_group books work (ready_on lun books.waiting) ≡ m ∷ ms → Starts books.rules books.waiting lun small (m ∷ ms)
+  given_starts : (work : Bool) (lun : ℕ) (m : Want) (ms : List Want) → given_group books work (ready_on lun books.waiting) ≡ m ∷ ms →
+      Starts books.rules books.waiting lun small (m ∷ ms)
   given_starts work lun m ms h = elim (cases_Bool (is_held books work (ready_on lun books.waiting))) [
     | inl k ↦ (let q : erase_group books.rules (ready_on lun books.waiting) ≡ m ∷ ms = rw k at h in erase_starts books.rules books.waiting lun small m ms q)
     | inr k ↦ (let q : own_group books.rules (ready_on lun books.waiting) ≡ m ∷ ms = rw k at h in own_starts books.rules books.waiting lun small m ms q)
@@ -57,7 +58,8 @@ module _ (books : Books) (small : All (λ w. w.want.plane ≤ 3) books.waiting) 
       gives : (g : List Want) → g ≡ given_group books work (ready_on lun books.waiting) → given_move books p lun ≡ begin_with g
       gives g e = ap (given_by (given_group books (any_work books p)) books lun) state ∙ (ap (λ z. begin_with (given_group books z (ready_on lun books.waiting))) (sym works) ∙ ap begin_with (sym e))
 
-      by_option : (o : Option Candidate) (g : List Want) → g ≡ given_group books work (ready_on lun books.waiting) → MatchOption o (g ≡ []) (IsBeginOf timing from kept since lun g) → MatchOption o (given_move books p lun ≡ None) (IsGivenBy books p lun)
+      by_option : (o : Option Candidate) (g : List Want) → g ≡ given_group books work (ready_on lun books.waiting) →
+          MatchOption o (g ≡ []) (IsBeginOf timing from kept since lun g) → MatchOption o (given_move books p lun ≡ None) (IsGivenBy books p lun)
       by_option None g e none = gives g e ∙ ap begin_with none
       by_option (Some c) [] e b = absurd (b.some refl)
       by_option (Some c) (m ∷ ms) e b =
@@ -75,7 +77,8 @@ module _ (books : Books) (small : All (λ w. w.want.plane ≤ 3) books.waiting) 
       pub on : move_lun n ≡ lun
       pub move : IsMove p n
 
-    gives_move : (group : List Waiter → List Want) → ((lun : ℕ) (m : Want) (ms : List Want) → group (ready_on lun books.waiting) ≡ m ∷ ms → Starts books.rules books.waiting lun small (m ∷ ms)) →
+    gives_move : (group : List Waiter → List Want) →
+        ((lun : ℕ) (m : Want) (ms : List Want) → group (ready_on lun books.waiting) ≡ m ∷ ms → Starts books.rules books.waiting lun small (m ∷ ms)) →
         (lun : ℕ) (n : Move) (o : Option LunState) → slice_get p.luns lun ≡ o → given_by group books lun o ≡ Some n → IsLunMove lun n
     gives_move group starts lun n None e h = absurd cc
     gives_move group starts lun n (Some (Running g k r)) e h = let q : Next lun ≡ n = cc in subst (IsLunMove lun) q (record { on = refl; move = (g, k, r, e) })
@@ -102,13 +105,16 @@ module _ (books : Books) (small : All (λ w. w.want.plane ≤ 3) books.waiting) 
     given_at : (lun : ℕ) (c : Candidate) → IsGivenBy books p lun c → IsGivenBy books p c.lun c
     given_at lun c is = subst (λ z. IsGivenBy books p z c) (sym is.lun) is
 
-    last_or_earlier : (P : Move → Type 0) (i : ℕ) (m : Move) → given_move books p i ≡ Some m → P m → ((lun : ℕ) (n : Move) → lun < i → given_move books p lun ≡ Some n → P n) → (lun : ℕ) (n : Move) → lun < i + 1 → given_move books p lun ≡ Some n → P n
+    last_or_earlier : (P : Move → Type 0) (i : ℕ) (m : Move) → given_move books p i ≡ Some m → P m →
+        ((lun : ℕ) (n : Move) → lun < i → given_move books p lun ≡ Some n → P n) → (lun : ℕ) (n : Move) → lun < i + 1 →
+        given_move books p lun ≡ Some n → P n
     last_or_earlier P i m e holds earlier lun n h q = elim (cases_eq lun i) [
       | inl k ↦ subst P (same_some (given_move books p i) m n e (subst (λ z. given_move books p z ≡ Some n) k q)) holds
       | inr d ↦ earlier lun n (omega arith) q
     ]
 
-    taken : (i : ℕ) (c other : Candidate) → IsGivenBy books p i other → is_less (numbers_of other.turn) (numbers_of c.turn) ≡ true → IsFirstBelow books p i (Some c) → IsFirstBelow books p (i + 1) (Some other)
+    taken : (i : ℕ) (c other : Candidate) → IsGivenBy books p i other → is_less (numbers_of other.turn) (numbers_of c.turn) ≡ true →
+        IsFirstBelow books p i (Some c) → IsFirstBelow books p (i + 1) (Some other)
     taken i c other is less first = (
       given_at i other is,
       (let e = is.lun in omega arith),
@@ -125,7 +131,8 @@ module _ (books : Books) (small : All (λ w. w.want.plane ≤ 3) books.waiting) 
         over : (n : Move) → Leads (moved c) n → GoesBefore (phase_numbers p) p own n
         over n l = before_all (phase_numbers p) p (moved c) own n ahead l
 
-    kept : (i : ℕ) (c other : Candidate) → IsGivenBy books p i other → is_less (numbers_of other.turn) (numbers_of c.turn) ≡ false → IsFirstBelow books p i (Some c) → IsFirstBelow books p (i + 1) (Some c)
+    kept : (i : ℕ) (c other : Candidate) → IsGivenBy books p i other → is_less (numbers_of other.turn) (numbers_of c.turn) ≡ false →
+        IsFirstBelow books p i (Some c) → IsFirstBelow books p (i + 1) (Some c)
     kept i c other is less first = (
       first.0,
       (let b = first.1 in omega arith),
@@ -145,7 +152,8 @@ module _ (books : Books) (small : All (λ w. w.want.plane ≤ 3) books.waiting) 
             let d = first.1 in
             inl (omega arith)
 
-    with_known : (i : ℕ) (known : Option Candidate) (other : Candidate) → IsGivenBy books p i other → IsFirstBelow books p i known → IsFirstBelow books p (i + 1) (Some (candidate_with known other))
+    with_known : (i : ℕ) (known : Option Candidate) (other : Candidate) → IsGivenBy books p i other → IsFirstBelow books p i known →
+        IsFirstBelow books p (i + 1) (Some (candidate_with known other))
     with_known i None other is none = (
       given_at i other is,
       (let e = is.lun in omega arith),
@@ -158,7 +166,8 @@ module _ (books : Books) (small : All (λ w. w.want.plane ≤ 3) books.waiting) 
     ]
 
     -- one LUN more
-    pub first_more : (i : ℕ) (known other : Option Candidate) → IsFirstBelow books p i known → MatchOption other (given_move books p i ≡ None) (IsGivenBy books p i) → IsFirstBelow books p (i + 1) (first_of known other)
+    pub first_more : (i : ℕ) (known other : Option Candidate) → IsFirstBelow books p i known →
+        MatchOption other (given_move books p i ≡ None) (IsGivenBy books p i) → IsFirstBelow books p (i + 1) (first_of known other)
     first_more i known (Some other) first is = with_known i known other is first
     first_more i None None none e = λ lun h. elim (cases_eq lun i) [
       | inl q ↦ subst (λ z. given_move books p z ≡ None) (sym q) e

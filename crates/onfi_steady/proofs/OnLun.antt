@@ -2,17 +2,19 @@
 use Rattle.std.proofs.Common.{◌≡◌, ◌≢◌, ℕ, zero, suc, ◌+◌, ◌<◌, ◌≤◌, inl, inr, Bool, true, false, List, [], ◌∷◌, ◌++◌, length, map, take, drop, get_or, Option, Some, None, refl, sym, ap, ◌∙◌, subst, arith, append_assoc, length-append}
 use Rattle.std.specs.Prelude.{◌==◌, cond, not, nat_lt, if◌then◌else◌, IfSome, remove, slice_get, slice_set}
 use Rattle.std.specs.List.{AllByRecursion as All, filter}
-use Rattle.std.proofs.lemmas.Bool.{cases_Bool, cases_eq, eqb-true, ne_eqb}
+use Rattle.std.proofs.lemmas.Bool.{cases_Bool, cases_eq, eq-eqb, eqb-true, ne_eqb, false≢true}
 use Rattle.std.proofs.lemmas.List.{append-nil, drop_all, drop_more, length-take-le, take_all, take_more}
 use Rattle.std.proofs.lemmas.List.Elements.{filter-append}
 use Rattle.onfi_request.specs.declared.want.Want.{Want}
 use Rattle.onfi_group.specs.declared.rules.Rules.{Rules}
+use Rattle.onfi_group.specs.Group.{is_member}
+use Rattle.onfi_problem.specs.Moves.{without}
 use Rattle.onfi_group.proofs.Lists.{All-append, All-weaker}
 use Rattle.onfi_problem.proofs.Lists.{some_of_all}
 use Rattle.onfi_problem.proofs.Places.{get_set_same, get_set_other}
 use Rattle.onfi_steady.specs.declared.waiter.Waiter.{Waiter}
 use Rattle.onfi_steady.specs.declared.offer.Offer.{Offer}
-use Rattle.onfi_steady.specs.Waiting.{begins_with, greatest_number, is_on, left_waiting, passed_by}
+use Rattle.onfi_steady.specs.Waiting.{begins_with, greatest_number, is_on, left_waiting, passed_by, wants_of}
 use Rattle.onfi_steady.specs.Offer.{IsOffer, on_lun}
 use Rattle.onfi_steady.specs.Kept.{AreKept, IsNothing, settled, settled_by}
 
@@ -58,6 +60,28 @@ module _ (lun : ℕ) (members : List Want) where
         rw (b, p) (ap (λ z. cond (is_on other w) (w ∷ z) z) (on_left other d ws)))
   ]
 
+  -- what is left to do, of one more
+  one_left : (w : Waiter) (ws : List Waiter) (rest : List Want) (m b : Bool) → (m ≡ true → b ≡ true) → (b ≡ true → m ≡ true) → wants_of (map pass ws) ≡ rest →
+      wants_of (map pass (cond (not b) (w ∷ ws) ws)) ≡ cond (not m) (w.want ∷ rest) rest
+  one_left w ws rest true true h k e = e
+  one_left w ws rest false false h k e = rw (same_want w, e) refl
+  one_left w ws rest true false h k e = absurd (false≢true (h refl))
+  one_left w ws rest false true h k e = absurd (false≢true (k refl))
+
+  begins_member : (w : Waiter) → (is_member members w.want ≡ true → w.want.lun ≡ lun) → is_member members w.want ≡ true → begins_with lun members w ≡ true
+  begins_member w h k = rw (eq-eqb w.want.lun lun (h k)) k
+
+  member_begins : (w : Waiter) → begins_with lun members w ≡ true → is_member members w.want ≡ true
+  member_begins w b = elim (cases_Bool (is_on lun w)) [
+    | inl k ↦ (let q : is_member members w.want ≡ true = rw k at b in q)
+    | inr k ↦ (let q : false ≡ true = rw k at b in absurd (false≢true q))
+  ]
+
+  pub left_wants : (waiting : List Waiter) → All (λ w. is_member members w.want ≡ true → w.want.lun ≡ lun) waiting →
+      wants_of (left_waiting lun members waiting) ≡ without members (wants_of waiting)
+  left_wants [] h = refl
+  left_wants (w ∷ ws) h = one_left w (filter stays ws) (without members (wants_of ws)) (is_member members w.want) (begins_with lun members w) (begins_member w h.0) (member_begins w) (left_wants ws h.1)
+
   get_between : (front back : List Waiter) (w : Waiter) → slice_get (front ++ w ∷ back) (length front) ≡ Some w
   get_between [] back w = refl
   get_between (v ∷ front) back w = get_between front back w
@@ -70,7 +94,8 @@ module _ (lun : ℕ) (members : List Want) where
   remove_between [] back w = refl
   remove_between (u ∷ front) back w = ap (λ z. u ∷ z) (remove_between front back w)
 
-  settled_between : (front rest : List Waiter) (w : Waiter) → settled lun members (greatest_number 0 members) (length front) (front ++ w ∷ left_waiting lun members rest) ≡ front ++ left_waiting lun members (w ∷ rest)
+  settled_between : (front rest : List Waiter) (w : Waiter) →
+      settled lun members (greatest_number 0 members) (length front) (front ++ w ∷ left_waiting lun members rest) ≡ front ++ left_waiting lun members (w ∷ rest)
   settled_between front rest w =
       let back = left_waiting lun members rest in
       ap (settled_by lun members (greatest_number 0 members) (length front) (front ++ w ∷ back)) (get_between front back w)
@@ -79,7 +104,8 @@ module _ (lun : ℕ) (members : List Want) where
         | inr b ↦ rw b (set_between front back w (pass w))
       ]
 
-  pub settled_kept : (waiting : List Waiter) (at last : ℕ) (w : Waiter) → slice_get waiting at ≡ Some w → begins_with lun members w ≡ false → settled lun members last at waiting ≡ slice_set waiting at (passed_by lun last w)
+  pub settled_kept : (waiting : List Waiter) (at last : ℕ) (w : Waiter) → slice_get waiting at ≡ Some w → begins_with lun members w ≡ false →
+      settled lun members last at waiting ≡ slice_set waiting at (passed_by lun last w)
   settled_kept waiting at last w e b = ap (settled_by lun members last at waiting) e ∙ rw b refl
 
   -- one more is settled, from the last on
@@ -98,7 +124,8 @@ module _ (lun : ℕ) (members : List Want) where
   pub settle_none : (waiting : List Waiter) (n : ℕ) → length waiting ≤ n → waiting ≡ take n waiting ++ left_waiting lun members (drop n waiting)
   settle_none waiting n h = sym (rw (take_all n waiting h, drop_all n waiting h) (append-nil waiting))
 
-  pub settle_all : (waiting left : List Waiter) (n : ℕ) → n ≡ 0 → left ≡ take n waiting ++ left_waiting lun members (drop n waiting) → left ≡ left_waiting lun members waiting
+  pub settle_all : (waiting left : List Waiter) (n : ℕ) → n ≡ 0 → left ≡ take n waiting ++ left_waiting lun members (drop n waiting) →
+      left ≡ left_waiting lun members waiting
   settle_all waiting left n e h = subst (λ z. left ≡ take z waiting ++ left_waiting lun members (drop z waiting)) e h
 
   pub left_planes : (waiting : List Waiter) → All (λ w. w.want.plane ≤ 3) waiting → All (λ w. w.want.plane ≤ 3) (left_waiting lun members waiting)
@@ -120,7 +147,8 @@ module _ (rules : Rules) where
   none_kept offers h = record { few = omega arith; planes = tt; right = λ lun. some_of_all (IsOffer rules [] lun) offers lun (All-weaker IsNothing (IsOffer rules [] lun) (nothing_is lun) offers h) }
 
   -- the offer of the LUN is made anew
-  pub offers_with : (old new : List Waiter) (offers : List Offer) (lun : ℕ) (offer : Offer) → ((other : ℕ) → other ≢ lun → on_lun other new ≡ on_lun other old) → IsOffer rules new lun offer →
+  pub offers_with : (old new : List Waiter) (offers : List Offer) (lun : ℕ) (offer : Offer) →
+      ((other : ℕ) → other ≢ lun → on_lun other new ≡ on_lun other old) → IsOffer rules new lun offer →
       ((other : ℕ) → IfSome (slice_get offers other) (IsOffer rules old other)) → (other : ℕ) → IfSome (slice_get (slice_set offers lun offer) other) (IsOffer rules new other)
   offers_with old new offers lun offer same is known other = elim (cases_eq other lun) [
     | inl e ↦ subst (λ z. IfSome (slice_get (slice_set offers lun offer) z) (IsOffer rules new z)) (sym e) (own (slice_get offers lun) refl)
@@ -141,7 +169,8 @@ module _ (rules : Rules) where
       kept (Some x) e h = same_offer old new other x e h
 
   -- one request more waits for the LUN
-  pub kept_accepted : (waiting : List Waiter) (offers : List Offer) (want : Want) (offer : Offer) → AreKept rules waiting offers → length waiting < 64 → want.plane ≤ 3 →
+  pub kept_accepted : (waiting : List Waiter) (offers : List Offer) (want : Want) (offer : Offer) → AreKept rules waiting offers →
+      length waiting < 64 → want.plane ≤ 3 →
       IsOffer rules (waiting ++ record { want = want; passed = 0 } ∷ []) want.lun offer → AreKept rules (waiting ++ record { want = want; passed = 0 } ∷ []) (slice_set offers want.lun offer)
   kept_accepted waiting offers want offer kept room plane is = record {
     few = let e = length-append waiting (record { want = want; passed = 0 } ∷ []) in omega arith;
@@ -150,7 +179,8 @@ module _ (rules : Rules) where
   }
 
   -- a group began on the LUN
-  pub kept_begun : (waiting left : List Waiter) (offers : List Offer) (lun : ℕ) (members : List Want) (offer : Offer) → AreKept rules waiting offers → left ≡ left_waiting lun members waiting → length left ≤ 64 →
+  pub kept_begun : (waiting left : List Waiter) (offers : List Offer) (lun : ℕ) (members : List Want) (offer : Offer) → AreKept rules waiting offers →
+      left ≡ left_waiting lun members waiting → length left ≤ 64 →
       IsOffer rules left lun offer → AreKept rules left (slice_set offers lun offer)
   kept_begun waiting left offers lun members offer kept e few is = record {
     few = few;

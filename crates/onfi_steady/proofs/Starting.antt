@@ -33,7 +33,8 @@ not_found test x xs h = elim (cases_Bool (test x)) [
 ]
 
 -- of two options the first that is there
-or_else_in : (P : Waiter → Type 0) (a b : Option Waiter) → ((w : Waiter) → a ≡ Some w → P w) → ((w : Waiter) → b ≡ Some w → P w) → (w : Waiter) → or_else a b ≡ Some w → P w
+or_else_in : (P : Waiter → Type 0) (a b : Option Waiter) → ((w : Waiter) → a ≡ Some w → P w) → ((w : Waiter) → b ≡ Some w → P w) → (w : Waiter) →
+    or_else a b ≡ Some w → P w
 or_else_in P None b f g w h = g w h
 or_else_in P (Some v) b f g w h = f w h
 
@@ -74,7 +75,8 @@ same_kind Erase Read h = absurd (false≢true h)
 same_kind Erase Program h = absurd (false≢true h)
 
 -- members that share with a request what members share are a group
-all_go : (rules : Rules) (head : Want) (g : List Want) → 1 ≤ length g → length g ≤ 4 → All (GoesWith rules head) g → Pairs (λ a b. a.plane < b.plane) g → (1 < length g → IsTrue (may_group rules head.kind)) → IsGroup rules g
+all_go : (rules : Rules) (head : Want) (g : List Want) → 1 ≤ length g → length g ≤ 4 → All (GoesWith rules head) g →
+    Pairs (λ a b. a.plane < b.plane) g → (1 < length g → IsTrue (may_group rules head.kind)) → IsGroup rules g
 all_go rules head [] some few go rises rule = absurd (omega arith)
 all_go rules head (y ∷ ys) some few go rises rule =
     let each = λ (x : Want) (h : Has (y ∷ ys) x). All-has (GoesWith rules head) (y ∷ ys) x go h in
@@ -92,7 +94,8 @@ all_go rules head (y ∷ ys) some few go rises rule =
 
 -- what is made of these planes
 module _ (on : ℕ → Option Want) where
-  mapped_by : (p : ℕ) (ps : List ℕ) (m : Want) (o : Option Want) → on p ≡ o → (Has (filter_map on ps) m → (q : ℕ) × Has ps q × (on q ≡ Some m)) → Has (cons_option o (filter_map on ps)) m → (q : ℕ) × Has (p ∷ ps) q × (on q ≡ Some m)
+  mapped_by : (p : ℕ) (ps : List ℕ) (m : Want) (o : Option Want) → on p ≡ o → (Has (filter_map on ps) m → (q : ℕ) × Has ps q × (on q ≡ Some m)) →
+      Has (cons_option o (filter_map on ps)) m → (q : ℕ) × Has (p ∷ ps) q × (on q ≡ Some m)
   mapped_by p ps m None e later h = let f = later h in (f.0, inr f.1, f.2)
   mapped_by p ps m (Some x) e later (inl q) = (p, inl refl, e ∙ ap Some q)
   mapped_by p ps m (Some x) e later (inr i) = let f = later i in (f.0, inr f.1, f.2)
@@ -127,7 +130,8 @@ module _ (on : ℕ → Option Want) where
         let c : p < f.0 = All-has (λ q. p < q) ps f.0 h f.1 in
         omega arith
 
-    rises_by : (p : ℕ) (ps : List ℕ) → All (λ q. p < q) ps → Pairs (λ a b. a.plane < b.plane) (filter_map on ps) → (o : Option Want) → on p ≡ o → Pairs (λ a b. a.plane < b.plane) (cons_option o (filter_map on ps))
+    rises_by : (p : ℕ) (ps : List ℕ) → All (λ q. p < q) ps → Pairs (λ a b. a.plane < b.plane) (filter_map on ps) → (o : Option Want) → on p ≡ o →
+        Pairs (λ a b. a.plane < b.plane) (cons_option o (filter_map on ps))
     rises_by p ps h rest None e = rest
     rises_by p ps h rest (Some m) e = (All-each (λ x. m.plane < x.plane) (filter_map on ps) (later p ps h m e), rest)
 
@@ -269,7 +273,8 @@ module _ (rules : Rules) (waiting : List Waiter) (lun : ℕ) (small : All (λ w.
     pub startable : IsStartable rules (wants_of waiting) g
     pub on : lun_of g ≡ lun
 
-  starts_by : (o : Option Waiter) → ((w : Waiter) → o ≡ Some w → Has ready w) → (m : Want) (ms : List Want) → group_with rules ready o ≡ m ∷ ms → Starts (m ∷ ms)
+  starts_by : (o : Option Waiter) → ((w : Waiter) → o ≡ Some w → Has ready w) → (m : Want) (ms : List Want) → group_with rules ready o ≡ m ∷ ms →
+      Starts (m ∷ ms)
   starts_by None f m ms h = absurd cc
   starts_by (Some w) f m ms h = subst Starts h (record { startable = may_start w (f w refl); on = group_lun w (f w refl) })
 

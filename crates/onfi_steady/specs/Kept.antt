@@ -91,7 +91,8 @@ abbrev pub IsFirstBelow : Books → Problem → ℕ → Option Candidate → Typ
 IsFirstBelow books p below None = (lun : ℕ) → lun < below → given_move books p lun ≡ None
 IsFirstBelow books p below (Some c) =
     IsGivenBy books p c.lun c × (c.lun < below)
-    × ((lun : ℕ) (n : Move) → lun < below → given_move books p lun ≡ Some n → (n ≡ move_by c.lun c.members.now) ⊎ GoesBefore (phase_numbers p) p (move_by c.lun c.members.now) n)
+    × ((lun : ℕ) (n : Move) → lun < below → given_move books p lun ≡ Some n
+      → (n ≡ move_by c.lun c.members.now) ⊎ GoesBefore (phase_numbers p) p (move_by c.lun c.members.now) n)
 
 abbrev pub candidate_with : Option Candidate → Candidate → Candidate
 candidate_with None other = other
@@ -110,11 +111,13 @@ held_group books lun other = []
 abbrev pub IsHeldAt : ℕ → LunState → ℕ → Books → Option NextPhase → Type 0
 IsHeldAt from state lun books None = held_group books lun (Some state) ≡ []
 IsHeldAt from state lun books (Some phase) =
-    (phase.members.items ≡ held_group books lun (Some state)) × (phase.members.items ≢ []) × (phase.lun ≡ lun) × (phase.start ≡ max from (free_from (Some state)))
+    (phase.members.items ≡ held_group books lun (Some state)) × (phase.members.items ≢ [])
+    × (phase.lun ≡ lun) × (phase.start ≡ max from (free_from (Some state)))
 
 abbrev pub NoneBelow : Books → List LunState → ℕ → Type 0
 NoneBelow books luns below = (lun : ℕ) → lun < below → held_group books lun (slice_get luns lun) ≡ []
 
 -- .. of the lowest LUN that has one
 abbrev pub IsHeldBy : ℕ → List LunState → Books → NextPhase → Type 0
-IsHeldBy from luns books phase = (lun : ℕ) × (state : LunState) × (slice_get luns lun ≡ Some state) × IsHeldAt from state lun books (Some phase) × NoneBelow books luns lun
+IsHeldBy from luns books phase =
+    (lun : ℕ) × (state : LunState) × (slice_get luns lun ≡ Some state) × IsHeldAt from state lun books (Some phase) × NoneBelow books luns lun

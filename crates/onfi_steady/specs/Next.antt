@@ -37,7 +37,8 @@ is_number (Some id) m = m.id == id
 
 -- an open group waits for its mates while it holds the newest accepted program and a LUN has work
 abbrev pub is_held : Books → Bool → List Waiter → Bool
-is_held books work ready = if is_open books.rules ready then (if work then list_any (is_number books.newest) (own_group books.rules ready) else false) else false
+is_held books work ready =
+    if is_open books.rules ready then (if work then list_any (is_number books.newest) (own_group books.rules ready) else false) else false
 
 -- an erase goes in place of what is held
 abbrev pub given_group : Books → Bool → List Waiter → List Want

@@ -78,7 +78,8 @@ is_on_last_plane rules m = m.plane == 2 ^ rules.plane_bits - 1
 -- mates may still come: these are programs, which may run as one, and none is on the last plane; what is due waits for none
 abbrev pub may_grow : Rules → Option Waiter → List Want → Bool
 may_grow rules None group = false
-may_grow rules (Some head) group = if is_due head then false else (if is_kind Program head then (if rules.write then not (list_any (is_on_last_plane rules) group) else false) else false)
+may_grow rules (Some head) group =
+    if is_due head then false else (if is_kind Program head then (if rules.write then not (list_any (is_on_last_plane rules) group) else false) else false)
 
 -- the group that a LUN would begin is open
 abbrev pub is_open : Rules → List Waiter → Bool

@@ -30,7 +30,11 @@ newest_with newest other id = newest
 
 -- one more waits behind the others; no group passed it over
 abbrev pub accepted : Books → Want → Books
-accepted books want = record { rules = books.rules; waiting = books.waiting ++ record { want = want; passed = 0 } ∷ []; newest = newest_with books.newest want.kind want.id }
+accepted books want = record {
+  rules = books.rules;
+  waiting = books.waiting ++ record { want = want; passed = 0 } ∷ [];
+  newest = newest_with books.newest want.kind want.id;
+}
 
 abbrev pub is_on : ℕ → Waiter → Bool
 is_on lun w = w.want.lun == lun

@@ -1,7 +1,9 @@
-ghost use Rattle.std.specs.Prelude.{◌≡◌, ◌<◌, ◌≤◌, ◌↔◌, [], None, length, IsErr, MatchResult};
+ghost use Rattle.std.specs.Prelude.{◌≡◌, ◌<◌, ◌≤◌, ◌↔◌, true, [], None, length, IsErr, MatchResult};
 ghost use Rattle.std.specs.List.{AllByRecursion as Each};
 ghost use Rattle.onfi_timing.specs.declared.kind.Kind.{Kind as AnyKind};
-ghost use Rattle.onfi_steady.specs.Waiting.{accepted, begun, newest_with};
+ghost use Rattle.onfi_group.specs.Group.{is_member};
+ghost use Rattle.onfi_problem.specs.Moves.{without};
+ghost use Rattle.onfi_steady.specs.Waiting.{accepted, begun, newest_with, wants_of};
 ghost use Rattle.onfi_steady.specs.Offer.{IsOffer};
 ghost use Rattle.onfi_steady.specs.Kept.{IsNothing};
 
@@ -79,7 +81,11 @@ impl Waiting {
     /// before one of them.
     pub fn begin(&mut self, lun: u8, members: &[Want])
         requires { lun < 8 }
-        ensures { self.new ≡ begun self.old lun members.now }
+        ensures begun { self.new ≡ begun self.old lun members.now }
+
+        // Where numbers of members are of that LUN alone, what is left to do is what a problem has left.
+        ensures left { Each (λ w. is_member members.now w.want ≡ true → w.want.lun ≡ lun) self.old.waiting →
+            wants_of self.new.waiting ≡ without members.now (wants_of self.old.waiting) }
     {
         leave(&mut self.waiting, lun, members);
         self.offers[lun as usize] = Offer::of(&self.rules, self.waiting.as_slice(), lun);
