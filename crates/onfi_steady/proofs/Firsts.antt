@@ -75,13 +75,28 @@ ready_more lun waiting i d h = ap (ready_on lun) (take_more waiting i d h) ∙ (
     by_test ws x true = firsts_push ws x
     by_test ws x false = ap firsts (append-nil ws)
 
-pub reads_more : (lun : ℕ) (waiting : List Waiter) (i : ℕ) (d : Waiter) → i < length waiting →
-    list_any (is_read_on lun) (take (i + 1) waiting) ≡ (list_any (is_read_on lun) (take i waiting) || is_read_on lun (get_or waiting i d))
-reads_more lun waiting i d h = ap (list_any (is_read_on lun)) (take_more waiting i d h) ∙ (list_any-append (is_read_on lun) (take i waiting) (get_or waiting i d ∷ []) ∙ ap (λ z. list_any (is_read_on lun) (take i waiting) || z) (no_more (is_read_on lun (get_or waiting i d))))
-  where
-    no_more : (b : Bool) → (b || false) ≡ b
-    no_more true = refl
-    no_more false = refl
+module _ (lun : ℕ) (waiting : List Waiter) (i : ℕ) (d : Waiter) (h : i < length waiting) where
+  abbrev before : Bool
+  before = list_any (is_read_on lun) (take i waiting)
+
+  reads_more : (b : Bool) → is_read_on lun (get_or waiting i d) ≡ b → list_any (is_read_on lun) (take (i + 1) waiting) ≡ (before || (b || false))
+  reads_more b e = ap (list_any (is_read_on lun)) (take_more waiting i d h) ∙ (list_any-append (is_read_on lun) (take i waiting) (get_or waiting i d ∷ []) ∙ ap (λ z. before || (z || false)) e)
+
+  -- one request more is a read of the LUN
+  pub reads_now : is_read_on lun (get_or waiting i d) ≡ true → list_any (is_read_on lun) (take (i + 1) waiting) ≡ true
+  reads_now e = reads_more true e ∙ all_true before
+    where
+      all_true : (b : Bool) → (b || true) ≡ true
+      all_true true = refl
+      all_true false = refl
+
+  -- .. or isn't
+  pub reads_still : is_read_on lun (get_or waiting i d) ≡ false → list_any (is_read_on lun) (take (i + 1) waiting) ≡ before
+  reads_still e = reads_more false e ∙ no_more before
+    where
+      no_more : (b : Bool) → (b || false) ≡ b
+      no_more true = refl
+      no_more false = refl
 
 pub any_on : (lun : ℕ) (waiting : List Waiter) → list_any (is_read_on lun) waiting ≡ list_any (is_kind Read) (on_lun lun waiting)
 any_on lun [] = refl

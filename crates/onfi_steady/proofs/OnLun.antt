@@ -140,7 +140,7 @@ module _ (rules : Rules) where
   same_offer old new lun offer e is = record { group = rw e is.group; opened = rw e is.opened; erase = rw e is.erase; reads = rw e is.reads }
 
   nothing_is : (lun : ℕ) (offer : Offer) → IsNothing offer → IsOffer rules [] lun offer
-  nothing_is lun offer is = record { group = is.group; opened = is.opened; erase = is.erase; reads = is.reads }
+  nothing_is lun offer is = record { group = is.group; opened = is.opened; erase = λ n. is.erase; reads = is.reads }
 
   -- where nothing waits
   pub none_kept : (offers : List Offer) → All IsNothing offers → AreKept rules [] offers

@@ -92,7 +92,7 @@ IsFirstBelow books p below None = (lun : ℕ) → lun < below → given_move boo
 IsFirstBelow books p below (Some c) =
     IsGivenBy books p c.lun c × (c.lun < below)
     × ((lun : ℕ) (n : Move) → lun < below → given_move books p lun ≡ Some n
-      → (n ≡ move_by c.lun c.members.now) ⊎ GoesBefore (phase_numbers p) p (move_by c.lun c.members.now) n)
+    → (n ≡ move_by c.lun c.members.now) ⊎ GoesBefore (phase_numbers p) p (move_by c.lun c.members.now) n)
 
 abbrev pub candidate_with : Option Candidate → Candidate → Candidate
 candidate_with None other = other

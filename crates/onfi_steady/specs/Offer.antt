@@ -89,5 +89,5 @@ is_open rules ready = may_grow rules (turned_to ready) (own_group rules ready)
 pub record IsOffer (rules : Rules) (waiting : List Waiter) (lun : ℕ) (offer : Offer) : Type 0 where
   pub group : offer.group.items ≡ own_group rules (ready_on lun waiting)
   pub opened : offer.is_open ≡ is_open rules (ready_on lun waiting)
-  pub erase : offer.erase.items ≡ erase_group rules (ready_on lun waiting)
+  pub erase : is_open rules (ready_on lun waiting) ≡ true → offer.erase.items ≡ erase_group rules (ready_on lun waiting)
   pub reads : offer.reads ≡ list_any (is_kind Read) (on_lun lun waiting)

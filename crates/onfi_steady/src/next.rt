@@ -42,10 +42,10 @@ impl NextPhase {
 /// A phase that a LUN gives, and how soon it goes.
 #[derive(Clone, Copy)]
 pub struct Candidate<'a> {
-    pub lun: u8,
     /// Those that begin; none where the LUN goes on.
     pub members: &'a [Want],
     pub turn: Turn,
+    pub lun: u8,
 }
 
 /// The phase that is next on a channel whose bus is free from `bus_free` on, where it is `now`. Times are ns of its clock.

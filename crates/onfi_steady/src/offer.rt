@@ -1,12 +1,12 @@
 //! The group that a LUN would begin, of what waits for it.
 
-ghost use Rattle.std.specs.Prelude.{◌≡◌, ◌≤◌, ◌<◌, ◌+◌, ◌++◌, [], length};
+ghost use Rattle.std.specs.Prelude.{◌≡◌, ◌≤◌, ◌<◌, ◌+◌, ◌++◌, [], true, length};
 ghost use Rattle.std.specs.List.{AllByRecursion as Each, find, list_any, cons_option};
 ghost use Rattle.std.specs.Option.{option_map};
 ghost use Rattle.onfi_timing.specs.declared.kind.Kind.{Kind as AnyKind};
 ghost use Rattle.onfi_group.specs.Group.{may_group};
 ghost use Rattle.onfi_steady.specs.Kept.{IsNothing};
-ghost use Rattle.onfi_steady.specs.Offer.{IsOffer, ready_on, turned_to, group_with, goes_with, is_mate, is_on_last_plane, is_same_page, is_same_row, is_due as is_due_waiter, is_kind as is_kind_of, may_grow, member_on};
+ghost use Rattle.onfi_steady.specs.Offer.{IsOffer, erase_group, ready_on, turned_to, group_with, goes_with, is_mate, is_on_last_plane, is_same_page, is_same_row, is_due as is_due_waiter, is_kind as is_kind_of, may_grow, member_on};
 
 use crate::own::kind_rank;
 use crate::ready::list_ready;
@@ -23,7 +23,7 @@ pub struct Offer {
     pub group: ArrayVec<Want, 4>,
     /// Whether more mates may come: these are programs, and the last plane has none.
     pub is_open: bool,
-    /// The oldest erase, with its mates.
+    /// Where it is open, the oldest erase, with its mates.
     pub erase: ArrayVec<Want, 4>,
     /// Whether a read waits.
     pub reads: bool,
@@ -52,17 +52,24 @@ impl Offer {
         let head = turned_to(ready.as_slice());
         let group = group_with(rules, ready.as_slice(), head);
         let is_open = may_grow(rules, head, group.as_slice());
-        let erase = group_with(
-            rules,
-            ready.as_slice(),
-            oldest_of(ready.as_slice(), Kind::Erase),
-        );
+        let erase = erase_group(rules, ready.as_slice(), is_open);
         Offer {
             group,
             is_open,
             erase,
             reads,
         }
+    }
+}
+
+// The group of the oldest erase, where it is asked for.
+fn erase_group(rules: &Rules, ready: &[Waiter], is_asked: bool) -> ArrayVec<Want, 4>
+    ensures { is_asked ≡ true → result.items ≡ erase_group rules.now ready.now }
+{
+    if is_asked {
+        group_with(rules, ready, oldest_of(ready, Kind::Erase))
+    } else {
+        ArrayVec::new()
     }
 }
 

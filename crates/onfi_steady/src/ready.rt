@@ -22,8 +22,9 @@ pub fn list_ready(ready: &mut ArrayVec<Waiter, 64>, waiting: &[Waiter], lun: u8)
 {
     let mut reads = false;
     for waiter in waiting {
-        let read = put(ready, lun, waiter);
-        reads |= read;
+        if put(ready, lun, waiter) {
+            reads = true;
+        }
     }
     reads
 }

@@ -17,16 +17,16 @@ use onfi_timing::Kind;
 /// How soon a phase goes, compared number by number.
 #[derive(Clone, Copy)]
 pub struct Turn {
-    /// Whether the bus is kept from it.
-    pub kept: bool,
     /// When it may start, in ns.
     pub start: u64,
-    /// Where it stands by what it does.
-    pub rank: u8,
-    /// By how many requests the group that it begins is smaller than the largest.
-    pub smaller: usize,
     /// The number of its group's oldest request.
     pub oldest: u64,
+    /// By how many requests the group that it begins is smaller than the largest.
+    pub smaller: usize,
+    /// Where it stands by what it does.
+    pub rank: u8,
+    /// Whether the bus is kept from it.
+    pub kept: bool,
 }
 
 impl Turn {

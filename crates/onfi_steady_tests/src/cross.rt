@@ -63,9 +63,9 @@ impl Numbers {
     // Up to 19 requests on five LUNs, one of which isn't there; some are passed over until they are due, or nearly.
     fn waiting(&mut self) -> Result<Waiting, Full> {
         let mut waiting = Waiting::new(rules());
-        let mut id = 0;
+        let mut id = 0u64;
         for _ in 0..self.below(20) {
-            id += 1 + self.below(3);
+            id = (1 + self.below(3)).saturating_add(id);
             let kind = self.kind();
             let (lun, block) = (self.below(5) as u8, self.below(6) as u16);
             let page = if kind == Kind::Erase {

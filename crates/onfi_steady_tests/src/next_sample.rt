@@ -5,7 +5,7 @@ ghost use Rattle.std.specs.Prelude.{◌≤◌, length};
 use onfi_group::Rules;
 use onfi_problem::LunState;
 use onfi_request::Want;
-use onfi_steady::{Full, Waiting, next_phase};
+use onfi_steady::{Full, Waiter, Waiting, next_phase};
 use onfi_timing::{Kind, Timing};
 
 /// Two planes, and groups of all kinds.
@@ -76,4 +76,12 @@ fn numbers(members: &[Want]) -> [u64; 4] {
         *id = member.id;
     }
     ids
+}
+
+/// What waits at that place, counted from 0; a request of number 0 where nothing does.
+pub(crate) fn waiter_at(waiting: &Waiting, at: usize) -> Waiter {
+    match waiting.as_slice().get(at) {
+        Some(waiter) => *waiter,
+        None => Waiter::default(),
+    }
 }

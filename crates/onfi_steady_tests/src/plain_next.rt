@@ -235,9 +235,11 @@ fn waits_first(plain: &Plain, waiter: &Waiter) -> bool {
 }
 
 fn any_work(plain: &Plain) -> bool {
-    for (lun, state) in plain.luns.iter().enumerate() {
-        if has_work(plain, lun as u8, state) {
-            return true;
+    for lun in 0..8u8 {
+        if let Some(state) = plain.luns.get(lun as usize) {
+            if has_work(plain, lun, state) {
+                return true;
+            }
         }
     }
     false

@@ -1,6 +1,6 @@
 //! The phase that is next on a channel whose requests are not planned, a few requests at a time.
 
-use crate::next_sample::{accept, begin, next, rules};
+use crate::next_sample::{accept, begin, next, rules, waiter_at};
 use crate::sample::{free, running, running_pair, timing};
 use onfi_steady::Waiting;
 use onfi_timing::Kind;
@@ -278,10 +278,11 @@ fn no_room(rt: HostRuntime) -> Result<(), Fail> {
     }
     assert!(rt; accept(&mut waiting, 64, Kind::Read, 0, 64).is_err());
     assert_eq!(rt; waiting.as_slice().len(), 64);
-    let gone = waiting.as_slice()[0].want;
+    let gone = waiter_at(&waiting, 0).want;
     waiting.begin(0, &[gone]);
     assert!(rt; accept(&mut waiting, 65, Kind::Read, 0, 65).is_ok());
-    assert_eq!(rt; waiting.as_slice()[63].want.id, 65);
-    assert_eq!(rt; waiting.as_slice()[7].passed, 0);
+    assert_eq!(rt; waiter_at(&waiting, 63).want.id, 65);
+    assert_eq!(rt; waiter_at(&waiting, 0).want.id, 1);
+    assert_eq!(rt; waiter_at(&waiting, 0).passed, 0);
     Ok(())
 }
