@@ -1,6 +1,6 @@
 -- What waits for a LUN stays, whatever comes or begins on another one.
 use Rattle.std.proofs.Common.{◌≡◌, ◌≢◌, ℕ, zero, suc, ◌+◌, ◌<◌, ◌≤◌, inl, inr, Bool, true, false, List, [], ◌∷◌, ◌++◌, length, map, take, drop, get_or, Option, Some, None, refl, sym, ap, ◌∙◌, subst, arith, append_assoc, length-append}
-use Rattle.std.specs.Prelude.{◌==◌, cond, not, nat_lt, if◌then◌else◌, IfSome, remove, slice_get, slice_set}
+use Rattle.std.specs.Prelude.{◌==◌, cond, not, nat_lt, IfSome, remove, slice_get, slice_set}
 use Rattle.std.specs.List.{AllByRecursion as All, filter}
 use Rattle.std.proofs.lemmas.Bool.{cases_Bool, cases_eq, eq-eqb, eqb-true, ne_eqb, false≢true}
 use Rattle.std.proofs.lemmas.List.{append-nil, drop_all, drop_more, length-take-le, take_all, take_more}

@@ -1,6 +1,6 @@
 //! What LUNs do to the bus: which have work, and which keep it.
 
-ghost use Rattle.std.specs.Prelude.{◌≡◌, ℕ, ◌+◌, ◌<◌, ◌≤◌, nat_lt, List, length, Some};
+ghost use Rattle.std.specs.Prelude.{◌≡◌, ◌<◌, ◌≤◌, List, length, Some};
 ghost use Rattle.onfi_problem.specs.declared.lun_state.LunState.{LunState as AnyState};
 ghost use Rattle.onfi_problem.specs.declared.lun_state.LunState.TheVariants.{Running};
 ghost use Rattle.onfi_problem.specs.Moves.{free_from};

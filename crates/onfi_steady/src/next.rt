@@ -1,8 +1,7 @@
 //! The phase that is next on a channel whose requests are not planned.
 
-ghost use Rattle.std.specs.Prelude.{◌≡◌, ◌≢◌, ◌<◌, ◌≤◌, ℕ, [], List, length, max, None, Option, Some, MatchOption, IfSome, slice_get};
+ghost use Rattle.std.specs.Prelude.{◌≡◌, ◌<◌, ◌≤◌, [], List, length, max, None, Option, Some, MatchOption, slice_get};
 ghost use Rattle.onfi_problem.specs.declared.lun_state.LunState.{LunState as AnyState};
-ghost use Rattle.onfi_group.specs.Group.{lun_of};
 ghost use Rattle.std.specs.List.{AllByRecursion as Each, list_any};
 ghost use Rattle.onfi_steady.specs.Waiting.{channel};
 ghost use Rattle.onfi_steady.specs.Offer.{ready_on};

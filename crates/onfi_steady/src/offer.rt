@@ -1,12 +1,11 @@
 //! The group that a LUN would begin, of what waits for it.
 
 ghost use Rattle.std.specs.Prelude.{◌≡◌, ◌≤◌, ◌<◌, ◌+◌, ◌++◌, [], true, length};
-ghost use Rattle.std.specs.List.{AllByRecursion as Each, find, list_any, cons_option};
-ghost use Rattle.std.specs.Option.{option_map};
+ghost use Rattle.std.specs.List.{find, list_any, cons_option};
 ghost use Rattle.onfi_timing.specs.declared.kind.Kind.{Kind as AnyKind};
 ghost use Rattle.onfi_group.specs.Group.{may_group};
 ghost use Rattle.onfi_steady.specs.Kept.{IsNothing};
-ghost use Rattle.onfi_steady.specs.Offer.{IsOffer, erase_group, ready_on, turned_to, group_with, goes_with, is_mate, is_on_last_plane, is_same_page, is_same_row, is_due as is_due_waiter, is_kind as is_kind_of, may_grow, member_on};
+ghost use Rattle.onfi_steady.specs.Offer.{IsOffer, erase_group, turned_to, group_with, goes_with, is_mate, is_on_last_plane, is_same_page, is_same_row, is_due as is_due_waiter, is_kind as is_kind_of, may_grow, member_on};
 
 use crate::own::kind_rank;
 use crate::ready::list_ready;

@@ -75,7 +75,7 @@ impl Numbers {
             };
             accept_page(&mut waiting, id, kind, lun, block, page)?;
         }
-        let groups = [0, 0, 1, 127, 128, 511, 512, 700];
+        let groups = [0, 0, 0, 1, 127, 128, 511, 512];
         for lun in 0..4u8 {
             let number = self.below(60);
             begin(&mut waiting, lun, number, groups[self.below(8) as usize]);
@@ -89,7 +89,7 @@ fn random_channels(rt: HostRuntime) -> Result<(), Fail> {
     let alloc = rt.alloc();
     let timing = timing(5)?;
     let mut numbers = Numbers { last: 1 };
-    for _ in 0..300u32 {
+    for _ in 0..150u32 {
         let waiting = numbers.waiting()?;
         let luns = [
             numbers.state(alloc),
