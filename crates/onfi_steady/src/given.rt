@@ -33,7 +33,7 @@ impl Given {
             step,
             rank: phase_rank(problem, step),
             smaller: 4 - started_wants(problem, step),
-            oldest: oldest(group_of(problem, step)),
+            oldest: oldest(group_of(problem, step).members()),
         }
     }
 }

@@ -17,16 +17,16 @@ use onfi_timing::Kind;
 /// How soon a phase goes, compared number by number.
 #[derive(Clone, Copy)]
 pub struct Turn {
-    /// Whether the bus is kept from it.
-    pub kept: bool,
     /// When it may start, in ns.
     pub start: u64,
-    /// Where it stands by what it does.
-    pub rank: u8,
-    /// By how many requests the group that it begins is smaller than the largest.
-    pub smaller: usize,
     /// The number of its group's oldest request.
     pub oldest: u64,
+    /// By how many requests the group that it begins is smaller than the largest.
+    pub smaller: usize,
+    /// Where it stands by what it does.
+    pub rank: u8,
+    /// Whether the bus is kept from it.
+    pub kept: bool,
 }
 
 impl Turn {
@@ -147,8 +147,8 @@ fn running_rank(problem: &Problem, lun: u8) -> u8
     }
 }
 
-// .. what begins
-fn start_rank(kind: Kind) -> u8
+/// .. what begins
+pub fn start_rank(kind: Kind) -> u8
     ensures { result ≡ start_rank kind }
 {
     match kind {
@@ -158,8 +158,8 @@ fn start_rank(kind: Kind) -> u8
     }
 }
 
-// .. a data output or a status
-fn post_rank(kind: Kind) -> u8
+/// .. a data output or a status
+pub fn post_rank(kind: Kind) -> u8
     ensures { result ≡ post_rank kind }
 {
     match kind {

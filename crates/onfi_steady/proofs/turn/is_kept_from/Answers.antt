@@ -1,4 +1,4 @@
-use Rattle.std.proofs.Common.{◌≤◌, ◌^◌, arith}
+use Rattle.std.proofs.Common.{arith}
 use Rattle.onfi_problem.specs.Position.{move_of}
 use Rattle.onfi_problem.proofs.PhaseEnds.{ends_small}
 use Rattle.onfi_steady.proofs.KeptBus.{kept_from_none}
