@@ -1,8 +1,5 @@
 pub mod Lists
 pub mod Halves
-pub mod Lags
-pub mod Mapped
-pub mod Shifted
 pub mod Startable
 pub mod Members
 pub mod Made
@@ -24,7 +21,6 @@ pub mod Window
 pub mod Next
 pub mod Few
 pub mod Lending
-pub mod Dues
 pub mod Becoming
 pub mod Promise
 pub mod Channels

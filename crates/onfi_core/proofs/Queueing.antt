@@ -20,7 +20,7 @@ use Rattle.onfi_core.specs.declared.setup.Setup.{Setup}
 use Rattle.onfi_core.specs.Kept.{IsReached, SerialsFrom, first, first_half}
 use Rattle.onfi_core.specs.Queues.{AreQueues, ChannelView, IsEmptyQueue, IsFresh, IsHostQueue, state_in}
 use Rattle.onfi_request.specs.declared.fault.Fault.{Fault}
-use Rattle.onfi_core.specs.declared.due.Due.{Due}
+use Rattle.onfi_flight.specs.declared.due.Due.{Due}
 use Rattle.onfi_core.specs.Dues.{IsDue}
 use Rattle.onfi_core.specs.Reaching.{Reaches}
 use Rattle.onfi_core.proofs.Hosted.{from_other, from_own, to_other, to_own}

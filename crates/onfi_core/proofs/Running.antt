@@ -9,7 +9,7 @@ use Rattle.onfi_chip.specs.declared.fault.PostFault.TheVariants as post_fault
 use Rattle.onfi_chip.specs.Chip.{Chip}
 use Rattle.onfi_core.specs.declared.drive.DriveFault.{DriveFault}
 use Rattle.onfi_core.specs.declared.drive.DriveFault.TheVariants as drive
-use Rattle.onfi_core.specs.declared.due.Due.{Due}
+use Rattle.onfi_flight.specs.declared.due.Due.{Due}
 use Rattle.onfi_core.specs.declared.event.Event.TheVariants as event
 use Rattle.onfi_core.specs.declared.half.PlanRefusal.{PlanRefusal}
 use Rattle.onfi_core.specs.declared.half.PlanRefusal.TheVariants as refused
@@ -19,14 +19,14 @@ use Rattle.onfi_core.specs.declared.outcome.Outcome.TheVariants as outcome
 use Rattle.onfi_core.specs.declared.phase_result.PhaseResult.{PhaseResult}
 use Rattle.onfi_core.specs.declared.setup.Setup.{Setup}
 use Rattle.onfi_core.specs.Drive.{MayRun, HasRun, AfterDrive, IsStatus, cause_of}
-use Rattle.onfi_core.specs.Dues.{IsDue, after_due, member_of, replies_of}
+use Rattle.onfi_flight.specs.Flight.{left_behind, member_of, move_of}
+use Rattle.onfi_core.specs.Dues.{IsDue, after_due, replies_of}
 use Rattle.onfi_core.specs.Kept.{IsReached}
 use Rattle.onfi_core.specs.Reaching.{PlannedStep}
 use Rattle.onfi_core.specs.State.{HalfState, ChannelState, Planning, item_at}
 use Rattle.onfi_core.specs.Steps.{Step, Plans, Runs, RunsOnChip, IsCauseOf, IsToldAs, Taken, bus_refusal, plan_refusal, planned_by, half_after_phase, stopped_by}
 use Rattle.onfi_core.specs.Refusals.{planned_outcome, refusal_outcome}
 use Rattle.onfi_core.specs.View.{HalfView, PlanRefused}
-use Rattle.onfi_core.proofs.Done.{after_due_is}
 use Rattle.onfi_core.proofs.Driving.{asks_status, may_run, ran_on_chip}
 use Rattle.onfi_core.proofs.Promised.{refused_is}
 use Rattle.onfi_core.proofs.Reach.{none_first, not_stopped}
@@ -99,23 +99,23 @@ module _ (s : Setup) (c : ChannelState) (reached : IsReached s c) (due : Due) (i
   cause_is drive.NotReady stop e status =
       let q : cause.NotReady due.lun ≡ stop = cc in
       let asks = asks_status s c.half c.chip reached.half.sound (reached.chip (going_on c.half open')) due is member.0 member.1 item member.2 (status refl) in
-      subst (IsCauseOf c.half) q (is.move, due.start, is.left, is.next, sym is.lun_is, asks)
+      subst (IsCauseOf c.half) q (move_of due, due.start, left_behind c.half.left due, is.next reached.half.sound.legal, is.lun, asks)
   cause_is drive.Memory stop e status = cc
 
   pub ran_step : (channel : ℕ) (chip' : Chip) (given : PhaseResult) (h : HalfState) → HasRun c.chip s.geometry due item given chip' → h ≡ after_due c.half due (replies_of c.half.accepted chip'.faults due given) → Step s c (event.Bus channel) (outcome.Phase due.start) (record c { half = h; chip = chip' })
   ran_step channel chip' given h has_run is_after =
       let on = ran_on_chip s c.half c.chip reached.half.sound (reached.chip (going_on c.half open')) due is member.0 member.1 item member.2 chip' given has_run in
       let faults = run_faults c.half.accepted due.group due.phase due.start c.chip chip' _ on in
-      let e : h ≡ half_after_phase c.half is.move due.start is.left (replies_of c.half.accepted c.chip.faults due given) =
-      is_after ∙ ap (λ fs. after_due c.half due (replies_of c.half.accepted fs due given)) faults ∙ after_due_is c.half due is (replies_of c.half.accepted c.chip.faults due given) in
+      let e : h ≡ after_due c.half due (replies_of c.half.accepted c.chip.faults due given) =
+      is_after ∙ ap (λ fs. after_due c.half due (replies_of c.half.accepted fs due given)) faults in
       let c' : ChannelState = record c { half = h; chip = chip' } in
       let runs : Runs c c' due.start = record {
-        move = is.move;
-        left = is.left;
-        next = is.next;
+        move = move_of due;
+        left = left_behind c.half.left due;
+        next = is.next reached.half.sound.legal;
         group = due.group;
         phase = due.phase;
-        is = is.is;
+        is = is.phase;
         chip = chip';
         replies = replies_of c.half.accepted c.chip.faults due given;
         on_chip = on;

@@ -185,10 +185,10 @@ fields_opened s slots room kept lent h empty reserved has none unlent is =
     })
 
 -- a plan takes the old one's place
-pub fields_planned : (s : Setup) (slots : Slab Slot) (n room : ℕ) (kept : List Reply) (at : Option Lent) (h : HalfState) (lent : Option Reply) (plan : Planning) (taken : Taken) (wants aside : List Want) (planned : ℕ) (left : Schedule)
-    → AreFields s slots n room kept at h lent → Plans s h taken plan → wants ≡ taken.wants → aside ≡ taken.aside → planned ≡ taken.planned → left ≡ plan.schedule
-    → AreFields s slots n room kept at (record h { planned = planned; aside = aside; now = record h.now { wants = wants }; left = left; outdated = false; last = Some plan }) lent
-fields_planned s slots n room kept at h lent plan taken wants aside planned left f plans ew ea ep el =
+pub fields_planned : (s : Setup) (slots : Slab Slot) (n room : ℕ) (kept : List Reply) (at : Option Lent) (h : HalfState) (lent : Option Reply) (plan : Planning) (taken : Taken) (flight' : Flight) (aside : List Want) (planned : ℕ)
+    → AreFields s slots n room kept at h lent → Plans s h taken plan → flight' ≡ record { now = problem_with h taken.wants; left = plan.schedule } → aside ≡ taken.aside → planned ≡ taken.planned
+    → AreFields s slots n room kept at (record (with_flight h flight') { planned = planned; aside = aside; outdated = false; last = Some plan }) lent
+fields_planned s slots n room kept at h lent plan taken flight' aside planned f plans ef ea ep =
     let built : (let z : HalfState = record h { planned = taken.planned; aside = taken.aside; now = problem_with h taken.wants; left = plan.schedule; outdated = false; last = Some plan } in z) ≡ planned_by h taken plan = ap (λ (p : Problem). let z : HalfState = record h { planned = taken.planned; aside = taken.aside; now = p; left = plan.schedule; outdated = false; last = Some plan } in z) (sym plans.problem) in
     let base = fields_but s slots n room room kept kept at at h (planned_by h taken plan) lent lent f refl refl refl f.lending (sound_planned s h f.sound taken plan plans) in
-    rw (ew, ea, ep, el) (subst (λ z. AreFields s slots n room kept at z lent) (sym built) base)
+    rw (ef, ea, ep) (subst (λ z. AreFields s slots n room kept at z lent) (sym built) base)

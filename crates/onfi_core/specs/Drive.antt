@@ -12,7 +12,7 @@ use Rattle.onfi_chip.specs.declared.fault.PostFault.TheVariants as post
 use Rattle.onfi_chip.specs.declared.post.Post.{Post}
 use Rattle.onfi_chip.specs.Calls.{IsNextCommand, IsNextPost, command_of, HasDone, IsLost}
 use Rattle.onfi_chip.specs.Chip.{Chip, posted}
-use Rattle.onfi_core.specs.declared.due.Due.{Due}
+use Rattle.onfi_flight.specs.declared.due.Due.{Due}
 use Rattle.onfi_core.specs.declared.drive.DriveFault.{DriveFault}
 use Rattle.onfi_core.specs.declared.drive.DriveFault.TheVariants.{Bus, NotReady, Memory}
 use Rattle.onfi_core.specs.declared.outcome.Cause.{Cause}

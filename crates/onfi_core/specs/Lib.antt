@@ -1,7 +1,6 @@
 pub mod Ranges
 pub mod State
 pub mod Choice
-pub mod Times
 pub mod Steps
 pub mod Kept
 pub mod Core

@@ -14,7 +14,6 @@ ghost use Rattle.onfi_core.specs.Queues.{IsFresh, opened_with, state_in};
 ghost use Rattle.onfi_core.specs.View.{plainly_with, planning_with};
 
 use crate::drive::{DriveFault, run_phase};
-use crate::due::Due;
 use crate::event::Event;
 use crate::half::passing::{ReadyRefusal, WaitRefusal};
 use crate::half::{AcceptFault, DueRefusal, Half, PlanRefusal};
@@ -24,6 +23,7 @@ use crate::outcome::{Cause, Outcome};
 use crate::setup::Setup;
 use onfi_addr::Geometry;
 use onfi_chip::Chip;
+use onfi_flight::Due;
 use onfi_plan::{Plan, Planner};
 use onfi_planner::Planned;
 use onfi_problem::Problem;
@@ -175,7 +175,7 @@ impl<C: Chip> Channel<C> {
         ensures step { (channel : ℕ) → Step self.old.0.setup (state_in C.state self.old) (event.Bus channel) result (state_in C.state self.new) }
         ensures setup { self.new.0.setup ≡ self.old.0.setup }
     {
-        match self.half.due(alloc) {
+        match self.half.due() {
             Ok(due) => self.run(alloc, due),
             Err(DueRefusal::Stopped(cause)) => Outcome::Stopped(cause),
             Err(DueRefusal::NoPlan) => Outcome::NoPlan,
@@ -199,7 +199,7 @@ impl<C: Chip> Channel<C> {
             self.half.member(&due),
         ) {
             Ok(ran) => {
-                self.half.done(due, ran, &self.chip);
+                self.half.done(&due, ran, &self.chip);
                 Outcome::Phase(start)
             }
             Err(fault) => match cause_of(fault, due.lun) {

@@ -4,10 +4,10 @@ ghost use Rattle.std.specs.Prelude.{◌≡◌, ◌≢◌, IfOk, IfErr};
 ghost use Rattle.onfi_chip.specs.Calls.{HasDone, IsNextCommand, command_of};
 ghost use Rattle.onfi_core.specs.Drive.{MayRun, HasRun, AfterDrive, IsStatus, closer_of, fault_of_post};
 
-use crate::due::Due;
 use crate::phase_result::PhaseResult;
 use onfi_addr::Geometry;
 use onfi_chip::{Chip, ChipFault, Closer, Fetch, PostFault, read_post};
+use onfi_flight::Due;
 use onfi_request::Item;
 use std::alloc::Global;
 
@@ -76,8 +76,8 @@ fn command<C: Chip>(
     }
 }
 
-// Why a post gave no answer, as why its phase wasn't run.
-fn fault_of_post(fault: PostFault) -> DriveFault
+/// Why a post gave no answer, as why its phase wasn't run.
+pub fn fault_of_post(fault: PostFault) -> DriveFault
     ensures { result ≡ fault_of_post fault }
 {
     match fault {

@@ -12,15 +12,14 @@ use Rattle.onfi_problem.specs.declared.lun_state.LunState.TheVariants.{Free, Run
 use Rattle.onfi_problem.specs.Moves.{Move, Next, Start, IsMove, move_lun}
 use Rattle.onfi_problem.specs.Problem.{Problem, IsProblem}
 use Rattle.onfi_problem.proofs.Perm.{All-has}
-use Rattle.onfi_schedule.proofs.Following.{first_move_law}
 use Rattle.onfi_chip.specs.Chip.{Chip, taken}
-use Rattle.onfi_core.specs.declared.due.Due.{Due}
+use Rattle.onfi_flight.specs.declared.due.Due.{Due}
 use Rattle.onfi_core.specs.declared.setup.Setup.{Setup}
 use Rattle.onfi_core.specs.Drive.{MayRun}
-use Rattle.onfi_core.specs.Dues.{IsDue, member_of}
+use Rattle.onfi_flight.specs.Flight.{IsPhase, member_of, move_of}
+use Rattle.onfi_core.specs.Dues.{IsDue}
 use Rattle.onfi_core.specs.Kept.{IsSound, IsTaken, ChipAgrees, LunAgrees}
 use Rattle.onfi_core.specs.State.{HalfState, device_for, item_at, request_of}
-use Rattle.onfi_core.specs.Steps.{IsPhase}
 use Rattle.onfi_core.proofs.Driving.{fits_is, may_run, ready_for}
 use Rattle.onfi_core.proofs.Lists.{get_has}
 use Rattle.onfi_core.proofs.Members.{place_lun}
@@ -50,21 +49,19 @@ taken_before s h chip sound agrees (Start members) (since, at, st) g n (same, no
 -- whoever holds a half and a chip that agree may run what is due
 pub may_run_due : (s : Setup) (target : Target) (h : HalfState) (chip : Chip) → s.geometry ≡ target.geometry → s.timing ≡ target.timing → IsSound s h
     → ChipAgrees s h chip → (due : Due) → IsDue h due → (m : Want) → member_of due.group due.phase ≡ Some m → (item : Item) → item ≡ item_at h.accepted m.id
-    → due.start < 2 ^ 63
     → MayRunDue target chip due item
-may_run_due s target h chip geometry timing sound agrees due is m at item item_is time =
-    let first = first_move_law h.now h.left is.move due.start is.left sound.problem sound.legal is.next in
+may_run_due s target h chip geometry timing sound agrees due is m at item item_is =
     let ready = ready_for s h chip due sound agrees is in
     let has : Has due.group m = get_has due.group (if nat_lt due.phase (length due.group) then due.phase else due.phase - length due.group) m at in
     let there : IsTaken s h.planned h.accepted m = All-has (IsTaken s h.planned h.accepted) due.group m ready.members has in
-    let here : lun_of due.group ≡ due.lun = group_lun h.now sound.problem is.move due.group due.phase is.is ∙ sym is.lun_is in
+    let here : lun_of due.group ≡ due.lun = group_lun h.now sound.problem (move_of due) due.group due.phase is.phase ∙ is.lun in
     record {
       of = record { geometry = agrees.geometry ∙ geometry; timing = agrees.timing ∙ timing };
       may_run = subst (λ (x : Geometry). MayRun chip x due item) geometry (may_run s h chip sound agrees due is m at item item_is);
       fits = subst (λ (x : Geometry). Fits x item.request) geometry (subst (λ (x : Item). Fits s.geometry x.request) (sym item_is) (fits_is s h sound m there));
       lun = ap (λ (x : Item). x.request.place.lun) item_is ∙ place_lun s h m there ∙ All-has (λ (v : Want). v.lun ≡ lun_of due.group) due.group m
           ready.group.lun has ∙ here;
-      before = λ lt. ap (λ l. length (taken (slice_get chip.luns l))) is.lun_is ∙ taken_before s h chip sound agrees is.move first.is_move due.group due.phase
-          is.is lt;
-      time = time;
+      before = λ lt. ap (λ l. length (taken (slice_get chip.luns l))) (sym is.lun) ∙ taken_before s h chip sound agrees (move_of due) is.is_move due.group due.phase
+          is.phase lt;
+      time = is.time;
     }

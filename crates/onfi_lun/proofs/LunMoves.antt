@@ -19,7 +19,7 @@ use Rattle.onfi_chip.specs.Chip.{Chip, Lun, after_post, found_ready, luns_ready_
 use Rattle.onfi_chip.specs.Chip.Lun.{Idle as DoesNothing, Posting as HasPosts}
 use Rattle.onfi_chip.specs.Calls.{command_of, HasDone, IsNextPost, MayTake}
 use Rattle.onfi_chip.proofs.SimCalls.{in_range}
-use Rattle.onfi_core.specs.declared.due.Due.{Due}
+use Rattle.onfi_flight.specs.declared.due.Due.{Due}
 use Rattle.onfi_core.proofs.Lists.{each_set}
 use Rattle.onfi_lun.specs.declared.lun.Lun.{Lun as Typed}
 use Rattle.onfi_lun.specs.declared.lun.Posted.{Posted}

@@ -30,7 +30,7 @@ use Rattle.onfi_problem.proofs.Places.{within_get}
 use Rattle.onfi_schedule.specs.Schedule.{Schedule, Legal, StartsFrom, Apart, phases, rest_phases, group_phases}
 use Rattle.onfi_schedule.specs.declared.phase.Phase.{Phase}
 use Rattle.onfi_schedule.proofs.Following.{done_law}
-use Rattle.onfi_core.specs.declared.due.Due.{Due}
+use Rattle.onfi_flight.specs.declared.due.Due.{Due}
 use Rattle.onfi_core.specs.declared.setup.Setup.{Setup}
 use Rattle.onfi_core.specs.declared.setup.Choice.TheVariants.{InOrder}
 use Rattle.onfi_core.specs.Dues.{IsDue}
@@ -43,11 +43,11 @@ use Rattle.onfi_core.proofs.HeldFor.{is_nil}
 use Rattle.onfi_core.proofs.Next.{is_wanted}
 use Rattle.onfi_core.proofs.Promise.{one_each, places_apart}
 use Rattle.onfi_core.proofs.Opening.{idle, none_running, same_element}
-use Rattle.onfi_lun.specs.declared.batch.flight.Flight.{Flight}
+use Rattle.onfi_lun.specs.declared.batch.course.Course.{Course}
 use Rattle.onfi_lun.specs.declared.lanes.any_lun.AnyLun.{AnyLun}
 use Rattle.onfi_lun.specs.declared.target.Target.{Target}
 use Rattle.onfi_lun.specs.Batch.{IsBatchOf, EachReplied, HoldsItems, RestsOn}
-use Rattle.onfi_lun.specs.Flight.{GoesOn, IsDriven, IsInOrder, IsOnCourse, opening, state_of}
+use Rattle.onfi_lun.specs.Course.{GoesOn, IsDriven, IsInOrder, IsOnCourse, opening, state_of}
 use Rattle.onfi_lun.specs.Lanes.{LanesAgree}
 use Rattle.onfi_lun.proofs.Order.{order_kept, order_opens}
 use Rattle.onfi_lun.proofs.Steps.{kept_by, kept_on, kept_same}
@@ -206,9 +206,9 @@ module _ (target : Target) (items : List Item) (p : Problem) (s : Schedule) (fau
         (sym (ap (λ (c : Chip). c.luns) is)) (idle (device_for setup chip) items count lun);
   }
 
-  pub opens : (flight : Flight) (lanes : List AnyLun) → state_of flight ≡ first → ((other : Chip) → other.luns ≡ replicate count Idle → LanesAgree other lanes)
-      → IsOnCourse target s items chip flight lanes chip
-  opens flight lanes state agree = record {
+  pub opens : (started : Course) (lanes : List AnyLun) → state_of started ≡ first → ((other : Chip) → other.luns ≡ replicate count Idle → LanesAgree other lanes)
+      → IsOnCourse target s items chip started lanes chip
+  opens started lanes state agree = record {
     driven = record {
       setup = setup;
       geometry = refl;
@@ -235,23 +235,23 @@ basis_behind h h' chip chip' due faults same (replies, on, after) old =
     made (inl (on, none)) = subst (All (RestsOn h.accepted faults)) (sym none) tt
     made (inr (member, answer, on, one)) = subst (All (RestsOn h.accepted faults)) (sym one) ((refl, same), tt)
 
-pub course_kept : (target : Target) (schedule : Schedule) (items : List Item) (first : Chip) (flight : Flight) (lanes : List AnyLun) (chip : Chip)
-    → IsOnCourse target schedule items first flight lanes chip
-    → (flight' : Flight) (lanes' : List AnyLun) (chip' : Chip) (due : Due) → IsDue (state_of flight) due
-    → GoesOn (state_of flight) chip due (state_of flight') chip' → IsDriven target flight' lanes' chip'
-    → IsOnCourse target schedule items first flight' lanes' chip'
-course_kept target schedule items first flight lanes chip course flight' lanes' chip' due is on driven =
-    let h = state_of flight in
-    let same : flight'.items.items ≡ flight.items.items = ap (λ (x : HalfState). x.accepted) on.2 in
+pub course_kept : (target : Target) (schedule : Schedule) (items : List Item) (first : Chip) (started : Course) (lanes : List AnyLun) (chip : Chip)
+    → IsOnCourse target schedule items first started lanes chip
+    → (started' : Course) (lanes' : List AnyLun) (chip' : Chip) (due : Due) → IsDue (state_of started) due
+    → GoesOn (state_of started) chip due (state_of started') chip' → IsDriven target started' lanes' chip'
+    → IsOnCourse target schedule items first started' lanes' chip'
+course_kept target schedule items first started lanes chip course started' lanes' chip' due is on driven =
+    let h = state_of started in
+    let same : started'.items.items ≡ started.items.items = ap (λ (x : HalfState). x.accepted) on.2 in
     record {
       driven = driven;
       items_are = same ∙ course.items_are;
-      order = order_kept schedule course.driven.setup h (state_of flight') chip chip' due course.driven.half.sound is on course.order;
+      order = order_kept schedule course.driven.setup h (state_of started') chip chip' due course.driven.half.sound is on course.order;
       basis = (
-          let old = subst (λ xs. All (RestsOn xs first.faults) flight.replies.items) (sym course.items_are) course.basis in
-          subst (λ xs. All (RestsOn xs first.faults) flight'.replies.items) course.items_are
-          (basis_behind h (state_of flight') chip chip' due first.faults course.kept.faults on old));
-      kept = kept_on first chip chip' course.kept (kept_by h (state_of flight') chip chip' due on);
+          let old = subst (λ xs. All (RestsOn xs first.faults) started.replies.items) (sym course.items_are) course.basis in
+          subst (λ xs. All (RestsOn xs first.faults) started'.replies.items) course.items_are
+          (basis_behind h (state_of started') chip chip' due first.faults course.kept.faults on old));
+      kept = kept_on first chip chip' course.kept (kept_by h (state_of started') chip chip' due on);
     }
 
 -- The end
@@ -280,10 +280,10 @@ reply_there (r ∷ rs) i h =
       | inr k ↦ (let h' : 1 ≤ 0 + number (is_of_place i) rs = rw k at h in let q = reply_there rs i (omega arith) in (q.0, inr q.1, q.2))
     ]
 
-module _ (target : Target) (items : List Item) (s : Schedule) (first chip : Chip) (flight : Flight) (lanes : List AnyLun)
-    (course : IsOnCourse target s items first flight lanes chip) where
+module _ (target : Target) (items : List Item) (s : Schedule) (first chip : Chip) (started : Course) (lanes : List AnyLun)
+    (course : IsOnCourse target s items first started lanes chip) where
   abbrev h : HalfState
-  h = state_of flight
+  h = state_of started
 
   abbrev setup' : Setup
   setup' = course.driven.setup
@@ -292,36 +292,36 @@ module _ (target : Target) (items : List Item) (s : Schedule) (first chip : Chip
   sound' = course.driven.half.sound
 
   none_unplanned' : unplanned setup' h ≡ []
-  none_unplanned' = ap (wants_from setup'.geometry (length flight.items.items)) (drop_all (length flight.items.items) flight.items.items (omega arith))
+  none_unplanned' = ap (wants_from setup'.geometry (length started.items.items)) (drop_all (length started.items.items) started.items.items (omega arith))
 
   device_is : device_for setup' chip ≡ device_of target.geometry first.faults
   device_is = ap (λ (g : Geometry). device_of g chip.faults) course.driven.geometry ∙ ap (device_of target.geometry) course.kept.faults
 
-  pub ended_rightful : AreRightful (device_of target.geometry first.faults) items flight.replies.items
+  pub ended_rightful : AreRightful (device_of target.geometry first.faults) items started.replies.items
   ended_rightful = record {
-    once = places_apart flight.replies.items (λ i. let a = sound'.once i in let b = one_each setup'.geometry 0 i flight.items.items in omega arith);
-    each = subst (λ xs. All (IsRightful (device_of target.geometry first.faults) xs) flight.replies.items) course.items_are
-        (subst (λ (d : Device). All (IsRightful d flight.items.items) flight.replies.items) device_is course.driven.half.held);
+    once = places_apart started.replies.items (λ i. let a = sound'.once i in let b = one_each setup'.geometry 0 i started.items.items in omega arith);
+    each = subst (λ xs. All (IsRightful (device_of target.geometry first.faults) xs) started.replies.items) course.items_are
+        (subst (λ (d : Device). All (IsRightful d started.items.items) started.replies.items) device_is course.driven.half.held);
   }
 
   module _ (none : none_left h ≡ true) where
     done : IsDone h.now
     done = (done_law h.now h.left sound'.problem sound'.legal).1 (is_nil (phases h.now h.left) none)
 
-    pub ended_replied : EachReplied items flight.replies.items
+    pub ended_replied : EachReplied items started.replies.items
     ended_replied place item at =
         let wants = ap (number (has_id place)) done.wants in
         let posts = ap (number (has_id place)) (none_unposted h.now.luns done.free) in
         let later = ap (number (has_id place)) none_unplanned' in
         let a = sound'.once place in
-        let at' : slice_get flight.items.items place ≡ Some item = ap (λ xs. slice_get xs place) course.items_are ∙ at in
-        let low = within_get flight.items.items place item at' in
-        let b = is_wanted setup'.geometry 0 place flight.items.items (omega arith) (omega (arith, low)) in
-        reply_there flight.replies.items place (omega (arith, wants, posts, later, a, b))
+        let at' : slice_get started.items.items place ≡ Some item = ap (λ xs. slice_get xs place) course.items_are ∙ at in
+        let low = within_get started.items.items place item at' in
+        let b = is_wanted setup'.geometry 0 place started.items.items (omega arith) (omega (arith, low)) in
+        reply_there started.replies.items place (omega (arith, wants, posts, later, a, b))
 
     pub ended_blocks : HoldsItems (device_of target.geometry first.faults) items chip
     ended_blocks lun block =
-        let all = flight.items.items in
+        let all = started.items.items in
         let b = course.driven.agrees.blocks lun block in
         let c = none_commanding (slice_get h.now.luns lun) (λ g n r. done.free lun g n r) in
         let w = done.wants in

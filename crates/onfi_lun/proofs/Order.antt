@@ -20,19 +20,19 @@ use Rattle.onfi_schedule.proofs.Chains.{long}
 use Rattle.onfi_schedule.proofs.Following.{first_move_law}
 use Rattle.onfi_schedule.specs.Laws.{ComesNext}
 use Rattle.onfi_schedule.specs.Schedule.{Placed, Schedule, rest_of}
-use Rattle.onfi_core.specs.declared.due.Due.{Due}
+use Rattle.onfi_flight.specs.declared.due.Due.{Due}
 use Rattle.onfi_core.specs.declared.setup.Setup.{Setup}
 use Rattle.onfi_core.specs.Dues.{IsDue}
 use Rattle.onfi_core.specs.Kept.{IsSound}
 use Rattle.onfi_core.specs.State.{HalfState}
-use Rattle.onfi_core.specs.Steps.{IsPhase, RunsOnChip, half_after_phase, reply_to}
-use Rattle.onfi_core.proofs.Done.{after_due_is}
+use Rattle.onfi_flight.specs.Flight.{IsPhase, left_behind, move_of}
+use Rattle.onfi_core.specs.Steps.{RunsOnChip, half_after_phase, reply_to}
 use Rattle.onfi_core.proofs.Lists.{get_has}
 use Rattle.onfi_core.proofs.Next.{get_drop}
 use Rattle.onfi_lun.proofs.Dues.{group_lun}
 use Rattle.onfi_lun.specs.declared.batch.fault.BatchFault.{BatchFault}
 use Rattle.onfi_lun.specs.declared.batch.fault.BatchFault.TheVariants as fault
-use Rattle.onfi_lun.specs.Flight.{GoesOn, IsFaultOf, IsInOrder}
+use Rattle.onfi_lun.specs.Course.{GoesOn, IsFaultOf, IsInOrder}
 use Rattle.onfi_lun.specs.Order.{PostStarts, RepliesAt, TellsStatus}
 
 zip_more : {A B : Type 0} (R : A → B → Type 0) (xs : List A) (ys : List B) (x : A) (y : B) → AllZip R xs ys → R x y → AllZip R (xs ++ x ∷ []) (ys ++ y ∷ [])
@@ -194,8 +194,8 @@ module _ (schedule : Schedule) (s : Setup) (h : HalfState) (sound : IsSound s h)
 pub order_kept : (schedule : Schedule) (s : Setup) (h h' : HalfState) (chip chip' : Chip) (due : Due) → IsSound s h → IsDue h due → GoesOn h chip due h' chip'
     → IsInOrder schedule h → IsInOrder schedule h'
 order_kept schedule s h h' chip chip' due sound is (replies, on, after) order =
-    subst (IsInOrder schedule) (sym (after ∙ after_due_is h due is replies))
-    (order_behind schedule s h sound order is.move due.start is.left is.next due.group due.phase is.is chip chip' replies on)
+    subst (IsInOrder schedule) (sym after)
+    (order_behind schedule s h sound order (move_of due) due.start (left_behind h.left due) (is.next sound.legal) due.group due.phase is.phase chip chip' replies on)
 
 group_of : (p : Problem) → IsProblem p → (move : Move) → IsMove p move → (g : List Want) (n : ℕ) → IsPhase p move g n → IsGroup p.rules g
 group_of p ip (Next l) m g n (ready, at) = (ip.running l g n ready at).group

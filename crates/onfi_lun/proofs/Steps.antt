@@ -19,20 +19,21 @@ use Rattle.onfi_schedule.specs.Laws.{Begins}
 use Rattle.onfi_schedule.specs.Schedule.{Placed, Schedule}
 use Rattle.onfi_core.specs.declared.drive.DriveFault.{DriveFault}
 use Rattle.onfi_core.specs.declared.drive.DriveFault.TheVariants as drive
-use Rattle.onfi_core.specs.declared.due.Due.{Due}
+use Rattle.onfi_flight.specs.declared.due.Due.{Due}
 use Rattle.onfi_core.specs.declared.phase_result.PhaseResult.{PhaseResult}
 use Rattle.onfi_core.specs.declared.setup.Setup.{Setup}
 use Rattle.onfi_core.specs.Drive.{HasRun, IsStatus}
-use Rattle.onfi_core.specs.Dues.{IsDue, after_due, member_of, replies_of}
+use Rattle.onfi_flight.specs.Flight.{left_behind, member_of, move_of}
+use Rattle.onfi_core.specs.Dues.{IsDue, after_due, replies_of}
 use Rattle.onfi_core.specs.Kept.{IsHalf, IsSound, IsTaken, ChipAgrees}
 use Rattle.onfi_core.specs.State.{HalfState, device_for, item_at, no_item}
 use Rattle.onfi_core.specs.Steps.{RunsOnChip, half_after_phase}
 use Rattle.onfi_core.proofs.Bus.{AfterPhase, after_move}
-use Rattle.onfi_core.proofs.Done.{after_due_is, goes, lun_there}
+use Rattle.onfi_core.proofs.Done.{goes}
 use Rattle.onfi_core.proofs.Driving.{asks_status, ran_on_chip}
 use Rattle.onfi_core.proofs.Lists.{get_has, index_get}
 use Rattle.onfi_lun.specs.Batch.{KeptSince, fault_of}
-use Rattle.onfi_lun.specs.Flight.{GoesOn, IsFaultOf, steps_left}
+use Rattle.onfi_lun.specs.Course.{GoesOn, IsFaultOf, steps_left}
 
 pub get_of_or : {A : Type 0} (xs : List A) (i : ℕ) (v d : A) → i < length xs → v ≡ get_or xs i d → slice_get xs i ≡ Some v
 get_of_or xs i v d lt e = slice_get-get_or xs i d lt ∙ ap Some (sym e)
@@ -78,14 +79,14 @@ kept_by h h' chip chip' due (replies, inr (member, answer, c, one), after) = don
 
 module _ (s : Setup) (h : HalfState) (chip : Chip) (half : IsHalf s (device_for s chip) h) (agrees : ChipAgrees s h chip) (due : Due) (is : IsDue h due) where
   after_run : (chip' : Chip) (replies : List Reply) → RunsOnChip h.accepted due.group due.phase due.start chip chip' replies
-      → AfterPhase s chip (half_after_phase h is.move due.start is.left replies) chip'
-  after_run chip' replies on = after_move s h chip half agrees is.move due.start is.left is.next due.group due.phase is.is chip' replies on
+      → AfterPhase s chip (after_due h due replies) chip'
+  after_run chip' replies on = after_move s h chip half agrees (move_of due) due.start (left_behind h.left due) (is.next half.sound.legal) due.group due.phase is.phase chip' replies on
 
   -- the half and the chip agree behind it
   pub agree_behind : (h' : HalfState) (chip' : Chip) → GoesOn h chip due h' chip' → IsHalf s (device_for s chip') h' × ChipAgrees s h' chip'
   agree_behind h' chip' (replies, on, after) =
       let a = after_run chip' replies on in
-      let e : half_after_phase h is.move due.start is.left replies ≡ h' = sym (after ∙ after_due_is h due is replies) in (
+      let e : after_due h due replies ≡ h' = sym after in (
         subst (λ d. IsHalf s d h') (sym (ap (device_of s.geometry) a.0)) (subst (IsHalf s (device_for s chip)) e a.1),
         subst (λ (x : HalfState). ChipAgrees s x chip') e a.2,
       )
@@ -101,7 +102,7 @@ module _ (s : Setup) (h : HalfState) (chip : Chip) (half : IsHalf s (device_for 
     fault_is drive.Bus lun e status = tt
     fault_is drive.NotReady lun e status =
         let asks = asks_status s h chip half.sound agrees due is m at item item_is (status refl) in
-        (is.move, due.start, is.left, is.next, sym (e ∙ is.lun_is), asks)
+        (move_of due, due.start, left_behind h.left due, is.next half.sound.legal, is.lun ∙ sym e, asks)
     fault_is drive.Memory lun e status = tt
 
 -- One phase less is left
@@ -125,8 +126,7 @@ begins_fewer s (Start group) start left low (starts, before, behind, are, is) =
 pub fewer_left : (s : Setup) (h h' : HalfState) (chip chip' : Chip) (due : Due) → IsSound s h → IsDue h due → GoesOn h chip due h' chip'
     → steps_left h'.left < steps_left h.left
 fewer_left s h h' chip chip' due sound is (replies, on, after) =
-    let low : move_lun is.move < length h.left.rest =
-    (let a = lun_there s h due sound is in let b = is.lun_is in let c = sound.legal.shape.luns in omega (arith, a, b, c)) in
-    let fewer = begins_fewer h.left is.move due.start is.left low is.next.begins in
-    let e : steps_left h'.left ≡ steps_left is.left = ap (λ (x : HalfState). steps_left x.left) (after ∙ after_due_is h due is replies) in
+    let low : move_lun (move_of due) < length h.left.rest = (let a = is.there in let b = is.lun in omega (arith, a, b)) in
+    let fewer = begins_fewer h.left (move_of due) due.start (left_behind h.left due) low is.begins in
+    let e : steps_left h'.left ≡ steps_left (left_behind h.left due) = ap (λ (x : HalfState). steps_left x.left) after in
     omega (arith, fewer, e)

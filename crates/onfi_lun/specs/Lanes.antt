@@ -12,7 +12,7 @@ use Rattle.onfi_chip.specs.Chip.{Chip, taken}
 use Rattle.onfi_chip.specs.Fetching.{IsNextFetch}
 use Rattle.onfi_core.specs.declared.drive.DriveFault.{DriveFault}
 use Rattle.onfi_core.specs.declared.drive.DriveFault.TheVariants as drive
-use Rattle.onfi_core.specs.declared.due.Due.{Due}
+use Rattle.onfi_flight.specs.declared.due.Due.{Due}
 use Rattle.onfi_core.specs.Drive.{MayRun}
 use Rattle.onfi_lun.specs.declared.lanes.any_lun.AnyLun.{AnyLun}
 use Rattle.onfi_lun.specs.declared.lanes.any_lun.AnyLun.TheVariants.{Idle, Queuing, Working, Posting, Moving}

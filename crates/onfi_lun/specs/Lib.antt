@@ -1,5 +1,5 @@
 pub mod Phases
 pub mod Batch
-pub mod Flight
+pub mod Course
 pub mod Order
 pub mod Lanes

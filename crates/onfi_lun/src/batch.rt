@@ -9,13 +9,13 @@ ghost use Rattle.onfi_schedule.specs.Schedule.{Legal};
 ghost use Rattle.onfi_lun.specs.Batch.{IsOpened, IsBatchOf, EachReplied, HoldsItems, RestsOn, AfterBatchFault};
 ghost use Rattle.onfi_lun.specs.Order.{AreInPostOrder, TellsStatus};
 
+mod course;
 mod fault;
-mod flight;
 
 use crate::lanes::Lanes;
 use crate::target::Target;
+use course::Course;
 pub use fault::BatchFault;
-use flight::Flight;
 use onfi_addr::Geometry;
 use onfi_chip::Chip;
 use onfi_problem::Problem;
@@ -57,16 +57,16 @@ pub fn run_batch<C: Chip>(
         geometry: *geometry,
         timing: problem.timing(),
     };
-    let Ok(mut flight) = Flight::of(alloc, geometry, problem, schedule, items) else {
+    let Ok(mut course) = Course::of(alloc, geometry, problem, schedule, items) else {
         return Err(BatchFault::Memory);
     };
     let Ok(mut lanes) = Lanes::open(alloc, geometry.lun_count) else {
         return Err(BatchFault::Memory);
     };
-    while let Some(due) = flight.due() {
-        flight.run(alloc, chip, &target, &mut lanes, due)?;
+    while let Some(due) = course.due() {
+        course.run(alloc, chip, &target, &mut lanes, due)?;
     }
-    Ok(flight.replies)
+    Ok(course.replies)
 }
 
 // A problem is what its definition says.

@@ -8,7 +8,7 @@ ghost use Rattle.onfi_chip.specs.Chip.{Chip as ChipState, found_ready, posted, t
 ghost use Rattle.onfi_chip.specs.Chip.Lun.{Idle as DoesNothing};
 ghost use Rattle.onfi_chip.specs.Calls.{AfterFault, HasDone, IsLost, IsNextPost, MayTake, command_of};
 ghost use Rattle.onfi_chip.specs.Fetching.{HasRoom};
-ghost use Rattle.onfi_core.specs.Drive.{HasRun, AfterDrive, IsStatus, closer_of, fault_of_post};
+ghost use Rattle.onfi_core.specs.Drive.{HasRun, AfterDrive, IsStatus, closer_of};
 ghost use Rattle.onfi_lun.specs.Phases.{IsOf};
 ghost use Rattle.onfi_lun.specs.Lanes.{LanesAgree, MayRunDue, AreIdle, IsPostOf, OthersKept, Works, fault_of_command};
 
@@ -18,7 +18,8 @@ use crate::lun::Lun;
 use crate::target::Target;
 use any_lun::AnyLun;
 use onfi_chip::{Chip, ChipFault, Closer, Fetch, PostFault};
-use onfi_core::{DriveFault, Due, PhaseResult};
+use onfi_core::{DriveFault, PhaseResult, fault_of_post};
+use onfi_flight::Due;
 use onfi_request::{Answer, Item, Request};
 use onfi_timing::Kind;
 use std::alloc::{AllocError, Global};
@@ -185,16 +186,6 @@ fn fault_of_command(fault: ChipFault) -> DriveFault
     match fault {
         ChipFault::Bus => DriveFault::Bus,
         ChipFault::Memory => DriveFault::Memory,
-    }
-}
-
-// Why a post gave no answer, as why its phase wasn't run.
-fn fault_of_post(fault: PostFault) -> DriveFault
-    ensures { result ≡ fault_of_post fault }
-{
-    match fault {
-        PostFault::Bus => DriveFault::Bus,
-        PostFault::NotReady => DriveFault::NotReady,
     }
 }
 

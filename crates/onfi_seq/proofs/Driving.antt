@@ -11,7 +11,7 @@ use Rattle.onfi_chip.specs.Chip.Lun.{Idle}
 use Rattle.onfi_die.specs.Order.{AreRightfulIn}
 use Rattle.onfi_core.specs.declared.drive.DriveFault.{DriveFault}
 use Rattle.onfi_core.specs.declared.drive.DriveFault.TheVariants as drive
-use Rattle.onfi_core.specs.declared.due.Due.{Due}
+use Rattle.onfi_flight.specs.declared.due.Due.{Due}
 use Rattle.onfi_core.specs.declared.event.Event.TheVariants as event
 use Rattle.onfi_core.specs.declared.half.PlanRefusal.{PlanRefusal}
 use Rattle.onfi_core.specs.declared.half.PlanRefusal.TheVariants as refused
@@ -20,7 +20,8 @@ use Rattle.onfi_core.specs.declared.outcome.Outcome.TheVariants as outcome
 use Rattle.onfi_core.specs.declared.phase_result.PhaseResult.{PhaseResult}
 use Rattle.onfi_core.specs.declared.setup.Setup.{Setup}
 use Rattle.onfi_core.specs.Drive.{HasRun, AfterDrive, IsStatus, cause_of}
-use Rattle.onfi_core.specs.Dues.{IsDue, after_due, member_of, replies_of}
+use Rattle.onfi_flight.specs.Flight.{member_of}
+use Rattle.onfi_core.specs.Dues.{IsDue, after_due, replies_of}
 use Rattle.onfi_core.specs.Kept.{first_half}
 use Rattle.onfi_core.specs.Queues.{IsFresh}
 use Rattle.onfi_core.specs.Reaching.{Reaches}
@@ -131,10 +132,10 @@ module _ (s : Setup) (h : HalfState) (chip : Chip) (reached : Reaches s (quiet h
       let step = stop_step s (quiet h chip) channel stop chip' h' open' why (lost_by fault due.lun stop chip chip' cause after) is_stopped in
       subst (λ (c : ChannelState). Step s (quiet h chip) (event.Bus channel) (outcome.Stopped stop) c) (quiet_is h h' chip chip' (ap (λ (x : HalfState). x.accepted) is_stopped) (ap (λ (x : HalfState). x.posted) is_stopped)) step
 
-  pub may_run_here : (target : Target) → s.geometry ≡ target.geometry → s.timing ≡ target.timing → due.start < 2 ^ 63 → MayRunDue target chip due item
-  may_run_here target geometry timing time =
+  pub may_run_here : (target : Target) → s.geometry ≡ target.geometry → s.timing ≡ target.timing → MayRunDue target chip due item
+  may_run_here target geometry timing =
       let r = events_reach s (quiet h chip) reached in
-      may_run_due s target h chip geometry timing r.half.sound (r.chip (going_on h open')) due is member.0 member.1 item member.2 time
+      may_run_due s target h chip geometry timing r.half.sound (r.chip (going_on h open')) due is member.0 member.1 item member.2
 
   pub driven_ran : (Such : Planning → Type 0) (lent : Option Reply) (chip' : Chip) (lanes : List AnyLun) (given : PhaseResult) (h' : HalfState) → HasRun chip s.geometry due item given chip' → h' ≡ after_due h due (replies_of h.accepted chip'.faults due given) → lent ≡ None → LanesAgree chip' lanes → IfSome h.last Such → IsDriven Such s lent h' chip' lanes
   driven_ran Such lent chip' lanes given h' run after settled agree last = record {

@@ -11,10 +11,9 @@ use Rattle.onfi_core.specs.State.{ChannelState, HalfState, is_to}
 use Rattle.onfi_core.specs.Steps.{bus_refusal, held_for, if_stopped, none_left, nothing_to_plan, or_else, plan_refusal, refused_where, taken_next}
 use Rattle.onfi_core.specs.declared.setup.Setup.{Setup}
 use Rattle.onfi_core.proofs.HeldFor.{idle_is, is_nil, nothing_held}
-use Rattle.onfi_core.proofs.Dues.{next_cases}
 use Rattle.onfi_core.proofs.Next.{none_taken as nothing_taken}
 use Rattle.onfi_core.proofs.Reaching.{events_reach}
-use Rattle.onfi_core.proofs.Lists.{set_self}
+use Rattle.onfi_core.proofs.Lists.{next_cases, set_self}
 use Rattle.onfi_queue.specs.Ends.{IntakeView}
 use Rattle.onfi_reply.specs.Ends.{PosterView}
 use Rattle.onfi_seq.specs.declared.offer.Offer.{Offer}

@@ -16,7 +16,8 @@ ghost use Rattle.onfi_seq.specs.Driver.{IsAt, Offered, RanTo, RunsBy, channel_in
 use crate::offer::Offer;
 use crate::ran::Ran;
 use onfi_chip::Chip;
-use onfi_core::{AcceptFault, Cause, Due, DueRefusal, Half, PlanRefusal, Setup, cause_of};
+use onfi_core::{AcceptFault, Cause, DueRefusal, Half, PlanRefusal, Setup, cause_of};
+use onfi_flight::Due;
 use onfi_lun::{Lanes, Target};
 use onfi_plan::Planner;
 use onfi_reply::Poster;
@@ -155,7 +156,7 @@ impl<C: Chip, P: Planner> Driver<C, P> {
         ensures accepted { self.new.0.half.accepted ≡ self.old.0.half.accepted }
         ensures posted { self.new.0.half.posted ≡ self.old.0.half.posted }
     {
-        match self.half.due(alloc) {
+        match self.half.due() {
             Ok(due) => self.run_by(alloc, due, now),
             Err(DueRefusal::Stopped(cause)) => Ran::Stopped(cause),
             Err(DueRefusal::NoPlan) => Ran::NoPhase,
@@ -166,7 +167,6 @@ impl<C: Chip, P: Planner> Driver<C, P> {
     fn run_by(&mut self, alloc: Global, due: Due, now: u64) -> Ran
         requires due { IsDue self.old.0.half due }
         requires open { bus_refusal self.old.0.half ≡ None }
-        requires time { due.start < 2 ^ 63 }
         ensures ran { RanTo self.old.0.setup (channel_in C.state self.old) result (channel_in C.state self.new) }
         ensures by_now { RunsBy now self.old.0.half result }
         ensures setup { self.new.0.setup ≡ self.old.0.setup }
@@ -184,7 +184,6 @@ impl<C: Chip, P: Planner> Driver<C, P> {
     fn run_due(&mut self, alloc: Global, due: Due) -> Ran
         requires due { IsDue self.old.0.half due }
         requires open { bus_refusal self.old.0.half ≡ None }
-        requires time { due.start < 2 ^ 63 }
         ensures ran { RanTo self.old.0.setup (channel_in C.state self.old) result (channel_in C.state self.new) }
         ensures start { IsAt due.start result }
         ensures setup { self.new.0.setup ≡ self.old.0.setup }
@@ -203,7 +202,7 @@ impl<C: Chip, P: Planner> Driver<C, P> {
             .run_due(alloc, &mut self.chip, &target, &due, item)
         {
             Ok(ran) => {
-                self.half.done(due, ran, &self.chip);
+                self.half.done(&due, ran, &self.chip);
                 Ran::Phase { start }
             }
             Err(fault) => match cause_of(fault, due.lun) {

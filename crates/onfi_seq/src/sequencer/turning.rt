@@ -127,7 +127,7 @@ impl<C: Chip, P: Planner> Sequencer<C, P> {
     {
         let current = self.driver.half().nothing_to_plan();
         let stale = !current;
-        if self.is_untold(alloc, now, current) {
+        if self.is_untold(now, current) {
             return false;
         }
         let found = self.driver.pass(alloc, now);
@@ -135,7 +135,7 @@ impl<C: Chip, P: Planner> Sequencer<C, P> {
     }
 
     // Whether nothing is told of the moment: the plan stands, and the next phase starts just then, or none is left.
-    fn is_untold(&self, alloc: Global, now: u64, current: bool) -> bool
+    fn is_untold(&self, now: u64, current: bool) -> bool
         requires { self.now.0.half.stopped ≡ None }
         ensures current { IsTrue result → IsTrue current }
         ensures on_time { IsTrue result → StartsNext self.now.0.half now ⊎ (none_left self.now.0.half ≡ true) }
@@ -144,16 +144,16 @@ impl<C: Chip, P: Planner> Sequencer<C, P> {
         if !current {
             return false;
         }
-        self.is_on_time(alloc, now)
+        self.is_on_time(now)
     }
 
     // Whether the next phase starts just then, or none is left.
-    fn is_on_time(&self, alloc: Global, now: u64) -> bool
+    fn is_on_time(&self, now: u64) -> bool
         requires { self.now.0.half.stopped ≡ None }
         ensures on_time { IsTrue result → StartsNext self.now.0.half now ⊎ (none_left self.now.0.half ≡ true) }
         ensures over { none_left self.now.0.half ≡ true → IsTrue result }
     {
-        match self.driver.next_start(alloc) {
+        match self.driver.next_start() {
             Some(start) => start == now,
             None => true,
         }

@@ -28,13 +28,13 @@ invariant_of-self g c =
     let is = due_within g.C.Chip.state _ _ c.args.due c.self.view_is c.requires.due in
     let open' = open_within g.C.Chip.state _ _ c.self.view_is c.requires.open in
     let ran : HasRun (g.C.Chip.state f.chip) f.half.setup.geometry c.args.due c.member.result.now c.in-Ok.ran (g.C.Chip.state c.run_phase.new.chip) = subst (λ (s : Setup). HasRun (g.C.Chip.state f.chip) s.geometry c.args.due c.member.result.now c.in-Ok.ran (g.C.Chip.state c.run_phase.new.chip)) c.setup.ensures c.in-Ok.ensures.ran in
-    let half = ap (λ (v : HalfView). v.state) c.done.ensures.done in
+    let half = ap (λ (v : HalfView). v.state) c.done.ensures in
     let after : ChannelState = record now { half = c.done.new.self.state; chip = g.C.Chip.state c.run_phase.new.chip } in
     let step : (n : ℕ) → Step f.half.setup now (event.Bus n) (outcome.Phase c.args.due.start) after = λ channel. ran_step f.half.setup now (events_reach f.half.setup now i.reached) c.args.due is open' c.member.result.now c.member.ensures channel (g.C.Chip.state c.run_phase.new.chip) c.in-Ok.ran c.done.new.self.state ran half in
     let reached = step_reaches f.half.setup now (event.Bus 0) (outcome.Phase c.args.due.start) after i.reached (step 0) in
-    let posted = ap (λ (v : HalfView). v.state.posted) c.done.ensures.done in
-    let lent = ap (λ (v : HalfView). v.lent) c.done.ensures.done ∙ i.settled in
-    let setup = ap (λ (v : HalfView). v.setup) c.done.ensures.done in
+    let posted = ap (λ (v : HalfView). v.state.posted) c.done.ensures in
+    let lent = ap (λ (v : HalfView). v.lent) c.done.ensures ∙ i.settled in
+    let setup = ap (λ (v : HalfView). v.setup) c.done.ensures in
     rw setup (queues_same f.half.setup _ c.done.new.self.lent _ _ f.hosts.items now after i reached refl posted refl lent refl)
 
 pub returns-in-Ok-clause-step : goal.returns-in-Ok-clause-step
@@ -45,7 +45,7 @@ returns-in-Ok-clause-step g c channel =
     let is = due_within g.C.Chip.state _ _ c.args.due c.self.view_is c.requires.due in
     let open' = open_within g.C.Chip.state _ _ c.self.view_is c.requires.open in
     let ran : HasRun (g.C.Chip.state f.chip) f.half.setup.geometry c.args.due c.member.result.now c.in-Ok.ran (g.C.Chip.state c.run_phase.new.chip) = subst (λ (s : Setup). HasRun (g.C.Chip.state f.chip) s.geometry c.args.due c.member.result.now c.in-Ok.ran (g.C.Chip.state c.run_phase.new.chip)) c.setup.ensures c.in-Ok.ensures.ran in
-    let half = ap (λ (v : HalfView). v.state) c.done.ensures.done in
+    let half = ap (λ (v : HalfView). v.state) c.done.ensures in
     let after : ChannelState = record now { half = c.done.new.self.state; chip = g.C.Chip.state c.run_phase.new.chip } in
     let step : (n : ℕ) → Step f.half.setup now (event.Bus n) (outcome.Phase c.args.due.start) after = λ channel. ran_step f.half.setup now (events_reach f.half.setup now i.reached) c.args.due is open' c.member.result.now c.member.ensures channel (g.C.Chip.state c.run_phase.new.chip) c.in-Ok.ran c.done.new.self.state ran half in
     outside g.C.Chip.state _ _ (event.Bus channel) (outcome.Phase c.args.due.start) after c.self.view_is (step channel)

@@ -19,7 +19,7 @@ run_due-requires-clause-due g c =
     let chip = g.C.Chip.state f.chip in
     let is = within (λ (v : DriverFields). IsDue v.half c.args.due) _ _ c.self.view_is c.requires.due in
     let open' = within (λ (v : DriverFields). bus_refusal v.half ≡ None) _ _ c.self.view_is c.requires.open in
-    may_run_here f.half.setup f.half.state chip i.reached c.args.due is open' c.member-item.result.now c.member-item.ensures (record { geometry = c.setup-setup.result.geometry; timing = c.setup-setup.result.timing }) (ap (λ (s : Setup). s.geometry) (sym c.setup-setup.ensures)) (ap (λ (s : Setup). s.timing) (sym c.setup-setup.ensures)) c.requires.time
+    may_run_here f.half.setup f.half.state chip i.reached c.args.due is open' c.member-item.result.now c.member-item.ensures (record { geometry = c.setup-setup.result.geometry; timing = c.setup-setup.result.timing }) (ap (λ (s : Setup). s.geometry) (sym c.setup-setup.ensures)) (ap (λ (s : Setup). s.timing) (sym c.setup-setup.ensures))
 
 pub invariant_of-self : goal.invariant_of-self
 invariant_of-self g c =
@@ -29,9 +29,9 @@ invariant_of-self g c =
     let is = within (λ (v : DriverFields). IsDue v.half c.args.due) _ _ c.self.view_is c.requires.due in
     let open' = within (λ (v : DriverFields). bus_refusal v.half ≡ None) _ _ c.self.view_is c.requires.open in
     let ran : HasRun chip f.half.setup.geometry c.args.due c.member-item.result.now c.in-Ok.ran (g.C.Chip.state c.run_due.new.chip) = subst (λ (s : Setup). HasRun chip s.geometry c.args.due c.member-item.result.now c.in-Ok.ran (g.C.Chip.state c.run_due.new.chip)) c.setup-setup.ensures c.in-Ok.ensures.ran in
-    let after = ap (λ (v : HalfView). v.state) c.done.ensures.done in
-    let lent = ap (λ (v : HalfView). v.lent) c.done.ensures.done ∙ i.settled in
-    let setup = ap (λ (v : HalfView). v.setup) c.done.ensures.done in
+    let after = ap (λ (v : HalfView). v.state) c.done.ensures in
+    let lent = ap (λ (v : HalfView). v.lent) c.done.ensures ∙ i.settled in
+    let setup = ap (λ (v : HalfView). v.setup) c.done.ensures in
     rw setup (driven_ran f.half.setup f.half.state chip i.reached c.args.due is open' c.member-item.result.now c.member-item.ensures (IsPromised g.P.Planner.exact g.P.Planner.certifies) c.done.new.self.lent (g.C.Chip.state c.run_due.new.chip) c.run_due.new.self c.in-Ok.ran c.done.new.self.state ran after lent c.in-Ok.ensures.agree i.last)
 
 pub returns-in-Ok-clause-ran : goal.returns-in-Ok-clause-ran
@@ -42,7 +42,7 @@ returns-in-Ok-clause-ran g c channel =
     let is = within (λ (v : DriverFields). IsDue v.half c.args.due) _ _ c.self.view_is c.requires.due in
     let open' = within (λ (v : DriverFields). bus_refusal v.half ≡ None) _ _ c.self.view_is c.requires.open in
     let ran : HasRun chip f.half.setup.geometry c.args.due c.member-item.result.now c.in-Ok.ran (g.C.Chip.state c.run_due.new.chip) = subst (λ (s : Setup). HasRun chip s.geometry c.args.due c.member-item.result.now c.in-Ok.ran (g.C.Chip.state c.run_due.new.chip)) c.setup-setup.ensures c.in-Ok.ensures.ran in
-    let after = ap (λ (v : HalfView). v.state) c.done.ensures.done in
+    let after = ap (λ (v : HalfView). v.state) c.done.ensures in
     let step = ran_phase f.half.setup f.half.state chip i.reached c.args.due is open' c.member-item.result.now c.member-item.ensures channel (g.C.Chip.state c.run_due.new.chip) c.in-Ok.ran c.done.new.self.state ran after in
     outside g.C.Chip.state (λ (v : DriverFields) (old : Chip). Step v.setup (quiet v.half old) (event.Bus channel) (outcome.Phase c.args.due.start) (quiet c.done.new.self.state (g.C.Chip.state c.run_due.new.chip))) _ _ c.self.view_is step
 
