@@ -2,14 +2,18 @@
 use Rattle.std.proofs.Common.{◌≡◌, ◌↔◌, Bool, true, false, List, [], ◌∷◌, Some, None, refl, sym, ◌∙◌, subst}
 use Rattle.std.specs.Prelude.{IsTrue, not}
 use Rattle.onfi_schedule.specs.Schedule.{phases}
+use Rattle.onfi_flight.specs.Flight.{IsFlight}
 use Rattle.onfi_flight.specs.declared.due.Due.{Due}
 use Rattle.onfi_flight.specs.declared.flight.Next.{Next}
 use Rattle.onfi_flight.specs.declared.flight.Next.TheVariants as next
 use Rattle.onfi_core.specs.declared.outcome.Outcome.TheVariants as outcome
 use Rattle.onfi_core.specs.Dues.{IsDue}
-use Rattle.onfi_core.specs.State.{HalfState}
+use Rattle.onfi_core.specs.declared.setup.Setup.{Setup}
+use Rattle.onfi_core.specs.Kept.{IsSound}
+use Rattle.onfi_core.specs.State.{HalfState, flight_of}
 use Rattle.onfi_core.specs.Steps.{bus_refusal, is_empty, none_left}
 use Rattle.onfi_core.specs.View.{HalfView}
+use Rattle.onfi_core.proofs.Halves.{sound_flight}
 
 some_left : {A : Type 0} (xs : List A) → (xs ≡ [] → ⊥) → is_empty xs ≡ false
 some_left [] h = absurd (h refl)
@@ -38,10 +42,10 @@ none_outside inside h told v going is done =
     subst (λ (x : HalfView). bus_refusal x.state ≡ Some outcome.NoPlan) v inner
 
 -- a phase is left where not all are done
-pub phase_there : (h : HalfState) (done : Bool) → IsTrue done ↔ (phases h.now h.left ≡ []) → IsTrue (not done) ↔ (none_left h ≡ false)
-phase_there h true is =
-    let none = is.0 refl in (
+pub phase_there : (s : Setup) (h : HalfState) → IsSound s h → (done : Bool) → (IsFlight (flight_of h) → IsTrue done ↔ (phases h.now h.left ≡ [])) → IsTrue (not done) ↔ (none_left h ≡ false)
+phase_there s h sound true is =
+    let none = (is (sound_flight s h sound)).0 refl in (
       λ yes. absurd (let e : false ≡ true = yes in cc),
       λ left. absurd (let e : true ≡ false = rw none at left in cc),
     )
-phase_there h false is = (λ _. some_left (phases h.now h.left) (λ none. let e : false ≡ true = is.1 none in cc), λ _. refl)
+phase_there s h sound false is = (λ _. some_left (phases h.now h.left) (λ none. let e : false ≡ true = (is (sound_flight s h sound)).1 none in cc), λ _. refl)

@@ -14,11 +14,11 @@ use Rattle.slab.specs.Slab.{Slab, get, slab_len, Updates}
 use Rattle.onfi_core.specs.declared.setup.Setup.{Setup}
 use Rattle.onfi_core.specs.declared.slot.Slot.{Slot}
 use Rattle.onfi_core.specs.declared.lent.Lent.{Lent}
-use Rattle.onfi_core.specs.State.{Planning, HalfState, is_from, wants_from}
+use Rattle.onfi_core.specs.State.{Planning, HalfState, is_from, wants_from, with_flight}
 use Rattle.onfi_core.proofs.Plan.{sound_planned}
 use Rattle.onfi_problem.specs.Problem.{Problem}
 use Rattle.onfi_request.specs.declared.want.Want.{Want}
-use Rattle.onfi_schedule.specs.Schedule.{Schedule}
+use Rattle.onfi_flight.specs.Flight.{Flight}
 use Rattle.onfi_core.specs.Steps.{planned_by, problem_with, Plans, Taken, accept_refusal, if_stopped, unanswered}
 use Rattle.onfi_core.specs.Kept.{IsSound, is_of_place, first_half}
 use Rattle.onfi_core.proofs.Opening.{opened_sound}

@@ -4,7 +4,7 @@ use Rattle.onfi_flight.specs.Flight.{member_of}
 use Rattle.onfi_core.specs.State.{item_at}
 use Rattle.onfi_core.specs.View.{HalfView}
 use Rattle.onfi_core.proofs.Becoming.{due_inside}
-use Rattle.onfi_core.proofs.Done.{goes, item_in_slot, member_slot}
+use Rattle.onfi_core.proofs.Done.{item_in_slot, member_slot}
 use Rattle.onfi_core.proofs.half.Half.member.Goals as goal
 
 pub member-requires : goal.member-requires
