@@ -37,8 +37,8 @@ returns-in-Ok-done-clause-driven g c =
     let behind = agree_behind d.setup h old d.half d.agrees c.args.due c.requires.due (state_of c.done.new.self) new on in
     record { setup = d.setup; geometry = d.geometry; timing = d.timing; half = behind.0; agrees = behind.1; lanes_agree = c.in-Ok.ensures.agree }
 
-pub returns-in-Err-done-clause-err : goal.returns-in-Err-done-clause-err
-returns-in-Err-done-clause-err g c =
+pub returns-in-Ok-clause-err : goal.returns-in-Ok-clause-err
+returns-in-Ok-clause-err g c =
     let d = c.requires.driven in
     let e = c.member.ensures in
     let h = state_of c.args.self.now in
@@ -49,8 +49,8 @@ returns-in-Err-done-clause-err g c =
     kept_by h after old new c.args.due
     (goes_on d.setup h old d.half d.agrees c.args.due c.requires.due c.member.result.1.now e.0 e.1 e.3 after new c.in-Ok.ran ran refl)
 
-pub returns-in-Err-clause-told : goal.returns-in-Err-clause-told
-returns-in-Err-clause-told g c =
+pub returns-clause-told : goal.returns-clause-told
+returns-clause-told g c =
     let d = c.requires.driven in
     let e = c.member.ensures in
     let h = state_of c.args.self.now in
