@@ -2,7 +2,7 @@
 use Rattle.std.proofs.Common.{◌≡◌, ◌<◌, ◌≤◌, ℕ, zero, suc, ◌+◌, List, [], ◌∷◌, ◌++◌, length, map, take, get_or, refl, sym, ap, ◌∙◌, arith, length-take-le}
 use Rattle.std.specs.Prelude.{slice_set}
 use Rattle.std.proofs.lemmas.List.{length-map, take_all}
-use Rattle.onfi_core.proofs.Mapped.{mapped_more}
+use Rattle.onfi_flight.proofs.Lists.{mapped_more}
 use Rattle.onfi_c.specs.Written.{filled}
 
 filled_next : {A : Type 0} (n : ℕ) (rest y : A) (xs : List A) → length xs < n → slice_set (filled n rest xs) (length xs) y ≡ filled n rest (xs ++ y ∷ [])

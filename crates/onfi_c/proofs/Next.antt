@@ -17,13 +17,13 @@ use Rattle.onfi_problem.proofs.Places.{within_get}
 use Rattle.onfi_schedule.specs.Schedule.{Placed, Schedule, Legal, phases}
 use Rattle.onfi_schedule.specs.Laws.{ComesNext}
 use Rattle.onfi_schedule.proofs.Following.{first_move_law}
-use Rattle.onfi_core.specs.declared.starting.Start.{Start as AStart}
-use Rattle.onfi_core.specs.declared.starting.Turn.TheVariants as turn
-use Rattle.onfi_core.specs.Dues.{IsTurn, NoneStart, starts_in}
+use Rattle.onfi_flight.specs.declared.turn.Start.{Start as AStart}
+use Rattle.onfi_flight.specs.declared.turn.Turn.TheVariants as turn
+use Rattle.onfi_flight.specs.Turns.{IsTurn, NoneStart, starts_in}
 use Rattle.onfi_core.specs.Steps.{is_empty}
 use Rattle.onfi_core.proofs.Becoming.{nothing_left, within_groups}
 use Rattle.onfi_core.proofs.Lists.{cut_there}
-use Rattle.onfi_core.proofs.Shifted.{phases_start}
+use Rattle.onfi_flight.proofs.Shifted.{phases_start}
 use Rattle.onfi_c.specs.declared.coming.Coming.{Coming}
 use Rattle.onfi_c.specs.Coming.{IsComing}
 

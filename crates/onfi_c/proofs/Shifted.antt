@@ -12,8 +12,8 @@ use Rattle.onfi_problem.proofs.Lists.{map_set}
 use Rattle.onfi_schedule.specs.Schedule.{Schedule, Legal}
 use Rattle.onfi_schedule.proofs.Earlier.{sooner_legal}
 use Rattle.onfi_schedule.proofs.Sooner.{SoonerState, at_times, set_sooner}
-use Rattle.onfi_core.specs.Times.{later}
-use Rattle.onfi_core.proofs.Shifted.{later_state, luns_later, shifted_legal}
+use Rattle.onfi_flight.specs.Times.{later}
+use Rattle.onfi_flight.proofs.Shifted.{later_state, luns_later, shifted_legal}
 
 after_by : (more : Bool) (d : ℕ) (group : List Want) (n ready early late ended : ℕ) → late ≤ early + d → ended ≤ ready + d
     → SoonerState (if more then Running group n late else Free ended) (later_state d (if more then Running group n early else Free ready))

@@ -21,7 +21,7 @@ use Rattle.onfi_problem.specs.Moves.{lun_after, placed, ran_with, without}
 use Rattle.onfi_problem.proofs.Kept.{kept, kept_small}
 use Rattle.onfi_problem.proofs.Lists.{map_found, map_set}
 use Rattle.onfi_schedule.specs.Schedule.{Schedule, Legal}
-use Rattle.onfi_core.specs.Steps.{IsPhase}
+use Rattle.onfi_flight.specs.Flight.{IsPhase}
 use Rattle.onfi_schedule.specs.Laws.{ComesNext}
 use Rattle.onfi_c.specs.declared.behind.Behind.{Behind}
 use Rattle.onfi_c.specs.declared.channel.PlainChannel.{PlainChannel}
@@ -33,7 +33,7 @@ use Rattle.onfi_c.specs.declared.status.Status.TheVariants.{NotDue, TooSoon}
 use Rattle.onfi_c.specs.Behind.{IsBehind, IsBeyond, IsInTime, IsNotBehind, ends, kept_behind}
 use Rattle.onfi_c.specs.Coming.{IsComing, left_behind, wants_behind}
 use Rattle.onfi_c.specs.Due.{number_of_kind}
-use Rattle.onfi_core.specs.Times.{later}
+use Rattle.onfi_flight.specs.Times.{later}
 use Rattle.onfi_c.specs.Ran.{IsRan, IsNotRan, ComesOn, Kept, is_beyond, is_late, is_no_memory, is_not_due, is_too_soon, Stands, lun_in, no_want, telling, waits, written_want}
 use Rattle.onfi_c.specs.Said.{IsSaid, kind_of, members_of, state_of, states_of, want_of, wants_of}
 use Rattle.onfi_c.specs.Written.{filled, written_schedule}

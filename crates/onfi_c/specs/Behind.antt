@@ -14,7 +14,7 @@ use Rattle.onfi_c.specs.declared.lun.PlainWant.{PlainWant}
 use Rattle.onfi_c.specs.declared.status.Status.{Status}
 use Rattle.onfi_c.specs.declared.status.Status.TheVariants.{Clock, Memory}
 use Rattle.onfi_c.specs.Coming.{left_behind, wants_behind}
-use Rattle.onfi_core.specs.Times.{later}
+use Rattle.onfi_flight.specs.Times.{later}
 use Rattle.onfi_c.specs.Ran.{IsLate, Kept}
 use Rattle.onfi_c.specs.Said.{IsSaid, state_of, wants_of}
 use Rattle.onfi_c.specs.Written.{written_schedule}

@@ -7,8 +7,8 @@ use Rattle.onfi_problem.specs.declared.lun_state.LunState.TheVariants.{Running}
 use Rattle.onfi_problem.specs.Moves.{Move, move_lun, placed, ran_with, without}
 use Rattle.onfi_schedule.specs.Schedule.{Schedule}
 use Rattle.onfi_schedule.specs.Laws.{ComesNext, IsFirstMove}
-use Rattle.onfi_core.specs.Dues.{groups_left}
-use Rattle.onfi_core.specs.Steps.{IsPhase}
+use Rattle.onfi_flight.specs.Flight.{groups_left}
+use Rattle.onfi_flight.specs.Flight.{IsPhase}
 use Rattle.onfi_c.specs.declared.coming.Coming.{Coming}
 
 -- the wants that wait, once a new group began or a running one went on

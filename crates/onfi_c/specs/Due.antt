@@ -14,7 +14,7 @@ use Rattle.onfi_problem.specs.Moves.{Move}
 use Rattle.onfi_schedule.specs.Schedule.{Schedule, phases}
 use Rattle.onfi_schedule.specs.Laws.{ComesNext}
 use Rattle.onfi_schedule.specs.Trace.{place_of}
-use Rattle.onfi_core.specs.Steps.{IsPhase}
+use Rattle.onfi_flight.specs.Flight.{IsPhase}
 use Rattle.onfi_c.specs.declared.channel.PlainChannel.{PlainChannel}
 use Rattle.onfi_c.specs.declared.device.PlainGeometry.{PlainGeometry}
 use Rattle.onfi_c.specs.declared.lun.PlainLun.{PlainLun}

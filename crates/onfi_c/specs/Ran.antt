@@ -9,7 +9,7 @@ use Rattle.onfi_problem.specs.Moves.{Move, move_lun, placed}
 use Rattle.onfi_group.specs.Group.{is_member}
 use Rattle.onfi_schedule.specs.Schedule.{Schedule, Legal, phases}
 use Rattle.onfi_schedule.specs.Laws.{ComesNext}
-use Rattle.onfi_core.specs.Steps.{IsPhase}
+use Rattle.onfi_flight.specs.Flight.{IsPhase}
 use Rattle.onfi_c.specs.declared.channel.PlainChannel.{PlainChannel}
 use Rattle.onfi_c.specs.declared.lun.PlainLun.{PlainLun}
 use Rattle.onfi_c.specs.declared.lun.PlainWant.{PlainWant}
@@ -17,7 +17,7 @@ use Rattle.onfi_c.specs.declared.schedule.PlainSchedule.{PlainSchedule}
 use Rattle.onfi_c.specs.declared.status.Status.{Status}
 use Rattle.onfi_c.specs.declared.status.Status.TheVariants.{TooMany, Clock, Memory, NothingDue, NotDue, TooSoon}
 use Rattle.onfi_c.specs.Due.{number_of_kind}
-use Rattle.onfi_core.specs.Times.{later}
+use Rattle.onfi_flight.specs.Times.{later}
 use Rattle.onfi_c.specs.Later.{reaches_limit}
 use Rattle.onfi_c.specs.Said.{IsSaid, want_of}
 use Rattle.onfi_c.specs.SaidLegal.{IsStand, IsNoStand}

@@ -1,7 +1,7 @@
 //! What stands behind a phase that ran.
 ghost use Rattle.std.specs.Prelude.{◌≡◌, ◌⊎◌, ℕ, ◌+◌, ◌*◌, ◌<◌, ◌≤◌, ◌^◌, Some, false, true, length, map, take, IfOk, IfErr};
 ghost use Rattle.std.specs.List.{filter};
-ghost use Rattle.onfi_core.specs.Times.{later};
+ghost use Rattle.onfi_flight.specs.Times.{later};
 ghost use Rattle.onfi_group.specs.Group.{group_spans};
 ghost use Rattle.onfi_schedule.specs.Schedule.{Legal};
 ghost use Rattle.onfi_timing.specs.Phases.{phase_length};
@@ -24,7 +24,7 @@ use crate::schedule::PlainSchedule;
 use crate::stand::Stand;
 use crate::status::Status;
 use crate::written::{self, is_small};
-use onfi_core::{delay_schedule, leave, lun_after};
+use onfi_flight::{delay_schedule, leave, lun_after};
 use onfi_problem::LunState;
 use onfi_request::Want;
 use onfi_schedule::Schedule;

@@ -1,11 +1,11 @@
 //! The phase of a legal schedule that comes next.
 ghost use Rattle.std.specs.Prelude.{◌≡◌, ◌<◌, ◌^◌, [], IfNone, IfSome};
 ghost use Rattle.onfi_schedule.specs.Schedule.{Legal, phases};
-ghost use Rattle.onfi_core.specs.Dues.{IsTurn};
-ghost use Rattle.onfi_core.specs.declared.starting.Turn.TheVariants as turn;
+ghost use Rattle.onfi_flight.specs.Turns.{IsTurn};
+ghost use Rattle.onfi_flight.specs.declared.turn.Turn.TheVariants as turn;
 ghost use Rattle.onfi_c.specs.Coming.{IsComing};
 
-use onfi_core::{Start, Turn, behind_first, next_turn};
+use onfi_flight::{Start, Turn, behind_first, next_turn};
 use onfi_group::Group;
 use onfi_problem::Problem;
 use onfi_schedule::{Schedule, Starts};

@@ -1,7 +1,7 @@
 use Rattle.std.proofs.Common.{length, sym, ap, ◌∙◌, arith, length-set}
 use Rattle.std.proofs.lemmas.List.{length-map}
 use Rattle.onfi_schedule.specs.Schedule.{Schedule}
-use Rattle.onfi_core.specs.Times.{later_starts}
+use Rattle.onfi_flight.specs.Times.{later_starts}
 use Rattle.onfi_c.proofs.EarlyStarts.{early_rest, early_groups}
 use Rattle.onfi_c.proofs.behind.schedule_behind.Goals as goal
 

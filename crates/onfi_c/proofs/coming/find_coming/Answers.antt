@@ -1,5 +1,5 @@
 use Rattle.std.proofs.Common.{subst}
-use Rattle.onfi_core.specs.Dues.{NoneStart, starts_in}
+use Rattle.onfi_flight.specs.Turns.{NoneStart, starts_in}
 use Rattle.onfi_c.proofs.Next.{none_left}
 use Rattle.onfi_c.proofs.coming.find_coming.Goals as goal
 
