@@ -1,5 +1,5 @@
 -- A half with its chip: what its calls come to, and what they keep.
-use Rattle.std.proofs.Common.{◌≡◌, ℕ, ◌<◌, ◌≤◌, ◌^◌, List, [], ◌∷◌, ◌++◌, Some, None, Option, Result, Ok, Err, IfOk, refl, sym, ap, ◌∙◌, subst}
+use Rattle.std.proofs.Common.{◌≡◌, ℕ, ◌<◌, ◌≤◌, ◌^◌, List, [], ◌∷◌, ◌++◌, Some, None, Option, Result, Ok, Err, IfOk, refl, sym, ap, ◌∙◌, subst, arith}
 use Rattle.std.specs.Prelude.{IfSome, replicate}
 use Rattle.std.specs.List.{filter}
 use Rattle.onfi_addr.specs.declared.geometry.Geometry.{Geometry}
@@ -20,7 +20,7 @@ use Rattle.onfi_core.specs.declared.outcome.Outcome.TheVariants as outcome
 use Rattle.onfi_core.specs.declared.phase_result.PhaseResult.{PhaseResult}
 use Rattle.onfi_core.specs.declared.setup.Setup.{Setup}
 use Rattle.onfi_core.specs.Drive.{HasRun, AfterDrive, IsStatus, cause_of}
-use Rattle.onfi_flight.specs.Flight.{member_of}
+use Rattle.onfi_flight.specs.Flight.{left_behind, member_of, move_of}
 use Rattle.onfi_core.specs.Dues.{IsDue, after_due, replies_of}
 use Rattle.onfi_core.specs.Kept.{first_half}
 use Rattle.onfi_core.specs.Queues.{IsFresh}
@@ -40,7 +40,9 @@ use Rattle.onfi_lun.specs.Lanes.{LanesAgree, MayRunDue}
 use Rattle.onfi_lun.proofs.Dues.{may_run_due}
 use Rattle.onfi_reply.specs.Ends.{PosterView}
 use Rattle.onfi_reply.specs.Replies.{IsNext}
-use Rattle.onfi_seq.specs.Driver.{DriverFields, DriverView, IsDriven}
+use Rattle.onfi_seq.specs.declared.ran.Ran.{Ran}
+use Rattle.onfi_seq.specs.declared.ran.Ran.TheVariants as ran
+use Rattle.onfi_seq.specs.Driver.{DriverFields, DriverView, IsAt, IsDriven, RunsBy, StartsNext}
 
 -- a half of which neither what is accepted nor what is posted changed
 pub quiet_is : (h h' : HalfState) (chip chip' : Chip) → h'.accepted ≡ h.accepted → h'.posted ≡ h.posted → (let z : ChannelState = record (quiet h chip) { half = h'; chip = chip' } in z) ≡ quiet h' chip'
@@ -68,6 +70,18 @@ module _ {C : Type 0} where
 
   pub outside : (state : C → Chip) (P : DriverFields → Chip → Type 0) (inside now : DriverView C) → inside ≡ now → P inside.0 (state inside.1) → P now.0 (state now.1)
   outside state P inside now is h = subst (λ (x : DriverView C). P x.0 (state x.1)) is h
+
+-- what is due is what starts next
+pub starts_next : (s : Setup) (h : HalfState) (chip : Chip) → Reaches s (quiet h chip) → (due : Due) → IsDue h due → StartsNext h due.start
+starts_next s h chip reached due is = record { move = move_of due; left = left_behind h.left due; next = is.next (events_reach s (quiet h chip) reached).half.sound.legal }
+
+-- .. and was due where it ran
+pub runs_by : (now : ℕ) (h : HalfState) (start : ℕ) (result : Ran) → StartsNext h start → start ≤ now → IsAt start result → RunsBy now h result
+runs_by now h start (ran.Phase at) next low e = (subst (StartsNext h) (sym e) next, omega (arith, low, e))
+runs_by now h start (ran.Stopped cause) next low e = λ _. (start, next, low)
+runs_by now h start ran.Memory next low e = (start, next, low)
+runs_by now h start (ran.NotBefore at) next low e = absurd e
+runs_by now h start ran.NoPhase next low e = absurd e
 
 -- Accepting, and the batch
 

@@ -173,6 +173,7 @@ impl<C: Chip, P: Planner> Driver<C, P> {
         ensures accepted { self.new.0.half.accepted ≡ self.old.0.half.accepted }
         ensures posted { self.new.0.half.posted ≡ self.old.0.half.posted }
     {
+        let _half = &self.half;
         let start = due.start;
         if start > now {
             return Ran::NotBefore { start };
