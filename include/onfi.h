@@ -376,11 +376,13 @@ uint32_t onfi_choose(const onfi_channel *channel, const onfi_lun *luns, size_t l
 
 /*
  * Tells the phase that is due: the undone one of least start, with its address and its command bytes. `schedule` is what is
- * left of a plan of these LUNs and wants, or any other legal schedule of them.
+ * left of a plan of these LUNs and wants, or any other legal schedule of them. Of the schedule only this phase is looked at:
+ * that the bus is free and its LUN ready by then, and that a new group may start. So of a schedule that isn't legal a phase may
+ * be told, one that may run; a check of the whole is onfi_check_within's. No memory is asked for.
  *
  * ONFI_DONE; else nothing is given, and told is the first of the channel's and the problem's faults as by onfi_plan;
- * ONFI_BAD_SCHEDULE; ONFI_ILLEGAL, where the schedule isn't legal for what is said; ONFI_BAD_GEOMETRY; ONFI_NOTHING_DUE;
- * ONFI_BAD_PLACE, where the device doesn't have the page. ONFI_MEMORY may stand in place of any behind ONFI_BAD_KIND.
+ * ONFI_BAD_SCHEDULE; ONFI_ILLEGAL, where the phase of least start may not run, or none has a start and something waits or runs;
+ * ONFI_BAD_GEOMETRY; ONFI_NOTHING_DUE; ONFI_BAD_PLACE, where the device doesn't have the page. ONFI_MEMORY is never told.
  */
 uint32_t onfi_due(const onfi_channel *channel, const onfi_lun *luns, size_t lun_count, const onfi_want *wants, size_t want_count,
                   const onfi_geometry *geometry, const onfi_schedule *schedule, onfi_phase *phase);
@@ -392,14 +394,15 @@ uint32_t onfi_due(const onfi_channel *channel, const onfi_lun *luns, size_t lun_
  * *want_count of the wants wait, of ONFI_WANTS places; what is behind them stays as it is. `lun` and `number` are those of
  * the phase, as onfi_due tells them.
  *
- * A phase may start late, and the rest waits for it: the schedule stays legal, so channel->bus_free and the LUNs stay what
- * this call made of them until a new plan is made. A LUN that is ready early may be told so by a lesser `since`.
+ * A phase may start late, and the rest waits for it: a legal schedule stays legal, so channel->bus_free and the LUNs stay what
+ * this call made of them until a new plan is made. A LUN that is ready early may be told so by a lesser `since`. As by onfi_due
+ * only the phase is looked at, and no memory is asked for.
  *
  * ONFI_DONE; else all is as it was, and told is the first of: ONFI_TOO_MANY, where *want_count is above ONFI_WANTS; the
- * channel's and the problem's faults as by onfi_plan; ONFI_BAD_SCHEDULE; ONFI_ILLEGAL; ONFI_NOTHING_DUE; ONFI_NOT_DUE, where
- * another phase is due; ONFI_TOO_SOON, where `started` is before its start; ONFI_CLOCK, where a phase would start at 2^62 ns
- * or later, or what is left could last until then: so no later call tells ONFI_CLOCK of what this one made. ONFI_MEMORY may
- * stand in place of any behind ONFI_BAD_KIND.
+ * channel's and the problem's faults as by onfi_plan; ONFI_BAD_SCHEDULE; ONFI_ILLEGAL, as by onfi_due; ONFI_NOTHING_DUE;
+ * ONFI_NOT_DUE, where another phase is due; ONFI_TOO_SOON, where `started` is before its start; ONFI_CLOCK, where a phase would
+ * start at 2^62 ns or later, or what is left could last until then: so no later call tells ONFI_CLOCK of what this one made.
+ * ONFI_MEMORY is never told.
  */
 uint32_t onfi_ran(onfi_channel *channel, onfi_lun *luns, size_t lun_count, onfi_want wants[ONFI_WANTS], size_t *want_count,
                   onfi_schedule *schedule, uint8_t lun, uint8_t number, uint64_t started);

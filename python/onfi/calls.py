@@ -192,9 +192,12 @@ def choose(
 
 
 def due(channel: Channel, luns: Sequence[Lun], wants: Sequence[Want], geometry: Geometry, schedule: Schedule) -> Phase:
-    """The phase that is due of a legal schedule: the undone one of least start, with its address and its command bytes.
+    """The phase that is due: the undone one of least start, with its address and its command bytes.
 
-    Raises what `plan` raises of the channel; `BadSchedule`, `Illegal`, `BadGeometry`, `NothingDue`, `BadPlace`; `Memory`.
+    Only this phase is looked at: of a schedule that isn't legal one may be told that may run.
+
+    Raises what `plan` raises of the channel, but for `Memory`; `BadSchedule`; `Illegal` where the phase of least start may not
+    run, or none has a start and something waits or runs; `BadGeometry`, `NothingDue`, `BadPlace`.
     """
     said, phase = Problem(channel, luns, wants), CPhase()
     status = library().onfi_due(*said.words, ctypes.byref(CGeometry.of(geometry)), ctypes.byref(CSchedule.of(schedule)), ctypes.byref(phase))
@@ -209,9 +212,9 @@ def ran(channel: Channel, luns: Sequence[Lun], wants: Sequence[Want], schedule: 
     The bus is free from its end, its LUN goes on or is free, a group that began has left the wants, and the starts that are
     left are later by as much as this one was. `lun` and `phase` are the LUN of the phase and its number in its group.
 
-    Raises `TooMany` where more than eight wants wait; what `plan` raises of the channel; `BadSchedule`, `Illegal`,
-    `NothingDue`, `NotDue`, `TooSoon`; `Clock` where a phase would start at 2^62 ns or later, or what is left could last until
-    then, so that no later call raises it of what this one made; `Memory`.
+    Raises `TooMany` where more than eight wants wait; what `plan` raises of the channel, but for `Memory`; `BadSchedule`,
+    `Illegal` as by `due`, `NothingDue`, `NotDue`, `TooSoon`; `Clock` where a phase would start at 2^62 ns or later, or what is
+    left could last until then, so that no later call raises it of what this one made.
     """
     said, left, count = Problem(channel, luns, wants), CSchedule.of(schedule), ctypes.c_size_t(len(wants))
     waiting = (CWant * WANTS)(*(CWant.of(want) for want in wants[:WANTS]))

@@ -270,6 +270,58 @@ static void choices(void)
     expect("nor put there", chosen[0], 99);
 }
 
+/* The phase that is due of a schedule of the usual problem, on a small device. */
+static uint32_t due_of(const problem *p, const onfi_schedule *s, onfi_phase *phase)
+{
+    const onfi_geometry geometry = {
+        .lun_count = 2, .plane_address_bits = 1, .pages_per_block = 4, .blocks_per_lun = 16, .page_bits = 2, .block_bits = 4, .lun_bits = 1,
+        .column_address_cycles = 2, .row_address_cycles = 3, .data_bytes = 2048, .spare_bytes = 64,
+    };
+    return onfi_due(&p->channel, p->luns, p->lun_count, p->wants, p->want_count, &geometry, s, phase);
+}
+
+static void refuses_due(const char *what, const problem *p, const onfi_schedule *s, uint32_t wanted)
+{
+    onfi_phase phase, before;
+    memset(&phase, 0xA5, sizeof phase);
+    memcpy(&before, &phase, sizeof phase);
+    expect(what, due_of(p, s, &phase), wanted);
+    expect(what, (uint64_t)memcmp(&phase, &before, sizeof phase), 0);
+}
+
+/* A schedule without want 8, whose LUN runs an erase: want 7 at `start`, and the erase's status behind it. */
+static onfi_schedule read_and_status(uint64_t start, uint64_t data, uint64_t status)
+{
+    return (onfi_schedule){
+        .luns = 2, .groups = 1, .rest = {{0}, {.starts = 1, .start = {status}}}, .group = {{.members = 1, .want = {7}, .start = {start, data}}}};
+}
+
+/* One phase is looked at: it has to be one that may run, whatever stands behind it. */
+static void phases(void)
+{
+    problem p = usual();
+    onfi_phase phase;
+    p.want_count = 1;
+    onfi_schedule s = read_and_status(0, 30000, 1000);
+    expect("a command", due_of(&p, &s, &phase), ONFI_DONE);
+    expect("of the read", phase.want, 7);
+    s = read_and_status(0, 10, 1000);
+    expect("a command, and its data too soon", due_of(&p, &s, &phase), ONFI_DONE);
+    expect("of the read too", phase.want + phase.number, 7);
+    s = read_and_status(2000, 30000, 1000);
+    expect("a status", due_of(&p, &s, &phase), ONFI_DONE);
+    expect("of the erase", phase.kind, ONFI_ERASE);
+    s = read_and_status(2000, 30000, 999), refuses_due("a status before its LUN is ready", &p, &s, ONFI_ILLEGAL);
+    p.channel.bus_free = 5;
+    s = read_and_status(4, 30000, 1000), refuses_due("a command before the bus is free", &p, &s, ONFI_ILLEGAL);
+    s = read_and_status(5, 30000, 1000), s.group[0].want[0] = 9, refuses_due("a want that doesn't wait", &p, &s, ONFI_ILLEGAL);
+    s = (onfi_schedule){.luns = 2}, refuses_due("nothing is left, and something waits", &p, &s, ONFI_ILLEGAL);
+    p.want_count = 0, refuses_due("nothing is left, and something runs", &p, &s, ONFI_ILLEGAL);
+    p.luns[1].members = 0, refuses_due("nothing is left to do", &p, &s, ONFI_NOTHING_DUE);
+    s.luns = 9, refuses_due("nine LUNs", &p, &s, ONFI_BAD_SCHEDULE);
+    p.lun_count = 9, refuses_due("nine LUNs of the channel", &p, &s, ONFI_TOO_MANY);
+}
+
 /* One read, whose phases and waits take 36,240 ns, of a bus that is free so many ns before 2^62. */
 typedef struct {
     onfi_channel channel;
@@ -385,6 +437,7 @@ int main(void)
     remembered();
     within();
     choices();
+    phases();
     last_times();
     devices();
     texts();

@@ -244,11 +244,79 @@ static void print_passed(void)
     print_choice("one kind, the program passed over", by_lun_one_kind, &m);
 }
 
+/* The phase that goes first phase by phase, of what waits: its LUN and start, and the requests that begin. */
+static void print_next(const char *name, const machine *m, mind *mind)
+{
+    batch all;
+    step step = {.start = NEVER};
+    everything(m, &all);
+    printf("%s:", name);
+    if (phase_by_phase(NULL, mind, m, &all, &step))
+        printf(" LUN %u at %" PRIu64 ",", step.lun, step.start);
+    for (size_t at = 0; at < step.members; at++)
+        printf(" %" PRIu64, step.member[at]);
+    printf("\n");
+}
+
+/* Programs of planes 0 to 2 of LUN 0, and an erase of it; what else waits or runs decides whether they wait for plane 3. */
+static machine open_group(const setup *setup)
+{
+    machine m = {.setup = setup};
+    for (unsigned plane = 0; plane < 3; plane++)
+        wait_for(&m, ONFI_PROGRAM, 0, plane, 0);
+    wait_for(&m, ONFI_ERASE, 0, 8, 0);
+    return m;
+}
+
+static void print_open_groups(const setup *setup)
+{
+    machine m = open_group(setup);
+    mind mind = {0};
+    print_next("no LUN has work", &m, &mind);
+    wait_for(&m, ONFI_READ, 1, 0, 0);
+    m.lun[1].ready = 900;
+    print_next("a read of a LUN that isn't ready", &m, &mind);
+    m.waiting[3].want.lun = 2;
+    m.lun[2].ready = 500;
+    print_next("the erase is of another LUN, which isn't ready", &m, &mind);
+    m.waiting[1].groups = 128;
+    print_next("one is due", &m, &mind);
+    m.waiting[1].groups = 0;
+    mind.programs = 6;
+    print_next("the newest program has begun", &m, &mind);
+    mind.programs = 0;
+    wait_for(&m, ONFI_PROGRAM, 0, 3, 0);
+    print_next("the last plane has come", &m, &mind);
+}
+
+/* LUN 0 is in its commands and goes on within the gap, at 600; what LUN 1 could begin before that. */
+static void print_kept_bus(const setup *setup)
+{
+    machine m = {.setup = setup};
+    mind mind = {0};
+    m.lun[0] = (lun_state){.members = 2, .next = 1, .member = {{.want = {.kind = ONFI_READ}}, {.want = {.kind = ONFI_READ}}}, .ready = 600};
+    wait_for(&m, ONFI_PROGRAM, 1, 3, 0);
+    print_next("data that would end behind the gap", &m, &mind);
+    wait_for(&m, ONFI_READ, 2, 0, 0);
+    print_next("a command that ends within it", &m, &mind);
+    m.lun[0].ready = 601;
+    m.waiting_count = 1;
+    print_next("a gap that is too long", &m, &mind);
+}
+
+static void print_phase_by_phase(void)
+{
+    setup setup = setup_of(3);
+    print_open_groups(&setup);
+    print_kept_bus(&setup);
+}
+
 int main(void)
 {
     print_judgements();
     print_runs();
     print_choices();
     print_passed();
+    print_phase_by_phase();
     return 0;
 }

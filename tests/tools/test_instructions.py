@@ -12,7 +12,7 @@ from typing import List
 
 import support
 
-from onfi_tools import whole_plans
+from onfi_tools import driver_costs, whole_plans
 
 COUNTS = """version: 1
 cmd: count_calls plain 9 a b
@@ -55,6 +55,42 @@ summary: 44
 
 totals: 44
 """
+
+# A driver whose turns take 1,000 + 300 + 70 instructions, 240 of them of the board; the library calls a function of its own.
+TURNS = """positions: line
+events: Ir
+fn=(1) ask_next
+5 9
+cfn=(2) driver_next
+calls=4 20
+6 1000
+cfn=(3) driver_run
+calls=4 30
+7 300
+cfn=(4) driver_accept
+calls=2 40
+8 70
+fn=(2)
+20 100
+cfi=(3) choosing.c
+cfn=(5) onfi_choose
+calls=4 1
++1 600
+cfn=(6) onfi_due
+calls=4 1
+* 200
+fn=(3)
+30 20
+cfn=(7) board_status.part.0
+calls=3 9
+31 240
+fn=(5)
+1 500
+cfn=(6)
+calls=1 1
+2 100
+"""
+SAID = "plans: 26142.634 requests a second, bus busy 99.290 %, 7 plans\n  1 reads: 1 us in the mean, 99 % within 3350 us\n"
 
 SEARCH = r"""
 #include <stdio.h>
@@ -135,6 +171,34 @@ class Calls(unittest.TestCase):
     def test_every_set_has_scripts_of_its_own(self) -> None:
         drawn = whole_plans.drawn_sets(2)
         self.assertEqual(len({script for scripts in drawn.values() for script in scripts}), 8)
+
+
+class Turns(unittest.TestCase):
+    def test_a_turn_is_the_driver_without_the_board(self) -> None:
+        turns = driver_costs.turns_of(TURNS, SAID, 2)
+        self.assertEqual(turns, driver_costs.Turns((1370 - 240) / 2, {"onfi_choose": 300, "onfi_due": 100}, 3.5))
+        self.assertEqual(driver_costs.cells_of(turns, ["onfi_choose", "onfi_next", "onfi_due"]), ["565", "165", "300", "", "100", "3.50"])
+
+    @unittest.skipUnless(shutil.which("valgrind"), "no valgrind")
+    def test_the_greedy_way_over_a_library_that_plans_nothing(self) -> None:
+        """Its turns are counted over calls that refuse; ways that plan are refused by them, which ends the run."""
+        header = (support.ROOT / "include/onfi.h").read_text()
+        calls = re.findall(r"^uint32_t (onfi_\w+)\((.*?)\);$", header, re.DOTALL | re.MULTILINE)
+        refusing = "".join(f"uint32_t {name}({words})\n{{ return 4; }}\n" for name, words in calls if name != "onfi_row")
+        row = "uint32_t onfi_row(const onfi_geometry *g, uint8_t lun, uint16_t block, uint16_t page, uint32_t *row)\n" \
+              "{ *row = (uint32_t)lun << (g->page_bits + g->block_bits) | (uint32_t)block << g->page_bits | page; return 0; }\n"
+        with tempfile.TemporaryDirectory() as folder:
+            source, made = Path(folder) / "calls.c", Path(folder) / "calls.o"
+            source.write_text("#include <onfi.h>\n" + row + refusing)
+            subprocess.run(["cc", "-w", "-O1", f"-I{support.ROOT / 'include'}", "-c", str(source), "-o", str(made)], check=True)
+            subprocess.run(["ar", "rcs", str(Path(folder) / "libonfi.a"), str(made)], check=True)
+            driver = driver_costs.Driver(Path(folder), Path(folder))
+            few, many = (driver.turns("greedy", ["depth", depth]) for depth in ("1", "256"))
+            self.assertTrue(driver.has("plans by LUN"))
+            self.assertRaises(subprocess.CalledProcessError, driver.turns, "plans by LUN")
+        self.assertEqual(list(few.calls), ["onfi_row"])
+        self.assertEqual((few.plans, many.plans), (0, 0))
+        self.assertTrue(100 < few.whole < many.whole < 1_000_000, (few, many))
 
 
 if __name__ == "__main__":

@@ -11,9 +11,12 @@ from pathlib import Path
 from typing import Dict, List, NamedTuple, Optional
 
 import support
-from onfi_tools.rolling_use import (ALL, BASE, GREEDY, PLANNED, PLANS, QUICK, SETTINGS, SOURCES, STRICT, TWELVE, WAYS, Asked, Configuration,
-                                    Figures, Measured, Rows, Whole, build, furthest_behind, gains_table, key_of, measure, nine_of_ten,
-                                    quick_tables, run_way, spread_table, whole_tables)
+from onfi_tools.rolling_report import Whole
+from onfi_tools.rolling_tables import (furthest_behind, gains_table, nine_of_ten, of_bound, quick_tables, room_table, spread_table,
+                                       whole_tables)
+from onfi_tools.rolling_use import (ALL, OF_THE_LIBRARY, SOURCES, STRICT, TWELVE, WITH_ERASES, Asked, Configuration, Figures, Measured, Rows, build,
+                                    calls_of, key_of, measure, run_way, ways_of)
+from onfi_tools.rolling_ways import BASE, GREEDY, OWN, PLANS, QUICK, SETTINGS, WAYS, lines_of_missing
 
 KIT_ARCHIVE = "c/liblibc_c.a"
 ASKED = Asked(requests=200, seed=3, limit=2000, jobs=1)
@@ -52,6 +55,15 @@ by LUN, one kind: 0 1 9 10 11 12 13 14
 reads before a program: 1 8 10 11 12 13 14 15
 the program passed over: 0 1 8 10 11 12 14 15
 one kind, the program passed over: 1 2 10 11 12 13 14 15
+no LUN has work: LUN 0 at 0, 0 1 2
+a read of a LUN that isn't ready: LUN 0 at 0, 3
+the erase is of another LUN, which isn't ready: LUN 2 at 500, 3
+one is due: LUN 0 at 0, 1 0 2
+the newest program has begun: LUN 0 at 0, 0 1 2
+the last plane has come: LUN 0 at 0, 0 1 2 5
+data that would end behind the gap: LUN 0 at 600,
+a command that ends within it: LUN 2 at 0, 1
+a gap that is too long: LUN 1 at 0, 0
 """
 # Of equal weights, of weights by age, and of those where reads count twenty times; the greatest is 65,535.
 PLANNERS = """\
@@ -143,7 +155,7 @@ class Parts(unittest.TestCase):
         return ran.stdout
 
     def test_judge_and_choice(self) -> None:
-        self.assertEqual(self.printed("rolling_parts.c", [PLANNED, "main.c"], "-DWITHOUT_PLANS"), PARTS)
+        self.assertEqual(self.printed("rolling_parts.c", [OF_THE_LIBRARY, "main.c"], "-DWITHOUT_PLANS"), PARTS)
 
     def test_what_is_asked_of_the_library(self) -> None:
         self.assertEqual(self.printed("rolling_planner.c", ["main.c"]), PLANNERS)
@@ -188,7 +200,7 @@ class Answered:
 
 
 class Greedy(Answered, unittest.TestCase):
-    ways = list(GREEDY)
+    ways = OWN
     requests = 200
 
     def setUp(self) -> None:
@@ -209,6 +221,13 @@ class Greedy(Answered, unittest.TestCase):
         # One LUN: the data of four programs with gaps of 600 between them, one array, four statuses.
         four = 4 * 37439 + 3 * 600 + 800100 + 4 * 305
         self.assertAlmostEqual(self.rate(Configuration("tlc", "sequential", 2, luns=1), "rfirst:all"), 4e9 / four, 2)
+
+    def test_phase_by_phase_whole_groups_wait_for_their_mates(self) -> None:
+        """Sixteen programs of eight LUNs, four planes each: in groups of four, as the greedy way has them."""
+        of = Configuration("tlc", "sequential", 2, depth=16)
+        figures = run_way(self.program, of, "steady", ASKED)
+        self.assertEqual(figures["group"], 4)
+        self.assertAlmostEqual(figures["rate"] / self.rate(of, "rfirst:all"), 1, 4)
 
     def test_an_array_that_is_early_counts_where_it_is_told(self) -> None:
         of = Configuration("tlc", "reads", 2, luns=1, depth=1, array="0.5-0.5")
@@ -240,7 +259,7 @@ class Greedy(Answered, unittest.TestCase):
 
 
 class Plans(Answered, unittest.TestCase):
-    ways = list(PLANS)
+    ways = [way for way in PLANS if WAYS[way].searches and not WAYS[way].takes]
     requests = 80
 
     @classmethod
@@ -266,7 +285,7 @@ class Plans(Answered, unittest.TestCase):
 
 def measured_by(rates: Dict[str, List[float]]) -> List[Measured]:
     """Configurations on which each way has a rate, latencies of 1 us, and what else the tables name."""
-    figures: Figures = {"bus": 0.5, "reads": 1, "programs": 1, "plans": 1, "over": 0, "planning_us": 2, "planning_longest_us": 3000, "erasing": 2}
+    figures: Figures = {"bound": 125, "bus": 0.5, "reads": 1, "programs": 1, "plans": 1, "over": 0, "planning_us": 2, "planning_longest_us": 3000, "erasing": 2}
     figures.update({f"{kind}_{which}": 1.0 for kind in ("read", "program") for which in ("mean", "99", "999")})
     made = []
     for at in range(max(map(len, rates.values()))):
@@ -295,15 +314,43 @@ class Tables(unittest.TestCase):
             one.by_way["plan"]["read_99"] = 2.0
         for figures in measured[0].by_way.values():
             figures["read_99"] = 0.0
-        row = "| plan in order | 100.0 | 90.0 | 80.0 | 150.0 | 1; 2 | 1.00 | 2.00 | 1.00 | 1.00 |"
+        row = "| plan in order | 100.0 | 90.0 | 80.0 | 150.0 | 1; 2 | 80; 64 | 1.00 | 2.00 | 1.00 | 1.00 |"
         self.assertEqual(spread_table("of ten", measured, ["plan"])[2], row)
         self.assertEqual(nine_of_ten(list(range(216))), 21)
         last = f"{ALL[3].title()}: 80; {ALL[1].title()}: 90"
         self.assertEqual(furthest_behind(measured, ["plan"], 2)[2], f"| plan in order | {last} |")
 
+    def test_where_there_is_room_by_hand(self) -> None:
+        """Reads first over all has 80 % of a bound of 125; of three configurations one has a bound of 105."""
+        measured = measured_by({"plan": [150, 90, 100]})
+        for figures in measured[0].by_way.values():
+            figures["bound"] = 105
+        self.assertEqual([round(of_bound(one, BASE)) for one in measured], [95, 80, 80])
+        self.assertEqual(room_table(measured, ["plan"])[0].split("|")[1].strip(), "on the 2 with at most 95 % of the bound")
+        self.assertEqual(room_table(measured, ["plan"])[2], "| plan in order | 95.0 | 95.0 | 100.0 | 90.0 | 76; 72 | 1.00 |")
+        self.assertEqual(len(room_table(measured[:1], ["plan"])), 2)
+
+    def test_ways_that_the_library_lacks_are_told(self) -> None:
+        self.assertEqual(ways_of(GREEDY_ALONE), OWN)
+        told = ["left out: phase by phase, from C, for want of onfi_next", "left out: plan in order, for want of the library"]
+        self.assertEqual(lines_of_missing(["next", "plan"]), told)
+
+    def test_calls_that_a_library_has(self) -> None:
+        """By the names of its archive: one that it only asks for is none of its own."""
+        room = Path(ROOM.name) / "calls"
+        room.mkdir()
+        (room / "calls.c").write_text("int onfi_plan_rule(void);\nint onfi_next(void) { return onfi_plan_rule(); }\n")
+        subprocess.run(["cc", "-c", str(room / "calls.c"), "-o", str(room / "calls.o")], check=True)
+        subprocess.run(["ar", "rcs", str(room / "libonfi.a"), str(room / "calls.o")], check=True)
+        self.assertEqual(calls_of(room), ["onfi_next"])
+
+    def test_runs_with_erases_are_longer(self) -> None:
+        self.assertEqual([ASKED.requests_of(of) for of in TWELVE[7:9]], [ASKED.requests, WITH_ERASES])
+        self.assertEqual(ASKED._replace(requests=20_000).requests_of(TWELVE[8]), 20_000)
+
     def test_each_table_has_a_cell_for_each_column(self) -> None:
         whole = whole_tables([one._replace(configuration=of) for of, one in zip(ALL, measured_by({"plan": [90.0] * 216}))], list(WAYS))
-        quick = quick_tables([measured_by({"plan": [90.0] * size}) for size in (12, 6, 3)])
+        quick = quick_tables([measured_by({"plan": [90.0] * size}) for size in (12, 6, 3)], list(WAYS))
         for lines in (whole, quick):
             tables = [part.splitlines() for part in "\n".join(lines).split("\n\n")]
             self.assertGreaterEqual(len(tables), 4)

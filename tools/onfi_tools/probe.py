@@ -45,8 +45,8 @@ class Probe:
         own = f"{name}: {' '.join([*lines, *kit])}"
         (folder / "crates.txt").write_text("\n".join([*lines.values(), own]) + "\n")
 
-    def run(self, files: Dict[str, str]) -> "subprocess.CompletedProcess[str]":
-        """Runs the program with these files of its src; nothing is proved."""
+    def run(self, files: Dict[str, str], given: str = "") -> "subprocess.CompletedProcess[str]":
+        """Runs the program with these files of its src, and that as its standard input; nothing is proved."""
         for name, text in files.items():
             (self.crate / "src" / name).write_text(text)
-        return subprocess.run(["rt", "try"], cwd=self.crate, capture_output=True, text=True)
+        return subprocess.run(["rt", "try"], cwd=self.crate, input=given, capture_output=True, text=True)

@@ -14,9 +14,13 @@ abbrev pub row_of : Geometry → Place → ℕ
 row_of geometry place =
     place.page + place.block * 2 ^ geometry.page_bits + place.lun * 2 ^ (geometry.page_bits + geometry.block_bits)
 
--- the low bits of the block number
+-- the low bits of a block's number, so many
+abbrev pub plane_at : ℕ → ℕ → ℕ
+plane_at plane_bits block = block % 2 ^ plane_bits
+
+-- those of a device
 abbrev pub plane_of_block : Geometry → ℕ → ℕ
-plane_of_block geometry block = block % 2 ^ geometry.plane_address_bits
+plane_of_block geometry block = plane_at geometry.plane_address_bits block
 
 -- the bytes of a page, spare bytes among them
 abbrev pub page_bytes_of : Geometry → ℕ

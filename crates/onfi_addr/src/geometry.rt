@@ -5,6 +5,7 @@ use crate::bits::{bits_for, low_bits, moved_up};
 use crate::fault::GeometryFault;
 use crate::judging::first_fault;
 use crate::place::Place;
+use crate::plane::plane_at;
 use onfi_param::ParamPage;
 
 /// What of a device's parameter page its addressing and its scheduling rest on (ONFI 4.2, addressing; features).
@@ -161,7 +162,7 @@ impl Geometry {
     pub fn plane_of(&self, block: u16) -> u8
         ensures { result ≡ plane_of_block self.now block }
     {
-        (block % (1 << self.plane_address_bits)) as u8
+        plane_at(self.plane_address_bits, block)
     }
 
     /// The bytes of a row address, the least significant first: the row address cycles are the first of them.

@@ -10,7 +10,9 @@ mod fault;
 mod geometry;
 mod judging;
 mod place;
+mod plane;
 
 pub use fault::GeometryFault;
 pub use geometry::Geometry;
 pub use place::Place;
+pub use plane::plane_at;

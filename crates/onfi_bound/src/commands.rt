@@ -34,7 +34,7 @@ impl Commands {
     pub fn of(problem: &Problem) -> Commands
         ensures { AreCommands problem.now.problem result }
     {
-        let _limits = problem.bus_free();
+        problem.in_limits();
         let groups = problem.groups();
         let mut counts = Commands::of_wants(problem.wants(), problem.waiting());
         for lun in problem.luns() {
@@ -136,7 +136,7 @@ impl Commands {
         requires step { IsMove problem.now.problem (Next lun) }
         ensures { AreCommands (after problem.now.problem (Next lun)) result }
     {
-        let _limits = problem.bus_free();
+        problem.in_limits();
         let state = problem.luns()[lun as usize];
         let group = &problem.groups()[state.place as usize];
         if (state.next as usize) < group.len() {
@@ -151,7 +151,7 @@ impl Commands {
         requires step { IsMove problem.now.problem (Start (slice_index_or problem.now.groups place [])) }
         ensures { AreCommands (after problem.now.problem (Start (slice_index_or problem.now.groups place []))) result }
     {
-        let _limits = problem.bus_free();
+        problem.in_limits();
         self.less_one(problem.group(place).kind())
     }
 

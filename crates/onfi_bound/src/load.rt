@@ -75,7 +75,7 @@ impl Load {
         requires load { IsLoadBefore problem.now number self.old }
         ensures { IsLoadBefore problem.now (number + 1) self.new }
     {
-        let _limits = problem.bus_free();
+        problem.in_limits();
         let (wants, waits) = (problem.wants(), problem.waiting()[number]);
         if !waits {
             return;

@@ -12,7 +12,7 @@ use onfi_problem::Problem;
 pub fn closing(problem: &Problem, e: u64) -> Option<BoundAt>
     ensures { MatchOption result (NoneReaches problem.now.problem e) (λ first. IsFirstAt problem.now.problem e first) }
 {
-    let _limits = problem.bus_free();
+    problem.in_limits();
     Load::of(problem, problem.waiting()).closing(problem, e)
 }
 

@@ -69,7 +69,7 @@ impl Load {
         ensures { MatchOption result ((l : ℕ) → l < length problem.now.problem.luns → die problem.now.problem l < e)
             (λ first. IsFirstDieAt problem.now.problem e first) }
     {
-        let _limits = problem.bus_free();
+        problem.in_limits();
         for (lun, state) in problem.luns().iter().enumerate() {
             let at = self.die(problem, lun as u8, *state);
             if at >= e {
@@ -106,7 +106,7 @@ impl Tally {
         requires { IsLoad problem.now.problem.timing problem.now.problem.rules problem.now.problem.wants load.now }
         ensures { IsTally problem.now.problem (length problem.now.problem.luns) result }
     {
-        let _limits = problem.bus_free();
+        problem.in_limits();
         let mut tally = Tally {
             sums: load.sums,
             first: None,

@@ -1,13 +1,8 @@
 mod Answering
-mod Dues
-mod EarlyStarts
 mod Filled
 mod Geometries
 mod Giving
-mod Horizons
-mod Next
 mod Orders
 mod Recalled
-mod Shifted
 mod Standing
 mod Unplanned

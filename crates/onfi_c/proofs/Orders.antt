@@ -8,8 +8,7 @@ use Rattle.onfi_request.specs.declared.want.Want.{Want}
 use Rattle.onfi_core.specs.Choice.{AreMerged, Rise}
 use Rattle.onfi_core.specs.declared.setup.Choice.{Choice}
 use Rattle.onfi_core.specs.declared.setup.Choice.TheVariants.{InOrder, ByLun, ReadsFirst}
-use Rattle.onfi_core.proofs.Lists.{All-at, drop_next}
-use Rattle.onfi_core.proofs.Dues.{next_cases}
+use Rattle.onfi_core.proofs.Lists.{All-at, drop_next, next_cases}
 use Rattle.onfi_problem.proofs.Places.{get_within}
 use Rattle.onfi_c.specs.declared.lun.PlainWant.{PlainWant}
 use Rattle.onfi_c.specs.Chosen.{ChoosesBy, RiseFrom}

@@ -1,5 +1,5 @@
 -- What is kept behind a phase says the problem that the phase leaves.
-use Rattle.std.proofs.Common.{◌≡◌, ℕ, ◌+◌, ◌-◌, ◌*◌, ◌%◌, ◌^◌, ◌<◌, ◌≤◌, Bool, true, false, List, [], ◌∷◌, length, map, take, drop, Option, Some, None, inl, inr, refl, sym, ap, ◌∙◌, subst, arith}
+use Rattle.std.proofs.Common.{◌≡◌, ℕ, zero, suc, ◌+◌, ◌*◌, ◌%◌, ◌^◌, ◌<◌, ◌≤◌, ◌⊎◌, Bool, true, false, List, [], ◌∷◌, length, map, take, drop, Option, Some, None, inl, inr, refl, sym, ap, ◌∙◌, subst, arith, length-set}
 use Rattle.std.specs.Prelude.{◌==◌, not, nat_lt, if◌then◌else◌, slice_get, slice_set, slice_index_or, replicate}
 use Rattle.std.specs.List.{AllByRecursion as Each, filter}
 use Rattle.std.proofs.Math.Seq.{take-append_seam}
@@ -9,36 +9,76 @@ use Rattle.std.proofs.lemmas.List.{length-map}
 use Rattle.onfi_timing.specs.declared.kind.Kind.{Kind}
 use Rattle.onfi_timing.specs.declared.kind.Kind.TheVariants.{Read, Program, Erase}
 use Rattle.onfi_timing.specs.declared.timing.Timing.{Timing}
-use Rattle.onfi_request.specs.declared.want.Want.{Want}
-use Rattle.onfi_group.specs.Group.{IsFirst, is_member, on_block, group_spans}
-use Rattle.onfi_group.specs.declared.rules.Rules.{Rules}
 use Rattle.onfi_timing.specs.Phases.{phase_length, wait_before}
+use Rattle.onfi_request.specs.declared.want.Want.{Want}
+use Rattle.onfi_group.specs.declared.rules.Rules.{Rules}
+use Rattle.onfi_group.specs.Group.{IsFirst, group_spans, is_member, on_block}
+use Rattle.onfi_problem.specs.declared.fault.ProblemFault.{ProblemFault}
+use Rattle.onfi_problem.specs.declared.fault.ProblemFault.TheVariants.{TooMany, BadLun, Clock, Memory}
 use Rattle.onfi_problem.specs.declared.lun_state.LunState.{LunState}
 use Rattle.onfi_problem.specs.declared.lun_state.LunState.TheVariants.{Free, Running}
-use Rattle.onfi_problem.specs.Left.{InLimits}
-use Rattle.onfi_problem.specs.Problem.{Problem}
-use Rattle.onfi_problem.specs.Moves.{lun_after, placed, ran_with, without}
+use Rattle.onfi_problem.specs.Faults.{TellsFault}
+use Rattle.onfi_problem.specs.Kept.{problem_of}
+use Rattle.onfi_problem.specs.Left.{InLimits, horizon}
+use Rattle.onfi_problem.specs.Problem.{Problem, IsProblem, IsSmall}
+use Rattle.onfi_problem.specs.Moves.{IsMove, lun_after, without}
 use Rattle.onfi_problem.proofs.Kept.{kept, kept_small}
 use Rattle.onfi_problem.proofs.Lists.{map_found, map_set}
-use Rattle.onfi_schedule.specs.Schedule.{Schedule, Legal}
-use Rattle.onfi_core.specs.Steps.{IsPhase}
-use Rattle.onfi_schedule.specs.Laws.{ComesNext}
-use Rattle.onfi_c.specs.declared.behind.Behind.{Behind}
+use Rattle.onfi_problem.proofs.Wants.{All-filter, filter_shorter}
+use Rattle.onfi_schedule.specs.Schedule.{Legal}
+use Rattle.onfi_flight.specs.declared.due.Due.{Due}
+use Rattle.onfi_flight.specs.Flight.{Flight, IsDue, IsFlight, IsPhase, after_late, move_by, move_of, wants_behind}
+use Rattle.onfi_flight.proofs.Begins.{due_lun, placed_is}
+use Rattle.onfi_flight.proofs.Stays.{late_stays}
 use Rattle.onfi_c.specs.declared.channel.PlainChannel.{PlainChannel}
-use Rattle.onfi_c.specs.declared.coming.Coming.{Coming}
 use Rattle.onfi_c.specs.declared.lun.PlainLun.{PlainLun}
 use Rattle.onfi_c.specs.declared.lun.PlainWant.{PlainWant}
-use Rattle.onfi_c.specs.declared.status.Status.{Status}
-use Rattle.onfi_c.specs.declared.status.Status.TheVariants.{NotDue, TooSoon}
-use Rattle.onfi_c.specs.Behind.{IsBehind, IsBeyond, IsInTime, IsNotBehind, ends, kept_behind}
-use Rattle.onfi_c.specs.Coming.{IsComing, left_behind, wants_behind}
+use Rattle.onfi_c.specs.declared.ran.Behind.{Behind}
+use Rattle.onfi_c.specs.declared.status.Status.TheVariants as status
 use Rattle.onfi_c.specs.Due.{number_of_kind}
-use Rattle.onfi_core.specs.Times.{later}
-use Rattle.onfi_c.specs.Ran.{IsRan, IsNotRan, ComesOn, Kept, is_beyond, is_late, is_no_memory, is_not_due, is_too_soon, Stands, lun_in, no_want, telling, waits, written_want}
-use Rattle.onfi_c.specs.Said.{IsSaid, kind_of, members_of, state_of, states_of, want_of, wants_of}
-use Rattle.onfi_c.specs.Written.{filled, written_schedule}
-use Rattle.onfi_c.proofs.Horizons.{one_horizon}
-use Rattle.onfi_c.proofs.Shifted.{late_legal}
+use Rattle.onfi_c.specs.Flights.{IsFlightSaid}
+use Rattle.onfi_c.specs.Ran.{Flies, IsBehind, IsDueThere, IsRan, Kept, kept_behind, lun_in, no_want, telling}
+use Rattle.onfi_c.specs.Refused.{IsBadProblem, IsFaultSaid}
+use Rattle.onfi_c.specs.Said.{AreRules, IsSaid, IsTiming, kind_of, members_of, state_of, states_of, want_of, wants_of}
+use Rattle.onfi_c.specs.Status.{problem_status}
+use Rattle.onfi_c.specs.Written.{filled, written_want}
+
+-- Why what is said is no problem
+
+pub fault_told : (p : Problem) (fault : ProblemFault) → TellsFault p (Some fault) → IsBadProblem p (problem_status fault)
+fault_told p TooMany tells = tells
+fault_told p BadLun tells = tells
+fault_told p Clock tells = tells
+fault_told p Memory tells = tells
+
+-- a problem has no fault but its times
+pub only_late : (p : Problem) (fault : ProblemFault) → IsSmall p → IsProblem p → TellsFault p (Some fault) → 2 ^ 62 ≤ horizon p
+only_late p TooMany small ip tells = absurd (tells small)
+only_late p BadLun small ip tells = absurd (tells.1 ip)
+only_late p Clock small ip tells = tells.2
+only_late p Memory small ip tells = absurd tells
+
+pub too_many : (channel : PlainChannel) (luns : List PlainLun) (wants : List PlainWant) (timing : Timing) → IsTiming channel.timing timing → channel.rules.plane_bits ≤ 2
+    → (8 < length luns) ⊎ (8 < length wants) → IsFaultSaid channel luns wants status.TooMany
+too_many channel luns wants timing is_timing bits many =
+    let said = channel.rules in
+    let rules : Rules = record { read = said.read; write = said.write; strict = said.strict; plane_bits = said.plane_bits; few_planes = bits } in (
+      problem_of timing rules channel.bus_free (states_of said.plane_bits luns) (wants_of said.plane_bits wants),
+      record { timing = is_timing; rules = record { read = refl; write = refl; strict = refl; plane_bits = refl }; bus_free = refl; states = refl; requests = refl },
+      λ small.
+          let few_luns = small.few_luns in
+          let few_wants = small.wants in
+          let all_luns = length-map luns (state_of said.plane_bits) in
+          let all_wants = length-map wants (want_of said.plane_bits) in
+          elim many [
+            | inl more ↦ omega (arith, few_luns, all_luns, more)
+            | inr more ↦ omega (arith, few_wants, all_wants, more)
+          ],
+    )
+
+-- where a flight is no legal one, what is left of its schedule isn't legal
+pub flies : (f : Flight) → InLimits f.now → Legal f.now f.left → IsFlight f
+flies f limits legal = record { problem = limits.problem; few = limits.small.wants; legal = legal }
 
 -- The LUN of the phase
 
@@ -112,154 +152,103 @@ tells_new bits wants group luns at lun planes some first =
     let each : Each (λ w. w.plane ≡ w.block % 2 ^ bits) group = members_keep (λ w. w.plane ≡ w.block % 2 ^ bits) wants group planes first in
     record { some = some; tells = ap (wants_of bits) same ∙ wants_again bits group each }
 
-tells_by : (place : Option ℕ) (p : Problem) (s : Schedule) (c : Coming) (luns : List PlainLun) (wants : List PlainWant) → IsComing p s c → p.luns ≡ states_of p.rules.plane_bits luns
-    → p.wants ≡ wants_of p.rules.plane_bits wants → c.place ≡ place → Tells p.rules.plane_bits c.group (telling luns place c.lun c.group)
-tells_by None p s c luns wants is states requests place =
-    let running = is.running place in
-    tells_running p.rules.plane_bits luns c.lun _ c.group c.number running.0 (ap (λ xs. slice_get xs c.lun) (sym states) ∙ running.1)
-tells_by (Some at) p s c luns wants is states requests place =
-    let startable = (is.starting at place).1 in
-    let planes = subst (Each (λ w. w.plane ≡ w.block % 2 ^ p.rules.plane_bits)) (sym requests) (planes_of p.rules.plane_bits wants) in
-    tells_new p.rules.plane_bits p.wants c.group luns at c.lun planes startable.group.some startable.first
-
--- what is said, in the problem's own number of plane bits
-states_said : (channel : PlainChannel) (luns : List PlainLun) (wants : List PlainWant) (p : Problem) → IsSaid channel luns wants p → p.luns ≡ states_of p.rules.plane_bits luns
-states_said channel luns wants p said = said.states ∙ ap (λ bits. states_of bits luns) (sym said.rules.plane_bits)
-
-requests_said : (channel : PlainChannel) (luns : List PlainLun) (wants : List PlainWant) (p : Problem) → IsSaid channel luns wants p → p.wants ≡ wants_of p.rules.plane_bits wants
-requests_said channel luns wants p said = said.requests ∙ ap (λ bits. wants_of bits wants) (sym said.rules.plane_bits)
-
-pub tells_group : (channel : PlainChannel) (luns : List PlainLun) (wants : List PlainWant) (p : Problem) (s : Schedule) (c : Coming) → IsSaid channel luns wants p → IsComing p s c
-    → Tells p.rules.plane_bits c.group (telling luns c.place c.lun c.group)
-tells_group channel luns wants p s c said is = tells_by c.place p s c luns wants is (states_said channel luns wants p said) (requests_said channel luns wants p said) refl
+-- .. of a running group as it did, of one that begins by its wants, which wait
+tells_by : (bits : ℕ) (place : Option ℕ) (p : Problem) (lun : ℕ) (group : List Want) (phase : ℕ) (luns : List PlainLun) (wants : List PlainWant) → IsPhase p (move_by lun group place) group phase
+    → IsMove p (move_by lun group place) → p.luns ≡ states_of bits luns → p.wants ≡ wants_of bits wants → Tells bits group (telling luns place lun group)
+tells_by bits None p lun group phase luns wants is move states requests = tells_running bits luns lun _ group phase is.0 (ap (λ xs. slice_get xs lun) (sym states) ∙ is.1)
+tells_by bits (Some at) p lun group phase luns wants is move states requests =
+    let planes = subst (Each (λ w. w.plane ≡ w.block % 2 ^ bits)) (sym requests) (planes_of bits wants) in
+    tells_new bits p.wants group luns at lun planes move.2.group.some move.2.first
 
 -- The wants that wait
 
-waits_all : (bits : ℕ) (group : List Want) (wants : List PlainWant) → filter (waits bits None group) wants ≡ wants
-waits_all bits group [] = refl
-waits_all bits group (w ∷ wants) = ap (λ xs. w ∷ xs) (waits_all bits group wants)
+waiting_planes : (bits : ℕ) (place : Option ℕ) (group wants : List Want) → Each (λ w. w.plane ≡ w.block % 2 ^ bits) wants → Each (λ w. w.plane ≡ w.block % 2 ^ bits) (wants_behind place group wants)
+waiting_planes bits None group wants each = each
+waiting_planes bits (Some at) group wants each = All-filter (λ w. w.plane ≡ w.block % 2 ^ bits) (λ w. not (is_member group w)) wants each
 
-waits_some : (bits at : ℕ) (group : List Want) (wants : List PlainWant) → wants_of bits (filter (waits bits (Some at) group) wants) ≡ without group (wants_of bits wants)
-waits_some bits at group [] = refl
-waits_some bits at group (w ∷ wants) = elim (cases_Bool (not (is_member group (want_of bits w)))) [
-  | inl hit ↦ rw hit (ap (λ xs. want_of bits w ∷ xs) (waits_some bits at group wants))
-  | inr miss ↦ rw miss (waits_some bits at group wants)
-]
-
--- those that are left are those of the problem
-pub waits_are : (bits : ℕ) (place : Option ℕ) (group : List Want) (wants : List PlainWant) → wants_of bits (filter (waits bits place group) wants) ≡ wants_behind place group (wants_of bits wants)
-waits_are bits None group wants = ap (wants_of bits) (waits_all bits group wants)
-waits_are bits (Some at) group wants = waits_some bits at group wants
-
-pub waits_fewer : (f : PlainWant → Bool) (wants : List PlainWant) → length (filter f wants) ≤ length wants
-waits_fewer f [] = omega arith
-waits_fewer f (w ∷ wants) = let few = waits_fewer f wants in elim (cases_Bool (f w)) [
-  | inl hit ↦ rw hit (omega (arith, few))
-  | inr miss ↦ rw miss (omega (arith, few))
-]
+waiting_fewer : (place : Option ℕ) (group wants : List Want) → length (wants_behind place group wants) ≤ length wants
+waiting_fewer None group wants = omega arith
+waiting_fewer (Some at) group wants = filter_shorter (λ w. not (is_member group w)) wants
 
 -- All of it
 
-pub behind_is : (channel : PlainChannel) (luns : List PlainLun) (wants : List PlainWant) (p : Problem) (s : Schedule) (c : Coming) (started : ℕ) → IsSaid channel luns wants p → IsComing p s c
-    → (timing : Timing) (rules : Rules) → timing ≡ p.timing → rules ≡ p.rules → (told : PlainLun) → told ≡ telling luns c.place c.lun c.group → (b : Behind)
-    → b.bus_free ≡ started + phase_length (group_spans timing c.group) (length c.group) c.number
-    → ((bits : ℕ) → wants_of bits (take told.members told.member) ≡ c.group → state_of bits b.lun ≡ lun_after timing c.group c.number b.bus_free)
-    → b.wants.items ≡ filter (waits rules.plane_bits c.place c.group) wants → b.schedule ≡ written_schedule (later (started - c.start) (left_behind s c)) → IsBehind p s c started wants b
-behind_is channel luns wants p s c started said is timing rules timing_is rules_is told told_is b bus lun waiting schedule =
-    let bits = p.rules.plane_bits in
-    let group : wants_of bits (take told.members told.member) ≡ c.group =
-    ap (λ (t : PlainLun). wants_of bits (take t.members t.member)) told_is ∙ (tells_group channel luns wants p s c said is).tells in
-    let ended : b.bus_free ≡ ends p c started = bus ∙ ap (λ t. started + phase_length (group_spans t c.group) (length c.group) c.number) timing_is in
-    let left : b.wants.items ≡ filter (waits bits c.place c.group) wants = waiting ∙ ap (λ (r : Rules). filter (waits r.plane_bits c.place c.group) wants) rules_is in
-    record {
-      bus = ended;
-      lun = lun bits group ∙ ap (λ t. lun_after t c.group c.number b.bus_free) timing_is ∙ ap (lun_after p.timing c.group c.number) ended;
-      waiting = ap (wants_of bits) left ∙ waits_are bits c.place c.group wants;
-      fewer = (let few = waits_fewer (waits bits c.place c.group) wants in omega (arith, few, ap length left));
-      schedule = schedule;
-    }
+set_there : {A : Type 0} (xs : List A) (i : ℕ) (x : A) → i < length xs → slice_get (slice_set xs i x) i ≡ Some x
+set_there [] i x low = absurd (omega (arith, low))
+set_there (y ∷ xs) zero x low = refl
+set_there (y ∷ xs) (suc i) x low = set_there xs i x (omega (arith, low))
 
-pub said_behind : (channel : PlainChannel) (luns : List PlainLun) (wants : List PlainWant) (p : Problem) (s : Schedule) (c : Coming) (started : ℕ) (b : Behind) → IsSaid channel luns wants p
-    → (is : IsComing p s c) → IsBehind p s c started wants b → IsSaid (record channel { bus_free = b.bus_free }) (slice_set luns c.lun b.lun) b.wants.items (placed p is.move started)
-said_behind channel luns wants p s c started b said is behind =
-    let bits = p.rules.plane_bits in
-    let same = said.rules.plane_bits in
-    let q : Problem = ran_with p c.lun c.group c.number started (wants_behind c.place c.group p.wants) in
-    let states : q.luns ≡ states_of bits (slice_set luns c.lun b.lun) =
-    ap (λ xs. slice_set xs c.lun (lun_after p.timing c.group c.number (ends p c started))) (states_said channel luns wants p said)
-    ∙ ap (λ x. slice_set (states_of bits luns) c.lun x) (sym behind.lun) ∙ sym (map_set (state_of bits) luns c.lun b.lun) in
-    let requests : q.wants ≡ wants_of bits b.wants.items = ap (wants_behind c.place c.group) (requests_said channel luns wants p said) ∙ sym behind.waiting in
-    subst (IsSaid (record channel { bus_free = b.bus_free }) (slice_set luns c.lun b.lun) b.wants.items) (sym (is.goes started)) (record {
-      timing = said.timing;
-      rules = said.rules;
-      bus_free = sym behind.bus;
-      states = states ∙ ap (λ n. states_of n (slice_set luns c.lun b.lun)) same;
-      requests = requests ∙ ap (λ n. wants_of n b.wants.items) same;
-    })
+module _ (channel : PlainChannel) (luns : List PlainLun) (wants : List PlainWant) (f : Flight) (due : Due) (started : ℕ) (said : IsSaid channel luns wants f.now) (is : IsDue f due) where
+  abbrev g : Flight
+  g = after_late f due started
 
-pub comes_on : (p : Problem) (s : Schedule) (c : Coming) (lun number : ℕ) → (is : IsComing p s c) → c.lun ≡ lun → c.number ≡ number → ComesOn p s lun number is.move c.start (left_behind s c)
-comes_on p s c lun number is lun_is number_is = record {
-  next = subst (ComesNext p s is.move c.start) is.left_is is.next;
-  group = c.group;
-  is = subst (IsPhase p is.move c.group) number_is is.is;
-  lun_is = sym lun_is ∙ is.lun_is;
-}
+  abbrev state : LunState
+  state = lun_after f.now.timing due.group due.phase (started + phase_length (group_spans f.now.timing due.group) (length due.group) due.phase)
 
-said_there : (old : Kept) (p : Problem) (s : Schedule) (c : Coming) (lun started : ℕ) (b : Behind) → Stands old p s → (is : IsComing p s c) → c.lun ≡ lun → IsBehind p s c started old.wants b
-    → IsSaid (record old.channel { bus_free = b.bus_free }) (slice_set old.luns lun b.lun) b.wants.items (placed p is.move started)
-said_there old p s c lun started b stand is lun_is behind =
-    subst (λ n. IsSaid (record old.channel { bus_free = b.bus_free }) (slice_set old.luns n b.lun) b.wants.items (placed p is.move started)) lun_is
-    (said_behind old.channel old.luns old.wants p s c started b stand.said.problem is behind)
+  pub plain_there : due.lun < length luns
+  plain_there =
+      let low = due_lun f due is in
+      let same = ap length said.states in
+      let mapped = length-map luns (state_of channel.rules.plane_bits) in
+      omega (arith, low, same, mapped)
 
-pub ran_behind : (old : Kept) (p : Problem) (s : Schedule) (c : Coming) (lun number started : ℕ) (b : Behind) → Stands old p s → IsComing p s c → c.lun ≡ lun → c.number ≡ number
-    → c.start ≤ started → IsBehind p s c started old.wants b → InLimits p → IsInTime (record old.channel { bus_free = b.bus_free }) (slice_set old.luns lun b.lun) b.wants.items
-    → IsRan old (kept_behind old lun b) lun number started
-ran_behind old p s c lun number started b stand is lun_is number_is on_time behind in_limits in_time = record {
-  problem = p;
-  schedule = s;
-  stand = stand;
-  move = is.move;
-  start = c.start;
-  left = left_behind s c;
-  comes_on = comes_on p s c lun number is lun_is number_is;
-  on_time = on_time;
-  legal = late_legal p is.move c.start started (left_behind s c) is.first.is_move on_time (subst (Legal (placed p is.move c.start)) is.left_is is.first.legal);
-  after = said_there old p s c lun started b stand is lun_is behind;
-  limits = record {
-    small = kept_small p is.move started in_limits.small is.first.is_move;
-    problem = kept p is.move started in_limits.problem is.first.is_move;
-    horizon = (
-        let (q, said, within) = in_time in
-        let same = one_horizon (record old.channel { bus_free = b.bus_free }) (slice_set old.luns lun b.lun) b.wants.items q (placed p is.move started) said
-        (said_there old p s c lun started b stand is lun_is behind) in
-        subst (λ n. n < 2 ^ 62) same within
+  luns_are : g.now.luns ≡ slice_set f.now.luns due.lun state
+  luns_are = ap (λ (p : Problem). p.luns) (placed_is f due started is)
+
+  wants_are : g.now.wants ≡ wants_behind due.place due.group f.now.wants
+  wants_are = ap (λ (p : Problem). p.wants) (placed_is f due started is)
+
+  pub same_luns : length g.now.luns ≡ length luns
+  same_luns = ap length luns_are ∙ length-set f.now.luns due.lun state ∙ ap length said.states ∙ length-map luns (state_of channel.rules.plane_bits)
+
+  pub fewer_wants : length g.now.wants ≤ length wants
+  fewer_wants =
+      let few = waiting_fewer due.place due.group f.now.wants in
+      let same = ap length wants_are in
+      let all = ap length said.requests in
+      let mapped = length-map wants (want_of channel.rules.plane_bits) in
+      omega (arith, few, same, all, mapped)
+
+  -- what the LUN says then it does
+  lun_says : (b : Behind) → IsBehind luns due g b → state_of channel.rules.plane_bits b.lun ≡ state
+  lun_says b written =
+      let told = tells_by channel.rules.plane_bits due.place f.now due.lun due.group due.phase luns wants is.phase is.is_move said.states said.requests in
+      let at = ap (λ xs. slice_get xs due.lun) luns_are ∙ set_there f.now.luns due.lun state (due_lun f due is) in
+      ap (state_of channel.rules.plane_bits) (written.lun state at)
+      ∙ goes_on f.now.timing due.group due.phase (started + phase_length (group_spans f.now.timing due.group) (length due.group) due.phase)
+      channel.rules.plane_bits (telling luns due.place due.lun due.group) state refl told.some told.tells
+
+  pub said_behind : (b : Behind) → IsBehind luns due g b → IsSaid (record channel { bus_free = b.bus_free }) (slice_set luns due.lun b.lun) b.wants.items g.now
+  said_behind b written = record {
+    timing = subst (IsTiming channel.timing) (sym (ap (λ (p : Problem). p.timing) (placed_is f due started is))) said.timing;
+    rules = subst (AreRules channel.rules) (sym (ap (λ (p : Problem). p.rules) (placed_is f due started is))) said.rules;
+    bus_free = sym written.bus_free;
+    states = luns_are ∙ ap (λ xs. slice_set xs due.lun state) said.states ∙ ap (slice_set (states_of channel.rules.plane_bits luns) due.lun) (sym (lun_says b written))
+        ∙ sym (map_set (state_of channel.rules.plane_bits) luns due.lun b.lun);
+    requests = (
+        let planes = subst (Each (λ w. w.plane ≡ w.block % 2 ^ channel.rules.plane_bits)) (sym said.requests) (planes_of channel.rules.plane_bits wants) in
+        let kept = subst (Each (λ w. w.plane ≡ w.block % 2 ^ channel.rules.plane_bits)) (sym wants_are) (waiting_planes channel.rules.plane_bits due.place due.group f.now.wants planes) in
+        sym (ap (wants_of channel.rules.plane_bits) written.wants ∙ wants_again channel.rules.plane_bits g.now.wants kept)
         );
-  };
-  later = behind.schedule;
+  }
+
+-- what stands behind the due phase is what a caller keeps then
+pub ran_behind : (old : Kept) (f : Flight) (due : Due) (lun number started : ℕ) (b : Behind) → Flies old f → IsDueThere f due lun number → due.start ≤ started
+    → IsBehind old.luns due (after_late f due started) b → InLimits (after_late f due started).now → IsRan old (kept_behind old lun b) lun number started
+ran_behind old f due lun number started b said there on_time written limits = record {
+  flight = f;
+  said = said;
+  due = due;
+  there = there;
+  on_time = on_time;
+  legal = λ legal. (late_stays f due started (flies f said.limits legal) there.is on_time).legal;
+  after = subst (λ n. IsSaid (record old.channel { bus_free = b.bus_free }) (slice_set old.luns n b.lun) b.wants.items (after_late f due started).now) there.lun_is
+      (said_behind old.channel old.luns old.wants f due started said.said.problem there.is b written);
+  limits = limits;
+  later = written.schedule;
 }
 
--- what could reach 2^62 is why nothing is done
-pub not_in_time : (old : Kept) (p : Problem) (s : Schedule) (c : Coming) (lun number started : ℕ) (b : Behind) (status : Status) → Stands old p s → IsComing p s c → c.lun ≡ lun
-    → c.number ≡ number → c.start ≤ started → IsBehind p s c started old.wants b
-    → IsBeyond (record old.channel { bus_free = b.bus_free }) (slice_set old.luns lun b.lun) b.wants.items status → IsNotRan old lun number started status
-not_in_time old p s c lun number started b status stand is lun_is number_is on_time behind (inl memory) = is_no_memory p s stand memory
-not_in_time old p s c lun number started b status stand is lun_is number_is on_time behind (inr (clock, (q, said, late))) =
-    let same = one_horizon (record old.channel { bus_free = b.bus_free }) (slice_set old.luns lun b.lun) b.wants.items q (placed p is.move started) said
-    (said_there old p s c lun started b stand is lun_is behind) in
-    is_beyond p s stand is.move c.start (left_behind s c) (comes_on p s c lun number is lun_is number_is) on_time (subst (λ n. 2 ^ 62 ≤ n) same late) clock
-
--- why nothing stands behind it is why nothing is done
-pub not_ran : (old : Kept) (p : Problem) (s : Schedule) (c : Coming) (lun number started : ℕ) (status : Status) → Stands old p s → IsComing p s c → c.lun ≡ lun → c.number ≡ number
-    → c.start ≤ started → IsNotBehind s c started status → IsNotRan old lun number started status
-not_ran old p s c lun number started status stand is lun_is number_is on_time (inl memory) = is_no_memory p s stand memory
-not_ran old p s c lun number started status stand is lun_is number_is on_time (inr late) =
-    is_late p s stand is.move c.start (left_behind s c) (comes_on p s c lun number is lun_is number_is) on_time late.1 late.0
-
-pub not_due : (old : Kept) (p : Problem) (s : Schedule) (c : Coming) (lun number started : ℕ) → Stands old p s → IsComing p s c → ((c.lun ≡ lun) × (c.number ≡ number) → ⊥)
-    → IsNotRan old lun number started NotDue
-not_due old p s c lun number started stand is other = is_not_due p s stand c.lun c.number is.move c.start (left_behind s c) (comes_on p s c c.lun c.number is refl refl) other refl
-
-pub too_soon : (old : Kept) (p : Problem) (s : Schedule) (c : Coming) (lun number started : ℕ) → Stands old p s → IsComing p s c → c.lun ≡ lun → c.number ≡ number → started < c.start
-    → IsNotRan old lun number started TooSoon
-too_soon old p s c lun number started stand is lun_is number_is low =
-    is_too_soon p s stand is.move c.start (left_behind s c) (comes_on p s c lun number is lun_is number_is) low refl
+-- the problem that a due phase leaves has no fault but its times
+pub only_late_behind : (f : Flight) (due : Due) (started : ℕ) (fault : ProblemFault) → InLimits f.now → IsDue f due → TellsFault (after_late f due started).now (Some fault)
+    → 2 ^ 62 ≤ horizon (after_late f due started).now
+only_late_behind f due started fault limits is tells =
+    only_late (after_late f due started).now fault (kept_small f.now (move_of due) started limits.small is.is_move) (kept f.now (move_of due) started limits.problem is.is_move) tells

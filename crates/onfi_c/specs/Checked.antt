@@ -3,11 +3,12 @@ use Rattle.std.specs.Prelude.{◌≡◌, ℕ, List}
 use Rattle.onfi_problem.specs.Problem.{Problem}
 use Rattle.onfi_schedule.specs.Schedule.{Schedule, finish}
 use Rattle.onfi_check.specs.Faults.{IsTextFault}
+use Rattle.onfi_cert.specs.declared.fault.CertTextFault.{CertTextFault}
+use Rattle.onfi_check.specs.declared.fault.CertFault.{CertFault}
 use Rattle.onfi_check.specs.declared.fault.TextFault.{TextFault}
-use Rattle.onfi_known.specs.Faults.{IsTextFault as IsKnownTextFault}
-use Rattle.onfi_known.specs.declared.fault.KnownTextFault.{KnownTextFault}
-use Rattle.onfi_known.specs.Within.{IsWithinTextFault}
-use Rattle.onfi_known.specs.declared.fault.WithinTextFault.{WithinTextFault}
+use Rattle.onfi_known_check.specs.Faults.{IsTextFault as IsKnownTextFault}
+use Rattle.onfi_known_check.specs.declared.fault.KnownFault.{KnownFault}
+use Rattle.onfi_known_check.specs.declared.fault.KnownTextFault.{KnownTextFault}
 use Rattle.onfi_c.specs.declared.channel.PlainChannel.{PlainChannel}
 use Rattle.onfi_c.specs.declared.lun.PlainWant.{PlainWant}
 use Rattle.onfi_c.specs.declared.lun.PlainLun.{PlainLun}
@@ -15,20 +16,21 @@ use Rattle.onfi_c.specs.declared.schedule.PlainSchedule.{PlainSchedule}
 use Rattle.onfi_c.specs.declared.schedule.PlainVerdict.{PlainVerdict}
 use Rattle.onfi_c.specs.declared.status.Status.{Status}
 use Rattle.onfi_c.specs.declared.refusal.Refusal.{Refusal}
-use Rattle.onfi_c.specs.Refusal.{whole, text_refusal, known_text_refusal, within_refusal}
+use Rattle.onfi_c.specs.Refusal.{whole, text_refusal, known_text_refusal}
 use Rattle.onfi_c.specs.SaidLegal.{IsNoSchedule, IsScheduleSaid}
 use Rattle.onfi_c.specs.Status.{number_of}
 
--- a fault of the schedule or its certificate is told: a plain one, one that remembers states, and one of a time before which
--- nothing ends
+-- a fault of the schedule or its certificate is told: a plain one, one of a time before which nothing ends, and one that
+-- remembers states
 abbrev pub IsFaultTold : Problem → Schedule → List ℕ → Refusal → Type 0
-IsFaultTold p s text refusal = (fault : TextFault) × IsTextFault p s text fault × (refusal ≡ text_refusal fault)
-
-abbrev pub IsKnownFaultTold : Problem → Schedule → List ℕ → Refusal → Type 0
-IsKnownFaultTold p s text refusal = (fault : KnownTextFault) × IsKnownTextFault p.wants p s text fault × (refusal ≡ known_text_refusal fault)
+IsFaultTold p s text refusal = (fault : TextFault CertFault CertTextFault) × IsTextFault p s text fault × (refusal ≡ text_refusal fault)
 
 abbrev pub IsWithinFaultTold : Problem → Schedule → ℕ → List ℕ → Refusal → Type 0
-IsWithinFaultTold p s below text refusal = (fault : WithinTextFault) × IsWithinTextFault p.wants p s below text fault × (refusal ≡ within_refusal fault)
+IsWithinFaultTold p s below text refusal =
+    (fault : TextFault KnownFault KnownTextFault) × IsKnownTextFault p.wants p s below text fault × (refusal ≡ known_text_refusal fault)
+
+abbrev pub IsKnownFaultTold : Problem → Schedule → List ℕ → Refusal → Type 0
+IsKnownFaultTold p s text refusal = IsWithinFaultTold p s (finish p s) text refusal
 
 -- a number and a place tell why
 pub record IsRefusedBy (refusal : Refusal) (verdict : PlainVerdict) (result : ℕ) : Type 0 where

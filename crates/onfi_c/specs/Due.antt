@@ -1,5 +1,5 @@
 -- The phase that is due, as a plain struct tells it.
-use Rattle.std.specs.Prelude.{◌≡◌, ℕ, ◌+◌, ◌==◌, nat_le, Bool, true, false, List, [], length, Some, slice_get}
+use Rattle.std.specs.Prelude.{◌≡◌, ◌⊎◌, ℕ, ◌+◌, ◌==◌, nat_le, Bool, true, false, List, length, Some}
 use Rattle.onfi_addr.specs.declared.geometry.Geometry.{Geometry}
 use Rattle.onfi_addr.specs.declared.place.Place.{Place}
 use Rattle.onfi_addr.specs.Rows.{IsInRange, row_of}
@@ -9,12 +9,10 @@ use Rattle.onfi_timing.specs.declared.timing.Timing.{Timing}
 use Rattle.onfi_timing.specs.Phases.{phase_length}
 use Rattle.onfi_request.specs.declared.want.Want.{Want}
 use Rattle.onfi_group.specs.Group.{group_spans}
-use Rattle.onfi_problem.specs.Problem.{Problem}
-use Rattle.onfi_problem.specs.Moves.{Move}
-use Rattle.onfi_schedule.specs.Schedule.{Schedule, phases}
-use Rattle.onfi_schedule.specs.Laws.{ComesNext}
-use Rattle.onfi_schedule.specs.Trace.{place_of}
-use Rattle.onfi_core.specs.Steps.{IsPhase}
+use Rattle.onfi_problem.specs.Moves.{IsDone}
+use Rattle.onfi_schedule.specs.Schedule.{Legal}
+use Rattle.onfi_flight.specs.declared.due.Due.{Due}
+use Rattle.onfi_flight.specs.Flight.{Flight, IsDue, IsOver, member_of}
 use Rattle.onfi_c.specs.declared.channel.PlainChannel.{PlainChannel}
 use Rattle.onfi_c.specs.declared.device.PlainGeometry.{PlainGeometry}
 use Rattle.onfi_c.specs.declared.lun.PlainLun.{PlainLun}
@@ -22,10 +20,10 @@ use Rattle.onfi_c.specs.declared.lun.PlainWant.{PlainWant}
 use Rattle.onfi_c.specs.declared.phase.PlainPhase.{PlainPhase}
 use Rattle.onfi_c.specs.declared.schedule.PlainSchedule.{PlainSchedule}
 use Rattle.onfi_c.specs.declared.status.Status.{Status}
-use Rattle.onfi_c.specs.declared.status.Status.TheVariants.{BadGeometry, BadPlace, NothingDue}
+use Rattle.onfi_c.specs.declared.status.Status.TheVariants.{BadGeometry, BadPlace, Illegal, NothingDue}
 use Rattle.onfi_c.specs.Device.{written_geometry}
+use Rattle.onfi_c.specs.Flights.{IsFlightSaid, IsNoFlight}
 use Rattle.onfi_c.specs.SaidGeometry.{IsNoGeometry}
-use Rattle.onfi_c.specs.SaidLegal.{IsStand, IsNoStand}
 use Rattle.onfi_c.specs.Status.{number_of}
 
 -- kinds as numbers
@@ -80,7 +78,7 @@ written_phase timing geometry group member start number = record {
 
 -- the member of a group whose phase it is
 abbrev pub IsMember : List Want → ℕ → Want → Type 0
-IsMember group number member = slice_get group (place_of (length group) number) ≡ Some member
+IsMember group number member = member_of group number ≡ Some member
 
 -- phase `number` of a group, as a plain struct tells it
 pub record IsWritten (timing : Timing) (geometry : Geometry) (group : List Want) (start number : ℕ) (phase : PlainPhase) : Type 0 where
@@ -95,31 +93,34 @@ pub record IsOutside (geometry : Geometry) (group : List Want) (number : ℕ) : 
   pub is : IsMember group number member
   pub not_there : IsInRange geometry (page_of member) → ⊥
 
--- the undone phase of least start is this one
-pub record Comes (p : Problem) (s : Schedule) (group : List Want) (start number : ℕ) : Type 0 where
-  pub move : Move
-  pub left : Schedule
-  pub next : ComesNext p s move start left
-  pub is : IsPhase p move group number
+-- the due phase on the device that is said
+abbrev pub IsOnDevice : Timing → PlainGeometry → Due → PlainPhase → Type 0
+IsOnDevice timing geometry due phase = (device : Geometry) × (geometry ≡ written_geometry device) × IsWritten timing device due.group due.start due.phase phase
 
--- the phase that is due of what is said
+-- why it is on none: no device is said, or one that doesn't have the page
+abbrev pub IsOffDevice : PlainGeometry → Due → Status → Type 0
+IsOffDevice geometry due status =
+    (IsNoGeometry geometry × (status ≡ BadGeometry))
+    ⊎ ((device : Geometry) × (geometry ≡ written_geometry device) × IsOutside device due.group due.phase × (status ≡ BadPlace))
+
+-- what is told where nothing is left to do
+abbrev pub IsOverTold : PlainGeometry → Status → Type 0
+IsOverTold geometry status = (IsNoGeometry geometry × (status ≡ BadGeometry)) ⊎ ((device : Geometry) × (geometry ≡ written_geometry device) × (status ≡ NothingDue))
+
+-- the phase that is due of what is said: the undone one of least start, which may run; of a legal schedule that which comes next
 pub record IsDueSaid (channel : PlainChannel) (luns : List PlainLun) (wants : List PlainWant) (geometry : PlainGeometry) (schedule : PlainSchedule) (phase : PlainPhase) : Type 0 where
-  pub problem : Problem
-  pub left : Schedule
-  pub stand : IsStand channel luns wants schedule problem left
-  pub device : Geometry
-  pub device_is : geometry ≡ written_geometry device
-  pub group : List Want
-  pub comes : Comes problem left group phase.start phase.number
-  pub written : IsWritten problem.timing device group phase.start phase.number phase
+  pub flight : Flight
+  pub said : IsFlightSaid channel luns wants schedule flight
+  pub due : Due
+  pub is : IsDue flight due
+  pub on : IsOnDevice flight.now.timing geometry due phase
 
 -- why none is told: the first of these
 pub data IsNoneDue (channel : PlainChannel) (luns : List PlainLun) (wants : List PlainWant) (geometry : PlainGeometry) (schedule : PlainSchedule) (status : Status) : Type 0 where
-  is_no_stand : IsNoStand channel luns wants schedule status → IsNoneDue channel luns wants geometry schedule status
-  is_no_geometry : (p : Problem) (s : Schedule) → IsStand channel luns wants schedule p s → IsNoGeometry geometry → status ≡ BadGeometry → IsNoneDue channel luns wants geometry schedule status
-  is_over : (p : Problem) (s : Schedule) → IsStand channel luns wants schedule p s → phases p s ≡ [] → status ≡ NothingDue → IsNoneDue channel luns wants geometry schedule status
-  is_outside : (p : Problem) (s : Schedule) → IsStand channel luns wants schedule p s → (device : Geometry) → geometry ≡ written_geometry device
-      → (group : List Want) (start number : ℕ) → Comes p s group start number → IsOutside device group number → status ≡ BadPlace → IsNoneDue channel luns wants geometry schedule status
+  is_no_flight : IsNoFlight channel luns wants schedule status → IsNoneDue channel luns wants geometry schedule status
+  is_illegal : (f : Flight) → IsFlightSaid channel luns wants schedule f → (Legal f.now f.left → ⊥) → status ≡ Illegal → IsNoneDue channel luns wants geometry schedule status
+  is_over : (f : Flight) → IsFlightSaid channel luns wants schedule f → IsOver f.left → IsDone f.now → IsOverTold geometry status → IsNoneDue channel luns wants geometry schedule status
+  is_off : (f : Flight) → IsFlightSaid channel luns wants schedule f → (due : Due) → IsDue f due → IsOffDevice geometry due status → IsNoneDue channel luns wants geometry schedule status
 
 -- a caller is given the phase that is due, or a number that tells why there is none, and nothing else
 pub data GivesDue (channel : PlainChannel) (luns : List PlainLun) (wants : List PlainWant) (geometry : PlainGeometry) (schedule : PlainSchedule) (old new : PlainPhase) (result : ℕ) : Type 0 where

@@ -1,11 +1,9 @@
 pub mod Answered
-pub mod Behind
 pub mod Checked
 pub mod Chosen
-pub mod Coming
 pub mod Device
 pub mod Due
-pub mod Later
+pub mod Flights
 pub mod Planned
 pub mod Ran
 pub mod Refusal

@@ -7,8 +7,9 @@ use Rattle.onfi_cert.specs.Text.{text_of}
 use Rattle.onfi_check.specs.Tree.{AcceptsTokens}
 use Rattle.onfi_check.specs.Nodes.{HasMoreNodes, OpensNodes}
 use Rattle.onfi_planner.specs.Planning.{AreRising}
-use Rattle.onfi_recall.specs.Text.{HasNodesIn, last_opened}
-use Rattle.onfi_recall.specs.Walks.{EndsSooner, HasSoMany}
+use Rattle.onfi_known_plan.specs.Text.{HasNodesIn, last_opened}
+use Rattle.onfi_known_plan.specs.Walks.{EndsSooner, HasSoMany}
+use Rattle.onfi_plan.specs.Certificate.{Remembering as Remembers}
 use Rattle.onfi_planners.specs.declared.chosen.ChosenPlanner.TheVariants.{Remembering}
 use Rattle.onfi_script.specs.Answer.{IsProved}
 use Rattle.onfi_c.specs.declared.channel.PlainChannel.{PlainChannel}
@@ -47,7 +48,7 @@ pub record IsRecalled (p : Problem) (limit : ℕ) (plan : PlainPlan) (text : Lis
   pub within : plan.opened ≤ limit
   pub nodes : HasSoMany p plan.opened
   pub reopened : ℕ
-  pub counted : HasNodesIn p text (last_opened plan.opened reopened)
+  pub counted : HasNodesIn p (Remembers text) (last_opened plan.opened reopened)
   pub again : 1 ≤ reopened → EndsSooner p (finish p schedule)
   pub written : plan ≡ written_plan schedule (finish p schedule) plan.opened
 

@@ -1,31 +1,24 @@
 -- What stands behind a phase that ran.
-use Rattle.std.specs.Prelude.{◌≡◌, ◌⊎◌, ℕ, ◌-◌, ◌<◌, ◌≤◌, ◌^◌, not, Bool, true, List, [], length, drop, map, replicate, Option, Some, None, slice_index_or}
+use Rattle.std.specs.Prelude.{◌≡◌, ◌⊎◌, ℕ, ◌<◌, ◌≤◌, ◌^◌, List, length, drop, map, replicate, Option, Some, None, slice_get, slice_index_or, slice_set}
 use Rattle.onfi_request.specs.declared.want.Want.{Want}
-use Rattle.onfi_problem.specs.Problem.{Problem}
 use Rattle.onfi_problem.specs.declared.lun_state.LunState.{LunState}
 use Rattle.onfi_problem.specs.declared.lun_state.LunState.TheVariants.{Free, Running}
 use Rattle.onfi_problem.specs.Left.{horizon, InLimits}
-use Rattle.onfi_problem.specs.Moves.{Move, move_lun, placed}
-use Rattle.onfi_group.specs.Group.{is_member}
-use Rattle.onfi_schedule.specs.Schedule.{Schedule, Legal, phases}
-use Rattle.onfi_schedule.specs.Laws.{ComesNext}
-use Rattle.onfi_core.specs.Steps.{IsPhase}
+use Rattle.onfi_problem.specs.Moves.{IsDone}
+use Rattle.onfi_schedule.specs.Schedule.{Legal}
+use Rattle.onfi_flight.specs.declared.due.Due.{Due}
+use Rattle.onfi_flight.specs.Flight.{Flight, IsDue, IsOver, after_late, latest_late}
 use Rattle.onfi_c.specs.declared.channel.PlainChannel.{PlainChannel}
 use Rattle.onfi_c.specs.declared.lun.PlainLun.{PlainLun}
 use Rattle.onfi_c.specs.declared.lun.PlainWant.{PlainWant}
+use Rattle.onfi_c.specs.declared.ran.Behind.{Behind}
 use Rattle.onfi_c.specs.declared.schedule.PlainSchedule.{PlainSchedule}
 use Rattle.onfi_c.specs.declared.status.Status.{Status}
-use Rattle.onfi_c.specs.declared.status.Status.TheVariants.{TooMany, Clock, Memory, NothingDue, NotDue, TooSoon}
-use Rattle.onfi_c.specs.Due.{number_of_kind}
-use Rattle.onfi_core.specs.Times.{later}
-use Rattle.onfi_c.specs.Later.{reaches_limit}
-use Rattle.onfi_c.specs.Said.{IsSaid, want_of}
-use Rattle.onfi_c.specs.SaidLegal.{IsStand, IsNoStand}
+use Rattle.onfi_c.specs.declared.status.Status.TheVariants.{TooMany, Clock, Illegal, NothingDue, NotDue, TooSoon}
+use Rattle.onfi_c.specs.Flights.{IsFlightSaid, IsNoFlight}
+use Rattle.onfi_c.specs.Said.{IsSaid}
 use Rattle.onfi_c.specs.Status.{number_of}
-use Rattle.onfi_c.specs.Written.{filled, written_schedule}
-
-abbrev pub written_want : Want → PlainWant
-written_want w = record { id = w.id; kind = number_of_kind w.kind; lun = w.lun; block = w.block; page = w.page }
+use Rattle.onfi_c.specs.Written.{filled, written_schedule, written_want}
 
 abbrev pub no_want : PlainWant
 no_want = record { id = 0; kind = 0; lun = 0; block = 0; page = 0 }
@@ -40,10 +33,12 @@ abbrev pub lun_in : LunState → PlainLun → PlainLun
 lun_in (Free since) lun = record { since = since; members = 0; next = 0; member = lun.member }
 lun_in (Running group next ready) lun = record { since = ready; members = lun.members; next = next; member = lun.member }
 
--- a want still waits where no group starts, or one that it isn't in
-abbrev pub waits : ℕ → Option ℕ → List Want → PlainWant → Bool
-waits plane_bits None group w = true
-waits plane_bits (Some at) group w = not (is_member group (want_of plane_bits w))
+-- what stands behind the phase that was due, of a flight as it stands then
+pub record IsBehind (luns : List PlainLun) (due : Due) (f : Flight) (b : Behind) : Type 0 where
+  pub bus_free : b.bus_free ≡ f.now.bus_free
+  pub lun : (state : LunState) → slice_get f.now.luns due.lun ≡ Some state → b.lun ≡ lun_in state (telling luns due.place due.lun due.group)
+  pub wants : b.wants.items ≡ map written_want f.now.wants
+  pub schedule : b.schedule ≡ written_schedule f.left
 
 -- what a caller keeps of a channel; these wants wait
 pub record Kept : Type 0 where
@@ -52,51 +47,52 @@ pub record Kept : Type 0 where
   pub wants : List PlainWant
   pub schedule : PlainSchedule
 
--- the problem that is kept, and the legal schedule of it
-abbrev pub Stands : Kept → Problem → Schedule → Type 0
-Stands k p s = IsStand k.channel k.luns k.wants k.schedule p s
+-- what is kept once a phase of that LUN ran
+abbrev pub kept_behind : Kept → ℕ → Behind → Kept
+kept_behind old lun b = record {
+  channel = record old.channel { bus_free = b.bus_free };
+  luns = slice_set old.luns lun b.lun;
+  wants = b.wants.items;
+  schedule = b.schedule;
+}
 
--- the phase that comes next, of that LUN and with that number, and the phases that are left behind it
-pub record ComesOn (p : Problem) (s : Schedule) (lun number : ℕ) (move : Move) (start : ℕ) (left : Schedule) : Type 0 where
-  pub next : ComesNext p s move start left
-  pub group : List Want
-  pub is : IsPhase p move group number
-  pub lun_is : lun ≡ move_lun move
+-- the problem that is kept, and what is left of its schedule
+abbrev pub Flies : Kept → Flight → Type 0
+Flies k f = IsFlightSaid k.channel k.luns k.wants k.schedule f
+
+-- the phase that is due is of that LUN and has that number
+pub record IsDueThere (f : Flight) (due : Due) (lun number : ℕ) : Type 0 where
+  pub is : IsDue f due
+  pub lun_is : due.lun ≡ lun
+  pub number_is : due.phase ≡ number
 
 -- the phase that was due ran from `started` on: what is kept then is the problem that it leaves, in the limits that each call
--- asks, and all other phases, later by as much as it was: a legal schedule of it
+-- asks, and all other phases, later by as much as it was: a legal schedule of it where it was legal before
 pub record IsRan (old new : Kept) (lun number started : ℕ) : Type 0 where
-  pub problem : Problem
-  pub schedule : Schedule
-  pub stand : Stands old problem schedule
-  pub move : Move
-  pub start : ℕ
-  pub left : Schedule
-  pub comes_on : ComesOn problem schedule lun number move start left
-  pub on_time : start ≤ started
-  pub legal : Legal (placed problem move started) (later (started - start) left)
-  pub after : IsSaid new.channel new.luns new.wants (placed problem move started)
-  pub limits : InLimits (placed problem move started)
-  pub later : new.schedule ≡ written_schedule (later (started - start) left)
+  pub flight : Flight
+  pub said : Flies old flight
+  pub due : Due
+  pub there : IsDueThere flight due lun number
+  pub on_time : due.start ≤ started
+  pub legal : Legal flight.now flight.left → Legal (after_late flight due started).now (after_late flight due started).left
+  pub after : IsSaid new.channel new.luns new.wants (after_late flight due started).now
+  pub limits : InLimits (after_late flight due started).now
+  pub later : new.schedule ≡ written_schedule (after_late flight due started).left
 
--- this phase, or one that is left, would start at 2^62 or later
-abbrev pub IsLate : ℕ → ℕ → Schedule → Type 0
-IsLate start started left = (2 ^ 62 ≤ started) ⊎ (reaches_limit (started - start) left ≡ true)
+-- this phase, or one that is left, would start at 2^62 or later; or what is left could reach it, so that each later call would
+-- refuse it
+abbrev pub IsLate : Flight → Due → ℕ → Type 0
+IsLate f due started = (2 ^ 62 ≤ latest_late f due started) ⊎ (2 ^ 62 ≤ horizon (after_late f due started).now)
 
--- why nothing is done: the first of these; memory may run out of what is kept
+-- why nothing is done: the first of these
 pub data IsNotRan (old : Kept) (lun number started : ℕ) (status : Status) : Type 0 where
-  is_no_stand : IsNoStand old.channel old.luns old.wants old.schedule status → IsNotRan old lun number started status
-  is_over : (p : Problem) (s : Schedule) → Stands old p s → phases p s ≡ [] → status ≡ NothingDue → IsNotRan old lun number started status
-  is_not_due : (p : Problem) (s : Schedule) → Stands old p s → (of_lun of_number : ℕ) (move : Move) (start : ℕ) (left : Schedule) → ComesOn p s of_lun of_number move start left
-      → ((of_lun ≡ lun) × (of_number ≡ number) → ⊥) → status ≡ NotDue → IsNotRan old lun number started status
-  is_too_soon : (p : Problem) (s : Schedule) → Stands old p s → (move : Move) (start : ℕ) (left : Schedule) → ComesOn p s lun number move start left → started < start
-      → status ≡ TooSoon → IsNotRan old lun number started status
-  is_late : (p : Problem) (s : Schedule) → Stands old p s → (move : Move) (start : ℕ) (left : Schedule) → ComesOn p s lun number move start left → start ≤ started
-      → IsLate start started left → status ≡ Clock → IsNotRan old lun number started status
-  -- what is left could reach 2^62, so that each later call would refuse it
-  is_beyond : (p : Problem) (s : Schedule) → Stands old p s → (move : Move) (start : ℕ) (left : Schedule) → ComesOn p s lun number move start left → start ≤ started
-      → 2 ^ 62 ≤ horizon (placed p move started) → status ≡ Clock → IsNotRan old lun number started status
-  is_no_memory : (p : Problem) (s : Schedule) → Stands old p s → status ≡ Memory → IsNotRan old lun number started status
+  is_no_flight : IsNoFlight old.channel old.luns old.wants old.schedule status → IsNotRan old lun number started status
+  is_illegal : (f : Flight) → Flies old f → (Legal f.now f.left → ⊥) → status ≡ Illegal → IsNotRan old lun number started status
+  is_over : (f : Flight) → Flies old f → IsOver f.left → IsDone f.now → status ≡ NothingDue → IsNotRan old lun number started status
+  is_not_due : (f : Flight) → Flies old f → (due : Due) → IsDue f due → ((due.lun ≡ lun) × (due.phase ≡ number) → ⊥) → status ≡ NotDue → IsNotRan old lun number started status
+  is_too_soon : (f : Flight) → Flies old f → (due : Due) → IsDueThere f due lun number → started < due.start → status ≡ TooSoon → IsNotRan old lun number started status
+  is_late : (f : Flight) → Flies old f → (due : Due) → IsDueThere f due lun number → due.start ≤ started → IsLate f due started → status ≡ Clock
+      → IsNotRan old lun number started status
 
 -- all is as it was
 pub record IsSame (old new : Kept) (room_old room_new : List PlainWant) (count_old count_new : ℕ) : Type 0 where

@@ -5,12 +5,10 @@ use Rattle.onfi_check.specs.declared.fault.CertFault.{CertFault}
 use Rattle.onfi_check.specs.declared.fault.CertFault.TheVariants as cert
 use Rattle.onfi_check.specs.declared.fault.TextFault.{TextFault}
 use Rattle.onfi_check.specs.declared.fault.TextFault.TheVariants as in_text
-use Rattle.onfi_known.specs.declared.fault.WithinTextFault.{WithinTextFault}
-use Rattle.onfi_known.specs.declared.fault.WithinTextFault.TheVariants as in_within
-use Rattle.onfi_known.specs.declared.fault.KnownFault.{KnownFault}
-use Rattle.onfi_known.specs.declared.fault.KnownFault.TheVariants as known
-use Rattle.onfi_known.specs.declared.fault.KnownTextFault.{KnownTextFault}
-use Rattle.onfi_known.specs.declared.fault.KnownTextFault.TheVariants as in_known
+use Rattle.onfi_known_check.specs.declared.fault.KnownFault.{KnownFault}
+use Rattle.onfi_known_check.specs.declared.fault.KnownFault.TheVariants as known
+use Rattle.onfi_known_check.specs.declared.fault.KnownTextFault.{KnownTextFault}
+use Rattle.onfi_known_check.specs.declared.fault.KnownTextFault.TheVariants as in_known
 use Rattle.onfi_c.specs.declared.status.Status.{Status}
 use Rattle.onfi_c.specs.declared.status.Status.TheVariants as status
 use Rattle.onfi_c.specs.declared.refusal.Refusal.{Refusal}
@@ -36,33 +34,22 @@ cert_text_refusal (cert_text.BadToken place) = record { status = status.BadToken
 cert_text_refusal cert_text.TooLong = whole status.TooManyTokens
 cert_text_refusal cert_text.Memory = whole status.Memory
 
-abbrev pub text_refusal : TextFault → Refusal
+abbrev pub text_refusal : TextFault CertFault CertTextFault → Refusal
 text_refusal (in_text.Text fault) = cert_text_refusal fault
 text_refusal (in_text.Cert fault) = cert_refusal fault
 text_refusal in_text.Option = whole status.OtherOption
 
--- the same of certificates that remember states
+-- the same of certificates that remember states, and of a schedule that ends before the number before which none is to end
 abbrev pub known_refusal : KnownFault → Refusal
-known_refusal known.Illegal = whole status.Illegal
-known_refusal known.Short = whole status.Short
-known_refusal (known.Trailing place) = record { status = status.Trailing; place = place }
-known_refusal (known.Width place) = record { status = status.Width; place = place }
-known_refusal (known.BoundLow place) = record { status = status.BoundLow; place = place }
-known_refusal (known.YieldNoFit place) = record { status = status.YieldNoFit; place = place }
-known_refusal (known.YieldLoop place) = record { status = status.YieldLoop; place = place }
-known_refusal (known.NotEnd place) = record { status = status.NotEnd; place = place }
-known_refusal known.Memory = whole status.Memory
+known_refusal (known.Cert fault) = cert_refusal fault
 known_refusal (known.Unknown place) = record { status = status.UnknownNode; place = place }
 known_refusal (known.OtherLeft place) = record { status = status.OtherLeft; place = place }
 known_refusal (known.Sooner place) = record { status = status.Sooner; place = place }
 known_refusal (known.TooMany place) = record { status = status.TooManyNodes; place = place }
+known_refusal known.Above = whole status.EndsBefore
 
-abbrev pub known_text_refusal : KnownTextFault → Refusal
-known_text_refusal in_known.Header = whole status.BadHeader
-known_text_refusal (in_known.BadToken place) = record { status = status.BadToken; place = place }
-known_text_refusal in_known.Option = whole status.OtherOption
-known_text_refusal (in_known.Cert fault) = known_refusal fault
-
-abbrev pub within_refusal : WithinTextFault → Refusal
-within_refusal (in_within.Known fault) = known_text_refusal fault
-within_refusal in_within.Above = whole status.EndsBefore
+abbrev pub known_text_refusal : TextFault KnownFault KnownTextFault → Refusal
+known_text_refusal (in_text.Text in_known.Header) = whole status.BadHeader
+known_text_refusal (in_text.Text (in_known.BadToken place)) = record { status = status.BadToken; place = place }
+known_text_refusal (in_text.Cert fault) = known_refusal fault
+known_text_refusal in_text.Option = whole status.OtherOption

@@ -3,7 +3,7 @@ use Rattle.std.specs.Prelude.{◌≡◌, ◌⊎◌, ◌^◌, ◌<◌, ◌≤◌,
 use Rattle.std.specs.List.{list_any}
 use Rattle.onfi_timing.specs.Lengths.{AreLengths}
 use Rattle.onfi_problem.specs.Problem.{Problem, IsSmall, IsProblem}
-use Rattle.onfi_problem.specs.Left.{horizon, InLimits}
+use Rattle.onfi_problem.specs.Left.{horizon}
 use Rattle.onfi_c.specs.declared.channel.PlainSpans.{PlainSpans}
 use Rattle.onfi_c.specs.declared.channel.PlainTiming.{PlainTiming}
 use Rattle.onfi_c.specs.declared.channel.PlainChannel.{PlainChannel}
@@ -33,17 +33,20 @@ pub record IsGoodTiming (t : PlainTiming) : Type 0 where
   pub program : AreGoodSpans t.program
   pub erase : AreGoodSpans t.erase
 
--- why what is said is no problem of the program; memory may run out on one that is
+-- why what is said is no problem of the program
 abbrev pub IsBadProblem : Problem → Status → Type 0
 IsBadProblem p TooMany = IsSmall p → ⊥
 IsBadProblem p BadLun = IsSmall p × (IsProblem p → ⊥)
 IsBadProblem p Clock = IsSmall p × IsProblem p × (2 ^ 62 ≤ horizon p)
-IsBadProblem p Memory = InLimits p
 IsBadProblem p _ = ⊥
 
--- the same of the problem that is said; or that memory ran out before it was made
+-- the same of the problem that is said
+abbrev pub IsFaultSaid : PlainChannel → List PlainLun → List PlainWant → Status → Type 0
+IsFaultSaid channel luns wants status = (p : Problem) × IsSaid channel luns wants p × IsBadProblem p status
+
+-- .. or memory ran out before it was made
 abbrev pub IsBadSaid : PlainChannel → List PlainLun → List PlainWant → Status → Type 0
-IsBadSaid channel luns wants status = (status ≡ Memory) ⊎ ((p : Problem) × IsSaid channel luns wants p × IsBadProblem p status)
+IsBadSaid channel luns wants status = (status ≡ Memory) ⊎ IsFaultSaid channel luns wants status
 
 -- all numbers of what is said are in their ranges
 pub record AreSaid (channel : PlainChannel) (luns : List PlainLun) (wants : List PlainWant) : Type 0 where

@@ -1,5 +1,6 @@
 -- What plain structs say of a channel.
-use Rattle.std.specs.Prelude.{◌≡◌, ◌==◌, ℕ, ◌%◌, ◌^◌, nat_lt, if◌then◌else◌, Bool, List, take, map, ◌||◌}
+use Rattle.std.specs.Prelude.{◌≡◌, ◌==◌, ℕ, nat_lt, if◌then◌else◌, Bool, List, take, map, ◌||◌}
+use Rattle.onfi_addr.specs.Rows.{plane_at}
 use Rattle.std.specs.List.{list_any}
 use Rattle.onfi_timing.specs.declared.kind.Kind.{Kind}
 use Rattle.onfi_timing.specs.declared.kind.Kind.TheVariants.{Read, Program, Erase}
@@ -41,7 +42,7 @@ kind_of kind = if kind == 0 then Read else (if kind == 1 then Program else Erase
 
 -- a request, on the plane that the low bits of its block name
 abbrev pub want_of : ℕ → PlainWant → Want
-want_of plane_bits w = record { id = w.id; kind = kind_of w.kind; lun = w.lun; plane = w.block % 2 ^ plane_bits; block = w.block; page = w.page }
+want_of plane_bits w = record { id = w.id; kind = kind_of w.kind; lun = w.lun; plane = plane_at plane_bits w.block; block = w.block; page = w.page }
 
 abbrev pub wants_of : ℕ → List PlainWant → List Want
 wants_of plane_bits wants = map (want_of plane_bits) wants

@@ -1,13 +1,13 @@
 -- A channel with a schedule, as plain structs say them.
 use Rattle.std.specs.Prelude.{◌≡◌, List, true, false}
 use Rattle.onfi_problem.specs.Problem.{Problem}
-use Rattle.onfi_schedule.specs.Schedule.{Schedule, Legal}
+use Rattle.onfi_schedule.specs.Schedule.{Schedule}
 use Rattle.onfi_c.specs.declared.channel.PlainChannel.{PlainChannel}
 use Rattle.onfi_c.specs.declared.lun.PlainLun.{PlainLun}
 use Rattle.onfi_c.specs.declared.lun.PlainWant.{PlainWant}
 use Rattle.onfi_c.specs.declared.schedule.PlainSchedule.{PlainSchedule}
 use Rattle.onfi_c.specs.declared.status.Status.{Status}
-use Rattle.onfi_c.specs.declared.status.Status.TheVariants.{BadSchedule, Illegal, Memory}
+use Rattle.onfi_c.specs.declared.status.Status.TheVariants.{BadSchedule, Memory}
 use Rattle.onfi_c.specs.Refused.{IsRefused}
 use Rattle.onfi_c.specs.Said.{IsSaid}
 use Rattle.onfi_c.specs.SaidSchedule.{is_bad_schedule, schedule_of}
@@ -26,14 +26,3 @@ pub data IsNoSchedule (channel : PlainChannel) (luns : List PlainLun) (wants : L
       → IsNoSchedule channel luns wants schedule status
   is_no_memory : (p : Problem) → IsSaid channel luns wants p → is_bad_schedule schedule ≡ false → status ≡ Memory
       → IsNoSchedule channel luns wants schedule status
-
--- .. one that is legal
-pub record IsStand (channel : PlainChannel) (luns : List PlainLun) (wants : List PlainWant) (schedule : PlainSchedule) (p : Problem) (s : Schedule) : Type 0 where
-  pub said : IsScheduleSaid channel luns wants schedule p s
-  pub legal : Legal p s
-
--- why there are none: the first of these
-pub data IsNoStand (channel : PlainChannel) (luns : List PlainLun) (wants : List PlainWant) (schedule : PlainSchedule) (status : Status) : Type 0 where
-  is_no_schedule : IsNoSchedule channel luns wants schedule status → IsNoStand channel luns wants schedule status
-  is_illegal : (p : Problem) (s : Schedule) → IsScheduleSaid channel luns wants schedule p s → (Legal p s → ⊥) → status ≡ Illegal
-      → IsNoStand channel luns wants schedule status

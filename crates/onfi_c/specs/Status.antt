@@ -2,6 +2,8 @@
 use Rattle.std.specs.Prelude.{ℕ, List, codes}
 use Rattle.onfi_planner.specs.declared.fault.PlanFault.{PlanFault}
 use Rattle.onfi_planner.specs.declared.fault.PlanFault.TheVariants.{Over as SearchOver, Memory as SearchMemory}
+use Rattle.onfi_problem.specs.declared.fault.ProblemFault.{ProblemFault}
+use Rattle.onfi_problem.specs.declared.fault.ProblemFault.TheVariants as problem
 use Rattle.onfi_timing.specs.declared.spans.SpanFault.{SpanFault}
 use Rattle.onfi_timing.specs.declared.spans.SpanFault.TheVariants.{Zero as ZeroLength, TooLong}
 use Rattle.onfi_c.specs.declared.status.Status.{Status}
@@ -137,6 +139,12 @@ text_of TooManyNodes = codes "more than 1,048,576 open nodes"
 abbrev pub spans_status : SpanFault → Status
 spans_status ZeroLength = ZeroSpan
 spans_status TooLong = LongSpan
+
+abbrev pub problem_status : ProblemFault → Status
+problem_status problem.TooMany = TooMany
+problem_status problem.BadLun = BadLun
+problem_status problem.Clock = Clock
+problem_status problem.Memory = Memory
 
 abbrev pub plan_status : PlanFault → Status
 plan_status (SearchOver opened) = Over

@@ -1,15 +1,21 @@
--- Schedules and plans as plain structs.
+-- Wants, schedules and plans as plain structs.
 use Rattle.std.specs.Prelude.{ℕ, List, ◌++◌, length, drop, map, replicate}
+use Rattle.onfi_request.specs.declared.want.Want.{Want}
 use Rattle.onfi_schedule.specs.Schedule.{Placed, Schedule}
+use Rattle.onfi_c.specs.declared.lun.PlainWant.{PlainWant}
 use Rattle.onfi_c.specs.declared.schedule.PlainRest.{PlainRest}
 use Rattle.onfi_c.specs.declared.schedule.PlainGroup.{PlainGroup}
 use Rattle.onfi_c.specs.declared.schedule.PlainSchedule.{PlainSchedule}
 use Rattle.onfi_c.specs.declared.schedule.PlainPlan.{PlainPlan}
 use Rattle.onfi_c.specs.declared.schedule.PlainWithin.{PlainWithin}
+use Rattle.onfi_c.specs.Due.{number_of_kind}
 
 -- in front of as many of the rest as fill up n places
 abbrev pub filled : {A : Type 0} → ℕ → A → List A → List A
 filled n rest xs = xs ++ drop (length xs) (replicate n rest)
+
+abbrev pub written_want : Want → PlainWant
+written_want w = record { id = w.id; kind = number_of_kind w.kind; lun = w.lun; block = w.block; page = w.page }
 
 -- starts of which none is behind the last
 abbrev pub written_rest : List ℕ → PlainRest

@@ -1,19 +1,19 @@
 //! The phase that is due.
 ghost use Rattle.std.specs.Prelude.{◌≡◌, ◌*◌, ◌<◌, ◌^◌, length, IfOk, IfErr, IfNone, IfSome};
-ghost use Rattle.onfi_c.specs.Due.{GivesDue, IsDueSaid, IsMember, IsNoneDue, IsOutside, IsWritten, closer_of as spec_closer_of, number_of_kind, opener_of as spec_opener_of};
+ghost use Rattle.onfi_c.specs.Due.{GivesDue, IsDueSaid, IsNoneDue, IsOffDevice, IsOnDevice, IsOutside, IsOverTold, IsWritten, closer_of as spec_closer_of, number_of_kind, opener_of as spec_opener_of};
 
 use crate::channel::PlainChannel;
-use crate::coming::{Coming, find_coming};
 use crate::device::PlainGeometry;
+use crate::flight::{fill, timing_of};
 use crate::geometry::geometry_of;
 use crate::lun::{PlainLun, PlainWant};
 use crate::phase::PlainPhase;
 use crate::row::row_in;
+use crate::said::rules;
 use crate::schedule::PlainSchedule;
-use crate::stand::stand_of;
 use crate::status::Status;
 use onfi_addr::{Geometry, Place};
-use onfi_request::Want;
+use onfi_flight::{Due, Flight, Next};
 use onfi_timing::{Kind, Timing};
 use std::alloc::Global;
 
@@ -54,28 +54,14 @@ fn closer_of(kind: Kind, is_post: bool, is_last: bool) -> u8
     }
 }
 
-/// The member of its group whose phase it is.
-fn member_of(coming: &Coming) -> Want
-    requires { coming.now.number < 2 * length coming.now.group }
-    ensures { IsMember coming.now.group coming.now.number result }
+/// The phase that is due, as a plain struct; none where the device doesn't have its page.
+fn phase_of(timing: &Timing, geometry: &Geometry, due: &Due) -> Option<PlainPhase>
+    requires within { due.now.phase < 2 * length due.now.group }
+    requires time { due.now.start < 2 ^ 63 }
+    ensures some { IfSome result (λ phase. IsWritten timing.now geometry.now due.now.group due.now.start due.now.phase phase) }
+    ensures none { IfNone result (IsOutside geometry.now due.now.group due.now.phase) }
 {
-    let members = coming.group.members();
-    let number = usize::from(coming.number);
-    if number < members.len() {
-        return members[number];
-    }
-    members[number - members.len()]
-}
-
-/// The phase that comes next, as a plain struct; none where the device doesn't have its page.
-fn phase_of(timing: &Timing, geometry: &Geometry, coming: &Coming) -> Option<PlainPhase>
-    requires within { coming.now.number < 2 * length coming.now.group }
-    requires time { coming.now.start < 2 ^ 63 }
-    ensures some { IfSome result (λ phase. IsWritten timing.now geometry.now coming.now.group coming.now.start coming.now.number phase) }
-    ensures same { IfSome result (λ phase. (phase.start ≡ coming.now.start) × (phase.number ≡ coming.now.number)) }
-    ensures none { IfNone result (IsOutside geometry.now coming.now.group coming.now.number) }
-{
-    let member = member_of(coming);
+    let member = due.member();
     let place = Place {
         lun: member.lun,
         block: member.block,
@@ -84,25 +70,51 @@ fn phase_of(timing: &Timing, geometry: &Geometry, coming: &Coming) -> Option<Pla
     if !geometry.is_in_range(&place) {
         return None;
     }
-    let (members, number) = (coming.group.len(), usize::from(coming.number));
-    let spans = timing.spans(coming.group.kind());
+    let (members, number) = (due.group.len(), usize::from(due.phase));
+    let spans = timing.spans(due.group.kind());
     let is_post = members <= number;
     Some(PlainPhase {
-        start: coming.start,
-        end: coming.start + spans.phase_length(members, number),
+        start: due.start,
+        end: due.start + spans.phase_length(members, number),
         want: member.id,
         row: row_in(geometry, &place),
         block: member.block,
         page: member.page,
         lun: member.lun,
         kind: kind_number(member.kind),
-        number: coming.number,
+        number: due.phase,
         members: members as u8,
         opener: opener_of(member.kind, is_post),
         closer: closer_of(member.kind, is_post, number + 1 == members),
         row_cycles: geometry.row_address_cycles,
         is_post,
     })
+}
+
+/// The phase that is due, on the device that is said.
+fn phase_on(timing: &Timing, geometry: &PlainGeometry, due: &Due) -> Result<PlainPhase, Status>
+    requires within { due.now.phase < 2 * length due.now.group }
+    requires time { due.now.start < 2 ^ 63 }
+    ensures phase { IfOk result (λ phase. IsOnDevice timing.now geometry.now due.now phase) }
+    ensures none { IfErr result (λ status. IsOffDevice geometry.now due.now status) }
+{
+    let Some(geometry) = geometry_of(geometry) else {
+        return Err(Status::BadGeometry);
+    };
+    match phase_of(timing, &geometry, due) {
+        Some(phase) => Ok(phase),
+        None => Err(Status::BadPlace),
+    }
+}
+
+/// What is told where nothing is left to do.
+fn over_status(geometry: &PlainGeometry) -> Status
+    ensures { IsOverTold geometry.now result }
+{
+    match geometry_of(geometry) {
+        Some(_) => Status::NothingDue,
+        None => Status::BadGeometry,
+    }
 }
 
 /// The phase that is due of what is said.
@@ -117,28 +129,30 @@ fn due_said(
     ensures due { IfOk result (λ phase. IsDueSaid channel.now luns.now wants.now geometry.now schedule.now phase) }
     ensures none { IfErr result (λ status. IsNoneDue channel.now luns.now wants.now geometry.now schedule.now status) }
 {
-    let stand = match stand_of(alloc, channel, luns, wants, schedule) {
-        Ok(stand) => stand,
+    let timing = match timing_of(channel, luns, wants) {
+        Ok(timing) => timing,
         Err(status) => return Err(status),
     };
-    let Some(geometry) = geometry_of(geometry) else {
-        return Err(Status::BadGeometry);
-    };
-    let Some(coming) = find_coming(&stand.problem, &stand.schedule) else {
-        return Err(Status::NothingDue);
-    };
-    match phase_of(&stand.problem.timing(), &geometry, &coming) {
-        Some(phase) => Ok(phase),
-        None => Err(Status::BadPlace),
+    let rules = rules(&channel.rules);
+    let mut flight = Flight::idle(alloc, timing, rules, channel.bus_free, luns.len() as u8);
+    match fill(alloc, &mut flight, channel, luns, wants, schedule) {
+        Ok(()) => {}
+        Err(status) => return Err(status),
+    }
+    match flight.due() {
+        Next::Due(due) => phase_on(&flight.timing(), geometry, &due),
+        Next::Done => Err(over_status(geometry)),
+        Next::Illegal => Err(Status::Illegal),
     }
 }
 
-/// The phase that is due of a legal schedule, what is left of a plan: the undone one of least start, with the bytes and
-/// the address that a driver gives out for it.
+/// The phase that is due of a schedule, what is left of a plan: the undone one of least start, with the bytes and the
+/// address that a driver gives out for it. That it may run is looked at, and nothing else of the schedule: of one that isn't
+/// legal a phase may be told. This asks for no memory.
 ///
-/// Answers 0; or the first of the numbers that [`onfi_plan`](crate::planning::onfi_plan) tells of the channel, and those of
-/// `BadSchedule`, `Illegal`, `BadGeometry`, `NothingDue` and `BadPlace`, and the phase is as it was. `Memory` may stand in
-/// place of any behind `BadKind`.
+/// Answers 0; or the first of the numbers that [`onfi_plan`](crate::planning::onfi_plan) tells of the channel, but for
+/// `Memory`, and those of `BadSchedule`, of `Illegal` where the phase of least start may not run, or what waits or runs has no
+/// start, and of `BadGeometry`, `NothingDue` and `BadPlace`; and the phase is as it was.
 #[unsafe(no_mangle)]
 pub extern "C" fn onfi_due(
     alloc: Global,

@@ -5,16 +5,14 @@
 #![tactic(auto)]
 
 mod answered;
-mod behind;
 mod channel;
 mod checking;
 mod choosing;
-mod coming;
 mod device;
 mod due;
 mod early;
+mod flight;
 mod geometry;
-mod later;
 mod lun;
 mod phase;
 mod planning;

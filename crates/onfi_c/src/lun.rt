@@ -1,6 +1,6 @@
 /// A request: its number, its kind (0 read, 1 program, 2 erase), its LUN, block and page; an erase names page 0.
 #[repr(C)]
-#[derive(Clone, Copy)]
+#[derive(Clone, Copy, Default)]
 pub struct PlainWant {
     pub id: u64,
     pub kind: u8,

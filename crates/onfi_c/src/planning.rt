@@ -12,12 +12,10 @@ use crate::status::Status;
 use crate::told::Told;
 use crate::written;
 use onfi_cert::write;
+use onfi_plan::Limit;
 use onfi_planner::{Counted, Planned, plan_counted};
 use onfi_problem::Problem;
 use std::alloc::{AllocError, Global};
-
-/// The most nodes that a search may open.
-const MOST_NODES: u32 = 1_048_576;
 
 /// The problem that a caller says, which a search of so many nodes is to plan.
 pub fn problem_posed(
@@ -31,7 +29,7 @@ pub fn problem_posed(
     ensures begun { IfOk result (λ p. p.all ≡ p.problem.wants) }
     ensures none { IfErr result (λ status. IsUnposed channel.now luns.now wants.now limit status) }
 {
-    if limit == 0 || limit > MOST_NODES {
+    if Limit::of(limit).is_none() {
         return Err(Status::BadLimit);
     }
     problem_of(alloc, channel, luns, wants)
@@ -82,8 +80,6 @@ fn certificate(alloc: Global, strict: bool, planned: &Planned) -> Result<Vec<u8>
 
 /// A plan, as it is told.
 pub fn tell(alloc: Global, problem: &Problem, limit: u32) -> Result<Told<PlainPlan>, Status>
-    requires some { 1 ≤ limit }
-    requires few { limit ≤ 1048576 }
     ensures plan { IfOk result (λ t. IsPlan problem.now.problem limit t.plan t.text.items) }
     ensures none { IfErr result (λ status. IsUnplanned problem.now.problem limit status) }
 {

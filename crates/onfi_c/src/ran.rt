@@ -1,53 +1,133 @@
 //! What stands behind a phase, in place of what stood before it.
-ghost use Rattle.std.specs.Prelude.{◌≡◌, ◌↔◌, ◌++◌, ◌<◌, ◌≤◌, drop, length, slice_set, take, IfOk, IfErr, IsTrue};
-ghost use Rattle.onfi_c.specs.Behind.{IsBeyond, IsInTime, kept_behind};
-ghost use Rattle.onfi_c.specs.Ran.{GivesRan, IsNotRan, IsRan, Kept};
+ghost use Rattle.std.specs.Prelude.{◌≡◌, ◌↔◌, ◌++◌, ◌<◌, ◌≤◌, drop, length, map, take, IfOk, IfErr, IsTrue};
+ghost use Rattle.onfi_flight.specs.Flight.{IsDue, after_late};
+ghost use Rattle.onfi_problem.specs.Left.{InLimits};
+ghost use Rattle.onfi_c.specs.Ran.{GivesRan, IsLate, IsNotRan, IsRan, Kept, kept_behind};
+ghost use Rattle.onfi_c.specs.Ran as spec;
+ghost use Rattle.onfi_c.specs.Written.{filled, written_want};
+ghost use Rattle.onfi_c.specs.declared.status.Status.TheVariants.{Clock};
 
-use crate::behind::{Behind, find_behind};
 use crate::channel::PlainChannel;
-use crate::coming::{Coming, find_coming};
+use crate::flight::{fault_of, fill, timing_of};
 use crate::lun::{PlainLun, PlainWant};
-use crate::said::problem_of;
+use crate::said::rules;
 use crate::schedule::PlainSchedule;
-use crate::stand::stand_of;
 use crate::status::Status;
+use crate::written::{self, plain_want, plain_wants};
+use arrayvec::ArrayVec;
+use onfi_flight::{Due, Flight, Next};
+use onfi_problem::LunState;
+use onfi_request::Want;
 use std::alloc::Global;
 
-/// Whether the phase that comes next is of that LUN and has that number.
-fn is_due(coming: &Coming, lun: u8, number: u8) -> bool
-    ensures { IsTrue result ↔ ((coming.now.lun ≡ lun) × (coming.now.number ≡ number)) }
-{
-    coming.lun == lun && coming.number == number
+/// What stands behind a phase.
+#[derive(Drop)]
+pub struct Behind {
+    /// From when on the bus is free, in ns.
+    pub bus_free: u64,
+    /// What the LUN of the phase does.
+    pub lun: PlainLun,
+    /// The wants that wait.
+    pub wants: ArrayVec<PlainWant, 8>,
+    /// The phases that are left.
+    pub schedule: PlainSchedule,
 }
 
-/// Whether the times of what stands behind a phase of that LUN stay below 2^62 ns, by the test of each later call.
-fn look_at_times(
-    alloc: Global,
-    channel: &PlainChannel,
-    luns: &[PlainLun],
-    lun: u8,
-    behind: &Behind,
-) -> Result<(), Status>
-    requires { lun < length luns.now }
-    ensures in_time { IfOk result (λ _. IsInTime (record channel.now { bus_free = behind.now.bus_free }) (slice_set luns.now lun behind.now.lun) behind.now.wants.items) }
-    ensures beyond { IfErr result (λ status. IsBeyond (record channel.now { bus_free = behind.now.bus_free }) (slice_set luns.now lun behind.now.lun) behind.now.wants.items status) }
+/// What stands where a LUN has no member.
+const NO_WANT: PlainWant = PlainWant {
+    id: 0,
+    kind: 0,
+    lun: 0,
+    block: 0,
+    page: 0,
+};
+
+/// The members of a group, as plain structs.
+fn plain_members(wants: &[Want]) -> [PlainWant; 4]
+    requires { length wants.now ≤ 4 }
+    ensures { result ≡ filled 4 spec.no_want (map written_want wants.now) }
 {
-    let channel = PlainChannel {
-        bus_free: behind.bus_free,
-        ..*channel
-    };
-    let Ok(mut luns) = Vec::from_slice(alloc, luns) else {
-        return Err(Status::Memory);
-    };
-    luns[usize::from(lun)] = behind.lun;
-    match problem_of(alloc, &channel, luns.as_slice(), behind.wants.as_slice()) {
-        Ok(next) => {
-            let _limits = next.bus_free();
-            Ok(())
-        }
-        Err(Status::Clock) => Err(Status::Clock),
-        Err(_) => Err(Status::Memory),
+    let mut all = [NO_WANT; 4];
+    for (at, want) in wants.iter().enumerate() {
+        all[at] = plain_want(want);
     }
+    all
+}
+
+/// The LUN as it tells its group: as it did before, or where the group is a new one as that is told.
+fn telling(luns: &[PlainLun], due: &Due) -> PlainLun
+    requires { due.now.lun < length luns.now }
+    ensures { result ≡ spec.telling luns.now due.now.place due.now.lun due.now.group }
+{
+    if due.place.is_none() {
+        return luns[usize::from(due.lun)];
+    }
+    PlainLun {
+        since: 0,
+        members: due.group.len() as u8,
+        next: 0,
+        member: plain_members(due.group.members()),
+    }
+}
+
+/// A LUN that tells its group so, once it does this.
+fn lun_in(state: &LunState, lun: &PlainLun) -> PlainLun
+    ensures { result ≡ spec.lun_in state.now lun.now }
+{
+    match state {
+        LunState::Running { next, ready, .. } => PlainLun {
+            since: *ready,
+            members: lun.members,
+            next: *next,
+            member: lun.member,
+        },
+        LunState::Free { since } => PlainLun {
+            since: *since,
+            members: 0,
+            next: 0,
+            member: lun.member,
+        },
+    }
+}
+
+/// What is left behind a phase, as plain structs.
+fn behind_of(flight: &Flight, luns: &[PlainLun], due: &Due) -> Behind
+    requires there { due.now.lun < length luns.now }
+    requires same { length flight.now.now.luns ≡ length luns.now }
+    requires few { length flight.now.left.rest ≤ 8 }
+    ensures { spec.IsBehind luns.now due.now flight.now result }
+{
+    let state = &flight.luns()[usize::from(due.lun)];
+    Behind {
+        bus_free: flight.bus_free(),
+        lun: lun_in(state, &telling(luns, due)),
+        wants: plain_wants(flight.wants()),
+        schedule: written::schedule(flight.left()),
+    }
+}
+
+/// Has the due phase run from then on, unless what is left is too late then.
+fn run_late(alloc: Global, flight: &mut Flight, due: &Due, started: u64) -> Result<(), Status>
+    requires due { IsDue flight.old due.now }
+    requires on_time { due.now.start ≤ started }
+    ensures ran { IfOk result (λ _. flight.new ≡ after_late flight.old due.now started) }
+    ensures limits { IfOk result (λ _. InLimits flight.new.now) }
+    ensures late { InLimits flight.old.now → IfErr result (λ status. (status ≡ Clock) × IsLate flight.old due.now started) }
+{
+    if flight.ran_late(alloc, due, started).is_err() {
+        return Err(Status::Clock);
+    }
+    match fault_of(flight, flight.wants()) {
+        Some(_) => Err(Status::Clock),
+        None => Ok(()),
+    }
+}
+
+/// Whether the due phase is of that LUN and has that number.
+fn is_due(due: &Due, lun: u8, number: u8) -> bool
+    ensures { IsTrue result ↔ ((due.now.lun ≡ lun) × (due.now.phase ≡ number)) }
+{
+    due.lun == lun && due.phase == number
 }
 
 /// What stands behind the phase that is due of what is said, if it is this one.
@@ -68,26 +148,29 @@ fn ran_said(
     ensures none { let old : Kept = record { channel = channel.now; luns = luns.now; wants = wants.now; schedule = schedule.now } in
         IfErr result (λ status. IsNotRan old lun number started status) }
 {
-    let stand = match stand_of(alloc, channel, luns, wants, schedule) {
-        Ok(stand) => stand,
+    let timing = match timing_of(channel, luns, wants) {
+        Ok(timing) => timing,
         Err(status) => return Err(status),
     };
-    let Some(coming) = find_coming(&stand.problem, &stand.schedule) else {
-        return Err(Status::NothingDue);
+    let rules = rules(&channel.rules);
+    let mut flight = Flight::idle(alloc, timing, rules, channel.bus_free, luns.len() as u8);
+    match fill(alloc, &mut flight, channel, luns, wants, schedule) {
+        Ok(()) => {}
+        Err(status) => return Err(status),
+    }
+    let due = match flight.due() {
+        Next::Due(due) => due,
+        Next::Done => return Err(Status::NothingDue),
+        Next::Illegal => return Err(Status::Illegal),
     };
-    if !is_due(&coming, lun, number) {
+    if !is_due(&due, lun, number) {
         return Err(Status::NotDue);
     }
-    if started < coming.start {
+    if started < due.start {
         return Err(Status::TooSoon);
     }
-    let _limits = stand.problem.bus_free();
-    let behind = match find_behind(alloc, channel, luns, wants, &stand, &coming, started) {
-        Ok(behind) => behind,
-        Err(status) => return Err(status),
-    };
-    match look_at_times(alloc, channel, luns, lun, &behind) {
-        Ok(()) => Ok(behind),
+    match run_late(alloc, &mut flight, &due, started) {
+        Ok(()) => Ok(behind_of(&flight, luns, &due)),
         Err(status) => Err(status),
     }
 }
@@ -102,13 +185,14 @@ fn put(room: &mut [PlainWant; 8], wants: &[PlainWant])
 
 /// What stands behind the phase that is due, once it ran from `started` on, in ns, at or behind its start by the schedule:
 /// the bus is free from its end, its LUN goes on or is free, a group that began has left the first `count` wants, which wait,
-/// and the starts that are left are later by as much as it was.
+/// and the starts that are left are later by as much as it was. What is left of a legal schedule is legal; of another only
+/// that phase is looked at. This asks for no memory.
 ///
-/// Answers 0; or the first of the numbers that [`onfi_plan`](crate::planning::onfi_plan) tells of the channel, and those of
-/// `BadSchedule`, `Illegal`, `NothingDue`, of `NotDue` where LUN and number aren't those of the phase that is due, of
-/// `TooSoon`, and of `Clock` where a phase would start at 2^62 ns or later, or what is left could reach 2^62 ns, so that each
-/// later call would refuse it; and all is as it was. `TooMany` is told first where `count` is above 8. `Memory` may stand in
-/// place of any behind `BadKind`.
+/// Answers 0; or the first of the numbers that [`onfi_plan`](crate::planning::onfi_plan) tells of the channel, but for
+/// `Memory`, and those of `BadSchedule`, of `Illegal` as [`onfi_due`](crate::due::onfi_due) tells it, of `NothingDue`, of
+/// `NotDue` where LUN and number aren't those of the phase that is due, of `TooSoon`, and of `Clock` where a phase would start
+/// at 2^62 ns or later, or what is left could reach 2^62 ns, so that each later call would refuse it; and all is as it was.
+/// `TooMany` is told first where `count` is above 8.
 #[unsafe(no_mangle)]
 pub extern "C" fn onfi_ran(
     alloc: Global,

@@ -16,9 +16,10 @@ use crate::stand::{Stand, said_of};
 use crate::status::Status;
 use crate::told::Told;
 use crate::written;
-use onfi_known::check_known_text;
+use onfi_known_check::check_known_text;
+use onfi_known_plan::plan_known;
+use onfi_plan::{Limit, Plan, certificate_text};
 use onfi_problem::Problem;
-use onfi_recall::plan_known;
 use std::alloc::Global;
 
 /// A plan by a search that remembers states, as it is told.
@@ -29,18 +30,28 @@ pub fn tell(alloc: Global, problem: &Problem, limit: u32) -> Result<Told<PlainPl
     ensures plan { IfOk result (λ t. IsRecalled problem.now.problem limit t.plan t.text.items) }
     ensures none { IfErr result (λ status. IsUnplanned problem.now.problem limit status) }
 {
-    let planned = match plan_known(alloc, problem, limit) {
-        Ok(planned) => planned,
+    let plan = match plan_known(alloc, problem, Limit::of(limit).unwrap()) {
+        Ok(plan) => plan,
         Err(fault) => return Err(Status::of_plan(fault)),
+    };
+    let Plan {
+        planned,
+        text,
+        opened,
+        ..
+    } = plan;
+    let strict = problem.rules().strict;
+    let Ok(text) = certificate_text(alloc, strict, planned.cert.as_slice(), text) else {
+        return Err(Status::Memory);
     };
     let schedule = written::legal_schedule(problem, &planned.schedule);
     Ok(Told {
         plan: PlainPlan {
             schedule,
             finish: planned.finish,
-            opened: planned.opened,
+            opened,
         },
-        text: planned.cert,
+        text,
     })
 }
 

@@ -2,7 +2,7 @@
 use crate::status::Status;
 use onfi_cert::CertTextFault;
 use onfi_check::{CertFault, TextFault};
-use onfi_known::{KnownFault, KnownTextFault, WithinTextFault};
+use onfi_known_check::{KnownFault, KnownTextFault};
 
 /// What a call tells, and the place that it speaks of; 0 where it speaks of none.
 #[derive(Clone, Copy)]
@@ -13,7 +13,7 @@ pub struct Refusal {
 
 impl Refusal {
     ghost use Rattle.std.specs.Prelude.{◌≡◌};
-    ghost use Rattle.onfi_c.specs.Refusal.{whole, cert_refusal, cert_text_refusal, text_refusal, known_refusal, known_text_refusal, within_refusal};
+    ghost use Rattle.onfi_c.specs.Refusal.{whole, cert_refusal, cert_text_refusal, text_refusal, known_refusal, known_text_refusal};
 
     /// What speaks of no place.
     pub fn whole(status: Status) -> Refusal
@@ -69,20 +69,13 @@ impl Refusal {
         }
     }
 
-    /// What tells a fault of the tokens of a certificate that remembers states, with its place.
+    /// What tells a fault of a schedule or of the tokens of a certificate that remembers states, with its place.
     fn of_known(fault: KnownFault) -> Refusal
         ensures { result ≡ known_refusal fault }
     {
         let (status, place) = match fault {
-            KnownFault::Illegal => return Refusal::whole(Status::Illegal),
-            KnownFault::Short => return Refusal::whole(Status::Short),
-            KnownFault::Memory => return Refusal::whole(Status::Memory),
-            KnownFault::Trailing(place) => (Status::Trailing, place),
-            KnownFault::Width(place) => (Status::Width, place),
-            KnownFault::BoundLow(place) => (Status::BoundLow, place),
-            KnownFault::YieldNoFit(place) => (Status::YieldNoFit, place),
-            KnownFault::YieldLoop(place) => (Status::YieldLoop, place),
-            KnownFault::NotEnd(place) => (Status::NotEnd, place),
+            KnownFault::Cert(fault) => return Refusal::of_cert(fault),
+            KnownFault::Above => return Refusal::whole(Status::EndsBefore),
             KnownFault::Unknown(place) => (Status::UnknownNode, place),
             KnownFault::OtherLeft(place) => (Status::OtherLeft, place),
             KnownFault::Sooner(place) => (Status::Sooner, place),
@@ -94,28 +87,19 @@ impl Refusal {
         }
     }
 
-    /// What tells why the text of a certificate that remembers states doesn't show that a schedule ends first.
-    pub fn of_known_text(fault: KnownTextFault) -> Refusal
+    /// What tells why the text of a certificate that remembers states doesn't show that nothing ends before a schedule, or
+    /// before a number then or sooner.
+    pub fn of_known_text(fault: TextFault<KnownFault, KnownTextFault>) -> Refusal
         ensures { result ≡ known_text_refusal fault }
     {
         match fault {
-            KnownTextFault::Header => Refusal::whole(Status::BadHeader),
-            KnownTextFault::BadToken(place) => Refusal {
+            TextFault::Text(KnownTextFault::Header) => Refusal::whole(Status::BadHeader),
+            TextFault::Text(KnownTextFault::BadToken(place)) => Refusal {
                 status: Status::BadToken,
                 place: place as u64,
             },
-            KnownTextFault::Option => Refusal::whole(Status::OtherOption),
-            KnownTextFault::Cert(fault) => Refusal::of_known(fault),
-        }
-    }
-
-    /// What tells why such a text doesn't show that nothing ends before a time, of a schedule that ends then or later.
-    pub fn of_within(fault: WithinTextFault) -> Refusal
-        ensures { result ≡ within_refusal fault }
-    {
-        match fault {
-            WithinTextFault::Known(fault) => Refusal::of_known_text(fault),
-            WithinTextFault::Above => Refusal::whole(Status::EndsBefore),
+            TextFault::Cert(fault) => Refusal::of_known(fault),
+            TextFault::Option => Refusal::of_text(TextFault::Option),
         }
     }
 }

@@ -1,15 +1,18 @@
 //! From what a caller says to a problem.
-ghost use Rattle.std.specs.Prelude.{◌≡◌, ◌≤◌, ◌%◌, ◌^◌, Bool, false, true, IfOk, IfErr, MatchResult};
+ghost use Rattle.std.specs.Prelude.{◌≡◌, ◌⊎◌, ◌≤◌, Bool, false, true, length, IfOk, IfErr, MatchResult};
 ghost use Rattle.std.specs.List.{list_any};
 ghost use Rattle.onfi_c.specs.Said as spec;
 ghost use Rattle.onfi_c.specs.Refused.{AreBadSpans, AreGoodSpans, IsBadTiming, IsGoodTiming, IsBadProblem, IsBadSaid, IsRefused, IsUnsaid, AreSaid};
 ghost use Rattle.onfi_problem.specs.Kept.{problem_of as parts_of};
+ghost use Rattle.onfi_c.specs.declared.status.Status.TheVariants.{Memory};
 
 use crate::channel::{PlainChannel, PlainRules, PlainSpans, PlainTiming};
 use crate::lun::{PlainLun, PlainWant};
 use crate::status::Status;
+use arrayvec::ArrayVec;
+use onfi_addr::plane_at;
 use onfi_group::{Group, Rules};
-use onfi_problem::{LunState, Problem, ProblemFault};
+use onfi_problem::{LunState, Problem};
 use onfi_request::Want;
 use onfi_timing::{Kind, Spans, Timing};
 use std::alloc::{AllocError, Global};
@@ -36,14 +39,6 @@ fn timing(said: &PlainTiming) -> Result<Timing, Status>
     Ok(Timing::new(read, program, erase))
 }
 
-/// The plane of a block.
-fn plane_of(plane_bits: u8, block: u16) -> u8
-    requires { plane_bits ≤ 2 }
-    ensures { result ≡ block % 2 ^ plane_bits }
-{
-    (block % (1 << plane_bits)) as u8
-}
-
 /// The kind of a number.
 fn kind_of(kind: u8) -> Kind
     ensures { result ≡ spec.kind_of kind }
@@ -66,10 +61,23 @@ pub fn want_of(plane_bits: u8, said: &PlainWant) -> Want
         id: said.id,
         kind: kind_of(said.kind),
         lun: said.lun,
-        plane: plane_of(plane_bits, said.block),
+        plane: plane_at(plane_bits, said.block),
         block: said.block,
         page: said.page,
     }
+}
+
+/// At most eight requests; this takes no memory.
+pub fn few_wants_of(plane_bits: u8, said: &[PlainWant]) -> ArrayVec<Want, 8>
+    requires bits { plane_bits ≤ 2 }
+    requires few { length said.now ≤ 8 }
+    ensures { result.items ≡ spec.wants_of plane_bits said.now }
+{
+    let mut wants = ArrayVec::new();
+    for want in said {
+        wants.push(want_of(plane_bits, want));
+    }
+    wants
 }
 
 /// Requests.
@@ -77,28 +85,28 @@ pub fn wants_of(alloc: Global, plane_bits: u8, said: &[PlainWant]) -> Result<Vec
     requires { plane_bits ≤ 2 }
     ensures { IfOk result (λ v. v.items ≡ spec.wants_of plane_bits said.now) }
 {
-    let mut wants = Vec::new(alloc);
+    let mut wants = Vec::with_capacity(alloc, said.len())?;
     for want in said {
         wants.push(want_of(plane_bits, want))?;
     }
     Ok(wants)
 }
 
-/// What a LUN does.
-fn state_of(alloc: Global, plane_bits: u8, said: &PlainLun) -> Result<LunState, AllocError>
+/// What a LUN does; this takes no memory.
+pub fn state_of(alloc: Global, plane_bits: u8, said: &PlainLun) -> LunState
     requires bits { plane_bits ≤ 2 }
     requires members { spec.has_bad_count said.now ≡ false }
-    ensures { IfOk result (λ state. state ≡ spec.state_of plane_bits said.now) }
+    ensures { result ≡ spec.state_of plane_bits said.now }
 {
     if said.members == 0 {
-        return Ok(LunState::Free { since: said.since });
+        return LunState::Free { since: said.since };
     }
-    let members = wants_of(alloc, plane_bits, &said.member[..said.members as usize])?;
-    Ok(LunState::Running {
+    let members = few_wants_of(plane_bits, &said.member[..said.members as usize]);
+    LunState::Running {
         group: Group::of(alloc, members.as_slice()),
         next: said.next,
         ready: said.since,
-    })
+    }
 }
 
 /// What each LUN does.
@@ -111,9 +119,9 @@ pub fn states_of(
     requires members { list_any spec.has_bad_count said.now ≡ false }
     ensures { IfOk result (λ v. v.items ≡ spec.states_of plane_bits said.now) }
 {
-    let mut states = Vec::new(alloc);
+    let mut states = Vec::with_capacity(alloc, said.len())?;
     for lun in said {
-        states.push(state_of(alloc, plane_bits, lun)?)?;
+        states.push(state_of(alloc, plane_bits, lun))?;
     }
     Ok(states)
 }
@@ -168,14 +176,11 @@ fn open(
 ) -> Result<Problem, Status>
     ensures parts { IfOk result (λ p. p.problem ≡ parts_of timing rules bus_free luns.now wants.now) }
     ensures begun { IfOk result (λ p. p.all ≡ p.problem.wants) }
-    ensures bad { IfErr result (λ status. IsBadProblem (parts_of timing rules bus_free luns.now wants.now) status) }
+    ensures bad { IfErr result (λ status. (status ≡ Memory) ⊎ IsBadProblem (parts_of timing rules bus_free luns.now wants.now) status) }
 {
     match Problem::new(alloc, timing, rules, bus_free, luns, wants) {
         Ok(problem) => Ok(problem),
-        Err(ProblemFault::TooMany) => Err(Status::TooMany),
-        Err(ProblemFault::BadLun) => Err(Status::BadLun),
-        Err(ProblemFault::Clock) => Err(Status::Clock),
-        Err(ProblemFault::Memory) => Err(Status::Memory),
+        Err(fault) => Err(Status::of_problem(fault)),
     }
 }
 

@@ -1,16 +1,13 @@
 //! From what a caller says to a schedule.
-ghost use Rattle.std.specs.Prelude.{◌≡◌, ◌≤◌, ◌*◌, ◌==◌, Bool, false, length, map, take, find, option_map};
+ghost use Rattle.std.specs.Prelude.{◌≡◌, ◌≤◌, ◌*◌, Bool, false, length, map, take};
 ghost use Rattle.std.specs.List.{list_any};
-ghost use Rattle.onfi_script.specs.PlanLine.{want_named as spec_want_named};
 ghost use Rattle.onfi_c.specs.SaidSchedule as spec;
 
 use crate::schedule::{PlainGroup, PlainRest, PlainSchedule};
 use arrayvec::ArrayVec;
-use onfi_group::Group;
 use onfi_request::Want;
 use onfi_schedule::{Placed, Schedule, Starts};
-use onfi_timing::Kind;
-use smallvec::SmallVec;
+use onfi_script::group_named;
 use std::alloc::Global;
 
 /// No phase starts as late as this, in ns.
@@ -95,43 +92,6 @@ fn rests_of(said: &[PlainRest]) -> ArrayVec<Starts, 9>
     rests
 }
 
-/// The want of that number.
-fn find_want(wants: &[Want], id: u64) -> Option<&Want>
-    ensures { option_map (λ w. w.now) result ≡ find (λ w. w.id == id) wants.now }
-{
-    wants.iter().find(|want| want.id == id)
-}
-
-/// The want of that number, else one that no problem with these wants has.
-fn want_named(wants: &[Want], id: u64) -> Want
-    ensures { result ≡ spec_want_named wants.now id }
-{
-    match find_want(wants, id) {
-        Some(want) => *want,
-        None => Want {
-            id,
-            kind: Kind::Read,
-            lun: 0,
-            plane: 0,
-            block: 0,
-            page: 0,
-        },
-    }
-}
-
-/// The group of the wants of these numbers.
-fn members(alloc: Global, wants: &[Want], ids: &[u64]) -> Group
-    requires some { 1 ≤ length ids.now }
-    requires few { length ids.now ≤ 4 }
-    ensures { result ≡ map (spec_want_named wants.now) ids.now }
-{
-    let mut members = SmallVec::<Want, 4>::new(alloc);
-    for id in ids {
-        members.push_reserved(want_named(wants, *id));
-    }
-    Group::of(alloc, members.as_slice())
-}
-
 /// A group with its starts.
 fn group_of(alloc: Global, wants: &[Want], said: &PlainGroup) -> Placed
     requires { spec.is_bad_group said.now ≡ false }
@@ -139,7 +99,7 @@ fn group_of(alloc: Global, wants: &[Want], said: &PlainGroup) -> Placed
 {
     let count = said.members as usize;
     Placed::new(
-        members(alloc, wants, &said.want[..count]),
+        group_named(alloc, wants, &said.want[..count]),
         starts_of(&said.start[..2 * count]),
     )
 }

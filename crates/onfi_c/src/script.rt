@@ -9,12 +9,10 @@ ghost use Rattle.onfi_c.specs.Script.{GivesAnswer, GivesPlanText, output_of, req
 
 use crate::answered::Answered;
 use crate::room::give;
+use onfi_plan::Limit;
 use onfi_planners::ChosenPlanner;
 use onfi_script::{Command, Output, PlanOptions, engine};
 use std::alloc::Global;
-
-/// The most nodes that a search may open.
-const MOST_NODES: u32 = 1_048_576;
 
 /// The status of a limit that is 0 or above the most.
 const BAD_LIMIT: u32 = 5;
@@ -69,7 +67,7 @@ fn give_plan(
     requires limit { 1 ≤ limit → limit ≤ 1048576 → IsLimited command }
     ensures { GivesPlanText limit command script.now answer.old answer.new bytes.new result }
 {
-    if limit == 0 || limit > MOST_NODES {
+    if Limit::of(limit).is_none() {
         *bytes = 0;
         return BAD_LIMIT;
     }

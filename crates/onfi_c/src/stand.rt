@@ -1,6 +1,6 @@
 //! From what a caller says to a problem with a schedule of it.
 ghost use Rattle.std.specs.Prelude.{◌≡◌, IfOk, IfErr};
-ghost use Rattle.onfi_c.specs.SaidLegal.{IsNoSchedule, IsNoStand, IsScheduleSaid, IsStand};
+ghost use Rattle.onfi_c.specs.SaidLegal.{IsNoSchedule, IsScheduleSaid};
 
 use crate::channel::PlainChannel;
 use crate::lun::{PlainLun, PlainWant};
@@ -9,7 +9,7 @@ use crate::said_schedule::{is_bad_schedule, schedule_of};
 use crate::schedule::PlainSchedule;
 use crate::status::Status;
 use onfi_problem::Problem;
-use onfi_schedule::{Schedule, legal};
+use onfi_schedule::Schedule;
 use std::alloc::Global;
 
 /// A problem, and a schedule of it.
@@ -40,26 +40,4 @@ pub fn said_of(
     }
     let schedule = schedule_of(alloc, problem.wants(), schedule);
     Ok(Stand { problem, schedule })
-}
-
-/// The same, where the schedule is legal.
-pub fn stand_of(
-    alloc: Global,
-    channel: &PlainChannel,
-    luns: &[PlainLun],
-    wants: &[PlainWant],
-    schedule: &PlainSchedule,
-) -> Result<Stand, Status>
-    ensures stand { IfOk result (λ t. IsStand channel.now luns.now wants.now schedule.now t.problem.problem t.schedule) }
-    ensures begun { IfOk result (λ t. t.problem.all ≡ t.problem.problem.wants) }
-    ensures none { IfErr result (λ status. IsNoStand channel.now luns.now wants.now schedule.now status) }
-{
-    let stand = match said_of(alloc, channel, luns, wants, schedule) {
-        Ok(stand) => stand,
-        Err(status) => return Err(status),
-    };
-    if !legal(&stand.problem, &stand.schedule) {
-        return Err(Status::Illegal);
-    }
-    Ok(stand)
 }

@@ -1,8 +1,9 @@
 //! What a call tells.
 ghost use Rattle.std.specs.Prelude.{◌≡◌};
-ghost use Rattle.onfi_c.specs.Status.{number_of, plan_status, spans_status, text_of};
+ghost use Rattle.onfi_c.specs.Status.{number_of, plan_status, problem_status, spans_status, text_of};
 
 use onfi_planner::PlanFault;
+use onfi_problem::ProblemFault;
 use onfi_timing::SpanFault;
 
 /// What a call tells by a number, what scripts are answered with apart.
@@ -347,6 +348,18 @@ impl Status {
         match fault {
             SpanFault::Zero => Status::ZeroSpan,
             SpanFault::TooLong => Status::LongSpan,
+        }
+    }
+
+    /// What tells why what is said is no problem.
+    pub fn of_problem(fault: ProblemFault) -> Status
+        ensures { result ≡ problem_status fault }
+    {
+        match fault {
+            ProblemFault::TooMany => Status::TooMany,
+            ProblemFault::BadLun => Status::BadLun,
+            ProblemFault::Clock => Status::Clock,
+            ProblemFault::Memory => Status::Memory,
         }
     }
 

@@ -19,9 +19,11 @@ use crate::status::Status;
 use crate::told::Told;
 use crate::written;
 use onfi_early::Weights;
-use onfi_known::check_known_within;
+use onfi_known_check::check_known_within;
+use onfi_plan::{Plan, certificate_text};
+use onfi_planners::ChosenPlanner;
 use onfi_problem::Problem;
-use onfi_script::best_within;
+use onfi_script::{Output, PlanOptions, plan_by};
 use std::alloc::Global;
 
 /// Weights by which no request counts more than another.
@@ -44,7 +46,23 @@ pub fn tell(
     ensures plan { IfOk result (λ t. IsPlanNear (slack_in slack) problem.now.problem limit t.plan t.text.items) }
     ensures none { IfErr result (λ status. IsNoMemory problem.now.problem limit status) }
 {
-    let Ok(planned) = best_within(alloc, problem, weights, slack, limit) else {
+    let options = PlanOptions {
+        planner: ChosenPlanner::BestSoFar,
+        better: slack,
+        limit,
+        output: Output::Plan,
+    };
+    let Ok(plan) = plan_by(alloc, problem, weights, options) else {
+        return Err(Status::Memory);
+    };
+    let Plan {
+        planned,
+        below,
+        text,
+        ..
+    } = plan;
+    let strict = problem.rules().strict;
+    let Ok(text) = certificate_text(alloc, strict, planned.cert.as_slice(), text) else {
         return Err(Status::Memory);
     };
     let schedule = written::legal_schedule(problem, &planned.schedule);
@@ -52,9 +70,9 @@ pub fn tell(
         plan: PlainWithin {
             schedule,
             finish: planned.finish,
-            below: planned.below,
+            below,
         },
-        text: planned.certificate,
+        text,
     })
 }
 
@@ -97,7 +115,7 @@ fn judge(alloc: Global, stand: &Stand, below: u64, certificate: &[u8]) -> Result
 {
     match check_known_within(alloc, &stand.problem, &stand.schedule, below, certificate) {
         Ok(finish) => Ok(finish),
-        Err(fault) => Err(Refusal::of_within(fault)),
+        Err(fault) => Err(Refusal::of_known_text(fault)),
     }
 }
 

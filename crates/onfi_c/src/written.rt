@@ -1,12 +1,40 @@
-//! From a plan to a plain struct.
+//! From wants and plans to plain structs.
 ghost use Rattle.std.specs.Prelude.{◌≡◌, ◌≤◌, length, map};
 ghost use Rattle.onfi_schedule.specs.Schedule.{Legal};
 ghost use Rattle.onfi_c.specs.Written as spec;
 
+use crate::due::kind_number;
+use crate::lun::PlainWant;
 use crate::schedule::{PlainGroup, PlainRest, PlainSchedule};
+use arrayvec::ArrayVec;
 use onfi_problem::Problem;
 use onfi_request::Want;
 use onfi_schedule::{Placed, Schedule, Starts};
+
+/// A want.
+pub fn plain_want(want: &Want) -> PlainWant
+    ensures { result ≡ spec.written_want want.now }
+{
+    PlainWant {
+        id: want.id,
+        kind: kind_number(want.kind),
+        lun: want.lun,
+        block: want.block,
+        page: want.page,
+    }
+}
+
+/// At most eight wants.
+pub fn plain_wants(wants: &[Want]) -> ArrayVec<PlainWant, 8>
+    requires { length wants.now ≤ 8 }
+    ensures { result.items ≡ map spec.written_want wants.now }
+{
+    let mut all = ArrayVec::new();
+    for want in wants {
+        all.push(plain_want(want));
+    }
+    all
+}
 
 /// Starts, and 0 in the places behind them.
 fn filled(starts: &[u64]) -> [u64; 8]

@@ -5,7 +5,7 @@ use onfi_addr::Place;
 use onfi_cert::Token;
 use onfi_chip::SimChip;
 use onfi_core::Setup;
-use onfi_plan::{PlainPlanner, Plan, Planner, PlannerFault};
+use onfi_plan::{Limit, PlainPlanner, Plan, PlanFault, Planner};
 use onfi_planner::Planned;
 use onfi_problem::Problem;
 use onfi_queue::Host;
@@ -25,14 +25,18 @@ use std::thread::Threads;
 struct Modest;
 
 impl Planner for Modest {
-    ghost use Rattle.std.specs.Prelude.{false};
+    ghost use Rattle.std.specs.Prelude.{⊤, false};
     ghost use Rattle.onfi_plan.specs.Certificate.{IsPlain};
 
     ghost exact = { false };
 
     ghost certifies = { IsPlain };
 
-    fn plan(&self, alloc: Global, problem: &Problem, limit: u32) -> Result<Plan, PlannerFault> {
+    ghost promises = { λ _ _ _ _. ⊤ };
+
+    ghost stops = { λ _. ⊤ };
+
+    fn plan(&self, alloc: Global, problem: &Problem, limit: Limit) -> Result<Plan, PlanFault> {
         let Plan {
             planned,
             opened,
@@ -44,9 +48,7 @@ impl Planner for Modest {
             finish,
             ..
         } = planned;
-        let Ok(tokens) = Vec::from_slice(alloc, &[Token::Bus]) else {
-            return Err(PlannerFault::Memory);
-        };
+        let tokens = Vec::from_slice(alloc, &[Token::Bus])?;
         Ok(Plan {
             planned: Planned {
                 schedule,

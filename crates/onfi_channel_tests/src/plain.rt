@@ -82,7 +82,7 @@ fn a_core_tells_its_last_plan(rt: HostRuntime) -> Result<(), AllocError> {
 
 // A gate that is always open.
 #[derive(Drop)]
-struct Open;
+pub(crate) struct Open;
 
 impl Gate for Open {
     fn before(&mut self, _channel: u8, _turn: u64) {}
@@ -97,7 +97,7 @@ fn open_replies(alloc: Global, setup: &Setup, host: u8) -> Result<(Poster, Inbox
 }
 
 // The sequencer of the channel, and its hosts.
-fn open_sequencer(
+pub(crate) fn open_sequencer(
     alloc: Global,
     setup: &Setup,
 ) -> Result<(Sequencer<SimChip>, [Host; 4]), AllocError>

@@ -8,5 +8,6 @@ pub mod Fitting
 pub mod ByDie
 pub mod Walking
 pub mod Tokens
+pub mod Causes
 pub mod Refused
 pub mod Placing

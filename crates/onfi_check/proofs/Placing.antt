@@ -10,7 +10,8 @@ use Rattle.onfi_check.specs.declared.yields.Standing.{Standing}
 use Rattle.onfi_check.specs.Tree.{preorder}
 use Rattle.onfi_check.specs.Reading.{Begins, ReadOn}
 use Rattle.onfi_check.proofs.OneList.{nothing_begins}
-use Rattle.onfi_check.specs.Faults.{FaultFits, IsAt, IsBound, IsTokenFault, IsToYield, IsTrailing, IsYieldFault, NoTree}
+use Rattle.onfi_check.specs.Faults.{FaultFits, FitsKind, GoesRound, IsAt, IsBound, IsBranch, IsTokenFault, IsToYield, IsTrailing, IsYieldFault, IsYieldFaultBy, NoTree}
+use Rattle.onfi_check.proofs.Causes.{none_trails}
 
 -- no token was read
 pub read_none : {T : Type 0} (first : ℕ) (tokens : List T) → ReadOn first first tokens tokens
@@ -76,36 +77,40 @@ at_behind first next place tokens left Such r a =
     }
 
 -- what fits the tokens behind some fits the whole
+module _ {T : Type 0} (Branches Bounds Unfit Loops Ends : T → Type 0) (memory : Type 0) where
+  pub kind_behind : (first next : ℕ) (tokens left rest : List T) (f : CertFault) → ReadOn first next tokens left → FitsKind Branches Bounds Unfit Loops Ends memory next left rest f → FitsKind Branches Bounds Unfit Loops Ends memory first tokens rest f
+  kind_behind first next tokens left rest Illegal r h = h
+  kind_behind first next tokens left rest Short r h = h
+  kind_behind first next tokens left rest (Trailing place) r h = h
+  kind_behind first next tokens left rest (Width place) r h = at_behind first next place tokens left _ r h
+  kind_behind first next tokens left rest (BoundLow place) r h = at_behind first next place tokens left _ r h
+  kind_behind first next tokens left rest (YieldNoFit place) r h = at_behind first next place tokens left _ r h
+  kind_behind first next tokens left rest (YieldLoop place) r h = at_behind first next place tokens left _ r h
+  kind_behind first next tokens left rest (NotEnd place) r h = at_behind first next place tokens left _ r h
+  kind_behind first next tokens left rest Memory r h = h
+
+  -- why a yield isn't taken, told at its place
+  pub yield_fits : (round : Type 0) (place told : ℕ) (token : T) (behind left : List T) (f : CertFault) → told ≡ place → Unfit token → Loops token → IsYieldFaultBy round told f → FitsKind Branches Bounds Unfit Loops Ends memory place (token ∷ behind) left f
+  yield_fits round place told token behind left Illegal n u l h = h
+  yield_fits round place told token behind left Short n u l h = absurd h
+  yield_fits round place told token behind left (Trailing at) n u l h = h
+  yield_fits round place told token behind left (Width at) n u l h = absurd h
+  yield_fits round place told token behind left (BoundLow at) n u l h = absurd h
+  yield_fits round place told token behind left (YieldNoFit at) n u l h = subst (λ z. IsAt place z (token ∷ behind) Unfit) (sym (h.0 ∙ n)) (here place token behind Unfit u)
+  yield_fits round place told token behind left (YieldLoop at) n u l h = subst (λ z. IsAt place z (token ∷ behind) Loops) (sym (h.0 ∙ n)) (here place token behind Loops l)
+  yield_fits round place told token behind left (NotEnd at) n u l h = absurd h
+  yield_fits round place told token behind left Memory n u l h = absurd h
+
 pub fits_behind : (first next : ℕ) (tokens left rest : List Token) (f : CertFault) → ReadOn first next tokens left → FaultFits next left rest f → FaultFits first tokens rest f
-fits_behind first next tokens left rest Illegal r h = h
-fits_behind first next tokens left rest Short r h = h
-fits_behind first next tokens left rest (Trailing place) r h = h
-fits_behind first next tokens left rest (Width place) r h = at_behind first next place tokens left _ r h
-fits_behind first next tokens left rest (BoundLow place) r h = at_behind first next place tokens left _ r h
-fits_behind first next tokens left rest (YieldNoFit place) r h = at_behind first next place tokens left _ r h
-fits_behind first next tokens left rest (YieldLoop place) r h = at_behind first next place tokens left _ r h
-fits_behind first next tokens left rest (NotEnd place) r h = at_behind first next place tokens left _ r h
-fits_behind first next tokens left rest Memory r h = h
+fits_behind first next tokens left rest f r h = kind_behind IsBranch IsBound IsToYield IsToYield (λ token. token ≡ End) ⊥ first next tokens left rest f r h
 
 pub err_behind : {A : Type 0} (result : Result A CertFault) (first next : ℕ) (tokens left rest : List Token) → ReadOn first next tokens left → IfErr result (FaultFits next left rest) → IfErr result (FaultFits first tokens rest)
 err_behind (Ok x) first next tokens left rest r h = tt
 err_behind (Err f) first next tokens left rest r h = fits_behind first next tokens left rest f r h
 
--- why a yield isn't taken, told at its place
-pub yield_fits : (standing : Standing) (j l place told lun : ℕ) (token : Token) (behind left : List Token) (f : CertFault) → told ≡ place → token ≡ Yield lun → IsYieldFault standing j l told f → FaultFits place (token ∷ behind) left f
-yield_fits standing j l place told lun token behind left Illegal n t h = h
-yield_fits standing j l place told lun token behind left Short n t h = absurd h
-yield_fits standing j l place told lun token behind left (Trailing at) n t h = h
-yield_fits standing j l place told lun token behind left (Width at) n t h = absurd h
-yield_fits standing j l place told lun token behind left (BoundLow at) n t h = absurd h
-yield_fits standing j l place told lun token behind left (YieldNoFit at) n t h = subst (λ z. IsAt place z (token ∷ behind) IsToYield) (sym (h.0 ∙ n)) (here place token behind IsToYield (lun, t))
-yield_fits standing j l place told lun token behind left (YieldLoop at) n t h = subst (λ z. IsAt place z (token ∷ behind) IsToYield) (sym (h.0 ∙ n)) (here place token behind IsToYield (lun, t))
-yield_fits standing j l place told lun token behind left (NotEnd at) n t h = absurd h
-yield_fits standing j l place told lun token behind left Memory n t h = h
-
 pub err_yield : {A : Type 0} (result : Result A CertFault) (standing : Standing) (j l place told lun : ℕ) (token : Token) (tokens behind left : List Token) → tokens ≡ token ∷ behind → told ≡ place → token ≡ Yield lun → IfErr result (IsYieldFault standing j l told) → IfErr result (FaultFits place tokens left)
 err_yield (Ok x) standing j l place told lun token tokens behind left ts n t h = tt
-err_yield (Err f) standing j l place told lun token tokens behind left ts n t h = subst (λ z. FaultFits place z left f) (sym ts) (yield_fits standing j l place told lun token behind left f n t h)
+err_yield (Err f) standing j l place told lun token tokens behind left ts n t h = subst (λ z. FaultFits place z left f) (sym ts) (yield_fits IsBranch IsBound IsToYield IsToYield (λ token. token ≡ End) ⊥ (GoesRound standing j l) place told token behind left f n (lun, t) (lun, t) h)
 
 -- the whole
 pub no_tree : (p : Problem) (e : ℕ) (tokens : List Token) → ((rest : List Token) → Begins p e tokens rest → ⊥) → NoTree p e tokens
@@ -121,15 +126,7 @@ pub fits_whole : (place : ℕ) (tokens left rest : List Token) (token : Token) (
 fits_whole place tokens left rest token f t n h = subst (λ z. FaultFits 0 z rest f) (sym t) (subst (λ z. FaultFits z (token ∷ left) rest f) n h)
 
 pub fault_of : (p : Problem) (e : ℕ) (tokens left : List Token) (f : CertFault) → NoTree p e tokens → FaultFits 0 tokens left f → IsTokenFault p e tokens left f
-fault_of p e tokens left Illegal none h = (none, h)
-fault_of p e tokens left Short none h = (none, h)
-fault_of p e tokens left (Trailing place) none h = absurd h
-fault_of p e tokens left (Width place) none h = (none, h)
-fault_of p e tokens left (BoundLow place) none h = (none, h)
-fault_of p e tokens left (YieldNoFit place) none h = (none, h)
-fault_of p e tokens left (YieldLoop place) none h = (none, h)
-fault_of p e tokens left (NotEnd place) none h = (none, h)
-fault_of p e tokens left Memory none h = (none, h)
+fault_of p e tokens left f none h = none_trails (IsTrailing p e tokens) f (λ place q. subst (FaultFits 0 tokens left) q h) (none, h)
 
 pub trailing_at : (p : Problem) (e first next place : ℕ) (tokens begun left more : List Token) (token last : Token) → first ≡ 1 → tokens ≡ token ∷ begun → ReadOn first next begun left → left ≡ last ∷ more → place ≡ next → Begins p e tokens left → IsTrailing p e tokens place
 trailing_at p e first next place tokens begun left more token last f t r l q (tree, s, accepted) =

@@ -2,6 +2,7 @@
 use Rattle.std.specs.Prelude.{◌≡◌, ◌≢◌, ℕ, ◌+◌, ◌⊎◌, Bool, true, List, [], ◌∷◌, ◌++◌, length}
 use Rattle.onfi_problem.specs.Problem.{Problem}
 use Rattle.onfi_schedule.specs.Schedule.{Schedule, Legal, finish}
+use Rattle.onfi_cert.specs.declared.fault.CertTextFault.{CertTextFault}
 use Rattle.onfi_cert.specs.declared.token.Token.{Token}
 use Rattle.onfi_cert.specs.declared.token.Token.TheVariants.{Branch, Bus, Lead, Trail, Die, Yield, End}
 use Rattle.onfi_cert.specs.Text.{IsCertificate}
@@ -32,27 +33,34 @@ pub record IsAt {T : Type 0} (first place : ℕ) (tokens : List T) (Such : T →
   pub place_is : place ≡ first + length before
   pub such : Such token
 
--- the first fault of a tree is of the kind of the token at its place; tokens end too soon only where none is left
+-- the first fault of a tree is of the kind of the token at its place: a branch, a bound, what yields and doesn't fit or goes
+-- round, or the end; tokens end too soon only where none is left
+abbrev pub FitsKind : {T : Type 0} → (T → Type 0) → (T → Type 0) → (T → Type 0) → (T → Type 0) → (T → Type 0) → Type 0 → ℕ → List T → List T → CertFault → Type 0
+FitsKind Branches Bounds Unfit Loops Ends memory first tokens left Short = left ≡ []
+FitsKind Branches Bounds Unfit Loops Ends memory first tokens left (Width place) = IsAt first place tokens Branches
+FitsKind Branches Bounds Unfit Loops Ends memory first tokens left (BoundLow place) = IsAt first place tokens Bounds
+FitsKind Branches Bounds Unfit Loops Ends memory first tokens left (YieldNoFit place) = IsAt first place tokens Unfit
+FitsKind Branches Bounds Unfit Loops Ends memory first tokens left (YieldLoop place) = IsAt first place tokens Loops
+FitsKind Branches Bounds Unfit Loops Ends memory first tokens left (NotEnd place) = IsAt first place tokens Ends
+FitsKind Branches Bounds Unfit Loops Ends memory first tokens left (Trailing place) = ⊥
+FitsKind Branches Bounds Unfit Loops Ends memory first tokens left Illegal = ⊥
+FitsKind Branches Bounds Unfit Loops Ends memory first tokens left Memory = memory
+
 abbrev pub FaultFits : ℕ → List Token → List Token → CertFault → Type 0
-FaultFits first tokens left Short = left ≡ []
-FaultFits first tokens left (Width place) = IsAt first place tokens IsBranch
-FaultFits first tokens left (BoundLow place) = IsAt first place tokens IsBound
-FaultFits first tokens left (YieldNoFit place) = IsAt first place tokens IsToYield
-FaultFits first tokens left (YieldLoop place) = IsAt first place tokens IsToYield
-FaultFits first tokens left (NotEnd place) = IsAt first place tokens (λ token. token ≡ End)
-FaultFits first tokens left (Trailing place) = ⊥
-FaultFits first tokens left Illegal = ⊥
-FaultFits first tokens left Memory = ⊥
+FaultFits first tokens left fault = FitsKind IsBranch IsBound IsToYield IsToYield (λ token. token ≡ End) ⊥ first tokens left fault
 
 -- a yield of LUN j to LUN l goes round, where some LUNs were yielded to and some have children that yield
 abbrev pub GoesRound : Standing → ℕ → ℕ → Type 0
 GoesRound standing j l = (l ≡ j) ⊎ (marked standing.awaited j ≡ true) ⊎ (marked standing.leaving l ≡ true)
 
--- why a yield at this place isn't taken
+-- why a yield at this place isn't taken: it goes round, or else doesn't fit
+abbrev pub IsYieldFaultBy : Type 0 → ℕ → CertFault → Type 0
+IsYieldFaultBy round place (YieldLoop told) = (told ≡ place) × round
+IsYieldFaultBy round place (YieldNoFit told) = (told ≡ place) × (round → ⊥)
+IsYieldFaultBy round place _ = ⊥
+
 abbrev pub IsYieldFault : Standing → ℕ → ℕ → ℕ → CertFault → Type 0
-IsYieldFault standing j l place (YieldLoop told) = (told ≡ place) × GoesRound standing j l
-IsYieldFault standing j l place (YieldNoFit told) = (told ≡ place) × (GoesRound standing j l → ⊥)
-IsYieldFault standing j l place _ = ⊥
+IsYieldFault standing j l place fault = IsYieldFaultBy (GoesRound standing j l) place fault
 
 -- no accepted tree stands in front
 abbrev pub NoTree : Problem → ℕ → List Token → Type 0
@@ -67,19 +75,33 @@ pub record IsTrailing (p : Problem) (e : ℕ) (tokens : List Token) (place : ℕ
   pub tokens_are : tokens ≡ preorder tree ++ token ∷ behind
   pub place_is : place ≡ length (preorder tree)
 
+-- a fault says this of the place of a token behind the tree, and every other one that
+abbrev pub OrTrailing : (ℕ → Type 0) → Type 0 → CertFault → Type 0
+OrTrailing Trails said (Trailing place) = Trails place
+OrTrailing Trails said _ = said
+
 -- what a fault of tokens says of them, where `left` are not read
 abbrev pub IsTokenFault : Problem → ℕ → List Token → List Token → CertFault → Type 0
-IsTokenFault p e tokens left (Trailing place) = IsTrailing p e tokens place
-IsTokenFault p e tokens left fault = NoTree p e tokens × FaultFits 0 tokens left fault
+IsTokenFault p e tokens left fault = OrTrailing (IsTrailing p e tokens) (NoTree p e tokens × FaultFits 0 tokens left fault) fault
+
+-- what a fault says by its cause: an illegal schedule, refused memory, or else the tokens
+abbrev pub ByCause : Type 0 → Type 0 → Type 0 → CertFault → Type 0
+ByCause illegal memory tokens Illegal = illegal
+ByCause illegal memory tokens Memory = memory
+ByCause illegal memory tokens _ = tokens
 
 -- why the tokens don't show that the schedule ends first; out of memory says nothing of them
 abbrev pub IsCertFault : Problem → Schedule → List Token → CertFault → Type 0
-IsCertFault p s tokens Illegal = Legal p s → ⊥
-IsCertFault p s tokens Memory = Legal p s
-IsCertFault p s tokens fault = Legal p s × (AcceptsTokens tokens p (finish p s) → ⊥) × IsTokenFault p (finish p s) tokens [] fault
+IsCertFault p s tokens fault =
+    ByCause (Legal p s → ⊥) (Legal p s) (Legal p s × (AcceptsTokens tokens p (finish p s) → ⊥) × IsTokenFault p (finish p s) tokens [] fault) fault
 
--- why the text doesn't show it: it is no certificate, has the other option, or its tokens don't show it
-abbrev pub IsTextFault : Problem → Schedule → List ℕ → TextFault → Type 0
-IsTextFault p s text (Text f) = IsFaultOf text f
-IsTextFault p s text OtherOption = (tokens : List Token) × (strict : Bool) × IsCertificate text strict tokens × (strict ≢ p.rules.strict)
-IsTextFault p s text (Cert f) = (tokens : List Token) × IsCertificate text p.rules.strict tokens × IsCertFault p s tokens f
+-- why a text doesn't show what is asked of its tokens: it is none of tokens, is one with another option, or its tokens don't
+-- show it
+abbrev pub IsTextFaultBy : {T F G : Type 0} → (Bool → List T → Type 0) → (G → Type 0) → (List T → F → Type 0) → Bool → TextFault F G → Type 0
+IsTextFaultBy {T} Holds Wrong Unshown strict (Text fault) = Wrong fault
+IsTextFaultBy {T} Holds Wrong Unshown strict OtherOption = (tokens : List T) × (other : Bool) × Holds other tokens × (other ≢ strict)
+IsTextFaultBy {T} Holds Wrong Unshown strict (Cert fault) = (tokens : List T) × Holds strict tokens × Unshown tokens fault
+
+-- why the text of a certificate doesn't show it
+abbrev pub IsTextFault : Problem → Schedule → List ℕ → TextFault CertFault CertTextFault → Type 0
+IsTextFault p s text fault = IsTextFaultBy (IsCertificate text) (IsFaultOf text) (IsCertFault p s) p.rules.strict fault

@@ -1,4 +1,5 @@
 use onfi_cert::CertTextFault;
+use std::fmt::Display;
 use thiserror::Error;
 
 /// Why a certificate doesn't show that no legal schedule ends sooner; places count tokens from 0.
@@ -34,15 +35,16 @@ pub enum CertFault {
 }
 
 /// Why the text of a certificate doesn't show that no legal schedule ends sooner. `Text` is told first, then `Option`,
-/// then `Cert`.
+/// then `Cert`. Certificates of another kind have other faults `F` of tokens and `T` of texts.
 #[derive(Clone, Copy, Debug, PartialEq, Eq, Error)]
-pub enum TextFault {
+#[error_bound(F: Display + Drop, T: Display + Drop)]
+pub enum TextFault<F = CertFault, T = CertTextFault> {
     /// The text is no certificate.
     #[error("{0}")]
-    Text(CertTextFault),
+    Text(T),
     /// Its tokens don't show it, or the schedule is illegal, or memory was refused.
     #[error("{0}")]
-    Cert(CertFault),
+    Cert(F),
     /// Its header names another option than the problem has.
     #[error("the header names another option than the problem has")]
     Option,

@@ -9,6 +9,7 @@ ghost use Rattle.onfi_check.specs.Faults.{IsCertFault, IsTextFault};
 ghost use Rattle.onfi_check.specs.Tree.{Tree, Accepts, AcceptsTokens};
 
 use crate::fault::{CertFault, TextFault};
+use onfi_cert::CertTextFault;
 
 /// A legal schedule is optimal where a tree is accepted for its finish.
 pub fn accepted_is_optimal()
@@ -20,7 +21,7 @@ pub fn accepted_is_optimal()
 pub fn accepted_is_refused_for_memory_alone()
     ensures tokens { (p : Problem) (s : Schedule) (tokens : List Token) (fault : CertFault) → Legal p s
         → AcceptsTokens tokens p (finish p s) → IsCertFault p s tokens fault → fault ≡ CertFault.Memory }
-    ensures text { (p : Problem) (s : Schedule) (text : List ℕ) (tokens : List Token) (fault : TextFault)
+    ensures text { (p : Problem) (s : Schedule) (text : List ℕ) (tokens : List Token) (fault : TextFault CertFault CertTextFault)
         → IsCertificate text p.rules.strict tokens → Legal p s → AcceptsTokens tokens p (finish p s)
         → IsTextFault p s text fault → fault ≡ TextFault.Cert CertFault.Memory }
 {}

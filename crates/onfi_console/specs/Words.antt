@@ -4,7 +4,8 @@ use Rattle.clap.specs.Words.{App, Row as Used, Rule, first_of, new_app, new_rule
 use Rattle.clap.specs.declared.builder.ArgAction.TheVariants.{Set, SetTrue}
 use Rattle.onfi_planners.specs.declared.chosen.ChosenPlanner.{ChosenPlanner}
 use Rattle.onfi_planners.specs.declared.chosen.ChosenPlanner.TheVariants.{Plain, Remembering, BestSoFar}
-use Rattle.onfi_planners.specs.declared.exact.ExactPlanner.TheVariants as exact
+use Rattle.onfi_planners.specs.declared.early.SlackPlanner.{SlackPlanner}
+use Rattle.onfi_planners.specs.declared.weighing.Weighing.TheVariants.{ByAge}
 use Rattle.onfi_script.specs.declared.command.Command.{Command}
 use Rattle.onfi_script.specs.declared.command.Command.TheVariants.{Plan, Check, PlanBy, CheckBy, Legal}
 use Rattle.onfi_script.specs.declared.command.Output.{Output}
@@ -16,8 +17,6 @@ use Rattle.onfi_console.specs.declared.fault.Untaken.TheVariants.{Refused, Memor
 use Rattle.onfi_console.specs.declared.parsed.Named.{Named}
 use Rattle.onfi_console.specs.declared.parsed.Named.TheVariants.{Problem, Run, Device}
 use Rattle.onfi_console.specs.declared.parsed.Parsed.{Parsed}
-use Rattle.onfi_console.specs.declared.parsed.RunPlanner.{RunPlanner}
-use Rattle.onfi_console.specs.declared.parsed.RunPlanner.TheVariants.{Exact, Inexact}
 
 -- `--NAME VALUE`
 abbrev pub value : List ℕ → Rule
@@ -126,28 +125,21 @@ search_of false true = Some BestSoFar
 search_of true true = None
 
 -- the planner of a run by this search, where plans may end later by these thousandths
-abbrev pub inexact : ChosenPlanner → ℕ → RunPlanner
-inexact search slack = Inexact (record { planner = search; slack = Some slack })
-
--- .. where none may: exact where the search is
-abbrev pub in_time : ChosenPlanner → RunPlanner
-in_time Plain = Exact exact.Plain
-in_time Remembering = Exact exact.Remembering
-in_time BestSoFar = inexact BestSoFar 0
+abbrev pub RunPlanner : Type 0
+RunPlanner = SlackPlanner ChosenPlanner
 
 abbrev pub run_planner : ChosenPlanner → ℕ → RunPlanner
-run_planner search slack = if slack == 0 then in_time search else inexact search slack
+run_planner search slack = record { planner = search; weighing = ByAge; per_mille = slack; nodes = 1500 }
 
--- the limit of a planner that isn't exact, where none is named
-abbrev pub usual_by : ChosenPlanner → ℕ
-usual_by Plain = 1048576
-usual_by Remembering = 65536
-usual_by BestSoFar = 65536
+-- the limit of a search where none is named, and plans may end later by these thousandths
+abbrev pub usual_by : ChosenPlanner → ℕ → ℕ
+usual_by Plain slack = 1048576
+usual_by Remembering slack = if slack == 0 then 1048576 else 65536
+usual_by BestSoFar slack = 65536
 
--- the limit of a run where none is named: the greatest where its plans are exact
+-- the limit of a run where none is named
 abbrev pub usual_of : RunPlanner → ℕ
-usual_of (Exact planner) = 1048576
-usual_of (Inexact planner) = usual_by planner.planner
+usual_of planner = usual_by planner.planner planner.per_mille
 
 -- the thousandths that were given, 0 to 1,000, or none
 abbrev pub IsSlack : Option (List ℕ) → Option ℕ → Type 0

@@ -10,10 +10,10 @@ ghost use Rattle.onfi_console.specs.Words as spec;
 use crate::commands::app;
 use crate::escaping::escaped;
 use crate::fault::{Untaken, WordsFault};
-use crate::parsed::{MOST, Named, Parsed, RunPlanner};
+use crate::parsed::{MOST, Named, Parsed};
 use clap::error::ErrorKind;
 use clap::{ArgMatches, Error};
-use onfi_planners::{ChosenEarly, ChosenPlanner, ExactPlanner};
+use onfi_planners::{ChosenPlanner, SlackPlanner, Weighing};
 use onfi_script::{Command, Output, PlanOptions, number};
 use std::alloc::{AllocError, Global};
 
@@ -308,36 +308,23 @@ fn search_of(plain: bool, within: bool) -> Result<ChosenPlanner, ValueFault>
     }
 }
 
-/// The planner of a run by this search: exact where that is, and no plan may end later, by so many thousandths.
-fn run_planner(search: ChosenPlanner, slack: u16) -> RunPlanner
+/// The planner of a run by this search, whose plans may end later by so many thousandths.
+fn run_planner(search: ChosenPlanner, slack: u16) -> SlackPlanner<ChosenPlanner>
     ensures { result ≡ spec.run_planner search slack }
 {
-    let inexact = RunPlanner::Inexact(ChosenEarly {
-        planner: search,
-        slack: Some(slack),
-    });
-    if slack > 0 {
-        return inexact;
-    }
-    match search {
-        ChosenPlanner::Plain => RunPlanner::Exact(ExactPlanner::Plain),
-        ChosenPlanner::Remembering => RunPlanner::Exact(ExactPlanner::Remembering),
-        ChosenPlanner::BestSoFar => inexact,
-    }
+    SlackPlanner::of(search, Weighing::ByAge, slack)
 }
 
-/// The limit of a run where none is named.
-fn usual_of(planner: RunPlanner) -> u32
-    ensures value { result ≡ spec.usual_of planner }
+/// The limit of a run by this search where none is named: the usual one where states are remembered, and plans may end later.
+fn usual_of(search: ChosenPlanner, slack: u16) -> u32
+    ensures value { result ≡ spec.usual_by search slack }
     ensures some { 1 ≤ result }
     ensures few { result ≤ 1048576 }
 {
-    match planner {
-        RunPlanner::Exact(_) => MOST,
-        RunPlanner::Inexact(inexact) => match inexact.planner {
-            ChosenPlanner::Plain => MOST,
-            ChosenPlanner::Remembering | ChosenPlanner::BestSoFar => USUAL,
-        },
+    match search {
+        ChosenPlanner::Plain => MOST,
+        ChosenPlanner::Remembering if slack == 0 => MOST,
+        ChosenPlanner::Remembering | ChosenPlanner::BestSoFar => USUAL,
     }
 }
 
@@ -363,10 +350,10 @@ fn run_of(used: &ArgMatches<'_>) -> Result<Named, ValueFault>
     let limit = named_limit(used)?;
     let slack = named_slack(used)?;
     let clocked = clock_of(used)?;
-    let planner = run_planner(search, slack.unwrap_or(0));
-    let limit = limit.unwrap_or(usual_of(planner));
+    let slack = slack.unwrap_or(0);
+    let limit = limit.unwrap_or(usual_of(search, slack));
     Ok(Named::Run {
-        planner,
+        planner: run_planner(search, slack),
         limit,
         clocked,
     })

@@ -10,7 +10,7 @@ ghost use Rattle.onfi_console.specs.Described as spec;
 
 use onfi_param::{ParamPage, read_page};
 use onfi_script::{
-    Answer, Device, Purpose, Refusal, Row, RowStop, ScriptFault, Stop, device_of, has_page,
+    Answer, Device, Purpose, Refusal, Row, RowStop, ScriptFault, Stop, Why, device_of, has_page,
     page_bytes, put_number, read_rows, refused,
 };
 use onfi_timing::Spans;
@@ -220,8 +220,14 @@ fn described(
     put_abilities(alloc, &mut text, page)?;
     put_times(alloc, &mut text, page)?;
     put_rows(alloc, &mut text, device)?;
-    let text = text.into_bytes();
-    Ok(Answer { text, status: 0 })
+    let mut answer = Answer::of(text.into_bytes(), 0);
+    if let Err(fault) = device {
+        answer.why = Some(Why::Script(Refusal {
+            row: 0,
+            fault: *fault,
+        }));
+    }
+    Ok(answer)
 }
 
 /// The page that rows give.

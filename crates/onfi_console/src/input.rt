@@ -58,9 +58,9 @@ pub fn word_at(line: &str, number: usize) -> &str {
     line.split(' ').nth(number).unwrap_or("")
 }
 
-/// The first line of an answer.
-pub fn first_line(answer: &[u8]) -> &str {
-    match std::str::from_utf8(line_at(answer, 0)) {
+/// The first line of a text.
+pub fn first_line(text: &[u8]) -> &str {
+    match std::str::from_utf8(line_at(text, 0)) {
         Ok(line) => line,
         Err(_) => "",
     }

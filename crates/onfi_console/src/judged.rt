@@ -1,15 +1,13 @@
 //! Why a plan text or its certificate is refused.
 use crate::escaping::shown;
 use crate::guess::{OtherText, guess};
-use crate::input::{Input, line_at, line_start, word_at};
+use crate::input::{Input, line_at, line_start};
 use crate::lines::{last_of_text, line_fault, token_at, token_text_fault};
+use onfi_cert::CertTextFault;
+use onfi_check::{CertFault, TextFault};
+use onfi_known_check::{KnownFault, KnownTextFault};
 use onfi_planners::ChosenPlanner;
-use onfi_problem::Problem;
-use onfi_schedule::{Schedule, find_breach, finish, legal};
-use onfi_script::{
-    Command, PlanWithin, Purpose, behind_end, device_of, read_plan_within, read_rows, script_len,
-    set_up,
-};
+use onfi_script::{Command, Why, behind_end, script_len};
 use std::alloc::{AllocError, Global};
 
 /// What a certificate has to prove for a command.
@@ -21,7 +19,7 @@ fn proof_of(command: Command) -> &'static str {
     }
 }
 
-/// The message beside a line `refused ..`.
+/// The message beside an answer that refuses a plan text or its certificate, or that memory was refused.
 ///
 /// # Errors
 /// Want of memory.
@@ -29,26 +27,53 @@ pub fn refused_message(
     alloc: Global,
     command: Command,
     input: &Input<'_>,
-    line: &str,
+    why: Why,
 ) -> Result<String, AllocError> {
-    match (word_at(line, 1), word_at(line, 2)) {
-        ("plan", number) => plan_line_message(alloc, input, number),
-        ("finish", _) => finish_message(alloc, input),
-        ("below", _) => below_message(alloc, input),
-        ("1", _) => illegal_message(alloc, input),
-        ("cert", what) => certificate_message(alloc, command, input, what, word_at(line, 3)),
-        (_, what) => {
-            let (proof, what, place) = (proof_of(command), token_fault(what), word_at(line, 3));
-            if place.is_empty() {
-                format!(in alloc;
-                    "onfi_sim: the schedule is legal, and the certificate doesn't prove {proof}: {what}\n"
-                )
-            } else {
-                format!(in alloc;
-                    "onfi_sim: the schedule is legal, and the certificate doesn't prove {proof}: token {place}, counted from 0, {what}\n"
-                )
-            }
+    match why {
+        Why::Line(number) => plan_line_message(alloc, input, number as usize),
+        Why::Finish { said, is } => format!(in alloc;
+            "onfi_sim: the line 'finish' says {said} ns, and the schedule ends at {is} ns\n"
+        ),
+        Why::Below { said, is } => format!(in alloc;
+            "onfi_sim: nothing is said to end before {said} ns, and the schedule ends at {is} ns\n"
+        ),
+        Why::Illegal(Some(breach)) => {
+            format!(in alloc; "onfi_sim: the schedule isn't legal: {breach}\n")
         }
+        Why::Cert(TextFault::Cert(fault)) => {
+            tokens_message(alloc, command, KnownFault::Cert(fault))
+        }
+        Why::Known(TextFault::Cert(fault)) => tokens_message(alloc, command, fault),
+        Why::Cert(TextFault::Text(CertTextFault::BadToken(place))) => {
+            bad_token_message(alloc, input, place as usize)
+        }
+        Why::Known(TextFault::Text(KnownTextFault::BadToken(place))) => {
+            bad_token_message(alloc, input, place)
+        }
+        Why::Illegal(None) => String::from_str(alloc, "onfi_sim: the schedule isn't legal\n"),
+        Why::Memory => String::from_str(alloc, "onfi_sim: memory was refused\n"),
+        _ => {
+            let what = certificate_fault(command, input, why);
+            format!(in alloc; "onfi_sim: the certificate is refused: {what}\n")
+        }
+    }
+}
+
+/// The message about tokens that prove nothing.
+fn tokens_message(
+    alloc: Global,
+    command: Command,
+    fault: KnownFault,
+) -> Result<String, AllocError> {
+    let proof = proof_of(command);
+    let (what, place) = token_fault(fault);
+    match place {
+        Some(place) => format!(in alloc;
+            "onfi_sim: the schedule is legal, and the certificate doesn't prove {proof}: token {place}, counted from 0, {what}\n"
+        ),
+        None => format!(in alloc;
+            "onfi_sim: the schedule is legal, and the certificate doesn't prove {proof}: {what}\n"
+        ),
     }
 }
 
@@ -61,8 +86,11 @@ fn plan_text<'a>(input: &Input<'a>) -> &'a [u8] {
 }
 
 /// The message about a line of a plan text, counted from 1.
-fn plan_line_message(alloc: Global, input: &Input<'_>, number: &str) -> Result<String, AllocError> {
-    let number = number.parse::<usize>().unwrap_or(0);
+fn plan_line_message(
+    alloc: Global,
+    input: &Input<'_>,
+    number: usize,
+) -> Result<String, AllocError> {
     let (text, above) = (plan_text(input), number.saturating_sub(1));
     let start = line_start(text, above);
     let before = input.text.len().saturating_sub(text.len());
@@ -112,93 +140,6 @@ fn expected(number: usize) -> &'static str {
     }
 }
 
-/// What an input says: its problem and schedule, and the numbers of its lines `finish` and `below`, in ns.
-#[derive(Drop)]
-struct PlanSaid {
-    problem: Problem,
-    schedule: Schedule,
-    ends: u64,
-    below: u64,
-}
-
-/// What an input says, where its plan text can be read.
-fn said(alloc: Global, input: &Input<'_>) -> Option<PlanSaid> {
-    let rows = read_rows(alloc, Purpose::Problem, input.text).ok()?;
-    let device = device_of(alloc, rows.as_slice()).ok()?;
-    let setup = set_up(alloc, rows.as_slice(), &device).ok()?;
-    let (luns, wants) = (setup.luns.as_slice(), setup.wants.as_slice());
-    let problem = Problem::new(
-        alloc,
-        setup.timing,
-        setup.rules,
-        setup.bus_free,
-        luns,
-        wants,
-    )
-    .ok()?;
-    let mut text = Vec::new(alloc);
-    text.extend_from_slice(plan_text(input)).ok()?;
-    text.extend_from_slice(b"ONFICERT\n").ok()?;
-    let PlanWithin { plan, below, .. } = read_plan_within(
-        alloc,
-        problem.wants(),
-        text.as_slice(),
-    ).ok()?;
-    let ends = plan.finish();
-    let schedule = plan.schedule(problem.lun_count());
-    Some(PlanSaid {
-        problem,
-        schedule,
-        ends,
-        below,
-    })
-}
-
-/// The message about a finish that isn't the schedule's.
-fn finish_message(alloc: Global, input: &Input<'_>) -> Result<String, AllocError> {
-    let found = said(alloc, input);
-    match &found {
-        Some(said) if legal(&said.problem, &said.schedule) => {
-            let (ends, is) = (said.ends, finish(&said.problem, &said.schedule));
-            format!(in alloc;
-                "onfi_sim: the line 'finish' says {ends} ns, and the schedule ends at {is} ns\n"
-            )
-        }
-        _ => String::from_str(
-            alloc,
-            "onfi_sim: the schedule ends at another time than the line 'finish' says\n",
-        ),
-    }
-}
-
-/// The message about a schedule that ends before the time before which nothing is said to end.
-fn below_message(alloc: Global, input: &Input<'_>) -> Result<String, AllocError> {
-    let found = said(alloc, input);
-    match &found {
-        Some(said) if legal(&said.problem, &said.schedule) => {
-            let (below, is) = (said.below, finish(&said.problem, &said.schedule));
-            format!(in alloc;
-                "onfi_sim: nothing is said to end before {below} ns, and the schedule ends at {is} ns\n"
-            )
-        }
-        _ => String::from_str(
-            alloc,
-            "onfi_sim: the schedule ends before the time that is told\n",
-        ),
-    }
-}
-
-/// The message about a schedule that isn't legal.
-fn illegal_message(alloc: Global, input: &Input<'_>) -> Result<String, AllocError> {
-    let Some(said) = said(alloc, input) else {
-        return String::from_str(alloc, "onfi_sim: the schedule isn't legal\n");
-    };
-    match find_breach(&said.problem, &said.schedule) {
-        Some(breach) => { format!(in alloc; "onfi_sim: the schedule isn't legal: {breach}\n") }
-        None => String::from_str(alloc, "onfi_sim: the schedule isn't legal\n"),
-    }
-}
-
 /// The text of the certificate in a plan text.
 fn certificate<'a>(text: &'a [u8]) -> &'a [u8] {
     let above = text
@@ -213,35 +154,26 @@ fn certificate<'a>(text: &'a [u8]) -> &'a [u8] {
     }
 }
 
-/// The message about a text that is no certificate.
-fn certificate_message(
-    alloc: Global,
-    command: Command,
-    input: &Input<'_>,
-    fault: &str,
-    place: &str,
-) -> Result<String, AllocError> {
-    let text = certificate(plan_text(input));
-    let what = match fault {
-        "Header" => header_fault(command, line_at(text, 0)),
-        "BadToken" => return bad_token_message(alloc, text, place),
-        "TooLong" => "it has too many tokens",
-        _ =>
+/// Why a text is no certificate of the problem.
+fn certificate_fault(command: Command, input: &Input<'_>, why: Why) -> &'static str {
+    match why {
+        Why::Cert(TextFault::Option) | Why::Known(TextFault::Option) =>
             "its header is of the other option: 'strict' of the script differs from that of the plan",
-    };
-    format!(in alloc; "onfi_sim: the certificate is refused: {what}\n")
+        Why::Cert(TextFault::Text(CertTextFault::TooLong)) => "it has too many tokens",
+        _ => header_fault(command, line_at(certificate(plan_text(input)), 0)),
+    }
 }
 
 /// The message about a token that is none, counted from 0.
-fn bad_token_message(alloc: Global, text: &[u8], place: &str) -> Result<String, AllocError> {
+fn bad_token_message(alloc: Global, input: &Input<'_>, at: usize) -> Result<String, AllocError> {
+    let text = certificate(plan_text(input));
     let behind = text.get(line_start(text, 1)..).unwrap_or(b"");
-    let at = place.parse::<usize>().unwrap_or(0);
     let (token, why) = (
         shown(alloc, token_at(behind, at))?,
         token_text_fault(behind, at),
     );
     format!(in alloc;
-        "onfi_sim: the certificate is refused at token {place}, counted from 0, '{token}': {why}\n"
+        "onfi_sim: the certificate is refused at token {at}, counted from 0, '{token}': {why}\n"
     )
 }
 
@@ -260,20 +192,31 @@ fn header_fault(command: Command, header: &[u8]) -> &'static str {
     }
 }
 
-/// Why tokens prove nothing.
-fn token_fault(what: &str) -> &'static str {
-    match what {
-        "Short" => "its tokens end too early",
-        "Trailing" => "stands behind the end of the tree",
-        "Width" => "has another number of moves than the problem there",
-        "BoundLow" => "names a bound that is below the finish",
-        "YieldNoFit" => "yields to a LUN whose moves don't fit",
-        "YieldLoop" => "yields in a circle",
-        "NotEnd" => "says that nothing is left, and phases are left",
-        "Unknown" => "names an open node that hasn't ended",
-        "OtherLeft" => "names a node at which something else is left",
-        "Sooner" => "names a node at which LUNs may go on only later",
-        "TooMany" => "is one open node too many, above 1048576",
-        _ => "isn't one of this problem",
+/// Why tokens prove nothing, and the token that tells so, counted from 0.
+fn token_fault(fault: KnownFault) -> (&'static str, Option<usize>) {
+    match fault {
+        KnownFault::Cert(fault) => plain_token_fault(fault),
+        KnownFault::Unknown(at) => ("names an open node that hasn't ended", Some(at)),
+        KnownFault::OtherLeft(at) => ("names a node at which something else is left", Some(at)),
+        KnownFault::Sooner(at) => ("names a node at which LUNs may go on only later", Some(at)),
+        KnownFault::TooMany(at) => ("is one open node too many, above 1048576", Some(at)),
+        KnownFault::Above => ("isn't one of this problem", None),
+    }
+}
+
+/// .. of those of a plain certificate.
+fn plain_token_fault(fault: CertFault) -> (&'static str, Option<usize>) {
+    match fault {
+        CertFault::Short => ("its tokens end too early", None),
+        CertFault::Trailing(at) => ("stands behind the end of the tree", Some(at)),
+        CertFault::Width(at) => (
+            "has another number of moves than the problem there",
+            Some(at),
+        ),
+        CertFault::BoundLow(at) => ("names a bound that is below the finish", Some(at)),
+        CertFault::YieldNoFit(at) => ("yields to a LUN whose moves don't fit", Some(at)),
+        CertFault::YieldLoop(at) => ("yields in a circle", Some(at)),
+        CertFault::NotEnd(at) => ("says that nothing is left, and phases are left", Some(at)),
+        CertFault::Illegal | CertFault::Memory => ("isn't one of this problem", None),
     }
 }

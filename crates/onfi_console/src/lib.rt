@@ -29,5 +29,5 @@ pub use device::describe;
 pub use escaping::{escaped, shown};
 pub use fault::{Untaken, WordsFault};
 pub use input::Input;
-pub use parsed::{CommandName, Named, Parsed, RunPlanner};
+pub use parsed::{CommandName, Named, Parsed};
 pub use saying::message;

@@ -3,7 +3,7 @@ ghost use Rattle.std.specs.Prelude.{◌≡◌, ◌≤◌};
 ghost use Rattle.onfi_console.specs.Readers as spec;
 ghost use Rattle.onfi_console.specs.Words.{IsInRange};
 
-use onfi_planners::{ChosenEarly, ExactPlanner};
+use onfi_planners::{ChosenPlanner, SlackPlanner};
 use onfi_script::{Command, Output};
 
 /// A command of the program.
@@ -33,15 +33,6 @@ impl CommandName {
     }
 }
 
-/// How a run plans.
-#[derive(Clone, Copy)]
-pub enum RunPlanner {
-    /// Each plan is optimal.
-    Exact(ExactPlanner),
-    /// A plan may be the best so far, or end later than an optimal one does.
-    Inexact(ChosenEarly),
-}
-
 /// What a command line names.
 #[derive(Clone, Copy)]
 pub enum Named {
@@ -54,7 +45,7 @@ pub enum Named {
     /// The operations of a script are run, by a simulated clock or in threads; that planner plans each batch, with at most
     /// `limit` nodes, 1 to 1,048,576.
     Run {
-        planner: RunPlanner,
+        planner: SlackPlanner<ChosenPlanner>,
         limit: u32,
         clocked: bool,
     },

@@ -2,17 +2,17 @@
 ghost use Rattle.std.specs.Prelude.{◌≡◌, IfOk, None, true};
 
 use crate::cautions::push_cautions;
-use crate::input::{Input, first_line, word_at};
+use crate::input::Input;
 use crate::judged::refused_message;
 use crate::parsed::{MOST, Named, Parsed};
 use crate::ran::run_message;
-use crate::script::{device_message, purpose_of, script_message};
+use crate::script::{purpose_of, script_message};
 use onfi_planners::ChosenPlanner;
-use onfi_script::Command;
+use onfi_script::{Command, Why};
 use std::alloc::{AllocError, Global};
 
-/// What is said, in words and for a person, beside an answer to an input; nothing where the answer says all, or where quiet
-/// was asked for. Which words is free: no program may rely on them.
+/// What is said, in words and for a person, beside an answer to an input, which refuses for that reason; nothing where the
+/// answer says all, or where quiet was asked for. Which words is free: no program may rely on them.
 ///
 /// # Errors
 /// Want of memory; the answer is none the worse for it.
@@ -21,43 +21,48 @@ pub fn message(
     parsed: &Parsed<'_>,
     input: &Input<'_>,
     answer: &[u8],
+    why: Option<Why>,
 ) -> Result<Option<String>, AllocError>
     ensures quiet { (parsed.now.quiet ≡ true) → IfOk result (λ m. m ≡ None) }
 {
     if parsed.quiet {
         return Ok(None);
     }
-    let line = first_line(answer);
-    let told = about(alloc, parsed, input, answer, line)?;
+    let told = about(alloc, parsed, input, answer, why)?;
     let mut said = told.unwrap_or(String::new(alloc));
-    if !matches!(word_at(line, 0), "script" | "memory") {
+    if !is_unread(answer) {
         push_cautions(alloc, purpose_of(parsed.command()), &mut said, input)?;
     }
     Ok(if said.is_empty() { None } else { Some(said) })
 }
 
-/// What an answer, with that first line, leaves unsaid.
+/// Whether an answer is that of no script that was read.
+fn is_unread(answer: &[u8]) -> bool {
+    answer.starts_with(b"script refused ") || answer.starts_with(b"memory\n")
+}
+
+/// What an answer leaves unsaid.
 fn about(
     alloc: Global,
     parsed: &Parsed<'_>,
     input: &Input<'_>,
     answer: &[u8],
-    line: &str,
+    why: Option<Why>,
 ) -> Result<Option<String>, AllocError> {
-    match (word_at(line, 0), parsed.named) {
-        ("script", _) => Ok(Some(script_message(alloc, parsed.command(), input, line)?)),
-        (_, Named::Run { .. }) => run_message(alloc, answer),
-        (_, Named::Device) => device_message(alloc, input, answer),
-        ("refused", Named::Problem { command, .. }) => {
-            Ok(Some(refused_message(alloc, command, input, line)?))
-        }
-        ("over", Named::Problem { command, .. }) => {
-            Ok(Some(over_message(alloc, command, parsed.limit(), line)?))
-        }
-        ("memory", Named::Problem { .. }) => Ok(Some(String::from_str(
+    match (why, parsed.named) {
+        (Some(Why::Script(refusal)), _) => Ok(Some(script_message(
             alloc,
-            "onfi_sim: memory was refused\n",
+            parsed.command(),
+            input,
+            refusal,
         )?)),
+        (_, Named::Run { .. }) => run_message(alloc, answer),
+        (Some(Why::Over(opened)), Named::Problem { command, .. }) => {
+            Ok(Some(over_message(alloc, command, parsed.limit(), opened)?))
+        }
+        (Some(why), Named::Problem { command, .. }) => {
+            Ok(Some(refused_message(alloc, command, input, why)?))
+        }
         _ => Ok(None),
     }
 }
@@ -70,14 +75,13 @@ fn remembers(command: Command) -> bool {
     }
 }
 
-/// The message beside a line `over N`.
+/// The message where a search opened so many nodes and isn't over.
 fn over_message(
     alloc: Global,
     command: Command,
     limit: u32,
-    line: &str,
+    opened: u32,
 ) -> Result<String, AllocError> {
-    let opened = word_at(line, 1);
     let raise = if limit < MOST {
         "raise '--limit' up to 1048576, or "
     } else {

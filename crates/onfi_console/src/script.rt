@@ -8,9 +8,14 @@ use crate::parsed::CommandName;
 use crate::place::{line_of, row_text};
 use crate::rows::{form_of, is_of_run, near_name};
 use csv::ByteRecord;
+use onfi_addr::GeometryFault;
+use onfi_param::PageFault;
 use onfi_problem::{LunState, Problem, ProblemFault};
-use onfi_script::{Purpose, Row, Setup, device_of, read_rows, script_len, set_up};
-use onfi_timing::{Kind, read_records};
+use onfi_request::RequestFault;
+use onfi_script::{
+    Purpose, Refusal, Row, ScriptFault, Setup, device_of, read_rows, script_len, set_up,
+};
+use onfi_timing::{Kind, SheetFault, StrobeFault, read_records};
 use std::alloc::{AllocError, Global};
 
 /// What the rows of a script are read for by a command.
@@ -27,11 +32,10 @@ struct Refused<'a, 'r> {
     command: CommandName,
     input: &'r Input<'a>,
     records: &'r [ByteRecord],
-    fault: &'r str,
-    inner: &'r str,
+    fault: ScriptFault,
 }
 
-/// The message beside a line `script refused ROW NAME..`.
+/// The message about a script that is refused, or whose device can't be planned for.
 ///
 /// # Errors
 /// Want of memory.
@@ -39,7 +43,7 @@ pub fn script_message(
     alloc: Global,
     command: CommandName,
     input: &Input<'_>,
-    line: &str,
+    refusal: Refusal,
 ) -> Result<String, AllocError> {
     let records = match script_len(input.text) {
         Some(size) => read_records(alloc, &input.text[..size])?,
@@ -49,19 +53,27 @@ pub fn script_message(
         command,
         input,
         records: records.as_slice(),
-        fault: word_at(line, 3),
-        inner: word_at(line, 4),
+        fault: plainly(refusal.fault),
     };
-    match word_at(line, 2).parse::<usize>() {
-        Ok(0) | Err(_) => whole_message(alloc, &refused),
-        Ok(row) => row_message(alloc, &refused, row),
+    match refusal.row {
+        0 => whole_message(alloc, &refused),
+        row => row_message(alloc, &refused, row as usize),
+    }
+}
+
+/// A fault, where one of a sheet with strobes is one of the sheet.
+fn plainly(fault: ScriptFault) -> ScriptFault {
+    match fault {
+        ScriptFault::Strobe(StrobeFault::Sheet(fault)) => ScriptFault::Sheet(fault),
+        _ => fault,
     }
 }
 
 /// The message about a row, counted from 1.
 fn row_message(alloc: Global, refused: &Refused<'_, '_>, row: usize) -> Result<String, AllocError> {
-    let (input, fault) = (refused.input, refused.fault);
+    let input = refused.input;
     let Some(record) = refused.records.get(row.saturating_sub(1)) else {
+        let fault = word_at(refused.fault.name(), 0);
         return format!(in alloc; "onfi_sim: row {row}: {fault}\n");
     };
     let (name, line, text) = (
@@ -77,14 +89,14 @@ fn row_message(alloc: Global, refused: &Refused<'_, '_>, row: usize) -> Result<S
 
 /// What was expected in place of a row.
 fn hint(alloc: Global, refused: &Refused<'_, '_>, name: &[u8]) -> Result<String, AllocError> {
-    if refused.fault == "NotHere" {
+    if matches!(refused.fault, ScriptFault::NotHere) {
         let rows = taken(refused.command, name);
         return format!(in alloc; "  expected: {rows}\n");
     }
     if let Some(form) = form_of(name) {
         return format!(in alloc; "  expected: {form}\n");
     }
-    if refused.fault == "UnknownRow" {
+    if matches!(refused.fault, ScriptFault::UnknownRow) {
         if let Some(near) = near_name(alloc, name)? {
             return format!(in alloc; "  did you mean '{near}'?\n");
         }
@@ -102,36 +114,43 @@ fn row_fault(
     record: &ByteRecord,
     row: usize,
 ) -> Result<String, AllocError> {
-    match (refused.fault, refused.inner) {
-        ("NotANumber", _) | ("Sheet" | "Strobe", "NotANumber") => not_a_number(alloc, record),
-        ("OutOfRange", _) => out_of_range(alloc, refused, record, row),
-        ("NotHere", _) => not_here(alloc, refused, field(record, 0)),
-        ("UnknownRow", _) if row == 1 => {
+    match refused.fault {
+        ScriptFault::NotANumber
+        | ScriptFault::Sheet(SheetFault::NotANumber(_))
+        | ScriptFault::Strobe(StrobeFault::NotANumber(_)) => not_a_number(alloc, record),
+        ScriptFault::OutOfRange => out_of_range(alloc, refused, record, row),
+        ScriptFault::NotHere => not_here(alloc, refused, field(record, 0)),
+        ScriptFault::UnknownRow if row == 1 => {
             let what = match guess(refused.input.text) {
                 Some(guess) => guess.text(),
                 None => "no row has this name",
             };
             String::from_str(alloc, what)
         }
-        (fault, inner) => String::from_str(alloc, plain_fault(fault, inner)),
+        fault => String::from_str(alloc, plain_fault(fault)),
     }
 }
 
 /// What is wrong with a row, where that rests on nothing but the name of the fault.
-fn plain_fault(fault: &str, inner: &str) -> &'static str {
-    match (fault, inner) {
-        ("UnknownRow", _) => "no row has this name",
-        ("FieldCount", _) => "the row has too few fields or too many",
-        ("Repeated", _) | ("Sheet" | "Strobe", "Repeated") => "an earlier row says this already",
-        ("Hex", _) => "the bytes aren't pairs of hexadecimal digits",
-        ("Sheet", "Unknown") => "no timing parameter has this name",
-        ("Sheet", "TooLong") => "the value is 2^32 ns or more; perhaps it is in ps",
-        ("Strobe", "Unknown") => "no parameter of strobes has this name",
-        ("Strobe", "TooLong") => "the value is 2^32 ps or more",
-        ("Request", "Lun") => "the device has no such LUN",
-        ("Request", "Block") => "the device has no such block",
-        ("Request", "Page") => "the device has no such page, or an erase names a page other than 0",
-        ("Request", "DataLength") => "the data isn't as long as a page with its spare bytes",
+fn plain_fault(fault: ScriptFault) -> &'static str {
+    match fault {
+        ScriptFault::UnknownRow => "no row has this name",
+        ScriptFault::FieldCount => "the row has too few fields or too many",
+        ScriptFault::Repeated
+        | ScriptFault::Sheet(SheetFault::Repeated(_))
+        | ScriptFault::Strobe(StrobeFault::Repeated(_)) => "an earlier row says this already",
+        ScriptFault::Hex => "the bytes aren't pairs of hexadecimal digits",
+        ScriptFault::Sheet(SheetFault::Unknown(_)) => "no timing parameter has this name",
+        ScriptFault::Sheet(SheetFault::TooLong) =>
+            "the value is 2^32 ns or more; perhaps it is in ps",
+        ScriptFault::Strobe(StrobeFault::Unknown(_)) => "no parameter of strobes has this name",
+        ScriptFault::Strobe(StrobeFault::TooLong) => "the value is 2^32 ps or more",
+        ScriptFault::Request(RequestFault::Lun) => "the device has no such LUN",
+        ScriptFault::Request(RequestFault::Block) => "the device has no such block",
+        ScriptFault::Request(RequestFault::Page) =>
+            "the device has no such page, or an erase names a page other than 0",
+        ScriptFault::Request(RequestFault::DataLength) =>
+            "the data isn't as long as a page with its spare bytes",
         _ => "the row can't be taken",
     }
 }
@@ -258,29 +277,30 @@ fn taken(command: CommandName, name: &[u8]) -> &'static str {
 /// The message about a script as a whole.
 fn whole_message(alloc: Global, refused: &Refused<'_, '_>) -> Result<String, AllocError> {
     let (input, name) = (refused.input, refused.input.script_name());
-    match (refused.fault, refused.inner) {
-        ("NoEnd", _) => no_end(alloc, input),
-        ("Missing", _) => {
+    match refused.fault {
+        ScriptFault::NoEnd => no_end(alloc, input),
+        ScriptFault::Missing => {
             let what = missing(refused.command, refused.records);
             format!(in alloc; "onfi_sim: {name}: the script lacks {what}\n")
         }
-        ("Sheet", "Missing") => {
+        ScriptFault::Sheet(SheetFault::Missing(_)) => {
             let which = missing_parameters(alloc, refused.records)?;
             format!(in alloc; "onfi_sim: {name}: no 'sheet' row gives {which}\n")
         }
-        ("Sheet", "ZeroCycle") if has_strobes(refused.records) => format!(in alloc;
-            "onfi_sim: {name}: tWC of the 'sheet' rows is 0; round it up to 1 ns\n"
-        ),
-        ("Strobe", "Missing") => {
+        ScriptFault::Sheet(SheetFault::ZeroCycle) if has_strobes(refused.records) =>
+            format!(in alloc;
+                "onfi_sim: {name}: tWC of the 'sheet' rows is 0; round it up to 1 ns\n"
+            ),
+        ScriptFault::Strobe(StrobeFault::Missing(_)) => {
             let which = missing_strobes(alloc, refused.records)?;
             format!(in alloc;
                 "onfi_sim: {name}: no 'strobe' row gives {which}, in ps; one that the device hasn't is 0\n"
             )
         }
-        ("Problem", "BadLun") => bad_lun(alloc, refused),
-        (fault, inner) => {
-            let what = whole_fault(refused.command, fault, inner);
-            let more = advice(refused.command, fault, inner);
+        ScriptFault::Problem(ProblemFault::BadLun) => bad_lun(alloc, refused),
+        fault => {
+            let what = whole_fault(refused.command, fault);
+            let more = advice(refused.command, fault);
             format!(in alloc; "onfi_sim: {name}: {what}{more}\n")
         }
     }
@@ -394,72 +414,60 @@ fn missing(command: CommandName, records: &[ByteRecord]) -> &'static str {
     "the row 'spans,erase,..'"
 }
 
-/// The message beside a description, where the device can't be planned for.
-///
-/// # Errors
-/// Want of memory.
-pub fn device_message(
-    alloc: Global,
-    input: &Input<'_>,
-    answer: &[u8],
-) -> Result<Option<String>, AllocError> {
-    let refused = answer
-        .split(|byte| *byte == b'\n')
-        .find_map(|line| line.strip_prefix(b"refused,"));
-    let Some(Ok(name)) = refused.map(|name| std::str::from_utf8(name)) else {
-        return Ok(None);
-    };
-    let line = format!(in alloc; "script refused 0 {name}")?;
-    let told = script_message(alloc, CommandName::Device, input, line.as_str())?;
-    Ok(Some(told))
-}
-
 /// What is wrong with a script as a whole.
-fn whole_fault(command: CommandName, fault: &str, inner: &str) -> &'static str {
-    match (fault, inner) {
-        ("Page", "Short") => "the 'page' rows hold fewer than the 256 bytes of one parameter page",
-        ("Page", _) =>
+fn whole_fault(command: CommandName, fault: ScriptFault) -> &'static str {
+    match fault {
+        ScriptFault::Page(PageFault::Short) =>
+            "the 'page' rows hold fewer than the 256 bytes of one parameter page",
+        ScriptFault::Page(_) =>
             "no copy in the 'page' rows is a parameter page: signature 'ONFI', CRC in bytes 254 and 255",
-        ("Geometry", inner) => geometry_fault(inner),
-        ("Sheet", "ZeroCycle") => "tWC or tRC is 0; round them up to 1 ns",
-        ("Sheet", _) => "the 'sheet' rows give no phase lengths",
-        ("Strobe", "ZeroCycle") => "tRC or tDSC of the 'strobe' rows is 0; two bytes take some ps",
-        ("Strobe", _) => "the 'strobe' rows give no phase lengths",
-        ("Problem", "TooMany") if command == CommandName::Check =>
+        ScriptFault::Geometry(fault) => geometry_fault(fault),
+        ScriptFault::Sheet(SheetFault::ZeroCycle) => "tWC or tRC is 0; round them up to 1 ns",
+        ScriptFault::Sheet(_) => "the 'sheet' rows give no phase lengths",
+        ScriptFault::Strobe(StrobeFault::ZeroCycle) =>
+            "tRC or tDSC of the 'strobe' rows is 0; two bytes take some ps",
+        ScriptFault::Strobe(_) => "the 'strobe' rows give no phase lengths",
+        ScriptFault::Problem(ProblemFault::TooMany) if command == CommandName::Check =>
             "there are more than eight 'want' rows, and a plan is of at most eight requests",
-        ("Problem", "TooMany") =>
+        ScriptFault::Problem(ProblemFault::TooMany) =>
             "there are more than eight 'want' rows; plan eight requests at a time",
-        ("Problem", "Clock") => "times might reach 2^62 ns; count them from a later zero",
+        ScriptFault::Problem(ProblemFault::Clock) =>
+            "times might reach 2^62 ns; count them from a later zero",
         _ => "the script can't be taken",
     }
 }
 
 /// Why a device of the 'page' rows can't be driven.
-fn geometry_fault(inner: &str) -> &'static str {
-    match inner {
-        "WideBus" =>
+fn geometry_fault(fault: GeometryFault) -> &'static str {
+    match fault {
+        GeometryFault::WideBus =>
             "the device has a 16-bit bus (bit 0 of byte 6), and only 8-bit ones can be planned for",
-        "NoStatusEnhanced" => "the device has no Read Status Enhanced (78h): bit 3 of byte 8 is 0",
-        "NoColumnEnhanced" =>
+        GeometryFault::NoStatusEnhanced =>
+            "the device has no Read Status Enhanced (78h): bit 3 of byte 8 is 0",
+        GeometryFault::NoColumnEnhanced =>
             "the device has no Change Read Column Enhanced (06h-E0h): bit 6 of byte 8 is 0",
-        "NoMultiLun" => "the device can't run several LUNs at a time: bit 1 of byte 6 is 0",
-        "LunCount" => "the device has no LUN, or more than 8 (byte 100)",
-        "PlaneBits" => "the device has more than 2 plane address bits (byte 113)",
-        "Zero" => "the parameter page tells of no page, no block or no data byte",
-        "RowTooWide" =>
+        GeometryFault::NoMultiLun =>
+            "the device can't run several LUNs at a time: bit 1 of byte 6 is 0",
+        GeometryFault::LunCount => "the device has no LUN, or more than 8 (byte 100)",
+        GeometryFault::PlaneBits => "the device has more than 2 plane address bits (byte 113)",
+        GeometryFault::Zero => "the parameter page tells of no page, no block or no data byte",
+        GeometryFault::RowTooWide =>
             "row addresses don't fit the row address cycles; look at bytes 80 to 101 of the page",
-        "ColumnTooWide" =>
+        GeometryFault::ColumnTooWide =>
             "column addresses don't fit the column address cycles; look at bytes 80 to 101 of the page",
-        _ =>
+        GeometryFault::TooLarge =>
             "the device has more than 4096 pages a block, 65536 blocks a LUN or 65535 bytes a page",
     }
 }
 
 /// What else may be done where a page doesn't tell of a command that the device may have.
-fn advice(command: CommandName, fault: &str, inner: &str) -> &'static str {
-    match (command, fault, inner) {
-        (CommandName::Run, ..) => "",
-        (_, "Geometry", "NoStatusEnhanced" | "NoColumnEnhanced" | "NoMultiLun") =>
+fn advice(command: CommandName, fault: ScriptFault) -> &'static str {
+    match fault {
+        ScriptFault::Geometry(
+            GeometryFault::NoStatusEnhanced
+            | GeometryFault::NoColumnEnhanced
+            | GeometryFault::NoMultiLun,
+        ) if command != CommandName::Run =>
             "; if it can all the same, describe it by 'shape' and 'spans' rows",
         _ => "",
     }

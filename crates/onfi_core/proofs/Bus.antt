@@ -26,7 +26,8 @@ use Rattle.onfi_die.specs.Shapes.{device_of}
 use Rattle.onfi_chip.specs.Chip.{Chip}
 use Rattle.onfi_core.specs.Kept.{IsSound, IsTaken, IsHalf, ChipAgrees, IsReached, unposted, is_of_place}
 use Rattle.onfi_core.specs.State.{HalfState, ChannelState, device_for}
-use Rattle.onfi_core.specs.Steps.{reply_to, Commands, Launches, Posts, RunsOnChip, Runs, IsPhase, half_after_phase}
+use Rattle.onfi_flight.specs.Flight.{IsPhase}
+use Rattle.onfi_core.specs.Steps.{reply_to, Commands, Launches, Posts, RunsOnChip, Runs, half_after_phase}
 use Rattle.onfi_core.specs.declared.setup.Setup.{Setup}
 use Rattle.onfi_core.proofs.Going.{Going, OnLun, going_next, going_start, on_next, on_start}
 use Rattle.onfi_core.proofs.Halves.{other_half, sound_but}

@@ -21,15 +21,16 @@ use Rattle.onfi_schedule.specs.Laws.{ComesNext}
 use Rattle.onfi_schedule.specs.Schedule.{Placed, Schedule, Legal}
 use Rattle.onfi_schedule.proofs.Following.{first_move_law}
 use Rattle.slab.specs.Slab.{Slab}
-use Rattle.onfi_core.specs.declared.due.Due.{Due}
-use Rattle.onfi_core.specs.declared.phase_result.PhaseResult.{PhaseResult}
-use Rattle.onfi_core.specs.declared.phase_result.PhaseResult.TheVariants as ran
+use Rattle.onfi_flight.specs.declared.due.Due.{Due}
+use Rattle.onfi_lun.specs.declared.phase_result.PhaseResult.{PhaseResult}
+use Rattle.onfi_lun.specs.declared.phase_result.PhaseResult.TheVariants as ran
 use Rattle.onfi_core.specs.declared.setup.Setup.{Setup}
 use Rattle.onfi_core.specs.declared.slot.Slot.{Slot}
-use Rattle.onfi_core.specs.Dues.{IsDue, IsRan, after_due, groups_left, member_of, replies_of}
+use Rattle.onfi_flight.specs.Flight.{Flight, IsPhase, after_due as flight_after, left_behind, member_of, move_of}
+use Rattle.onfi_core.specs.Dues.{IsDue, IsRan, after_due, replies_of}
 use Rattle.onfi_core.specs.Kept.{IsSound}
-use Rattle.onfi_core.specs.State.{HalfState, item_at, no_item}
-use Rattle.onfi_core.specs.Steps.{IsPhase, half_after_phase, reply_to}
+use Rattle.onfi_core.specs.State.{HalfState, flight_of, item_at, no_item, with_flight}
+use Rattle.onfi_core.specs.Steps.{half_after_phase, reply_to}
 use Rattle.onfi_core.specs.View.{AreFields, AreSlots, HasSlot}
 use Rattle.onfi_core.proofs.Bus.{number_set, sound_kept, counts_command, counts_post}
 use Rattle.onfi_core.proofs.Few.{replies_few}
@@ -73,14 +74,8 @@ sound_move s h sound (Start members) start left next g n (same, zero') replies m
     sound_phase s h sound (lun_of members) members 0 start (without members h.now.wants) (going_start s h sound members m.is_move) (placed h.now (Start members) start) left
     refl refl refl refl m.problem m.legal replies makes'
 
--- what stands beside a due phase is what it leaves
-pub after_due_is : (h : HalfState) (due : Due) → (is : IsDue h due) → (replies : List Reply) → after_due h due replies ≡ half_after_phase h is.move due.start is.left replies
-after_due_is h due is replies =
-    sym (ap (λ (p : Problem). let z : HalfState = record h { now = p; left = is.left; held = h.held ++ replies } in z) is.now_is
-    ∙ ap (λ (x : Schedule). let z : HalfState = record h { now = record h.now { bus_free = due.bus_free; luns = slice_set h.now.luns due.lun due.next; wants = due.wants.items }; left = x; held = h.held ++ replies } in z) is.left_is)
-
 pub sound_due : (s : Setup) (h : HalfState) (due : Due) → IsSound s h → IsDue h due → (replies : List Reply) → Makes h.accepted due.group due.phase replies → IsSound s (after_due h due replies)
-sound_due s h due sound is replies makes = subst (IsSound s) (sym (after_due_is h due is replies)) (sound_move s h sound is.move due.start is.left is.next due.group due.phase is.is replies makes)
+sound_due s h due sound is replies makes = sound_move s h sound (move_of due) due.start (left_behind h.left due) (is.next sound.legal) due.group due.phase is.phase replies makes
 
 -- The member of the phase
 
@@ -94,8 +89,7 @@ goes_by s h sound (Start members) m g n (same, none) =
 -- the group of the due phase goes on
 pub goes : (s : Setup) (h : HalfState) (due : Due) → IsSound s h → IsDue h due → (wants : List Want) × Going s h due.lun due.group due.phase wants
 goes s h due sound is =
-    let m = first_move_law h.now h.left is.move due.start is.left sound.problem sound.legal is.next in
-    subst (λ l. (wants : List Want) × Going s h l due.group due.phase wants) (sym is.lun_is) (goes_by s h sound is.move m.is_move due.group due.phase is.is)
+    subst (λ l. (wants : List Want) × Going s h l due.group due.phase wants) is.lun (goes_by s h sound (move_of due) is.is_move due.group due.phase is.phase)
 
 -- the member is of those that have no reply
 member_left : (g : List Want) (n : ℕ) (m : Want) → member_of g n ≡ Some m → 1 ≤ number (has_id m.id) (drop (n - length g) g)
@@ -143,30 +137,14 @@ room_for s slots n room kept h lent due replies f is makes =
     omega arith
 
 -- the fields once the phase is done
-pub fields_done : (s : Setup) (slots : Slab Slot) (n room room' : ℕ) (kept kept' : List Reply) (h : HalfState) (lent lent' : Option Reply) (due : Due) (replies : List Reply) (accepted' : List Item) (held' posted' : List Reply) (luns' : List LunState) (left' : Schedule)
+pub fields_done : (s : Setup) (slots : Slab Slot) (n room room' : ℕ) (kept kept' : List Reply) (h : HalfState) (lent lent' : Option Reply) (due : Due) (replies : List Reply) (accepted' : List Item) (held' posted' : List Reply) (flight' : Flight)
     → AreFields s slots n room kept None h lent → IsDue h due → Makes h.accepted due.group due.phase replies → kept' ≡ kept ++ replies → room' ≡ room
-    → accepted' ≡ h.accepted → held' ≡ h.held ++ replies → posted' ≡ h.posted → lent' ≡ lent
-    → luns' ≡ slice_set h.now.luns due.lun due.next → left' ≡ record { rest = slice_set h.left.rest due.lun due.rest; groups = groups_left due.place h.left.groups }
-    → AreFields s slots n room' kept' None (record h { accepted = accepted'; now = record h.now { bus_free = due.bus_free; luns = luns'; wants = due.wants.items }; left = left'; held = held'; posted = posted' }) lent'
-fields_done s slots n room room' kept kept' h lent lent' due replies accepted' held' posted' luns' left' f is makes k c e0 e1 e2 e3 el er =
+    → accepted' ≡ h.accepted → held' ≡ h.held ++ replies → posted' ≡ h.posted → lent' ≡ lent → flight' ≡ flight_after (flight_of h) due
+    → AreFields s slots n room' kept' None (record (with_flight h flight') { accepted = accepted'; held = held'; posted = posted' }) lent'
+fields_done s slots n room room' kept kept' h lent lent' due replies accepted' held' posted' flight' f is makes k c e0 e1 e2 e3 ef =
     let l = f.lending in
     let same : kept' ≡ h.held ++ replies = k ∙ ap (λ rs. rs ++ replies) l.1 in
-    rw (e0, e1, e2, e3, el, er) (fields_but s slots n room room' kept kept' None None h (after_due h due replies) lent lent f refl refl c (l.0, same) (sound_due s h due f.sound is replies makes))
-
--- the LUN of the due phase is there
-pub lun_there : (s : Setup) (h : HalfState) (due : Due) → IsSound s h → IsDue h due → due.lun < length h.now.luns
-lun_there s h due sound is = let g = goes s h due sound is in within_get h.now.luns due.lun g.1.state g.1.there
-
--- the member of a phase stands at that place of its group
-pub member_at : (group : List Want) (phase number : ℕ) (d : Want) → phase < 2 * length group
-    → number ≡ (if nat_lt phase (length group) then phase else phase - length group) → member_of group phase ≡ Some (slice_index_or group number d)
-member_at group phase number d within is =
-    let low : (if nat_lt phase (length group) then phase else phase - length group) < length group = elim (cases_lt phase (length group)) [
-      | inl lt ↦ rw (lt-ltb phase (length group) lt) lt
-      | inr ge ↦ rw (le-ltb phase (length group) ge) (omega arith)
-    ] in
-    let m = get_within group (if nat_lt phase (length group) then phase else phase - length group) low in
-    rw is (m.1 ∙ ap Some (sym (index_get group (if nat_lt phase (length group) then phase else phase - length group) m.0 d m.1)))
+    rw (e0, e1, e2, e3, ef) (fields_but s slots n room room' kept kept' None None h (after_due h due replies) lent lent f refl refl c (l.0, same) (sound_due s h due f.sound is replies makes))
 
 -- a reply of these parts is that to the member
 pub reply_is : (accepted : List Item) (faults : List Fault) (due : Due) (given : PhaseResult) (answer : Answer) (place : ℕ) (item : Item) (basis : Basis)

@@ -17,21 +17,21 @@ use Rattle.onfi_group.specs.Words.{Has, Pairs}
 use Rattle.onfi_problem.specs.Moves.{Move, Next, Start, IsMove, earliest}
 use Rattle.onfi_problem.specs.declared.lun_state.LunState.TheVariants.{Running}
 use Rattle.onfi_problem.proofs.Perm.{All-has}
-use Rattle.onfi_schedule.proofs.Following.{first_move_law}
 use Rattle.onfi_chip.specs.declared.post.Post.{Post}
 use Rattle.onfi_chip.specs.Calls.{HasDone, IsNextCommand, IsNextPost, MayJoin, MayTake, command_of}
 use Rattle.onfi_chip.specs.Chip.{Chip, commanded, launched}
 use Rattle.onfi_chip.specs.Chip.Lun.{Idle, Commanding, Posting}
 use Rattle.onfi_chip.proofs.SimCalls.{in_range}
-use Rattle.onfi_core.specs.declared.due.Due.{Due}
-use Rattle.onfi_core.specs.declared.phase_result.PhaseResult.{PhaseResult}
-use Rattle.onfi_core.specs.declared.phase_result.PhaseResult.TheVariants as ran
+use Rattle.onfi_flight.specs.declared.due.Due.{Due}
+use Rattle.onfi_lun.specs.declared.phase_result.PhaseResult.{PhaseResult}
+use Rattle.onfi_lun.specs.declared.phase_result.PhaseResult.TheVariants as ran
 use Rattle.onfi_core.specs.declared.setup.Setup.{Setup}
-use Rattle.onfi_core.specs.Drive.{MayRun, HasRun, IsStatus, closer_of}
-use Rattle.onfi_core.specs.Dues.{IsDue, member_of, replies_of}
+use Rattle.onfi_lun.specs.Drive.{MayRun, HasRun, IsStatus, closer_of}
+use Rattle.onfi_flight.specs.Flight.{IsPhase, member_of, move_of}
+use Rattle.onfi_core.specs.Dues.{IsDue, replies_of}
 use Rattle.onfi_core.specs.Kept.{IsSound, IsTaken, ChipAgrees, LunAgrees, post_for}
 use Rattle.onfi_core.specs.State.{HalfState, device_for, item_at, request_of}
-use Rattle.onfi_core.specs.Steps.{IsPhase, AsksStatus, RunsOnChip, Commands, Launches}
+use Rattle.onfi_core.specs.Steps.{AsksStatus, RunsOnChip, Commands, Launches}
 use Rattle.onfi_core.proofs.Going.{going_start}
 use Rattle.onfi_core.proofs.Lists.{drop_next, get_has, All-at}
 use Rattle.onfi_core.proofs.Members.{item_of, place_lun, place_kind, place_page}
@@ -76,9 +76,7 @@ ready_by s h chip sound agrees (Start members) start m time g n (same, none) =
     subst (P g) (sym none) (subst (λ x. P x 0) same (ready_start s h chip sound agrees members start m))
 
 pub ready_for : (s : Setup) (h : HalfState) (chip : Chip) (due : Due) → IsSound s h → ChipAgrees s h chip → IsDue h due → Ready s h chip due.group due.phase due.start
-ready_for s h chip due sound agrees is =
-    let m = first_move_law h.now h.left is.move due.start is.left sound.problem sound.legal is.next in
-    ready_by s h chip sound agrees is.move due.start m.is_move m.on_time due.group due.phase is.is
+ready_for s h chip due sound agrees is = ready_by s h chip sound agrees (move_of due) due.start is.is_move is.on_time due.group due.phase is.phase
 
 -- The members of the group
 
@@ -236,11 +234,11 @@ module _ (s : Setup) (h : HalfState) (chip : Chip) (sound : IsSound s h) (agrees
   ran_on_chip chip' given has_run = ran_base chip' given (subst (λ (x : Item). HasRun chip s.geometry due x given chip') item_is has_run)
 
   -- at the post of a program or an erase the move asks for a status
-  pub asks_status : IsStatus due item → AsksStatus h.now is.move
+  pub asks_status : IsStatus due item → AsksStatus h.now (move_of due)
   asks_status (le, other) = record {
     group = due.group;
     phase = due.phase;
-    is = is.is;
+    is = is.phase;
     behind = le;
     member = m;
     there = post_at le;

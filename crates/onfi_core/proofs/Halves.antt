@@ -8,6 +8,7 @@ use Rattle.onfi_group.specs.Words.{number}
 use Rattle.onfi_problem.specs.declared.lun_state.LunState.TheVariants.{Running}
 use Rattle.onfi_problem.specs.Problem.{IsProblem, Problem, has_id}
 use Rattle.onfi_schedule.specs.Schedule.{Legal, Schedule}
+use Rattle.onfi_flight.specs.Flight.{IsFlight}
 use Rattle.onfi_die.specs.Order.{IsBeginning}
 use Rattle.onfi_chip.specs.Chip.{Chip}
 use Rattle.slab.specs.Slab.{Slab}
@@ -16,8 +17,12 @@ use Rattle.onfi_core.specs.declared.outcome.Cause.{Cause}
 use Rattle.onfi_core.specs.declared.setup.Setup.{Setup}
 use Rattle.onfi_core.specs.declared.slot.Slot.{Slot}
 use Rattle.onfi_core.specs.Kept.{ChipAgrees, IsHalf, IsReached, IsSound, IsTaken, times}
-use Rattle.onfi_core.specs.State.{ChannelState, HalfState, collected_by, device_for, is_to, wants_from}
+use Rattle.onfi_core.specs.State.{ChannelState, HalfState, collected_by, device_for, flight_of, is_to, wants_from}
 use Rattle.onfi_core.specs.View.{AreFields, IsLent}
+
+-- what is left of its plan is legal
+pub sound_flight : (s : Setup) (h : HalfState) → IsSound s h → IsFlight (flight_of h)
+sound_flight s h sound = record { problem = sound.problem; few = sound.few; legal = sound.legal }
 
 -- what is sound where what is accepted and looked at, and the batch, are as before
 module _ (s : Setup) (h : HalfState) (half : IsSound s h) (now : Problem) (left : Schedule) (outdated : Bool) (held posted : List Reply) (stopped : Option Cause) where

@@ -1,8 +1,5 @@
 pub mod Lists
 pub mod Halves
-pub mod Lags
-pub mod Mapped
-pub mod Shifted
 pub mod Startable
 pub mod Members
 pub mod Made
@@ -22,14 +19,15 @@ pub mod Reach
 pub mod Found
 pub mod Window
 pub mod Next
+pub mod Renewing
 pub mod Few
 pub mod Lending
-pub mod Dues
 pub mod Becoming
 pub mod Promise
 pub mod Channels
 pub mod Done
 pub mod Driving
+pub mod MayRunDue
 pub mod Nearest
 pub mod Refused
 pub mod Hosted

@@ -12,8 +12,7 @@ use Rattle.onfi_core.specs.declared.slot.Slot.{Slot}
 use Rattle.onfi_core.specs.Kept.{is_of_place}
 use Rattle.onfi_core.specs.Unanswered.{senders_from, nearer, IsNearest}
 use Rattle.onfi_core.specs.View.{AreSlots, HasSlot}
-use Rattle.onfi_core.proofs.Lists.{drop_next}
-use Rattle.onfi_core.proofs.Dues.{next_cases}
+use Rattle.onfi_core.proofs.Lists.{drop_next, next_cases}
 
 -- a slot's place has a slot
 pub slot_here : (slots : Slab Slot) (key : ℕ) (slot : Slot) → key < slots.capacity → get slots key ≡ Some slot → HasSlot slots slot.place

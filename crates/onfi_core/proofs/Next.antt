@@ -58,7 +58,7 @@ unplanned_slot s slots h i a sound low high =
     let n = number-append (has_id i) h.aside (wants_from s.geometry h.planned (drop h.planned h.accepted)) in
     a.kept i high (not_posted s h i sound (omega arith))
 
-get_wants : (geometry : Geometry) (n : ℕ) (xs : List Item) (i : ℕ) (x : Item) → slice_get xs i ≡ Some x → slice_get (wants_from geometry n xs) i ≡ Some (want_of geometry (n + i) x)
+pub get_wants : (geometry : Geometry) (n : ℕ) (xs : List Item) (i : ℕ) (x : Item) → slice_get xs i ≡ Some x → slice_get (wants_from geometry n xs) i ≡ Some (want_of geometry (n + i) x)
 get_wants geometry n [] i x h = cc
 get_wants geometry n (y ∷ xs) zero x h = let e : y ≡ x = cc in let z : n + 0 ≡ n = omega arith in rw z (ap (λ v. Some (want_of geometry n v)) e)
 get_wants geometry n (y ∷ xs) (suc i) x h = let z : n + suc i ≡ n + 1 + i = omega arith in rw z (get_wants geometry (n + 1) xs i x h)

@@ -309,8 +309,8 @@ plan_kept s c taken plan going reached plans = same_replies s c (planned_by c.ha
     (sound_planned s c.half reached.half.sound taken plan plans) (λ _. chip_planned s c.half reached.half.sound taken plan plans c.chip (reached.chip going))
 
 -- the problem of these parts
-pub parts_are : (s : Setup) (h : HalfState) → IsSound s h → (luns : List LunState) (wants these : List Want) → luns ≡ h.now.luns → wants ≡ these → problem_of s.timing s.rules h.now.bus_free luns wants ≡ problem_with h these
-parts_are s h sound luns wants these l w =
+pub parts_are : (s : Setup) (h : HalfState) → IsSound s h → (bus : ℕ) (luns : List LunState) (wants these : List Want) → bus ≡ h.now.bus_free → luns ≡ h.now.luns → wants ≡ these → problem_of s.timing s.rules bus luns wants ≡ problem_with h these
+parts_are s h sound bus luns wants these b l w =
     let t = sym sound.timing in
     let r = sym sound.rules in
-    ap (λ x. problem_of x s.rules h.now.bus_free luns wants) t ∙ ap (λ x. problem_of h.now.timing x h.now.bus_free luns wants) r ∙ ap (λ x. problem_of h.now.timing h.now.rules h.now.bus_free x wants) l ∙ ap (problem_of h.now.timing h.now.rules h.now.bus_free h.now.luns) w
+    ap (λ x. problem_of x s.rules bus luns wants) t ∙ ap (λ x. problem_of h.now.timing x bus luns wants) r ∙ ap (λ x. problem_of h.now.timing h.now.rules x luns wants) b ∙ ap (λ x. problem_of h.now.timing h.now.rules h.now.bus_free x wants) l ∙ ap (problem_of h.now.timing h.now.rules h.now.bus_free h.now.luns) w

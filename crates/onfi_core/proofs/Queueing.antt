@@ -1,5 +1,5 @@
 -- What a channel's queues keep from event to event.
-use Rattle.std.proofs.Common.{◌≡◌, ◌≢◌, ℕ, zero, suc, ◌+◌, ◌<◌, ◌≤◌, true, List, [], ◌∷◌, ◌++◌, length, Option, Some, None, refl, sym, ap, ◌∙◌, subst, append_assoc, length-append, arith}
+use Rattle.std.proofs.Common.{◌≡◌, ◌≢◌, ℕ, zero, suc, ◌+◌, ◌<◌, ◌≤◌, true, List, [], ◌∷◌, ◌++◌, length, Option, Some, None, refl, sym, ap, ◌∙◌, subst, append_assoc, length-append, replicate, arith}
 use Rattle.std.specs.Prelude.{slice_get, slice_index_or, slice_set, ◌==◌}
 use Rattle.std.proofs.lemmas.Option.{slice_get_read}
 use Rattle.std.specs.List.{AllByRecursion as All, filter}
@@ -10,7 +10,10 @@ use Rattle.onfi_request.specs.Range.{Fits}
 use Rattle.onfi_request.specs.declared.reply.Reply.{Reply}
 use Rattle.onfi_request.specs.declared.request.Item.{Item}
 use Rattle.onfi_request.specs.declared.request.Request.{Request}
-use Rattle.onfi_chip.specs.Chip.{Chip, Failures}
+use Rattle.onfi_chip.specs.Chip.{Chip, Failures, opened}
+use Rattle.onfi_chip.specs.Chip.Lun.{Idle}
+use Rattle.onfi_lun.specs.declared.lanes.any_lun.AnyLun.{AnyLun}
+use Rattle.onfi_lun.specs.Lanes.{LanesAgree}
 use Rattle.onfi_core.specs.declared.event.Event.{Event}
 use Rattle.onfi_core.specs.declared.outcome.Outcome.{Outcome}
 use Rattle.onfi_core.specs.Steps.{Step, bus_refusal, submitted}
@@ -20,7 +23,7 @@ use Rattle.onfi_core.specs.declared.setup.Setup.{Setup}
 use Rattle.onfi_core.specs.Kept.{IsReached, SerialsFrom, first, first_half}
 use Rattle.onfi_core.specs.Queues.{AreQueues, ChannelView, IsEmptyQueue, IsFresh, IsHostQueue, state_in}
 use Rattle.onfi_request.specs.declared.fault.Fault.{Fault}
-use Rattle.onfi_core.specs.declared.due.Due.{Due}
+use Rattle.onfi_flight.specs.declared.due.Due.{Due}
 use Rattle.onfi_core.specs.Dues.{IsDue}
 use Rattle.onfi_core.specs.Reaching.{Reaches}
 use Rattle.onfi_core.proofs.Hosted.{from_other, from_own, to_other, to_own}
@@ -39,24 +42,26 @@ other_queue s c c' j q es ep ec old = record {
 }
 
 -- what isn't told of the hosts changes nothing
-pub queues_same : (s : Setup) (lent lent' : Option Reply) (room room' : ℕ) (hosts : List HostQueue) (c c' : ChannelState) → AreQueues s lent room hosts c → Reaches s c' → c'.sent ≡ c.sent → c'.half.posted ≡ c.half.posted → c'.collected ≡ c.collected → lent' ≡ None → room' ≡ room → AreQueues s lent' room' hosts c'
-queues_same s lent lent' room room' hosts c c' q reached es ep ec el er = record {
+pub queues_same : (s : Setup) (lent lent' : Option Reply) (room room' : ℕ) (hosts : List HostQueue) (lanes lanes' : List AnyLun) (c c' : ChannelState) → AreQueues s lent room hosts lanes c → Reaches s c' → (c'.half.stopped ≡ None → LanesAgree c'.chip lanes') → c'.sent ≡ c.sent → c'.half.posted ≡ c.half.posted → c'.collected ≡ c.collected → lent' ≡ None → room' ≡ room → AreQueues s lent' room' hosts lanes' c'
+queues_same s lent lent' room room' hosts lanes lanes' c c' q reached lanes_are es ep ec el er = record {
   settled = el;
   reached = reached;
+  lanes_are = lanes_are;
   room_is = let a = q.room_is in omega arith;
   count = q.count;
   each = λ j z at. other_queue s c c' j z (ap (filter (is_from j)) es) (ap (filter (is_to j)) ep) (ap (filter (is_to j)) ec) (q.each j z at);
 }
 
 -- a host's queue changed
-module _ (s : Setup) (lent lent' : Option Reply) (room room' : ℕ) (hosts hosts' : List HostQueue) (c c' : ChannelState) (q : AreQueues s lent room hosts c) (reached : Reaches s c') (settled : lent' ≡ None) (room_is : room' ≡ room) (host : ℕ) (queue queue' : HostQueue) (at : slice_get hosts host ≡ Some queue) (set : hosts' ≡ slice_set hosts host queue') where
+module _ (s : Setup) (lent lent' : Option Reply) (room room' : ℕ) (hosts hosts' : List HostQueue) (lanes : List AnyLun) (c c' : ChannelState) (q : AreQueues s lent room hosts lanes c) (reached : Reaches s c') (lanes_are : c'.half.stopped ≡ None → LanesAgree c'.chip lanes) (settled : lent' ≡ None) (room_is : room' ≡ room) (host : ℕ) (queue queue' : HostQueue) (at : slice_get hosts host ≡ Some queue) (set : hosts' ≡ slice_set hosts host queue') where
   old : IsHostQueue s c host queue
   old = q.each host queue at
 
-  changed : IsHostQueue s c' host queue' → ((j : ℕ) → j ≢ host → (sent_by j c' ≡ sent_by j c) × (posted_to j c' ≡ posted_to j c) × (collected_by j c' ≡ collected_by j c)) → AreQueues s lent' room' hosts' c'
+  changed : IsHostQueue s c' host queue' → ((j : ℕ) → j ≢ host → (sent_by j c' ≡ sent_by j c) × (posted_to j c' ≡ posted_to j c) × (collected_by j c' ≡ collected_by j c)) → AreQueues s lent' room' hosts' lanes c'
   changed own others = record {
     settled = settled;
     reached = reached;
+    lanes_are = lanes_are;
     room_is = let a = q.room_is in omega arith;
     count = ap length set ∙ length_set hosts host queue' ∙ q.count;
     each = λ j z there. each_set (IsHostQueue s c') hosts host queue queue' at own
@@ -64,7 +69,7 @@ module _ (s : Setup) (lent lent' : Option Reply) (room room' : ℕ) (hosts hosts
   }
 
   -- only the queue's place in memory changed
-  pub queues_kept : c'.sent ≡ c.sent → c'.half.posted ≡ c.half.posted → c'.collected ≡ c.collected → queue'.sent ≡ queue.sent → queue'.completions.items ≡ queue.completions.items → deque_capacity queue'.completions ≡ deque_capacity queue.completions → AreQueues s lent' room' hosts' c'
+  pub queues_kept : c'.sent ≡ c.sent → c'.half.posted ≡ c.half.posted → c'.collected ≡ c.collected → queue'.sent ≡ queue.sent → queue'.completions.items ≡ queue.completions.items → deque_capacity queue'.completions ≡ deque_capacity queue.completions → AreQueues s lent' room' hosts' lanes c'
   queues_kept es ep ec en ei er = changed
       (record {
         sent = en ∙ old.sent ∙ ap (λ xs. length (filter (is_from host) xs)) (sym es);
@@ -74,7 +79,7 @@ module _ (s : Setup) (lent lent' : Option Reply) (room room' : ℕ) (hosts hosts
       (λ j d. (ap (filter (is_from j)) es, ap (filter (is_to j)) ep, ap (filter (is_to j)) ec))
 
   -- an item more was sent
-  pub queues_sent : (x : Item) → x.host ≡ host → c'.sent ≡ c.sent ++ x ∷ [] → c'.half.posted ≡ c.half.posted → c'.collected ≡ c.collected → queue'.sent ≡ queue.sent + 1 → queue'.completions ≡ queue.completions → AreQueues s lent' room' hosts' c'
+  pub queues_sent : (x : Item) → x.host ≡ host → c'.sent ≡ c.sent ++ x ∷ [] → c'.half.posted ≡ c.half.posted → c'.collected ≡ c.collected → queue'.sent ≡ queue.sent + 1 → queue'.completions ≡ queue.completions → AreQueues s lent' room' hosts' lanes c'
   queues_sent x own es ep ec en eq = changed
       (record {
         sent = (let a = ap (λ xs. length (filter (is_from host) xs)) es ∙ ap length (from_own host c.sent x own) ∙ length-append (sent_by host c) (x ∷ []) in let b = old.sent in omega arith);
@@ -84,7 +89,7 @@ module _ (s : Setup) (lent lent' : Option Reply) (room room' : ℕ) (hosts hosts
       (λ j d. (ap (filter (is_from j)) es ∙ from_other host j c.sent x own d, ap (filter (is_to j)) ep, ap (filter (is_to j)) ec))
 
   -- a reply more was posted
-  pub queues_posted : (r : Reply) → r.host ≡ host → c'.sent ≡ c.sent → c'.half.posted ≡ c.half.posted ++ r ∷ [] → c'.collected ≡ c.collected → queue'.sent ≡ queue.sent → queue'.completions.items ≡ queue.completions.items ++ r ∷ [] → deque_capacity queue'.completions ≡ deque_capacity queue.completions → AreQueues s lent' room' hosts' c'
+  pub queues_posted : (r : Reply) → r.host ≡ host → c'.sent ≡ c.sent → c'.half.posted ≡ c.half.posted ++ r ∷ [] → c'.collected ≡ c.collected → queue'.sent ≡ queue.sent → queue'.completions.items ≡ queue.completions.items ++ r ∷ [] → deque_capacity queue'.completions ≡ deque_capacity queue.completions → AreQueues s lent' room' hosts' lanes c'
   queues_posted r own es ep ec en ei er = changed
       (record {
         sent = en ∙ old.sent ∙ ap (λ xs. length (filter (is_from host) xs)) (sym es);
@@ -95,7 +100,7 @@ module _ (s : Setup) (lent lent' : Option Reply) (room room' : ℕ) (hosts hosts
       (λ j d. (ap (filter (is_from j)) es, ap (filter (is_to j)) ep ∙ to_other host j c.half.posted r own d, ap (filter (is_to j)) ec))
 
   -- a reply more was collected
-  pub queues_collected : (r : Reply) → r.host ≡ host → c'.sent ≡ c.sent → c'.half.posted ≡ c.half.posted → c'.collected ≡ c.collected ++ r ∷ [] → queue'.sent ≡ queue.sent → queue.completions.items ≡ r ∷ queue'.completions.items → deque_capacity queue'.completions ≡ deque_capacity queue.completions → AreQueues s lent' room' hosts' c'
+  pub queues_collected : (r : Reply) → r.host ≡ host → c'.sent ≡ c.sent → c'.half.posted ≡ c.half.posted → c'.collected ≡ c.collected ++ r ∷ [] → queue'.sent ≡ queue.sent → queue.completions.items ≡ r ∷ queue'.completions.items → deque_capacity queue'.completions ≡ deque_capacity queue.completions → AreQueues s lent' room' hosts' lanes c'
   queues_collected r own es ep ec en ei er = changed
       (record {
         sent = en ∙ old.sent ∙ ap (λ xs. length (filter (is_from host) xs)) (sym es);
@@ -181,17 +186,19 @@ empty_at room (q ∷ hosts) zero queue h e = let z : q ≡ queue = cc in subst (
 empty_at room (q ∷ hosts) (suc i) queue h e = empty_at room hosts i queue h.1 e
 
 -- the queues as they open
-pub queues_opened : (s : Setup) (faults : List Fault) (failures : Failures) (room : ℕ) (hosts : List HostQueue) → length hosts ≡ s.hosts → All (IsEmptyQueue s.post_cap) hosts → s.submit_cap ≤ room → AreQueues s None room hosts (first s faults failures)
-queues_opened s faults failures room hosts count empty room_is = record {
+pub queues_opened : (s : Setup) (faults : List Fault) (failures : Failures) (room : ℕ) (hosts : List HostQueue) (lanes : List AnyLun) → LanesAgree (opened s.geometry s.timing faults failures) lanes → length hosts ≡ s.hosts → All (IsEmptyQueue s.post_cap) hosts → s.submit_cap ≤ room → AreQueues s None room hosts lanes (first s faults failures)
+queues_opened s faults failures room hosts lanes agree count empty room_is = record {
   settled = refl;
   reached = opened_reaches s (first s faults failures) (faults, failures, refl);
+  lanes_are = λ going. agree;
   room_is = room_is;
   count = count;
   each = λ host queue at. (let e = empty_at s.post_cap hosts host queue empty at in record { sent = e.sent; uncollected = sym e.empty; room = e.room_is });
 }
 
-pub fields_opened : (s : Setup) (h : HalfView) (chip : Chip) (sent waiting : List Item) (collected : List Reply) (room : ℕ) (hosts : List HostQueue) → h ≡ record { setup = s; state = first_half s; lent = None } → sent ≡ [] → waiting ≡ [] → collected ≡ [] → IsFresh s chip
-    → length hosts ≡ s.hosts → All (IsEmptyQueue s.post_cap) hosts → s.submit_cap ≤ room → AreQueues h.setup h.lent room hosts (record { half = h.state; chip = chip; sent = sent; waiting = waiting; collected = collected })
-fields_opened s h chip sent waiting collected room hosts eh es ew ec fresh count empty room_is =
-    let P : Chip → Type 0 = λ x. AreQueues s None room hosts (record { half = first_half s; chip = x; sent = []; waiting = []; collected = [] }) in
-    rw (eh, es, ew, ec) (subst P (sym fresh) (queues_opened s chip.faults chip.failures room hosts count empty room_is))
+pub fields_opened : (s : Setup) (h : HalfView) (chip : Chip) (sent waiting : List Item) (collected : List Reply) (room : ℕ) (hosts : List HostQueue) (lanes : List AnyLun) → h ≡ record { setup = s; state = first_half s; lent = None } → sent ≡ [] → waiting ≡ [] → collected ≡ [] → IsFresh s chip
+    → ((other : Chip) → other.luns ≡ replicate s.geometry.lun_count Idle → LanesAgree other lanes)
+    → length hosts ≡ s.hosts → All (IsEmptyQueue s.post_cap) hosts → s.submit_cap ≤ room → AreQueues h.setup h.lent room hosts lanes (record { half = h.state; chip = chip; sent = sent; waiting = waiting; collected = collected })
+fields_opened s h chip sent waiting collected room hosts lanes eh es ew ec fresh agree count empty room_is =
+    let P : Chip → Type 0 = λ x. AreQueues s None room hosts lanes (record { half = first_half s; chip = x; sent = []; waiting = []; collected = [] }) in
+    rw (eh, es, ew, ec) (subst P (sym fresh) (queues_opened s chip.faults chip.failures room hosts lanes (agree (opened s.geometry s.timing chip.faults chip.failures) refl) count empty room_is))

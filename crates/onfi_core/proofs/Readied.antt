@@ -11,6 +11,8 @@ use Rattle.onfi_problem.specs.declared.lun_state.LunState.TheVariants.{Free, Run
 use Rattle.onfi_problem.specs.Moves.{free_from}
 use Rattle.onfi_problem.specs.Problem.{IsProblem, has_id}
 use Rattle.onfi_problem.proofs.Places.{get_set_other, get_set_same, length_set, same_place}
+use Rattle.onfi_flight.specs.Flight.{Flight, IsFlight, luns_ready_by, readied as flight_readied}
+use Rattle.onfi_flight.proofs.Stays.{ready_stays}
 use Rattle.onfi_chip.specs.Chip.{Chip, Lun, found_ready}
 use Rattle.onfi_chip.specs.Chip.Lun.{Posting}
 use Rattle.onfi_chip.specs.declared.post.Post.{Post}
@@ -18,12 +20,12 @@ use Rattle.slab.specs.Slab.{Slab}
 use Rattle.onfi_core.specs.declared.lent.Lent.{Lent}
 use Rattle.onfi_core.specs.declared.setup.Setup.{Setup}
 use Rattle.onfi_core.specs.declared.slot.Slot.{Slot}
-use Rattle.onfi_core.specs.Kept.{ChipAgrees, IsReached, IsSound, LunAgrees, commanding, post_for, unposted}
-use Rattle.onfi_core.specs.State.{ChannelState, HalfState, device_for}
-use Rattle.onfi_core.specs.Steps.{is_in_array, luns_ready_by, readied}
+use Rattle.onfi_core.specs.Kept.{ChipAgrees, IsReached, IsSound, IsTaken, LunAgrees, commanding, post_for, unposted}
+use Rattle.onfi_core.specs.State.{ChannelState, HalfState, device_for, flight_of, with_flight}
+use Rattle.onfi_core.specs.Steps.{is_in_array, readied}
 use Rattle.onfi_core.specs.View.{AreFields}
-use Rattle.onfi_core.proofs.Halves.{fields_but, same_replies, sound_but}
-use Rattle.onfi_core.proofs.Shifted.{ready_legal}
+use Rattle.onfi_core.proofs.Halves.{fields_but, same_replies, sound_but, sound_flight}
+use Rattle.onfi_core.proofs.Lists.{each_set}
 
 -- the LUN runs a group whose next phase is the first post
 pub record InArray (state : Option LunState) : Type 0 where
@@ -49,9 +51,6 @@ set_posts [] l x y at e = refl
 set_posts (z ∷ luns) zero x y at e = let same : z ≡ x = cc in let f : unposted y ≡ unposted z = e ∙ ap unposted (sym same) in ap (λ ws. ws ++ flat_map unposted luns) f
 set_posts (z ∷ luns) (suc l) x y at e = ap (λ ws. unposted z ++ ws) (set_posts luns l x y at e)
 
-same_running : (group g : List Want) (next n ready r : ℕ) → Some (Running group next ready) ≡ Some (Running g n r) → (group ≡ g) × (next ≡ n)
-same_running group g next n ready r h = (cc, cc)
-
 module _ (s : Setup) (h : HalfState) (half : IsSound s h) (lun : ℕ) (works : InArray (slice_get h.now.luns lun)) where
   abbrev luns : List LunState
   luns = slice_set h.now.luns lun (Running works.group works.next (min works.ready h.now.bus_free))
@@ -62,18 +61,6 @@ module _ (s : Setup) (h : HalfState) (half : IsSound s h) (lun : ℕ) (works : I
 
   other : (l : ℕ) → l ≢ lun → slice_get luns l ≡ slice_get h.now.luns l
   other l d = get_set_other h.now.luns lun l (Running works.group works.next (min works.ready h.now.bus_free)) d
-
-  -- each group that runs ran
-  ran : (l : ℕ) (group : List Want) (next ready : ℕ) → slice_get luns l ≡ Some (Running group next ready) → (old : ℕ) × (slice_get h.now.luns l ≡ Some (Running group next old))
-  ran l group next ready at =
-      elim (same_place l lun) [
-        | inl e ↦ (
-            let there : slice_get luns lun ≡ Some (Running group next ready) = subst (λ i. slice_get luns i ≡ Some (Running group next ready)) e at in
-            let q = same_running works.group group works.next next (min works.ready h.now.bus_free) ready (sym here ∙ there) in
-            let old : slice_get h.now.luns l ≡ Some (Running works.group works.next works.ready) = subst (λ i. slice_get h.now.luns i ≡ Some (Running works.group works.next works.ready)) (sym e) works.is in
-            (works.ready, old ∙ ap (λ g. Some (Running g works.next works.ready)) q.0 ∙ ap (λ n. Some (Running group n works.ready)) q.1))
-        | inr d ↦ (ready, sym (other l d) ∙ at)
-      ]
 
   commanding_same : (l : ℕ) → commanding (slice_get luns l) ≡ commanding (slice_get h.now.luns l)
   commanding_same l =
@@ -89,18 +76,22 @@ module _ (s : Setup) (h : HalfState) (half : IsSound s h) (lun : ℕ) (works : I
   pub found_is : readied lun h ≡ found
   found_is = let a = works.is in rw a refl
 
+  -- what runs then was taken
+  abbrev MembersTaken : ℕ → LunState → Type 0
+  MembersTaken l x = (group : List Want) (next ready : ℕ) → x ≡ Running group next ready → All (IsTaken s h.planned h.accepted) group
+
+  running : (l : ℕ) (x : LunState) → slice_get luns l ≡ Some x → MembersTaken l x
+  running = each_set MembersTaken h.now.luns lun (Running works.group works.next works.ready) (Running works.group works.next (min works.ready h.now.bus_free)) works.is
+      (λ group next ready e. let q : works.group ≡ group = cc in subst (All (IsTaken s h.planned h.accepted)) q (half.running lun works.group works.next works.ready works.is))
+      (λ l x d at group next ready e. half.running l group next ready (at ∙ ap Some e))
+
   sound_found : IsSound s found
   sound_found =
       let size = length_set h.now.luns lun (Running works.group works.next (min works.ready h.now.bus_free)) in
-      let problem : IsProblem found.now = record {
-        wants = half.problem.wants;
-        in_range = subst (λ n. All (λ (w : Want). w.lun < n) h.now.wants) (sym size) half.problem.in_range;
-        ids = half.problem.ids;
-        running = λ l group next ready at. let (old, was) = ran l group next ready at in half.problem.running l group next old was;
-      } in
-      let legal = (ready_legal h.now h.left lun works.group works.next works.ready (min works.ready h.now.bus_free) works.is (omega arith) half.legal).0 in
-      sound_but s h half found.now h.left found.outdated h.held h.posted h.stopped refl refl size problem half.few legal half.wants
-      (λ l group next ready at. let (old, was) = ran l group next ready at in half.running l group next old was) (λ i.
+      let P : Option LunState → Type 0 = λ o. IsFlight (record { now = record h.now { luns = luns_ready_by h.now.bus_free lun o h.now.luns }; left = h.left }) in
+      let stays = subst P works.is (ready_stays (flight_of h) lun h.now.bus_free (sound_flight s h half)) in
+      sound_but s h half found.now h.left found.outdated h.held h.posted h.stopped refl refl size stays.problem stays.few stays.legal half.wants
+      (λ l group next ready at. running l (Running group next ready) at group next ready refl) (λ i.
       let e = ap (number (has_id i)) (set_posts h.now.luns lun (Running works.group works.next works.ready) (Running works.group works.next (min works.ready h.now.bus_free)) works.is refl) in
       let o = half.once i in
       omega (arith, e, o))
@@ -159,7 +150,10 @@ pub ready_kept : (s : Setup) (c : ChannelState) (lun : ℕ) → IsReached s c �
 ready_kept s c lun r going works = same_replies s c (readied lun c.half) (found_ready c.chip lun c.half.now.bus_free) r refl refl refl refl
     (sound_readied s c.half r.half.sound lun works) (λ _. agrees_readied s c.half r.half.sound lun works c.chip (r.chip going))
 
-pub fields_readied : (s : Setup) (slots : Slab Slot) (n room : ℕ) (kept : List Reply) (at : Option Lent) (h : HalfState) (lent : Option Reply) (lun : ℕ) (luns : List LunState) (outdated : Bool)
-    → AreFields s slots n room kept at h lent → InArray (slice_get h.now.luns lun) → luns ≡ luns_ready_by h.now.bus_free lun (slice_get h.now.luns lun) h.now.luns → outdated ≡ (if h.outdated then true else nat_lt h.now.bus_free (free_from (slice_get h.now.luns lun)))
-    → AreFields s slots n room kept at (record h { now = record h.now { luns = luns }; outdated = outdated }) lent
-fields_readied s slots n room kept at h lent lun luns outdated f works el eo = rw (el, eo) (fields_but s slots n room room kept kept at at h (readied lun h) lent lent f refl refl refl f.lending (sound_readied s h f.sound lun works))
+-- the fields of a half whose LUN is ready
+pub fields_readied : (s : Setup) (slots : Slab Slot) (n room : ℕ) (kept : List Reply) (at : Option Lent) (h : HalfState) (lent : Option Reply) (lun : ℕ) (flight' : Flight) (outdated : Bool)
+    → AreFields s slots n room kept at h lent → InArray (slice_get h.now.luns lun) → flight' ≡ flight_readied lun h.now.bus_free (flight_of h)
+    → outdated ≡ (if h.outdated then true else nat_lt h.now.bus_free (free_from (slice_get h.now.luns lun)))
+    → AreFields s slots n room kept at (record (with_flight h flight') { outdated = outdated }) lent
+fields_readied s slots n room kept at h lent lun flight' outdated f works ef eo =
+    rw (ef, eo) (fields_but s slots n room room kept kept at at h (readied lun h) lent lent f refl refl refl f.lending (sound_readied s h f.sound lun works))

@@ -7,27 +7,27 @@ use Rattle.onfi_chip.specs.Calls.{IsLost}
 use Rattle.onfi_chip.specs.declared.fault.PostFault.{PostFault}
 use Rattle.onfi_chip.specs.declared.fault.PostFault.TheVariants as post_fault
 use Rattle.onfi_chip.specs.Chip.{Chip}
-use Rattle.onfi_core.specs.declared.drive.DriveFault.{DriveFault}
-use Rattle.onfi_core.specs.declared.drive.DriveFault.TheVariants as drive
-use Rattle.onfi_core.specs.declared.due.Due.{Due}
+use Rattle.onfi_lun.specs.declared.drive.DriveFault.{DriveFault}
+use Rattle.onfi_lun.specs.declared.drive.DriveFault.TheVariants as drive
+use Rattle.onfi_flight.specs.declared.due.Due.{Due}
 use Rattle.onfi_core.specs.declared.event.Event.TheVariants as event
 use Rattle.onfi_core.specs.declared.half.PlanRefusal.{PlanRefusal}
 use Rattle.onfi_core.specs.declared.half.PlanRefusal.TheVariants as refused
 use Rattle.onfi_core.specs.declared.outcome.Cause.{Cause}
 use Rattle.onfi_core.specs.declared.outcome.Cause.TheVariants as cause
 use Rattle.onfi_core.specs.declared.outcome.Outcome.TheVariants as outcome
-use Rattle.onfi_core.specs.declared.phase_result.PhaseResult.{PhaseResult}
+use Rattle.onfi_lun.specs.declared.phase_result.PhaseResult.{PhaseResult}
 use Rattle.onfi_core.specs.declared.setup.Setup.{Setup}
-use Rattle.onfi_core.specs.Drive.{MayRun, HasRun, AfterDrive, IsStatus, cause_of}
-use Rattle.onfi_core.specs.Dues.{IsDue, after_due, member_of, replies_of}
-use Rattle.onfi_core.specs.Kept.{IsReached}
+use Rattle.onfi_lun.specs.Drive.{HasRun, AfterDrive, IsStatus}
+use Rattle.onfi_flight.specs.Flight.{left_behind, member_of, move_of}
+use Rattle.onfi_core.specs.Dues.{IsDue, after_due, replies_of}
+use Rattle.onfi_core.specs.Kept.{ChipAgrees, IsSound}
 use Rattle.onfi_core.specs.Reaching.{PlannedStep}
 use Rattle.onfi_core.specs.State.{HalfState, ChannelState, Planning, item_at}
-use Rattle.onfi_core.specs.Steps.{Step, Plans, Runs, RunsOnChip, IsCauseOf, IsToldAs, Taken, bus_refusal, plan_refusal, planned_by, half_after_phase, stopped_by}
-use Rattle.onfi_core.specs.Refusals.{planned_outcome, refusal_outcome}
-use Rattle.onfi_core.specs.View.{HalfView, PlanRefused}
-use Rattle.onfi_core.proofs.Done.{after_due_is}
-use Rattle.onfi_core.proofs.Driving.{asks_status, may_run, ran_on_chip}
+use Rattle.onfi_core.specs.Steps.{Step, Plans, Runs, RunsOnChip, IsCauseOf, IsToldAs, Taken, bus_refusal, plan_refusal, planned_by, stopped_by}
+use Rattle.onfi_core.specs.Refusals.{cause_of, planned_outcome, refusal_outcome}
+use Rattle.onfi_core.specs.View.{HalfView, PlannedAs, PlanRefused, RefusedAs}
+use Rattle.onfi_core.proofs.Driving.{asks_status, ran_on_chip}
 use Rattle.onfi_core.proofs.Promised.{refused_is}
 use Rattle.onfi_core.proofs.Reach.{none_first, not_stopped}
 use Rattle.onfi_core.proofs.Refused.{step_refused, step_does}
@@ -89,33 +89,30 @@ run_faults accepted group phase start chip chip' replies (inr (member, answer, c
 pub going_on : (h : HalfState) → bus_refusal h ≡ None → h.stopped ≡ None
 going_on h open' = not_stopped h.stopped (none_first _ _ open')
 
-module _ (s : Setup) (c : ChannelState) (reached : IsReached s c) (due : Due) (is : IsDue c.half due) (open' : bus_refusal c.half ≡ None) (item : Item) (member : (m : Want) × (member_of due.group due.phase ≡ Some m) × (item ≡ item_at c.half.accepted m.id)) where
-  pub may_drive : MayRun c.chip s.geometry due item
-  may_drive = may_run s c.half c.chip reached.half.sound (reached.chip (going_on c.half open')) due is member.0 member.1 item member.2
-
+module _ (s : Setup) (c : ChannelState) (sound : IsSound s c.half) (agrees : ChipAgrees s c.half c.chip) (due : Due) (is : IsDue c.half due) (open' : bus_refusal c.half ≡ None) (item : Item) (member : (m : Want) × (member_of due.group due.phase ≡ Some m) × (item ≡ item_at c.half.accepted m.id)) where
   -- why the channel stops
   pub cause_is : (fault : DriveFault) (stop : Cause) → cause_of fault due.lun ≡ Some stop → (fault ≡ drive.NotReady → IsStatus due item) → IsCauseOf c.half stop
   cause_is drive.Bus stop e status = let q : cause.Bus ≡ stop = cc in subst (IsCauseOf c.half) q tt
   cause_is drive.NotReady stop e status =
       let q : cause.NotReady due.lun ≡ stop = cc in
-      let asks = asks_status s c.half c.chip reached.half.sound (reached.chip (going_on c.half open')) due is member.0 member.1 item member.2 (status refl) in
-      subst (IsCauseOf c.half) q (is.move, due.start, is.left, is.next, sym is.lun_is, asks)
+      let asks = asks_status s c.half c.chip sound agrees due is member.0 member.1 item member.2 (status refl) in
+      subst (IsCauseOf c.half) q (move_of due, due.start, left_behind c.half.left due, is.next sound.legal, is.lun, asks)
   cause_is drive.Memory stop e status = cc
 
   pub ran_step : (channel : ℕ) (chip' : Chip) (given : PhaseResult) (h : HalfState) → HasRun c.chip s.geometry due item given chip' → h ≡ after_due c.half due (replies_of c.half.accepted chip'.faults due given) → Step s c (event.Bus channel) (outcome.Phase due.start) (record c { half = h; chip = chip' })
   ran_step channel chip' given h has_run is_after =
-      let on = ran_on_chip s c.half c.chip reached.half.sound (reached.chip (going_on c.half open')) due is member.0 member.1 item member.2 chip' given has_run in
+      let on = ran_on_chip s c.half c.chip sound agrees due is member.0 member.1 item member.2 chip' given has_run in
       let faults = run_faults c.half.accepted due.group due.phase due.start c.chip chip' _ on in
-      let e : h ≡ half_after_phase c.half is.move due.start is.left (replies_of c.half.accepted c.chip.faults due given) =
-      is_after ∙ ap (λ fs. after_due c.half due (replies_of c.half.accepted fs due given)) faults ∙ after_due_is c.half due is (replies_of c.half.accepted c.chip.faults due given) in
+      let e : h ≡ after_due c.half due (replies_of c.half.accepted c.chip.faults due given) =
+      is_after ∙ ap (λ fs. after_due c.half due (replies_of c.half.accepted fs due given)) faults in
       let c' : ChannelState = record c { half = h; chip = chip' } in
       let runs : Runs c c' due.start = record {
-        move = is.move;
-        left = is.left;
-        next = is.next;
+        move = move_of due;
+        left = left_behind c.half.left due;
+        next = is.next sound.legal;
         group = due.group;
         phase = due.phase;
-        is = is.is;
+        is = is.phase;
         chip = chip';
         replies = replies_of c.half.accepted c.chip.faults due given;
         on_chip = on;
@@ -138,6 +135,31 @@ pub lost_by : (fault : DriveFault) (lun : ℕ) (stop : Cause) (chip chip' : Chip
 lost_by drive.Bus lun stop chip chip' e lost = let told : stop ≡ cause.Bus = cc in (post_fault.Bus, told, lost)
 lost_by drive.NotReady lun stop chip chip' e lost = let told : stop ≡ cause.NotReady lun = cc in (post_fault.NotReady, (lun, told), lost)
 lost_by drive.Memory lun stop chip chip' e same = cc
+
+-- want of memory leaves the chip
+pub kept_chip : (fault : DriveFault) (lun : ℕ) (chip chip' : Chip) → cause_of fault lun ≡ None → AfterDrive fault chip chip' → chip' ≡ chip
+kept_chip drive.Bus lun chip chip' e lost = cc
+kept_chip drive.NotReady lun chip chip' e lost = cc
+kept_chip drive.Memory lun chip chip' e same = same
+
+-- .. and its LUNs
+pub kept_lanes : {A : Type 0} (fault : DriveFault) (lun : ℕ) (lanes lanes' : A) → cause_of fault lun ≡ None → (fault ≡ drive.Memory → lanes' ≡ lanes) → lanes' ≡ lanes
+kept_lanes drive.Bus lun lanes lanes' e same = cc
+kept_lanes drive.NotReady lun lanes lanes' e same = cc
+kept_lanes drive.Memory lun lanes lanes' e same = same refl
+
+-- a phase lacks memory
+pub short_step : (s : Setup) (c : ChannelState) (channel : ℕ) (chip' : Chip) → bus_refusal c.half ≡ None → chip' ≡ c.chip → Step s c (event.Bus channel) (outcome.Memory None) (record c { chip = chip' })
+short_step s c channel chip' open' same =
+    step_does s c (event.Bus channel) (outcome.Memory None) (record c { chip = chip' }) open' (inr (inr (refl, ap (λ (x : Chip). let z : ChannelState = record c { chip = x } in z) same)))
+
+-- a planning stops a half, or leaves it as it was
+pub going_before : (old h : HalfView) (result : Result ℕ PlanRefusal) → PlannedAs old h result → RefusedAs old h result → h.state.stopped ≡ None → old.state.stopped ≡ None
+going_before old h (Ok finish) (open', taken, plan, e, plans, is) none going = sym (ap (λ (v : HalfView). v.state.stopped) is) ∙ going
+going_before old h (Err (refused.Stopped cause)) none ((e, is), same) going = let q : Some cause ≡ None = sym (ap (λ (x : HalfState). x.stopped) is) ∙ going in cc
+going_before old h (Err refused.NothingToPlan) none ((e, is), same) going = sym (ap (λ (x : HalfState). x.stopped) is) ∙ going
+going_before old h (Err (refused.Over opened)) none ((e, count, more, is), same) going = sym (ap (λ (x : HalfState). x.stopped) is) ∙ going
+going_before old h (Err refused.Memory) none ((e, is), same) going = sym (ap (λ (x : HalfState). x.stopped) is) ∙ going
 
 -- why nothing was planned
 pub refused_alone : (s : Setup) (c : HalfState) (result : Result ℕ PlanRefusal) (h old : HalfView) → IfErr result (λ refusal. PlanRefused s c refusal h.state × (h ≡ record old { state = h.state })) → IfErr result (λ refusal. PlanRefused s c refusal h.state)

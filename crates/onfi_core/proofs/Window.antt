@@ -14,11 +14,11 @@ use Rattle.slab.specs.Slab.{Slab, get, slab_len, Updates}
 use Rattle.onfi_core.specs.declared.setup.Setup.{Setup}
 use Rattle.onfi_core.specs.declared.slot.Slot.{Slot}
 use Rattle.onfi_core.specs.declared.lent.Lent.{Lent}
-use Rattle.onfi_core.specs.State.{Planning, HalfState, is_from, wants_from}
+use Rattle.onfi_core.specs.State.{Planning, HalfState, is_from, wants_from, with_flight}
 use Rattle.onfi_core.proofs.Plan.{sound_planned}
 use Rattle.onfi_problem.specs.Problem.{Problem}
 use Rattle.onfi_request.specs.declared.want.Want.{Want}
-use Rattle.onfi_schedule.specs.Schedule.{Schedule}
+use Rattle.onfi_flight.specs.Flight.{Flight}
 use Rattle.onfi_core.specs.Steps.{planned_by, problem_with, Plans, Taken, accept_refusal, if_stopped, unanswered}
 use Rattle.onfi_core.specs.Kept.{IsSound, is_of_place, first_half}
 use Rattle.onfi_core.proofs.Opening.{opened_sound}
@@ -185,10 +185,10 @@ fields_opened s slots room kept lent h empty reserved has none unlent is =
     })
 
 -- a plan takes the old one's place
-pub fields_planned : (s : Setup) (slots : Slab Slot) (n room : ℕ) (kept : List Reply) (at : Option Lent) (h : HalfState) (lent : Option Reply) (plan : Planning) (taken : Taken) (wants aside : List Want) (planned : ℕ) (left : Schedule)
-    → AreFields s slots n room kept at h lent → Plans s h taken plan → wants ≡ taken.wants → aside ≡ taken.aside → planned ≡ taken.planned → left ≡ plan.schedule
-    → AreFields s slots n room kept at (record h { planned = planned; aside = aside; now = record h.now { wants = wants }; left = left; outdated = false; last = Some plan }) lent
-fields_planned s slots n room kept at h lent plan taken wants aside planned left f plans ew ea ep el =
+pub fields_planned : (s : Setup) (slots : Slab Slot) (n room : ℕ) (kept : List Reply) (at : Option Lent) (h : HalfState) (lent : Option Reply) (plan : Planning) (taken : Taken) (flight' : Flight) (aside : List Want) (planned : ℕ)
+    → AreFields s slots n room kept at h lent → Plans s h taken plan → flight' ≡ record { now = problem_with h taken.wants; left = plan.schedule } → aside ≡ taken.aside → planned ≡ taken.planned
+    → AreFields s slots n room kept at (record (with_flight h flight') { planned = planned; aside = aside; outdated = false; last = Some plan }) lent
+fields_planned s slots n room kept at h lent plan taken flight' aside planned f plans ef ea ep =
     let built : (let z : HalfState = record h { planned = taken.planned; aside = taken.aside; now = problem_with h taken.wants; left = plan.schedule; outdated = false; last = Some plan } in z) ≡ planned_by h taken plan = ap (λ (p : Problem). let z : HalfState = record h { planned = taken.planned; aside = taken.aside; now = p; left = plan.schedule; outdated = false; last = Some plan } in z) (sym plans.problem) in
     let base = fields_but s slots n room room kept kept at at h (planned_by h taken plan) lent lent f refl refl refl f.lending (sound_planned s h f.sound taken plan plans) in
-    rw (ew, ea, ep, el) (subst (λ z. AreFields s slots n room kept at z lent) (sym built) base)
+    rw (ef, ea, ep) (subst (λ z. AreFields s slots n room kept at z lent) (sym built) base)

@@ -1,14 +1,13 @@
 pub mod Ranges
 pub mod State
 pub mod Choice
-pub mod Times
 pub mod Steps
+pub mod Renewing
 pub mod Kept
 pub mod Core
 pub mod View
 pub mod Refusals
 pub mod Dues
-pub mod Drive
 pub mod Unanswered
 pub mod Reaching
 pub mod Queues

@@ -5,6 +5,8 @@ use Rattle.std.specs.VecDeque.{deque_capacity}
 use Rattle.onfi_request.specs.declared.request.Item.{Item}
 use Rattle.onfi_request.specs.declared.reply.Reply.{Reply}
 use Rattle.onfi_chip.specs.Chip.{Chip, IsAsOpened}
+use Rattle.onfi_lun.specs.declared.lanes.any_lun.AnyLun.{AnyLun}
+use Rattle.onfi_lun.specs.Lanes.{LanesAgree}
 use Rattle.onfi_core.specs.declared.host_queue.HostQueue.{HostQueue}
 use Rattle.onfi_core.specs.declared.setup.Setup.{Setup}
 use Rattle.onfi_core.specs.Kept.{first}
@@ -56,10 +58,11 @@ pub record IsHostQueue (s : Setup) (c : ChannelState) (host : ℕ) (queue : Host
   pub uncollected : posted_to host c ≡ collected_by host c ++ queue.completions.items
   pub room : s.post_cap ≤ deque_capacity queue.completions
 
--- the queues are those of the channel, which is one that events reach
-pub record AreQueues (s : Setup) (lent : Option Reply) (room : ℕ) (hosts : List HostQueue) (c : ChannelState) : Type 0 where
+-- the queues are those of the channel, which is one that events reach; until it stops the LUNs in their phases are the chip's
+pub record AreQueues (s : Setup) (lent : Option Reply) (room : ℕ) (hosts : List HostQueue) (lanes : List AnyLun) (c : ChannelState) : Type 0 where
   pub settled : lent ≡ None
   pub reached : Reaches s c
+  pub lanes_are : c.half.stopped ≡ None → LanesAgree c.chip lanes
   pub room_is : s.submit_cap ≤ room
   pub count : length hosts ≡ s.hosts
   pub each : (host : ℕ) (queue : HostQueue) → slice_get hosts host ≡ Some queue → IsHostQueue s c host queue

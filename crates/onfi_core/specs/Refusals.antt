@@ -1,7 +1,13 @@
 -- The refusals of a half's calls, as outcomes.
-use Rattle.std.specs.Prelude.{ℕ, None, Result, Ok, Err}
+use Rattle.std.specs.Prelude.{ℕ, Option, None, Some, Result, Ok, Err}
+use Rattle.onfi_lun.specs.declared.drive.DriveFault.{DriveFault}
+use Rattle.onfi_lun.specs.declared.drive.DriveFault.TheVariants as drive
+use Rattle.onfi_core.specs.declared.drive.PhaseStop.{PhaseStop}
+use Rattle.onfi_core.specs.declared.drive.PhaseStop.TheVariants as phase
 use Rattle.onfi_core.specs.declared.half.PlanRefusal.{PlanRefusal}
 use Rattle.onfi_core.specs.declared.half.PlanRefusal.TheVariants as refused
+use Rattle.onfi_core.specs.declared.outcome.Cause.{Cause}
+use Rattle.onfi_core.specs.declared.outcome.Cause.TheVariants as cause
 use Rattle.onfi_core.specs.declared.outcome.Outcome.{Outcome}
 use Rattle.onfi_core.specs.declared.outcome.Outcome.TheVariants as outcome
 use Rattle.onfi_core.specs.declared.half.passing.WaitRefusal.{WaitRefusal}
@@ -39,3 +45,15 @@ ready_outcome readying.NotInArray = outcome.NotInArray
 abbrev pub planned_outcome : Result ℕ PlanRefusal → Outcome
 planned_outcome (Ok finish) = outcome.Planned finish
 planned_outcome (Err refusal) = refusal_outcome refusal
+
+-- why the channel stops where the phase on that LUN wasn't run; want of memory stops nothing
+abbrev pub cause_of : DriveFault → ℕ → Option Cause
+cause_of drive.Bus lun = Some cause.Bus
+cause_of drive.NotReady lun = Some (cause.NotReady lun)
+cause_of drive.Memory lun = None
+
+-- what a due phase came to
+abbrev pub phase_outcome : Result ℕ PhaseStop → Outcome
+phase_outcome (Ok start) = outcome.Phase start
+phase_outcome (Err (phase.Stopped why)) = outcome.Stopped why
+phase_outcome (Err phase.Memory) = outcome.Memory None

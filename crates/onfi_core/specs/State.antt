@@ -10,6 +10,7 @@ use Rattle.onfi_request.specs.declared.request.Item.{Item}
 use Rattle.onfi_request.specs.declared.reply.Reply.{Reply}
 use Rattle.onfi_problem.specs.Problem.{Problem}
 use Rattle.onfi_schedule.specs.Schedule.{Schedule}
+use Rattle.onfi_flight.specs.Flight.{Flight}
 use Rattle.onfi_plan.specs.Certificate.{Certificate}
 use Rattle.onfi_die.specs.Shapes.{Device, device_of}
 use Rattle.onfi_chip.specs.Chip.{Chip}
@@ -44,6 +45,13 @@ pub record HalfState : Type 0 where
   pub posted : List Reply
   pub stopped : Option Cause
 
+-- what is left of its plan, and the half with another
+abbrev pub flight_of : HalfState → Flight
+flight_of h = record { now = h.now; left = h.left }
+
+abbrev pub with_flight : HalfState → Flight → HalfState
+with_flight h f = record h { now = f.now; left = f.left }
+
 pub record ChannelState : Type 0 where
   pub half : HalfState
   pub chip : Chip
@@ -55,6 +63,10 @@ pub record ChannelState : Type 0 where
 -- the channel of a half with nothing on its way: all that was sent is accepted, and all that was posted is collected
 abbrev pub quiet : HalfState → Chip → ChannelState
 quiet h chip = record { half = h; chip = chip; sent = h.accepted; waiting = []; collected = h.posted }
+
+-- the channel with another half and chip
+abbrev pub channel_with : ChannelState → HalfState → Chip → ChannelState
+channel_with c h chip = record c { half = h; chip = chip }
 
 -- what a host sent, was posted and has collected
 abbrev pub sent_by : ℕ → ChannelState → List Item

@@ -1,5 +1,5 @@
 -- What an event does to a channel.
-use Rattle.std.specs.Prelude.{◌≡◌, ◌≢◌, ℕ, ◌+◌, ◌-◌, ◌^◌, ◌<◌, ◌≤◌, ◌⊎◌, ◌==◌, max, min, not, nat_le, nat_lt, if◌then◌else◌, Bool, true, false, IsTrue, List, [], ◌∷◌, ◌++◌, length, take, drop, Option, Some, None, slice_get, slice_set}
+use Rattle.std.specs.Prelude.{◌≡◌, ◌≢◌, ℕ, ◌+◌, ◌-◌, ◌^◌, ◌<◌, ◌≤◌, ◌⊎◌, ◌==◌, max, not, nat_le, nat_lt, if◌then◌else◌, Bool, true, false, IsTrue, List, [], ◌∷◌, ◌++◌, length, take, drop, Option, Some, None, slice_get}
 use Rattle.std.specs.List.{filter}
 use Rattle.onfi_timing.specs.declared.kind.Kind.TheVariants.{Read}
 use Rattle.onfi_request.specs.declared.want.Want.{Want}
@@ -13,14 +13,16 @@ use Rattle.onfi_group.specs.Group.{lun_of}
 use Rattle.onfi_problem.specs.declared.lun_state.LunState.{LunState}
 use Rattle.onfi_problem.specs.declared.lun_state.LunState.TheVariants.{Free, Running}
 use Rattle.onfi_problem.specs.Problem.{Problem}
-use Rattle.onfi_problem.specs.Moves.{Move, Next, Start, free_from, placed, move_lun}
+use Rattle.onfi_problem.specs.Moves.{Move, free_from, placed, move_lun}
 use Rattle.onfi_problem.specs.Left.{horizon}
 use Rattle.onfi_schedule.specs.Schedule.{Schedule, Legal, phases, finish, Optimal}
 use Rattle.onfi_schedule.specs.Laws.{ComesNext}
+use Rattle.onfi_flight.specs.Flight as flight
+use Rattle.onfi_flight.specs.Flight.{IsPhase}
 use Rattle.onfi_cert.specs.declared.token.Token.{Token}
 use Rattle.onfi_check.specs.Tree.{AcceptsTokens}
 use Rattle.onfi_check.specs.Nodes.{HasMoreNodes}
-use Rattle.onfi_known.specs.Laws.{NoneBefore}
+use Rattle.onfi_known_check.specs.Laws.{NoneBefore}
 use Rattle.onfi_plan.specs.Certificate.{Certificate, Plain, IsPlain, ShowsBelow}
 use Rattle.onfi_chip.specs.declared.fault.PostFault.{PostFault}
 use Rattle.onfi_chip.specs.declared.fault.PostFault.TheVariants as post_fault
@@ -38,8 +40,7 @@ use Rattle.onfi_core.specs.declared.outcome.Cause.{Cause}
 use Rattle.onfi_core.specs.declared.outcome.Cause.TheVariants.{Bus as BusFailed, NotReady, Clock}
 use Rattle.onfi_core.specs.declared.outcome.Outcome.{Outcome}
 use Rattle.onfi_core.specs.declared.outcome.Outcome.TheVariants.{Submitted, Accepted, Planned, Phase, Waited, ReadyFrom, Posted, Collected, SubmitFull, NothingToAccept, NoPlan, PostFull, NothingToCollect, Stopped, Over, Memory, Refused, SerialsSpent, WindowFull, NothingToPlan, NothingToPost, TooLate, NotInArray, StillBusy, NoSuch}
-use Rattle.onfi_core.specs.State.{Planning, HalfState, ChannelState, sent_by, posted_to, collected_by, is_to, wants_from, item_at, request_of}
-use Rattle.onfi_core.specs.Times.{all_starts, free_at, lag, later, latest_start}
+use Rattle.onfi_core.specs.State.{Planning, HalfState, ChannelState, flight_of, with_flight, sent_by, posted_to, collected_by, is_to, wants_from, item_at, request_of}
 pub use Rattle.onfi_request.specs.Range.{fault_of}
 
 -- What a planning takes
@@ -149,11 +150,6 @@ abbrev pub RunsLate : Setup → HalfState → Type 0
 RunsLate s h = (taken : Taken) × Takes s h taken × (2 ^ 62 ≤ horizon (problem_with h taken.wants))
 
 -- What a phase does
-
--- the group that the move goes on with, and the number of its phase
-abbrev pub IsPhase : Problem → Move → List Want → ℕ → Type 0
-IsPhase p (Next lun) group phase = (ready : ℕ) × (slice_get p.luns lun ≡ Some (Running group phase ready))
-IsPhase p (Start members) group phase = (members ≡ group) × (phase ≡ 0)
 
 -- a command behind which more come
 pub record Commands (accepted : List Item) (group : List Want) (phase start : ℕ) (chip chip' : Chip) : Type 0 where
@@ -280,18 +276,10 @@ bus_refusal h =
     or_else (if_stopped h.stopped)
     (refused_where (none_left h) NoPlan)
 
--- by how much the plan must be later so that it doesn't start before the moment
-abbrev pub wait_lag : ℕ → HalfState → ℕ
-wait_lag moment h = lag moment (all_starts h.left)
-
--- the latest that a wait brings about: the moment, or the last start of the plan
-abbrev pub latest_waited : ℕ → HalfState → ℕ
-latest_waited moment h = max moment (latest_start (all_starts h.left) + wait_lag moment h)
-
 abbrev pub wait_refusal : ℕ → HalfState → Option Outcome
 wait_refusal moment h =
     or_else (if_stopped h.stopped)
-    (refused_where (nat_le (2 ^ 62) (latest_waited moment h)) TooLate)
+    (refused_where (nat_le (2 ^ 62) (flight.latest_waited moment (flight_of h))) TooLate)
 
 -- the array of the LUN works: its group's next phase is the first post
 abbrev pub is_in_array : Option LunState → Bool
@@ -350,28 +338,15 @@ Accepts c c' = (x : Item) × (behind : List Item) × (c.waiting ≡ x ∷ behind
 
 -- the bus was idle until the moment, and what is left of the plan starts no sooner; a later bus makes the plan outdated
 abbrev pub waited : ℕ → HalfState → HalfState
-waited moment h = record h {
-  now = free_at h.now (max h.now.bus_free moment);
-  left = later (wait_lag moment h) h.left;
-  outdated = if h.outdated then true else nat_lt h.now.bus_free moment;
-}
+waited moment h = record (with_flight h (flight.waited moment (flight_of h))) { outdated = if h.outdated then true else nat_lt h.now.bus_free moment }
 
 -- from when on a LUN may go on that is ready now
 abbrev pub ready_of : ℕ → HalfState → ℕ
-ready_of lun h = min (free_from (slice_get h.now.luns lun)) h.now.bus_free
-
-abbrev pub ready_by : ℕ → LunState → LunState
-ready_by moment (Free since) = Free since
-ready_by moment (Running group next ready) = Running group next (min ready moment)
-
-abbrev pub luns_ready_by : ℕ → ℕ → Option LunState → List LunState → List LunState
-luns_ready_by moment lun None luns = luns
-luns_ready_by moment lun (Some x) luns = slice_set luns lun (ready_by moment x)
+ready_of lun h = flight.ready_of lun h.now.bus_free (flight_of h)
 
 -- the LUN is ready as the bus is free; one that is ready sooner makes the plan outdated
 abbrev pub readied : ℕ → HalfState → HalfState
-readied lun h = record h {
-  now = record h.now { luns = luns_ready_by h.now.bus_free lun (slice_get h.now.luns lun) h.now.luns };
+readied lun h = record (with_flight h (flight.readied lun h.now.bus_free (flight_of h))) {
   outdated = if h.outdated then true else nat_lt h.now.bus_free (free_from (slice_get h.now.luns lun));
 }
 

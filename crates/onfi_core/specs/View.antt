@@ -11,8 +11,8 @@ use Rattle.onfi_check.specs.Nodes.{HasMoreNodes}
 use Rattle.onfi_planner.specs.declared.planned.Planned.{Planned}
 use Rattle.onfi_plan.specs.Certificate.{Plain, certificate_in}
 use Rattle.onfi_plan.specs.declared.plan.Plan.{Plan}
-use Rattle.onfi_plan.specs.declared.fault.PlannerFault.{PlannerFault}
-use Rattle.onfi_plan.specs.declared.fault.PlannerFault.TheVariants as planner
+use Rattle.onfi_planner.specs.declared.fault.PlanFault.{PlanFault}
+use Rattle.onfi_planner.specs.declared.fault.PlanFault.TheVariants as planner
 use Rattle.slab.specs.Slab.{Slab, get, slab_len}
 use Rattle.onfi_core.specs.declared.setup.Setup.{Setup}
 use Rattle.onfi_core.specs.declared.setup.Choice.{Choice}
@@ -36,6 +36,14 @@ pub record HalfView : Type 0 where
   pub setup : Setup
   pub state : HalfState
   pub lent : Option Reply
+
+-- a phase accepts, posts and plans nothing, and lends no reply
+pub record IsKeptByPhase (old new : HalfView) : Type 0 where
+  pub setup : new.setup ≡ old.setup
+  pub lent : new.lent ≡ old.lent
+  pub accepted : new.state.accepted ≡ old.state.accepted
+  pub posted : new.state.posted ≡ old.state.posted
+  pub last : new.state.last ≡ old.state.last
 
 -- a problem and its plan, as the planning that they are of
 abbrev pub planning_with : Problem → Plan → Planning
@@ -123,7 +131,7 @@ StopsBecause p limit (Over opened) = (horizon p < 2 ^ 62) × (opened ≡ limit) 
 StopsBecause p limit Memory = horizon p < 2 ^ 62
 
 -- why the planner gave no plan, as why there is none
-abbrev pub stop_of : PlannerFault → PlanStop
+abbrev pub stop_of : PlanFault → PlanStop
 stop_of (planner.Over opened) = Over opened
 stop_of planner.Memory = Memory
 

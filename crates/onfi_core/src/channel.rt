@@ -4,7 +4,6 @@ ghost use Rattle.std.specs.Prelude.{◌≡◌, ℕ, ◌≤◌, ◌<◌, None, So
 ghost use Rattle.std.specs.VecDeque.{deque_capacity};
 ghost use Rattle.onfi_schedule.specs.Schedule.{Optimal, finish};
 ghost use Rattle.onfi_check.specs.Tree.{AcceptsTokens};
-ghost use Rattle.onfi_core.specs.Drive.{cause_of};
 ghost use Rattle.onfi_core.specs.Dues.{IsDue};
 ghost use Rattle.onfi_core.specs.declared.event.Event.TheVariants as event;
 ghost use Rattle.onfi_core.specs.Steps.{IsPlainPlan, IsPromised, Step, bus_refusal, fault_of};
@@ -13,17 +12,18 @@ ghost use Rattle.onfi_core.specs.Refusals.{planned_outcome, ready_outcome, waite
 ghost use Rattle.onfi_core.specs.Queues.{IsFresh, opened_with, state_in};
 ghost use Rattle.onfi_core.specs.View.{plainly_with, planning_with};
 
-use crate::drive::{DriveFault, run_phase};
-use crate::due::Due;
+use crate::drive::{phase_outcome, run_due};
 use crate::event::Event;
 use crate::half::passing::{ReadyRefusal, WaitRefusal};
 use crate::half::{AcceptFault, DueRefusal, Half, PlanRefusal};
 use crate::history::History;
 use crate::host_queue::{HostQueue, host_queues};
-use crate::outcome::{Cause, Outcome};
+use crate::outcome::Outcome;
 use crate::setup::Setup;
 use onfi_addr::Geometry;
 use onfi_chip::Chip;
+use onfi_flight::Due;
+use onfi_lun::Lanes;
 use onfi_plan::{Plan, Planner};
 use onfi_planner::Planned;
 use onfi_problem::Problem;
@@ -37,6 +37,7 @@ use std::marker::Model;
 pub struct Channel<C: Chip> {
     half: Half,
     chip: C,
+    lanes: Lanes,
     /// The submission queue: what was submitted and is not accepted, the oldest first.
     waiting: VecDeque<Item>,
     /// By host.
@@ -61,7 +62,7 @@ impl<C: Chip> Model for Channel<C> {
       c.chip,
     ) };
 
-    ghost invariant = { λ c. AreQueues c.half.setup c.half.lent (deque_capacity c.waiting) c.hosts.items
+    ghost invariant = { λ c. AreQueues c.half.setup c.half.lent (deque_capacity c.waiting) c.hosts.items c.lanes
         (record { half = c.half.state; chip = C.state c.chip; sent = c.traffic.accepted; waiting = c.waiting.items; collected = c.traffic.posted }) };
 }
 
@@ -77,11 +78,13 @@ impl<C: Chip> Channel<C> {
         ensures { IfOk result (λ c. (c.0.setup ≡ setup) × (state_in C.state c ≡ opened_with setup (C.state chip))) }
     {
         let half = Half::open(alloc, setup)?;
+        let lanes = Lanes::open(alloc, setup.geometry.lun_count)?;
         let waiting = VecDeque::with_capacity(alloc, usize::from(setup.submit_cap))?;
         let hosts = host_queues(alloc, setup.hosts, setup.post_cap)?;
         Ok(Channel {
             half,
             chip,
+            lanes,
             waiting,
             hosts,
             traffic: History::new(),
@@ -162,7 +165,7 @@ impl<C: Chip> Channel<C> {
             return ready_outcome(refusal);
         }
         let now = self.half.bus_free();
-        if self.chip.poll(now, lun) {
+        if self.lanes.ask(&mut self.chip, now, lun) {
             let ready = self.half.ready(lun);
             Outcome::ReadyFrom { ready }
         } else {
@@ -175,7 +178,7 @@ impl<C: Chip> Channel<C> {
         ensures step { (channel : ℕ) → Step self.old.0.setup (state_in C.state self.old) (event.Bus channel) result (state_in C.state self.new) }
         ensures setup { self.new.0.setup ≡ self.old.0.setup }
     {
-        match self.half.due(alloc) {
+        match self.half.due() {
             Ok(due) => self.run(alloc, due),
             Err(DueRefusal::Stopped(cause)) => Outcome::Stopped(cause),
             Err(DueRefusal::NoPlan) => Outcome::NoPlan,
@@ -189,27 +192,8 @@ impl<C: Chip> Channel<C> {
         ensures step { (channel : ℕ) → Step self.old.0.setup (state_in C.state self.old) (event.Bus channel) result (state_in C.state self.new) }
         ensures setup { self.new.0.setup ≡ self.old.0.setup }
     {
-        let start = due.start;
-        let geometry = self.half.setup().geometry;
-        match run_phase(
-            alloc,
-            &mut self.chip,
-            &geometry,
-            &due,
-            self.half.member(&due),
-        ) {
-            Ok(ran) => {
-                self.half.done(due, ran, &self.chip);
-                Outcome::Phase(start)
-            }
-            Err(fault) => match cause_of(fault, due.lun) {
-                Some(cause) => {
-                    self.half.stop(cause);
-                    Outcome::Stopped(cause)
-                }
-                None => Outcome::Memory(None),
-            },
-        }
+        let ran = run_due(alloc, &mut self.half, &mut self.chip, &mut self.lanes, &due);
+        phase_outcome(ran)
     }
 
     /// The sequencer pushes the oldest reply held for the host into the host's completion queue.
@@ -298,17 +282,6 @@ impl<C: Chip> Channel<C> {
             Event::Wait { moment, channel: _ } => self.wait(alloc, moment),
             Event::Ready { lun, channel: _ } => self.ready(lun),
         }
-    }
-}
-
-/// Why a channel stops where the phase on that LUN wasn't run; want of memory stops nothing.
-pub fn cause_of(fault: DriveFault, lun: u8) -> Option<Cause>
-    ensures { result ≡ cause_of fault lun }
-{
-    match fault {
-        DriveFault::Bus => Some(Cause::Bus),
-        DriveFault::NotReady => Some(Cause::NotReady(lun)),
-        DriveFault::Memory => None,
     }
 }
 

@@ -1,87 +1,97 @@
-//! A bus phase on the chip.
+//! A bus phase of a half on its chip.
 
-ghost use Rattle.std.specs.Prelude.{◌≡◌, ◌≢◌, IfOk, IfErr};
-ghost use Rattle.onfi_chip.specs.Calls.{HasDone, IsNextCommand, command_of};
-ghost use Rattle.onfi_core.specs.Drive.{MayRun, HasRun, AfterDrive, IsStatus, closer_of, fault_of_post};
+ghost use Rattle.std.specs.Prelude.{◌≡◌, ℕ, None, IfOk, IfErr, IfSome};
+ghost use Rattle.onfi_core.specs.declared.event.Event.TheVariants as event;
+ghost use Rattle.onfi_core.specs.Dues.{IsDue};
+ghost use Rattle.onfi_core.specs.Kept.{ChipAgrees, IsSound};
+ghost use Rattle.onfi_core.specs.Refusals.{cause_of, phase_outcome};
+ghost use Rattle.onfi_core.specs.State.{ChannelState, channel_with};
+ghost use Rattle.onfi_core.specs.Steps.{Step, bus_refusal};
+ghost use Rattle.onfi_core.specs.View.{IsKeptByPhase};
+ghost use Rattle.onfi_lun.specs.Lanes.{LanesAgree};
 
-use crate::due::Due;
-use crate::phase_result::PhaseResult;
-use onfi_addr::Geometry;
-use onfi_chip::{Chip, ChipFault, Closer, Fetch, PostFault, read_post};
-use onfi_request::Item;
+use crate::half::Half;
+use crate::outcome::{Cause, Outcome};
+use onfi_chip::Chip;
+use onfi_flight::Due;
+use onfi_lun::{DriveFault, Lanes, Target};
 use std::alloc::Global;
 
-/// Why a phase wasn't run.
+/// Why the due phase of a half wasn't run.
 #[derive(Clone, Copy, Debug, PartialEq, Eq)]
-pub enum DriveFault {
-    /// A call of the chip failed.
-    Bus,
-    /// The status of a program or an erase told that the LUN isn't ready.
-    NotReady,
-    /// Memory was refused: the chip is unchanged.
+pub enum PhaseStop {
+    /// A call of the chip failed: the half stopped.
+    Stopped(Cause),
+    /// Memory was refused, before the chip was called: nothing changed.
     Memory,
 }
 
-/// Runs the due phase of the member that has this item, at its start: its command (ONFI 4.2, command definition and
-/// multi-plane operations), the data output of a read, or the status of a program or an erase.
-pub fn run_phase<C: Chip>(
+/// Runs the due phase of a half on its chip, by the move of its LUN, and answers when it started, in ns of the channel's
+/// clock: the chip's answer at a post is held as a reply. Whoever drives a channel runs its phases so. Memory is asked for
+/// before the chip is called.
+///
+/// # Errors
+/// `Stopped` where a call of the chip failed; then the half stopped, and nothing more is known of the chip and its LUNs than
+/// the chip's faults and its count of that fault, which rose. `Memory` where a growth was refused; then nothing changed.
+pub fn run_due<C: Chip>(
     alloc: Global,
+    half: &mut Half,
     chip: &mut C,
-    geometry: &Geometry,
+    lanes: &mut Lanes,
     due: &Due,
-    item: &Item,
-) -> Result<PhaseResult, DriveFault>
-    requires { MayRun (C.state chip.old) geometry.now due.now item.now }
-    ensures ran { IfOk result (λ ran. HasRun (C.state chip.old) geometry.now due.now item.now ran (C.state chip.new)) }
-    ensures err { IfErr result (λ fault. AfterDrive fault (C.state chip.old) (C.state chip.new)) }
-    ensures not_ready { IfErr result (λ fault. fault ≡ DriveFault.NotReady → IsStatus due.now item.now) }
+) -> Result<u64, PhaseStop>
+    requires settled { half.old.lent ≡ None }
+    requires sound { IsSound half.old.setup half.old.state }
+    requires agree { ChipAgrees half.old.setup half.old.state (C.state chip.old) }
+    requires lanes { LanesAgree (C.state chip.old) lanes.old }
+    requires due { IsDue half.old.state due.now }
+    requires open { bus_refusal half.old.state ≡ None }
+    ensures step { (c : ChannelState) (channel : ℕ)
+        → Step half.old.setup (channel_with c half.old.state (C.state chip.old)) (event.Bus channel) (phase_outcome result) (channel_with c half.new.state (C.state chip.new)) }
+    ensures start { IfOk result (λ start. start ≡ due.now.start) }
+    ensures lanes { half.new.state.stopped ≡ None → LanesAgree (C.state chip.new) lanes.new }
+    ensures memory { IfErr result (λ stop. stop ≡ PhaseStop.Memory → (half.new ≡ half.old) × (C.state chip.new ≡ C.state chip.old)) }
+    ensures kept { IsKeptByPhase half.old half.new }
 {
-    if usize::from(due.phase) < due.group.len() {
-        let row = geometry.row(&item.request.place);
-        return command(alloc, chip, due, row, item);
-    }
-    let Ok(fetch) = Fetch::of(alloc, geometry, item.request.kind, item.request.place) else {
-        return Err(DriveFault::Memory);
+    let setup = half.setup();
+    let target = Target {
+        geometry: setup.geometry,
+        timing: setup.timing,
     };
-    match read_post(chip, geometry, due.start, fetch) {
-        Ok(answer) => Ok(PhaseResult::Post(answer)),
-        Err(fault) => Err(fault_of_post(fault)),
+    let item = half.member(due);
+    match lanes.run_due(alloc, chip, &target, due, item) {
+        Ok(ran) => {
+            half.done(due, ran, &*chip);
+            Ok(due.start)
+        }
+        Err(fault) => match cause_of(fault, due.lun) {
+            Some(cause) => {
+                half.stop(cause);
+                Err(PhaseStop::Stopped(cause))
+            }
+            None => Err(PhaseStop::Memory),
+        },
     }
 }
 
-// The command of a member.
-fn command<C: Chip>(
-    alloc: Global,
-    chip: &mut C,
-    due: &Due,
-    row: u64,
-    item: &Item,
-) -> Result<PhaseResult, DriveFault>
-    requires { IsNextCommand (C.state chip.old) due.now.start row item.now.request.kind item.now.request.bytes item.now.request }
-    ensures ran { IfOk result (λ ran. ran ≡ PhaseResult.Command) }
-    ensures done { IfOk result (λ _. HasDone (command_of (closer_of due.now.group due.now.phase) (C.state chip.old) item.now.request due.now.start) (C.state chip.new)) }
-    ensures err { IfErr result (λ fault. AfterDrive fault (C.state chip.old) (C.state chip.new)) }
-    ensures no_status { IfErr result (λ fault. fault ≢ DriveFault.NotReady) }
-{
-    let closer = if usize::from(due.phase) + 1 == due.group.len() {
-        Closer::Last
-    } else {
-        Closer::More
-    };
-    let bytes = item.request.bytes.as_slice();
-    match chip.command(alloc, due.start, row, item.request.kind, closer, bytes) {
-        Ok(()) => Ok(PhaseResult::Command),
-        Err(ChipFault::Bus) => Err(DriveFault::Bus),
-        Err(ChipFault::Memory) => Err(DriveFault::Memory),
-    }
-}
-
-// Why a post gave no answer, as why its phase wasn't run.
-fn fault_of_post(fault: PostFault) -> DriveFault
-    ensures { result ≡ fault_of_post fault }
+/// Why a channel stops where the phase on that LUN wasn't run; want of memory stops nothing.
+pub fn cause_of(fault: DriveFault, lun: u8) -> Option<Cause>
+    ensures { result ≡ cause_of fault lun }
 {
     match fault {
-        PostFault::Bus => DriveFault::Bus,
-        PostFault::NotReady => DriveFault::NotReady,
+        DriveFault::Bus => Some(Cause::Bus),
+        DriveFault::NotReady => Some(Cause::NotReady(lun)),
+        DriveFault::Memory => None,
+    }
+}
+
+/// What a due phase came to, as an outcome.
+pub(crate) fn phase_outcome(ran: Result<u64, PhaseStop>) -> Outcome
+    ensures { result ≡ phase_outcome ran }
+{
+    match ran {
+        Ok(start) => Outcome::Phase(start),
+        Err(PhaseStop::Stopped(cause)) => Outcome::Stopped(cause),
+        Err(PhaseStop::Memory) => Outcome::Memory(None),
     }
 }

@@ -5,31 +5,25 @@ ghost use Rattle.onfi_schedule.specs.Schedule.{Optimal, finish};
 ghost use Rattle.onfi_check.specs.Tree.{AcceptsTokens};
 ghost use Rattle.onfi_core.specs.State.{Planning};
 ghost use Rattle.onfi_core.specs.Steps.{GoesOut, IsPlainPlan, IsPlainlyPlanned, IsPromised, accept_refusal, bus_refusal, held_for, taken_next, planned_by, Plans};
-ghost use Rattle.onfi_core.specs.Dues.{IsDue, IsTurn, due_outcome};
-ghost use Rattle.onfi_core.specs.declared.starting.Turn.TheVariants as turn;
+ghost use Rattle.onfi_core.specs.Dues.{IsDue, due_outcome};
 ghost use Rattle.onfi_core.specs.Refusals.{fault_outcome};
 ghost use Rattle.onfi_core.specs.View.{IsNext, IsOldest, accepting, plainly_with, planning_of, planning_with, PlannedAs, RefusedAs, refusal_of, taken_of};
 ghost use Rattle.onfi_core.specs.declared.setup.Choice.TheVariants.{InOrder};
-ghost use Rattle.onfi_problem.specs.declared.lun_state.LunState.TheVariants.{Free};
 
 use crate::batch::Batch;
-use crate::due::{Due, wants_without};
 use crate::finding::find;
 use crate::history::History;
-use crate::left::free_luns;
 use crate::lent::Lent;
 use crate::oldest::oldest_for;
 use crate::outcome::Cause;
 use crate::planning::{NextPlan, PlanStop, plan_wants};
 use crate::setup::Setup;
 use crate::slot::Slot;
-use crate::starting::{Start, Turn, next_turn};
-use arrayvec::ArrayVec;
+use onfi_flight::{Due, Flight, Next};
 use onfi_plan::{PlainPlanner, Plan, Planner};
 use onfi_planner::Planned;
-use onfi_problem::{LunState, Problem};
+use onfi_problem::Problem;
 use onfi_request::{Item, Reply, Want};
-use onfi_schedule::{Schedule, no_starts};
 use slab::Slab;
 use std::alloc::{AllocError, Global};
 use std::marker::Model;
@@ -38,6 +32,7 @@ mod choosing;
 mod counts;
 pub(crate) mod passing;
 mod phase;
+mod renewing;
 mod unanswered;
 
 use choosing::Taking;
@@ -54,10 +49,7 @@ pub struct Half {
     accepted: u64,
     planned: u64,
     aside: Vec<Want>,
-    bus_free: u64,
-    luns: Vec<LunState>,
-    wants: ArrayVec<Want, 8>,
-    left: Schedule,
+    flight: Flight,
     outdated: bool,
     last: Option<Batch>,
     held: Vec<Reply>,
@@ -79,8 +71,8 @@ impl Model for Half {
         planned = h.planned;
         aside = h.aside.items;
         batch = h.batch;
-        now = record { timing = h.setup.timing; rules = h.setup.rules; bus_free = h.bus_free; luns = h.luns.items; wants = h.wants.items };
-        left = h.left;
+        now = h.flight.now;
+        left = h.flight.left;
         outdated = h.outdated;
         last = option_map planning_of h.last;
         held = h.history.held;
@@ -96,8 +88,8 @@ impl Model for Half {
           planned = h.planned;
           aside = h.aside.items;
           batch = h.batch;
-          now = record { timing = h.setup.timing; rules = h.setup.rules; bus_free = h.bus_free; luns = h.luns.items; wants = h.wants.items };
-          left = h.left;
+          now = h.flight.now;
+          left = h.flight.left;
           outdated = h.outdated;
           last = option_map planning_of h.last;
           held = h.history.held;
@@ -148,8 +140,7 @@ impl Half {
     {
         let slots = Slab::with_capacity(alloc, WINDOW)?;
         let held = Vec::with_capacity(alloc, WINDOW)?;
-        let luns = free_luns(alloc, setup.geometry.lun_count)?;
-        let rest = no_starts(usize::from(setup.geometry.lun_count));
+        let lun_count = setup.geometry.lun_count;
         Ok(Half {
             setup,
             batch: setup.batch,
@@ -157,10 +148,7 @@ impl Half {
             accepted: 0,
             planned: 0,
             aside: Vec::new(alloc),
-            bus_free: 0,
-            luns,
-            wants: ArrayVec::new(),
-            left: Schedule::new(rest, ArrayVec::new_in(alloc)),
+            flight: Flight::idle(alloc, setup.timing, setup.rules, 0, lun_count),
             outdated: false,
             last: None,
             held,
@@ -262,8 +250,8 @@ impl Half {
             alloc,
             planner,
             &self.setup,
-            self.bus_free,
-            self.luns.as_slice(),
+            self.flight.bus_free(),
+            self.flight.luns(),
             taking.wants.as_slice(),
         );
         match next {
@@ -288,75 +276,29 @@ impl Half {
         let finish = next.batch.plan.planned.finish;
         self.planned = taking.planned;
         self.aside = taking.aside;
-        self.wants = taking.wants;
-        self.left = next.left;
+        self.flight.replan(taking.wants, next.left);
         self.outdated = false;
         self.last = Some(next.batch);
         finish
     }
 
-    /// The undone phase of least start, with all that stands when it is done. This takes no memory.
+    /// The undone phase of least start. This takes no memory.
     ///
     /// # Errors
     /// `Stopped` where the channel stopped; else `NoPlan` where no phase of the plan is left.
-    pub fn due(&self, _alloc: Global) -> Result<Due, DueRefusal>
+    pub fn due(&self) -> Result<Due, DueRefusal>
         ensures due { IfOk result (λ due. IsDue self.now.state due) }
-        ensures time { IfOk result (λ due. due.start < 2 ^ 63) }
         ensures open { IfOk result (λ due. bus_refusal self.now.state ≡ None) }
         ensures refused { IfErr result (λ refusal. bus_refusal self.now.state ≡ Some (due_outcome refusal)) }
     {
         if let Some(cause) = self.stopped {
             return Err(DueRefusal::Stopped(cause));
         }
-        match next_turn(self.left.rest(), self.left.groups()) {
-            Some(Turn::Next(next)) => Ok(self.next_due(next)),
-            Some(Turn::First(first)) => Ok(self.first_due(first)),
-            None => Err(DueRefusal::NoPlan),
+        match self.flight.due() {
+            Next::Due(due) => Ok(due),
+            Next::Done => Err(DueRefusal::NoPlan),
+            Next::Illegal => unreachable!(),
         }
-    }
-
-    // The next phase of the group that runs on that LUN.
-    fn next_due(&self, next: Start) -> Due
-        requires { IsTurn self.now.state.left.rest self.now.state.left.groups (turn.Next next) }
-        ensures due { IsDue self.now.state result }
-        ensures time { result.start < 2 ^ 63 }
-    {
-        let LunState::Running {
-            group,
-            next: phase,
-            ..
-        } = &self.luns[next.at]
-        else {
-            unreachable!();
-        };
-        let wants = ArrayVec::try_from(self.wants.as_slice()).unwrap();
-        Due::of(
-            &self.setup.timing,
-            group,
-            *phase,
-            &self.left.rest()[next.at],
-            None,
-            wants,
-        )
-    }
-
-    // The first phase of the group at that place.
-    fn first_due(&self, first: Start) -> Due
-        requires { IsTurn self.now.state.left.rest self.now.state.left.groups (turn.First first) }
-        ensures due { IsDue self.now.state result }
-        ensures time { result.start < 2 ^ 63 }
-    {
-        let placed = &self.left.groups()[first.at];
-        let group = placed.members();
-        let wants = wants_without(group, self.wants.as_slice());
-        Due::of(
-            &self.setup.timing,
-            group,
-            0,
-            placed.starts(),
-            Some(first.at),
-            wants,
-        )
     }
 
     /// Moves out the oldest reply that is held for the host. What follows is [`Half::keep`] or [`Half::posted`]; until

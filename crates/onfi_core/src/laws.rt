@@ -2,7 +2,6 @@
 
 ghost use Rattle.onfi_core.specs.Core.{Headline, OpenedIsReached, StepKeeps, RunKeeps, ReachedKeeps, PostedInOrder};
 ghost use Rattle.onfi_core.specs.Steps.{FinishIsOptimal, PlainIsPlain};
-ghost use Rattle.onfi_core.specs.Times.{LaterLaw, ReadyLaw, ShiftLaw};
 ghost use Rattle.onfi_core.specs.Reaching.{EventsReach, StepReaches, BatchReached, AcceptingReached, PostingReached, PlannedStep, IdleIs, NothingHeld, NextBehind};
 
 /// Whatever list of events happens to an opened core, and whichever batches are set between them, each channel keeps
@@ -99,21 +98,4 @@ pub fn finish_is_optimal()
 #[tactic(auto, using(crate::proofs::Promised::plain_is_plain))]
 pub fn plain_is_plain()
     ensures { PlainIsPlain }
-{}
-
-/// All starts of a legal schedule later by so much are legal where the bus is free before each of them.
-#[tactic(auto, using(crate::proofs::Shifted::later_legal))]
-pub fn later_is_legal()
-    ensures { LaterLaw }
-{}
-
-/// All starts of a legal schedule later by so much are legal where the bus is free later by at most as much, and the
-/// schedule ends at most as much later.
-pub fn shifted_is_legal()
-    ensures { ShiftLaw }
-{}
-
-/// A legal schedule stays legal where the next phase of a running group is ready sooner, and ends no later.
-pub fn ready_is_legal()
-    ensures { ReadyLaw }
 {}

@@ -7,7 +7,7 @@ ghost use Rattle.onfi_core.specs.View.{planning_of, StopsBecause, stop_of};
 
 use crate::batch::Batch;
 use crate::setup::Setup;
-use onfi_plan::{Planner, PlannerFault};
+use onfi_plan::{Limit, PlanFault, Planner};
 use onfi_problem::{LunState, Problem, ProblemFault};
 use onfi_request::Want;
 use onfi_schedule::Schedule;
@@ -56,7 +56,8 @@ pub fn plan_wants<P: Planner>(
         Err(ProblemFault::TooMany) => unreachable!(),
         Err(ProblemFault::BadLun) => unreachable!(),
     };
-    let plan = match planner.plan(alloc, &problem, setup.limit) {
+    let limit = Limit::of(setup.limit).unwrap();
+    let plan = match planner.plan(alloc, &problem, limit) {
         Ok(plan) => plan,
         Err(fault) => return Err(stop_of(fault)),
     };
@@ -68,11 +69,11 @@ pub fn plan_wants<P: Planner>(
 }
 
 // Why the planner gave no plan, as why there is none.
-fn stop_of(fault: PlannerFault) -> PlanStop
+fn stop_of(fault: PlanFault) -> PlanStop
     ensures { result ≡ stop_of fault }
 {
     match fault {
-        PlannerFault::Over { opened } => PlanStop::Over { opened },
-        PlannerFault::Memory => PlanStop::Memory,
+        PlanFault::Over { opened } => PlanStop::Over { opened },
+        PlanFault::Memory => PlanStop::Memory,
     }
 }

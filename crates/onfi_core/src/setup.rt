@@ -1,6 +1,7 @@
 ghost use Rattle.std.specs.Prelude.{◌≡◌, ℕ, ◌≤◌, ◌↔◌, IfOk, IsErrOf};
 ghost use Rattle.onfi_core.specs.Ranges.{IsBetween};
 ghost use Rattle.onfi_core.specs.declared.setup.Choice.TheVariants.{InOrder};
+ghost use Rattle.onfi_core.specs.declared.setup.Replanning.TheVariants.{AtOnce};
 
 use onfi_addr::Geometry;
 use onfi_group::Rules;
@@ -17,6 +18,17 @@ pub enum Choice {
     ByLun,
     /// By LUN, and of each its oldest read; where it has none its oldest program, else its oldest erase.
     ReadsFirst,
+}
+
+/// When a sequencer plans anew while a phase of its plan is left.
+#[derive(Clone, Copy, Debug, Default, PartialEq, Eq)]
+pub enum Replanning {
+    /// As soon as there is something to plan.
+    #[default]
+    AtOnce,
+    /// Only where a request that no plan has taken could start before the plan's next phase. Else that phase comes first:
+    /// what is left of a plan stays legal.
+    Lazily,
 }
 
 /// What never changes of a core, and the batch that its channels open with. Each value is in the range that its ghost
@@ -43,6 +55,8 @@ pub struct Setup {
     pub limit: u32,
     /// Which wants a plan takes.
     pub choice: Choice,
+    /// When a sequencer plans anew.
+    pub replanning: Replanning,
     ghost some_channel: { 1 ≤ channels },
     ghost few_channels: { channels ≤ 4 },
     ghost some_host: { 1 ≤ hosts },
@@ -82,8 +96,8 @@ pub enum SetupFault {
 
 impl Setup {
     /// The setup of so many channels with chips of this geometry and timing, so many hosts, a batch of so many wants,
-    /// submission and completion queues of so many places, and so many nodes for one planning. Items are planned in order;
-    /// [`Setup::with_choice`] changes that.
+    /// submission and completion queues of so many places, and so many nodes for one planning. Items are planned in order,
+    /// as soon as there are any; [`Setup::with_choice`] and [`Setup::with_replanning`] change that.
     ///
     /// # Errors
     /// The first of `Channels`, `Hosts`, `Batch`, `SubmitCap`, `PostCap` and `Limit` whose number is out of range.
@@ -102,6 +116,7 @@ impl Setup {
         ensures counts { IfOk result (λ s. (s.channels ≡ channels) × (s.hosts ≡ hosts) × (s.batch ≡ batch)) }
         ensures room { IfOk result (λ s. (s.submit_cap ≡ submit_cap) × (s.post_cap ≡ post_cap) × (s.limit ≡ limit)) }
         ensures choice { IfOk result (λ s. s.choice ≡ InOrder) }
+        ensures replanning { IfOk result (λ s. s.replanning ≡ AtOnce) }
         ensures channels { IsErrOf result SetupFault.Channels ↔ ¬ IsBetween 1 4 channels }
         ensures hosts { IsErrOf result SetupFault.Hosts ↔ (IsBetween 1 4 channels × ¬ IsBetween 1 4 hosts) }
         ensures batch { IsErrOf result SetupFault.Batch ↔ (IsBetween 1 4 channels × IsBetween 1 4 hosts × ¬ IsBetween 1 8 batch) }
@@ -141,6 +156,7 @@ impl Setup {
             post_cap,
             limit,
             choice: Choice::InOrder,
+            replanning: Replanning::AtOnce,
         })
     }
 
@@ -150,6 +166,15 @@ impl Setup {
     {
         let mut setup = self;
         setup.choice = choice;
+        setup
+    }
+
+    /// The same setup, whose sequencers plan anew so. Cores plan where an event says so.
+    pub fn with_replanning(self, replanning: Replanning) -> Setup
+        ensures { result ≡ record self { replanning = replanning } }
+    {
+        let mut setup = self;
+        setup.replanning = replanning;
         setup
     }
 }

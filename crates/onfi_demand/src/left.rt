@@ -63,7 +63,7 @@ pub fn left_on(problem: &Problem, lun: u8) -> LunLeft
     ensures left { option_map left_on (slice_get problem.now.problem.luns lun) ≡ Some (left_of result) }
     ensures shape { IsShape result }
 {
-    let _limits = problem.bus_free();
+    problem.in_limits();
     left_of(problem.groups(), problem.luns()[lun as usize])
 }
 
@@ -88,7 +88,7 @@ pub fn has_left(problem: &Problem, lun: u8) -> bool
     requires { lun < length problem.now.problem.luns }
     ensures { result ≡ has_left problem.now.problem lun }
 {
-    let _limits = problem.bus_free();
+    problem.in_limits();
     let state = problem.luns()[lun as usize];
     state.next != 0 || has_want(problem.wants(), problem.waiting(), lun)
 }

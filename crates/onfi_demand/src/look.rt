@@ -167,7 +167,7 @@ impl Sight {
         ensures sight { IsSight problem.now.problem window result }
         ensures small { result.length ≤ 2 ^ 59 }
     {
-        let _limits = problem.bus_free();
+        problem.in_limits();
         let count = problem.lun_count();
         let mut length = 0;
         let mut firsts = [u64::MAX; 8];
@@ -200,7 +200,7 @@ impl Window {
         ensures some { IfSome result (λ d. IsWindow problem.now.problem e self.start self.tail × IsKept d (window_demand problem.now.problem self.start self.tail e)) }
         ensures none { IfNone result (IsWindow problem.now.problem e self.start self.tail → ⊥) }
     {
-        let _limits = problem.bus_free();
+        problem.in_limits();
         let sight = Sight::of(problem, load, self);
         let needed = e.saturating_sub(self.start).saturating_sub(self.tail);
         if sight.length == 0 || sight.length < needed {

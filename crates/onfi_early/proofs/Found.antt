@@ -9,8 +9,8 @@ use Rattle.onfi_problem.proofs.Limits.{after_limits}
 use Rattle.onfi_bound.specs.declared.loads.Loads.{Loads}
 use Rattle.onfi_bound.proofs.Loading.{loads_after}
 use Rattle.onfi_planner.specs.declared.search.Best.{Best}
-use Rattle.onfi_recall.specs.Steps.{IsStep}
-use Rattle.onfi_recall.proofs.Node.{done_run}
+use Rattle.onfi_known_plan.specs.Steps.{IsStep}
+use Rattle.onfi_known_plan.proofs.Node.{done_run}
 use Rattle.onfi_early.specs.Steps.{IsFound, IsWalk}
 
 -- nothing is left

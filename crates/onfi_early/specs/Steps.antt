@@ -5,7 +5,7 @@ use Rattle.onfi_problem.specs.Position.{Position}
 use Rattle.onfi_bound.specs.Loads.{AreLoads}
 use Rattle.onfi_bound.specs.declared.loads.Loads.{Loads}
 use Rattle.onfi_planner.specs.declared.search.Best.{Best}
-use Rattle.onfi_recall.specs.Walks.{IsRunOf}
+use Rattle.onfi_known_plan.specs.Walks.{IsRunOf}
 
 -- what a walk stands on
 pub record IsWalk (x : Position) (loads : Loads) : Type 0 where

@@ -24,7 +24,7 @@ pub fn cost_of(problem: &Problem, schedule: &Schedule, weights: &Weights) -> u12
     ensures value { result ≡ cost weights.now problem.now schedule.now }
     ensures small { result < 2 ^ 87 }
 {
-    let _limits = problem.bus_free();
+    problem.in_limits();
     let timing = problem.timing();
     let left = cost_of_rest(problem, &timing, &weights.running, schedule.rest());
     left + cost_of_groups(&timing, problem.wants(), &weights.wants, schedule.groups())
@@ -41,7 +41,7 @@ fn cost_of_rest(
     ensures value { result ≡ rest_cost timing.now weights.now 0 problem.now.problem.luns rest.now }
     ensures small { result ≤ 64 * 2 ^ 80 }
 {
-    let _limits = problem.bus_free();
+    problem.in_limits();
     let _luns = problem.lun_count();
     let mut cost = 0;
     for (lun, starts) in rest.iter().enumerate() {

@@ -1,9 +1,10 @@
 //! A plan made better.
 
-ghost use Rattle.std.specs.Prelude.{◌≡◌, ◌+◌, ◌^◌, ◌<◌, ◌≤◌, true, IfOk};
+ghost use Rattle.std.specs.Prelude.{◌≡◌, ◌^◌, ◌<◌, ◌≤◌, true, false, IfOk, IfErr};
 ghost use Rattle.onfi_schedule.specs.Schedule.{Legal, Optimal, finish};
 ghost use Rattle.onfi_planner.specs.Planning.{AreRising};
-ghost use Rattle.onfi_recall.specs.Walks.{IsRunOf};
+ghost use Rattle.onfi_plan.specs.Certificate.{IsMadeFrom};
+ghost use Rattle.onfi_known_plan.specs.Walks.{IsRunOf};
 ghost use Rattle.onfi_early.specs.Cost.{cost};
 
 use crate::aim::Aim;
@@ -13,82 +14,59 @@ use crate::seen::Seen;
 use crate::walk::{Notes, search};
 use crate::weights::Weights;
 use onfi_bound::Loads;
+use onfi_plan::Plan;
 use onfi_planner::{Best, schedule_of};
 use onfi_problem::Problem;
-use onfi_schedule::{Schedule, finish};
+use onfi_schedule::Schedule;
 use std::alloc::{AllocError, Global};
 
-/// A schedule that costs no more than the one that it was made from.
-#[derive(Drop)]
-pub struct Improved {
-    /// For each LUN the starts of the phases that are left of its running group, and the new groups; in ns of the
-    /// channel's clock.
-    pub schedule: Schedule,
-    /// When the last phase ends, in ns; where no phase is left, from when on the bus is free.
-    pub finish: u64,
-    /// The sum over all requests of their weight times the end of their post, in ns.
-    pub cost: u128,
-    /// How many nodes were opened, at most as many as may be.
-    pub opened: u32,
-}
-
-/// A schedule that ends at most `slack` ns later than one that is given, such as a plan's, and costs no more: requests
-/// end sooner by their weights where the finish allows it. No clause says that its cost is the least there is; it is the
-/// least that the search has met within `limit` nodes.
+/// Gives a plan a schedule that ends at most `slack` ns later and costs no more: requests end sooner by their weights where
+/// the finish allows it. Answers how many nodes it opened, at most `limit`; where that is 0 the plan stays as it is. No clause
+/// says that the cost is the least there is; it is the least that the search has met.
 ///
-/// What shows that nothing ends before a finish shows it of this schedule too. So with a slack of 0 an optimal schedule
-/// gives an optimal one.
+/// What shows that nothing ends before a time shows it of this schedule too. So with a slack of 0 an optimal schedule gives
+/// an optimal one.
 ///
 /// # Errors
-/// Only where memory was refused; the schedule that was given is as it was.
+/// Only where memory was refused; the plan is as it was.
 pub fn improve(
     alloc: Global,
     problem: &Problem,
-    schedule: &Schedule,
+    plan: &mut Plan,
     weights: &Weights,
     slack: u64,
     limit: u32,
-) -> Result<Improved, AllocError>
-    requires legal { Legal problem.now.problem schedule.now }
-    ensures legal { IfOk result (λ better. Legal problem.now.problem better.schedule) }
-    ensures finish { IfOk result (λ better. finish problem.now.problem better.schedule ≡ better.finish) }
-    ensures in_time { IfOk result (λ better. better.finish ≤ finish problem.now.problem schedule.now + slack) }
-    ensures cost { IfOk result (λ better. cost weights.now problem.now better.schedule ≡ better.cost) }
-    ensures no_dearer { IfOk result (λ better. better.cost ≤ cost weights.now problem.now schedule.now) }
-    ensures opened { IfOk result (λ better. better.opened ≤ limit) }
+) -> Result<u32, AllocError>
+    requires legal { Legal problem.now.problem plan.old.planned.schedule }
+    requires finish { finish problem.now.problem plan.old.planned.schedule ≡ plan.old.planned.finish }
+    ensures legal { Legal problem.now.problem plan.new.planned.schedule }
+    ensures finish { finish problem.now.problem plan.new.planned.schedule ≡ plan.new.planned.finish }
+    ensures made { IsMadeFrom plan.old slack plan.new }
+    ensures no_dearer { cost weights.now problem.now plan.new.planned.schedule ≤ cost weights.now problem.now plan.old.planned.schedule }
+    ensures opened { IfOk result (λ opened. opened ≤ limit) }
+    ensures as_is { limit ≡ 0 → plan.new ≡ plan.old }
+    ensures refused { IfErr result (λ _. plan.new ≡ plan.old) }
 
-    // Where the groups of the given schedule stand by rising first start, as those of each plan do.
-    ensures rising { AreRising schedule.now.groups → IfOk result (λ better. AreRising better.schedule.groups) }
+    // Where the groups of the plan stand by rising first start.
+    ensures rising { AreRising plan.old.planned.schedule.groups → AreRising plan.new.planned.schedule.groups }
 
     // Where nothing ends sooner, and no slack is given.
-    ensures optimal { slack ≡ 0 → Optimal problem.now.problem schedule.now →
-        IfOk result (λ better. Optimal problem.now.problem better.schedule) }
-    ensures as_soon { slack ≡ 0 → Optimal problem.now.problem schedule.now →
-        IfOk result (λ better. better.finish ≡ finish problem.now.problem schedule.now) }
+    ensures optimal { slack ≡ 0 → Optimal problem.now.problem plan.old.planned.schedule → Optimal problem.now.problem plan.new.planned.schedule }
+    ensures as_soon { slack ≡ 0 → Optimal problem.now.problem plan.old.planned.schedule → plan.new.planned.finish ≡ plan.old.planned.finish }
 {
-    let finish = finish(problem, schedule);
-    let cost = cost_of(problem, schedule, weights);
-    let latest = finish.saturating_add(slack);
+    let cost = cost_of(problem, &plan.planned.schedule, weights);
+    let latest = plan.planned.finish.saturating_add(slack);
     let aim = Aim::new(alloc, problem, weights, latest)?;
     let walked = walk(alloc, problem, &aim, cost, limit)?;
     if walked.improved {
         let better = schedule_found(alloc, problem, &walked.best);
-        let found = cost_of(problem, &better, weights);
-        if found <= cost && walked.best.finish <= latest {
-            return Ok(Improved {
-                schedule: better,
-                finish: walked.best.finish,
-                cost: found,
-                opened: walked.opened,
-            });
+        if cost_of(problem, &better, weights) <= cost && walked.best.finish <= latest {
+            plan.planned.schedule = better;
+            plan.planned.finish = walked.best.finish;
+            return Ok(walked.opened);
         }
     }
-    Ok(Improved {
-        schedule: schedule.copy(),
-        finish,
-        cost,
-        opened: walked.opened,
-    })
+    Ok(walked.opened)
 }
 
 // What a walk has given: the best run, where it found one.
@@ -110,8 +88,9 @@ fn walk(
     ensures run { IfOk result (λ walked. walked.improved ≡ true → IsRunOf problem.now walked.best) }
     ensures small { IfOk result (λ walked. walked.improved ≡ true → walked.best.finish < 2 ^ 62) }
     ensures opened { IfOk result (λ walked. walked.opened ≤ limit) }
+    ensures idle { limit ≡ 0 → IfOk result (λ walked. walked.improved ≡ false) }
 {
-    let _limits = problem.bus_free();
+    problem.in_limits();
     let mut best = Best {
         finish: 0,
         steps: Vec::new(alloc),
@@ -151,6 +130,6 @@ fn schedule_found(alloc: Global, problem: &Problem, best: &Best) -> Schedule
     ensures rising { AreRising result.groups }
     ensures finish { finish problem.now.problem result ≡ best.now.finish }
 {
-    let _limits = problem.bus_free();
+    problem.in_limits();
     schedule_of(alloc, problem, best.steps.as_slice())
 }

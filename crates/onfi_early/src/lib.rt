@@ -8,6 +8,7 @@ mod cost;
 mod floor;
 mod improving;
 mod line;
+mod nodes;
 mod rest;
 mod seen;
 mod slack;
@@ -16,6 +17,7 @@ mod walk;
 mod weights;
 
 pub use cost::cost_of;
-pub use improving::{Improved, improve};
+pub use improving::improve;
+pub use nodes::Nodes;
 pub use slack::slack_of;
 pub use weights::Weights;

@@ -1,11 +1,11 @@
 //! The walk for a cheaper run.
 
-ghost use Rattle.std.specs.Prelude.{◌≡◌, ◌≤◌, ◌<◌, IfOk, OnOk, length};
+ghost use Rattle.std.specs.Prelude.{◌≡◌, ◌≤◌, ◌<◌, false, IfOk, OnOk, length};
 ghost use Rattle.std.specs.List.{AllByRecursion as Each};
 ghost use Rattle.onfi_problem.specs.Moves.{AreMoves};
 ghost use Rattle.onfi_problem.specs.Position.{moves_of};
 ghost use Rattle.onfi_problem.specs.Starts.{IsNamed};
-ghost use Rattle.onfi_recall.specs.Steps.{IsStep};
+ghost use Rattle.onfi_known_plan.specs.Steps.{IsStep};
 ghost use Rattle.onfi_early.specs.Steps.{IsFound, IsWalk};
 
 use crate::aim::Aim;
@@ -43,6 +43,7 @@ pub fn search(
     requires { IsWalk problem.old loads.now }
     ensures problem { OnOk result (problem.new ≡ problem.old) }
     ensures found { IfOk result (IsFound problem.old best.old best.new) }
+    ensures idle { notes.old.left ≡ 0 → IfOk result (λ improved. improved ≡ false) }
 {
     if notes.left == 0 {
         return Ok(false);

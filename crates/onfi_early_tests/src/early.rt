@@ -2,8 +2,9 @@ ghost use Rattle.std.specs.Prelude.{◌≡◌};
 
 use onfi_early::{Weights, cost_of, improve};
 use onfi_group::{Group, Rules};
+use onfi_known_plan::plan_known;
+use onfi_plan::Limit;
 use onfi_problem::{LunState, Problem};
-use onfi_recall::plan_known;
 use onfi_request::Want;
 use onfi_timing::{Kind, Spans, Timing};
 use std::alloc::Global;
@@ -65,17 +66,16 @@ pub(crate) fn with_status_due(alloc: Global) -> Result<Problem, Fail> {
 fn a_status_goes_before_program_data(rt: HostRuntime) -> Result<(), Fail> {
     let alloc = rt.alloc();
     let problem = with_status_due(alloc)?;
-    let plan = plan_known(alloc, &problem, 1000)?;
-    assert_eq!(rt; plan.finish, 908);
+    let mut plan = plan_known(alloc, &problem, Limit::of(1000).unwrap())?;
+    assert_eq!(rt; plan.planned.finish, 908);
     let weights = Weights {
         wants: [1; 8],
         running: [[1; 4]; 8],
     };
-    let better = improve(alloc, &problem, &plan.schedule, &weights, 0, 1500)?;
-    assert_eq!(rt; better.finish, 908);
-    assert_eq!(rt; better.cost, 1377);
-    assert_eq!(rt; cost_of(&problem, &better.schedule, &weights), 1377);
-    assert!(rt; better.opened > 0);
+    let opened = improve(alloc, &problem, &mut plan, &weights, 0, 1500)?;
+    assert_eq!(rt; plan.planned.finish, 908);
+    assert_eq!(rt; cost_of(&problem, &plan.planned.schedule, &weights), 1377);
+    assert!(rt; opened > 0);
     Ok(())
 }
 
@@ -84,13 +84,14 @@ fn a_status_goes_before_program_data(rt: HostRuntime) -> Result<(), Fail> {
 fn no_node_leaves_the_plan(rt: HostRuntime) -> Result<(), Fail> {
     let alloc = rt.alloc();
     let problem = with_status_due(alloc)?;
-    let plan = plan_known(alloc, &problem, 1000)?;
+    let mut plan = plan_known(alloc, &problem, Limit::of(1000).unwrap())?;
     let weights = Weights {
         wants: [1, 2, 0, 0, 0, 0, 0, 0],
         running: [[3; 4]; 8],
     };
-    let better = improve(alloc, &problem, &plan.schedule, &weights, 0, 0)?;
-    assert_eq!(rt; better.cost, cost_of(&problem, &plan.schedule, &weights));
-    assert_eq!(rt; (better.finish, better.opened), (908, 0));
+    let cost = cost_of(&problem, &plan.planned.schedule, &weights);
+    let opened = improve(alloc, &problem, &mut plan, &weights, 0, 0)?;
+    assert_eq!(rt; cost_of(&problem, &plan.planned.schedule, &weights), cost);
+    assert_eq!(rt; (plan.planned.finish, opened), (908, 0));
     Ok(())
 }

@@ -1,8 +1,10 @@
 use crate::early::{timing, with_status_due};
 use onfi_early::{Weights, cost_of, slack_of};
 use onfi_group::Rules;
-use onfi_plan::{Planner, PlannerFault};
-use onfi_planners::{ChosenEarly, ChosenPlanner, EarlyPlanner, PlainPlanner, Weighing};
+use onfi_plan::{Limit, PlanFault, Planner};
+use onfi_planners::{
+    ChosenPlanner, EarlyPlanner, Nodes, PlainPlanner, SlackPlanner, Weighing, made_better_within,
+};
 use onfi_problem::{LunState, Problem};
 use onfi_request::Want;
 use onfi_timing::Kind;
@@ -14,8 +16,8 @@ fn told(
     alloc: Global,
     planner: &impl Planner,
     problem: &Problem,
-) -> Result<(u128, u64, u64), PlannerFault> {
-    let plan = planner.plan(alloc, problem, 1000)?;
+) -> Result<(u128, u64, u64), PlanFault> {
+    let plan = planner.plan(alloc, problem, Limit::of(1000).unwrap())?;
     let equal = Weights {
         wants: [1; 8],
         running: [[1; 4]; 8],
@@ -44,23 +46,57 @@ fn a_planner_and_a_slack_are_chosen(rt: HostRuntime) -> Result<(), Fail> {
         ChosenPlanner::BestSoFar,
     ];
     for planner in planners {
-        let none = ChosenEarly {
-            planner,
-            slack: None,
-        };
-        assert!(rt; told(alloc, &none, &problem) == told(alloc, &planner, &problem));
-        let zero = ChosenEarly {
-            planner,
-            slack: Some(0),
-        };
+        let weighing = Weighing::ByAge;
+        let early = EarlyPlanner::of(planner, weighing);
+        assert!(rt; told(alloc, &early, &problem) == Ok((1377, 908, 908)));
+        let zero = SlackPlanner::of(planner, weighing, 0);
         assert!(rt; told(alloc, &zero, &problem) == Ok((1377, 908, 908)));
-        let more = ChosenEarly {
-            planner,
-            slack: Some(4),
-        };
+        let more = SlackPlanner::of(planner, weighing, 4);
         assert!(rt; told(alloc, &more, &problem) == Ok((1375, 911, 908)));
     }
     Ok(())
+}
+
+// With no node for a better plan it is that of the other planner; with the root and one step below it nothing is found yet.
+#[test]
+fn the_nodes_of_a_better_plan_are_named(rt: HostRuntime) -> Result<(), Fail> {
+    let alloc = rt.alloc();
+    let problem = with_status_due(alloc)?;
+    let (planner, weighing) = (PlainPlanner, Weighing::Equal);
+    for number in [0, 2] {
+        let nodes = Nodes::of(number).unwrap();
+        let early = EarlyPlanner {
+            planner,
+            weighing,
+            nodes,
+        };
+        assert!(rt; told(alloc, &early, &problem) == told(alloc, &planner, &problem));
+    }
+    let usual = EarlyPlanner::of(planner, weighing);
+    assert_eq!(rt; usual.nodes.get(), 1_500);
+    assert!(rt; told(alloc, &usual, &problem) == Ok((1377, 908, 908)));
+    Ok(())
+}
+
+#[test]
+fn a_plan_is_made_better_by_so_many_nodes(rt: HostRuntime) -> Result<(), Fail> {
+    let alloc = rt.alloc();
+    let problem = with_status_due(alloc)?;
+    let equal = Weights {
+        wants: [1; 8],
+        running: [[1; 4]; 8],
+    };
+    let plan = PlainPlanner.plan(alloc, &problem, Limit::of(1000).unwrap())?;
+    let nodes = Nodes::of(100).unwrap();
+    let better = made_better_within(alloc, &problem, plan, &equal, 0, nodes)?;
+    assert_eq!(rt; cost_of(&problem, &better.planned.schedule, &equal), 1377);
+    Ok(())
+}
+
+#[test]
+fn nodes_are_at_most_those_of_a_search(rt: HostRuntime) {
+    assert!(rt; Nodes::of(1_048_576).is_some());
+    assert!(rt; Nodes::of(1_048_577).is_none());
 }
 
 // Two reads of two LUNs; the older one, accepted at place 5, is that of LUN 1.
@@ -94,11 +130,8 @@ fn with_an_older_read(alloc: Global) -> Result<Problem, Fail> {
 fn the_older_of_two_reads_ends_first(rt: HostRuntime) -> Result<(), Fail> {
     let alloc = rt.alloc();
     let problem = with_an_older_read(alloc)?;
-    let by_age = EarlyPlanner {
-        planner: PlainPlanner,
-        weighing: Weighing::default(),
-    };
-    let plan = by_age.plan(alloc, &problem, 1000)?;
+    let by_age = EarlyPlanner::of(PlainPlanner, Weighing::default());
+    let plan = by_age.plan(alloc, &problem, Limit::of(1000).unwrap())?;
     let first = Weights {
         wants: [1, 0, 0, 0, 0, 0, 0, 0],
         running: [[1; 4]; 8],

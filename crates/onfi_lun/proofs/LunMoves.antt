@@ -19,8 +19,7 @@ use Rattle.onfi_chip.specs.Chip.{Chip, Lun, after_post, found_ready, luns_ready_
 use Rattle.onfi_chip.specs.Chip.Lun.{Idle as DoesNothing, Posting as HasPosts}
 use Rattle.onfi_chip.specs.Calls.{command_of, HasDone, IsNextPost, MayTake}
 use Rattle.onfi_chip.proofs.SimCalls.{in_range}
-use Rattle.onfi_core.specs.declared.due.Due.{Due}
-use Rattle.onfi_core.proofs.Lists.{each_set}
+use Rattle.onfi_flight.specs.declared.due.Due.{Due}
 use Rattle.onfi_lun.specs.declared.lun.Lun.{Lun as Typed}
 use Rattle.onfi_lun.specs.declared.lun.Posted.{Posted}
 use Rattle.onfi_lun.specs.declared.lun.Posted.TheVariants as behind
@@ -31,6 +30,7 @@ use Rattle.onfi_lun.specs.declared.target.Target.{Target}
 use Rattle.onfi_lun.specs.Phases.{IsOf, IsDue, IsPosted, OthersStay}
 use Rattle.onfi_lun.specs.Lanes.{IsThere, LanesAgree, AreIdle, IsIdleAt, MayRunDue, OthersKept, IsPostOf, IsRipe, number_in, left_in, ready_in, behind_post}
 use Rattle.onfi_lun.proofs.Phases.{same_posts}
+use Rattle.onfi_lun.proofs.Places.{each_set}
 
 set_twice : {A : Type 0} (xs : List A) (i : ℕ) (a b : A) → slice_set (slice_set xs i a) i b ≡ slice_set xs i b
 set_twice [] i a b = refl

@@ -4,16 +4,12 @@ use Rattle.onfi_addr.specs.declared.geometry.Geometry.{Geometry}
 use Rattle.onfi_request.specs.declared.request.Item.{Item}
 use Rattle.onfi_request.specs.declared.request.Request.{Request}
 use Rattle.onfi_request.specs.Range.{Fits}
-use Rattle.onfi_chip.specs.declared.fault.ChipFault.{ChipFault}
-use Rattle.onfi_chip.specs.declared.fault.ChipFault.TheVariants as chip_fault
 use Rattle.onfi_chip.specs.declared.fetch.Fetch.{Fetch}
 use Rattle.onfi_chip.specs.declared.post.Post.{Post}
 use Rattle.onfi_chip.specs.Chip.{Chip, taken}
 use Rattle.onfi_chip.specs.Fetching.{IsNextFetch}
-use Rattle.onfi_core.specs.declared.drive.DriveFault.{DriveFault}
-use Rattle.onfi_core.specs.declared.drive.DriveFault.TheVariants as drive
-use Rattle.onfi_core.specs.declared.due.Due.{Due}
-use Rattle.onfi_core.specs.Drive.{MayRun}
+use Rattle.onfi_flight.specs.declared.due.Due.{Due}
+use Rattle.onfi_lun.specs.Drive.{MayRun}
 use Rattle.onfi_lun.specs.declared.lanes.any_lun.AnyLun.{AnyLun}
 use Rattle.onfi_lun.specs.declared.lanes.any_lun.AnyLun.TheVariants.{Idle, Queuing, Working, Posting, Moving}
 use Rattle.onfi_lun.specs.declared.lun.Commanded.{Commanded}
@@ -94,6 +90,14 @@ Works now (Working lun) = now < lun.state.ready
 Works now (Posting lun) = ⊥
 Works now Moving = ⊥
 
+-- its array works, or is over and nothing of it was posted
+abbrev pub IsInArray : AnyLun → Type 0
+IsInArray (Idle lun) = ⊥
+IsInArray (Queuing lun) = ⊥
+IsInArray (Working lun) = Unit {0}
+IsInArray (Posting lun) = ⊥
+IsInArray Moving = ⊥
+
 -- how many posts are left, and from when on the next may start
 abbrev pub left_in : AnyLun → ℕ
 left_in (Idle lun) = 0
@@ -117,8 +121,3 @@ behind_command (commanded.Last lun) = Working lun
 abbrev pub behind_post : Posted → AnyLun
 behind_post (behind.More lun) = Posting lun
 behind_post (behind.Last lun) = Idle lun
-
--- why a command wasn't taken, as why its phase wasn't run
-abbrev pub fault_of_command : ChipFault → DriveFault
-fault_of_command chip_fault.Bus = drive.Bus
-fault_of_command chip_fault.Memory = drive.Memory

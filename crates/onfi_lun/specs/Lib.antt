@@ -1,5 +1,3 @@
 pub mod Phases
-pub mod Batch
-pub mod Flight
-pub mod Order
+pub mod Drive
 pub mod Lanes

@@ -8,17 +8,19 @@ ghost use Rattle.onfi_chip.specs.Chip.{Chip as ChipState, found_ready, posted, t
 ghost use Rattle.onfi_chip.specs.Chip.Lun.{Idle as DoesNothing};
 ghost use Rattle.onfi_chip.specs.Calls.{AfterFault, HasDone, IsLost, IsNextPost, MayTake, command_of};
 ghost use Rattle.onfi_chip.specs.Fetching.{HasRoom};
-ghost use Rattle.onfi_core.specs.Drive.{HasRun, AfterDrive, IsStatus, closer_of, fault_of_post};
+ghost use Rattle.onfi_lun.specs.Drive.{HasRun, AfterDrive, IsStatus, closer_of};
 ghost use Rattle.onfi_lun.specs.Phases.{IsOf};
-ghost use Rattle.onfi_lun.specs.Lanes.{LanesAgree, MayRunDue, AreIdle, IsPostOf, OthersKept, Works, fault_of_command};
+ghost use Rattle.onfi_lun.specs.Lanes.{LanesAgree, MayRunDue, AreIdle, IsPostOf, IsInArray, OthersKept, Works};
 
 mod any_lun;
 
+use crate::drive::{DriveFault, fault_of_command, fault_of_post};
 use crate::lun::Lun;
+use crate::phase_result::PhaseResult;
 use crate::target::Target;
 use any_lun::AnyLun;
 use onfi_chip::{Chip, ChipFault, Closer, Fetch, PostFault};
-use onfi_core::{DriveFault, Due, PhaseResult};
+use onfi_flight::Due;
 use onfi_request::{Answer, Item, Request};
 use onfi_timing::Kind;
 use std::alloc::{AllocError, Global};
@@ -110,6 +112,23 @@ impl Lanes {
         if at >= self.luns.len() || !self.luns[at].works(now) {
             return false;
         }
+        self.ask(chip, now, lun)
+    }
+
+    /// As [`Lanes::poll`], for a LUN whose array works or is over by what is stated: it is asked either way. One that is
+    /// idle, in its commands or in its posts isn't asked.
+    pub fn ask<C: Chip>(&mut self, chip: &mut C, now: u64, lun: u8) -> bool
+        requires agree { LanesAgree (C.state chip.old) self.old }
+        ensures ready { IsTrue result → C.state chip.new ≡ found_ready (C.state chip.old) lun now }
+        ensures busy { result ≡ false → C.state chip.new ≡ C.state chip.old }
+        ensures agree { LanesAgree (C.state chip.new) self.new }
+        ensures in_array { IsTrue result → IfSome (slice_get self.old lun) IsInArray }
+        ensures others { OthersKept lun self.old self.new }
+    {
+        let at = usize::from(lun);
+        if at >= self.luns.len() || !self.luns[at].is_in_array() {
+            return false;
+        }
         let lun = mem::replace(&mut self.luns[at], AnyLun::Moving);
         let (lun, ready) = lun.poll(chip, now);
         self.luns[at] = lun;
@@ -175,26 +194,6 @@ impl Lanes {
         let (lun, given) = lun.post(chip, target, due.start, fetch);
         self.luns[at] = lun;
         given
-    }
-}
-
-// Why a command wasn't taken, as why its phase wasn't run.
-fn fault_of_command(fault: ChipFault) -> DriveFault
-    ensures { result ≡ fault_of_command fault }
-{
-    match fault {
-        ChipFault::Bus => DriveFault::Bus,
-        ChipFault::Memory => DriveFault::Memory,
-    }
-}
-
-// Why a post gave no answer, as why its phase wasn't run.
-fn fault_of_post(fault: PostFault) -> DriveFault
-    ensures { result ≡ fault_of_post fault }
-{
-    match fault {
-        PostFault::Bus => DriveFault::Bus,
-        PostFault::NotReady => DriveFault::NotReady,
     }
 }
 

@@ -7,8 +7,8 @@ use Rattle.onfi_schedule.specs.Schedule.{finish}
 use Rattle.onfi_schedule.proofs.Least.{legal_run}
 use Rattle.onfi_check.specs.Tree.{AcceptsTokens}
 use Rattle.onfi_check.proofs.Sound.{sound}
-use Rattle.onfi_known.specs.Laws.{NoneBefore}
-use Rattle.onfi_known.proofs.Sound.{proved_is_below}
+use Rattle.onfi_known_check.specs.Laws.{NoneBefore}
+use Rattle.onfi_known_check.proofs.Sound.{proved_is_below}
 use Rattle.onfi_plan.specs.Certificate.{Certificate, Plain, Remembering, ShowsBelow}
 
 plain_below : (p : Problem) (tokens : List Token) (below : ℕ) → IsProblem p → AcceptsTokens tokens p below → NoneBefore p below

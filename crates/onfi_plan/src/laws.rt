@@ -1,7 +1,7 @@
 //! What certificates show, once for all.
 
 ghost use Rattle.std.specs.Prelude.{ℕ};
-ghost use Rattle.onfi_known.specs.Laws.{NoneBefore};
+ghost use Rattle.onfi_known_check.specs.Laws.{NoneBefore};
 ghost use Rattle.onfi_plan.specs.Certificate.{Certificate as Shown, ShowsBelow};
 
 use onfi_problem::Problem;
@@ -10,5 +10,5 @@ use onfi_problem::Problem;
 pub fn none_ends_before(problem: &Problem)
     ensures { (cert : Shown) (below : ℕ) → ShowsBelow cert problem.now.all problem.now.problem below → NoneBefore problem.now.problem below }
 {
-    let _limits = problem.bus_free();
+    problem.in_limits();
 }

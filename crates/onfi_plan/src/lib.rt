@@ -2,14 +2,15 @@
 //! which is exact. Alone, it says what a planner of one's own has to prove; whoever takes a planner needs no other crate.
 #![tactic(auto)]
 
-mod fault;
 mod laws;
 mod plain;
 mod plan;
 mod planner;
+mod spelling;
 
-pub use fault::PlannerFault;
 pub use laws::none_ends_before;
+pub use onfi_planner::{Limit, PlanFault};
 pub use plain::PlainPlanner;
 pub use plan::Plan;
 pub use planner::Planner;
+pub use spelling::certificate_text;

@@ -1,12 +1,8 @@
 //! The search that remembers nothing, as a planner.
 
-ghost use Rattle.std.specs.Prelude.{◌≡◌};
-ghost use Rattle.onfi_plan.specs.Certificate.{Plain, certificate_in};
-
-use crate::fault::PlannerFault;
 use crate::plan::Plan;
 use crate::planner::Planner;
-use onfi_planner::{Counted, plan_counted};
+use onfi_planner::{Counted, Limit, PlanFault, plan_counted};
 use onfi_problem::Problem;
 use std::alloc::Global;
 
@@ -16,33 +12,19 @@ use std::alloc::Global;
 pub struct PlainPlanner;
 
 impl Planner for PlainPlanner {
-    ghost use Rattle.std.specs.Prelude.{true};
+    ghost use Rattle.std.specs.Prelude.{⊤, true};
     ghost use Rattle.onfi_plan.specs.Certificate.{IsPlain};
 
     ghost exact = { true };
 
     ghost certifies = { IsPlain };
 
-    fn plan(&self, alloc: Global, problem: &Problem, limit: u32) -> Result<Plan, PlannerFault> {
-        let counted = plan_counted(alloc, problem, limit)?;
-        Ok(plan_of(counted))
-    }
-}
+    ghost promises = { λ _ _ _ _. ⊤ };
 
-// The plan of a search; nothing ends before its finish.
-fn plan_of(counted: Counted) -> Plan
-    ensures planned { result.planned ≡ counted.planned }
-    ensures below { result.below ≡ counted.planned.finish }
-    ensures cert { certificate_in result ≡ Plain counted.planned.cert.items }
-    ensures opened { result.opened ≡ counted.opened }
-    ensures reopened { result.reopened ≡ 0 }
-{
-    let Counted { planned, opened } = counted;
-    Plan {
-        below: planned.finish,
-        planned,
-        text: None,
-        opened,
-        reopened: 0,
+    ghost stops = { λ _. ⊤ };
+
+    fn plan(&self, alloc: Global, problem: &Problem, limit: Limit) -> Result<Plan, PlanFault> {
+        let Counted { planned, opened } = plan_counted(alloc, problem, limit.get())?;
+        Ok(Plan::of(planned, opened))
     }
 }

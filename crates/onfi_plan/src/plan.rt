@@ -13,13 +13,30 @@ pub struct Plan {
     pub below: u64,
     /// The text of the certificate where it remembers states: it stands in place of the tokens.
     pub text: Option<Vec<u8>>,
-    /// How many nodes the search opened.
+    /// How many nodes the search opened; 0 where that isn't told.
     pub opened: u32,
     /// How many nodes the search opened that wrote the certificate, where that was another one.
     pub reopened: u32,
 }
 
 impl Plan {
+    /// The plan of a search that remembers nothing and opened so many nodes; nothing ends before its finish.
+    pub fn of(planned: Planned, opened: u32) -> Plan
+        ensures planned { result.planned ≡ planned }
+        ensures below { result.below ≡ planned.finish }
+        ensures cert { certificate_in result ≡ Plain planned.cert.items }
+        ensures opened { result.opened ≡ opened }
+        ensures reopened { result.reopened ≡ 0 }
+    {
+        Plan {
+            below: planned.finish,
+            planned,
+            text: None,
+            opened,
+            reopened: 0,
+        }
+    }
+
     /// The tokens of a certificate that remembers nothing, as `onfi_check` checks them.
     pub fn tokens(&self) -> Option<&[Token]>
         ensures { MatchOption result (IsRemembering (certificate_in self.now)) (λ tokens. certificate_in self.now ≡ Plain tokens.now) }
@@ -30,7 +47,7 @@ impl Plan {
         }
     }
 
-    /// The text of a certificate that remembers states, as `onfi_known` checks it.
+    /// The text of a certificate that remembers states, as `onfi_known_check` checks it.
     pub fn text(&self) -> Option<&[u8]>
         ensures { MatchOption result (IsPlain (certificate_in self.now)) (λ text. certificate_in self.now ≡ Remembering text.now) }
     {

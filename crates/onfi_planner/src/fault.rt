@@ -1,3 +1,4 @@
+use std::alloc::AllocError;
 use thiserror::Error;
 
 /// Why there is no plan, in the order in which it is told.
@@ -9,4 +10,16 @@ pub enum PlanFault {
     /// Memory was refused.
     #[error("memory was refused")]
     Memory,
+}
+
+/// Memory was refused to a planner.
+impl From<AllocError> for PlanFault {
+    ghost use Rattle.std.specs.Prelude.{◌≡◌};
+    ghost use Rattle.onfi_planner.specs.declared.fault.PlanFault.TheVariants.{Memory};
+
+    ghost from_gives = { λ _ told. told ≡ Memory };
+
+    fn from(_refused: AllocError) -> PlanFault {
+        PlanFault::Memory
+    }
 }

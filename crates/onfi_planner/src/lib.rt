@@ -8,6 +8,7 @@ mod dealing;
 mod fault;
 mod first;
 mod gate;
+mod limit;
 mod parts;
 mod placing;
 mod planned;
@@ -19,6 +20,7 @@ mod yields;
 
 pub use fault::PlanFault;
 pub use gate::{NoGate, PartGate};
+pub use limit::Limit;
 pub use placing::schedule_of;
 pub use planned::{Counted, Planned};
 pub use planning::{plan, plan_counted};

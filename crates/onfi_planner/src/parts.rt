@@ -17,6 +17,7 @@ use crate::closing::closing_token;
 use crate::dealing::do_in_turn;
 use crate::fault::PlanFault;
 use crate::gate::PartGate;
+use crate::limit::Limit;
 use crate::root::Root;
 use crate::search::{Best, Stop, visit};
 use crate::yields::yields_of;
@@ -25,9 +26,6 @@ use onfi_check::last_ends;
 use onfi_problem::{Move, Problem};
 use std::alloc::{AllocError, Global};
 use std::thread::Threads;
-
-// As many nodes as a split search may open, the root among them.
-const MOST_OPENED: u32 = 1_048_576;
 
 /// What the search of a part found: what ends first of it and of the first schedule, and how many nodes were opened.
 #[derive(Drop)]
@@ -73,16 +71,14 @@ pub fn search_parts<R: Threads + Sync, G: PartGate + Sync>(
         return Ok(1);
     }
     let moves = root.problem.steps();
-    let Ok(parts) = list_parts(alloc, &root.problem, moves.as_slice()) else {
-        return Err(PlanFault::Memory);
-    };
+    let parts = list_parts(alloc, &root.problem, moves.as_slice())?;
     let found = match search_each(rt, alloc, root, parts.as_slice(), limit, workers, gate) {
         Ok(found) => found,
         Err(Stop::Over) => return Err(PlanFault::Over { opened: limit }),
         Err(Stop::Memory) => return Err(PlanFault::Memory),
     };
     let opened = first_best(&mut root.best, found);
-    if opened > MOST_OPENED {
+    if opened > Limit::MOST {
         return Err(PlanFault::Over { opened: opened - 1 });
     }
     Ok(opened)

@@ -33,10 +33,7 @@ pub fn plan(alloc: Global, problem: &Problem, limit: u32) -> Result<Planned, Pla
     ensures counted { IfOk result (λ plan. OpensWithin problem.now.problem plan.finish limit) }
     ensures over { IfErr result (λ fault. (opened : ℕ) → fault ≡ PlanFault.Over opened → (opened ≡ limit) × HasMoreNodes problem.now.problem limit) }
 {
-    match plan_counted(alloc, problem, limit) {
-        Ok(counted) => Ok(counted.planned),
-        Err(fault) => Err(fault),
-    }
+    Ok(plan_counted(alloc, problem, limit)?.planned)
 }
 
 /// What [`plan`] does, which also tells how many nodes the search opened.
@@ -44,8 +41,6 @@ pub fn plan(alloc: Global, problem: &Problem, limit: u32) -> Result<Planned, Pla
 /// # Errors
 /// Those of [`plan`].
 pub fn plan_counted(alloc: Global, problem: &Problem, limit: u32) -> Result<Counted, PlanFault>
-    requires some { 1 ≤ limit }
-    requires few { limit ≤ 1048576 }
     ensures optimal { IfOk result (λ counted. Optimal problem.now.problem counted.planned.schedule) }
     ensures finish { IfOk result (λ counted. finish problem.now.problem counted.planned.schedule ≡ counted.planned.finish) }
     ensures rising { IfOk result (λ counted. AreRising counted.planned.schedule.groups) }
@@ -55,9 +50,7 @@ pub fn plan_counted(alloc: Global, problem: &Problem, limit: u32) -> Result<Coun
     ensures within { IfOk result (λ counted. counted.opened ≤ limit) }
     ensures over { IfErr result (λ fault. (opened : ℕ) → fault ≡ PlanFault.Over opened → (opened ≡ limit) × HasMoreNodes problem.now.problem limit) }
 {
-    let Ok(root) = root_of(alloc, problem) else {
-        return Err(PlanFault::Memory);
-    };
+    let root = root_of(alloc, problem)?;
     let Root {
         problem: mut at,
         loads,
@@ -71,9 +64,7 @@ pub fn plan_counted(alloc: Global, problem: &Problem, limit: u32) -> Result<Coun
         Err(Stop::Memory) => return Err(PlanFault::Memory),
     }
     let mut cert = Vec::new(alloc);
-    let Ok(_) = certificate::write(&mut at, &loads, bus_bound, best.finish, &mut cert) else {
-        return Err(PlanFault::Memory);
-    };
+    certificate::write(&mut at, &loads, bus_bound, best.finish, &mut cert)?;
     let planned = found_plan(alloc, problem, &best, cert);
     Ok(Counted { planned, opened })
 }

@@ -47,12 +47,8 @@ pub fn plan_split<R: Threads + Sync, G: PartGate + Sync>(
     ensures counted { IfOk result (λ plan. OpensPartsWithin problem.now.problem plan.finish limit) }
     ensures over { IfErr result (λ fault. (opened : ℕ) → fault ≡ PlanFault.Over opened → IsSplitOver problem.now.problem limit opened) }
 {
-    let Ok(mut root) = root_of(alloc, problem) else {
-        return Err(PlanFault::Memory);
-    };
+    let mut root = root_of(alloc, problem)?;
     search_parts(rt, alloc, &mut root, limit, workers, gate)?;
-    let Ok(cert) = write_parts(rt, alloc, &root, workers) else {
-        return Err(PlanFault::Memory);
-    };
+    let cert = write_parts(rt, alloc, &root, workers)?;
     Ok(found_plan(alloc, problem, &root.best, cert))
 }

@@ -1,10 +1,12 @@
--- What chosen planners promise.
-use Rattle.std.specs.Prelude.{ℕ, Option, Some, None}
-use Rattle.onfi_plan.specs.Certificate.{Certificate, IsPlain, IsRemembering}
+-- What chosen planners, and those whose plans are made better, promise.
+use Rattle.std.specs.Prelude.{◌≡◌, ◌≢◌, ◌+◌, ◌≤◌, ◌<◌, ℕ, Bool, IsTrue, Option, Some, None}
+use Rattle.onfi_problem.specs.Problem.{Problem}
+use Rattle.onfi_check.specs.Nodes.{HasMoreNodes}
+use Rattle.onfi_plan.specs.Certificate.{Certificate, IsMadeFrom, IsPlain, IsRemembering, certificate_in}
+use Rattle.onfi_plan.specs.declared.plan.Plan.{Plan}
+use Rattle.onfi_early.specs.Slack.{slack_of}
 use Rattle.onfi_planners.specs.declared.chosen.ChosenPlanner.{ChosenPlanner}
 use Rattle.onfi_planners.specs.declared.chosen.ChosenPlanner.TheVariants.{Plain, Remembering, BestSoFar}
-use Rattle.onfi_planners.specs.declared.exact.ExactPlanner.{ExactPlanner}
-use Rattle.onfi_planners.specs.declared.exact.ExactPlanner.TheVariants as exact
 
 -- which certificates a chosen planner gives
 abbrev pub certified_by : ChosenPlanner → Certificate → Type 0
@@ -12,14 +14,25 @@ certified_by Plain = IsPlain
 certified_by Remembering = IsRemembering
 certified_by BestSoFar = IsRemembering
 
--- which certificates a chosen exact planner gives
-abbrev pub certified_exactly : ExactPlanner → Certificate → Type 0
-certified_exactly exact.Plain = IsPlain
-certified_exactly exact.Remembering = IsRemembering
-
 -- whichever was chosen
 abbrev pub IsAny : Certificate → Type 0
 IsAny _ = Unit {0}
+
+-- what a chosen planner promises of its plan: it is optimal, save that the best so far need not be where the tree of the problem
+-- has more nodes than the limit
+pub record IsChosen (planner : ChosenPlanner) (p : Problem) (limit : ℕ) (plan : Plan) : Type 0 where
+  pub optimal : planner ≢ BestSoFar → plan.below ≡ plan.planned.finish
+  pub certified : certified_by planner (certificate_in plan)
+  pub short : plan.below < plan.planned.finish → (planner ≡ BestSoFar) × HasMoreNodes p limit
+
+-- the plan was made from one of which another planner promises this, by so many nodes, and ends later by so many thousandths at
+-- most; where that one is exact, no legal schedule ends sooner by more; with no node it is that plan
+pub record IsEarly (exact : Bool) {P : Type 0} (Promises : P → Problem → ℕ → Plan → Type 0) (planner : P) (per_mille nodes : ℕ) (p : Problem) (limit : ℕ) (plan : Plan) : Type 0 where
+  pub first : Plan
+  pub promised : Promises planner p limit first
+  pub made : IsMadeFrom first (slack_of per_mille p.bus_free first.below) plan
+  pub as_is : nodes ≡ 0 → plan ≡ first
+  pub near : IsTrue exact → plan.planned.finish ≤ plan.below + slack_of per_mille p.bus_free plan.below
 
 -- the thousandths of slack that were named, none where none were
 abbrev pub slack_in : Option ℕ → ℕ

@@ -1,29 +1,42 @@
 //! Planners whose plans are made better.
 
-ghost use Rattle.std.specs.Prelude.{◌≡◌, ◌+◌, ◌≤◌, ℕ, IsTrue, IfOk, IfErr};
+ghost use Rattle.std.specs.Prelude.{◌≡◌, ◌≤◌, IfOk};
 ghost use Rattle.onfi_schedule.specs.Schedule.{Legal, finish};
-ghost use Rattle.onfi_check.specs.Nodes.{HasMoreNodes};
-ghost use Rattle.onfi_known.specs.Laws.{NoneBefore};
-ghost use Rattle.onfi_plan.specs.Certificate.{ShowsBelow, certificate_in};
+ghost use Rattle.onfi_known_check.specs.Laws.{NoneBefore};
+ghost use Rattle.onfi_planner.specs.Planning.{AreRising};
+ghost use Rattle.onfi_plan.specs.Certificate.{IsMadeFrom};
 ghost use Rattle.onfi_early.specs.Slack.{slack_of};
+ghost use Rattle.onfi_planners.specs.Choice.{IsEarly};
 
 use crate::weighing::Weighing;
-use onfi_early::{improve, slack_of};
-use onfi_plan::{Plan, Planner, PlannerFault};
-use onfi_planner::Planned;
+use onfi_early::{Nodes, Weights, improve, slack_of};
+use onfi_plan::{Limit, Plan, PlanFault, Planner};
 use onfi_problem::Problem;
-use std::alloc::Global;
-
-/// How many nodes are opened for a better plan.
-const NODES: u32 = 1_500;
+use std::alloc::{AllocError, Global};
 
 /// Plans as another planner does, and then makes the plan better by [`improve`](onfi_early::improve): requests end sooner
-/// by their weights, and nothing ends later than the last phase did. Where the other planner is exact, so is this one; its
-/// certificates are those of the other.
+/// by their weights, and nothing ends later than the last phase did. For that it opens so many `nodes`, at most, and with 0 it
+/// plans as the other does. Where the other planner is exact, so is this one; its certificates are those of the other.
 #[derive(Clone, Copy, Debug, Default)]
 pub struct EarlyPlanner<P> {
     pub planner: P,
     pub weighing: Weighing,
+    pub nodes: Nodes,
+}
+
+impl<P> EarlyPlanner<P> {
+    /// One that opens 1,500 nodes, at most, for a better plan.
+    pub fn of(planner: P, weighing: Weighing) -> EarlyPlanner<P>
+        ensures planner { result.planner ≡ planner }
+        ensures weighing { result.weighing ≡ weighing }
+        ensures nodes { result.nodes ≡ 1500 }
+    {
+        EarlyPlanner {
+            planner,
+            weighing,
+            nodes: Nodes::usual(),
+        }
+    }
 }
 
 impl<P: Planner> Planner for EarlyPlanner<P> {
@@ -31,20 +44,45 @@ impl<P: Planner> Planner for EarlyPlanner<P> {
 
     ghost certifies = { P.certifies };
 
-    fn plan(&self, alloc: Global, problem: &Problem, limit: u32) -> Result<Plan, PlannerFault> {
+    ghost promises = { λ early. IsEarly P.exact P.promises early.planner 0 early.nodes };
+
+    ghost stops = { λ early. P.stops early.planner };
+
+    fn plan(&self, alloc: Global, problem: &Problem, limit: Limit) -> Result<Plan, PlanFault> {
         let plan = self.planner.plan(alloc, problem, limit)?;
-        made_better(alloc, problem, plan, self.weighing, 0)
+        let weights = self.weighing.weights_of(problem);
+        let better = made_better_within(alloc, problem, plan, &weights, 0, self.nodes)?;
+        Ok(better)
     }
 }
 
 /// Plans likewise, and the last phase may end later by `per_mille` thousandths, 1,000 at most, of what lies between the time
 /// from when on the bus is free and the one before which no legal schedule ends. It isn't exact; where the other planner
-/// is, its plans end at most so much later than any legal schedule.
-#[derive(Clone, Copy, Debug, Default)]
+/// is, its plans end at most so much later than any legal schedule, and with 0 thousandths they are those of
+/// [`EarlyPlanner`]. With 0 nodes they are those of the other planner.
+#[derive(Clone, Copy, Debug, Default, PartialEq, Eq)]
 pub struct SlackPlanner<P> {
     pub planner: P,
     pub weighing: Weighing,
     pub per_mille: u16,
+    pub nodes: Nodes,
+}
+
+impl<P> SlackPlanner<P> {
+    /// One that opens 1,500 nodes, at most, for a better plan.
+    pub fn of(planner: P, weighing: Weighing, per_mille: u16) -> SlackPlanner<P>
+        ensures planner { result.planner ≡ planner }
+        ensures weighing { result.weighing ≡ weighing }
+        ensures slack { result.per_mille ≡ per_mille }
+        ensures nodes { result.nodes ≡ 1500 }
+    {
+        SlackPlanner {
+            planner,
+            weighing,
+            per_mille,
+            nodes: Nodes::usual(),
+        }
+    }
 }
 
 impl<P: Planner> Planner for SlackPlanner<P> {
@@ -54,66 +92,75 @@ impl<P: Planner> Planner for SlackPlanner<P> {
 
     ghost certifies = { P.certifies };
 
-    fn plan(&self, alloc: Global, problem: &Problem, limit: u32) -> Result<Plan, PlannerFault>
-        requires some { 1 ≤ limit }
-        requires few { limit ≤ 1048576 }
-        ensures legal { IfOk result (λ plan. Legal problem.now.problem plan.planned.schedule) }
-        ensures finish { IfOk result (λ plan. finish problem.now.problem plan.planned.schedule ≡ plan.planned.finish) }
-        ensures below { IfOk result (λ plan. plan.below ≤ plan.planned.finish) }
-        ensures none_before { IfOk result (λ plan. NoneBefore problem.now.problem plan.below) }
-        ensures shown { IfOk result (λ plan. ShowsBelow (certificate_in plan) problem.now.all problem.now.problem plan.below) }
-        ensures near { IsTrue P.exact → IfOk result (λ plan. plan.planned.finish ≤ plan.below + slack_of self.now.per_mille problem.now.problem.bus_free plan.below) }
-        ensures kind { IfOk result (λ plan. P.certifies (certificate_in plan)) }
-        ensures opened { IfOk result (λ plan. plan.opened ≤ limit) }
-        ensures reopened { IfOk result (λ plan. plan.reopened ≤ limit) }
-        ensures over { IfErr result (λ fault. (opened : ℕ) → fault ≡ PlannerFault.Over opened → (opened ≡ limit) × HasMoreNodes problem.now.problem limit) }
-    {
+    ghost promises = { λ slack. IsEarly P.exact P.promises slack.planner slack.per_mille slack.nodes };
+
+    ghost stops = { λ slack. P.stops slack.planner };
+
+    fn plan(&self, alloc: Global, problem: &Problem, limit: Limit) -> Result<Plan, PlanFault> {
         let plan = self.planner.plan(alloc, problem, limit)?;
-        let slack = slack_of(self.per_mille, problem.bus_free(), plan.below);
-        made_better(alloc, problem, plan, self.weighing, slack)
+        let weights = self.weighing.weights_of(problem);
+        let better = made_better_within(
+            alloc,
+            problem,
+            plan,
+            &weights,
+            self.per_mille,
+            self.nodes,
+        )?;
+        Ok(better)
     }
 }
 
-/// The plan, made better within a slack in ns; it keeps its certificate.
+/// The plan, made better by weights, for which 1,500 nodes are opened at most; it ends later by so many thousandths at most, as
+/// those of [`SlackPlanner`] do, and keeps its certificate.
 ///
 /// # Errors
-/// `Memory` alone.
-pub(crate) fn made_better(
+/// Only where memory was refused.
+pub fn made_better(
     alloc: Global,
     problem: &Problem,
     plan: Plan,
-    weighing: Weighing,
-    slack: u64,
-) -> Result<Plan, PlannerFault>
+    weights: &Weights,
+    per_mille: u16,
+) -> Result<Plan, AllocError>
     requires legal { Legal problem.now.problem plan.planned.schedule }
     requires finish { finish problem.now.problem plan.planned.schedule ≡ plan.planned.finish }
+    requires rising { AreRising plan.planned.schedule.groups }
     requires none_before { NoneBefore problem.now.problem plan.below }
     ensures legal { IfOk result (λ better. Legal problem.now.problem better.planned.schedule) }
     ensures finish { IfOk result (λ better. finish problem.now.problem better.planned.schedule ≡ better.planned.finish) }
-    ensures in_time { IfOk result (λ better. better.planned.finish ≤ plan.planned.finish + slack) }
-    ensures least { IfOk result (λ better. better.below ≤ better.planned.finish) }
-    ensures below { IfOk result (λ better. better.below ≡ plan.below) }
-    ensures cert { IfOk result (λ better. certificate_in better ≡ certificate_in plan) }
-    ensures opened { IfOk result (λ better. better.opened ≡ plan.opened) }
-    ensures reopened { IfOk result (λ better. better.reopened ≡ plan.reopened) }
-    ensures memory { IfErr result (λ fault. fault ≡ PlannerFault.Memory) }
+    ensures rising { IfOk result (λ better. AreRising better.planned.schedule.groups) }
+    ensures below { IfOk result (λ better. better.below ≤ better.planned.finish) }
+    ensures made { IfOk result (IsMadeFrom plan (slack_of per_mille problem.now.problem.bus_free plan.below)) }
 {
-    let weights = weighing.weights_of(problem);
-    let Ok(better) = improve(
-        alloc,
-        problem,
-        &plan.planned.schedule,
-        &weights,
-        slack,
-        NODES,
-    ) else {
-        return Err(PlannerFault::Memory);
-    };
-    let first = plan.planned;
-    let planned = Planned {
-        schedule: better.schedule,
-        finish: better.finish,
-        ..first
-    };
-    Ok(Plan { planned, ..plan })
+    made_better_within(alloc, problem, plan, weights, per_mille, Nodes::usual())
+}
+
+/// What [`made_better`] does, where so many nodes are opened at most; with 0 the plan stays as it is.
+///
+/// # Errors
+/// Only where memory was refused.
+pub fn made_better_within(
+    alloc: Global,
+    problem: &Problem,
+    plan: Plan,
+    weights: &Weights,
+    per_mille: u16,
+    nodes: Nodes,
+) -> Result<Plan, AllocError>
+    requires legal { Legal problem.now.problem plan.planned.schedule }
+    requires finish { finish problem.now.problem plan.planned.schedule ≡ plan.planned.finish }
+    requires rising { AreRising plan.planned.schedule.groups }
+    requires none_before { NoneBefore problem.now.problem plan.below }
+    ensures legal { IfOk result (λ better. Legal problem.now.problem better.planned.schedule) }
+    ensures finish { IfOk result (λ better. finish problem.now.problem better.planned.schedule ≡ better.planned.finish) }
+    ensures rising { IfOk result (λ better. AreRising better.planned.schedule.groups) }
+    ensures below { IfOk result (λ better. better.below ≤ better.planned.finish) }
+    ensures made { IfOk result (IsMadeFrom plan (slack_of per_mille problem.now.problem.bus_free plan.below)) }
+    ensures as_is { nodes ≡ 0 → IfOk result (λ better. better ≡ plan) }
+{
+    let mut better = plan;
+    let slack = slack_of(per_mille, problem.bus_free(), better.below);
+    improve(alloc, problem, &mut better, weights, slack, nodes.get())?;
+    Ok(better)
 }

@@ -1,5 +1,5 @@
 -- Lists and their maps.
-use Rattle.std.proofs.Common.{◌≡◌, ℕ, zero, suc, ◌+◌, ◌<◌, arith, Bool, List, [], ◌∷◌, length, get_or, map, Some, refl, ap, ◌∙◌, length-set, drop}
+use Rattle.std.proofs.Common.{◌≡◌, ℕ, zero, suc, ◌<◌, arith, Bool, List, [], ◌∷◌, length, get_or, map, Some, refl, ap, ◌∙◌, length-set, drop}
 use Rattle.std.specs.Prelude.{slice_get, slice_set, IfSome, option_map}
 use Rattle.std.specs.List.{refill, list_any, AllByRecursion as All}
 use Rattle.std.proofs.lemmas.List.{take_at}

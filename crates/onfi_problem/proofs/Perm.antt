@@ -1,5 +1,5 @@
 -- Lists in another order, by cases.
-use Rattle.std.proofs.Common.{◌≡◌, ℕ, ◌+◌, inl, inr, List, [], ◌∷◌, ◌++◌, refl, sym, ap, ◌∙◌, subst, arith, append_assoc, length, map, suc}
+use Rattle.std.proofs.Common.{◌≡◌, ℕ, ◌+◌, inl, inr, List, [], ◌∷◌, ◌++◌, refl, sym, ap, ◌∙◌, subst, arith, append_assoc, length, suc}
 use Rattle.std.specs.List.{AllByRecursion as All, flat_map}
 pub use Rattle.std.proofs.Common.{append-nil as append_nil}
 use Rattle.onfi_group.specs.Words.{Has, Pairs, total}

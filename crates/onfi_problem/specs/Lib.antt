@@ -6,3 +6,4 @@ pub mod Kept
 pub mod Checks
 pub mod Starts
 pub mod StartMarks
+pub mod Faults

@@ -7,6 +7,7 @@
 mod checks;
 mod ends;
 mod fault;
+mod finding;
 mod horizon;
 mod lun_state;
 mod move_list;
@@ -16,6 +17,7 @@ mod start_marks;
 mod table;
 
 pub use fault::ProblemFault;
+pub use finding::find_fault;
 pub use lun_state::LunState;
 pub use move_list::Moves;
 pub use moves::{Lun, Move, Undo};

@@ -7,9 +7,8 @@ mod listing;
 mod moving;
 mod readers;
 
-use crate::checks::{is_problem, is_small};
 use crate::fault::ProblemFault;
-use crate::horizon::reaches_limit;
+use crate::finding::find_fault;
 use crate::lun_state::LunState;
 use crate::moves::Lun;
 use crate::start_marks::{StartMarks, list_start_marks};
@@ -80,14 +79,8 @@ impl Problem {
         ensures memory { let p = problem_of timing rules bus_free luns.now wants.now in
             IsErrOf result ProblemFault.Memory → InLimits p }
     {
-        if !is_small(luns, wants) {
-            return Err(ProblemFault::TooMany);
-        }
-        if !is_problem(&rules, luns, wants) {
-            return Err(ProblemFault::BadLun);
-        }
-        if reaches_limit(&timing, bus_free, luns, wants) {
-            return Err(ProblemFault::Clock);
+        if let Some(fault) = find_fault(&timing, &rules, bus_free, luns, wants) {
+            return Err(fault);
         }
         match Problem::open(alloc, timing, rules, bus_free, luns, wants) {
             Ok(problem) => Ok(problem),

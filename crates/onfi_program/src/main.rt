@@ -9,10 +9,10 @@ mod input;
 
 use input::{Unread, read};
 use onfi_console::{Input, Untaken, escaped, is_quiet, message, read_words, shown};
-use onfi_run::run_freely;
-use onfi_script::{engine_split_by, write_text};
-use onfi_sim::{Command, EngineFault, Named, Parsed, RunPlanner, describe, engine, engine_split};
-use std::alloc::Global;
+use onfi_run::{Limit, run_freely};
+use onfi_script::{Answer, Why, answer_by, write_text};
+use onfi_sim::{Named, Parsed, describe};
+use std::alloc::AllocError;
 use std::fmt::Display;
 use std::io::{Eprint, ErrorKind, Print};
 use std::process::ExitCode;
@@ -117,46 +117,26 @@ fn tell_unread(rt: &(impl AllocGlobal + Eprint), name: &str, why: impl Display +
     }
 }
 
-/// Puts behind an answer what the page of a script says; the status.
-fn tell_device(alloc: Global, text: &[u8], answer: &mut Vec<u8>) -> Result<u8, EngineFault> {
-    let Ok(told) = describe(alloc, text) else {
-        return Err(EngineFault::Write);
-    };
-    write_text(answer, told.text.as_slice())?;
-    Ok(told.status)
-}
-
-/// Answers what is asked of an input; the status.
+/// The answer to what is asked of an input.
 fn answer_to<R: Threads + Wait + Sync + AllocGlobal>(
     rt: &R,
     parsed: &Parsed<'_>,
-    mut text: &[u8],
-    answer: &mut Vec<u8>,
-) -> Result<u8, EngineFault>
+    text: &[u8],
+) -> Result<Answer, AllocError>
     requires { IsInRange parsed.now.named }
 {
     let alloc = rt.alloc();
     match parsed.named {
         Named::Run {
-            planner: RunPlanner::Exact(planner),
+            planner,
             limit,
             clocked,
-        } => run_freely(rt, alloc, planner, limit, clocked, &mut text, answer),
-        Named::Run {
-            planner: RunPlanner::Inexact(planner),
-            limit,
-            clocked,
-        } => run_freely(rt, alloc, planner, limit, clocked, &mut text, answer),
-        Named::Problem {
-            command: Command::Plan { limit, trace },
-            workers,
-        } if workers > 1 => engine_split(rt, alloc, limit, trace, workers, &mut text, answer),
-        Named::Problem {
-            command: Command::PlanBy(options),
-            workers,
-        } if workers > 1 => engine_split_by(rt, alloc, options, workers, &mut text, answer),
-        Named::Problem { command, .. } => engine(alloc, command, &mut text, answer),
-        Named::Device => tell_device(alloc, text, answer),
+        } => {
+            let limit = Limit::of(limit).unwrap();
+            run_freely(rt, alloc, planner, limit, clocked, text)
+        }
+        Named::Problem { command, workers } => answer_by(rt, alloc, command, workers, text),
+        Named::Device => describe(alloc, text),
     }
 }
 
@@ -178,16 +158,15 @@ fn main(rt: HostRuntime) -> ExitCode {
         script: parsed.script,
         plan: parsed.plan.map(|name| (name, at)),
     };
-    let mut answer = Vec::new(rt.alloc());
-    let answered = answer_to(&rt, &parsed, input.text, &mut answer);
-    // An answer in memory fails for memory alone.
-    let Ok(status) = answered else {
-        return ExitCode::from(out_of_memory(&rt));
+    let answered = answer_to(&rt, &parsed, input.text);
+    let (text, status, why) = match &answered {
+        Ok(answer) => (answer.text.as_slice(), answer.status, answer.why),
+        Err(_) => (b"memory\n".as_slice(), 4, Some(Why::Memory)),
     };
-    if write_text(&mut std::io::writer(&rt), answer.as_slice()).is_err() {
+    if write_text(&mut std::io::writer(&rt), text).is_err() {
         return ExitCode::from(7);
     }
-    if let Ok(Some(text)) = message(rt.alloc(), &parsed, &input, answer.as_slice()) {
+    if let Ok(Some(text)) = message(rt.alloc(), &parsed, &input, text, why) {
         let _ = rt.eprint(text.as_str());
     }
     ExitCode::from(status)

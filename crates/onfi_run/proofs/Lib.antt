@@ -15,3 +15,4 @@ pub mod Reporting
 pub mod Latencies
 pub mod Resting
 pub mod Moments
+pub mod Acting

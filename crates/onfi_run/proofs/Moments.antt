@@ -1,18 +1,20 @@
 -- What changes at a moment, one call after another.
-use Rattle.std.proofs.Common.{◌≡◌, ◌⊎◌, inl, inr, ◌<◌, ◌≤◌, ℕ, zero, suc, Bool, true, false, List, [], ◌∷◌, length, get_or, refl, sym, subst, arith, Some, None}
-use Rattle.std.specs.Prelude.{Option, IfNone, max, set, slice_get}
+use Rattle.std.proofs.Common.{◌≡◌, ◌⊎◌, inl, inr, ◌<◌, ◌≤◌, ℕ, zero, suc, Bool, true, false, List, [], ◌∷◌, length, get_or, map, refl, sym, ◌∙◌, subst, arith, Some}
+use Rattle.std.specs.Prelude.{max, set, slice_get}
 use Rattle.std.specs.List.{AllZip}
 use Rattle.std.proofs.Math.Bool.{cond}
+use Rattle.std.proofs.Math.Seq.{map-set_same}
 use Rattle.std.proofs.lemmas.Bool.{cases_lt}
 use Rattle.std.proofs.lemmas.Option.{slice_get-get_or, slice_get_past}
+use Rattle.std.proofs.lemmas.Simd.{map-map}
 use Rattle.onfi_request.specs.declared.answer.Answer.{Answer}
 use Rattle.onfi_request.specs.declared.request.Request.{Request}
 use Rattle.onfi_run.specs.declared.completion.Completion.{Completion}
 use Rattle.onfi_run.specs.declared.port.Port.{Port}
 use Rattle.onfi_run.specs.declared.station.Station.{Station}
 use Rattle.onfi_run.specs.Answers.{came, changed, submitted, suits}
-use Rattle.onfi_run.specs.Keys.{Collects, LeavesOut, Submits, is_behind, is_refused, is_sent}
-use Rattle.onfi_run.specs.Moments.{AllAtMoment, AtMoment, ChangedAt, IsMoment, Makes, OnPort, is_absent, is_short, is_submitted, is_there, is_too_late}
+use Rattle.onfi_run.specs.Keys.{Collects, HasSamePorts, HaveSamePorts, LeavesOut, Submits, port_key, is_behind, is_refused, is_sent, is_too_late}
+use Rattle.onfi_run.specs.Moments.{AllAtMoment, AtMoment, ChangedAt, IsMoment, Makes, OnPort, is_absent, is_short, is_submitted, is_there}
 use Rattle.onfi_run.specs.Report.{AnswersView}
 
 -- ---- pairs
@@ -94,21 +96,21 @@ collected_at now true p q took =
     subst (AllZip (ChangedAt now) p.answers) (sym took.answers) (zip_changed (ChangedAt now) (unchanged now) (came now took.reply.answer) (came_at now took.reply.answer) p.answers took.reply.serial)
 collected_at now false p q same = subst (λ (x : Port). AllZip (ChangedAt now) p.answers x.answers) (sym same) (all_unchanged now p.answers)
 
-submits_at : (now : ℕ) (request : Request) (p q : Port) → Submits now request p q → AllZip (ChangedAt now) p.answers q.answers
-submits_at now request p q (is_sent goes_on is) =
-    subst (λ (x : Port). AllZip (ChangedAt now) p.answers x.answers) (sym is) (zip_changed (ChangedAt now) (unchanged now) (submitted now) (submitted_at now) p.answers (length p.host.sent))
-submits_at now request p q (is_behind left is) = subst (λ (x : Port). AllZip (ChangedAt now) p.answers x.answers) (sym is) (all_unchanged now p.answers)
-submits_at now request p q (is_refused never is) = subst (λ (x : Port). AllZip (ChangedAt now) p.answers x.answers) (sym is) (all_unchanged now p.answers)
-
 left_at : (now : ℕ) (p q : Port) → LeavesOut p q → AllZip (ChangedAt now) p.answers q.answers
 left_at now p q is = subst (λ (x : Port). AllZip (ChangedAt now) p.answers x.answers) (sym is) (all_unchanged now p.answers)
+
+submits_at : (now : ℕ) (request : Request) (ended : Bool) (p q : Port) → Submits now request ended p q → AllZip (ChangedAt now) p.answers q.answers
+submits_at now request ended p q (is_sent goes_on is) =
+    subst (λ (x : Port). AllZip (ChangedAt now) p.answers x.answers) (sym is) (zip_changed (ChangedAt now) (unchanged now) (submitted now) (submitted_at now) p.answers (length p.host.sent))
+submits_at now request ended p q (is_behind left is) = subst (λ (x : Port). AllZip (ChangedAt now) p.answers x.answers) (sym is) (all_unchanged now p.answers)
+submits_at now request ended p q (is_refused never is) = left_at now p q is
+submits_at now request ended p q (is_too_late late full is) = left_at now p q is
 
 pub collect_moment : (now channel : ℕ) (came : Bool) (old new : List Port) → OnPort (Collects now came) channel old new → AtMoment now old new
 collect_moment now channel came old new how = at_moment now (Collects now came) channel old new (collected_at now came) how
 
 pub makes_moment : (now channel : ℕ) (request : Request) (ended : Bool) (old new : Station) → Makes now channel request ended old new → AtMoment now old.ports.items new.ports.items
-makes_moment now channel request ended old new (is_submitted how short) = at_moment now (Submits now request) channel old.ports.items new.ports.items (submits_at now request) how
-makes_moment now channel request ended old new (is_too_late late full how short) = at_moment now LeavesOut channel old.ports.items new.ports.items (left_at now) how
+makes_moment now channel request ended old new (is_submitted how short) = at_moment now (Submits now request ended) channel old.ports.items new.ports.items (submits_at now request ended) how
 makes_moment now channel request ended old new (is_short how short) = at_moment now LeavesOut channel old.ports.items new.ports.items (left_at now) how
 
 -- ---- one port
@@ -117,10 +119,6 @@ there_went went ports at d new h how = is_there (get_or ports at d) new (slice_g
 
 pub none_went : (went : Port → Port → Type 0) (ports : List Port) (at : ℕ) → length ports ≤ at → OnPort went at ports ports
 none_went went ports at h = is_absent (slice_get_past ports at h) refl
-
-pub none_then : {X P Q : Type 0} (o : Option X) → (P → Q) → IfNone o P → IfNone o Q
-none_then None so p = so p
-none_then (Some x) so p = tt
 
 -- ---- all hosts
 pub all_same_moment : (now : ℕ) (stations : List Station) → AllAtMoment now stations stations
@@ -135,13 +133,9 @@ pub one_moment : (now : ℕ) (stations : List Station) (at : ℕ) (d new : Stati
 one_moment now stations at d new h went =
     zip_set _ (λ (s : Station). same_moment now s.ports.items s.ports.items refl) stations at (get_or stations at d) new (slice_get-get_or stations at d h) went
 
--- each of four hosts went on in turn
-pub four_moments : (now : ℕ) (xs : List Station) (s0 s1 s2 s3 a b c d : Station) → length xs ≡ 4 → AtMoment now (get_or xs 0 s0).ports.items a.ports.items
-    → AtMoment now (get_or (set xs 0 a) 1 s1).ports.items b.ports.items → AtMoment now (get_or (set (set xs 0 a) 1 b) 2 s2).ports.items c.ports.items
-    → AtMoment now (get_or (set (set (set xs 0 a) 1 b) 2 c) 3 s3).ports.items d.ports.items → AllAtMoment now xs (set (set (set (set xs 0 a) 1 b) 2 c) 3 d)
-four_moments now [] s0 s1 s2 s3 a b c d n m0 m1 m2 m3 = absurd (omega (arith, n))
-four_moments now (w ∷ []) s0 s1 s2 s3 a b c d n m0 m1 m2 m3 = absurd (omega (arith, n))
-four_moments now (w ∷ x ∷ []) s0 s1 s2 s3 a b c d n m0 m1 m2 m3 = absurd (omega (arith, n))
-four_moments now (w ∷ x ∷ y ∷ []) s0 s1 s2 s3 a b c d n m0 m1 m2 m3 = absurd (omega (arith, n))
-four_moments now (w ∷ x ∷ y ∷ z ∷ []) s0 s1 s2 s3 a b c d n m0 m1 m2 m3 = (m0, (m1, (m2, (m3, tt))))
-four_moments now (w ∷ x ∷ y ∷ z ∷ v ∷ xs) s0 s1 s2 s3 a b c d n m0 m1 m2 m3 = absurd (omega (arith, n))
+pub one_same : (stations : List Station) (at : ℕ) (d new : Station) → HasSamePorts (get_or stations at d).ports.items new.ports.items
+    → HaveSamePorts stations (set stations at new)
+one_same stations at d new same =
+    map-map (map port_key) (λ (s : Station). s.ports.items) (set stations at new)
+    ∙ map-set_same (λ (s : Station). map port_key s.ports.items) stations at new d same
+    ∙ sym (map-map (map port_key) (λ (s : Station). s.ports.items) stations)

@@ -140,12 +140,3 @@ all_rest now at rows paces (s ∷ stations) later before (here, rest) (due, none
 pub each_apart : {X : Type 0} (P : X → Type 0) (xs ys : List X) → Each P (xs ++ ys) → Each P xs × Each P ys
 each_apart P [] ys all = (tt, all)
 each_apart P (x ∷ xs) ys (here, all) = let both = each_apart P xs ys all in ((here, both.0), both.1)
-
--- all four
-pub each_set : {X : Type 0} (P : X → Type 0) (xs : List X) (a b c d : X) → length xs ≡ 4 → P a → P b → P c → P d → Each P (set (set (set (set xs 0 a) 1 b) 2 c) 3 d)
-each_set P [] a b c d n pa pb pc pd = tt
-each_set P (w ∷ []) a b c d n pa pb pc pd = absurd (omega (arith, n))
-each_set P (w ∷ x ∷ []) a b c d n pa pb pc pd = absurd (omega (arith, n))
-each_set P (w ∷ x ∷ y ∷ []) a b c d n pa pb pc pd = absurd (omega (arith, n))
-each_set P (w ∷ x ∷ y ∷ z ∷ []) a b c d n pa pb pc pd = (pa, (pb, (pc, (pd, tt))))
-each_set P (w ∷ x ∷ y ∷ z ∷ v ∷ xs) a b c d n pa pb pc pd = absurd (omega (arith, n))

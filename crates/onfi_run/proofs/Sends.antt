@@ -1,12 +1,11 @@
 -- What hosts send, call by call.
 use Rattle.std.proofs.Common.{arith, ◌≡◌, ◌≢◌, ◌<◌, ◌≤◌, take, ◌⊎◌, inl, inr, ℕ, zero, suc, Bool, true, false, List, [], ◌∷◌, ◌++◌, length, map, get_or, refl, sym, ap, ◌∙◌, subst, append-nil, Some, None}
-use Rattle.std.specs.Prelude.{Option, IfSome, IfNone, slice_get, set, ◌==◌}
+use Rattle.std.specs.Prelude.{Option, slice_get, set, ◌==◌}
 use Rattle.std.specs.Option.{option_map}
 use Rattle.std.specs.List.{cons_option}
 use Rattle.std.proofs.Math.Bool.{cond}
 use Rattle.std.proofs.lemmas.Bool.{eq-eqb, ne_eqb}
 use Rattle.std.proofs.lemmas.List.Elements.{filter_map-append}
-use Rattle.std.proofs.Math.Seq.{map-set_same}
 use Rattle.std.proofs.lemmas.Option.{slice_get-get_or, slice_get-map, slice_get_within}
 use Rattle.std.proofs.lemmas.Simd.{map-map}
 use Rattle.onfi_addr.specs.declared.geometry.Geometry.{Geometry}
@@ -18,7 +17,7 @@ use Rattle.onfi_run.specs.declared.port.Port.{Port}
 use Rattle.onfi_run.specs.Keys.{port_state, HasSamePorts, SendsNothing}
 use Rattle.onfi_run.specs.Operations.{on_channel, operation_of, request_in, requests_on}
 use Rattle.onfi_run.specs.Requests.{request_of}
-use Rattle.onfi_run.specs.Sending.{AreSending, HasSent, IsSending, Tried, with_request}
+use Rattle.onfi_run.specs.Sending.{AreSending, HasSent, IsSending, with_request}
 
 -- ---- ports that send nothing
 pub same_keys : (old new : List Port) → SendsNothing old new → HasSamePorts old new
@@ -85,18 +84,6 @@ pub none_there : (requests : ℕ → List Request) (ports : List Port) (at : ℕ
 none_there requests ports at request h sending i q there =
     let lt = slice_get_within ports i q there in
     subst (λ l. IsSending l q) (sym (with_other requests at i request (λ e. omega (e, arith)))) (sending i q there)
-
--- ---- tries
-pub tried_one : (o : Option Request) (ports : List Port) (at : ℕ) (d new : Port) (request : Request) → at < length ports
-    → IfNone o ((requests : List Request) → IsSending requests (get_or ports at d) → IsSending (requests ++ request ∷ []) new)
-    → IfSome o (λ back. (back ≡ request) × (port_state new ≡ port_state (get_or ports at d))) → Tried o at request ports (set ports at new)
-tried_one None ports at d new request h sent full = λ requests sending. one_more requests ports at d new request h (sent (requests at)) sending
-tried_one (Some back) ports at d new request h sent full = (full.0, all_still_sending ports (set ports at new) (map-set_same port_state ports at new d full.1))
-
-pub tried_then : (o : Option Request) (at : ℕ) (request back : Request) (a b c : List Port) → Tried (Some back) at request a b → Tried o at back b c → Tried o at request a c
-tried_then None at request back a b c first second = λ requests sending.
-    subst (λ r. AreSending (with_request requests at r) c) first.0 (second requests (first.1 requests sending))
-tried_then (Some again) at request back a b c first second = (second.0 ∙ first.0, λ requests sending. second.1 requests (first.1 requests sending))
 
 -- ---- rows
 by_test : (xs : List Request) (op : Operation) (geometry : Geometry) (b : Bool)

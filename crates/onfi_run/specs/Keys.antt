@@ -14,6 +14,7 @@ use Rattle.onfi_run.specs.Answers.{changed, submitted, with_reply}
 use Rattle.onfi_run.specs.Arriving.{Expected}
 use Rattle.onfi_run.specs.ByHost.{host_numbers}
 use Rattle.onfi_run.specs.Report.{places}
+use Rattle.onfi_run.specs.Resting.{IsFull}
 
 -- the queues of a channel: the submission queue, and the completion queue of each host
 pub record ChannelQueues : Type 0 where
@@ -65,12 +66,13 @@ LeavesOut old new = new ≡ record old { left_out = true }
 abbrev pub IsNeverTaken : HostView → Request → Type 0
 IsNeverTaken host request = (why : SubmitFault) × (why ≢ Full) × IsWhyNot host request why
 
--- a request was submitted at that moment, or left out: since one was before, or since the queue never takes it
-pub data Submits (now : ℕ) (request : Request) (old new : Port) : Type 0 where
+-- a request was submitted at that moment, or left out: since one was before, since the queue never takes it, or since it was full and the channel has ended
+pub data Submits (now : ℕ) (request : Request) (has_ended : Bool) (old new : Port) : Type 0 where
   is_sent : old.left_out ≡ false → new ≡ record old { host = after_sending old.host request; answers = changed (submitted now) old.answers (length old.host.sent) }
-      → Submits now request old new
-  is_behind : old.left_out ≡ true → new ≡ old → Submits now request old new
-  is_refused : IsNeverTaken old.host request → LeavesOut old new → Submits now request old new
+      → Submits now request has_ended old new
+  is_behind : old.left_out ≡ true → new ≡ old → Submits now request has_ended old new
+  is_refused : IsNeverTaken old.host request → LeavesOut old new → Submits now request has_ended old new
+  is_too_late : has_ended ≡ true → IsFull old → LeavesOut old new → Submits now request has_ended old new
 
 -- the same ends, with places for the same answers, in the same order
 abbrev pub HasSamePorts : List Port → List Port → Type 0

@@ -1,5 +1,5 @@
 -- What hosts send.
-use Rattle.std.specs.Prelude.{◌≡◌, ℕ, ◌==◌, false, if◌then◌else◌, List, [], ◌∷◌, ◌++◌, map, Option, Some, None, slice_get}
+use Rattle.std.specs.Prelude.{◌≡◌, ℕ, ◌==◌, false, if◌then◌else◌, List, [], ◌∷◌, ◌++◌, map, Some, slice_get}
 use Rattle.onfi_addr.specs.declared.geometry.Geometry.{Geometry}
 use Rattle.onfi_request.specs.declared.request.Item.{Item}
 use Rattle.onfi_request.specs.declared.request.Request.{Request}
@@ -28,8 +28,3 @@ with_request requests channel request at = if channel == at then requests at ++ 
 -- what a host's ends sent are the first of the operations in these rows, channel by channel, all of them unless one was left out
 abbrev pub HasSent : Geometry → List Row → ℕ → List Port → Type 0
 HasSent geometry rows host ports = AreSending (requests_on geometry rows host) ports
-
--- what came of a try to submit a request: it was sent or left out, or it comes back
-abbrev pub Tried : Option Request → ℕ → Request → List Port → List Port → Type 0
-Tried None channel request old new = (requests : ℕ → List Request) → AreSending requests old → AreSending (with_request requests channel request) new
-Tried (Some back) channel request old new = (back ≡ request) × ((requests : ℕ → List Request) → AreSending requests old → AreSending requests new)

@@ -39,6 +39,7 @@ pub use clock_report::ClockReport;
 pub use completion::Completion;
 pub use latency::Latency;
 pub use no_gate::NoGate;
+pub use onfi_plan::Limit;
 pub use preparing::{Prepared, prepare, prepare_for};
 pub use progress::Progress;
 pub use report::Report;

@@ -19,7 +19,7 @@ use crate::port::Port;
 use crate::setup::setup_of;
 use crate::station::{Station, apart};
 use onfi_core::Setup;
-use onfi_plan::Planner;
+use onfi_plan::{Limit, Planner};
 use onfi_queue::{Host, Intake};
 use onfi_reply::{Inbox, Poster};
 use onfi_script::{PageDevice, Row};
@@ -249,11 +249,9 @@ impl<P: Planner + Copy + Drop, G: Gate + Drop> Stage<P, G> {
         rows: &[Row],
         device: &PageDevice,
         planner: P,
-        limit: u32,
+        limit: Limit,
         gates: Vec<G>,
     ) -> Result<Stage<P, G>, AllocError>
-        requires some { 1 ≤ limit }
-        requires few { limit ≤ 1048576 }
         requires gates { length gates.items ≡ 4 }
         ensures opened { IfOk result (λ s. AreOpenedOn rows.now device.now limit gates.items s.lanes.items) }
         ensures linked { IfOk result (λ s. AreLinked (map lane_queues s.lanes.items) s.stations) }

@@ -1,5 +1,5 @@
 //! A host's ends on a channel.
-ghost use Rattle.std.specs.Prelude.{◌≡◌, ◌++◌, [], ◌∷◌, List, IfSome, IfNone, false};
+ghost use Rattle.std.specs.Prelude.{◌≡◌, ◌++◌, [], ◌∷◌, List, IsTrue, false};
 ghost use Rattle.onfi_request.specs.declared.request.Request.{Request as ARequest};
 ghost use Rattle.onfi_run.specs.Keys.{port_key, port_state, Collects, LeavesOut, Submits};
 ghost use Rattle.onfi_run.specs.Resting.{IsEmptied, IsFull};
@@ -46,26 +46,36 @@ impl Port {
         self.left_out = true;
     }
 
-    /// Submits a request at that moment behind all that were submitted, or leaves it out where one was left out before. It
-    /// comes back where the queue was full.
-    pub(crate) fn submit<R: Wait>(&mut self, rt: &R, now: u64, request: Request) -> Option<Request>
+    /// Submits a request at that moment behind all that were submitted, or leaves it out: where one was left out before, where
+    /// the queue never takes it, or where it is full and the channel has ended. Whether either was done; else the queue is full.
+    pub(crate) fn submit<R: Wait>(
+        &mut self,
+        rt: &R,
+        now: u64,
+        has_ended: bool,
+        request: Request,
+    ) -> bool
         ensures same { port_key self.new ≡ port_key self.old }
-        ensures sent { IfNone result ((requests : List ARequest) → IsSending requests self.old → IsSending (requests ++ request ∷ []) self.new) }
-        ensures full { IfSome result (λ back. (back ≡ request) × (self.new ≡ self.old) × IsFull self.old) }
-        ensures submits { IfNone result (Submits now request self.old self.new) }
+        ensures sent { IsTrue result → (requests : List ARequest) → IsSending requests self.old → IsSending (requests ++ request ∷ []) self.new }
+        ensures submits { IsTrue result → Submits now request has_ended self.old self.new }
+        ensures waits { result ≡ false → (self.new ≡ self.old) × IsFull self.old × (has_ended ≡ false) }
     {
         if self.left_out {
-            return None;
+            return true;
         }
         match self.host.submit(rt, request) {
             Ok(serial) => {
                 self.answers.send(serial, now);
-                None
+                true
             }
-            Err((SubmitFault::Full, request)) => Some(request),
+            Err((SubmitFault::Full, _)) if has_ended => {
+                self.leave_out();
+                true
+            }
+            Err((SubmitFault::Full, _)) => false,
             Err(_) => {
                 self.leave_out();
-                None
+                true
             }
         }
     }

@@ -23,7 +23,7 @@ use crate::simulation::{Course, Settled, buses_of, simulate};
 use crate::station::NO_MOMENT;
 use crate::text::report_answer;
 use crate::threads::run_threads;
-use onfi_plan::{PlainPlanner, Planner};
+use onfi_plan::{Limit, PlainPlanner, Planner};
 use onfi_script::{Answer, EngineFault, InputFault, Purpose, Stop, read_all, refused, tell};
 use onfi_seq::Gate;
 use std::alloc::{AllocError, Global};
@@ -36,12 +36,10 @@ fn run<R: Threads + Wait + Sync, P: Planner + Copy + Send + Drop, G: Gate + Send
     rt: &R,
     alloc: Global,
     planner: P,
-    limit: u32,
+    limit: Limit,
     gates: Vec<G>,
     prepared: &Prepared,
 ) -> Result<Report, AllocError>
-    requires some { 1 ≤ limit }
-    requires few { limit ≤ 1048576 }
     requires gates { length gates.items ≡ 4 }
     ensures report { IfOk result (λ report. IsReportOf false prepared.now.rows.items report) }
     ensures tells { IfOk result (λ report. (lanes : List (ALane (AGated P G))) × (stations : List AStation) × AreBehind prepared.now.rows.items prepared.now.device limit gates.items lanes
@@ -80,12 +78,10 @@ fn run_by_clock<R: Wait, P: Planner + Copy + Drop, G: Gate + Drop>(
     rt: &R,
     alloc: Global,
     planner: P,
-    limit: u32,
+    limit: Limit,
     gates: Vec<G>,
     prepared: &Prepared,
 ) -> Result<Report, AllocError>
-    requires some { 1 ≤ limit }
-    requires few { limit ≤ 1048576 }
     requires gates { length gates.items ≡ 4 }
     ensures report { IfOk result (λ report. IsReportOf true prepared.now.rows.items report) }
     ensures tells { IfOk result (λ report. (settled : ASettled (AGated P G)) × AreBehind prepared.now.rows.items prepared.now.device limit gates.items settled.lanes.items
@@ -108,13 +104,11 @@ fn run_either<R: Threads + Wait + Sync, P: Planner + Copy + Send + Drop, G: Gate
     rt: &R,
     alloc: Global,
     planner: P,
-    limit: u32,
+    limit: Limit,
     clocked: bool,
     gates: Vec<G>,
     prepared: &Prepared,
 ) -> Result<Report, AllocError>
-    requires some { 1 ≤ limit }
-    requires few { limit ≤ 1048576 }
     requires gates { length gates.items ≡ 4 }
     ensures { IfOk result (λ report. IsReportOf clocked prepared.now.rows.items report) }
 {
@@ -140,13 +134,11 @@ fn answer<R: Threads + Wait + Sync, P: Planner + Copy + Send + Drop, G: Gate + S
     rt: &R,
     alloc: Global,
     planner: P,
-    limit: u32,
+    limit: Limit,
     clocked: bool,
     gates: Vec<G>,
     input: &[u8],
 ) -> Result<Answer, AllocError>
-    requires some { 1 ≤ limit }
-    requires few { limit ≤ 1048576 }
     requires gates { length gates.items ≡ 4 }
     ensures { IfOk result (λ a. IsAnswer clocked input.now (answer_of a)) }
 {
@@ -186,6 +178,7 @@ pub fn run_script<R: Threads + Wait + Sync, G: Gate + Send + Drop, I: Read, O: W
     ensures unread { result ≡ Err EngineFault.Read → Keeps (O.contents writer.old) (O.contents writer.new) }
     ensures unwritten { result ≡ Err EngineFault.Write → BeginsAnswer false (I.remaining reader.old) (O.contents writer.old) (O.contents writer.new) }
 {
+    let limit = Limit::of(limit).unwrap();
     run_script_by(rt, alloc, PlainPlanner, limit, false, gates, reader, writer)
 }
 
@@ -208,14 +201,12 @@ pub fn run_script_by<
     rt: &R,
     alloc: Global,
     planner: P,
-    limit: u32,
+    limit: Limit,
     clocked: bool,
     gates: Vec<G>,
     reader: &mut I,
     writer: &mut O,
 ) -> Result<u8, EngineFault>
-    requires some { 1 ≤ limit }
-    requires few { limit ≤ 1048576 }
     requires gates { length gates.items ≡ 4 }
     ensures answer { IfOk result (λ status. Answers clocked (I.remaining reader.old) (O.contents writer.old) (O.contents writer.new) status) }
     ensures unread { result ≡ Err EngineFault.Read → Keeps (O.contents writer.old) (O.contents writer.new) }
@@ -232,27 +223,20 @@ pub fn run_script_by<
     }
 }
 
-/// What [`run_script_by`] does, with gates that hold nothing up: the command `run` of the program.
+/// The answer to a script, run as [`run_script_by`] does, with gates that hold nothing up: the command `run` of the program.
 ///
 /// # Errors
-/// As `run_script`.
-pub fn run_freely<R: Threads + Wait + Sync, P: Planner + Copy + Send + Drop, I: Read, O: Write>(
+/// Want of memory.
+pub fn run_freely<R: Threads + Wait + Sync, P: Planner + Copy + Send + Drop>(
     rt: &R,
     alloc: Global,
     planner: P,
-    limit: u32,
+    limit: Limit,
     clocked: bool,
-    reader: &mut I,
-    writer: &mut O,
-) -> Result<u8, EngineFault>
-    requires some { 1 ≤ limit }
-    requires few { limit ≤ 1048576 }
-    ensures answer { IfOk result (λ status. Answers clocked (I.remaining reader.old) (O.contents writer.old) (O.contents writer.new) status) }
-    ensures unread { result ≡ Err EngineFault.Read → Keeps (O.contents writer.old) (O.contents writer.new) }
-    ensures unwritten { result ≡ Err EngineFault.Write → BeginsAnswer clocked (I.remaining reader.old) (O.contents writer.old) (O.contents writer.new) }
+    input: &[u8],
+) -> Result<Answer, AllocError>
+    ensures answer { IfOk result (λ a. IsAnswer clocked input.now (answer_of a)) }
 {
-    match no_gates(alloc) {
-        Ok(gates) => run_script_by(rt, alloc, planner, limit, clocked, gates, reader, writer),
-        Err(AllocError) => tell(writer, b"memory\n", 4),
-    }
+    let gates = no_gates(alloc)?;
+    answer(rt, alloc, planner, limit, clocked, gates, input)
 }

@@ -7,6 +7,7 @@ ghost use Rattle.onfi_run.specs.Setup as spec;
 
 use onfi_core::{Choice, Setup};
 use onfi_group::Rules;
+use onfi_plan::Limit;
 use onfi_script::{Choosing, PageDevice, Row, Subject, is_strict, row_on};
 
 /// How many channels there are.
@@ -16,7 +17,7 @@ pub fn channel_count(rows: &[Row]) -> u8
     ensures few { result ≤ 4 }
 {
     match row_on(rows, Subject::Channels) {
-        Some(Row::Channels { count }) => count.get(),
+        Some(Row::Channels { count }) => count.get() as u8,
         _ => 1,
     }
 }
@@ -28,7 +29,7 @@ pub fn host_count(rows: &[Row]) -> u8
     ensures few { result ≤ 4 }
 {
     match row_on(rows, Subject::Hosts) {
-        Some(Row::Hosts { count }) => count.get(),
+        Some(Row::Hosts { count }) => count.get() as u8,
         _ => 1,
     }
 }
@@ -40,7 +41,7 @@ fn batch(rows: &[Row]) -> u8
     ensures few { result ≤ 8 }
 {
     match row_on(rows, Subject::Batch) {
-        Some(Row::Batch { count }) => count.get(),
+        Some(Row::Batch { count }) => count.get() as u8,
         _ => 8,
     }
 }
@@ -96,9 +97,7 @@ fn rules(rows: &[Row], device: &PageDevice) -> Rules
 
 /// What the rows set up on their device; one planning opens at most `limit` nodes. There are always four hosts, and one
 /// that isn't used sends nothing.
-pub fn setup_of(rows: &[Row], device: &PageDevice, limit: u32) -> Setup
-    requires some { 1 ≤ limit }
-    requires few { limit ≤ 1048576 }
+pub fn setup_of(rows: &[Row], device: &PageDevice, limit: Limit) -> Setup
     ensures { spec.SetsUp rows.now device.now limit result }
 {
     Setup::new(
@@ -110,7 +109,7 @@ pub fn setup_of(rows: &[Row], device: &PageDevice, limit: u32) -> Setup
         batch(rows),
         submit_cap(rows),
         post_cap(rows),
-        limit,
+        limit.get(),
     )
     .unwrap()
     .with_choice(choice(rows))

@@ -1,19 +1,16 @@
 //! A run with a clock: one thread goes from moment to moment.
-ghost use Rattle.std.specs.Prelude.{◌≡◌, ◌<◌, ◌≤◌, ◌++◌, [], ◌∷◌, ℕ, List, IfOk, IsTrue, Some, false, map, take};
+ghost use Rattle.std.specs.Prelude.{◌≡◌, ◌<◌, ◌≤◌, ◌++◌, [], ◌∷◌, ℕ, List, IfOk, IsTrue, false, map};
 ghost use Rattle.std.specs.List.{AllByRecursion as Each};
-ghost use Rattle.onfi_script.specs.declared.operation.Operation.{Operation as AnOperation};
 ghost use Rattle.onfi_run.specs.Answers.{changed};
-ghost use Rattle.onfi_run.specs.Arriving.{HaveCome, comes_at as spec_comes_at};
+ghost use Rattle.onfi_run.specs.Arriving.{comes_at as spec_comes_at};
 ghost use Rattle.onfi_run.specs.Ending.{no_clock};
 ghost use Rattle.onfi_run.specs.Keys.{HasSamePorts, HaveSamePorts};
-ghost use Rattle.onfi_run.specs.Moments.{AllAtMoment, AtMoment, Makes};
-ghost use Rattle.onfi_run.specs.Operations.{operation_of as spec_operation_of};
+ghost use Rattle.onfi_run.specs.Moments.{Acts, AllAtMoment, AtMoment, Makes};
 ghost use Rattle.onfi_run.specs.Pace.{IsNext, Waits, due_of, woken};
 ghost use Rattle.onfi_run.specs.Resting.{IsPutOff, Rests, Stands, has_ended as spec_has_ended};
 ghost use Rattle.onfi_request.specs.declared.request.Request.{Request as ARequest};
-ghost use Rattle.onfi_script.specs.declared.row.Row.{Row as ARow};
 ghost use Rattle.onfi_run.specs.Requests.{request_of};
-ghost use Rattle.onfi_run.specs.Sending.{AreSending, HasSent, with_request};
+ghost use Rattle.onfi_run.specs.Sending.{AreSending, with_request};
 
 use crate::arriving::comes_at;
 use crate::bus_use::BusUse;
@@ -93,33 +90,6 @@ fn make<R: Wait, C: Channel>(
     made
 }
 
-/// The host goes behind a row at that moment, and answers whether it did: it doesn't where the row tells an operation of this
-/// host whose queue is full.
-fn follow<R: Wait, C: Channel>(
-    rt: &R,
-    course: &Course<'_>,
-    now: u64,
-    lanes: &mut Vec<Lane<C>>,
-    station: &mut Station,
-    row: &Row,
-) -> bool
-    ensures lanes { map (λ l. C.queues l.channel) lanes.new.items ≡ map (λ l. C.queues l.channel) lanes.old.items }
-    ensures same { HasSamePorts station.old.ports.items station.new.ports.items }
-    ensures number { station.new.number ≡ station.old.number }
-    ensures passed { station.new.passed ≡ station.old.passed }
-    ensures sent { IsTrue result → (before : List ARow) → HasSent course.now.geometry.now before station.old.number station.old.ports.items
-        → HasSent course.now.geometry.now (before ++ row.now ∷ []) station.old.number station.new.ports.items }
-    ensures waits { result ≡ false → (lanes.new ≡ lanes.old) × (station.new.ports.items ≡ station.old.ports.items)
-        × (op : AnOperation) × (spec_operation_of station.old.number row.now ≡ Some op)
-        × IsPutOff (map (λ l. l.pace) lanes.old.items) station.old.ports.items op.aim.channel }
-    ensures moments { AtMoment now station.old.ports.items station.new.ports.items }
-{
-    match operation_of(row, station.number) {
-        Some(operation) => make(rt, course, now, lanes, station, operation),
-        None => true,
-    }
-}
-
 /// The host goes behind its next row at that moment, and answers whether it did: it doesn't where none is left, where the row
 /// tells a moment of arrival that hasn't come, or where the queue of its operation is full.
 fn pass_row<R: Wait, C: Channel>(
@@ -130,14 +100,9 @@ fn pass_row<R: Wait, C: Channel>(
     station: &mut Station,
 ) -> bool
     ensures lanes { map (λ l. C.queues l.channel) lanes.new.items ≡ map (λ l. C.queues l.channel) lanes.old.items }
-    ensures same { HasSamePorts station.old.ports.items station.new.ports.items }
-    ensures number { station.new.number ≡ station.old.number }
-    ensures sent { HasSent course.now.geometry.now (take station.old.passed course.now.rows.now) station.old.number station.old.ports.items
-        → HasSent course.now.geometry.now (take station.new.passed course.now.rows.now) station.old.number station.new.ports.items }
+    ensures acts { Acts course.now.geometry.now course.now.rows.now now station.old station.new }
     ensures stands { result ≡ false → (lanes.new ≡ lanes.old) × (station.new.ports.items ≡ station.old.ports.items) × (station.new.passed ≡ station.old.passed)
         × Stands now course.now.rows.now (map (λ l. l.pace) lanes.old.items) station.old.number station.old.passed station.old.ports.items }
-    ensures come { HaveCome now (take station.old.passed course.now.rows.now) → HaveCome now (take station.new.passed course.now.rows.now) }
-    ensures moments { AtMoment now station.old.ports.items station.new.ports.items }
 {
     let at = station.passed;
     if at >= course.rows.len() {
@@ -147,7 +112,11 @@ fn pass_row<R: Wait, C: Channel>(
     if comes > now {
         return false;
     }
-    if !follow(rt, course, now, lanes, station, &course.rows[at]) {
+    let Some(operation) = operation_of(&course.rows[at], station.number) else {
+        station.passed += 1;
+        return true;
+    };
+    if !make(rt, course, now, lanes, station, operation) {
         return false;
     }
     station.passed = at + 1;
@@ -163,14 +132,9 @@ fn pass_rows<R: Wait, C: Channel>(
     station: &mut Station,
 ) -> bool
     ensures lanes { map (λ l. C.queues l.channel) lanes.new.items ≡ map (λ l. C.queues l.channel) lanes.old.items }
-    ensures same { HasSamePorts station.old.ports.items station.new.ports.items }
-    ensures number { station.new.number ≡ station.old.number }
-    ensures sent { HasSent course.now.geometry.now (take station.old.passed course.now.rows.now) station.old.number station.old.ports.items
-        → HasSent course.now.geometry.now (take station.new.passed course.now.rows.now) station.old.number station.new.ports.items }
+    ensures acts { Acts course.now.geometry.now course.now.rows.now now station.old station.new }
     ensures stands { result ≡ false → (lanes.new ≡ lanes.old) × (station.new.ports.items ≡ station.old.ports.items) × (station.new.passed ≡ station.old.passed)
         × Stands now course.now.rows.now (map (λ l. l.pace) lanes.old.items) station.old.number station.old.passed station.old.ports.items }
-    ensures come { HaveCome now (take station.old.passed course.now.rows.now) → HaveCome now (take station.new.passed course.now.rows.now) }
-    ensures moments { AtMoment now station.old.ports.items station.new.ports.items }
 {
     let mut any = false;
     for _ in course.rows {
@@ -192,12 +156,8 @@ fn act<R: Wait, C: Channel>(
 ) -> bool
     ensures lanes { map (λ l. C.queues l.channel) lanes.new.items ≡ map (λ l. C.queues l.channel) lanes.old.items }
     ensures same { HasSamePorts station.old.ports.items station.new.ports.items }
-    ensures number { station.new.number ≡ station.old.number }
-    ensures sent { HasSent course.now.geometry.now (take station.old.passed course.now.rows.now) station.old.number station.old.ports.items
-        → HasSent course.now.geometry.now (take station.new.passed course.now.rows.now) station.old.number station.new.ports.items }
+    ensures acts { Acts course.now.geometry.now course.now.rows.now now station.old station.new }
     ensures rests { result ≡ false → (lanes.new ≡ lanes.old) × Rests now course.now.rows.now (map (λ l. l.pace) lanes.new.items) station.new }
-    ensures come { HaveCome now (take station.old.passed course.now.rows.now) → HaveCome now (take station.new.passed course.now.rows.now) }
-    ensures moments { AtMoment now station.old.ports.items station.new.ports.items }
 {
     let passed = pass_rows(rt, course, now, lanes, station);
     let collected = station.collect_all(rt, now);
@@ -217,13 +177,12 @@ fn act_all<R: Wait, C: Channel>(
     ensures rest { result ≡ false → (lanes.new ≡ lanes.old) × Each (Rests now course.now.rows.now (map (λ l. l.pace) lanes.new.items)) stations.new }
     ensures moments { AllAtMoment now stations.old stations.new }
 {
-    let first = act(rt, course, now, lanes, &mut stations[0]);
-    let second = act(rt, course, now, lanes, &mut stations[1]);
-    let third = act(rt, course, now, lanes, &mut stations[2]);
-    let fourth = act(rt, course, now, lanes, &mut stations[3]);
-    let front = either(first, second);
-    let back = either(third, fourth);
-    either(front, back)
+    let mut any = false;
+    for host in 0..4usize {
+        let acted = act(rt, course, now, lanes, &mut stations[host]);
+        any = either(any, acted);
+    }
+    any
 }
 
 /// Each channel in the order of its number makes a turn at that moment, if it may make one; whether one did.

@@ -1,5 +1,5 @@
 //! A host with its ends on all channels.
-ghost use Rattle.std.specs.Prelude.{◌≡◌, ℕ, ◌++◌, [], ◌∷◌, List, map, IsTrue, IfNone, IfSome, false, true, slice_get};
+ghost use Rattle.std.specs.Prelude.{◌≡◌, ℕ, ◌++◌, [], ◌∷◌, List, map, IsTrue, IfSome, false, true, slice_get};
 ghost use Rattle.std.specs.List.{AllByRecursion as Each};
 ghost use Rattle.onfi_request.specs.declared.request.Request.{Request as ARequest};
 ghost use Rattle.onfi_script.specs.declared.row.Row.{Row as ARow};
@@ -7,7 +7,7 @@ ghost use Rattle.onfi_run.specs.Keys.{Collects, HasSamePorts, LeavesOut, SendsNo
 ghost use Rattle.onfi_run.specs.Moments.{AtMoment, Makes, OnPort};
 ghost use Rattle.onfi_run.specs.Requests.{request_of as spec_request_of};
 ghost use Rattle.onfi_run.specs.Resting.{IsEmptied, IsFullAt};
-ghost use Rattle.onfi_run.specs.Sending.{AreSending, HasSent, Tried, with_request};
+ghost use Rattle.onfi_run.specs.Sending.{AreSending, HasSent, with_request};
 
 use crate::board::Board;
 use crate::finishing::either;
@@ -78,22 +78,8 @@ impl Station {
         any
     }
 
-    /// Leaves an operation on a channel out.
-    fn leave_out(&mut self, channel: usize)
-        ensures number { self.new.number ≡ self.old.number }
-        ensures passed { self.new.passed ≡ self.old.passed }
-        ensures same { HasSamePorts self.old.ports.items self.new.ports.items }
-        ensures left { (requests : ℕ → List ARequest) (request : ARequest) → AreSending requests self.old.ports.items → AreSending (with_request requests channel request) self.new.ports.items }
-        ensures short { self.new.short_of_memory ≡ self.old.short_of_memory }
-        ensures leaves { OnPort LeavesOut channel self.old.ports.items self.new.ports.items }
-    {
-        if channel < self.ports.len() {
-            self.ports[channel].leave_out();
-        }
-    }
-
     /// Leaves an operation on a channel out for want of memory.
-    fn leave_out_short(&mut self, channel: usize)
+    fn leave_out(&mut self, channel: usize)
         ensures number { self.new.number ≡ self.old.number }
         ensures passed { self.new.passed ≡ self.old.passed }
         ensures same { HasSamePorts self.old.ports.items self.new.ports.items }
@@ -102,95 +88,14 @@ impl Station {
         ensures leaves { OnPort LeavesOut channel self.old.ports.items self.new.ports.items }
     {
         self.short_of_memory = true;
-        self.leave_out(channel);
-    }
-
-    /// Submits a request to a channel at that moment; it comes back where the queue was full.
-    fn submit_once<R: Wait>(
-        &mut self,
-        rt: &R,
-        now: u64,
-        channel: usize,
-        request: Request,
-    ) -> Option<Request>
-        ensures number { self.new.number ≡ self.old.number }
-        ensures passed { self.new.passed ≡ self.old.passed }
-        ensures same { HasSamePorts self.old.ports.items self.new.ports.items }
-        ensures tried { Tried result channel request self.old.ports.items self.new.ports.items }
-        ensures short { self.new.short_of_memory ≡ self.old.short_of_memory }
-        ensures submits { IfNone result (OnPort (Submits now request) channel self.old.ports.items self.new.ports.items) }
-        ensures full { IfSome result (λ back. (self.new.ports.items ≡ self.old.ports.items) × IsFullAt self.old.ports.items channel) }
-    {
         if channel < self.ports.len() {
-            self.ports[channel].submit(rt, now, request)
-        } else {
-            None
+            self.ports[channel].leave_out();
         }
     }
 
-    /// Submits a request to a channel. Where the queue is full it collects from all inboxes; the request comes back then,
-    /// or is left out where the channel has ended.
-    fn try_submit<R: Wait>(
-        &mut self,
-        rt: &R,
-        board: &Board,
-        channel: usize,
-        request: Request,
-    ) -> Option<Request>
-        ensures number { self.new.number ≡ self.old.number }
-        ensures same { HasSamePorts self.old.ports.items self.new.ports.items }
-        ensures tried { Tried result channel request self.old.ports.items self.new.ports.items }
-    {
-        let request = self.submit_once(rt, NO_MOMENT, channel, request)?;
-        self.collect_all(rt, NO_MOMENT);
-        if board.has_channel_ended(channel) {
-            self.leave_out(channel);
-            return None;
-        }
-        thread::yield_now();
-        Some(request)
-    }
-
-    /// Submits a request to a channel. While the queue is full it collects from all inboxes and tries again, until the
-    /// channel has ended: the request is left out then, and all later ones.
-    fn submit<R: Wait>(&mut self, rt: &R, board: &Board, channel: usize, request: Request)
-        ensures number { self.new.number ≡ self.old.number }
-        ensures same { HasSamePorts self.old.ports.items self.new.ports.items }
-        ensures sent { (requests : ℕ → List ARequest) → AreSending requests self.old.ports.items → AreSending (with_request requests channel request) self.new.ports.items }
-    {
-        let mut left = Some(request);
-        for _ in rt.forever() {
-            let Some(request) = left else {
-                break;
-            };
-            left = self.try_submit(rt, board, channel, request);
-        }
-    }
-
-    /// Makes an operation, or leaves it out where memory is refused.
-    fn operate<R: Wait>(
-        &mut self,
-        rt: &R,
-        alloc: Global,
-        geometry: &Geometry,
-        board: &Board,
-        operation: &Operation,
-    )
-        ensures number { self.new.number ≡ self.old.number }
-        ensures same { HasSamePorts self.old.ports.items self.new.ports.items }
-        ensures sent { (requests : ℕ → List ARequest) → AreSending requests self.old.ports.items
-            → AreSending (with_request requests operation.now.aim.channel (spec_request_of geometry.now operation.now)) self.new.ports.items }
-    {
-        let channel = usize::from(operation.aim.channel);
-        match request_of(alloc, geometry, operation) {
-            Ok(request) => self.submit(rt, board, channel, request),
-            Err(_) => self.leave_out_short(channel),
-        }
-    }
-
-    /// Submits a request to a channel at that moment, or leaves it out where the queue is full and the channel has ended; whether
-    /// either was done.
-    fn submit_at<R: Wait>(
+    /// Submits a request to a channel at that moment, or leaves it out where the queue never takes it, or is full and the
+    /// channel has ended. Whether either was done; else the queue is full.
+    fn submit<R: Wait>(
         &mut self,
         rt: &R,
         now: u64,
@@ -201,17 +106,15 @@ impl Station {
         ensures number { self.new.number ≡ self.old.number }
         ensures passed { self.new.passed ≡ self.old.passed }
         ensures same { HasSamePorts self.old.ports.items self.new.ports.items }
+        ensures short { self.new.short_of_memory ≡ self.old.short_of_memory }
         ensures sent { IsTrue result → (requests : ℕ → List ARequest) → AreSending requests self.old.ports.items → AreSending (with_request requests channel request) self.new.ports.items }
-        ensures made { IsTrue result → Makes now channel request has_ended self.old self.new }
+        ensures submits { IsTrue result → OnPort (Submits now request has_ended) channel self.old.ports.items self.new.ports.items }
         ensures waits { result ≡ false → (self.new.ports.items ≡ self.old.ports.items) × IsFullAt self.old.ports.items channel × (has_ended ≡ false) }
     {
-        match self.submit_once(rt, now, channel, request) {
-            None => true,
-            Some(_) if has_ended => {
-                self.leave_out(channel);
-                true
-            }
-            Some(_) => false,
+        if channel < self.ports.len() {
+            self.ports[channel].submit(rt, now, has_ended, request)
+        } else {
+            true
         }
     }
 
@@ -236,12 +139,38 @@ impl Station {
     {
         let channel = usize::from(operation.aim.channel);
         match request_of(alloc, geometry, operation) {
-            Ok(request) => self.submit_at(rt, now, channel, has_ended, request),
+            Ok(request) => self.submit(rt, now, channel, has_ended, request),
             Err(_) => {
-                self.leave_out_short(channel);
+                self.leave_out(channel);
                 true
             }
         }
+    }
+
+    /// Makes an operation. While its queue is full it collects from all inboxes and tries again, until the channel has ended.
+    fn operate<R: Wait>(
+        &mut self,
+        rt: &R,
+        alloc: Global,
+        geometry: &Geometry,
+        board: &Board,
+        operation: &Operation,
+    )
+        ensures number { self.new.number ≡ self.old.number }
+        ensures same { HasSamePorts self.old.ports.items self.new.ports.items }
+        ensures sent { (requests : ℕ → List ARequest) → AreSending requests self.old.ports.items
+            → AreSending (with_request requests operation.now.aim.channel (spec_request_of geometry.now operation.now)) self.new.ports.items }
+    {
+        let channel = usize::from(operation.aim.channel);
+        for _ in rt.forever() {
+            let has_ended = board.has_channel_ended(channel);
+            if self.operate_at(rt, alloc, geometry, NO_MOMENT, has_ended, operation) {
+                return;
+            }
+            self.collect_all(rt, NO_MOMENT);
+            thread::yield_now();
+        }
+        unreachable!()
     }
 
     /// Makes the operation of a row, if it is one of this host.

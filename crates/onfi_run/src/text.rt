@@ -310,8 +310,6 @@ pub fn report_answer(alloc: Global, report: &Report) -> Result<Written, AllocErr
     put_ends(alloc, &mut text, report.ends.as_slice())?;
     put_clock(alloc, &mut text, &report.clock)?;
     text.push_str(closing_line(report.short_of_memory))?;
-    Ok(Written {
-        text: text.into_bytes(),
-        status: status_of(report.short_of_memory, report.ends.as_slice()),
-    })
+    let status = status_of(report.short_of_memory, report.ends.as_slice());
+    Ok(Written::of(text.into_bytes(), status))
 }

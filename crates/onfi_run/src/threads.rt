@@ -81,24 +81,6 @@ fn unused_hosts(rows: &[Row]) -> u64 {
     (0..4u8).filter(|host| !is_used(rows, *host)).count() as u64
 }
 
-/// Starts the thread of a host; `None` where no thread can be made.
-fn spawn_host<'s, E, R: Threads + Wait + Sync>(
-    scope: &'s Scope<'s, E>,
-    rt: &'s R,
-    shared: Shared<'s>,
-    station: Station,
-) -> Option<PromisedHandle<Station, GivesStation>>
-    ensures { IfSome result (λ h. h.promise.was.value ≡ station) }
-{
-    let promise = GivesStation {
-        was: Snapshot::of(&station),
-    };
-    let started = scope.spawn_with(promise, move || {
-        station.work(rt, shared.alloc, shared.geometry, shared.board, shared.rows)
-    });
-    started.ok()
-}
-
 /// Starts the thread of a host, if it is used; where no thread can be made, all that others wait for has ended.
 fn start_host<'s, E, R: Threads + Wait + Sync>(
     scope: &'s Scope<'s, E>,
@@ -111,9 +93,15 @@ fn start_host<'s, E, R: Threads + Wait + Sync>(
     if !is_used(shared.rows, station.number) {
         return Some(Worker::Unused(station));
     }
-    match spawn_host(scope, rt, shared, station) {
-        Some(handle) => Some(Worker::AtWork(handle)),
-        None => {
+    let promise = GivesStation {
+        was: Snapshot::of(&station),
+    };
+    let started = scope.spawn_with(promise, move || {
+        station.work(rt, shared.alloc, shared.geometry, shared.board, shared.rows)
+    });
+    match started {
+        Ok(handle) => Some(Worker::AtWork(handle)),
+        Err(_) => {
             shared.board.give_up();
             None
         }

@@ -1,6 +1,6 @@
 ghost use Rattle.std.specs.Prelude.{◌≡◌, ◌<◌, ◌≤◌, length, IfSome};
 
-use onfi_plan::{PlainPlanner, Plan, Planner, PlannerFault};
+use onfi_plan::{Limit, PlainPlanner, Plan, PlanFault, Planner};
 use onfi_planners::ChosenPlanner;
 use onfi_problem::Problem;
 use onfi_run::{run_script, run_script_by};
@@ -133,16 +133,20 @@ struct Limited {
 }
 
 impl Planner for Limited {
-    ghost use Rattle.std.specs.Prelude.{true};
+    ghost use Rattle.std.specs.Prelude.{⊤, true};
     ghost use Rattle.onfi_plan.specs.Certificate.{IsPlain};
 
     ghost exact = { true };
 
     ghost certifies = { IsPlain };
 
-    fn plan(&self, alloc: Global, problem: &Problem, limit: u32) -> Result<Plan, PlannerFault> {
-        if limit != self.limit {
-            return Err(PlannerFault::Memory);
+    ghost promises = { λ _ _ _ _. ⊤ };
+
+    ghost stops = { λ _. ⊤ };
+
+    fn plan(&self, alloc: Global, problem: &Problem, limit: Limit) -> Result<Plan, PlanFault> {
+        if limit.get() != self.limit {
+            return Err(PlanFault::Memory);
         }
         PlainPlanner.plan(alloc, problem, limit)
     }
@@ -156,10 +160,8 @@ fn meet<R: Threads + Wait + Sync, P: Planner + Copy + Send + Drop>(
     planner: P,
     limit: u32,
     rows: &str,
-) -> Option<(u8, Vec<u8>)>
-    requires some { 1 ≤ limit }
-    requires few { limit ≤ 1048576 }
-{
+) -> Option<(u8, Vec<u8>)> {
+    let limit = Limit::of(limit)?;
     let meeting = Meeting::new();
     let gates = gates_of(alloc, &meeting, 1)?;
     let script = script_of(alloc, rows)?;

@@ -1,63 +1,88 @@
 -- Plans of the planners, and those that are made better.
-use Rattle.std.proofs.Common.{◌≡◌, ℕ, ◌+◌, ◌-◌, ◌/◌, ◌<◌, ◌≤◌, List, refl, sym, ap, ◌∙◌, subst, arith}
+use Rattle.std.proofs.Common.{◌≡◌, ◌≢◌, ℕ, ◌+◌, ◌-◌, ◌/◌, ◌<◌, ◌≤◌, refl, sym, ap, ◌∙◌, subst, arith}
+use Rattle.std.specs.Prelude.{Result, Ok, Err, IfOk}
 use Rattle.std.proofs.Math.Nat.{mul-zero}
-use Rattle.onfi_problem.specs.Left.{InLimits}
 use Rattle.onfi_problem.specs.Position.{Position}
 use Rattle.onfi_problem.specs.Problem.{Problem}
 use Rattle.onfi_schedule.specs.Schedule.{Schedule, Legal, Optimal, finish}
-use Rattle.onfi_known.specs.Laws.{BelowLaw}
-use Rattle.onfi_known.specs.Proves.{ProvesTokens}
-use Rattle.onfi_check.specs.Nodes.{HasMoreNodes}
+use Rattle.onfi_check.specs.Tree.{AcceptsTokens}
+use Rattle.onfi_known_check.specs.Laws.{NoneBefore}
 use Rattle.onfi_planner.specs.Planning.{AreRising}
-use Rattle.onfi_recall.specs.Text.{ProvesText}
+use Rattle.onfi_planner.specs.declared.planned.Planned.{Planned}
+use Rattle.onfi_plan.specs.Certificate.{IsMadeFrom, Plain, ShowsBelow, certificate_in}
+use Rattle.onfi_plan.specs.declared.plan.Plan.{Plan as OnePlan}
 use Rattle.onfi_early.specs.Slack.{slack_of}
+use Rattle.onfi_planners.specs.Choice.{IsChosen, certified_by}
 use Rattle.onfi_planners.specs.declared.chosen.ChosenPlanner.{ChosenPlanner}
-use Rattle.onfi_planners.specs.declared.chosen.ChosenPlanner.TheVariants.{Remembering, BestSoFar}
-use Rattle.onfi_script.specs.Answer.{Certifies, IsPlan}
+use Rattle.onfi_planners.specs.declared.chosen.ChosenPlanner.TheVariants as by
+use Rattle.onfi_script.specs.Answer.{IsPlan}
 
 no_slack : (from to : ℕ) → slack_of 0 from to ≡ 0
 no_slack from to = ap (λ n. n / 1000) (mul-zero (to - from))
 
--- tokens that prove of all that a problem began with prove of its wants
-pub certifies : (x : Position) (below : ℕ) (text : List ℕ) → x.all ≡ x.problem.wants → ProvesText x text below → Certifies Remembering x.problem below text
-certifies x below text begun (tokens, certificate, proves) = (tokens, certificate, subst (λ all. ProvesTokens all tokens x.problem below) begun proves)
+-- a legal schedule that ends when nothing ends before is optimal
+optimal_at : (p : Problem) (s : Schedule) (below ends : ℕ) → Legal p s → finish p s ≡ ends → NoneBefore p below → below ≡ ends → Optimal p s
+optimal_at p s below ends legal is none e = record { legal = legal; least = λ other l. subst (λ t. t ≤ finish p other) (e ∙ sym is) (none other l) }
 
-pub optimal_plan : (planner : ChosenPlanner) (limit : ℕ) (p : Problem) (s : Schedule) (ends : ℕ) (text : List ℕ) → Optimal p s → finish p s ≡ ends → AreRising s.groups → Certifies planner p ends text
-    → IsPlan planner 0 limit p s ends text
-optimal_plan planner limit p s ends text optimal is rising certificate = record {
-  legal = optimal.legal;
-  rising = rising;
-  shown = record { certificate = certificate; none_before = λ other legal. subst (λ e. e ≤ finish p other) is (optimal.least other legal) };
-  optimal = λ exact none. (optimal, sym is);
-  near = λ late. absurd (let none = no_slack p.bus_free ends in omega (arith, is, none, late));
-}
-
-pub plan_within_limit : (x : Position) (limit : ℕ) (s : Schedule) (ends below : ℕ) (text : List ℕ) → x.all ≡ x.problem.wants → InLimits x.problem → BelowLaw → Legal x.problem s → finish x.problem s ≡ ends
-    → AreRising s.groups → ProvesText x text below → (below < ends → HasMoreNodes x.problem limit) → IsPlan BestSoFar 0 limit x.problem s below text
-plan_within_limit x limit s ends below text begun limits law legal is rising cert short = record {
+-- what a chosen planner plans
+pub chosen_plan : (planner : ChosenPlanner) (limit : ℕ) (x : Position) (plan : OnePlan) → x.all ≡ x.problem.wants → Legal x.problem plan.planned.schedule → finish x.problem plan.planned.schedule ≡ plan.planned.finish
+    → AreRising plan.planned.schedule.groups → NoneBefore x.problem plan.below → ShowsBelow (certificate_in plan) x.all x.problem plan.below → IsChosen planner x.problem limit plan → IsPlan planner 0 limit x.problem plan
+chosen_plan planner limit x plan begun legal is rising none shown chosen = record {
   legal = legal;
+  ends = is;
   rising = rising;
-  shown = record { certificate = certifies x below text begun cert; none_before = law x.all x.problem cert.0 below limits.problem limits.small cert.2 };
-  optimal = λ exact none. absurd (exact refl);
-  near = λ late. (refl, short (let none = no_slack x.problem.bus_free below in omega (arith, is, none, late)));
+  kind = chosen.certified;
+  shown = subst (λ all. ShowsBelow (certificate_in plan) all x.problem plan.below) begun shown;
+  none_before = none;
+  optimal = λ exact _. (optimal_at x.problem plan.planned.schedule plan.below plan.planned.finish legal is none (chosen.optimal exact), chosen.optimal exact);
+  near = λ late. chosen.short (let e = no_slack x.problem.bus_free plan.below in omega (arith, e, late));
 }
+
+-- what several workers plan
+pub split_plan : (limit : ℕ) (p : Problem) (plan : OnePlan) (planned : Planned) → plan.planned ≡ planned → Optimal p planned.schedule → finish p planned.schedule ≡ planned.finish → AreRising planned.schedule.groups
+    → AcceptsTokens planned.cert.items p planned.finish → plan.below ≡ planned.finish → certificate_in plan ≡ Plain planned.cert.items → IsPlan by.Plain 0 limit p plan
+split_plan limit p plan planned same optimal is rising accepted below cert =
+    let best = subst (λ (z : Planned). Optimal p z.schedule) (sym same) optimal in
+    let ends = subst (λ (z : Planned). finish p z.schedule ≡ z.finish) (sym same) is in
+    let least = below ∙ sym (ap (λ (z : Planned). z.finish) same) in
+    record {
+      legal = best.legal;
+      ends = ends;
+      rising = subst (λ (z : Planned). AreRising z.schedule.groups) (sym same) rising;
+      kind = (planned.cert.items, cert);
+      shown = subst (λ c. ShowsBelow c p.wants p plan.below) (sym cert) (subst (AcceptsTokens planned.cert.items p) (sym below) accepted);
+      none_before = λ other legal. subst (λ e. e ≤ finish p other) (ends ∙ sym least) (best.least other legal);
+      optimal = λ exact _. (best, least);
+      near = λ late. absurd (let e = no_slack p.bus_free plan.below in omega (arith, least, e, late));
+    }
 
 -- a plan that ends later by a slack at most
-pub better_plan : (planner : ChosenPlanner) (slack limit : ℕ) (p : Problem) (s better : Schedule) (below : ℕ) (text : List ℕ) → IsPlan planner 0 limit p s below text
-    → Legal p better → AreRising better.groups → finish p better ≤ finish p s + slack_of slack p.bus_free below → IsPlan planner slack limit p better below text
-better_plan planner slack limit p s better below text plan legal rising in_time = record {
+pub better_plan : (planner : ChosenPlanner) (slack limit : ℕ) (p : Problem) (plan better : OnePlan) → IsPlan planner 0 limit p plan → Legal p better.planned.schedule
+    → finish p better.planned.schedule ≡ better.planned.finish → AreRising better.planned.schedule.groups → IsMadeFrom plan (slack_of slack p.bus_free plan.below) better → IsPlan planner slack limit p better
+better_plan planner slack limit p plan better first legal is rising made = record {
   legal = legal;
+  ends = is;
   rising = rising;
-  shown = plan.shown;
-  optimal = λ exact none. optimal_still (plan.optimal exact refl) none;
-  near = λ late. plan.near (let none = no_slack p.bus_free below in omega (arith, none, late, in_time));
+  kind = subst (certified_by planner) (sym made.certificate) first.kind;
+  shown = subst (λ c. ShowsBelow c p.wants p better.below) (sym made.certificate) (subst (ShowsBelow (certificate_in plan) p.wants p) (sym made.below) first.shown);
+  none_before = none;
+  optimal = λ exact none_given. (optimal_at p better.planned.schedule better.below better.planned.finish legal is none (same exact none_given), same exact none_given);
+  near = λ late. first.near (let e = no_slack p.bus_free plan.below in let b = made.below in let t = made.in_time in let l = subst (λ n. n + slack_of slack p.bus_free n < better.planned.finish) made.below late in omega (arith, e, t, l));
 }
   where
-    least : below ≤ finish p better
-    least = plan.shown.none_before better legal
+    none : NoneBefore p better.below
+    none = subst (NoneBefore p) (sym made.below) first.none_before
 
-    optimal_still : Optimal p s × (below ≡ finish p s) → slack ≡ 0 → Optimal p better × (below ≡ finish p better)
-    optimal_still optimal none =
-        let slack_none : slack_of slack p.bus_free below ≡ 0 = ap (λ n. slack_of n p.bus_free below) none ∙ no_slack p.bus_free below in
-        let same : below ≡ finish p better = omega (arith, optimal.1, slack_none, in_time, least) in
-        (record { legal = legal; least = λ other is. subst (λ e. e ≤ finish p other) same (plan.shown.none_before other is) }, same)
+    same : planner ≢ by.BestSoFar → slack ≡ 0 → better.below ≡ better.planned.finish
+    same exact none_given =
+        let slack_none : slack_of slack p.bus_free plan.below ≡ 0 = ap (λ n. slack_of n p.bus_free plan.below) none_given ∙ no_slack p.bus_free plan.below in
+        let least : better.below ≤ better.planned.finish = subst (λ e. better.below ≤ e) is (none better.planned.schedule legal) in
+        let optimal = first.optimal exact refl in
+        let t = made.in_time in
+        let b = made.below in
+        omega (arith, optimal.1, slack_none, t, b, least)
+
+pub better_plans : {E : Type 0} (planner : ChosenPlanner) (slack limit : ℕ) (p : Problem) (plan : OnePlan) (r : Result OnePlan E) → IsPlan planner 0 limit p plan → IfOk r (λ better. Legal p better.planned.schedule)
+    → IfOk r (λ better. finish p better.planned.schedule ≡ better.planned.finish) → IfOk r (λ better. AreRising better.planned.schedule.groups) → IfOk r (IsMadeFrom plan (slack_of slack p.bus_free plan.below)) → IfOk r (IsPlan planner slack limit p)
+better_plans planner slack limit p plan (Ok better) first legal is rising made = better_plan planner slack limit p plan better first legal is rising made
+better_plans planner slack limit p plan (Err fault) first legal is rising made = tt

@@ -17,7 +17,8 @@ use Rattle.onfi_script.specs.PlanText.{Plan, takes, with_line, is_certificate, a
 use Rattle.onfi_script.specs.Laws.{AreStarts, IsLineOf, HasText, rest_written, written}
 use Rattle.onfi_script.specs.Text.{spaced, joined, ids, group_line, rest_lines, below_line, schedule_text}
 use Rattle.onfi_script.proofs.PlanLemmas.{finish_told, plan_ended, line_taken}
-use Rattle.onfi_script.proofs.Spelled.{Lacks, decimal_lacks, number_read, numbers_read, part_ended, part_whole, spaced_parts, joined_parts, lacks_both, lacks_by, lacks_more, same, spaced_lacks, joined_lacks, differs}
+use Rattle.onfi_timing.proofs.Written.{number_again}
+use Rattle.onfi_script.proofs.Spelled.{Lacks, decimal_lacks, numbers_read, part_ended, part_whole, spaced_parts, joined_parts, lacks_both, lacks_by, lacks_more, same, spaced_lacks, joined_lacks, differs}
 
 -- the line `rest` without its LF
 abbrev rest_text : ℕ → List ℕ → List ℕ
@@ -28,7 +29,7 @@ rest_read : (wants : List Want) (lun : ℕ) (starts : List ℕ) → lun < 2 ^ 63
 rest_read wants lun starts small some are =
     ap (line_of_words wants) (part_ended 32 (codes "rest") (decimal lun ++ spaced starts) (lacks_by 32 (codes "rest") refl)
     ∙ ap (λ l. codes "rest" ∷ l) (spaced_parts (decimal lun) starts (decimal_lacks 32 lun (omega arith) (λ a b. omega arith)) are.small))
-    ∙ ap (λ o. and_then o (λ lun. and_then (numbers 8 (map decimal starts)) (λ starts. Some (Rest (record { lun = lun; starts = starts }))))) (number_read lun small)
+    ∙ ap (λ o. and_then o (λ lun. and_then (numbers 8 (map decimal starts)) (λ starts. Some (Rest (record { lun = lun; starts = starts }))))) (number_again lun small)
     ∙ ap (λ o. and_then o (λ starts. Some (Rest (record { lun = lun; starts = starts })))) (numbers_read 8 starts some are.few are.small)
 
 rest_ends : (lun : ℕ) (starts : List ℕ) → lun < 2 ^ 63 → AreStarts starts → Lacks 10 (rest_text lun starts)
@@ -149,7 +150,7 @@ finish_read : (ends : ℕ) → ends < 2 ^ 63 → finish_of (codes "finish" ++ 32
 finish_read ends small =
     ap (number_in_words (codes "finish")) (part_ended 32 (codes "finish") (decimal ends) (lacks_by 32 (codes "finish") refl)
     ∙ ap (λ l. codes "finish" ∷ l) (part_whole 32 (decimal ends) (decimal_lacks 32 ends (omega arith) (λ a b. omega arith))))
-    ∙ number_read ends small
+    ∙ number_again ends small
 
 finish_ends : (ends : ℕ) → ends < 2 ^ 63 → Lacks 10 (codes "finish" ++ 32 ∷ decimal ends)
 finish_ends ends small =

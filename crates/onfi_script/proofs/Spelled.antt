@@ -13,9 +13,9 @@ use Rattle.std.proofs.lemmas.List.Sums.{AllPass-from_list_all}
 use Rattle.std.proofs.lemmas.List.Splits.{slice_split_at, slice_split_none}
 use Rattle.std.proofs.lemmas.Bool.Decides.{nat_tests}
 use Rattle.onfi_request.specs.declared.want.Want.{Want}
-use Rattle.onfi_timing.specs.Decimal.{number_of}
+use Rattle.onfi_timing.proofs.Written.{number_again}
 use Rattle.onfi_script.specs.Parts.{parts}
-use Rattle.onfi_script.specs.PlanLine.{and_then, number, each_number, numbers, has_leading_zero, in_range}
+use Rattle.onfi_script.specs.PlanLine.{and_then, each_number, numbers}
 use Rattle.onfi_script.specs.Text.{spaced, joined}
 use Rattle.onfi_script.proofs.LineLemmas.{not_so}
 
@@ -41,38 +41,10 @@ decimal_lacks byte n small none =
     differs (get_or (decimal n) k d) byte
     (λ e. not_in_digits (numerals_by_value _ tells_digits) (decimal n) byte (decimal_is_IsNumeral n small).0.1 (λ r. none r.0 r.1) k h (sym (either_default (decimal n) k d h) ∙ e))
 
-all_digits : (ds : List ℕ) → AllDigits 10 ds → list_all is_ascii_digit ds ≡ true
-all_digits [] d = refl
-all_digits (c ∷ cs) d =
-    let one : is_ascii_digit c ≡ true = let r = digit_from_value c d.0 in grind (arith, nat_tests) in
-    ap (λ b. b && list_all is_ascii_digit cs) one ∙ all_digits cs d.1
-
-no_zero : (ds : List ℕ) → 48 < get_or ds 0 0 → has_leading_zero ds ≡ false
-no_zero [] h = refl
-no_zero (c ∷ cs) h =
-    let other : nat_eq 48 c ≡ false = grind (arith, nat_tests) in
-    ap (λ b. (b && true) && nat_lt 1 (length (c ∷ cs))) other
-
-pub no_leading_zero : (n : ℕ) → n < 2 ^ 64 → has_leading_zero (decimal n) ≡ false
-no_leading_zero zero h = ap has_leading_zero (decimal_digit 0 (omega arith))
-no_leading_zero (suc n) h = no_zero (decimal (suc n)) (first_decimal (suc n) (omega arith) h)
-
--- a number as it is written is read
-pub number_read : (n : ℕ) → n < 2 ^ 63 → number (decimal n) ≡ Some n
-number_read n h =
-    let numeral = decimal_is_IsNumeral n (omega arith) in
-    let digits : list_all is_ascii_digit (decimal n) ≡ true = all_digits (decimal n) numeral.0.1 in
-    let some : (length (decimal n) == 0) ≡ false = differs (length (decimal n)) 0 (λ e. omega (arith, numeral.0.0)) in
-    let small : nat_lt n (2 ^ 63) ≡ true = grind (arith, nat_tests) in
-    ap (λ b. cond b None (and_then (number_of (decimal n)) in_range)) (no_leading_zero n (omega arith))
-    ∙ ap (λ b. and_then (cond (not b && list_all is_ascii_digit (decimal n)) (Some (digits_value 10 (decimal n))) None) in_range) some
-    ∙ ap (λ b. and_then (cond b (Some (digits_value 10 (decimal n))) None) in_range) digits
-    ∙ ap in_range numeral.1 ∙ ap (λ b. cond b (Some n) None) small
-
 pub each_read : (ns : List ℕ) → Each (λ n. n < 2 ^ 63) ns → each_number (map decimal ns) ≡ Some ns
 each_read [] h = refl
 each_read (n ∷ ns) h =
-    ap (λ o. and_then o (λ n. and_then (each_number (map decimal ns)) (λ rest. Some (n ∷ rest)))) (number_read n h.0)
+    ap (λ o. and_then o (λ n. and_then (each_number (map decimal ns)) (λ rest. Some (n ∷ rest)))) (number_again n h.0)
     ∙ ap (λ o. and_then o (λ rest. Some (n ∷ rest))) (each_read ns h.1)
 
 pub numbers_read : (most : ℕ) (ns : List ℕ) → 1 ≤ length ns → length ns ≤ most → Each (λ n. n < 2 ^ 63) ns → numbers most (map decimal ns) ≡ Some ns

@@ -10,18 +10,21 @@ use Rattle.onfi_cert.specs.Text.{IsCertificate}
 use Rattle.onfi_check.specs.Tree.{AcceptsTokens}
 use Rattle.onfi_check.specs.Faults.{IsTextFault}
 use Rattle.onfi_check.specs.Nodes.{HasMoreNodes, IsSplitOver}
+use Rattle.onfi_cert.specs.declared.fault.CertTextFault.{CertTextFault}
+use Rattle.onfi_check.specs.declared.fault.CertFault.{CertFault}
 use Rattle.onfi_check.specs.declared.fault.TextFault.{TextFault}
-use Rattle.onfi_known.specs.Faults.{IsTextFault as IsKnownTextFault}
-use Rattle.onfi_known.specs.Laws.{NoneBefore}
-use Rattle.onfi_known.specs.Proves.{ProvesTokens}
-use Rattle.onfi_known.specs.Text.{IsCertificate as IsKnownCertificate}
-use Rattle.onfi_known.specs.Within.{IsWithinTextFault}
-use Rattle.onfi_known.specs.declared.fault.KnownTextFault.{KnownTextFault}
-use Rattle.onfi_known.specs.declared.fault.WithinTextFault.{WithinTextFault}
-use Rattle.onfi_known.specs.declared.token.Token.{Token as KnownToken}
+use Rattle.onfi_known_check.specs.Faults.{IsTextFault as IsKnownTextFault}
+use Rattle.onfi_known_check.specs.Laws.{NoneBefore}
+use Rattle.onfi_known_check.specs.Proves.{ProvesTokens}
+use Rattle.onfi_known_check.specs.Text.{IsCertificate as IsKnownCertificate}
+use Rattle.onfi_known_check.specs.declared.fault.KnownFault.{KnownFault}
+use Rattle.onfi_known_check.specs.declared.fault.KnownTextFault.{KnownTextFault}
+use Rattle.onfi_known_check.specs.declared.token.Token.{Token as KnownToken}
 use Rattle.onfi_planner.specs.Planning.{AreRising}
 use Rattle.onfi_early.specs.Slack.{slack_of}
-use Rattle.onfi_planners.specs.Choice.{slack_in}
+use Rattle.onfi_plan.specs.Certificate.{IsSpelled, ShowsBelow as Shows, certificate_in}
+use Rattle.onfi_plan.specs.declared.plan.Plan.{Plan as OnePlan}
+use Rattle.onfi_planners.specs.Choice.{certified_by, slack_in}
 use Rattle.onfi_planners.specs.declared.chosen.ChosenPlanner.{ChosenPlanner}
 use Rattle.onfi_planners.specs.declared.chosen.ChosenPlanner.TheVariants.{Plain, Remembering, BestSoFar}
 use Rattle.onfi_script.specs.declared.command.Command.{Command}
@@ -41,7 +44,7 @@ use Rattle.onfi_script.specs.declared.device.Device.{Device}
 use Rattle.onfi_script.specs.Device.{TellsDevice}
 use Rattle.onfi_script.specs.Setup.{names_absent, SetsUp}
 use Rattle.onfi_script.specs.PlanText.{plan_of, plan_within_of, schedule_of}
-use Rattle.onfi_script.specs.Text.{Answer, memory, refused, planned, over, accepted, within, legal_until, refused_for, refused_at, text_refused, known_text_refused, within_refused}
+use Rattle.onfi_script.specs.Text.{Answer, memory, refused, planned, over, accepted, within, legal_until, refused_for, refused_at, text_refused, known_text_refused}
 
 -- a fault of the script as a whole
 abbrev pub whole : ScriptFault → Refusal
@@ -58,15 +61,18 @@ pub record ShowsBelow (planner : ChosenPlanner) (p : Problem) (below : ℕ) (tex
   pub certificate : Certifies planner p below text
   pub none_before : NoneBefore p below
 
--- a plan: a legal schedule, its groups by rising first start, and the text of a certificate that nothing ends before
--- `below`. It ends at most so many thousandths later, with none it is optimal; save that the best so far may end at any time
--- where the tree of the problem has more nodes than the limit
-pub record IsPlan (planner : ChosenPlanner) (slack limit : ℕ) (p : Problem) (s : Schedule) (below : ℕ) (text : List ℕ) : Type 0 where
-  pub legal : Legal p s
-  pub rising : AreRising s.groups
-  pub shown : ShowsBelow planner p below text
-  pub optimal : planner ≢ BestSoFar → slack ≡ 0 → Optimal p s × (below ≡ finish p s)
-  pub near : below + slack_of slack p.bus_free below < finish p s → (planner ≡ BestSoFar) × HasMoreNodes p limit
+-- a plan of a planner: a legal schedule, its groups by rising first start, and a certificate of that planner's that nothing ends
+-- before `below`. It ends at most so many thousandths later, with none it is optimal; save that the best so far may end at any
+-- time where the tree of the problem has more nodes than the limit
+pub record IsPlan (planner : ChosenPlanner) (slack limit : ℕ) (p : Problem) (plan : OnePlan) : Type 0 where
+  pub legal : Legal p plan.planned.schedule
+  pub ends : finish p plan.planned.schedule ≡ plan.planned.finish
+  pub rising : AreRising plan.planned.schedule.groups
+  pub kind : certified_by planner (certificate_in plan)
+  pub shown : Shows (certificate_in plan) p.wants p plan.below
+  pub none_before : NoneBefore p plan.below
+  pub optimal : planner ≢ BestSoFar → slack ≡ 0 → Optimal p plan.planned.schedule × (plan.below ≡ plan.planned.finish)
+  pub near : plan.below + slack_of slack p.bus_free plan.below < plan.planned.finish → (planner ≡ BestSoFar) × HasMoreNodes p limit
 
 -- a plan is printed as asked for: the plan text with its certificate, or its trace, whose lines name their requests where that
 -- is asked for
@@ -76,11 +82,11 @@ Prints (Trace requests) p s below text answer = IsTrace requests p s answer.text
 
 -- a plan as the options ask for it
 pub record PrintsPlan (options : PlanOptions) (p : Problem) (answer : Answer) : Type 0 where
-  pub schedule : Schedule
-  pub below : ℕ
-  pub certificate : List ℕ
-  pub plan : IsPlan options.planner (slack_in options.better) options.limit p schedule below certificate
-  pub printed : Prints options.output p schedule below certificate answer
+  pub plan : OnePlan
+  pub is_plan : IsPlan options.planner (slack_in options.better) options.limit p plan
+  pub text : List ℕ
+  pub spelled : IsSpelled p.rules.strict (certificate_in plan) text
+  pub printed : Prints options.output p plan.planned.schedule plan.below text answer
 
 -- one search with a limit tells that limit, where the tree of the problem has more nodes
 abbrev pub OneTells : ℕ → Problem → ℕ → Type 0
@@ -113,9 +119,8 @@ pub record IsShown (planner : ChosenPlanner) (p : Problem) (s : Schedule) (below
 
 -- what is wrong with the schedule or its certificate is told
 abbrev pub TellsFault : ChosenPlanner → Problem → Schedule → ℕ → List ℕ → Answer → Type 0
-TellsFault Plain p s below text answer = (fault : TextFault) × IsTextFault p s text fault × (answer ≡ text_refused fault)
-TellsFault Remembering p s below text answer = (fault : KnownTextFault) × IsKnownTextFault p.wants p s text fault × (answer ≡ known_text_refused fault)
-TellsFault BestSoFar p s below text answer = (fault : WithinTextFault) × IsWithinTextFault p.wants p s below text fault × (answer ≡ within_refused fault)
+TellsFault Plain p s below text answer = (fault : TextFault CertFault CertTextFault) × IsTextFault p s text fault × (answer ≡ text_refused fault)
+TellsFault _ p s below text answer = (fault : TextFault KnownFault KnownTextFault) × IsKnownTextFault p.wants p s below text fault × (answer ≡ known_text_refused fault)
 
 -- the answer to a schedule that is said to end at `ends`, where its certificate is to show that nothing ends before `below`:
 -- what is wrong with them, that the schedule ends at another time, that it is legal and so near the optimum, or optimal
@@ -190,13 +195,13 @@ pub data TellsScript (input : List ℕ) (told : Result Problem Refusal) : Type 0
   has_rows : (rows : List Row) → TellsRows for_a.Problem input (Ok rows) → TellsSetup rows told → TellsScript input told
 
 -- the answer to an input: why its script is refused, or what the command asks for
-pub data AnswersScript (Tells : ℕ → Problem → ℕ → Type 0) (command : Command) (input : List ℕ) (answer : Answer) : Type 0 where
-  is_unread : (refusal : Refusal) → TellsScript input (Err refusal) → answer ≡ refused refusal → AnswersScript Tells command input answer
-  is_read : (p : Problem) → TellsScript input (Ok p) → AnswersCommand Tells command (plan_text_of input) p answer → AnswersScript Tells command input answer
+pub data AnswersScript (Answers : List ℕ → Problem → Answer → Type 0) (input : List ℕ) (answer : Answer) : Type 0 where
+  is_unread : (refusal : Refusal) → TellsScript input (Err refusal) → answer ≡ refused refusal → AnswersScript Answers input answer
+  is_read : (p : Problem) → TellsScript input (Ok p) → Answers (plan_text_of input) p answer → AnswersScript Answers input answer
 
 -- .. or that memory ran out
 abbrev pub IsAnswerBy : (ℕ → Problem → ℕ → Type 0) → Command → List ℕ → Answer → Type 0
-IsAnswerBy Tells command input answer = (answer ≡ memory) ⊎ AnswersScript Tells command input answer
+IsAnswerBy Tells command input answer = (answer ≡ memory) ⊎ AnswersScript (λ text p a. AnswersCommand Tells command text p a) input answer
 
 -- the writer was given the answer to what the reader had, where both tell their bytes
 abbrev pub AnswersBy : (ℕ → Problem → ℕ → Type 0) → Command → Option (List ℕ) → Option (List ℕ) → Option (List ℕ) → ℕ → Type 0

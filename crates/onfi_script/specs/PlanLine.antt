@@ -1,8 +1,7 @@
 -- What a line of a plan text says.
-use Rattle.std.specs.Prelude.{ℕ, ◌==◌, ◌&&◌, ◌^◌, nat_eq, nat_le, nat_lt, if◌then◌else◌, Bool, List, [], ◌∷◌, ◌++◌, length, map, find, unwrap_or, Option, Some, None, codes}
-use Rattle.std.specs.List.{starts_with}
+use Rattle.std.specs.Prelude.{ℕ, ◌==◌, ◌&&◌, nat_le, if◌then◌else◌, Bool, List, [], ◌∷◌, ◌++◌, length, map, find, unwrap_or, Option, Some, None, codes}
 use Rattle.std.specs.Str.{bytes_eq}
-use Rattle.onfi_timing.specs.Decimal.{number_of}
+use Rattle.onfi_timing.specs.Decimal.{written_number}
 use Rattle.onfi_timing.specs.declared.kind.Kind.TheVariants.{Read}
 use Rattle.onfi_request.specs.declared.want.Want.{Want}
 use Rattle.onfi_script.specs.Parts.{parts}
@@ -14,21 +13,9 @@ abbrev pub and_then : {A B : Type 0} → Option A → (A → Option B) → Optio
 and_then None f = None
 and_then (Some x) f = f x
 
--- more digits than one, the first a zero
-abbrev pub has_leading_zero : List ℕ → Bool
-has_leading_zero text = starts_with nat_eq text (codes "0") && nat_lt 1 (length text)
-
--- below 2^63
-abbrev pub in_range : ℕ → Option ℕ
-in_range n = if nat_lt n (2 ^ 63) then Some n else None
-
--- a number in digits
-abbrev pub number : List ℕ → Option ℕ
-number text = if has_leading_zero text then None else and_then (number_of text) in_range
-
 abbrev pub each_number : List (List ℕ) → Option (List ℕ)
 each_number [] = Some []
-each_number (text ∷ texts) = and_then (number text) (λ n. and_then (each_number texts) (λ rest. Some (n ∷ rest)))
+each_number (text ∷ texts) = and_then (written_number text) (λ n. and_then (each_number texts) (λ rest. Some (n ∷ rest)))
 
 -- one number more behind the others
 abbrev pub with_last : List ℕ → ℕ → Option (List ℕ)
@@ -49,7 +36,7 @@ want_named wants id = unwrap_or (find (λ w. w.id == id) wants) (stranger id)
 -- `LUN START ..`
 abbrev pub rest_of : List (List ℕ) → Option Line
 rest_of [] = None
-rest_of (lun ∷ starts) = and_then (number lun) (λ lun. and_then (numbers 8 starts) (λ starts. Some (Rest (record { lun = lun; starts = starts }))))
+rest_of (lun ∷ starts) = and_then (written_number lun) (λ lun. and_then (numbers 8 starts) (λ starts. Some (Rest (record { lun = lun; starts = starts }))))
 
 -- `ID+ID.. START ..`
 abbrev pub group_of : List Want → List (List ℕ) → Option Line
@@ -70,7 +57,7 @@ line_of wants line = line_of_words wants (parts 32 line)
 
 -- `NAME N`
 abbrev pub number_in_words : List ℕ → List (List ℕ) → Option ℕ
-number_in_words name (first ∷ number' ∷ []) = if bytes_eq first name then number number' else None
+number_in_words name (first ∷ text ∷ []) = if bytes_eq first name then written_number text else None
 number_in_words name words = None
 
 abbrev pub number_in : List ℕ → List ℕ → Option ℕ

@@ -13,14 +13,6 @@ use Rattle.onfi_script.specs.declared.choosing.Choosing.TheVariants.{ByLun, Read
 use Rattle.onfi_script.specs.Field.{given, field, flag, hex_bytes, number, kind, lun, block, page, span}
 use Rattle.onfi_script.specs.Row.{Record}
 
--- how many places a queue has
-abbrev pub capacity : List ℕ → Result ℕ ScriptFault
-capacity text = number 1 1024 text
-
--- how many channels or hosts there are
-abbrev pub few : List ℕ → Result ℕ ScriptFault
-few text = number 1 4 text
-
 -- by what a batch is chosen
 abbrev pub choosing : List ℕ → Result Choosing ScriptFault
 choosing text =
@@ -37,10 +29,10 @@ abbrev pub end_number : List ℕ → Result ℕ ScriptFault
 end_number text = number 0 3 text
 
 abbrev pub channels_row : Record → Result Row ScriptFault
-channels_row row = given (few (field row 1)) (λ count. Ok (Channels count))
+channels_row row = given (number 1 4 (field row 1)) (λ count. Ok (Channels count))
 
 abbrev pub hosts_row : Record → Result Row ScriptFault
-hosts_row row = given (few (field row 1)) (λ count. Ok (Hosts count))
+hosts_row row = given (number 1 4 (field row 1)) (λ count. Ok (Hosts count))
 
 abbrev pub batch_row : Record → Result Row ScriptFault
 batch_row row = given (number 1 8 (field row 1)) (λ count. Ok (Batch count))
@@ -49,10 +41,10 @@ abbrev pub choice_row : Record → Result Row ScriptFault
 choice_row row = given (choosing (field row 1)) (λ choosing. Ok (Choice choosing))
 
 abbrev pub submit_cap_row : Record → Result Row ScriptFault
-submit_cap_row row = given (capacity (field row 1)) (λ count. Ok (SubmitCap count))
+submit_cap_row row = given (number 1 1024 (field row 1)) (λ count. Ok (SubmitCap count))
 
 abbrev pub post_cap_row : Record → Result Row ScriptFault
-post_cap_row row = given (capacity (field row 1)) (λ count. Ok (PostCap count))
+post_cap_row row = given (number 1 1024 (field row 1)) (λ count. Ok (PostCap count))
 
 abbrev pub chip_fail_row : Record → Result Row ScriptFault
 chip_fail_row row = given (end_number (field row 1)) (λ channel. given (call_number (field row 2)) (λ number. Ok (ChipFail channel number)))

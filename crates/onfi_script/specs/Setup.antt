@@ -1,5 +1,6 @@
 -- What the rows of a script set up on its device.
-use Rattle.std.specs.Prelude.{◌≡◌, ℕ, zero, suc, ◌+◌, ◌%◌, ◌^◌, nat_lt, not, Bool, false, List, [], ◌∷◌, ◌++◌, map, Option, Some, None}
+use Rattle.std.specs.Prelude.{◌≡◌, ℕ, zero, suc, ◌+◌, nat_lt, not, Bool, false, List, [], ◌∷◌, ◌++◌, map, Option, Some, None}
+use Rattle.onfi_addr.specs.Rows.{plane_at}
 use Rattle.onfi_request.specs.declared.want.Want.{Want as WantOf}
 use Rattle.onfi_problem.specs.declared.lun_state.LunState.{LunState}
 use Rattle.onfi_problem.specs.declared.lun_state.LunState.TheVariants as state
@@ -21,9 +22,6 @@ abbrev pub strict_from : Option Row → Bool
 strict_from (Some (Strict strict)) = strict
 strict_from _ = false
 
-abbrev pub plane_of : ℕ → ℕ → ℕ
-plane_of plane_bits block = block % 2 ^ plane_bits
-
 -- how much a request counts, 1 where no row tells
 abbrev pub weight_from : Option Row → ℕ
 weight_from (Some (Weight request weight)) = weight
@@ -38,7 +36,7 @@ weights rows = map (weight_at rows) (0 ∷ 1 ∷ 2 ∷ 3 ∷ 4 ∷ 5 ∷ 6 ∷ 7
 
 -- a member of the group that a row tells of
 abbrev pub member : ℕ → RunningRow → ℕ → WantOf
-member plane_bits row block = record { id = 0; kind = row.kind; lun = row.lun; plane = plane_of plane_bits block; block = block; page = row.page }
+member plane_bits row block = record { id = 0; kind = row.kind; lun = row.lun; plane = plane_at plane_bits block; block = block; page = row.page }
 
 abbrev pub members : ℕ → RunningRow → List WantOf
 members plane_bits row = map (member plane_bits row) row.blocks
@@ -59,7 +57,7 @@ states plane_bits rows (suc luns) = states plane_bits rows luns ++ state_at plan
 
 -- the want of a row, with this number
 abbrev pub want_in : ℕ → ℕ → Row → Option WantOf
-want_in plane_bits id (Want kind lun block page) = Some (record { id = id; kind = kind; lun = lun; plane = plane_of plane_bits block; block = block; page = page })
+want_in plane_bits id (Want kind lun block page) = Some (record { id = id; kind = kind; lun = lun; plane = plane_at plane_bits block; block = block; page = page })
 want_in plane_bits id _ = None
 
 -- one more in front, where there is one

@@ -22,14 +22,14 @@ use Rattle.onfi_check.specs.declared.fault.CertFault.{CertFault}
 use Rattle.onfi_check.specs.declared.fault.CertFault.TheVariants as cert
 use Rattle.onfi_check.specs.declared.fault.TextFault.{TextFault}
 use Rattle.onfi_check.specs.declared.fault.TextFault.TheVariants as in_text
-use Rattle.onfi_known.specs.declared.fault.KnownFault.{KnownFault}
-use Rattle.onfi_known.specs.declared.fault.KnownFault.TheVariants as known
-use Rattle.onfi_known.specs.declared.fault.KnownTextFault.{KnownTextFault}
-use Rattle.onfi_known.specs.declared.fault.KnownTextFault.TheVariants as in_known
-use Rattle.onfi_known.specs.declared.fault.WithinTextFault.{WithinTextFault}
-use Rattle.onfi_known.specs.declared.fault.WithinTextFault.TheVariants as in_within
+use Rattle.onfi_known_check.specs.declared.fault.KnownFault.{KnownFault}
+use Rattle.onfi_known_check.specs.declared.fault.KnownFault.TheVariants as known
+use Rattle.onfi_known_check.specs.declared.fault.KnownTextFault.{KnownTextFault}
+use Rattle.onfi_known_check.specs.declared.fault.KnownTextFault.TheVariants as in_known
 use Rattle.onfi_script.specs.declared.fault.ScriptFault.{ScriptFault}
 use Rattle.onfi_script.specs.declared.fault.ScriptFault.TheVariants.{NoEnd, UnknownRow, FieldCount, NotANumber, OutOfRange, Repeated, Missing, Hex, Page, Geometry, Sheet, Strobe, Problem, Request, NotHere}
+use Rattle.onfi_script.specs.declared.why.Why.{Why}
+use Rattle.onfi_script.specs.declared.why.Why.TheVariants as why
 use Rattle.onfi_script.specs.declared.fault.Refusal.{Refusal}
 
 -- what is written, and the status that the program ends with
@@ -188,38 +188,38 @@ cert_text_refused cert_text.TooLong = refused_for (codes "cert TooLong")
 cert_text_refused cert_text.Memory = memory
 
 -- why the text of a certificate is refused
-abbrev pub text_refused : TextFault → Answer
+abbrev pub text_refused : TextFault CertFault CertTextFault → Answer
 text_refused (in_text.Text fault) = cert_text_refused fault
 text_refused (in_text.Cert fault) = cert_refused fault
 text_refused in_text.Option = refused_for (codes "cert Option")
 
--- the same of certificates that remember states
+-- the same of certificates that remember states, and of a schedule that ends before the time before which none is to end
 abbrev pub known_refused : KnownFault → Answer
-known_refused known.Illegal = refused_for (codes "1 Illegal")
-known_refused known.Short = refused_for (codes "2 Short")
-known_refused (known.Trailing place) = refused_at (codes "3 Trailing") place
-known_refused (known.Width place) = refused_at (codes "4 Width") place
-known_refused (known.BoundLow place) = refused_at (codes "5 BoundLow") place
-known_refused (known.YieldNoFit place) = refused_at (codes "6 YieldNoFit") place
-known_refused (known.YieldLoop place) = refused_at (codes "7 YieldLoop") place
-known_refused (known.NotEnd place) = refused_at (codes "8 NotEnd") place
-known_refused known.Memory = memory
+known_refused (known.Cert fault) = cert_refused fault
 known_refused (known.Unknown place) = refused_at (codes "10 Unknown") place
 known_refused (known.OtherLeft place) = refused_at (codes "11 OtherLeft") place
 known_refused (known.Sooner place) = refused_at (codes "12 Sooner") place
 known_refused (known.TooMany place) = refused_at (codes "13 TooMany") place
+known_refused known.Above = refused_for (codes "below")
 
-abbrev pub known_text_refused : KnownTextFault → Answer
-known_text_refused in_known.Header = refused_for (codes "cert Header")
-known_text_refused (in_known.BadToken place) = refused_at (codes "cert BadToken") place
-known_text_refused in_known.Option = refused_for (codes "cert Option")
-known_text_refused (in_known.Cert fault) = known_refused fault
-
--- .. of a time before which nothing ends, beside a schedule
-abbrev pub within_refused : WithinTextFault → Answer
-within_refused (in_within.Known fault) = known_text_refused fault
-within_refused in_within.Above = refused_for (codes "below")
+abbrev pub known_text_refused : TextFault KnownFault KnownTextFault → Answer
+known_text_refused (in_text.Text in_known.Header) = refused_for (codes "cert Header")
+known_text_refused (in_text.Text (in_known.BadToken place)) = refused_at (codes "cert BadToken") place
+known_text_refused (in_text.Cert fault) = known_refused fault
+known_text_refused in_text.Option = refused_for (codes "cert Option")
 
 -- the answer where so many nodes were opened, and the search is not over
 abbrev pub over : ℕ → Answer
 over opened = line (codes "over") opened 6
+
+-- the answer that says why
+abbrev pub refused_by : Why → Answer
+refused_by (why.Script refusal) = refused refusal
+refused_by (why.Over opened) = over opened
+refused_by (why.Line number) = refused_at (codes "plan") number
+refused_by (why.Illegal breach) = refused_for (codes "1 Illegal")
+refused_by (why.Finish said is) = refused_for (codes "finish")
+refused_by (why.Below said is) = refused_for (codes "below")
+refused_by (why.Cert fault) = text_refused fault
+refused_by (why.Known fault) = known_text_refused fault
+refused_by why.Memory = memory

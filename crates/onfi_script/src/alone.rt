@@ -5,9 +5,10 @@ ghost use Rattle.onfi_script.specs.AnswerOf.{answer_of};
 
 use crate::checking::line_refused;
 use crate::plan_within::{PlanWithin, read_plan_within};
-use crate::text::{Answer, legal_until, refused_for};
+use crate::text::{Answer, legal_until, refuse};
+use crate::why::Why;
 use onfi_problem::Problem;
-use onfi_schedule::{Schedule, finish, legal};
+use onfi_schedule::{Schedule, find_breach, finish};
 use std::alloc::{AllocError, Global};
 
 /// The text, with a line behind it that closes its schedule where no certificate does.
@@ -24,8 +25,9 @@ fn closed(alloc: Global, text: &[u8]) -> Result<Vec<u8>, AllocError>
 fn told(alloc: Global, problem: &Problem, schedule: &Schedule) -> Result<Answer, AllocError>
     ensures { IfOk result (λ a. TellsLegal problem.now.problem schedule.now (answer_of a)) }
 {
-    if !legal(problem, schedule) {
-        return refused_for(alloc, "1 Illegal");
+    let breach = find_breach(problem, schedule);
+    if breach.is_some() {
+        return refuse(alloc, Why::Illegal(breach));
     }
     legal_until(alloc, finish(problem, schedule))
 }

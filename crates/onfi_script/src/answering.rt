@@ -1,43 +1,57 @@
 //! From the bytes of an input to the bytes of its answer.
-ghost use Rattle.std.specs.Prelude.{◌≡◌, ◌≤◌, IfOk};
-ghost use Rattle.std.specs.Io.KnownBytes.{Keeps};
-ghost use Rattle.onfi_script.specs.Answer.{AnswersCommand, AnswersPlan, IsAnswerBy, Answers, AnswersBy, BeginsAnswer, BeginsAnswerBy, PartsTell, output_of};
-ghost use Rattle.onfi_script.specs.AnswerOf.{answer_of};
-ghost use Rattle.onfi_script.specs.Limit.{IsLimited};
+ghost use Rattle.std.specs.Prelude.{◌≡◌, ◌≤◌, ◌<◌, ℕ, IfOk, IfErr, take};
+ghost use Rattle.std.specs.Io.KnownBytes.{Appends, Keeps};
+ghost use Rattle.onfi_script.specs.Answer.{AnswersCommand, AnswersPlan, IsAnswer, IsAnswerBy, Answers, AnswersBy, BeginsAnswer, BeginsAnswerBy, OneTells, PartsTell, output_of};
+ghost use Rattle.onfi_script.specs.AnswerOf.{answer_of, told_of};
+ghost use Rattle.onfi_script.specs.Limit.{IsLimit, IsLimited};
 
 use crate::alone::judged_alone;
 use crate::checking::checked;
 use crate::command::{Command, Output, PlanOptions};
 use crate::fault::Stop;
-use crate::found::{plan_by, printed};
+use crate::planning::{plan_by, plan_by_workers, printed};
 use crate::reading::{Script, read_script};
 use crate::script::plan_text_of;
-use crate::search::{One, Search, Team};
 use crate::text::{Answer, over, refused};
 use crate::transfer::{EngineFault, InputFault, read_all, tell};
-use onfi_planner::PlanFault;
+use onfi_plan::PlanFault;
 use onfi_planners::ChosenPlanner;
 use std::alloc::{AllocError, Global};
 use std::io::{Read, Write};
 use std::thread::Threads;
 
-/// The answer that plans a problem; where the planner is the plain one, by this search.
-fn planned<S: Search>(
-    alloc: Global,
-    search: &S,
-    options: PlanOptions,
-    script: &Script,
-) -> Result<Answer, AllocError>
-    requires ready { S.ready search.now }
-    requires some { 1 ≤ options.limit }
-    requires few { options.limit ≤ 1048576 }
+/// The answer that plans a problem.
+fn planned(alloc: Global, options: PlanOptions, script: &Script) -> Result<Answer, AllocError>
+    requires limit { IsLimit options.limit }
     requires begun { script.now.problem.all ≡ script.now.problem.problem.wants }
-    ensures { IfOk result (λ a. AnswersPlan S.tells options script.now.problem.problem (answer_of a)) }
+    ensures { IfOk result (λ a. AnswersPlan OneTells options script.now.problem.problem (answer_of a)) }
 {
     let problem = &script.problem;
-    match plan_by(alloc, search, problem, &script.weights, options) {
-        Ok(found) => printed(alloc, problem, &found, options.output),
+    match plan_by(alloc, problem, &script.weights, options) {
+        Ok(plan) => printed(alloc, problem, plan, options.output),
         Err(PlanFault::Over { opened }) => over(alloc, opened),
+        Err(PlanFault::Memory) => Err(AllocError),
+    }
+}
+
+/// The answer that plans a problem, where the plain planner searches by so many workers.
+fn planned_by_workers<T: Threads + Sync>(
+    rt: &T,
+    alloc: Global,
+    options: PlanOptions,
+    workers: usize,
+    script: &Script,
+) -> Result<Answer, AllocError>
+    requires limit { IsLimit options.limit }
+    requires some_workers { 1 ≤ workers }
+    requires few_workers { workers ≤ 8 }
+    requires begun { script.now.problem.all ≡ script.now.problem.problem.wants }
+    ensures { IfOk result (λ a. AnswersPlan PartsTell options script.now.problem.problem (answer_of a)) }
+{
+    let problem = &script.problem;
+    match plan_by_workers(rt, alloc, problem, &script.weights, options, workers) {
+        Ok(best) => printed(alloc, problem, best, options.output),
+        Err(PlanFault::Over { opened: parts }) => over(alloc, parts),
         Err(PlanFault::Memory) => Err(AllocError),
     }
 }
@@ -54,46 +68,72 @@ fn output_of(trace: bool) -> Output
 }
 
 /// What the command asks for; `text` stands behind the script.
-fn commanded<S: Search>(
+fn commanded(
     alloc: Global,
-    search: &S,
     command: Command,
     text: &[u8],
     script: &Script,
 ) -> Result<Answer, AllocError>
-    requires ready { S.ready search.now }
     requires limit { IsLimited command }
     requires begun { script.now.problem.all ≡ script.now.problem.problem.wants }
-    ensures { IfOk result (λ a. AnswersCommand S.tells command text.now script.now.problem.problem (answer_of a)) }
+    ensures { IfOk result (λ a. AnswersCommand OneTells command text.now script.now.problem.problem (answer_of a)) }
 {
     let problem = &script.problem;
     match command {
         Command::Plan { limit, trace } => {
             let options = PlanOptions::new(ChosenPlanner::Plain, limit, output_of(trace));
-            planned(alloc, search, options, script)
+            planned(alloc, options, script)
         }
         Command::Check => checked(alloc, ChosenPlanner::Plain, problem, text),
-        Command::PlanBy(options) => planned(alloc, search, options, script),
+        Command::PlanBy(options) => planned(alloc, options, script),
         Command::CheckBy(planner) => checked(alloc, planner, problem, text),
         Command::Legal => judged_alone(alloc, problem, text),
     }
 }
 
 /// The answer to an input.
-fn answer<S: Search>(
-    alloc: Global,
-    search: &S,
-    command: Command,
-    input: &[u8],
-) -> Result<Answer, AllocError>
-    requires ready { S.ready search.now }
+fn answer(alloc: Global, command: Command, input: &[u8]) -> Result<Answer, AllocError>
     requires limit { IsLimited command }
-    ensures { IfOk result (λ a. IsAnswerBy S.tells command input.now (answer_of a)) }
+    ensures { IfOk result (λ a. IsAnswerBy OneTells command input.now (answer_of a)) }
 {
     match read_script(alloc, input) {
-        Ok(script) => commanded(alloc, search, command, plan_text_of(input), &script),
+        Ok(script) => commanded(alloc, command, plan_text_of(input), &script),
         Err(Stop::Refused(refusal)) => refused(alloc, refusal),
         Err(Stop::Memory) => Err(AllocError),
+    }
+}
+
+/// The answer to an input that is planned by so many workers.
+fn answer_by_workers<T: Threads + Sync>(
+    rt: &T,
+    alloc: Global,
+    options: PlanOptions,
+    workers: usize,
+    input: &[u8],
+) -> Result<Answer, AllocError>
+    requires limit { IsLimit options.limit }
+    requires some_workers { 1 ≤ workers }
+    requires few_workers { workers ≤ 8 }
+    ensures { IfOk result (λ a. IsAnswerBy PartsTell (Command.PlanBy options) input.now (answer_of a)) }
+{
+    match read_script(alloc, input) {
+        Ok(script) => planned_by_workers(rt, alloc, options, workers, &script),
+        Err(Stop::Refused(refusal)) => refused(alloc, refusal),
+        Err(Stop::Memory) => Err(AllocError),
+    }
+}
+
+/// Writes an answer, or that memory was refused.
+fn tell_answer<W: Write>(
+    writer: &mut W,
+    answered: Result<Answer, AllocError>,
+) -> Result<u8, EngineFault>
+    ensures whole { IfOk result (λ s. (s ≡ (told_of answered).status) × Appends (W.contents writer.old) (W.contents writer.new) (told_of answered).text) }
+    ensures part { IfErr result (λ e. (e ≡ EngineFault.Write) × (n : ℕ) × Appends (W.contents writer.old) (W.contents writer.new) (take n (told_of answered).text)) }
+{
+    match answered {
+        Ok(answer) => tell(writer, answer.text.as_slice(), answer.status),
+        Err(AllocError) => tell(writer, b"memory\n", 4),
     }
 }
 
@@ -117,7 +157,11 @@ pub fn engine<R: Read, W: Write>(
     ensures unread { result ≡ Err EngineFault.Read → Keeps (W.contents writer.old) (W.contents writer.new) }
     ensures unwritten { result ≡ Err EngineFault.Write → BeginsAnswer command (R.remaining reader.old) (W.contents writer.old) (W.contents writer.new) }
 {
-    engine_by(alloc, &One, command, reader, writer)
+    match read_all(alloc, reader) {
+        Ok(input) => tell_answer(writer, answer(alloc, command, input.as_slice())),
+        Err(InputFault::Read) => Err(EngineFault::Read),
+        Err(InputFault::Memory) => tell_answer(writer, Err(AllocError)),
+    }
 }
 
 /// What [`engine`] does for `Plan`, with the search of [`plan_split`](onfi_planner::plan_split) by so many workers, 1 to
@@ -145,9 +189,8 @@ pub fn engine_split<T: Threads + Sync, R: Read, W: Write>(
     ensures unread { result ≡ Err EngineFault.Read → Keeps (W.contents writer.old) (W.contents writer.new) }
     ensures unwritten { result ≡ Err EngineFault.Write → BeginsAnswerBy PartsTell (Command.Plan limit trace) (R.remaining reader.old) (W.contents writer.old) (W.contents writer.new) }
 {
-    let team = Team { rt, workers };
-    let command = Command::Plan { limit, trace };
-    engine_by(alloc, &team, command, reader, writer)
+    let options = PlanOptions::new(ChosenPlanner::Plain, limit, output_of(trace));
+    engine_split_by(rt, alloc, options, workers, reader, writer)
 }
 
 /// What [`engine`] does for `PlanBy`, where the plain planner searches as [`engine_split`] does.
@@ -162,39 +205,51 @@ pub fn engine_split_by<T: Threads + Sync, R: Read, W: Write>(
     reader: &mut R,
     writer: &mut W,
 ) -> Result<u8, EngineFault>
-    requires some { 1 ≤ options.limit }
-    requires few { options.limit ≤ 1048576 }
+    requires limit { IsLimit options.limit }
     requires some_workers { 1 ≤ workers }
     requires few_workers { workers ≤ 8 }
     ensures answer { IfOk result (λ status. AnswersBy PartsTell (Command.PlanBy options) (R.remaining reader.old) (W.contents writer.old) (W.contents writer.new) status) }
     ensures unread { result ≡ Err EngineFault.Read → Keeps (W.contents writer.old) (W.contents writer.new) }
     ensures unwritten { result ≡ Err EngineFault.Write → BeginsAnswerBy PartsTell (Command.PlanBy options) (R.remaining reader.old) (W.contents writer.old) (W.contents writer.new) }
 {
-    let team = Team { rt, workers };
-    engine_by(alloc, &team, Command::PlanBy(options), reader, writer)
+    match read_all(alloc, reader) {
+        Ok(input) => {
+            let answered = answer_by_workers(rt, alloc, options, workers, input.as_slice());
+            tell_answer(writer, answered)
+        }
+        Err(InputFault::Read) => Err(EngineFault::Read),
+        Err(InputFault::Memory) => tell_answer(writer, Err(AllocError)),
+    }
 }
 
-/// Reads all that there is, and writes the answer to it, with this search, and nothing else.
-fn engine_by<S: Search, R: Read, W: Write>(
+/// The answer to an input, with why it refuses: what [`engine`] writes with one worker, and what [`engine_split`] and
+/// [`engine_split_by`] write with several, 1 to 8.
+///
+/// # Errors
+/// Want of memory.
+pub fn answer_by<T: Threads + Sync>(
+    rt: &T,
     alloc: Global,
-    search: &S,
     command: Command,
-    reader: &mut R,
-    writer: &mut W,
-) -> Result<u8, EngineFault>
-    requires ready { S.ready search.now }
+    workers: usize,
+    input: &[u8],
+) -> Result<Answer, AllocError>
     requires limit { IsLimited command }
-    ensures answer { IfOk result (λ status. AnswersBy S.tells command (R.remaining reader.old) (W.contents writer.old) (W.contents writer.new) status) }
-    ensures unread { result ≡ Err EngineFault.Read → Keeps (W.contents writer.old) (W.contents writer.new) }
-    ensures unwritten { result ≡ Err EngineFault.Write → BeginsAnswerBy S.tells command (R.remaining reader.old) (W.contents writer.old) (W.contents writer.new) }
+    requires few_workers { workers ≤ 8 }
+    ensures one { workers ≤ 1 → IfOk result (λ a. IsAnswer command input.now (answer_of a)) }
+    ensures several { 1 < workers → IfOk result (λ a. IsAnswerBy PartsTell command input.now (answer_of a)) }
 {
-    let input = match read_all(alloc, reader) {
-        Ok(input) => input,
-        Err(InputFault::Read) => return Err(EngineFault::Read),
-        Err(InputFault::Memory) => return tell(writer, b"memory\n", 4),
-    };
-    match answer(alloc, search, command, input.as_slice()) {
-        Ok(answer) => tell(writer, answer.text.as_slice(), answer.status),
-        Err(AllocError) => tell(writer, b"memory\n", 4),
+    if workers <= 1 {
+        return answer(alloc, command, input);
+    }
+    match command {
+        Command::Plan { limit, trace } => {
+            let options = PlanOptions::new(ChosenPlanner::Plain, limit, output_of(trace));
+            answer_by_workers(rt, alloc, options, workers, input)
+        }
+        Command::PlanBy(options) => answer_by_workers(rt, alloc, options, workers, input),
+        Command::Check => answer(alloc, command, input),
+        Command::CheckBy(_) => answer(alloc, command, input),
+        Command::Legal => answer(alloc, command, input),
     }
 }

@@ -1,29 +1,59 @@
 //! Plan texts are checked.
 ghost use Rattle.std.specs.Prelude.{◌≡◌, codes, IfOk, if◌then◌else◌};
-ghost use Rattle.onfi_schedule.specs.Schedule.{finish};
+ghost use Rattle.onfi_schedule.specs.Schedule.{Legal, finish};
 ghost use Rattle.onfi_planners.specs.declared.chosen.ChosenPlanner.TheVariants as by;
 ghost use Rattle.onfi_script.specs.Answer.{AnswersCheck, AnswersOptimal, AnswersSchedule};
 ghost use Rattle.onfi_script.specs.AnswerOf.{answer_of};
-ghost use Rattle.onfi_script.specs.Text.{refused_at as spec_refused_at};
+ghost use Rattle.onfi_script.specs.Text.{known_text_refused, refused_at as spec_refused_at, refused_by, text_refused};
 
 use crate::plan_text::read_plan;
 use crate::plan_within::{PlanWithin, read_plan_within};
-use crate::text::{
-    Answer, accepted, known_text_refused, refused_at, refused_for, text_refused, within,
-    within_refused,
-};
-use onfi_check::check_text;
-use onfi_known::{check_known_text, check_known_within};
+use crate::text::{Answer, accepted, refuse, within};
+use crate::why::Why;
+use onfi_check::{CertFault, TextFault, check_text};
+use onfi_known_check::{KnownFault, KnownTextFault, check_known_text, check_known_within};
 use onfi_planners::ChosenPlanner;
 use onfi_problem::Problem;
-use onfi_schedule::Schedule;
+use onfi_schedule::{Schedule, find_breach, finish};
 use std::alloc::{AllocError, Global};
 
 /// The answer to a plan text of which that line, counted from 1, is the first wrong one.
 pub fn line_refused(alloc: Global, number: u64) -> Result<Answer, AllocError>
     ensures { IfOk result (λ a. answer_of a ≡ spec_refused_at (codes "plan") number) }
 {
-    refused_at(alloc, "plan", number)
+    refuse(alloc, Why::Line(number))
+}
+
+/// Why the text of a plain certificate refuses its schedule.
+fn why_plain(problem: &Problem, schedule: &Schedule, fault: TextFault) -> Why
+    ensures { refused_by result ≡ text_refused fault }
+{
+    match fault {
+        TextFault::Cert(CertFault::Illegal) => Why::Illegal(find_breach(problem, schedule)),
+        _ => Why::Cert(fault),
+    }
+}
+
+/// .. that of a certificate which remembers states, where nothing is said to end before `below`, in ns.
+fn why_known(
+    problem: &Problem,
+    schedule: &Schedule,
+    below: u64,
+    fault: TextFault<KnownFault, KnownTextFault>,
+) -> Why
+    requires { fault ≡ TextFault.Cert KnownFault.Above → Legal problem.now.problem schedule.now }
+    ensures { refused_by result ≡ known_text_refused fault }
+{
+    match fault {
+        TextFault::Cert(KnownFault::Cert(CertFault::Illegal)) => {
+            Why::Illegal(find_breach(problem, schedule))
+        }
+        TextFault::Cert(KnownFault::Above) => Why::Below {
+            said: below,
+            is: finish(problem, schedule),
+        },
+        _ => Why::Known(fault),
+    }
 }
 
 /// The answer to a schedule that is said to end at `ends`, in ns, and the text of its plain certificate.
@@ -38,8 +68,8 @@ fn judged(
 {
     match check_text(alloc, problem, schedule, certificate) {
         Ok(finish) if finish == ends => accepted(alloc, ends),
-        Ok(_) => refused_for(alloc, "finish"),
-        Err(fault) => text_refused(alloc, fault),
+        Ok(is) => refuse(alloc, Why::Finish { said: ends, is }),
+        Err(fault) => refuse(alloc, why_plain(problem, schedule, fault)),
     }
 }
 
@@ -56,8 +86,8 @@ fn judged_known(
 {
     match check_known_text(alloc, problem, schedule, certificate) {
         Ok(end) if end == ends => accepted(alloc, ends),
-        Ok(_) => refused_for(alloc, "finish"),
-        Err(fault) => known_text_refused(alloc, fault),
+        Ok(is) => refuse(alloc, Why::Finish { said: ends, is }),
+        Err(fault) => refuse(alloc, why_known(problem, schedule, ends, fault)),
     }
 }
 
@@ -74,10 +104,10 @@ fn judged_within(
     ensures { IfOk result (λ a. AnswersSchedule by.BestSoFar problem.now.problem schedule.now ends below certificate.now (answer_of a)) }
 {
     match check_known_within(alloc, problem, schedule, below, certificate) {
-        Ok(finish) if finish != ends => refused_for(alloc, "finish"),
+        Ok(is) if is != ends => refuse(alloc, Why::Finish { said: ends, is }),
         Ok(_) if below < ends => within(alloc, ends, below),
         Ok(_) => accepted(alloc, ends),
-        Err(fault) => within_refused(alloc, fault),
+        Err(fault) => refuse(alloc, why_known(problem, schedule, below, fault)),
     }
 }
 

@@ -7,9 +7,10 @@ ghost use Rattle.onfi_script.specs.Stop.{IfFault, Tells};
 ghost use Rattle.onfi_script.specs.Subject.{row_on as spec_row_on};
 
 use crate::device::{Device, PageDevice};
+use crate::device_row::ShapeRow;
 use crate::fault::{RowStop, ScriptFault};
 use crate::layout::GeometryRow;
-use crate::row::{Row, ShapeRow, Subject};
+use crate::row::{Row, Subject};
 use crate::row_name::Form;
 use crate::seen::Seen;
 use onfi_addr::Geometry;

@@ -5,9 +5,10 @@ ghost use Rattle.onfi_addr.specs.Bits.{IsBitCount};
 ghost use Rattle.onfi_script.specs.Layout.{IsLaidOut};
 ghost use Rattle.onfi_script.specs.RunRow as spec;
 
+use crate::device_row::ShapeRow;
 use crate::fault::ScriptFault;
 use crate::field::{field, flag, number};
-use crate::row::{Row, ShapeRow};
+use crate::row::Row;
 use csv::ByteRecord;
 use onfi_addr::Geometry;
 use std::marker::Model;

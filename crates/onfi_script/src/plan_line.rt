@@ -1,15 +1,15 @@
 //! The lines of a plan text.
-ghost use Rattle.std.specs.Prelude.{◌≡◌, ◌==◌, ◌+◌, ◌<◌, ◌≤◌, ◌^◌, length, map, find, option_map, IfSome};
+ghost use Rattle.std.specs.Prelude.{◌≡◌, ◌+◌, ◌<◌, ◌≤◌, ◌^◌, length, IfSome};
+ghost use Rattle.onfi_timing.specs.Decimal.{written_number};
 ghost use Rattle.onfi_script.specs.Parts.{parts};
 ghost use Rattle.onfi_script.specs.PlanLine as spec;
 
 use crate::field::is_word;
+use crate::members::group_named;
 use crate::parts::cut;
-use onfi_group::Group;
 use onfi_request::Want;
 use onfi_schedule::{Placed, Starts};
-use onfi_timing::{Kind, read_number};
-use smallvec::SmallVec;
+use onfi_timing::read_written;
 use std::alloc::Global;
 
 /// A line `rest`: the starts, in ns, of what is left of a LUN's running group.
@@ -28,32 +28,13 @@ pub enum Line {
     Group(Placed),
 }
 
-/// Whether there are more digits than one, the first a zero.
-fn has_leading_zero(text: &[u8]) -> bool
-    ensures { result ≡ spec.has_leading_zero text.now }
-{
-    text.starts_with(b"0") && text.len() > 1
-}
-
-/// A number below 2^63 in digits, of which the first of several is no zero.
-fn number(text: &[u8]) -> Option<u64>
-    ensures value { result ≡ spec.number text.now }
-    ensures range { IfSome result (λ n. n < 2 ^ 63) }
-{
-    if has_leading_zero(text) {
-        return None;
-    }
-    let value = read_number(text)?;
-    if value < 1 << 63 { Some(value) } else { None }
-}
-
 /// The numbers before the last one, and the last one.
 fn with_last(mut numbers: Starts, last: &[u8]) -> Option<Starts>
     requires { length numbers < 8 }
-    ensures value { result ≡ spec.and_then (spec.number last.now) (λ n. spec.with_last numbers n) }
+    ensures value { result ≡ spec.and_then (written_number last.now) (λ n. spec.with_last numbers n) }
     ensures count { IfSome result (λ ns. length ns ≡ length numbers + 1) }
 {
-    numbers.push(number(last)?);
+    numbers.push(read_written(last)?);
     Some(numbers)
 }
 
@@ -70,47 +51,10 @@ fn numbers(text: &[u8], byte: u8, most: u8) -> Option<Starts>
         let Some((word, behind)) = cut(left, byte) else {
             return with_last(numbers, left);
         };
-        numbers.push(number(word)?);
+        numbers.push(read_written(word)?);
         left = behind;
     }
     None
-}
-
-/// The want of that number.
-fn find_want(wants: &[Want], id: u64) -> Option<&Want>
-    ensures { option_map (λ w. w.now) result ≡ find (λ w. w.id == id) wants.now }
-{
-    wants.iter().find(|want| want.id == id)
-}
-
-/// The want of that number, else one that no problem with these wants has.
-fn want_named(wants: &[Want], id: u64) -> Want
-    ensures { result ≡ spec.want_named wants.now id }
-{
-    match find_want(wants, id) {
-        Some(want) => *want,
-        None => Want {
-            id,
-            kind: Kind::Read,
-            lun: 0,
-            plane: 0,
-            block: 0,
-            page: 0,
-        },
-    }
-}
-
-/// The group of the wants of these numbers.
-fn members(alloc: Global, wants: &[Want], ids: &[u64]) -> Group
-    requires some { 1 ≤ length ids.now }
-    requires few { length ids.now ≤ 4 }
-    ensures { result ≡ map (spec.want_named wants.now) ids.now }
-{
-    let mut members = SmallVec::<Want, 4>::new(alloc);
-    for id in ids {
-        members.push_reserved(want_named(wants, *id));
-    }
-    Group::of(alloc, members.as_slice())
 }
 
 /// `LUN START ..`
@@ -118,7 +62,7 @@ fn rest_of(words: &[u8]) -> Option<Line>
     ensures { result ≡ spec.rest_of (parts 32 words.now) }
 {
     let (lun, starts) = cut(words, b' ')?;
-    let lun = number(lun)?;
+    let lun = read_written(lun)?;
     let starts = numbers(starts, b' ', 8)?;
     Some(Line::Rest(RestLine { lun, starts }))
 }
@@ -130,7 +74,7 @@ fn group_of(alloc: Global, wants: &[Want], words: &[u8]) -> Option<Line>
     let (ids, starts) = cut(words, b' ')?;
     let ids = numbers(ids, b'+', 4)?;
     let starts = numbers(starts, b' ', 8)?;
-    let members = members(alloc, wants, ids.as_slice());
+    let members = group_named(alloc, wants, ids.as_slice());
     Some(Line::Group(Placed::new(members, starts)))
 }
 
@@ -160,7 +104,7 @@ fn number_in(line: &[u8], name: &str) -> Option<u64>
     }
     match cut(text, b' ') {
         Some(_) => None,
-        None => number(text),
+        None => read_written(text),
     }
 }
 

@@ -66,7 +66,7 @@ fn made(alloc: Global, setup: &Setup) -> Result<Problem, Stop>
     );
     match made {
         Ok(problem) => {
-            let _limits = problem.bus_free();
+            problem.in_limits();
             Ok(problem)
         }
         Err(ProblemFault::TooMany) => Err(refused(ProblemFault::TooMany)),

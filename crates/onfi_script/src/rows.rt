@@ -9,14 +9,13 @@ ghost use Rattle.onfi_script.specs.Stop.{Gives, IfFault, IfRefused};
 ghost use Rattle.onfi_script.specs.Subject.{settles, subject_of};
 
 use crate::arrays_told::ArraysTold;
+use crate::device_row::{page_row, shape_row, sheet_row, spans_row, strobe_row};
 use crate::fault::{RowStop, ScriptFault, Stop};
 use crate::field::field;
 use crate::layout::geometry_row;
+use crate::problem_row::{bus_row, free_row, running_row, strict_row, want_row, weight_row};
 use crate::purpose::Purpose;
-use crate::row::{
-    Row, Subject, bus_row, free_row, page_row, running_row, shape_row, sheet_row, spans_row,
-    strict_row, strobe_row, want_row, weight_row,
-};
+use crate::row::{Row, Subject};
 use crate::row_name::RowName;
 use crate::run_row::{
     array_row, at_row, batch_row, channels_row, chip_fail_row, choice_row, fault_row, hosts_row,

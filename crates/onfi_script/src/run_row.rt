@@ -1,11 +1,12 @@
 //! The rows that are taken for a run alone.
 ghost use Rattle.std.specs.Prelude.{◌≡◌};
 ghost use Rattle.csv.specs.Records.{fields_of};
+ghost use Rattle.onfi_script.specs.Field.{number as number_of};
 ghost use Rattle.onfi_script.specs.RunRow as spec;
 ghost use Rattle.onfi_script.specs.Stop.{Gives, IfFault};
 
 use crate::choosing::Choosing;
-use crate::count::{Batch, Capacity, Few};
+use crate::count::Count;
 use crate::fault::{RowStop, ScriptFault};
 use crate::field::{block, field, hex_bytes, is_word, kind, lun, number, page, small, span};
 use crate::operation::{Aim, Content, Operation};
@@ -15,20 +16,12 @@ use onfi_addr::Place;
 use onfi_request::{Bytes, Fault};
 use std::alloc::Global;
 
-/// How many places a queue has.
-fn capacity(text: &[u8]) -> Result<Capacity, ScriptFault>
-    ensures { result ≡ spec.capacity text.now }
+/// A count, 1 to `MOST`.
+fn count<const MOST: u16>(text: &[u8]) -> Result<Count<MOST>, ScriptFault>
+    ensures { result ≡ number_of 1 MOST text.now }
 {
-    let count = number(text, 1, 1024)?;
-    Ok(Capacity::of(count as u16))
-}
-
-/// How many channels or hosts there are.
-fn few(text: &[u8]) -> Result<Few, ScriptFault>
-    ensures { result ≡ spec.few text.now }
-{
-    let count = small(text, 1, 4)?;
-    Ok(Few::of(count))
+    let count = number(text, 1, u64::from(MOST))?;
+    Ok(Count::of(count as u16))
 }
 
 /// By what a batch is chosen.
@@ -63,7 +56,7 @@ fn end_number(text: &[u8]) -> Result<u8, ScriptFault>
 pub fn channels_row(row: &ByteRecord) -> Result<Row, ScriptFault>
     ensures { result ≡ spec.channels_row (fields_of row.now) }
 {
-    let count = few(field(row, 1))?;
+    let count = count(field(row, 1))?;
     Ok(Row::Channels { count })
 }
 
@@ -71,7 +64,7 @@ pub fn channels_row(row: &ByteRecord) -> Result<Row, ScriptFault>
 pub fn hosts_row(row: &ByteRecord) -> Result<Row, ScriptFault>
     ensures { result ≡ spec.hosts_row (fields_of row.now) }
 {
-    let count = few(field(row, 1))?;
+    let count = count(field(row, 1))?;
     Ok(Row::Hosts { count })
 }
 
@@ -79,7 +72,7 @@ pub fn hosts_row(row: &ByteRecord) -> Result<Row, ScriptFault>
 pub fn batch_row(row: &ByteRecord) -> Result<Row, ScriptFault>
     ensures { result ≡ spec.batch_row (fields_of row.now) }
 {
-    let count = Batch::of(small(field(row, 1), 1, 8)?);
+    let count = count(field(row, 1))?;
     Ok(Row::Batch { count })
 }
 
@@ -95,7 +88,7 @@ pub fn choice_row(row: &ByteRecord) -> Result<Row, ScriptFault>
 pub fn submit_cap_row(row: &ByteRecord) -> Result<Row, ScriptFault>
     ensures { result ≡ spec.submit_cap_row (fields_of row.now) }
 {
-    let count = capacity(field(row, 1))?;
+    let count = count(field(row, 1))?;
     Ok(Row::SubmitCap { count })
 }
 
@@ -103,7 +96,7 @@ pub fn submit_cap_row(row: &ByteRecord) -> Result<Row, ScriptFault>
 pub fn post_cap_row(row: &ByteRecord) -> Result<Row, ScriptFault>
     ensures { result ≡ spec.post_cap_row (fields_of row.now) }
 {
-    let count = capacity(field(row, 1))?;
+    let count = count(field(row, 1))?;
     Ok(Row::PostCap { count })
 }
 

@@ -1,46 +1,48 @@
 //! The texts that are written.
-ghost use Rattle.std.specs.Prelude.{◌≡◌, ◌++◌, string_bytes, IfOk, OnOk};
+ghost use Rattle.std.specs.Prelude.{◌≡◌, ◌++◌, string_bytes, IfOk, OnOk, Some};
 ghost use Rattle.std.specs.Fmt.{decimal};
 ghost use Rattle.std.specs.List.{flat_map};
 ghost use Rattle.onfi_script.specs.Text as spec;
 ghost use Rattle.onfi_script.specs.AnswerOf.{answer_of};
 
 use crate::fault::Refusal;
+use crate::why::Why;
 use onfi_cert::CertTextFault;
 use onfi_check::{CertFault, TextFault};
-use onfi_known::{KnownFault, KnownTextFault, WithinTextFault};
+use onfi_known_check::{KnownFault, KnownTextFault};
 use onfi_request::Want;
 use onfi_schedule::{Placed, Schedule, Starts};
 use std::alloc::{AllocError, Global};
 
-/// The text that is written, and the status that the program ends with.
+/// The text that is written, the status that the program ends with, and for a person why it refuses, where it does.
 #[derive(Drop)]
 pub struct Answer {
     pub text: Vec<u8>,
     pub status: u8,
+    pub why: Option<Why>,
 }
 
 impl Answer {
-    /// This text, with this status.
-    fn of(text: String, status: u8) -> Answer
-        ensures { answer_of result ≡ record { text = string_bytes text; status = status } }
+    /// This text, with this status; it refuses nothing.
+    pub fn of(text: Vec<u8>, status: u8) -> Answer
+        ensures { answer_of result ≡ record { text = text.items; status = status } }
     {
-        let text = text.into_bytes();
-        Answer { text, status }
+        Answer {
+            text,
+            status,
+            why: None,
+        }
     }
 }
 
 /// The line that refuses a script.
-///
-/// # Errors
-/// Want of memory.
-pub fn refused(alloc: Global, refusal: Refusal) -> Result<Answer, AllocError>
+fn script_refused(alloc: Global, refusal: Refusal) -> Result<Answer, AllocError>
     ensures { IfOk result (λ a. answer_of a ≡ spec.refused refusal) }
 {
     let row = refusal.row;
     let name = refusal.fault.name();
     let text = format!(in alloc; "script refused {row} {name}\n")?;
-    Ok(Answer::of(text, 1))
+    Ok(Answer::of(text.into_bytes(), 1))
 }
 
 /// A line of a word and a number.
@@ -48,30 +50,23 @@ fn line(alloc: Global, word: &str, number: u64, status: u8) -> Result<Answer, Al
     ensures { IfOk result (λ a. answer_of a ≡ spec.line word.now number status) }
 {
     let text = format!(in alloc; "{word} {number}\n")?;
-    Ok(Answer::of(text, status))
-}
-
-/// The line of a search that opened as many nodes as it may, and is not over.
-pub fn over(alloc: Global, opened: u32) -> Result<Answer, AllocError>
-    ensures { IfOk result (λ a. answer_of a ≡ spec.over opened) }
-{
-    line(alloc, "over", u64::from(opened), 6)
+    Ok(Answer::of(text.into_bytes(), status))
 }
 
 /// The line that refuses for this reason.
-pub fn refused_for(alloc: Global, reason: &str) -> Result<Answer, AllocError>
+fn refused_for(alloc: Global, reason: &str) -> Result<Answer, AllocError>
     ensures { IfOk result (λ a. answer_of a ≡ spec.refused_for reason.now) }
 {
     let text = format!(in alloc; "refused {reason}\n")?;
-    Ok(Answer::of(text, 2))
+    Ok(Answer::of(text.into_bytes(), 2))
 }
 
 /// The line that refuses for this reason, with a place.
-pub fn refused_at(alloc: Global, reason: &str, place: u64) -> Result<Answer, AllocError>
+fn refused_at(alloc: Global, reason: &str, place: u64) -> Result<Answer, AllocError>
     ensures { IfOk result (λ a. answer_of a ≡ spec.refused_at reason.now place) }
 {
     let text = format!(in alloc; "refused {reason} {place}\n")?;
-    Ok(Answer::of(text, 2))
+    Ok(Answer::of(text.into_bytes(), 2))
 }
 
 /// The line of a schedule that ends at `ends`, in ns, and that nothing beats.
@@ -86,7 +81,7 @@ pub fn within(alloc: Global, ends: u64, below: u64) -> Result<Answer, AllocError
     ensures { IfOk result (λ a. answer_of a ≡ spec.within ends below) }
 {
     let text = format!(in alloc; "within {ends} {below}\n")?;
-    Ok(Answer::of(text, 8))
+    Ok(Answer::of(text.into_bytes(), 8))
 }
 
 /// The line of a schedule that is legal and ends at `ends`, in ns.
@@ -126,7 +121,7 @@ fn cert_text_refused(alloc: Global, fault: CertTextFault) -> Result<Answer, Allo
 }
 
 /// The line that refuses the text of a certificate; none where memory was refused.
-pub fn text_refused(alloc: Global, fault: TextFault) -> Result<Answer, AllocError>
+fn text_refused(alloc: Global, fault: TextFault) -> Result<Answer, AllocError>
     ensures { IfOk result (λ a. answer_of a ≡ spec.text_refused fault) }
 {
     match fault {
@@ -136,48 +131,82 @@ pub fn text_refused(alloc: Global, fault: TextFault) -> Result<Answer, AllocErro
     }
 }
 
-/// The line that refuses the tokens of a certificate that remembers states; none where memory was refused.
+/// The line that refuses a schedule or the tokens of a certificate that remembers states; none where memory was refused.
 fn known_refused(alloc: Global, fault: KnownFault) -> Result<Answer, AllocError>
     ensures { IfOk result (λ a. answer_of a ≡ spec.known_refused fault) }
 {
     match fault {
-        KnownFault::Illegal => refused_for(alloc, "1 Illegal"),
-        KnownFault::Short => refused_for(alloc, "2 Short"),
-        KnownFault::Trailing(place) => refused_at(alloc, "3 Trailing", place as u64),
-        KnownFault::Width(place) => refused_at(alloc, "4 Width", place as u64),
-        KnownFault::BoundLow(place) => refused_at(alloc, "5 BoundLow", place as u64),
-        KnownFault::YieldNoFit(place) => refused_at(alloc, "6 YieldNoFit", place as u64),
-        KnownFault::YieldLoop(place) => refused_at(alloc, "7 YieldLoop", place as u64),
-        KnownFault::NotEnd(place) => refused_at(alloc, "8 NotEnd", place as u64),
-        KnownFault::Memory => Err(AllocError),
+        KnownFault::Cert(fault) => cert_refused(alloc, fault),
         KnownFault::Unknown(place) => refused_at(alloc, "10 Unknown", place as u64),
         KnownFault::OtherLeft(place) => refused_at(alloc, "11 OtherLeft", place as u64),
         KnownFault::Sooner(place) => refused_at(alloc, "12 Sooner", place as u64),
         KnownFault::TooMany(place) => refused_at(alloc, "13 TooMany", place as u64),
+        KnownFault::Above => refused_for(alloc, "below"),
     }
 }
 
-/// The line that refuses the text of a certificate that remembers states; none where memory was refused.
-pub fn known_text_refused(alloc: Global, fault: KnownTextFault) -> Result<Answer, AllocError>
+/// The line that refuses a schedule or the text of a certificate that remembers states; none where memory was refused.
+fn known_text_refused(
+    alloc: Global,
+    fault: TextFault<KnownFault, KnownTextFault>,
+) -> Result<Answer, AllocError>
     ensures { IfOk result (λ a. answer_of a ≡ spec.known_text_refused fault) }
 {
     match fault {
-        KnownTextFault::Header => refused_for(alloc, "cert Header"),
-        KnownTextFault::BadToken(place) => refused_at(alloc, "cert BadToken", place as u64),
-        KnownTextFault::Option => refused_for(alloc, "cert Option"),
-        KnownTextFault::Cert(fault) => known_refused(alloc, fault),
+        TextFault::Text(KnownTextFault::Header) => refused_for(alloc, "cert Header"),
+        TextFault::Text(KnownTextFault::BadToken(place)) => {
+            refused_at(alloc, "cert BadToken", place as u64)
+        }
+        TextFault::Cert(fault) => known_refused(alloc, fault),
+        TextFault::Option => text_refused(alloc, TextFault::Option),
     }
 }
 
-/// The line that refuses a schedule, or the text of a certificate of a time before which nothing ends; none where memory was
-/// refused.
-pub fn within_refused(alloc: Global, fault: WithinTextFault) -> Result<Answer, AllocError>
-    ensures { IfOk result (λ a. answer_of a ≡ spec.within_refused fault) }
+/// The line that says why; none where memory was refused.
+fn line_of(alloc: Global, why: Why) -> Result<Answer, AllocError>
+    ensures { IfOk result (λ a. answer_of a ≡ spec.refused_by why) }
 {
-    match fault {
-        WithinTextFault::Known(fault) => known_text_refused(alloc, fault),
-        WithinTextFault::Above => refused_for(alloc, "below"),
+    match why {
+        Why::Script(refusal) => script_refused(alloc, refusal),
+        Why::Over(opened) => line(alloc, "over", u64::from(opened), 6),
+        Why::Line(number) => refused_at(alloc, "plan", number),
+        Why::Illegal(_) => refused_for(alloc, "1 Illegal"),
+        Why::Finish { .. } => refused_for(alloc, "finish"),
+        Why::Below { .. } => refused_for(alloc, "below"),
+        Why::Cert(fault) => text_refused(alloc, fault),
+        Why::Known(fault) => known_text_refused(alloc, fault),
+        Why::Memory => Err(AllocError),
     }
+}
+
+/// The answer that refuses so: its line, and why.
+///
+/// # Errors
+/// Want of memory.
+pub fn refuse(alloc: Global, why: Why) -> Result<Answer, AllocError>
+    ensures answer { IfOk result (λ a. answer_of a ≡ spec.refused_by why) }
+    ensures why { IfOk result (λ a. a.why ≡ Some why) }
+{
+    let mut answer = line_of(alloc, why)?;
+    answer.why = Some(why);
+    Ok(answer)
+}
+
+/// The answer to a script that is refused.
+///
+/// # Errors
+/// Want of memory.
+pub fn refused(alloc: Global, refusal: Refusal) -> Result<Answer, AllocError>
+    ensures { IfOk result (λ a. answer_of a ≡ spec.refused refusal) }
+{
+    refuse(alloc, Why::Script(refusal))
+}
+
+/// .. where a search opened as many nodes as it may, and is not over.
+pub fn over(alloc: Global, opened: u32) -> Result<Answer, AllocError>
+    ensures { IfOk result (λ a. answer_of a ≡ spec.over opened) }
+{
+    refuse(alloc, Why::Over(opened))
 }
 
 /// Puts a mark and a number behind a text.

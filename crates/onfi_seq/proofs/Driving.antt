@@ -1,45 +1,42 @@
 -- A half with its chip: what its calls come to, and what they keep.
-use Rattle.std.proofs.Common.{◌≡◌, ℕ, ◌<◌, ◌≤◌, ◌^◌, List, [], ◌∷◌, ◌++◌, Some, None, Option, Result, Ok, Err, IfOk, refl, sym, ap, ◌∙◌, subst}
+use Rattle.std.proofs.Common.{◌≡◌, ℕ, ◌<◌, ◌≤◌, ◌^◌, List, [], ◌∷◌, ◌++◌, Some, None, Option, Result, Ok, Err, IfOk, IfErr, refl, sym, ap, ◌∙◌, subst, arith}
 use Rattle.std.specs.Prelude.{IfSome, replicate}
 use Rattle.std.specs.List.{filter}
 use Rattle.onfi_addr.specs.declared.geometry.Geometry.{Geometry}
 use Rattle.onfi_request.specs.declared.request.Item.{Item}
 use Rattle.onfi_request.specs.declared.reply.Reply.{Reply}
-use Rattle.onfi_request.specs.declared.want.Want.{Want}
 use Rattle.onfi_chip.specs.Chip.{Chip}
 use Rattle.onfi_chip.specs.Chip.Lun.{Idle}
 use Rattle.onfi_die.specs.Order.{AreRightfulIn}
-use Rattle.onfi_core.specs.declared.drive.DriveFault.{DriveFault}
-use Rattle.onfi_core.specs.declared.drive.DriveFault.TheVariants as drive
-use Rattle.onfi_core.specs.declared.due.Due.{Due}
+use Rattle.onfi_flight.specs.declared.due.Due.{Due}
 use Rattle.onfi_core.specs.declared.event.Event.TheVariants as event
 use Rattle.onfi_core.specs.declared.half.PlanRefusal.{PlanRefusal}
 use Rattle.onfi_core.specs.declared.half.PlanRefusal.TheVariants as refused
-use Rattle.onfi_core.specs.declared.outcome.Cause.{Cause}
-use Rattle.onfi_core.specs.declared.outcome.Outcome.TheVariants as outcome
-use Rattle.onfi_core.specs.declared.phase_result.PhaseResult.{PhaseResult}
+use Rattle.onfi_core.specs.declared.drive.PhaseStop.{PhaseStop}
+use Rattle.onfi_core.specs.declared.drive.PhaseStop.TheVariants as phase
+use Rattle.onfi_core.specs.declared.outcome.Outcome.{Outcome}
 use Rattle.onfi_core.specs.declared.setup.Setup.{Setup}
-use Rattle.onfi_core.specs.Drive.{HasRun, AfterDrive, IsStatus, cause_of}
-use Rattle.onfi_core.specs.Dues.{IsDue, after_due, member_of, replies_of}
+use Rattle.onfi_flight.specs.Flight.{left_behind, move_of}
+use Rattle.onfi_core.specs.Dues.{IsDue}
 use Rattle.onfi_core.specs.Kept.{first_half}
 use Rattle.onfi_core.specs.Queues.{IsFresh}
 use Rattle.onfi_core.specs.Reaching.{Reaches}
-use Rattle.onfi_core.specs.Refusals.{planned_outcome}
-use Rattle.onfi_core.specs.State.{HalfState, ChannelState, Planning, is_to, item_at, quiet}
-use Rattle.onfi_core.specs.Steps.{GoesOut, Step, accept_refusal, bus_refusal}
-use Rattle.onfi_core.specs.View.{HalfView, IsOldest, PlannedAs, RefusedAs, accepting}
+use Rattle.onfi_core.specs.Refusals.{phase_outcome, planned_outcome}
+use Rattle.onfi_core.specs.State.{HalfState, ChannelState, Planning, channel_with, is_to, quiet}
+use Rattle.onfi_core.specs.Steps.{GoesOut, Step, accept_refusal}
+use Rattle.onfi_core.specs.View.{HalfView, IsKeptByPhase, IsOldest, PlannedAs, RefusedAs, accepting}
 use Rattle.onfi_core.specs.View.{IsNext as IsHostsNext}
 use Rattle.onfi_core.proofs.HeldFor.{next_behind}
 use Rattle.onfi_core.proofs.Reaching.{accepting_reached, batch_reached, events_reach, opened_reaches, posting_reached, step_reaches}
 use Rattle.onfi_core.proofs.Promised.{planned_last, refused_is}
-use Rattle.onfi_core.proofs.Running.{after_planning, cause_is, going_on, lost_by, nothing_posted, ran_step, refused_alone, stop_step}
+use Rattle.onfi_core.proofs.Running.{after_planning, going_before, nothing_posted, refused_alone}
 use Rattle.onfi_lun.specs.declared.lanes.any_lun.AnyLun.{AnyLun}
-use Rattle.onfi_lun.specs.declared.target.Target.{Target}
-use Rattle.onfi_lun.specs.Lanes.{LanesAgree, MayRunDue}
-use Rattle.onfi_lun.proofs.Dues.{may_run_due}
+use Rattle.onfi_lun.specs.Lanes.{LanesAgree}
 use Rattle.onfi_reply.specs.Ends.{PosterView}
 use Rattle.onfi_reply.specs.Replies.{IsNext}
-use Rattle.onfi_seq.specs.Driver.{DriverFields, DriverView, IsDriven}
+use Rattle.onfi_seq.specs.declared.ran.Ran.{Ran}
+use Rattle.onfi_seq.specs.declared.ran.Ran.TheVariants as ran
+use Rattle.onfi_seq.specs.Driver.{DriverFields, DriverView, IsAt, IsDriven, RanTo, RunsBy, StartsNext, ran_of}
 
 -- a half of which neither what is accepted nor what is posted changed
 pub quiet_is : (h h' : HalfState) (chip chip' : Chip) → h'.accepted ≡ h.accepted → h'.posted ≡ h.posted → (let z : ChannelState = record (quiet h chip) { half = h'; chip = chip' } in z) ≡ quiet h' chip'
@@ -68,6 +65,18 @@ module _ {C : Type 0} where
   pub outside : (state : C → Chip) (P : DriverFields → Chip → Type 0) (inside now : DriverView C) → inside ≡ now → P inside.0 (state inside.1) → P now.0 (state now.1)
   outside state P inside now is h = subst (λ (x : DriverView C). P x.0 (state x.1)) is h
 
+-- what is due is what starts next
+pub starts_next : (s : Setup) (h : HalfState) (chip : Chip) → Reaches s (quiet h chip) → (due : Due) → IsDue h due → StartsNext h due.start
+starts_next s h chip reached due is = record { move = move_of due; left = left_behind h.left due; next = is.next (events_reach s (quiet h chip) reached).half.sound.legal }
+
+-- .. and was due where it ran
+pub runs_by : (now : ℕ) (h : HalfState) (start : ℕ) (result : Ran) → StartsNext h start → start ≤ now → IsAt start result → RunsBy now h result
+runs_by now h start (ran.Phase at) next low e = (subst (StartsNext h) (sym e) next, omega (arith, low, e))
+runs_by now h start (ran.Stopped cause) next low e = λ _. (start, next, low)
+runs_by now h start ran.Memory next low e = (start, next, low)
+runs_by now h start (ran.NotBefore at) next low e = absurd e
+runs_by now h start ran.NoPhase next low e = absurd e
+
 -- Accepting, and the batch
 
 pub driven_accepting : (Such : Planning → Type 0) (s : Setup) (lent : Option Reply) (h : HalfState) (chip : Chip) (lanes : List AnyLun) (x : Item) → accept_refusal h ≡ None → IsHostsNext s h x → IsDriven Such s lent h chip lanes → IsDriven Such s lent (accepting h x) chip lanes
@@ -95,13 +104,6 @@ accepted_kept old h (Err refusal) none why = ap (λ (x : HalfState). x.accepted)
 pub posted_kept : (old h : HalfView) (chip : Chip) (result : Result ℕ PlanRefusal) → PlannedAs old h result → RefusedAs old h result → h.state.posted ≡ old.state.posted
 posted_kept old h chip result planned why = nothing_posted old.setup (quiet old.state chip) old result h planned (refused_alone old.setup old.state result h old why)
 
-going_before : (old h : HalfView) (result : Result ℕ PlanRefusal) → PlannedAs old h result → RefusedAs old h result → h.state.stopped ≡ None → old.state.stopped ≡ None
-going_before old h (Ok finish) (open', taken, plan, e, plans, is) none going = sym (ap (λ (v : HalfView). v.state.stopped) is) ∙ going
-going_before old h (Err (refused.Stopped cause)) none ((e, is), same) going = let q : Some cause ≡ None = sym (ap (λ (x : HalfState). x.stopped) is) ∙ going in cc
-going_before old h (Err refused.NothingToPlan) none ((e, is), same) going = sym (ap (λ (x : HalfState). x.stopped) is) ∙ going
-going_before old h (Err (refused.Over opened)) none ((e, count, more, is), same) going = sym (ap (λ (x : HalfState). x.stopped) is) ∙ going
-going_before old h (Err refused.Memory) none ((e, is), same) going = sym (ap (λ (x : HalfState). x.stopped) is) ∙ going
-
 pub planning_step : (old h : HalfView) (chip : Chip) (channel : ℕ) (result : Result ℕ PlanRefusal) → PlannedAs old h result → RefusedAs old h result → Step old.setup (quiet old.state chip) (event.Plan channel) (planned_outcome result) (quiet h.state chip)
 planning_step old h chip channel result planned why =
     let step = after_planning old.setup (quiet old.state chip) channel old result h planned (refused_alone old.setup old.state result h old why) in
@@ -119,38 +121,40 @@ driven_planned Such old h chip lanes result driven planned new why settled setup
 
 -- Phases
 
-module _ (s : Setup) (h : HalfState) (chip : Chip) (reached : Reaches s (quiet h chip)) (due : Due) (is : IsDue h due) (open' : bus_refusal h ≡ None) (item : Item) (member : (m : Want) × (member_of due.group due.phase ≡ Some m) × (item ≡ item_at h.accepted m.id)) where
-  pub ran_phase : (channel : ℕ) (chip' : Chip) (given : PhaseResult) (h' : HalfState) → HasRun chip s.geometry due item given chip' → h' ≡ after_due h due (replies_of h.accepted chip'.faults due given) → Step s (quiet h chip) (event.Bus channel) (outcome.Phase due.start) (quiet h' chip')
-  ran_phase channel chip' given h' run after =
-      let step = ran_step s (quiet h chip) (events_reach s (quiet h chip) reached) due is open' item member channel chip' given h' run after in
-      subst (λ (c : ChannelState). Step s (quiet h chip) (event.Bus channel) (outcome.Phase due.start) c) (quiet_is h h' chip chip' (ap (λ (x : HalfState). x.accepted) after) (ap (λ (x : HalfState). x.posted) after)) step
+-- the bus event came to that
+pub ran_to : (s : Setup) (c c' : ChannelState) (came : Result ℕ PhaseStop) → ((channel : ℕ) → Step s c (event.Bus channel) (phase_outcome came) c') → IfErr came (λ stop. stop ≡ phase.Memory → c' ≡ c) → RanTo s c (ran_of came) c'
+ran_to s c c' (Ok start) step same = step
+ran_to s c c' (Err (phase.Stopped cause)) step same = step
+ran_to s c c' (Err phase.Memory) step same = (step, same refl)
 
-  pub stopped_phase : (channel : ℕ) (fault : DriveFault) (stop : Cause) (chip' : Chip) (h' : HalfState) → cause_of fault due.lun ≡ Some stop → (fault ≡ drive.NotReady → IsStatus due item) → AfterDrive fault chip chip' → h' ≡ record h { stopped = Some stop } → Step s (quiet h chip) (event.Bus channel) (outcome.Stopped stop) (quiet h' chip')
-  stopped_phase channel fault stop chip' h' cause status after is_stopped =
-      let why = cause_is s (quiet h chip) (events_reach s (quiet h chip) reached) due is open' item member fault stop cause status in
-      let step = stop_step s (quiet h chip) channel stop chip' h' open' why (lost_by fault due.lun stop chip chip' cause after) is_stopped in
-      subst (λ (c : ChannelState). Step s (quiet h chip) (event.Bus channel) (outcome.Stopped stop) c) (quiet_is h h' chip chip' (ap (λ (x : HalfState). x.accepted) is_stopped) (ap (λ (x : HalfState). x.posted) is_stopped)) step
+pub is_at : (due : ℕ) (came : Result ℕ PhaseStop) → IfOk came (λ start. start ≡ due) → IsAt due (ran_of came)
+is_at due (Ok start) e = e
+is_at due (Err (phase.Stopped cause)) e = tt
+is_at due (Err phase.Memory) e = tt
 
-  pub may_run_here : (target : Target) → s.geometry ≡ target.geometry → s.timing ≡ target.timing → due.start < 2 ^ 63 → MayRunDue target chip due item
-  may_run_here target geometry timing time =
-      let r = events_reach s (quiet h chip) reached in
-      may_run_due s target h chip geometry timing r.half.sound (r.chip (going_on h open')) due is member.0 member.1 item member.2 time
+-- .. where nothing on the way changed
+pub same_quiet : (old new : HalfView) (chip chip' : Chip) (came : Result ℕ PhaseStop) → IsKeptByPhase old new → IfErr came (λ stop. stop ≡ phase.Memory → (new ≡ old) × (chip' ≡ chip))
+    → IfErr came (λ stop. stop ≡ phase.Memory → (let z : ChannelState = quiet new.state chip' in z) ≡ quiet old.state chip)
+same_quiet old new chip chip' (Ok start) kept same = tt
+same_quiet old new chip chip' (Err stop) kept same = λ e. (let (half, lost) = same e in rw (half, lost) refl)
 
-  pub driven_ran : (Such : Planning → Type 0) (lent : Option Reply) (chip' : Chip) (lanes : List AnyLun) (given : PhaseResult) (h' : HalfState) → HasRun chip s.geometry due item given chip' → h' ≡ after_due h due (replies_of h.accepted chip'.faults due given) → lent ≡ None → LanesAgree chip' lanes → IfSome h.last Such → IsDriven Such s lent h' chip' lanes
-  driven_ran Such lent chip' lanes given h' run after settled agree last = record {
-    settled = settled;
-    reached = step_reaches s (quiet h chip) (event.Bus 0) (outcome.Phase due.start) (quiet h' chip') reached (ran_phase 0 chip' given h' run after);
-    lanes_are = λ going. agree;
-    last = subst (λ (x : HalfState). IfSome x.last Such) (sym after) last;
-  }
+pub phase_step : (old new : HalfView) (chip chip' : Chip) (channel : ℕ) (o : Outcome) → IsKeptByPhase old new
+    → ((c : ChannelState) (n : ℕ) → Step old.setup (channel_with c old.state chip) (event.Bus n) o (channel_with c new.state chip')) → Step old.setup (quiet old.state chip) (event.Bus channel) o (quiet new.state chip')
+phase_step old new chip chip' channel o kept step =
+    subst (λ (c : ChannelState). Step old.setup (quiet old.state chip) (event.Bus channel) o c) (quiet_is old.state new.state chip chip' kept.accepted kept.posted) (step (quiet old.state chip) channel)
 
-  pub driven_stopped : (Such : Planning → Type 0) (lent : Option Reply) (chip' : Chip) (lanes : List AnyLun) (fault : DriveFault) (stop : Cause) (h' : HalfState) → cause_of fault due.lun ≡ Some stop → (fault ≡ drive.NotReady → IsStatus due item) → AfterDrive fault chip chip' → h' ≡ record h { stopped = Some stop } → lent ≡ None → IfSome h.last Such → IsDriven Such s lent h' chip' lanes
-  driven_stopped Such lent chip' lanes fault stop h' cause status after is_stopped settled last = record {
-    settled = settled;
-    reached = step_reaches s (quiet h chip) (event.Bus 0) (outcome.Stopped stop) (quiet h' chip') reached (stopped_phase 0 fault stop chip' h' cause status after is_stopped);
-    lanes_are = λ going. absurd (let q : Some stop ≡ None = sym (ap (λ (x : HalfState). x.stopped) is_stopped) ∙ going in cc);
-    last = subst (λ (x : HalfState). IfSome x.last Such) (sym is_stopped) last;
-  }
+-- events reach the channel behind it
+pub driven_ran : (Such : Planning → Type 0) (old new : HalfView) (chip chip' : Chip) (lanes lanes' : List AnyLun) (o : Outcome) → IsKeptByPhase old new
+    → ((c : ChannelState) (n : ℕ) → Step old.setup (channel_with c old.state chip) (event.Bus n) o (channel_with c new.state chip')) → (new.state.stopped ≡ None → LanesAgree chip' lanes')
+    → IsDriven Such old.setup old.lent old.state chip lanes → IsDriven Such new.setup new.lent new.state chip' lanes'
+driven_ran Such old new chip chip' lanes lanes' o kept step agree driven =
+    let reached = step_reaches old.setup (quiet old.state chip) (event.Bus 0) o (quiet new.state chip') driven.reached (phase_step old new chip chip' 0 o kept step) in
+    record {
+      settled = kept.lent ∙ driven.settled;
+      reached = subst (λ (s : Setup). Reaches s (quiet new.state chip')) (sym kept.setup) reached;
+      lanes_are = agree;
+      last = subst (λ (l : Option Planning). IfSome l Such) (sym kept.last) driven.last;
+    }
 
 -- Posts
 

@@ -20,9 +20,10 @@ use Rattle.onfi_core.specs.declared.setup.Choice.{Choice}
 use Rattle.onfi_core.specs.declared.setup.Choice.TheVariants.{InOrder}
 use Rattle.onfi_core.specs.Reaching.{Reaches}
 use Rattle.onfi_core.specs.Refusals.{wait_outcome, waited_outcome}
-use Rattle.onfi_core.specs.State.{HalfState, ChannelState, Planning, quiet}
-use Rattle.onfi_core.specs.Steps.{Step, is_current, is_empty, luns_ready_by, none_left, nothing_to_plan, readied, ready_by, ready_of, ready_refusal, taken_next, unplanned, wait_lag, wait_refusal, waited}
-use Rattle.onfi_core.specs.Times.{later_group, later_starts}
+use Rattle.onfi_core.specs.State.{HalfState, ChannelState, Planning, flight_of, quiet}
+use Rattle.onfi_flight.specs.Flight.{luns_ready_by, ready_by, wait_lag}
+use Rattle.onfi_core.specs.Steps.{Step, is_current, is_empty, none_left, nothing_to_plan, readied, ready_of, ready_refusal, taken_next, unplanned, wait_refusal, waited}
+use Rattle.onfi_flight.specs.Times.{later_group, later_starts}
 use Rattle.onfi_core.specs.View.{HalfView, WantsBy}
 use Rattle.onfi_core.proofs.HeldFor.{is_nil}
 use Rattle.onfi_core.proofs.Reaching.{step_reaches}
@@ -133,7 +134,7 @@ nil_is xs none = ap is_empty none
 
 pub waited_none : (moment : ℕ) (h : HalfState) → none_left (waited moment h) ≡ true → none_left h ≡ true
 waited_none moment h over =
-    let by = wait_lag moment h in
+    let by = wait_lag moment (flight_of h) in
     let both = none_both (rest_phases h.now.timing 0 h.now.luns (map (later_starts by) h.left.rest)) _ (is_nil _ over) in
     let a = rest_back by h.now.timing 0 h.now.luns h.left.rest both.0 in
     let b = groups_back by h.now.timing h.left.groups both.1 in

@@ -1,10 +1,12 @@
 -- A half with its chip, as the sequencer drives them.
-use Rattle.std.specs.Prelude.{◌≡◌, ◌≢◌, ◌⊎◌, ℕ, zero, suc, ◌<◌, ◌≤◌, ◌^◌, List, [], Option, None, Some, IfSome}
+use Rattle.std.specs.Prelude.{◌≡◌, ◌≢◌, ◌⊎◌, ℕ, zero, suc, ◌<◌, ◌≤◌, ◌^◌, List, [], Option, None, Some, Result, Ok, Err, IfSome}
 use Rattle.onfi_request.specs.declared.reply.Reply.{Reply}
 use Rattle.onfi_problem.specs.Moves.{Move}
 use Rattle.onfi_schedule.specs.Schedule.{Schedule}
 use Rattle.onfi_schedule.specs.Laws.{ComesNext}
 use Rattle.onfi_chip.specs.Chip.{Chip}
+use Rattle.onfi_core.specs.declared.drive.PhaseStop.{PhaseStop}
+use Rattle.onfi_core.specs.declared.drive.PhaseStop.TheVariants as phase
 use Rattle.onfi_core.specs.declared.event.Event.TheVariants as event
 use Rattle.onfi_core.specs.declared.outcome.Outcome.{Outcome}
 use Rattle.onfi_core.specs.declared.outcome.Outcome.TheVariants as outcome
@@ -57,6 +59,12 @@ RunsBy now h (ran.Stopped cause) = h.stopped ≡ None → WasDue now h
 RunsBy now h ran.Memory = WasDue now h
 RunsBy now h (ran.NotBefore start) = StartsNext h start × (now < start) × (start < 2 ^ 63)
 RunsBy now h ran.NoPhase = Unit {0}
+
+-- what a due phase came to
+abbrev pub ran_of : Result ℕ PhaseStop → Ran
+ran_of (Ok start) = ran.Phase start
+ran_of (Err (phase.Stopped cause)) = ran.Stopped cause
+ran_of (Err phase.Memory) = ran.Memory
 
 -- a due phase was run: where it ran, at that start
 abbrev pub IsAt : ℕ → Ran → Type 0

@@ -5,6 +5,8 @@ use Rattle.onfi_request.specs.declared.request.Item.{Item}
 use Rattle.onfi_core.specs.declared.event.Event.TheVariants as event
 use Rattle.onfi_core.specs.declared.outcome.Outcome.{Outcome}
 use Rattle.onfi_core.specs.declared.outcome.Outcome.TheVariants as outcome
+use Rattle.onfi_core.specs.declared.setup.Replanning.TheVariants.{AtOnce, Lazily}
+use Rattle.onfi_core.specs.Renewing.{CouldStart}
 use Rattle.onfi_core.specs.Steps.{GoesOut, Step, accept_refusal, held_for, none_left, nothing_to_plan, taken_next, unanswered, unplanned}
 use Rattle.onfi_core.specs.View.{IsNext, WantsItem, accepting}
 use Rattle.onfi_queue.specs.Ends.{SawEmpty, after_accepting}
@@ -39,14 +41,30 @@ pub record TakesNothing (q : Seen) : Type 0 where
   pub before : IsGoing q
   pub items : WhyNoItem q
 
+-- the plan is made anew: at once; or lazily, since none of its phases is left, or a request that no plan has taken could start before the next
+abbrev pub PlansAnew : Seen → Type 0
+PlansAnew q =
+    (q.0.setup.replanning ≡ AtOnce)
+    ⊎ (none_left q.0.half ≡ true)
+    ⊎ ((start : ℕ) × StartsNext q.0.half start × CouldStart q.0.setup q.0.half start)
+
+-- the plan that is left goes on: it is made anew lazily, and no request that no plan has taken could start before its next phase
+pub record KeepsPlan (q : Seen) : Type 0 where
+  pub lazily : q.0.setup.replanning ≡ Lazily
+  pub left : none_left q.0.half ≡ false
+  pub start : ℕ
+  pub next : StartsNext q.0.half start
+  pub none_sooner : ¬ CouldStart q.0.setup q.0.half start
+
 -- .. and no planning was refused since the last phase while a phase is left
 pub record MayPlan (q : Seen) : Type 0 where
   pub before : TakesNothing q
   pub again : (q.0.refused ≡ false) ⊎ (none_left q.0.half ≡ true)
+  pub renewed : PlansAnew q
 
--- nothing is planned: nothing is to be planned, or a planning was refused since the last phase, and a phase is left
+-- nothing is planned: nothing is to be planned; or a planning was refused since the last phase, and a phase is left; or the plan that is left goes on
 abbrev pub WhyNoPlan : Seen → Type 0
-WhyNoPlan q = (taken_next q.0.setup q.0.half ≡ []) ⊎ ((q.0.refused ≡ true) × (none_left q.0.half ≡ false))
+WhyNoPlan q = (taken_next q.0.setup q.0.half ≡ []) ⊎ ((q.0.refused ≡ true) × (none_left q.0.half ≡ false)) ⊎ KeepsPlan q
 
 -- nothing goes out, no item is accepted, and nothing is planned
 pub record MayRunPhase (q : Seen) : Type 0 where
@@ -145,9 +163,9 @@ Goes now q turn.PostFull q' = Rests q × (q.0.half.held ≢ []) × (q' ≡ q)
 Goes now q turn.Idle q' = Rests q × (q.0.half.held ≡ []) × (q' ≡ q)
 
 -- why nothing is planned, whatever was found as time passed: the plan is that of the bus and the LUNs as they stand, or nothing of it is
--- left; or a planning was refused since the last phase, and a phase is left
+-- left; or a planning was refused since the last phase, and a phase is left; or the plan that is left goes on
 abbrev pub PlansLater : Seen → Type 0
-PlansLater q = (nothing_to_plan q.0.setup q.0.half ≡ true) ⊎ ((q.0.refused ≡ true) × (none_left q.0.half ≡ false))
+PlansLater q = (nothing_to_plan q.0.setup q.0.half ≡ true) ⊎ ((q.0.refused ≡ true) × (none_left q.0.half ≡ false)) ⊎ KeepsPlan q
 
 -- a LUN that is ready is planned with at once: as time passed no LUN changed, or it was planned, or nothing is planned then
 abbrev pub PlansAtOnce : Seen → Seen → TurnAt → Seen → Type 0

@@ -11,13 +11,14 @@ ghost use Rattle.onfi_core.specs.Refusals.{planned_outcome};
 ghost use Rattle.onfi_core.specs.State.{is_to};
 ghost use Rattle.onfi_core.specs.Steps.{IsPromised, Step, accept_refusal, bus_refusal, unanswered};
 ghost use Rattle.onfi_core.specs.View.{IsNext, PlanRefused, WantsItem, accepting};
-ghost use Rattle.onfi_seq.specs.Driver.{IsAt, Offered, RanTo, RunsBy, channel_in};
+ghost use Rattle.onfi_seq.specs.Driver.{IsAt, Offered, RanTo, RunsBy, channel_in, ran_of};
 
 use crate::offer::Offer;
 use crate::ran::Ran;
 use onfi_chip::Chip;
-use onfi_core::{AcceptFault, Cause, Due, DueRefusal, Half, PlanRefusal, Setup, cause_of};
-use onfi_lun::{Lanes, Target};
+use onfi_core::{AcceptFault, Cause, DueRefusal, Half, PhaseStop, PlanRefusal, Setup, run_due};
+use onfi_flight::Due;
+use onfi_lun::Lanes;
 use onfi_plan::Planner;
 use onfi_reply::Poster;
 use onfi_request::Item;
@@ -155,7 +156,7 @@ impl<C: Chip, P: Planner> Driver<C, P> {
         ensures accepted { self.new.0.half.accepted ≡ self.old.0.half.accepted }
         ensures posted { self.new.0.half.posted ≡ self.old.0.half.posted }
     {
-        match self.half.due(alloc) {
+        match self.half.due() {
             Ok(due) => self.run_by(alloc, due, now),
             Err(DueRefusal::Stopped(cause)) => Ran::Stopped(cause),
             Err(DueRefusal::NoPlan) => Ran::NoPhase,
@@ -166,13 +167,13 @@ impl<C: Chip, P: Planner> Driver<C, P> {
     fn run_by(&mut self, alloc: Global, due: Due, now: u64) -> Ran
         requires due { IsDue self.old.0.half due }
         requires open { bus_refusal self.old.0.half ≡ None }
-        requires time { due.start < 2 ^ 63 }
         ensures ran { RanTo self.old.0.setup (channel_in C.state self.old) result (channel_in C.state self.new) }
         ensures by_now { RunsBy now self.old.0.half result }
         ensures setup { self.new.0.setup ≡ self.old.0.setup }
         ensures accepted { self.new.0.half.accepted ≡ self.old.0.half.accepted }
         ensures posted { self.new.0.half.posted ≡ self.old.0.half.posted }
     {
+        let _half = &self.half;
         let start = due.start;
         if start > now {
             return Ran::NotBefore { start };
@@ -184,36 +185,14 @@ impl<C: Chip, P: Planner> Driver<C, P> {
     fn run_due(&mut self, alloc: Global, due: Due) -> Ran
         requires due { IsDue self.old.0.half due }
         requires open { bus_refusal self.old.0.half ≡ None }
-        requires time { due.start < 2 ^ 63 }
         ensures ran { RanTo self.old.0.setup (channel_in C.state self.old) result (channel_in C.state self.new) }
         ensures start { IsAt due.start result }
         ensures setup { self.new.0.setup ≡ self.old.0.setup }
         ensures accepted { self.new.0.half.accepted ≡ self.old.0.half.accepted }
         ensures posted { self.new.0.half.posted ≡ self.old.0.half.posted }
     {
-        let start = due.start;
-        let setup = self.half.setup();
-        let target = Target {
-            geometry: setup.geometry,
-            timing: setup.timing,
-        };
-        let item = self.half.member(&due);
-        match self
-            .lanes
-            .run_due(alloc, &mut self.chip, &target, &due, item)
-        {
-            Ok(ran) => {
-                self.half.done(due, ran, &self.chip);
-                Ran::Phase { start }
-            }
-            Err(fault) => match cause_of(fault, due.lun) {
-                Some(cause) => {
-                    self.half.stop(cause);
-                    Ran::Stopped(cause)
-                }
-                None => Ran::Memory,
-            },
-        }
+        let came = run_due(alloc, &mut self.half, &mut self.chip, &mut self.lanes, &due);
+        ran_of(came)
     }
 
     /// Posts the oldest reply that is held for the host, at its poster. It takes no memory.
@@ -237,5 +216,16 @@ impl<C: Chip, P: Planner> Driver<C, P> {
                 Offer::Full
             }
         }
+    }
+}
+
+// What a due phase came to.
+fn ran_of(came: Result<u64, PhaseStop>) -> Ran
+    ensures { result ≡ ran_of came }
+{
+    match came {
+        Ok(start) => Ran::Phase { start },
+        Err(PhaseStop::Stopped(cause)) => Ran::Stopped(cause),
+        Err(PhaseStop::Memory) => Ran::Memory,
     }
 }

@@ -6,7 +6,7 @@
 //! why nothing earlier was done; [`Sequencer::turn_at`] does so for who has a clock. Hosts submit and collect from other
 //! threads meanwhile; no lock stands round the channel.
 //!
-//! The typed phases of `onfi_lun` are handed out from here too.
+//! The typed phases of `onfi_lun` and the batch of `onfi_batch` are handed out from here too.
 #![tactic(auto)]
 
 mod clockless;
@@ -26,9 +26,9 @@ pub use drained::{Drained, DrainedAt};
 pub use ends::Ends;
 pub use gate::Gate;
 pub use laws::no_clock;
+pub use onfi_batch::{BatchFault, run_batch};
 pub use onfi_lun::{
-    BatchFault, Commanded, Idle, Lanes, Lun, Phase, Posted, Posting, Queuing, Refused, Target,
-    Working, run_batch,
+    Commanded, Idle, Lanes, Lun, Phase, Posted, Posting, Queuing, Refused, Target, Working,
 };
 pub use sequencer::Sequencer;
 pub use turn::{Turn, TurnAt};

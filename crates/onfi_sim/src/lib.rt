@@ -3,8 +3,8 @@
 //! program over readers and writers of its own needs.
 #![tactic(auto)]
 
-pub use onfi_console::{CommandName, Named, Parsed, RunPlanner, WordsFault, describe, words};
-pub use onfi_planners::{ChosenEarly, ChosenPlanner, ExactPlanner};
+pub use onfi_console::{CommandName, Named, Parsed, WordsFault, describe, words};
+pub use onfi_planners::{ChosenPlanner, SlackPlanner, Weighing};
 pub use onfi_run::{NoGate, run_script};
 pub use onfi_script::{Command, EngineFault, Output, PlanOptions, engine, engine_split};
 pub use onfi_seq::Gate;

@@ -1,12 +1,11 @@
 -- The phase that goes first of those that LUNs give.
-use Rattle.std.proofs.Common.{◌≡◌, ◌≢◌, ℕ, ◌+◌, ◌<◌, ◌≤◌, ◌⊎◌, inl, inr, Bool, true, false, List, [], ◌∷◌, length, Option, Some, None, refl, sym, ap, ◌∙◌, subst, arith}
+use Rattle.std.proofs.Common.{◌≡◌, ℕ, ◌+◌, ◌<◌, ◌⊎◌, inl, inr, Bool, true, false, List, Option, Some, None, refl, sym, ap, ◌∙◌, subst, arith}
 use Rattle.std.specs.Prelude.{if◌then◌else◌}
 use Rattle.std.proofs.lemmas.Bool.{cases_eq}
 use Rattle.onfi_problem.specs.declared.moves.Move.{Move as KeptMove}
-use Rattle.onfi_problem.specs.Problem.{Problem, IsProblem}
 use Rattle.onfi_problem.specs.Moves.{Move, IsMove, ComesBefore, move_lun, IsDone}
 use Rattle.onfi_problem.specs.Left.{InLimits}
-use Rattle.onfi_problem.specs.Position.{Position, move_of, lun_named}
+use Rattle.onfi_problem.specs.Position.{Position, move_of}
 use Rattle.onfi_problem.specs.Starts.{IsNamed}
 use Rattle.onfi_problem.proofs.Kept.{lun_there}
 use Rattle.onfi_check.proofs.Nothing.{no_moves}

@@ -1,5 +1,5 @@
 -- What LUNs give: read from the list of moves, and kept while other LUNs move.
-use Rattle.std.proofs.Common.{◌≡◌, ◌≢◌, ℕ, zero, suc, ◌+◌, ◌-◌, ◌≤◌, ◌<◌, ◌⊎◌, inl, inr, Bool, true, false, List, [], ◌∷◌, ◌++◌, length, map, take, get_or, Option, Some, None, refl, sym, ap, ◌∙◌, subst, arith, get_or-set_same, get_or-set_other}
+use Rattle.std.proofs.Common.{◌≡◌, ◌≢◌, ℕ, ◌+◌, ◌-◌, ◌<◌, ◌⊎◌, inl, inr, Bool, true, false, List, [], ◌∷◌, length, map, take, get_or, Option, Some, None, refl, sym, ap, ◌∙◌, subst, arith, get_or-set_same, get_or-set_other}
 use Rattle.std.specs.Prelude.{slice_get, slice_set, slice_index_or}
 use Rattle.std.specs.List.{AllByRecursion as All}
 use Rattle.std.proofs.lemmas.Bool.{cases_eq, eq-eqb, ne_eqb}
@@ -8,14 +8,13 @@ use Rattle.std.proofs.lemmas.Option.{slice_get-get_or}
 use Rattle.onfi_request.specs.declared.want.Want.{Want}
 use Rattle.onfi_group.specs.declared.rules.Rules.{Rules}
 use Rattle.onfi_group.specs.Words.{Has}
-use Rattle.onfi_group.specs.Group.{IsStartable, IsFirst, lun_of, kind_of, mask_of, on_block, is_member}
-use Rattle.onfi_problem.specs.declared.lun_state.LunState.{LunState}
+use Rattle.onfi_group.specs.Group.{IsStartable, lun_of, kind_of, mask_of, on_block}
 use Rattle.onfi_problem.specs.declared.lun_state.LunState.TheVariants.{Free, Running}
 use Rattle.onfi_problem.specs.declared.moves.Lun.{Lun}
 use Rattle.onfi_problem.specs.declared.moves.Move.{Move as KeptMove}
-use Rattle.onfi_problem.specs.declared.moves.Move.TheVariants.{Next as KeptNext, Start as KeptStart}
+use Rattle.onfi_problem.specs.declared.moves.Move.TheVariants.{Next as KeptNext}
 use Rattle.onfi_problem.specs.Problem.{Problem, IsProblem}
-use Rattle.onfi_problem.specs.Moves.{Move, Next, Start, IsMove, AreMoves, ComesBefore, move_lun, move_mask, placed, after, earliest, without}
+use Rattle.onfi_problem.specs.Moves.{Move, Next, Start, IsMove, AreMoves, ComesBefore, move_lun, placed, earliest, without}
 use Rattle.onfi_problem.specs.Position.{Position, move_of, moves_of, moved, lun_named, state_of, waiting_of}
 use Rattle.onfi_problem.specs.Starts.{IsNamed}
 use Rattle.onfi_problem.proofs.Firsts.{startable_order}

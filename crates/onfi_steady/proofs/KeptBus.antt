@@ -15,7 +15,7 @@ use Rattle.onfi_problem.specs.Position.{state_of}
 use Rattle.onfi_problem.proofs.Lists.{map_found}
 use Rattle.onfi_steady.specs.Rule.{keeps_bus, keeps_bus_before, move_keeps_bus, is_kept_from}
 
-any_one_more : {A : Type 0} (test : A → Bool) (xs : List A) (x : A) → list_any test (xs ++ x ∷ []) ≡ (if list_any test xs then true else test x)
+pub any_one_more : {A : Type 0} (test : A → Bool) (xs : List A) (x : A) → list_any test (xs ++ x ∷ []) ≡ (if list_any test xs then true else test x)
 any_one_more test xs x = list_any-append test xs (x ∷ []) ∙ go (list_any test xs) (test x)
   where
     go : (a b : Bool) → (a || (b || false)) ≡ (if a then true else b)
@@ -27,7 +27,7 @@ any_after : {A B : Type 0} (test : B → Bool) (f : A → B) (xs : List A) (i : 
 any_after test f xs i d h =
     ap (λ z. list_any test (map f z)) (take_more xs i d h) ∙ (ap (list_any test) (map-append f (take i xs) (get_or xs i d ∷ [])) ∙ any_one_more test (map f (take i xs)) (f (get_or xs i d)))
 
-min_less : (a b end : ℕ) → nat_lt (min a b) end ≡ (if nat_lt a end then true else nat_lt b end)
+pub min_less : (a b end : ℕ) → nat_lt (min a b) end ≡ (if nat_lt a end then true else nat_lt b end)
 min_less a b end = elim (cases_lt a end) [
   | inl h ↦ rw (lt-ltb a end h) (lt-ltb (min a b) end (omega arith))
   | inr h ↦ elim (cases_lt b end) [

@@ -5,3 +5,11 @@ pub mod Giving
 pub mod FirstPhase
 pub mod GreatestBound
 pub mod RuleRun
+pub mod Firsts
+pub mod OnLun
+pub mod Starting
+pub mod KeptFrom
+pub mod NextMove
+pub mod NextHeld
+pub mod Extremes
+pub mod NextFound

@@ -1,7 +1,6 @@
 -- What a walk over moves, and one over LUNs, have found.
 use Rattle.std.specs.Prelude.{◌≡◌, ◌≢◌, ◌⊎◌, ℕ, ◌-◌, ◌<◌, if◌then◌else◌, List, [], ◌∷◌, Option, Some, None, slice_index_or}
 use Rattle.std.specs.List.{AllByRecursion as Each}
-use Rattle.onfi_request.specs.declared.want.Want.{Want}
 use Rattle.onfi_group.specs.Words.{Has}
 use Rattle.onfi_problem.specs.declared.moves.Move.{Move as KeptMove}
 use Rattle.onfi_problem.specs.Problem.{Problem}

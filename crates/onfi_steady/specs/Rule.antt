@@ -12,6 +12,7 @@ use Rattle.onfi_problem.specs.Moves.{Move, Next, Start, IsMove, IsDone, move_lun
 use Rattle.onfi_schedule.specs.Schedule.{Schedule}
 use Rattle.onfi_schedule.specs.Runs.{Step, schedule_of}
 use Rattle.onfi_check.specs.First.{wants_started}
+use Rattle.onfi_plan.specs.declared.plan.Plan.{Plan}
 use Rattle.onfi_steady.specs.Order.{GoesBefore}
 
 -- the group that a LUN runs
@@ -115,3 +116,9 @@ pub record IsByRule (p : Problem) (s : Schedule) (finish : ℕ) : Type 0 where
   pub steps : List Step
   pub run : IsRuleRun p steps finish
   pub schedule : s ≡ schedule_of p steps
+
+-- .. as a planner's plan, whatever its limit: no node is opened
+pub record IsRulePlan (p : Problem) (limit : ℕ) (plan : Plan) : Type 0 where
+  pub rule : IsByRule p plan.planned.schedule plan.planned.finish
+  pub opened : plan.opened ≡ 0
+  pub reopened : plan.reopened ≡ 0

@@ -18,7 +18,7 @@ pub fn next_step(problem: &Problem, given: &[Option<Given>; 8]) -> Option<Move>
     ensures choice { MatchOption result (IsDone problem.now.problem) (λ m. IsRuleChoice problem.now.problem (move_of problem.now.groups m)) }
     ensures named { IfSome result (λ m. IsNamed problem.now.groups m) }
 {
-    let _limits = problem.bus_free();
+    problem.in_limits();
     match first_phase(problem, given) {
         Some(phase) => Some(phase.step),
         None => None,

@@ -6,10 +6,28 @@ ghost use Rattle.onfi_steady.specs.Rule.{IsRuleRun};
 ghost use Rattle.onfi_steady.specs.Choosing.{AreGiven};
 
 use crate::choosing::next_step;
-use crate::given::{Given, given_by};
-use onfi_planner::Begun;
+use crate::given::{Given, all_given, given_by};
+use onfi_planner::{Begun, Best};
 use onfi_problem::Problem;
-use std::alloc::AllocError;
+use std::alloc::{AllocError, Global};
+
+/// The steps that the rule takes from a problem, and when the last phase ends, in ns: of these [`plan_by_rule`] makes its
+/// schedule, and a search may begin with them.
+///
+/// # Errors
+/// Only where memory was refused.
+///
+/// [`plan_by_rule`]: crate::plan_by_rule
+pub fn run_by_rule(alloc: Global, problem: &Problem) -> Result<Best, AllocError>
+    ensures run { IfOk result (λ best. IsRuleRun problem.now.problem (run_of problem.now.groups best.steps.items) best.finish) }
+    ensures small { IfOk result (λ best. best.finish < 2 ^ 62) }
+{
+    let mut left = problem.copy(alloc)?;
+    let mut given = all_given(&left);
+    let mut steps = Vec::new(alloc);
+    let finish = rule_run(&mut left, &mut given, &mut steps)?;
+    Ok(Best { finish, steps })
+}
 
 /// Makes the moves that the rule takes until nothing is left, and puts them into the empty list, last first; answers when
 /// the last phase ends, in ns. What LUNs give is kept beside the problem.

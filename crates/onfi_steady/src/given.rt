@@ -33,7 +33,7 @@ impl Given {
             step,
             rank: phase_rank(problem, step),
             smaller: 4 - started_wants(problem, step),
-            oldest: oldest(group_of(problem, step)),
+            oldest: oldest(group_of(problem, step).members()),
         }
     }
 }
@@ -59,7 +59,7 @@ pub fn given_by(problem: &Problem, lun: u8) -> Option<Given>
     requires few { lun < 8 }
     ensures { IsGiven problem.now lun result }
 {
-    let _limits = problem.bus_free();
+    problem.in_limits();
     if problem.luns()[lun as usize].next != 0 {
         return Some(Given::of(problem, Move::Next { lun }));
     }

@@ -4,14 +4,26 @@
 #![tactic(auto)]
 
 mod below;
+mod bus;
 mod choosing;
 mod dispatch;
 mod given;
+mod left;
+mod next;
+mod next_turn;
+mod offer;
 mod own;
 mod phase;
 mod planner;
 mod planning;
+mod ready;
 mod turn;
+mod waiter;
+mod waiting;
 
+pub use dispatch::run_by_rule;
+pub use next::{NextPhase, next_phase};
 pub use planner::RulePlanner;
 pub use planning::plan_by_rule;
+pub use waiter::Waiter;
+pub use waiting::{Full, Waiting};

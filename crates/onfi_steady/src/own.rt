@@ -7,11 +7,12 @@ ghost use Rattle.onfi_problem.specs.Moves.{IsMove, AreMoves};
 ghost use Rattle.onfi_problem.specs.Position.{move_of, moves_of};
 ghost use Rattle.onfi_problem.specs.Starts.{IsNamed};
 ghost use Rattle.onfi_steady.specs.Order.{is_less};
-ghost use Rattle.onfi_steady.specs.Rule.{group_of, kind_rank, oldest, own_numbers};
+ghost use Rattle.onfi_steady.specs.Rule.{first_number, group_of, kind_rank, oldest, own_numbers};
 ghost use Rattle.onfi_steady.specs.Choosing.{AreOwn, own_of};
 
 use onfi_group::Group;
 use onfi_problem::{Move, Problem};
+use onfi_request::Want;
 use onfi_timing::Kind;
 
 /// For each LUN the move of the group that it gives; None where it has no move.
@@ -59,7 +60,7 @@ fn is_given_before(problem: &Problem, m: Move, other: Move) -> bool
     if rank != than_rank {
         return rank < than_rank;
     }
-    let (age, than_age) = (oldest(group), oldest(than));
+    let (age, than_age) = (oldest(group.members()), oldest(than.members()));
     if age != than_age {
         return age < than_age;
     }
@@ -71,15 +72,15 @@ pub fn group_of(problem: &Problem, m: Move) -> &Group
     requires { IsMove problem.now.problem (move_of problem.now.groups m) }
     ensures { result.now ≡ group_of problem.now.problem (move_of problem.now.groups m) }
 {
-    let _limits = problem.bus_free();
+    problem.in_limits();
     match m {
         Move::Next { lun } => problem.group(problem.luns()[lun as usize].place),
         Move::Start { place, .. } => problem.group(place),
     }
 }
 
-// A LUN reads before it programs, and programs before it erases.
-fn kind_rank(kind: Kind) -> u8
+/// A LUN reads before it programs, and programs before it erases.
+pub fn kind_rank(kind: Kind) -> u8
     ensures { result ≡ kind_rank kind }
 {
     match kind {
@@ -89,14 +90,22 @@ fn kind_rank(kind: Kind) -> u8
     }
 }
 
-/// The number of a group's oldest request.
-pub fn oldest(group: &Group) -> u64
-    ensures { result ≡ oldest group.now }
+/// The number of the oldest of a group's requests; 0 where there is none.
+pub fn oldest(members: &[Want]) -> u64
+    ensures { result ≡ oldest members.now }
 {
-    let members = group.members();
-    let mut least = members[0].id;
+    let mut least = first_number(members);
     for member in members {
         least = least.min(member.id);
     }
     least
+}
+
+fn first_number(members: &[Want]) -> u64
+    ensures { result ≡ first_number members.now }
+{
+    match members.first() {
+        Some(member) => member.id,
+        None => 0,
+    }
 }

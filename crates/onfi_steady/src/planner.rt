@@ -1,13 +1,7 @@
 //! The rule, as a planner.
 
-ghost use Rattle.std.specs.Prelude.{◌≡◌, ◌≤◌, IfOk, IfErr};
-ghost use Rattle.onfi_schedule.specs.Schedule.{Legal, finish};
-ghost use Rattle.onfi_known.specs.Laws.{NoneBefore};
-ghost use Rattle.onfi_plan.specs.Certificate.{IsPlain, ShowsBelow, certificate_in};
-ghost use Rattle.onfi_steady.specs.Rule.{IsByRule};
-
 use crate::planning::plan_by_rule;
-use onfi_plan::{Plan, Planner, PlannerFault, none_ends_before};
+use onfi_plan::{Limit, Plan, PlanFault, Planner, none_ends_before};
 use onfi_problem::Problem;
 use std::alloc::Global;
 
@@ -19,29 +13,19 @@ pub struct RulePlanner;
 impl Planner for RulePlanner {
     ghost use Rattle.std.specs.Prelude.{false};
     ghost use Rattle.onfi_plan.specs.Certificate.{IsPlain};
+    ghost use Rattle.onfi_steady.specs.Rule.{IsRulePlan};
 
     ghost exact = { false };
 
     ghost certifies = { IsPlain };
 
-    fn plan(&self, alloc: Global, problem: &Problem, limit: u32) -> Result<Plan, PlannerFault>
-        requires some { 1 ≤ limit }
-        requires few { limit ≤ 1048576 }
-        ensures legal { IfOk result (λ plan. Legal problem.now.problem plan.planned.schedule) }
-        ensures finish { IfOk result (λ plan. finish problem.now.problem plan.planned.schedule ≡ plan.planned.finish) }
-        ensures rule { IfOk result (λ plan. IsByRule problem.now.problem plan.planned.schedule plan.planned.finish) }
-        ensures below { IfOk result (λ plan. plan.below ≤ plan.planned.finish) }
-        ensures none_before { IfOk result (λ plan. NoneBefore problem.now.problem plan.below) }
-        ensures shown { IfOk result (λ plan. ShowsBelow (certificate_in plan) problem.now.all problem.now.problem plan.below) }
-        ensures kind { IfOk result (λ plan. IsPlain (certificate_in plan)) }
-        ensures opened { IfOk result (λ plan. plan.opened ≡ 0) }
-        ensures reopened { IfOk result (λ plan. plan.reopened ≡ 0) }
-        ensures memory { IfErr result (λ fault. fault ≡ PlannerFault.Memory) }
-    {
+    ghost promises = { λ _. IsRulePlan };
+
+    ghost stops = { λ _. ⊥ };
+
+    fn plan(&self, alloc: Global, problem: &Problem, _limit: Limit) -> Result<Plan, PlanFault> {
         none_ends_before(problem);
-        match plan_by_rule(alloc, problem) {
-            Ok(plan) => Ok(plan),
-            Err(_) => Err(PlannerFault::Memory),
-        }
+        let plan = plan_by_rule(alloc, problem)?;
+        Ok(plan)
     }
 }

@@ -7,8 +7,7 @@ ghost use Rattle.onfi_plan.specs.Certificate.{Plain, certificate_in};
 ghost use Rattle.onfi_steady.specs.Rule.{IsByRule};
 
 use crate::below::{greatest_bound, token_of};
-use crate::dispatch::rule_run;
-use crate::given::all_given;
+use crate::dispatch::run_by_rule;
 use onfi_plan::Plan;
 use onfi_planner::{Planned, schedule_of};
 use onfi_problem::Problem;
@@ -40,18 +39,15 @@ pub fn plan_by_rule(alloc: Global, problem: &Problem) -> Result<Plan, AllocError
     ensures opened { IfOk result (λ plan. plan.opened ≡ 0) }
     ensures reopened { IfOk result (λ plan. plan.reopened ≡ 0) }
 {
-    let _limits = problem.bus_free();
-    let mut left = problem.copy(alloc)?;
-    let mut given = all_given(&left);
-    let mut steps = Vec::new(alloc);
-    let finish = rule_run(&mut left, &mut given, &mut steps)?;
-    let schedule = schedule_of(alloc, problem, steps.as_slice());
+    problem.in_limits();
+    let best = run_by_rule(alloc, problem)?;
+    let schedule = schedule_of(alloc, problem, best.steps.as_slice());
     let greatest = greatest_bound(problem);
     let mut cert = Vec::new(alloc);
     cert.push(token_of(greatest.bound))?;
     let planned = Planned {
         schedule,
-        finish,
+        finish: best.finish,
         cert,
     };
     Ok(Plan {

@@ -17,16 +17,16 @@ use onfi_timing::Kind;
 /// How soon a phase goes, compared number by number.
 #[derive(Clone, Copy)]
 pub struct Turn {
-    /// Whether the bus is kept from it.
-    pub kept: bool,
     /// When it may start, in ns.
     pub start: u64,
-    /// Where it stands by what it does.
-    pub rank: u8,
-    /// By how many requests the group that it begins is smaller than the largest.
-    pub smaller: usize,
     /// The number of its group's oldest request.
     pub oldest: u64,
+    /// By how many requests the group that it begins is smaller than the largest.
+    pub smaller: usize,
+    /// Where it stands by what it does.
+    pub rank: u8,
+    /// Whether the bus is kept from it.
+    pub kept: bool,
 }
 
 impl Turn {
@@ -75,7 +75,7 @@ fn is_kept_from(problem: &Problem, m: Move, kept_from: u64) -> bool
     requires kept { (end : ℕ) → end < 2 ^ 62 → nat_lt kept_from end ≡ list_any (keeps_bus_before end problem.now.problem) problem.now.problem.luns }
     ensures { result ≡ is_kept_from problem.now.problem (move_of problem.now.groups m) }
 {
-    let _limits = problem.bus_free();
+    problem.in_limits();
     if kept_from == u64::MAX {
         return false;
     }
@@ -114,7 +114,7 @@ fn move_keeps_bus(problem: &Problem, m: Move) -> bool
     requires { IsMove problem.now.problem (move_of problem.now.groups m) }
     ensures { result ≡ move_keeps_bus problem.now.problem (move_of problem.now.groups m) }
 {
-    let _limits = problem.bus_free();
+    problem.in_limits();
     match m {
         Move::Next { lun } => keeps_bus(problem, problem.luns()[lun as usize]),
         Move::Start { .. } => false,
@@ -137,7 +137,7 @@ fn running_rank(problem: &Problem, lun: u8) -> u8
     requires { IsMove problem.now.problem (Next lun) }
     ensures { result ≡ phase_rank problem.now.problem (Next lun) }
 {
-    let _limits = problem.bus_free();
+    problem.in_limits();
     let state = problem.luns()[lun as usize];
     let group = problem.group(state.place);
     if (state.next as usize) < group.len() {
@@ -147,8 +147,8 @@ fn running_rank(problem: &Problem, lun: u8) -> u8
     }
 }
 
-// .. what begins
-fn start_rank(kind: Kind) -> u8
+/// .. what begins
+pub fn start_rank(kind: Kind) -> u8
     ensures { result ≡ start_rank kind }
 {
     match kind {
@@ -158,8 +158,8 @@ fn start_rank(kind: Kind) -> u8
     }
 }
 
-// .. a data output or a status
-fn post_rank(kind: Kind) -> u8
+/// .. a data output or a status
+pub fn post_rank(kind: Kind) -> u8
     ensures { result ≡ post_rank kind }
 {
     match kind {

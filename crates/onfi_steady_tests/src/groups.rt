@@ -3,7 +3,7 @@
 use crate::sample::{free, planned, planned_by, timing, told, want};
 use onfi_check::check;
 use onfi_group::Rules;
-use onfi_plan::Planner;
+use onfi_plan::{Limit, Planner};
 use onfi_problem::Problem;
 use onfi_request::Want;
 use onfi_steady::{RulePlanner, plan_by_rule};
@@ -146,7 +146,7 @@ fn the_planner_and_the_certificate(rt: HostRuntime) -> Result<(), Fail> {
     let rules = Rules::new(true, true, false, 1);
     let problem = Problem::new(alloc, timing(5)?, rules, 0, &luns, &wants)?;
     let plan = plan_by_rule(alloc, &problem)?;
-    let by_planner = RulePlanner.plan(alloc, &problem, 1)?;
+    let by_planner = RulePlanner.plan(alloc, &problem, Limit::of(1).unwrap())?;
     assert!(rt; told(alloc, &plan)?.as_slice() == told(alloc, &by_planner)?.as_slice());
     assert_eq!(rt; (by_planner.opened, by_planner.reopened), (0, 0));
     let tokens = plan.planned.cert.as_slice();

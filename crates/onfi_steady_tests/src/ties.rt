@@ -1,6 +1,9 @@
 //! Which of the phases goes that may start as soon.
 
-use crate::sample::{free, planned, running, want};
+use crate::sample::{free, planned, running, timing, want};
+use onfi_group::Rules;
+use onfi_problem::Problem;
+use onfi_steady::run_by_rule;
 use onfi_timing::Kind;
 use std::test::Fail;
 
@@ -12,6 +15,23 @@ fn the_older_of_two_reads(rt: HostRuntime) -> Result<(), Fail> {
     let wants = [want(0, Kind::Read, 1, 0), want(1, Kind::Read, 0, 0)];
     let text = planned(alloc, &luns, &wants)?;
     assert!(rt; text.as_slice() == b"100 100||; 0: 0 60; 1: 10 80".as_slice());
+    Ok(())
+}
+
+// The steps of that plan alone, last first.
+#[test]
+fn the_steps_of_the_older_of_two_reads(rt: HostRuntime) -> Result<(), Fail> {
+    let alloc = rt.alloc();
+    let luns = [free(0), free(0)];
+    let wants = [want(0, Kind::Read, 1, 0), want(1, Kind::Read, 0, 0)];
+    let rules = Rules::new(true, true, false, 1);
+    let problem = Problem::new(alloc, timing(5)?, rules, 0, &luns, &wants)?;
+    let best = run_by_rule(alloc, &problem)?;
+    assert_eq!(rt; best.finish, 100);
+    let steps = best.steps.as_slice();
+    assert_eq!(rt; steps.len(), 4);
+    assert_eq!(rt; (steps[0].start, steps[1].start), (80, 60));
+    assert_eq!(rt; (steps[2].start, steps[3].start), (10, 0));
     Ok(())
 }
 

@@ -1,9 +1,9 @@
 //! Numbers as rows of text spell them.
-ghost use Rattle.std.specs.Prelude.{◌≡◌, ◌-◌, ◌^◌, min, Some, None, MatchOption, IsTrue};
+ghost use Rattle.std.specs.Prelude.{◌≡◌, ◌<◌, ◌-◌, ◌^◌, min, Some, None, IfSome, MatchOption, IsTrue};
 ghost use Rattle.std.specs.Char.{is_ascii_digit};
 ghost use Rattle.std.specs.List.{list_all};
 ghost use Rattle.std.specs.Str.Parse.{digits_value};
-ghost use Rattle.onfi_timing.specs.Decimal.{is_number, number_of};
+ghost use Rattle.onfi_timing.specs.Decimal.{has_leading_zero, is_number, number_of, written_number};
 
 /// The number that the text spells in digits, or the greatest 64-bit number where that is less; None where the text is
 /// no number.
@@ -14,6 +14,28 @@ pub fn read_number(text: &[u8]) -> Option<u64>
         Some(value(text))
     } else {
         None
+    }
+}
+
+/// The number below 2^63 that the text spells as numbers are written: the first of several digits is no zero.
+pub fn read_written(text: &[u8]) -> Option<u64>
+    ensures value { result ≡ written_number text.now }
+    ensures range { IfSome result (λ n. n < 2 ^ 63) }
+{
+    if has_leading_zero(text) {
+        return None;
+    }
+    let value = read_number(text)?;
+    if value < 1 << 63 { Some(value) } else { None }
+}
+
+// Whether there are more digits than one, the first a zero.
+fn has_leading_zero(text: &[u8]) -> bool
+    ensures { result ≡ has_leading_zero text.now }
+{
+    match text {
+        [first, _, ..] => *first == b'0',
+        _ => false,
     }
 }
 

@@ -18,7 +18,7 @@ mod strobes;
 mod timing;
 mod values;
 
-pub use decimal::read_number;
+pub use decimal::{read_number, read_written};
 pub use fault::SheetFault;
 pub use kind::Kind;
 pub use parameter::Parameter;

@@ -2,10 +2,12 @@ ghost use Rattle.std.specs.Prelude.{◌≤◌};
 
 use crate::ended::Ended;
 use crate::sample::{problem, running, want};
-use onfi_known::{KnownFault, KnownTextFault, check_known_text};
+use onfi_check::{CertFault, TextFault};
+use onfi_known_check::{KnownFault, check_known_text};
+use onfi_known_plan::plan_known;
+use onfi_plan::{Limit, Plan};
 use onfi_planner::{NoGate, PlanFault, Planned, plan, plan_split};
 use onfi_problem::{LunState, Problem};
-use onfi_recall::{PlannedKnown, plan_known};
 use onfi_samples::sample_timing;
 use onfi_schedule::Schedule;
 use onfi_timing::{Kind, Spans, Timing};
@@ -73,16 +75,16 @@ fn judge_known(
     rt: &impl Print,
     alloc: Global,
     problem: &Problem,
-    planned: &PlannedKnown,
+    plan: &Plan,
 ) -> Result<(), Ended> {
-    let text = planned.cert.as_slice();
+    let text = plan.text().unwrap_or(b"");
     for _try in 0..2u8 {
-        match check_known_text(alloc, problem, &planned.schedule, text) {
+        match check_known_text(alloc, problem, &plan.planned.schedule, text) {
             Ok(finish) => {
                 println!(rt; "accepted {finish}")?;
                 return Ok(());
             }
-            Err(KnownTextFault::Cert(KnownFault::Memory)) => println!(rt; "memory")?,
+            Err(TextFault::Cert(KnownFault::Cert(CertFault::Memory))) => println!(rt; "memory")?,
             Err(fault) => {
                 println!(rt; "{fault}")?;
                 return Ok(());
@@ -95,11 +97,11 @@ fn judge_known(
 /// Plans with searches that remember states, and judges the plan; once more where memory was refused.
 fn recall(rt: &impl Print, alloc: Global, problem: &Problem) -> Result<(), Ended> {
     for _try in 0..2u8 {
-        match plan_known(alloc, problem, 1_048_576) {
-            Ok(planned) => {
-                println!(rt; "finish {}", planned.finish)?;
-                say_groups(rt, &planned.schedule)?;
-                return judge_known(rt, alloc, problem, &planned);
+        match plan_known(alloc, problem, Limit::of(1_048_576).unwrap()) {
+            Ok(plan) => {
+                println!(rt; "finish {}", plan.planned.finish)?;
+                say_groups(rt, &plan.planned.schedule)?;
+                return judge_known(rt, alloc, problem, &plan);
             }
             Err(PlanFault::Over { opened }) => {
                 println!(rt; "over {opened}")?;

@@ -105,16 +105,26 @@ static request take(machine *m, size_t place)
     return taken;
 }
 
+/* A group began on a LUN whose latest request has that id: earlier ones of the LUN are passed over. */
+static void pass_over(machine *m, unsigned lun, uint64_t latest)
+{
+    for (size_t place = 0; place < m->waiting_count; place++)
+        m->waiting[place].groups += m->waiting[place].want.lun == lun && m->waiting[place].want.id < latest;
+}
+
 /* Begins a new group. What doesn't wait is left out; the judge finds that. */
 static void begin_group(machine *m, lun_state *lun, const step *step)
 {
+    uint64_t latest = 0;
     for (size_t at = 0; at < step->members && lun->members < ONFI_MEMBERS; at++) {
         size_t place = place_of(m, step->member[at]);
         if (place == m->waiting_count)
             continue;
         request begins = take(m, place);
+        latest = later_of(latest, begins.want.id);
         join_group(m, lun, &begins);
     }
+    pass_over(m, step->lun, latest);
 }
 
 /* How long the array of a group takes in truth. */

@@ -17,6 +17,7 @@
  *   limit     nodes that a search may open               100000
  *   slack     thousandths that an early plan ends later  those of its way
  *   trace     yes prints each phase instead; no          no
+ *   source    yes prints the requests instead; no        no
  *
  * The exit status is 0, 1 where a phase is illegal or the run can't go on, 2 where a word can't be read.
  */
@@ -29,7 +30,7 @@ typedef struct {
     const char *device;
     double byte;
     const char *way;
-    bool trace;
+    bool trace, source;
     setup setup;
 } words;
 
@@ -101,6 +102,8 @@ static bool put_word(const char *name, const char *value, words *words)
         return put_number(value, 0.001, 1000, &words->byte);
     else if (!strcmp(name, "trace"))
         return put_flag(value, &words->trace);
+    else if (!strcmp(name, "source"))
+        return put_flag(value, &words->source);
     else
         return put_setup(name, value, &words->setup);
     return true;
@@ -152,5 +155,8 @@ int main(int count, char **texts)
         fprintf(stderr, "rolling: no way %s\n", words.way);
         return 2;
     }
-    return run(&words, way);
+    if (!words.source)
+        return run(&words, way);
+    print_source(&words.setup, stdout);
+    return EXIT_SUCCESS;
 }

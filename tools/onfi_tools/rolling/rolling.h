@@ -7,7 +7,9 @@
  *   judge.c     whether a phase is legal, by books of its own
  *   choice.c    which requests a way looks at
  *   greedy.c    ways that take of what can start soonest what ranks first
+ *   steady.c    the way that the library's dispatcher goes, and plans by its rule, by code of its own
  *   planned.c   ways that plan a batch, and follow the plan until there is something new
+ *   planners.c  the planners of the library
  *   figures.c   what came of it
  *   simulate.c  the loop
  *
@@ -58,6 +60,7 @@ typedef struct {
     onfi_want want; /* its id is its place in the order of acceptance */
     uint64_t arrived;
     uint32_t passed; /* how many later requests have started while it waited */
+    uint32_t groups; /* how many groups with a later request have begun on its LUN */
 } request;
 
 /* Where requests come from: the same ones in the same order for each way, by the seed. */
@@ -72,6 +75,11 @@ typedef struct {
 
 source source_of(const setup *setup);
 onfi_want draw_want(source *source);
+/*
+ * Prints how many planes and pages there are, how long the phases of each kind take, and the requests in their order, by kind and
+ * LUN: those that come with the one before them, room or not, as mates.
+ */
+void print_source(const setup *setup, FILE *out);
 void draw_arrival(source *source);
 /* A number from 0 to below 1 that the seed gives to a request. */
 double share_of(uint64_t seed, uint64_t id);
@@ -203,6 +211,8 @@ typedef struct {
 typedef uint32_t planner(const problem *problem, uint32_t limit, onfi_planned *plan);
 
 planner plan_known, plan_early, plan_early_by_age, plan_early_reads;
+/* By the rule, with no search and no library: it never refuses. */
+planner plan_rule;
 
 typedef struct {
     step step[PLAN_STEPS]; /* in order of start */
@@ -221,6 +231,7 @@ typedef struct {
 typedef struct {
     unsigned turn; /* the LUN behind the one that had the bus last */
     bool told; /* a LUN has told that it is ready since the last plan */
+    uint64_t programs; /* 1 more than the id of the newest program that a phase by phase way has seen; 0: none */
     plan plan;
     planning planning;
     uint32_t refused; /* the status of a planner that failed otherwise than by being over */
@@ -238,6 +249,7 @@ typedef struct way {
 
 bool in_order(const way *way, mind *mind, const machine *m, const batch *batch, step *step);
 bool by_rule(const way *way, mind *mind, const machine *m, const batch *batch, step *step);
+bool phase_by_phase(const way *way, mind *mind, const machine *m, const batch *batch, step *step);
 bool by_plan(const way *way, mind *mind, const machine *m, const batch *batch, step *step);
 
 /* The way of that name; null where there is none. */

@@ -1,6 +1,7 @@
 /* The requests, and when they come. */
 #include "rolling.h"
 
+#include <inttypes.h>
 #include <math.h>
 
 enum { PAGES = 1152, READ_BLOCKS = 512, PROGRAM_BLOCKS = 400, FIRST_PROGRAMMED = 1000, ERASE_BLOCKS = 64, FIRST_ERASED = 3000 };
@@ -130,4 +131,21 @@ void draw_arrival(source *source)
 {
     double mean = mean_bus_time(source->setup) / source->setup->load;
     source->next_arrival += 1 + (uint64_t)(-log(1 - next_share(&source->arrivals)) * mean);
+}
+
+static const char *const KIND_NAMES[KINDS] = {[ONFI_READ] = "read", [ONFI_PROGRAM] = "program", [ONFI_ERASE] = "erase"};
+
+void print_source(const setup *setup, FILE *out)
+{
+    source source = source_of(setup);
+    fprintf(out, "planes %u\npages %u\n", planes_of(setup), (unsigned)PAGES);
+    for (unsigned kind = 0; kind < KINDS; kind++) {
+        const onfi_spans *spans = spans_of(&setup->channel.timing, kind);
+        fprintf(out, "%s %" PRIu64 " %" PRIu64 " %" PRIu64 " %" PRIu64 "\n", KIND_NAMES[kind], spans->cmd, spans->gap, spans->array, spans->post);
+    }
+    for (size_t at = 0; at < setup->requests; at++) {
+        bool is_mate = source.mates > 0;
+        onfi_want want = draw_want(&source);
+        fprintf(out, "%s %s %u\n", is_mate ? "mate" : "request", KIND_NAMES[want.kind], want.lun);
+    }
 }

@@ -3,7 +3,7 @@
 
 #include <string.h>
 
-/* Without the library (-DWITHOUT_PLANS) there are no plans. */
+/* Without the library (-DWITHOUT_PLANS) there are no plans by a search. */
 static const way WAYS[] = {
     {"fifo", everything, in_order, NULL, NULL, 0},
     {"round-robin", first_eight, by_rule, &ROUND_ROBIN, NULL, 0},
@@ -11,6 +11,9 @@ static const way WAYS[] = {
     {"mqsim", first_eight, by_rule, &MQSIM, NULL, 0},
     {"rfirst:8", first_eight, by_rule, &READS_FIRST, NULL, 0},
     {"rfirst:all", everything, by_rule, &READS_FIRST, NULL, 0},
+    {"steady", everything, phase_by_phase, NULL, NULL, 0},
+    {"rule-by-lun", by_lun, by_plan, NULL, plan_rule, 0},
+    {"rule-one-kind", by_lun_one_kind, by_plan, NULL, plan_rule, 0},
 #ifndef WITHOUT_PLANS
     {"plan", first_eight, by_plan, &ROUND_ROBIN, plan_known, 0},
     {"plan-by-lun", by_lun, by_plan, &ROUND_ROBIN, plan_known, 0},

@@ -39,7 +39,7 @@ impl Half {
     fn takes_more(&self) -> bool
         ensures { result ≡ not (is_empty (taken_next self.now.setup self.now.state)) }
     {
-        if self.wants.len() >= usize::from(self.batch) {
+        if self.flight.wants().len() >= usize::from(self.batch) {
             return false;
         }
         if !self.aside.is_empty() {
@@ -65,7 +65,7 @@ impl Half {
         ensures { taken_of result ≡ taken_in_order self.now.setup self.now.state }
     {
         let wants = self.next_wants();
-        let planned = self.planned + (wants.len() - self.wants.len()) as u64;
+        let planned = self.planned + (wants.len() - self.flight.wants().len()) as u64;
         Taking {
             wants,
             planned,
@@ -78,7 +78,7 @@ impl Half {
         requires in_order { self.now.setup.choice ≡ InOrder }
         ensures { result.items ≡ self.now.state.now.wants ++ taken_next self.now.setup self.now.state }
     {
-        let mut wants = ArrayVec::try_from(self.wants.as_slice()).unwrap();
+        let mut wants = ArrayVec::try_from(self.flight.wants()).unwrap();
         let room = u64::from(self.batch).saturating_sub(wants.len() as u64);
         let count = room.min(self.accepted - self.planned);
         for at in 0..count {
@@ -93,14 +93,14 @@ impl Half {
         ensures { IfOk result (λ taking. Chooses self.now.setup self.now.state (taken_of taking)) }
     {
         let unplanned = self.unplanned_wants(alloc)?;
-        let items = merged(alloc, self.wants.as_slice(), unplanned.as_slice())?;
+        let items = merged(alloc, self.flight.wants(), unplanned.as_slice())?;
         let chosen = choose(
             alloc,
             &self.setup.timing,
             &self.setup.rules,
             self.setup.choice,
-            self.bus_free,
-            self.luns.as_slice(),
+            self.flight.bus_free(),
+            self.flight.luns(),
             items.as_slice(),
             self.accepted,
             self.batch,

@@ -8,7 +8,6 @@ ghost use Rattle.onfi_core.specs.Kept.{is_of_place};
 
 use crate::half::Half;
 use crate::setup::Choice;
-use crate::starting::next_turn;
 
 impl Half {
     /// Whether an item more is of use: in order while fewer accepted items than the batch are unplanned, else always.
@@ -25,14 +24,14 @@ impl Half {
     pub fn has_phase(&self) -> bool
         ensures { IsTrue result ↔ (none_left self.now.state ≡ false) }
     {
-        next_turn(self.left.rest(), self.left.groups()).is_some()
+        !self.flight.is_done()
     }
 
     /// From when on the bus is free, in ns of the channel's clock.
     pub fn bus_free(&self) -> u64
         ensures { result ≡ self.now.state.now.bus_free }
     {
-        self.bus_free
+        self.flight.bus_free()
     }
 
     /// How many items were accepted.

@@ -1,19 +1,15 @@
 //! Time that passes.
 
 ghost use Rattle.std.specs.Prelude.{◌≡◌, ◌+◌, ◌<◌, ◌^◌, max, nat_lt, true, if◌then◌else◌, None, Some, IfOk, IfErr, MatchOption, OnErr};
-ghost use Rattle.onfi_core.specs.Steps.{is_current, is_in_array, readied, ready_of, ready_refusal, wait_lag, wait_refusal, waited};
-ghost use Rattle.onfi_core.specs.Times.{all_starts, latest_start};
+ghost use Rattle.onfi_problem.specs.Moves.{free_from};
+ghost use Rattle.onfi_core.specs.Steps.{is_current, is_in_array, readied, ready_of, ready_refusal, wait_refusal, waited};
 ghost use Rattle.onfi_core.specs.Refusals.{ready_outcome, wait_outcome};
 
 use crate::half::Half;
-use crate::lag::lag_of;
-use crate::later::delay_schedule;
 use crate::outcome::Cause;
+use onfi_flight::TooLate;
 use onfi_problem::LunState;
 use std::alloc::Global;
-
-/// All moments of a channel are before this one, in ns.
-const END: u64 = 1 << 62;
 
 /// Why the bus doesn't wait, in the order in which it is told.
 #[derive(Clone, Copy, Debug, PartialEq, Eq)]
@@ -56,25 +52,14 @@ impl Half {
         if let Some(cause) = self.stopped {
             return Err(WaitRefusal::Stopped(cause));
         }
-        let lag = lag_of(moment, self.left.rest(), self.left.groups());
-        if moment.max(lag.latest.saturating_add(lag.by)) >= END {
-            return Err(WaitRefusal::TooLate);
+        let outdated = is_outdated(self.outdated, self.flight.bus_free(), moment);
+        match self.flight.wait(alloc, moment) {
+            Ok(bus_free) => {
+                self.outdated = outdated;
+                Ok(bus_free)
+            }
+            Err(TooLate) => Err(WaitRefusal::TooLate),
         }
-        Ok(self.start_later(alloc, moment, lag.by))
-    }
-
-    // The bus isn't free before that moment, and what is left of the plan starts later by so much.
-    fn start_later(&mut self, alloc: Global, moment: u64, by: u64) -> u64
-        requires lag { by ≡ wait_lag moment self.old.state }
-        requires in_time { latest_start (all_starts self.old.state.left) + by < 2 ^ 62 }
-        ensures waited { self.new ≡ record self.old { state = waited moment self.old.state } }
-        ensures bus_free { result ≡ max self.old.state.now.bus_free moment }
-    {
-        let bus_free = self.bus_free.max(moment);
-        self.outdated = is_outdated(self.outdated, self.bus_free, moment);
-        self.bus_free = bus_free;
-        self.left = delay_schedule(alloc, by, &self.left);
-        bus_free
     }
 
     /// Why no LUN is found ready, if so: told before the chip is asked.
@@ -82,13 +67,13 @@ impl Half {
         ensures { MatchOption result (ready_refusal lun self.now.state ≡ None) (λ refusal. ready_refusal lun self.now.state ≡ Some (ready_outcome refusal)) }
     {
         let at = usize::from(lun);
-        if at >= self.luns.len() {
+        if at >= self.flight.luns().len() {
             return Some(ReadyRefusal::NoSuchLun);
         }
         if let Some(cause) = self.stopped {
             return Some(ReadyRefusal::Stopped(cause));
         }
-        if is_in_array(&self.luns[at]) {
+        if is_in_array(&self.flight.luns()[at]) {
             None
         } else {
             Some(ReadyRefusal::NotInArray)
@@ -106,20 +91,10 @@ impl Half {
         ensures readied { self.new ≡ record self.old { state = readied lun self.old.state } }
         ensures ready { result ≡ ready_of lun self.old.state }
     {
-        let at = usize::from(lun);
-        let LunState::Running { group, next, ready } = &self.luns[at] else {
-            unreachable!();
-        };
-        let sooner = (*ready).min(self.bus_free);
-        let outdated = is_outdated(self.outdated, self.bus_free, *ready);
-        let state = LunState::Running {
-            group: group.copy(),
-            next: *next,
-            ready: sooner,
-        };
-        self.luns[at] = state;
-        self.outdated = outdated;
-        sooner
+        let bus_free = self.flight.bus_free();
+        let before = free_from(&self.flight.luns()[usize::from(lun)]);
+        self.outdated = is_outdated(self.outdated, bus_free, before);
+        self.flight.ready(lun, bus_free)
     }
 
     /// Whether the plan is that of the bus and the LUNs as they stand, or nothing of it is left.
@@ -141,6 +116,16 @@ fn is_in_array(lun: &LunState) -> bool
     match lun {
         LunState::Running { group, next, .. } => usize::from(*next) == group.len(),
         LunState::Free { .. } => false,
+    }
+}
+
+// From when on a LUN is free, or its next phase may start.
+fn free_from(lun: &LunState) -> u64
+    ensures { result ≡ free_from (Some lun.now) }
+{
+    match lun {
+        LunState::Free { since } => *since,
+        LunState::Running { ready, .. } => *ready,
     }
 }
 

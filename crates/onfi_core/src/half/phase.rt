@@ -6,17 +6,17 @@ ghost use Rattle.onfi_request.specs.declared.fault.Fault.{Fault as AFault};
 ghost use Rattle.onfi_request.specs.declared.want.Want.{Want as AWant};
 ghost use Rattle.onfi_core.specs.declared.slot.Slot.{Slot as ASlot};
 ghost use Rattle.onfi_core.specs.State.{item_at};
-ghost use Rattle.onfi_core.specs.Steps.{half_after_phase};
-ghost use Rattle.onfi_core.specs.Dues.{IsDue, IsRan, member_of, replies_of, after_due};
+ghost use Rattle.onfi_flight.specs.Flight.{member_of};
+ghost use Rattle.onfi_core.specs.Dues.{IsDue, IsRan, replies_of, after_due};
 ghost use Rattle.onfi_core.specs.View.{HasSlot};
 
-use crate::due::{Due, leave};
 use crate::finding::item_of;
 use crate::half::Half;
 use crate::history::History;
 use crate::outcome::Cause;
-use crate::phase_result::PhaseResult;
 use crate::slot::Slot;
+use onfi_flight::Due;
+use onfi_lun::PhaseResult;
 use onfi_request::{Basis, Item, Reply};
 use slab::Slab;
 
@@ -32,32 +32,17 @@ impl Half {
     /// The phase that [`Half::due`] told is done, and the chip gave `ran` at it; the reply of a post is held behind all
     /// others. It takes no memory. The chip is shown for the caller's proof alone, which picks the faults that the reply
     /// rests on.
-    pub fn done<T>(&mut self, due: Due, ran: PhaseResult, chip: &T)
+    pub fn done<T>(&mut self, due: &Due, ran: PhaseResult, chip: &T)
         ghost faults: { List AFault }
         requires settled { self.old.lent ≡ None }
-        requires due { IsDue self.old.state due }
-        requires ran { IsRan due ran }
-        ensures done { self.new ≡ record self.old { state = after_due self.old.state due (replies_of self.old.state.accepted faults due ran) } }
-        ensures phase { (is : IsDue self.old.state due)
-            → self.new.state ≡ half_after_phase self.old.state is.move due.start is.left (replies_of self.old.state.accepted faults due ran) }
+        requires due { IsDue self.old.state due.now }
+        requires ran { IsRan due.now ran }
+        ensures { self.new ≡ record self.old { state = after_due self.old.state due.now (replies_of self.old.state.accepted faults due.now ran) } }
     {
-        let reply = reply_of(&self.slots, &self.history, &due, ran, chip);
+        let reply = reply_of(&self.slots, &self.history, due, ran, chip);
         self.history = self.history.holding(&reply);
         hold(&mut self.held, reply);
-        let Due {
-            lun,
-            next,
-            rest,
-            place,
-            bus_free,
-            wants,
-            ..
-        } = due;
-        let lun = usize::from(lun);
-        self.bus_free = bus_free;
-        self.luns[lun] = next;
-        self.wants = wants;
-        leave(&mut self.left, lun, rest, place);
+        self.flight.done(due);
     }
 
     /// Stops the channel for that cause: from now on it accepts, plans and runs nothing.

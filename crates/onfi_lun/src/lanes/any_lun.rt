@@ -6,7 +6,7 @@ ghost use Rattle.onfi_chip.specs.Chip.{found_ready, posted, taken};
 ghost use Rattle.onfi_chip.specs.Calls.{AfterFault, HasDone, IsLost, IsNextPost, MayTake, command_of};
 ghost use Rattle.onfi_chip.specs.Fetching.{HasRoom};
 ghost use Rattle.onfi_lun.specs.Phases.{IsOf, OthersStay};
-ghost use Rattle.onfi_lun.specs.Lanes.{IsThere, IsRipe, Works, IsPostOf, number_in, left_in, ready_in, behind_command, behind_post};
+ghost use Rattle.onfi_lun.specs.Lanes.{IsThere, IsInArray, IsRipe, Works, IsPostOf, number_in, left_in, ready_in, behind_command, behind_post};
 
 use crate::lun::{Commanded, Lun, Posted};
 use crate::states::{Idle, Posting, Queuing, Working};
@@ -107,10 +107,17 @@ impl AnyLun {
         }
     }
 
-    /// Whether the chip says at `now`, in ns, that the LUN is ready, whose array works then by what is stated.
+    /// Whether its array works, or is over and nothing of it was posted.
+    pub(crate) fn is_in_array(&self) -> bool
+        ensures { IsTrue result ↔ IsInArray self.now }
+    {
+        matches!(self, AnyLun::Working(_))
+    }
+
+    /// Whether the chip says at `now`, in ns, that the LUN is ready, whose array works or is over.
     pub(crate) fn poll<C: Chip>(self, chip: &mut C, now: u64) -> (AnyLun, bool)
         requires there { IsThere (C.state chip.old) self }
-        requires works { Works now self }
+        requires in_array { IsInArray self }
         ensures ready { IsTrue result.1 → C.state chip.new ≡ found_ready (C.state chip.old) (number_in self) now }
         ensures busy { result.1 ≡ false → C.state chip.new ≡ C.state chip.old }
         ensures there { IsThere (C.state chip.new) result.0 }

@@ -25,6 +25,13 @@ impl Problem {
         self.rules
     }
 
+    /// States that each number of the problem is within its limits. It is a fact for proofs: nothing is done.
+    pub fn in_limits(&self)
+        ensures limits { InLimits self.now.problem }
+    {
+        let _ = &self.bus_free;
+    }
+
     /// From when on the bus is free, in ns, below 2^62.
     pub fn bus_free(&self) -> u64
         ensures value { result ≡ self.now.problem.bus_free }

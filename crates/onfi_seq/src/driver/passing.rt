@@ -14,12 +14,12 @@ const END: u64 = 1 << 62;
 
 impl<C: Chip, P: Planner> Driver<C, P> {
     /// When the next phase starts, in ns of the channel's clock, if one is left. It takes no memory.
-    pub(crate) fn next_start(&self, alloc: Global) -> Option<u64>
+    pub(crate) fn next_start(&self) -> Option<u64>
         ensures some { IfSome result (StartsNext self.now.0.half) }
         ensures none { IfNone result (self.now.0.half.stopped ≡ None → none_left self.now.0.half ≡ true) }
         ensures left { IfSome result (λ _. bus_refusal self.now.0.half ≡ None) }
     {
-        match self.half.due(alloc) {
+        match self.half.due() {
             Ok(due) => Some(due.start),
             Err(_) => None,
         }

@@ -5,7 +5,7 @@ ghost use Rattle.onfi_core.specs.Steps.{none_left, taken_next};
 ghost use Rattle.onfi_seq.specs.Driver.{StartsNext};
 ghost use Rattle.onfi_seq.specs.NoClock.{TurnedAtOnce, greatest, timed};
 ghost use Rattle.onfi_seq.specs.Sequencer.{IsRight, IsSameChannel, seen_in};
-ghost use Rattle.onfi_seq.specs.Turned.{Goes, IsGoing, IsRest, LetsPass, MayRunPhase, NothingPosts, OfferedAll, OfferedTo, Plans, PlansLater, RestsAtOnce, Takes, TakesNothing, Turned, WhyNoItem, WhyNoPlan};
+ghost use Rattle.onfi_seq.specs.Turned.{Goes, KeepsPlan, IsGoing, PlansAnew, IsRest, LetsPass, MayRunPhase, NothingPosts, OfferedAll, OfferedTo, Plans, PlansLater, RestsAtOnce, Takes, TakesNothing, Turned, WhyNoItem, WhyNoPlan};
 
 use crate::clockless::turn_of;
 use crate::gate::Gate;
@@ -14,7 +14,7 @@ use crate::ran::Ran;
 use crate::sequencer::Sequencer;
 use crate::turn::{Turn, TurnAt};
 use onfi_chip::Chip;
-use onfi_core::PlanRefusal;
+use onfi_core::{PlanRefusal, Replanning};
 use onfi_plan::Planner;
 use std::alloc::Global;
 use std::sync::Wait;
@@ -23,7 +23,8 @@ impl<C: Chip, P: Planner> Sequencer<C, P> {
     /// Does the first of these that it can: post the oldest held reply of the lowest host whose queue isn't full; answer
     /// Stopped; accept one item, while fewer than 64 are unanswered and, in order, fewer than the batch unplanned; plan,
     /// unless a planning was refused as Over or Memory since the last phase and a phase is left; run the next phase. Else it
-    /// answers PostFull where a reply is held, and Idle where none is.
+    /// answers PostFull where a reply is held, and Idle where none is. Where the setup's plans are made anew lazily it plans
+    /// only where no phase is left, or a request that no plan has taken could start before the next.
     ///
     /// The gate is called once, before all that, for this channel. Acceptance and post take no memory, a phase asks for its own
     /// before the chip is called, so a turn that answers Memory has lost no item and made no event.
@@ -127,7 +128,7 @@ impl<C: Chip, P: Planner> Sequencer<C, P> {
     {
         let current = self.driver.half().nothing_to_plan();
         let stale = !current;
-        if self.is_untold(alloc, now, current) {
+        if self.is_untold(now, current) {
             return false;
         }
         let found = self.driver.pass(alloc, now);
@@ -135,7 +136,7 @@ impl<C: Chip, P: Planner> Sequencer<C, P> {
     }
 
     // Whether nothing is told of the moment: the plan stands, and the next phase starts just then, or none is left.
-    fn is_untold(&self, alloc: Global, now: u64, current: bool) -> bool
+    fn is_untold(&self, now: u64, current: bool) -> bool
         requires { self.now.0.half.stopped ≡ None }
         ensures current { IsTrue result → IsTrue current }
         ensures on_time { IsTrue result → StartsNext self.now.0.half now ⊎ (none_left self.now.0.half ≡ true) }
@@ -144,16 +145,16 @@ impl<C: Chip, P: Planner> Sequencer<C, P> {
         if !current {
             return false;
         }
-        self.is_on_time(alloc, now)
+        self.is_on_time(now)
     }
 
     // Whether the next phase starts just then, or none is left.
-    fn is_on_time(&self, alloc: Global, now: u64) -> bool
+    fn is_on_time(&self, now: u64) -> bool
         requires { self.now.0.half.stopped ≡ None }
         ensures on_time { IsTrue result → StartsNext self.now.0.half now ⊎ (none_left self.now.0.half ≡ true) }
         ensures over { none_left self.now.0.half ≡ true → IsTrue result }
     {
-        match self.driver.next_start(alloc) {
+        match self.driver.next_start() {
             Some(start) => start == now,
             None => true,
         }
@@ -201,7 +202,7 @@ impl<C: Chip, P: Planner> Sequencer<C, P> {
         true
     }
 
-    // Plans a stale plan anew, unless a planning was refused since the last phase and a phase is left.
+    // Plans a stale plan anew, unless a planning was refused since the last phase and a phase is left, or that plan goes on.
     fn plan_once(&mut self, alloc: Global, stale: bool) -> Option<TurnAt>
         requires before { TakesNothing (seen_in C.state self.old) }
         requires stale { stale ≡ false → taken_next self.old.0.setup self.old.0.half ≡ [] }
@@ -213,6 +214,9 @@ impl<C: Chip, P: Planner> Sequencer<C, P> {
             return None;
         }
         if self.refused && self.has_phase() {
+            return None;
+        }
+        if self.keeps_plan() {
             return None;
         }
         match self.driver.plan(alloc) {
@@ -228,6 +232,22 @@ impl<C: Chip, P: Planner> Sequencer<C, P> {
                 self.short = true;
                 Some(TurnAt::Memory)
             }
+        }
+    }
+
+    // Whether the plan that is left goes on: it is made anew lazily, a phase of it is left, and no request that no plan has
+    // taken could start before that.
+    fn keeps_plan(&self) -> bool
+        requires { self.now.0.half.stopped ≡ None }
+        ensures on { IsTrue result → KeepsPlan (seen_in C.state self.now) }
+        ensures renewed { result ≡ false → PlansAnew (seen_in C.state self.now) }
+    {
+        match self.driver.half().setup().replanning {
+            Replanning::AtOnce => false,
+            Replanning::Lazily => match self.driver.next_start() {
+                Some(start) => !self.driver.half().could_start_before(start),
+                None => false,
+            },
         }
     }
 

@@ -1,28 +1,36 @@
-use Rattle.std.proofs.Common.{refl}
-use Rattle.onfi_c.specs.Due.{is_no_stand, is_no_geometry, is_over, is_outside}
-use Rattle.onfi_c.proofs.Dues.{comes, due_told}
+use Rattle.std.proofs.Common.{refl, subst}
+use Rattle.std.proofs.lemmas.Result.{IfOk-weaker, IfErr-weaker}
+use Rattle.onfi_c.specs.Due.{IsDueSaid, IsNoneDue, IsOffDevice, IsOnDevice, is_illegal, is_no_flight, is_off, is_over}
+use Rattle.onfi_c.proofs.Standing.{flies}
 use Rattle.onfi_c.proofs.due.due_said.Goals as goal
 
 pub returns-in-Err-clause-none : goal.returns-in-Err-clause-none
-returns-in-Err-clause-none c = is_no_stand c.in-Err.ensures.none
+returns-in-Err-clause-none c = is_no_flight (c.in-Err.ensures.none c.args.schedule.now)
 
-pub returns-in_default-clause-none : goal.returns-in_default-clause-none
-returns-in_default-clause-none c = is_no_geometry c.in-Ok.stand.problem.problem c.in-Ok.stand.schedule c.in-Ok.ensures.stand c.in_default.ensures.none refl
+pub returns-in-Err-fill-clause-none : goal.returns-in-Err-fill-clause-none
+returns-in-Err-fill-clause-none c = is_no_flight c.in-Err-fill.ensures.none
 
-pub returns-in_default-find_coming-clause-none : goal.returns-in_default-find_coming-clause-none
-returns-in_default-find_coming-clause-none c = is_over c.in-Ok.stand.problem.problem c.in-Ok.stand.schedule c.in-Ok.ensures.stand c.in_default-find_coming.ensures.none refl
+pub returns-in-Due-clause-due : goal.returns-in-Due-clause-due
+returns-in-Due-clause-due c =
+    IfOk-weaker c.phase_on.result (λ phase. IsOnDevice c.timing.result c.args.geometry.now c.in-Due.due phase)
+    (λ phase. IsDueSaid c.args.channel.now c.args.luns.now c.args.wants.now c.args.geometry.now c.args.schedule.now phase)
+    (λ phase on. record {
+      flight = c.fill.new.flight;
+      said = c.in-Ok-fill.ensures.said;
+      due = c.in-Due.due;
+      is = c.in-Due.ensures.tells;
+      on = subst (λ t. IsOnDevice t c.args.geometry.now c.in-Due.due phase) c.timing.ensures on;
+    }) c.phase_on.ensures.phase
 
-pub returns-in-Some-phase_of-clause-due : goal.returns-in-Some-phase_of-clause-due
-returns-in-Some-phase_of-clause-due c =
-    let p = c.in-Ok.stand.problem.problem in
-    let s = c.in-Ok.stand.schedule in
-    let coming = c.in-Some-find_coming.coming in
-    let e = c.in-Some-phase_of.ensures in
-    due_told c.args.channel.now c.args.luns.now c.args.wants.now c.args.geometry.now c.args.schedule.now p s c.in-Ok.ensures.stand c.in-Some.geometry c.in-Some.ensures.some
-    coming c.in-Some-find_coming.ensures.some c.timing.result c.timing.ensures c.in-Some-phase_of.phase e.some e.same.0 e.same.1
+pub returns-in-Due-clause-none : goal.returns-in-Due-clause-none
+returns-in-Due-clause-none c =
+    IfErr-weaker c.phase_on.result (λ status. IsOffDevice c.args.geometry.now c.in-Due.due status)
+    (λ status. IsNoneDue c.args.channel.now c.args.luns.now c.args.wants.now c.args.geometry.now c.args.schedule.now status)
+    (λ status off. is_off c.fill.new.flight c.in-Ok-fill.ensures.said c.in-Due.due c.in-Due.ensures.tells off) c.phase_on.ensures.none
+
+pub returns-in-Done-clause-none : goal.returns-in-Done-clause-none
+returns-in-Done-clause-none c = is_over c.fill.new.flight c.in-Ok-fill.ensures.said c.in-Done.ensures.tells.0 c.in-Done.ensures.tells.1 c.over_status.ensures
 
 pub returns-clause-none : goal.returns-clause-none
 returns-clause-none c =
-    let p = c.in-Ok.stand.problem.problem in
-    let s = c.in-Ok.stand.schedule in
-    is_outside p s c.in-Ok.ensures.stand c.in-Some.geometry c.in-Some.ensures.some _ _ _ (comes p s c.in-Some-find_coming.coming c.in-Some-find_coming.ensures.some) c.in-None.ensures.none refl
+    is_illegal c.fill.new.flight c.in-Ok-fill.ensures.said (λ legal. c.in-Illegal.ensures.tells (flies c.fill.new.flight c.in-Ok-fill.ensures.said.limits legal)) refl

@@ -1,53 +1,73 @@
-use Rattle.std.proofs.Common.{◌≡◌, ◌≤◌, refl, rules}
-use Rattle.onfi_c.specs.Ran.{Kept, is_no_stand, is_over}
-use Rattle.onfi_c.proofs.Standing.{not_due, not_in_time, not_ran, ran_behind, too_soon}
+use Rattle.std.proofs.Common.{◌≡◌, ◌<◌, ◌≤◌, length, refl, rules, sym, ap, ◌∙◌, subst, arith}
+use Rattle.std.proofs.lemmas.List.{length-map}
+use Rattle.onfi_problem.specs.Left.{InLimits}
+use Rattle.onfi_flight.specs.Flight.{Flight, after_late}
+use Rattle.onfi_c.specs.Ran.{IsBehind, IsDueThere, Kept, is_illegal, is_late, is_no_flight, is_not_due, is_over, is_too_soon}
+use Rattle.onfi_c.specs.Written.{written_want}
+use Rattle.onfi_c.proofs.Standing.{fewer_wants, flies, plain_there, ran_behind, same_luns}
 use Rattle.onfi_c.proofs.ran.ran_said.Goals as goal
 
 pub returns-in-Err-clause-none : goal.returns-in-Err-clause-none
-returns-in-Err-clause-none c = is_no_stand c.in-Err.ensures.none
+returns-in-Err-clause-none c = is_no_flight (c.in-Err.ensures.none c.args.schedule.now)
 
-pub returns-in_default-clause-none : goal.returns-in_default-clause-none
-returns-in_default-clause-none c = is_over c.in-Ok.stand.problem.problem c.in-Ok.stand.schedule c.in-Ok.ensures.stand c.in_default.ensures.none refl
+pub returns-in-Err-fill-clause-none : goal.returns-in-Err-fill-clause-none
+returns-in-Err-fill-clause-none c = is_no_flight c.in-Err-fill.ensures.none
+
+pub returns-in-Done-clause-none : goal.returns-in-Done-clause-none
+returns-in-Done-clause-none c = is_over c.fill.new.flight c.in-Ok-fill.ensures.said c.in-Done.ensures.tells.0 c.in-Done.ensures.tells.1 refl
+
+pub returns-in-Illegal-clause-none : goal.returns-in-Illegal-clause-none
+returns-in-Illegal-clause-none c =
+    is_illegal c.fill.new.flight c.in-Ok-fill.ensures.said (λ legal. c.in-Illegal.ensures.tells (flies c.fill.new.flight c.in-Ok-fill.ensures.said.limits legal)) refl
 
 pub returns-then-not-is_due-clause-none : goal.returns-then-not-is_due-clause-none
-returns-then-not-is_due-clause-none c =
-    let old : Kept = record { channel = c.args.channel.now; luns = c.args.luns.now; wants = c.args.wants.now; schedule = c.args.schedule.now } in
-    not_due old c.in-Ok.stand.problem.problem c.in-Ok.stand.schedule c.in-Some.coming c.args.lun c.args.number c.args.started c.in-Ok.ensures.stand c.in-Some.ensures.some (search rules)
+returns-then-not-is_due-clause-none c = is_not_due c.fill.new.flight c.in-Ok-fill.ensures.said c.in-Due.due c.in-Due.ensures.tells (search rules) refl
 
-pub returns-then-started-coming-clause-none : goal.returns-then-started-coming-clause-none
-returns-then-started-coming-clause-none c =
-    let old : Kept = record { channel = c.args.channel.now; luns = c.args.luns.now; wants = c.args.wants.now; schedule = c.args.schedule.now } in
-    let lun_is : c.in-Some.coming.lun ≡ c.args.lun = search rules in
-    let number_is : c.in-Some.coming.number ≡ c.args.number = search rules in
-    too_soon old c.in-Ok.stand.problem.problem c.in-Ok.stand.schedule c.in-Some.coming c.args.lun c.args.number c.args.started c.in-Ok.ensures.stand c.in-Some.ensures.some lun_is number_is
-    c.if-started-coming.true
+pub returns-then-started-due-clause-none : goal.returns-then-started-due-clause-none
+returns-then-started-due-clause-none c =
+    let lun_is : c.in-Due.due.lun ≡ c.args.lun = search rules in
+    let number_is : c.in-Due.due.phase ≡ c.args.number = search rules in
+    is_too_soon c.fill.new.flight c.in-Ok-fill.ensures.said c.in-Due.due (record { is = c.in-Due.ensures.tells; lun_is = lun_is; number_is = number_is }) c.if-started-due.true refl
 
-pub returns-in-Err-find_behind-clause-none : goal.returns-in-Err-find_behind-clause-none
-returns-in-Err-find_behind-clause-none c =
-    let old : Kept = record { channel = c.args.channel.now; luns = c.args.luns.now; wants = c.args.wants.now; schedule = c.args.schedule.now } in
-    let coming = c.in-Some.coming in
-    let lun_is : coming.lun ≡ c.args.lun = search rules in
-    let number_is : coming.number ≡ c.args.number = search rules in
-    let on_time : coming.start ≤ c.args.started = search rules in
-    not_ran old c.in-Ok.stand.problem.problem c.in-Ok.stand.schedule coming c.args.lun c.args.number c.args.started c.in-Err-find_behind.status c.in-Ok.ensures.stand c.in-Some.ensures.some
-    lun_is number_is on_time c.in-Err-find_behind.ensures.none
+pub behind_of-requires-clause-there : goal.behind_of-requires-clause-there
+behind_of-requires-clause-there c =
+    plain_there c.args.channel.now c.args.luns.now c.args.wants.now c.fill.new.flight c.in-Due.due c.args.started c.in-Ok-fill.ensures.said.said.problem c.in-Due.ensures.tells
 
-pub returns-in-Ok-look_at_times-clause-ran : goal.returns-in-Ok-look_at_times-clause-ran
-returns-in-Ok-look_at_times-clause-ran c =
+pub behind_of-requires-clause-same : goal.behind_of-requires-clause-same
+behind_of-requires-clause-same c =
+    ap (λ (f : Flight). length f.now.luns) c.in-Ok-run_late.ensures.ran
+    ∙ same_luns c.args.channel.now c.args.luns.now c.args.wants.now c.fill.new.flight c.in-Due.due c.args.started c.in-Ok-fill.ensures.said.said.problem c.in-Due.ensures.tells
+
+pub returns-in-Ok-run_late-clause-ran : goal.returns-in-Ok-run_late-clause-ran
+returns-in-Ok-run_late-clause-ran c =
     let old : Kept = record { channel = c.args.channel.now; luns = c.args.luns.now; wants = c.args.wants.now; schedule = c.args.schedule.now } in
-    let coming = c.in-Some.coming in
-    let lun_is : coming.lun ≡ c.args.lun = search rules in
-    let number_is : coming.number ≡ c.args.number = search rules in
-    let on_time : coming.start ≤ c.args.started = search rules in
-    ran_behind old c.in-Ok.stand.problem.problem c.in-Ok.stand.schedule coming c.args.lun c.args.number c.args.started c.in-Ok-find_behind.behind c.in-Ok.ensures.stand c.in-Some.ensures.some
-    lun_is number_is on_time c.in-Ok-find_behind.ensures.behind c.bus_free-limits.ensures.limits c.in-Ok-look_at_times.ensures.in_time
+    let due = c.in-Due.due in
+    let lun_is : due.lun ≡ c.args.lun = search rules in
+    let number_is : due.phase ≡ c.args.number = search rules in
+    let on_time : due.start ≤ c.args.started = search rules in
+    let ran = c.in-Ok-run_late.ensures.ran in
+    ran_behind old c.fill.new.flight due c.args.lun c.args.number c.args.started c.behind_of.result c.in-Ok-fill.ensures.said
+    (record { is = c.in-Due.ensures.tells; lun_is = lun_is; number_is = number_is }) on_time (subst (λ (f : Flight). IsBehind c.args.luns.now due f c.behind_of.result) ran c.behind_of.ensures)
+    (subst (λ (f : Flight). InLimits f.now) ran c.in-Ok-run_late.ensures.limits)
+
+pub returns-in-Ok-run_late-clause-there : goal.returns-in-Ok-run_late-clause-there
+returns-in-Ok-run_late-clause-there c =
+    let lun_is : c.in-Due.due.lun ≡ c.args.lun = search rules in
+    subst (λ n. n < length c.args.luns.now) lun_is
+    (plain_there c.args.channel.now c.args.luns.now c.args.wants.now c.fill.new.flight c.in-Due.due c.args.started c.in-Ok-fill.ensures.said.said.problem c.in-Due.ensures.tells)
+
+pub returns-in-Ok-run_late-clause-fewer : goal.returns-in-Ok-run_late-clause-fewer
+returns-in-Ok-run_late-clause-fewer c =
+    let few = fewer_wants c.args.channel.now c.args.luns.now c.args.wants.now c.fill.new.flight c.in-Due.due c.args.started c.in-Ok-fill.ensures.said.said.problem c.in-Due.ensures.tells in
+    let ran = ap (λ (f : Flight). length f.now.wants) c.in-Ok-run_late.ensures.ran in
+    let told = ap length c.behind_of.ensures.wants in
+    let same = length-map c.run_late.new.flight.now.wants written_want in
+    omega (arith, few, ran, told, same)
 
 pub returns-clause-none : goal.returns-clause-none
 returns-clause-none c =
-    let old : Kept = record { channel = c.args.channel.now; luns = c.args.luns.now; wants = c.args.wants.now; schedule = c.args.schedule.now } in
-    let coming = c.in-Some.coming in
-    let lun_is : coming.lun ≡ c.args.lun = search rules in
-    let number_is : coming.number ≡ c.args.number = search rules in
-    let on_time : coming.start ≤ c.args.started = search rules in
-    not_in_time old c.in-Ok.stand.problem.problem c.in-Ok.stand.schedule coming c.args.lun c.args.number c.args.started c.in-Ok-find_behind.behind c.in-Err-look_at_times.status
-    c.in-Ok.ensures.stand c.in-Some.ensures.some lun_is number_is on_time c.in-Ok-find_behind.ensures.behind c.in-Err-look_at_times.ensures.beyond
+    let lun_is : c.in-Due.due.lun ≡ c.args.lun = search rules in
+    let number_is : c.in-Due.due.phase ≡ c.args.number = search rules in
+    let on_time : c.in-Due.due.start ≤ c.args.started = search rules in
+    let late = c.in-Err-run_late.ensures.late c.in-Ok-fill.ensures.said.limits in
+    is_late c.fill.new.flight c.in-Ok-fill.ensures.said c.in-Due.due (record { is = c.in-Due.ensures.tells; lun_is = lun_is; number_is = number_is }) on_time late.1 late.0

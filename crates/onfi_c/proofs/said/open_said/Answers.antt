@@ -1,7 +1,8 @@
-use Rattle.std.proofs.Common.{rules, inr, ◌∙◌}
+use Rattle.std.proofs.Common.{◌≡◌, ◌⊎◌, rules, inl, inr, ◌∙◌}
 use Rattle.std.proofs.lemmas.Result.{IfErr-weaker}
 use Rattle.onfi_problem.specs.Kept.{problem_of}
 use Rattle.onfi_problem.specs.Problem.{Problem}
+use Rattle.onfi_c.specs.declared.status.Status.TheVariants.{Memory}
 use Rattle.onfi_c.specs.Said.{IsSaid}
 use Rattle.onfi_c.specs.Refused.{IsBadProblem, IsBadSaid}
 use Rattle.onfi_c.proofs.said.open_said.Goals as goal
@@ -16,4 +17,8 @@ returns-clause-bad c =
       states = c.as_slice.ensures.value ∙ c.in-Ok.ensures;
       requests = c.as_slice-2.ensures.value ∙ c.in-Ok-wants_of.ensures;
     } in
-    IfErr-weaker c.open.result (IsBadProblem p) (IsBadSaid c.args.channel.now c.args.luns.now c.args.wants.now) (λ status bad. inr (p, said, bad)) c.open.ensures.bad
+    IfErr-weaker c.open.result (λ status. (status ≡ Memory) ⊎ IsBadProblem p status) (IsBadSaid c.args.channel.now c.args.luns.now c.args.wants.now)
+    (λ status bad. elim bad [
+      | inl memory ↦ inl memory
+      | inr fault ↦ inr (p, said, fault)
+    ]) c.open.ensures.bad

@@ -1,6 +1,6 @@
 use Rattle.std.proofs.Common.{◌∙◌}
 use Rattle.onfi_c.specs.Said.{want_of}
-use Rattle.onfi_core.proofs.Mapped.{mapped_more, mapped_all}
+use Rattle.onfi_flight.proofs.Lists.{mapped_more, mapped_all}
 use Rattle.onfi_c.proofs.said.wants_of.Goals as goal
 
 pub loop-want-preserved : goal.loop-want-preserved

@@ -1,6 +1,6 @@
 use Rattle.std.proofs.Common.{◌∙◌, arith}
 use Rattle.onfi_c.specs.SaidSchedule.{group_of}
-use Rattle.onfi_core.proofs.Mapped.{mapped_more, mapped_all}
+use Rattle.onfi_flight.proofs.Lists.{mapped_more, mapped_all}
 use Rattle.onfi_c.proofs.said_schedule.groups_of.Goals as goal
 
 pub loop-group-preserved : goal.loop-group-preserved

@@ -1,5 +1,5 @@
 use Rattle.std.proofs.Common.{subst}
-use Rattle.onfi_known.specs.Within.{IsWithinTextFault}
+use Rattle.onfi_known_check.specs.Faults.{IsTextFault}
 use Rattle.onfi_c.proofs.Recalled.{is_shown}
 use Rattle.onfi_c.proofs.within.judge.Goals as goal
 
@@ -15,7 +15,7 @@ pub returns-in-Err-clause-refused : goal.returns-in-Err-clause-refused
 returns-in-Err-clause-refused c =
     let stand = c.args.stand.now in (
       c.in-Err.fault,
-      subst (λ all. IsWithinTextFault all stand.problem.problem stand.schedule c.args.below c.args.certificate.now c.in-Err.fault)
+      subst (λ all. IsTextFault all stand.problem.problem stand.schedule c.args.below c.args.certificate.now c.in-Err.fault)
           c.requires.begun c.in-Err.ensures.fault,
-      c.of_within.ensures,
+      c.of_known_text.ensures,
     )

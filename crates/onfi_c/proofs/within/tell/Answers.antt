@@ -4,6 +4,5 @@ use Rattle.onfi_c.proofs.within.tell.Goals as goal
 
 pub returns-clause-plan : goal.returns-clause-plan
 returns-clause-plan c =
-    let planned = c.in-Ok.planned in
-    let e = c.in-Ok.ensures in
-    planned_near (slack_in c.args.slack) c.args.limit c.args.problem.now.problem planned.schedule planned.finish planned.below planned.certificate.items c.legal_schedule-schedule.result e.plan e.finish c.legal_schedule-schedule.ensures
+    let spelled = rw (c.rules-strict.ensures, c.as_slice.ensures.value) at c.in-Ok-certificate_text.ensures in
+    planned_near (slack_in c.args.slack) c.args.limit c.args.problem.now.problem c.in-Ok.plan c.in-Ok-certificate_text.text.items c.legal_schedule-schedule.result c.in-Ok.ensures.plan spelled c.legal_schedule-schedule.ensures

@@ -5,7 +5,7 @@ use Rattle.onfi_request.specs.declared.request.Item.{Item}
 use Rattle.onfi_request.specs.declared.want.Want.{Want}
 use Rattle.onfi_core.specs.State.{want_of, wants_from}
 use Rattle.onfi_core.proofs.Lists.{take_next}
-use Rattle.onfi_lun.proofs.Steps.{get_of_or}
+use Rattle.onfi_lun.proofs.Places.{get_of_or}
 use Rattle.onfi_channel_tests.proofs.batch.wants_of.Goals as goal
 
 more_wants : (g : Geometry) (n : ℕ) (xs : List Item) (x : Item) → wants_from g n (xs ++ x ∷ []) ≡ wants_from g n xs ++ want_of g (n + length xs) x ∷ []

@@ -17,13 +17,13 @@ returns-clause-named c =
     sym (ap (λ p. spec.search_of p c.is_given-within.result) plain ∙ ap (λ w. spec.search_of (spec.given (codes "plain") rows) w) within) ∙ c.in_ok-search.ensures in
     let clock = rw first_value-rows at c.in_ok-clocked.ensures in
     let slacked = rw first_value-rows at c.in_ok-slack.ensures.value in
-    let planner : c.run_planner-planner.result ≡ spec.run_planner search (unwrap_or slack 0) =
-    c.run_planner-planner.ensures ∙ ap (λ n. spec.run_planner search n) c.unwrap_or.ensures in
+    let planner : c.run_planner.result ≡ spec.run_planner search (unwrap_or slack 0) =
+    c.run_planner.ensures ∙ ap (λ n. spec.run_planner search n) c.unwrap_or-slack.ensures in
     let named = rw first_value-rows at c.in_ok-limit.ensures.value in
     let usual = limit_named c.usual_of.result (first_of (codes "limit") rows) c.in_ok-limit.limit named in
     let limit = subst (λ n. spec.IsLimit c.usual_of.result (first_of (codes "limit") rows) n) (sym c.unwrap_or-limit.ensures) usual in (
       refl,
       clock,
       record { search = search; slack = slack; is_search = searched; is_slack = slacked; is_planner = planner },
-      subst (λ n. spec.IsLimit n (first_of (codes "limit") rows) c.unwrap_or-limit.result) c.usual_of.ensures.value limit,
+      subst (λ n. spec.IsLimit n (first_of (codes "limit") rows) c.unwrap_or-limit.result) (c.usual_of.ensures.value ∙ sym (ap spec.usual_of c.run_planner.ensures)) limit,
     )

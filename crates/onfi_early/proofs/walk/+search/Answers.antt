@@ -5,8 +5,8 @@ use Rattle.onfi_problem.specs.declared.moves.Move.TheVariants.{Next}
 use Rattle.onfi_problem.specs.Position.{Position, move_of}
 use Rattle.onfi_bound.proofs.BusWork.{work_after}
 use Rattle.onfi_planner.specs.Planning.{work}
-use Rattle.onfi_recall.specs.Steps.{IsStep}
-use Rattle.onfi_recall.proofs.Steps.{step_at}
+use Rattle.onfi_known_plan.specs.Steps.{IsStep}
+use Rattle.onfi_known_plan.proofs.Steps.{step_at}
 use Rattle.onfi_early.specs.Steps.{IsWalk}
 use Rattle.onfi_early.proofs.Found.{at_end, walk_moved}
 use Rattle.onfi_early.proofs.walk.+search.Goals as goal

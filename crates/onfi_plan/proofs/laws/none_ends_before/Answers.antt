@@ -3,5 +3,5 @@ use Rattle.onfi_plan.proofs.laws.none_ends_before.Goals as goal
 
 pub returns : goal.returns
 returns c cert below shown =
-    let limits = c.bus_free-limits.ensures.limits in
+    let limits = c.in_limits.ensures.limits in
     shown_below cert c.args.problem.now.all c.args.problem.now.problem below limits.problem limits.small shown

@@ -9,7 +9,7 @@ use Rattle.onfi_planner.specs.Planning.{run_of}
 use Rattle.onfi_planner.proofs.Halfway.{closed_by, open_node, steps_same}
 use Rattle.onfi_planner.proofs.Splitting.{closed_found, closed_opens, closed_parts, parts_all, parts_few, found_length, found_within, part_over, Split, split_made, split_found, split_opens, split_over, split_parts}
 use Rattle.onfi_planner.proofs.parts.search_parts.Given.{Over}
-use Rattle.onfi_planner.proofs.parts.search_parts.Goals.{In-Ok-search_each}
+use Rattle.onfi_planner.proofs.parts.search_parts.Goals.{In-Ok}
 use Rattle.onfi_planner.proofs.parts.search_parts.Goals as goal
 
 pub returns-then-is_some-clause-found : goal.returns-then-is_some-clause-found
@@ -26,7 +26,7 @@ search_each-requires-clause-moves g c = λ _ _.
     let x = c.args.root.now.problem in
     let items = c.as_slice.result.now in
     let are = steps_same x items _ c.as_slice.ensures.value c.steps-moves.ensures.moves in
-    let (yields, ay, parts) = c.in-Ok.ensures in
+    let (yields, ay, parts) = c.in_ok-parts.ensures in
     subst (All (λ m. IsMove x.problem (move_of x.groups m))) (sym (c.as_slice-2.ensures.value ∙ parts)) (parts_all _ yields items (All-map (move_of x.groups) (IsMove x.problem) items are.moves_only))
 
 pub search_each-requires-clause-named : goal.search_each-requires-clause-named
@@ -34,7 +34,7 @@ search_each-requires-clause-named g c = λ _ _.
     let x = c.args.root.now.problem in
     let items = c.as_slice.result.now in
     let named = subst (All (IsNamed x.groups)) (sym c.as_slice.ensures.value) c.steps-moves.ensures.named in
-    let (yields, ay, parts) = c.in-Ok.ensures in
+    let (yields, ay, parts) = c.in_ok-parts.ensures in
     subst (All (IsNamed x.groups)) (sym (c.as_slice-2.ensures.value ∙ parts)) (parts_all _ yields items named)
 
 pub returns-in-Err-Over-clause-over : goal.returns-in-Err-Over-clause-over
@@ -42,7 +42,7 @@ returns-in-Err-Over-clause-over g c = λ n e.
     let x = c.args.root.now.problem in
     let items = c.as_slice.result.now in
     let are = steps_same x items _ c.as_slice.ensures.value c.steps-moves.ensures.moves in
-    let (yields, ay, parts) = c.in-Ok.ensures in
+    let (yields, ay, parts) = c.in_ok-parts.ensures in
     let first = c.args.root.now.best in
     let moves = subst (All (λ m. IsMove x.problem (move_of x.groups m))) (sym (c.as_slice-2.ensures.value ∙ parts)) (parts_all _ yields items (All-map (move_of x.groups) (IsMove x.problem) items are.moves_only)) in
     let (m, has, over) = c.in-Err-Over.ensures.over c.in-Err-Over.field-0-is in
@@ -53,9 +53,9 @@ returns-in-Err-Over-clause-over g c = λ n e.
 pub first_best-opened-requires-clause-few : goal.first_best-opened-requires-clause-few
 first_best-opened-requires-clause-few g c =
     let x = c.args.root.now.problem in
-    let (yields, ay, parts) = c.in-Ok.ensures in
-    let found = c.in-Ok-search_each.found in
-    let long = found_length x c.args.root.now.best.finish c.args.limit c.as_slice-2.result.now found.items c.in-Ok-search_each.ensures.found in
+    let (yields, ay, parts) = c.in_ok-parts.ensures in
+    let found = c.in-Ok.found in
+    let long = found_length x c.args.root.now.best.finish c.args.limit c.as_slice-2.result.now found.items c.in-Ok.ensures.found in
     let same = ap length (c.as_slice-2.ensures.value ∙ parts) in
     let few = parts_few yields c.as_slice.result.now in
     let all = ap length c.as_slice.ensures.value in
@@ -64,36 +64,36 @@ first_best-opened-requires-clause-few g c =
 
 pub first_best-opened-requires-clause-small : goal.first_best-opened-requires-clause-small
 first_best-opened-requires-clause-small g c =
-    found_within c.args.root.now.problem c.args.root.now.best.finish c.args.limit 1048576 c.as_slice-2.result.now c.in-Ok-search_each.found.items c.requires.few c.in-Ok-search_each.ensures.found
+    found_within c.args.root.now.problem c.args.root.now.best.finish c.args.limit 1048576 c.as_slice-2.result.now c.in-Ok.found.items c.requires.few c.in-Ok.ensures.found
 
 -- the root, split into the parts that were searched
-split : (g : Over) (c : In-Ok-search_each g) → (yields : List (Option ℕ)) × Split c.args.root.now.problem c.as_slice.result.now yields c.args.root.now.best.finish c.args.limit (run_of c.args.root.now.problem.groups c.args.root.now.best.steps.items) c.in-Ok-search_each.found.items
+split : (g : Over) (c : In-Ok g) → (yields : List (Option ℕ)) × Split c.args.root.now.problem c.as_slice.result.now yields c.args.root.now.best.finish c.args.limit (run_of c.args.root.now.problem.groups c.args.root.now.best.steps.items) c.in-Ok.found.items
 split g c =
     let x = c.args.root.now.problem in
     let items = c.as_slice.result.now in
-    let (yields, ay, parts) = c.in-Ok.ensures in
+    let (yields, ay, parts) = c.in_ok-parts.ensures in
     let opens = open_node x c.args.root.now.best.finish c.closing_token.result _ (sym c.if-is_some.ensures) c.closing_token.ensures in
-    (yields, split_made x c.args.root.now items c.steps-moves.result c.as_slice-2.result.now c.in-Ok.parts.items yields c.args.limit c.in-Ok-search_each.found.items c.requires.root c.as_slice.ensures.value c.steps-moves.ensures.moves c.steps-moves.ensures.named ay opens c.as_slice-2.ensures.value parts c.in-Ok-search_each.ensures.found)
+    (yields, split_made x c.args.root.now items c.steps-moves.result c.as_slice-2.result.now c.in_ok-parts.parts.items yields c.args.limit c.in-Ok.found.items c.requires.root c.as_slice.ensures.value c.steps-moves.ensures.moves c.steps-moves.ensures.named ay opens c.as_slice-2.ensures.value parts c.in-Ok.ensures.found)
 
-pub returns-then-opened-gt-MOST_OPENED-clause-over : goal.returns-then-opened-gt-MOST_OPENED-clause-over
-returns-then-opened-gt-MOST_OPENED-clause-over g c = λ n e.
-    let (yields, split) = split g (goal.at.returns-then-opened-gt-MOST_OPENED-clause-over g c).In-Ok-search_each in
+pub returns-then-opened-gt-MOST-clause-over : goal.returns-then-opened-gt-MOST-clause-over
+returns-then-opened-gt-MOST-clause-over g c = λ n e.
+    let (yields, split) = split g (goal.at.returns-then-opened-gt-MOST-clause-over g c).In-Ok in
     let told : c.first_best-opened.result - 1 ≡ n = cc in
-    let more = c.if-opened-gt-MOST_OPENED.true in
-    inr (omega arith, split_over c.args.root.now.problem c.as_slice.result.now yields c.args.root.now.best.finish c.args.limit n c.first_best-opened.result _ c.in-Ok-search_each.found.items split c.first_best-opened.ensures.opened (omega arith))
+    let more = c.if-opened-gt-MOST.true in
+    inr (omega arith, split_over c.args.root.now.problem c.as_slice.result.now yields c.args.root.now.best.finish c.args.limit n c.first_best-opened.result _ c.in-Ok.found.items split c.first_best-opened.ensures.opened (omega arith))
 
 pub returns-clause-found : goal.returns-clause-found
 returns-clause-found g c =
-    let (yields, split) = split g (goal.at.returns-clause-found g c).In-Ok-search_each in
+    let (yields, split) = split g (goal.at.returns-clause-found g c).In-Ok in
     let best = c.first_best-opened.ensures in
-    split_found c.args.root.now.problem c.as_slice.result.now yields c.args.limit c.in-Ok-search_each.found.items c.args.root.now.best c.first_best-opened.new.best split c.requires.root.small best.sooner best.least best.one
+    split_found c.args.root.now.problem c.as_slice.result.now yields c.args.limit c.in-Ok.found.items c.args.root.now.best c.first_best-opened.new.best split c.requires.root.small best.sooner best.least best.one
 
 pub returns-clause-opened : goal.returns-clause-opened
 returns-clause-opened g c =
-    let (yields, split) = split g (goal.at.returns-clause-opened g c).In-Ok-search_each in
-    split_opens c.args.root.now.problem c.as_slice.result.now yields c.args.root.now.best.finish c.args.limit c.first_best-opened.new.best.finish c.first_best-opened.result _ c.in-Ok-search_each.found.items split c.first_best-opened.ensures.least c.first_best-opened.ensures.opened
+    let (yields, split) = split g (goal.at.returns-clause-opened g c).In-Ok in
+    split_opens c.args.root.now.problem c.as_slice.result.now yields c.args.root.now.best.finish c.args.limit c.first_best-opened.new.best.finish c.first_best-opened.result _ c.in-Ok.found.items split c.first_best-opened.ensures.least c.first_best-opened.ensures.opened
 
 pub returns-clause-parts : goal.returns-clause-parts
 returns-clause-parts g c =
-    let (yields, split) = split g (goal.at.returns-clause-parts g c).In-Ok-search_each in
-    split_parts c.args.root.now.problem c.as_slice.result.now yields c.args.root.now.best.finish c.args.limit c.first_best-opened.new.best.finish c.first_best-opened.result _ c.in-Ok-search_each.found.items split c.first_best-opened.ensures.least c.first_best-opened.ensures.opened
+    let (yields, split) = split g (goal.at.returns-clause-parts g c).In-Ok in
+    split_parts c.args.root.now.problem c.as_slice.result.now yields c.args.root.now.best.finish c.args.limit c.first_best-opened.new.best.finish c.first_best-opened.result _ c.in-Ok.found.items split c.first_best-opened.ensures.least c.first_best-opened.ensures.opened

@@ -1,4 +1,4 @@
-use Rattle.std.proofs.Common.{◌≡◌, true, false, length, get_or, arith, sym, ◌∙◌, subst, ap, refl, ◌<◌}
+use Rattle.std.proofs.Common.{◌≡◌, true, length, get_or, arith, sym, ◌∙◌, subst, ap, refl, ◌<◌}
 use Rattle.std.specs.Prelude.{◌==◌}
 use Rattle.std.specs.List.{AllByRecursion as All}
 use Rattle.std.proofs.lemmas.Bool.{eqb-true, false≢true}

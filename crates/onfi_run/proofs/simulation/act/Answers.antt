@@ -1,32 +1,21 @@
-use Rattle.std.proofs.Common.{◌∙◌, ap, map, sym, subst, take}
+use Rattle.std.proofs.Common.{◌∙◌, ap, map, sym}
 use Rattle.std.proofs.lemmas.Bool.{or_parts}
-use Rattle.onfi_run.specs.Arriving.{HaveCome}
-use Rattle.onfi_run.specs.Operations.{requests_on}
-use Rattle.onfi_run.specs.Sending.{HasSent}
-use Rattle.onfi_run.proofs.Sends.{all_still_sending, same_keys}
-use Rattle.onfi_run.proofs.Moments.{moment_then}
+use Rattle.onfi_run.proofs.Acting.{acts_collecting, acts_then}
 use Rattle.onfi_run.proofs.Resting.{stands_as}
+use Rattle.onfi_run.proofs.Sends.{same_keys}
 use Rattle.onfi_run.proofs.simulation.act.Goals as goal
 
 pub returns-clause-same : goal.returns-clause-same
 returns-clause-same g c =
     let was = c.pass_rows-passed.new.station in
-    same_keys was.ports.items c.collect_all-collected.new.self.ports.items c.collect_all-collected.ensures.same ∙ c.pass_rows-passed.ensures.same
+    same_keys was.ports.items c.collect_all-collected.new.self.ports.items c.collect_all-collected.ensures.same ∙ c.pass_rows-passed.ensures.acts.same
 
-pub returns-clause-sent : goal.returns-clause-sent
-returns-clause-sent g c sent =
-    let geometry = c.args.course.now.geometry.now in
-    let rows = c.args.course.now.rows.now in
-    let host = c.args.station.now.number in
+pub returns-clause-acts : goal.returns-clause-acts
+returns-clause-acts g c =
     let was = c.pass_rows-passed.new.station in
     let is = c.collect_all-collected.new.self in
-    let still = all_still_sending was.ports.items is.ports.items c.collect_all-collected.ensures.same (requests_on geometry (take was.passed rows) host) (c.pass_rows-passed.ensures.sent sent) in
-    subst (λ n. HasSent geometry (take n rows) host is.ports.items) (sym c.collect_all-collected.ensures.passed) still
-
-pub returns-clause-moments : goal.returns-clause-moments
-returns-clause-moments g c =
-    moment_then c.args.now c.args.station.now.ports.items c.pass_rows-passed.new.station.ports.items c.collect_all-collected.new.self.ports.items c.pass_rows-passed.ensures.moments
-    c.collect_all-collected.ensures.moments
+    let collected = c.collect_all-collected.ensures in
+    acts_then _ _ _ c.args.station.now was is c.pass_rows-passed.ensures.acts (acts_collecting _ _ _ was is collected.number collected.passed collected.same collected.moments)
 
 pub returns-clause-rests : goal.returns-clause-rests
 returns-clause-rests g c none =
@@ -36,12 +25,8 @@ returns-clause-rests g c none =
       stands.0,
       record {
         stands = stands_as c.args.now c.args.course.now.rows.now _ _ c.args.station.now.number _ c.args.station.now.passed _ c.args.station.now.ports.items _
-            (ap (λ ls. map (λ l. l.pace) ls.items) stands.0) (c.collect_all-collected.ensures.number ∙ c.pass_rows-passed.ensures.number)
+            (ap (λ ls. map (λ l. l.pace) ls.items) stands.0) (c.collect_all-collected.ensures.number ∙ c.pass_rows-passed.ensures.acts.number)
             (c.collect_all-collected.ensures.passed ∙ stands.2) (emptied.0 ∙ stands.1) stands.3;
         emptied = emptied.1;
       },
     )
-
-pub returns-clause-come : goal.returns-clause-come
-returns-clause-come g c come =
-    subst (λ n. HaveCome c.args.now (take n c.args.course.now.rows.now)) (sym c.collect_all-collected.ensures.passed) (c.pass_rows-passed.ensures.come come)

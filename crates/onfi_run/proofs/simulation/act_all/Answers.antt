@@ -1,30 +1,43 @@
-use Rattle.std.proofs.Common.{◌≡◌, ◌∙◌, length, map, sym, subst, arith}
+use Rattle.std.proofs.Common.{◌<◌, ◌∙◌, length, length-set, map, refl, set, sym, subst, take, arith}
+use Rattle.std.specs.List.{AllByRecursion as Each}
 use Rattle.std.proofs.lemmas.Bool.{or_parts}
+use Rattle.std.proofs.lemmas.List.{take_all, take_more_set}
 use Rattle.onfi_run.specs.Resting.{Rests}
-use Rattle.onfi_run.proofs.Moments.{four_moments}
-use Rattle.onfi_run.proofs.Resting.{each_set}
+use Rattle.onfi_run.proofs.ByHost.{each_longer}
+use Rattle.onfi_run.proofs.Moments.{all_moment_then, all_same_moment, one_moment, one_same}
 use Rattle.onfi_run.proofs.simulation.act_all.Goals as goal
+
+pub loop-host-init : goal.loop-host-init
+loop-host-init g c = (refl, refl, all_same_moment c.args.now c.args.stations.now, omega arith, λ none. (refl, tt))
+
+pub loop-host-preserved : goal.loop-host-preserved
+loop-host-preserved g c =
+    let now = c.args.now in
+    let rows = c.args.course.now.rows.now in
+    let xs = c.loop-host.stations in
+    let at = c.loop-host.host in
+    let old = c.index-stations-host.result in
+    let new = c.act-acted.new.station in
+    let acts = c.act-acted.ensures.acts in
+    let within : at < length xs = omega (arith, c.loop-host-test.true) in (
+      c.act-acted.ensures.lanes ∙ c.loop-host.invariant.0,
+      one_same xs at old new acts.same ∙ c.loop-host.invariant.1,
+      all_moment_then now c.args.stations.now xs (set xs at new) c.loop-host.invariant.2 (one_moment now xs at old new within acts.moments),
+      length-set xs at new ∙ c.loop-host.invariant.3,
+      λ none.
+          let both = or_parts c.loop-host.any c.act-acted.result (sym c.either-any.ensures ∙ none) in
+          let had = c.loop-host.invariant.4 both.0 in
+          let rests = c.act-acted.ensures.rests both.1 in
+          let same = rests.0 ∙ had.0 in
+          let resting = Rests now rows (map (λ l. l.pace) c.args.lanes.now.items) in
+          let here = subst (λ ls. Rests now rows (map (λ l. l.pace) ls.items) new) same rests.1 in
+          (same, subst (Each resting) (sym (take_more_set xs at new within)) (each_longer resting (take at xs) new had.1 here)),
+    )
 
 pub returns-clause-rest : goal.returns-clause-rest
 returns-clause-rest g c none =
     let rows = c.args.course.now.rows.now in
-    let both = or_parts c.either-front.result c.either-back.result (sym c.either.ensures ∙ none) in
-    let front = or_parts c.act-first.result c.act-second.result (sym c.either-front.ensures ∙ both.0) in
-    let back = or_parts c.act-third.result c.act-fourth.result (sym c.either-back.ensures ∙ both.1) in
-    let r0 = c.act-first.ensures.rests front.0 in
-    let r1 = c.act-second.ensures.rests front.1 in
-    let r2 = c.act-third.ensures.rests back.0 in
-    let r3 = c.act-fourth.ensures.rests back.1 in
-    let n : length c.args.stations.now ≡ 4 = omega arith in (
-      r3.0 ∙ r2.0 ∙ r1.0 ∙ r0.0,
-      each_set (Rests c.args.now rows (map (λ l. l.pace) c.act-fourth.new.lanes.items)) c.args.stations.now c.act-first.new.station c.act-second.new.station c.act-third.new.station c.act-fourth.new.station n
-          (subst (λ ls. Rests c.args.now rows (map (λ l. l.pace) ls.items) c.act-first.new.station) (sym (r3.0 ∙ r2.0 ∙ r1.0)) r0.1)
-          (subst (λ ls. Rests c.args.now rows (map (λ l. l.pace) ls.items) c.act-second.new.station) (sym (r3.0 ∙ r2.0)) r1.1)
-          (subst (λ ls. Rests c.args.now rows (map (λ l. l.pace) ls.items) c.act-third.new.station) (sym r3.0) r2.1) r3.1,
-    )
-
-pub returns-clause-moments : goal.returns-clause-moments
-returns-clause-moments g c =
-    four_moments c.args.now c.args.stations.now c.index-stations-0.result c.index-stations-1.result c.index-stations-2.result c.index-stations-3.result
-    c.act-first.new.station c.act-second.new.station c.act-third.new.station c.act-fourth.new.station (omega arith)
-    c.act-first.ensures.moments c.act-second.ensures.moments c.act-third.ensures.moments c.act-fourth.ensures.moments
+    let xs = c.loop-host.stations in
+    let had = c.loop-host.invariant.4 none in
+    let all = subst (Each (Rests c.args.now rows (map (λ l. l.pace) c.args.lanes.now.items))) (take_all c.loop-host.host xs (omega (arith, c.loop-host-test.false, c.loop-host.invariant.3))) had.1 in
+    (had.0, subst (λ ls. Each (Rests c.args.now rows (map (λ l. l.pace) ls.items)) xs) (sym had.0) all)

@@ -1,22 +1,22 @@
 use Rattle.std.proofs.Common.{◌≡◌, inr}
 use Rattle.std.proofs.lemmas.Result.{IfOk-weaker}
-use Rattle.onfi_script.specs.Answer.{AnswersCommand, IsAnswerBy, is_read, is_unread}
+use Rattle.onfi_script.specs.Answer.{AnswersCommand, IsAnswerBy, OneTells, is_read, is_unread}
 use Rattle.onfi_script.specs.AnswerOf.{answer_of}
 use Rattle.onfi_script.specs.Script.{plan_text_of}
 use Rattle.onfi_script.specs.Text.{refused}
 use Rattle.onfi_script.proofs.answering.answer.Goals as goal
 
 pub returns-in-Ok : goal.returns-in-Ok
-returns-in-Ok g c =
+returns-in-Ok c =
     let input = c.args.input.now in
     let p = c.in-Ok.script.problem.problem in
-    IfOk-weaker c.commanded.result (λ a. AnswersCommand g.S.Search.tells c.args.command (plan_text_of input) p (answer_of a))
-    (λ a. IsAnswerBy g.S.Search.tells c.args.command input (answer_of a))
+    IfOk-weaker c.commanded.result (λ a. AnswersCommand OneTells c.args.command (plan_text_of input) p (answer_of a))
+    (λ a. IsAnswerBy OneTells c.args.command input (answer_of a))
     (λ a h. inr (is_read p c.in-Ok.ensures.told h)) (rw c.plan_text_of.ensures at c.commanded.ensures)
 
 pub returns-in-Err-Refused : goal.returns-in-Err-Refused
-returns-in-Err-Refused g c =
+returns-in-Err-Refused c =
     let refusal = c.in-Err-Refused.refusal in
     let told = rw c.in-Err-Refused.field-0-is at c.in-Err-Refused.ensures.told in
-    IfOk-weaker c.refused.result (λ a. answer_of a ≡ refused refusal) (λ a. IsAnswerBy g.S.Search.tells c.args.command c.args.input.now (answer_of a))
+    IfOk-weaker c.refused.result (λ a. answer_of a ≡ refused refusal) (λ a. IsAnswerBy OneTells c.args.command c.args.input.now (answer_of a))
     (λ a h. inr (is_unread refusal told h)) (rw c.in-Err-Refused.field-0-is at c.refused.ensures)

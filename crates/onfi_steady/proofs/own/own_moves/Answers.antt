@@ -1,4 +1,4 @@
-use Rattle.std.proofs.Common.{◌≡◌, ◌∙◌, ◌<◌, length, sym, length-set, get_or, arith, Some, None}
+use Rattle.std.proofs.Common.{◌∙◌, ◌<◌, length, sym, length-set, get_or, arith, Some, None}
 use Rattle.onfi_problem.specs.declared.moves.Move.TheVariants.{Next}
 use Rattle.onfi_problem.specs.Starts.{IsNamed}
 use Rattle.onfi_problem.proofs.Lists.{all_at}

@@ -14,7 +14,7 @@ pub keeps_bus-requires : goal.keeps_bus-requires
 keeps_bus-requires c =
     let x = c.args.problem.now in
     let step = subst (λ z. IsMove x.problem (move_of x.groups z)) c.in-Next.is c.requires in
-    place_at x.problem x.groups c.luns.result.now c.in-Next.lun blank c.bus_free-limits.ensures.limits c.luns.ensures.states (next_within x.problem x.groups c.luns.result.now c.luns.ensures.states c.in-Next.lun step)
+    place_at x.problem x.groups c.luns.result.now c.in-Next.lun blank c.in_limits.ensures.limits c.luns.ensures.states (next_within x.problem x.groups c.luns.result.now c.luns.ensures.states c.in-Next.lun step)
 
 pub returns-in-Next : goal.returns-in-Next
 returns-in-Next c =

@@ -10,13 +10,13 @@ pub bounds-groups-state : goal.bounds-groups-state
 bounds-groups-state c =
     let x = c.args.problem.now in
     let blank : Lun = record { next = 0; place = 0; time = 0 } in
-    rw c.groups.ensures.value (next_place x.problem x.groups c.luns.result.now c.luns.ensures.states c.args.lun blank c.bus_free-limits.ensures.limits c.requires.step)
+    rw c.groups.ensures.value (next_place x.problem x.groups c.luns.result.now c.luns.ensures.states c.args.lun blank c.in_limits.ensures.limits c.requires.step)
 
 pub less_one-requires : goal.less_one-requires
 less_one-requires c =
     let x = c.args.problem.now in
     let blank : Lun = record { next = 0; place = 0; time = 0 } in
-    let lim = c.bus_free-limits.ensures.limits in
+    let lim = c.in_limits.ensures.limits in
     let here = next_place x.problem x.groups c.luns.result.now c.luns.ensures.states c.args.lun blank lim c.requires.step in
     let group = c.index-groups-state.result in
     let same = read_group x.groups _ group here (rw c.groups.ensures.value at c.index-groups-state.is) in
@@ -29,7 +29,7 @@ pub returns-then-state-len : goal.returns-then-state-len
 returns-then-state-len c = λ kind.
     let x = c.args.problem.now in
     let blank : Lun = record { next = 0; place = 0; time = 0 } in
-    let lim = c.bus_free-limits.ensures.limits in
+    let lim = c.in_limits.ensures.limits in
     let here = next_place x.problem x.groups c.luns.result.now c.luns.ensures.states c.args.lun blank lim c.requires.step in
     let group = c.index-groups-state.result in
     let same = read_group x.groups _ group here (rw c.groups.ensures.value at c.index-groups-state.is) in
@@ -39,7 +39,7 @@ pub returns-else-state-len : goal.returns-else-state-len
 returns-else-state-len c = λ kind.
     let x = c.args.problem.now in
     let blank : Lun = record { next = 0; place = 0; time = 0 } in
-    let lim = c.bus_free-limits.ensures.limits in
+    let lim = c.in_limits.ensures.limits in
     let here = next_place x.problem x.groups c.luns.result.now c.luns.ensures.states c.args.lun blank lim c.requires.step in
     let group = c.index-groups-state.result in
     let same = read_group x.groups _ group here (rw c.groups.ensures.value at c.index-groups-state.is) in

@@ -9,7 +9,7 @@ less_one-requires c =
     let x = c.args.problem.now in
     let g = slice_index_or x.groups c.args.place [] in
     let own : c.kind.result ≡ kind_of g = c.kind.ensures ∙ ap kind_of c.group.ensures in
-    let some = some_there c.kind.result (kind_of g) _ (commands_of x.problem c.kind.result) own (start_counts x.problem g c.kind.result c.bus_free-limits.ensures.limits.problem c.requires.step) in
+    let some = some_there c.kind.result (kind_of g) _ (commands_of x.problem c.kind.result) own (start_counts x.problem g c.kind.result c.in_limits.ensures.limits.problem c.requires.step) in
     let same = c.requires.counts c.kind.result in
     omega arith
 
@@ -18,4 +18,4 @@ returns c = λ kind.
     let x = c.args.problem.now in
     let g = slice_index_or x.groups c.args.place [] in
     let own : c.kind.result ≡ kind_of g = c.kind.ensures ∙ ap kind_of c.group.ensures in
-    one_left kind c.kind.result (kind_of g) _ _ _ _ own (c.less_one.ensures kind) (c.requires.counts kind) (start_counts x.problem g kind c.bus_free-limits.ensures.limits.problem c.requires.step)
+    one_left kind c.kind.result (kind_of g) _ _ _ _ own (c.less_one.ensures kind) (c.requires.counts kind) (start_counts x.problem g kind c.in_limits.ensures.limits.problem c.requires.step)

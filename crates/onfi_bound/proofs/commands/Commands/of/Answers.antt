@@ -11,7 +11,7 @@ pub with_lun-counts-requires-clause-place : goal.with_lun-counts-requires-clause
 with_lun-counts-requires-clause-place c =
     let x = c.args.problem.now in
     let blank : Lun = record { next = 0; place = 0; time = 0 } in
-    rw c.groups-groups.ensures.value (place_at x.problem x.groups c.luns-lun-items.result.now c.loop-lun.lun-index blank c.bus_free-limits.ensures.limits c.luns-lun-items.ensures.states c.loop-lun-test.true)
+    rw c.groups-groups.ensures.value (place_at x.problem x.groups c.luns-lun-items.result.now c.loop-lun.lun-index blank c.in_limits.ensures.limits c.luns-lun-items.ensures.states c.loop-lun-test.true)
 
 pub loop-lun-preserved : goal.loop-lun-preserved
 loop-lun-preserved c =

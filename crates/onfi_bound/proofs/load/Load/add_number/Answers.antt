@@ -10,7 +10,7 @@ pub add-requires-clause-want : goal.add-requires-clause-want
 add-requires-clause-want c =
     let long = ap length c.wants-wants.ensures.value in
     let waits = ap (waiting_of c.waiting.result.now) c.wants-wants.ensures.value ∙ c.waiting.ensures.value in
-    let legal = subst (All IsWant) (sym waits) c.bus_free-limits.ensures.limits.problem.wants in
+    let legal = subst (All IsWant) (sym waits) c.in_limits.ensures.limits.problem.wants in
     waits_at IsWant c.waiting.result.now c.wants-wants.result.now c.args.number no_want (omega arith) c.if-not-waits.false legal
 
 pub add-requires-clause-lun : goal.add-requires-clause-lun
@@ -18,7 +18,7 @@ add-requires-clause-lun c =
     let p = c.args.problem.now.problem in
     let long = ap length c.wants-wants.ensures.value in
     let waits = ap (waiting_of c.waiting.result.now) c.wants-wants.ensures.value ∙ c.waiting.ensures.value in
-    let there = subst (All (λ w. w.lun < length p.luns)) (sym waits) c.bus_free-limits.ensures.limits.problem.in_range in
+    let there = subst (All (λ w. w.lun < length p.luns)) (sym waits) c.in_limits.ensures.limits.problem.in_range in
     let h = waits_at (λ w. w.lun < length p.luns) c.waiting.result.now c.wants-wants.result.now c.args.number no_want (omega arith) c.if-not-waits.false there in
     omega arith
 

@@ -9,7 +9,7 @@ none = record { next = 0; place = 0; time = 0 }
 pub die-at-requires-clause-place : goal.die-at-requires-clause-place
 die-at-requires-clause-place c =
     let x = c.args.problem.now in
-    place_at x.problem x.groups c.luns-state-items.result.now c.loop-lun.lun none c.bus_free-limits.ensures.limits c.luns-state-items.ensures.states c.loop-lun-test.true
+    place_at x.problem x.groups c.luns-state-items.result.now c.loop-lun.lun none c.in_limits.ensures.limits c.luns-state-items.ensures.states c.loop-lun-test.true
 
 pub die-at-requires-clause-state : goal.die-at-requires-clause-state
 die-at-requires-clause-state c = state_at c.args.problem.now.groups c.luns-state-items.result.now c.args.problem.now.problem.luns c.loop-lun.lun none c.luns-state-items.ensures.states c.loop-lun-test.true

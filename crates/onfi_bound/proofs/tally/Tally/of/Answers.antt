@@ -13,7 +13,7 @@ none = record { next = 0; place = 0; time = 0 }
 pub add_lun-requires-clause-place : goal.add_lun-requires-clause-place
 add_lun-requires-clause-place c =
     let x = c.args.problem.now in
-    place_at x.problem x.groups c.luns-state-items.result.now c.loop-lun.lun none c.bus_free-limits.ensures.limits c.luns-state-items.ensures.states c.loop-lun-test.true
+    place_at x.problem x.groups c.luns-state-items.result.now c.loop-lun.lun none c.in_limits.ensures.limits c.luns-state-items.ensures.states c.loop-lun-test.true
 
 pub add_lun-requires-clause-state : goal.add_lun-requires-clause-state
 add_lun-requires-clause-state c = state_at c.args.problem.now.groups c.luns-state-items.result.now c.args.problem.now.problem.luns c.loop-lun.lun none c.luns-state-items.ensures.states c.loop-lun-test.true

@@ -3,4 +3,4 @@ use Rattle.onfi_check.specs.Tree.{ByBus, Closed}
 use Rattle.onfi_channel_tests.proofs.held.ModestPlanner.plan.Goals as goal
 
 pub returns-clause-shown : goal.returns-clause-shown
-returns-clause-shown c = (Closed ByBus, sym c.in-Ok.ensures.items, omega arith)
+returns-clause-shown c = (Closed ByBus, sym c.in_ok-tokens.ensures.items, omega arith)

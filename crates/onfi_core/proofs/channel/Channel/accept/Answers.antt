@@ -22,5 +22,5 @@ invariant_of-self-2 g c =
     let now : ChannelState = record { half = f.half.state; chip = g.C.Chip.state f.chip; sent = f.traffic.accepted; waiting = f.waiting.items; collected = f.traffic.posted } in
     let after : ChannelState = record now { half = accepting f.half.state c.in-Some.item; waiting = c.pop_front.new.self.items } in
     let reached = step_reaches f.half.setup now (event.Accept 0) (outcome.Accepted (length f.half.state.accepted)) after i.reached (accepts f.half.setup now after 0 c.in-Some.item c.pop_front.new.self.items c.in-None.ensures c.in-Some.ensures.items refl) in
-    let q = queues_same f.half.setup _ f.half.lent _ _ f.hosts.items now after i reached refl refl refl i.settled c.pop_front.ensures.capacity in
+    let q = queues_same f.half.setup _ f.half.lent _ _ f.hosts.items _ _ now after i reached i.lanes_are refl refl refl i.settled c.pop_front.ensures.capacity in
     rw c.accept.ensures.accepted q

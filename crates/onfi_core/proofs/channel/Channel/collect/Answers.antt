@@ -15,7 +15,7 @@ invariant_of-self g c =
     let queue = c.index_mut.result.now in
     let within : c.from-at.result < length f.hosts.items = omega (arith, c.if-at-len.false, c.len.ensures, f.hosts.ok.0) in
     let there = queue_there f.hosts.items c.from-at.result c.from-at.result queue within c.index_mut.ensures.value refl in
-    queues_kept f.half.setup _ _ _ _ f.hosts.items _ now now i i.reached i.settled refl c.from-at.result queue (record { sent = queue.sent; completions = c.pop_front.new.self }) there refl refl refl refl refl (sym c.in_default.ensures.items) c.pop_front.ensures.capacity
+    queues_kept f.half.setup _ _ _ _ f.hosts.items _ _ now now i i.reached i.lanes_are i.settled refl c.from-at.result queue (record { sent = queue.sent; completions = c.pop_front.new.self }) there refl refl refl refl refl (sym c.in_default.ensures.items) c.pop_front.ensures.capacity
 
 pub returns-in_default-clause-step : goal.returns-in_default-clause-step
 returns-in_default-clause-step g c channel =
@@ -49,7 +49,7 @@ invariant_of-self-2 g c =
     let after : ChannelState = record now { sent = c.collecting-self-inside.result.accepted; collected = c.collecting-self-inside.result.posted } in
     let step = step_does f.half.setup now (event.Collect 0 c.from-at.result) (outcome.Collected r) after (collect_open f.half.setup now c.from-at.result 0 known (omega arith)) (r, refl, at, same) in
     let reached = step_reaches f.half.setup now (event.Collect 0 c.from-at.result) (outcome.Collected r) after i.reached step in
-    queues_collected f.half.setup _ _ _ _ f.hosts.items _ now _ i reached i.settled refl c.from-at.result queue (record { sent = queue.sent; completions = c.pop_front.new.self }) there refl r (host_collected f.half.setup now c.from-at.result r at) e.0 refl e.2 refl c.in-Some.ensures.items c.pop_front.ensures.capacity
+    queues_collected f.half.setup _ _ _ _ f.hosts.items _ _ now _ i reached i.lanes_are i.settled refl c.from-at.result queue (record { sent = queue.sent; completions = c.pop_front.new.self }) there refl r (host_collected f.half.setup now c.from-at.result r at) e.0 refl e.2 refl c.in-Some.ensures.items c.pop_front.ensures.capacity
 
 pub returns-clause-step : goal.returns-clause-step
 returns-clause-step g c channel =

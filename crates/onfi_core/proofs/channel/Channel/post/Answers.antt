@@ -75,7 +75,7 @@ invariant_of-self-2 g c =
     let there' = queue_there f.hosts.items c.from-at.result c.from-at.result c.index_mut.result.now within c.index_mut.ensures.value refl in
     let setup = c.posted.ensures.setup ∙ ap (λ (v : HalfView). v.setup) lent in
     let p = ap (λ (h : HalfState). h.posted) goes.after in
-    rw setup (queues_posted f.half.setup _ c.posted.new.self.lent _ _ f.hosts.items _ now after i reached c.posted.ensures.settled refl c.from-at.result c.index_mut.result.now (record { sent = c.index_mut.result.now.sent; completions = c.push_back_reserved.new.self }) there' refl
+    rw setup (queues_posted f.half.setup _ c.posted.new.self.lent _ _ f.hosts.items _ _ now after i reached (λ going. i.lanes_are (sym (ap (λ (h : HalfState). h.stopped) goes.after) ∙ going)) c.posted.ensures.settled refl c.from-at.result c.index_mut.result.now (record { sent = c.index_mut.result.now.sent; completions = c.push_back_reserved.new.self }) there' refl
     r (goes.own ∙ sym c.from-at.ensures) refl p refl refl c.push_back_reserved.ensures.items c.push_back_reserved.ensures.capacity)
 
 pub returns-clause-step : goal.returns-clause-step

@@ -11,5 +11,5 @@ invariant_of-self g c =
     let i = c.self.invariant in
     let f = c.self.inside in
     let now : ChannelState = record { half = f.half.state; chip = g.C.Chip.state f.chip; sent = f.traffic.accepted; waiting = f.waiting.items; collected = f.traffic.posted } in
-    let q = queues_same f.half.setup _ f.half.lent _ (deque_capacity f.waiting) f.hosts.items now (with_batch c.args.batch now) i ((batch_reached f.half.setup now c.args.batch c.requires.some c.requires.few).1 i.reached) refl refl refl i.settled refl in
+    let q = queues_same f.half.setup _ f.half.lent _ (deque_capacity f.waiting) f.hosts.items _ _ now (with_batch c.args.batch now) i ((batch_reached f.half.setup now c.args.batch c.requires.some c.requires.few).1 i.reached) i.lanes_are refl refl refl i.settled refl in
     rw c.set_batch.ensures q

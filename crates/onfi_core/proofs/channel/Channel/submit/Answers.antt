@@ -60,7 +60,7 @@ invariant_of-self g c =
     let reached = step_reaches f.half.setup now (event.Submit c.args.host 0 c.args.request) (outcome.Submitted serial) after i.reached (step 0) in
     let queue = c.index_mut.result.now in
     let there' = queue_there f.hosts.items c.from-at.result c.from-at.result queue within c.index_mut.ensures.value refl in
-    queues_sent f.half.setup _ _ _ _ f.hosts.items _ now after i reached i.settled c.push_back_reserved.ensures.capacity c.from-at.result queue (record { sent = queue.sent + 1; completions = queue.completions }) there' refl
+    queues_sent f.half.setup _ _ _ _ f.hosts.items _ _ now after i reached i.lanes_are i.settled c.push_back_reserved.ensures.capacity c.from-at.result queue (record { sent = queue.sent + 1; completions = queue.completions }) there' refl
     (record { host = c.args.host; serial = serial; request = c.args.request }) (sym c.from-at.ensures) e.0 refl e.2 refl refl
 
 pub returns-clause-step : goal.returns-clause-step

@@ -21,7 +21,7 @@ loop-at-preserved c =
     let i = c.self.invariant in
     let there = subst (λ p. slice_get c.self.inside.history.accepted p ≡ Some e.1.item) e.3 (i.slots_are.items e.0 e.1 e.2) in
     let there' = subst (λ x. slice_get c.self.inside.history.accepted (c.self.inside.planned + c.loop-at.at) ≡ Some x) (sym e.4) there in
-    c.push.ensures.items ∙ ap (λ w. c.loop-at.wants.items ++ w ∷ []) c.want_of.ensures ∙ takes_one c.self.inside.setup.geometry c.self.inside.history.accepted c.self.inside.planned c.loop-at.at c.item_of.result.now c.loop-at.wants.items c.self.inside.wants.items there' c.loop-at.invariant
+    c.push.ensures.items ∙ ap (λ w. c.loop-at.wants.items ++ w ∷ []) c.want_of.ensures ∙ takes_one c.self.inside.setup.geometry c.self.inside.history.accepted c.self.inside.planned c.loop-at.at c.item_of.result.now c.loop-at.wants.items c.self.inside.flight.now.wants there' c.loop-at.invariant
 
 pub returns : goal.returns
 returns c =
@@ -32,8 +32,8 @@ returns c =
     let l = length_wants c.self.inside.setup.geometry c.self.inside.planned (drop c.self.inside.planned c.self.inside.history.accepted) in
     let d = length-drop c.self.inside.planned c.self.inside.history.accepted in
     let n = i.count in
-    let room = c.self.inside.batch - length c.self.inside.wants.items in
+    let room = c.self.inside.batch - length c.self.inside.flight.now.wants in
     let low : c.loop-at.at ≤ room = grind arith in
     let either : (c.loop-at.at ≡ room) ⊎ (length U ≤ c.loop-at.at) = grind arith in
     let P = λ (h : HalfView). c.loop-at.wants.items ≡ h.state.now.wants ++ taken_next h.setup h.state in
-    subst P c.self.view_is (c.loop-at.invariant ∙ ap (λ zs. c.self.inside.wants.items ++ zs) (takes_all c.loop-at.at room U low either ∙ ap (λ (xs : List Want). take room (xs ++ U)) (sym empty)))
+    subst P c.self.view_is (c.loop-at.invariant ∙ ap (λ zs. c.self.inside.flight.now.wants ++ zs) (takes_all c.loop-at.at room U low either ∙ ap (λ (xs : List Want). take room (xs ++ U)) (sym empty)))

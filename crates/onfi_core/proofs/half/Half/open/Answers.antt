@@ -4,11 +4,5 @@ use Rattle.onfi_core.proofs.half.Half.open.Goals as goal
 
 pub invariant_of-result : goal.invariant_of-result
 invariant_of-result c =
-    let n = c.new-4.ensures in
-    let l = c.in_ok-luns.ensures in
-    let r = c.no_starts-rest.ensures in
-    let a = c.new.ensures.items in
-    let w = c.new-2.ensures in
-    let g = c.new_in.ensures in
-    let s = c.new-3.ensures in
-    fields_opened _ _ _ _ _ _ c.in_ok-slots.ensures.empty c.in_ok-slots.ensures.capacity c.in_ok-held.ensures.capacity c.in_ok-held.ensures.items n.3 (rw (n.0, n.1, n.2, l, s.rest, r, c.from.ensures, a, w, s.groups, g) refl)
+    let n = c.new-2.ensures in
+    fields_opened _ _ _ _ _ _ c.in_ok-slots.ensures.empty c.in_ok-slots.ensures.capacity c.in_ok-held.ensures.capacity c.in_ok-held.ensures.items n.3 (rw (n.0, n.1, n.2, c.idle.ensures, c.new.ensures.items) refl)

@@ -12,7 +12,7 @@ use Rattle.onfi_core.proofs.Plan.{keeps_taken, parts_are}
 use Rattle.onfi_core.proofs.Next.{taken_goes_on, taken_stops}
 use Rattle.onfi_core.proofs.Running.{clock_stops}
 use Rattle.onfi_core.proofs.half.Half.plan_by.Given.{Over as AtTypes}
-use Rattle.onfi_core.proofs.half.Half.plan_by.Goals.{After-as_slice-2}
+use Rattle.onfi_core.proofs.half.Half.plan_by.Goals.{After-as_slice}
 use Rattle.onfi_core.proofs.half.Half.plan_by.Goals as goal
 
 -- the planning goes on: the channel isn't stopped, and something is to be planned
@@ -38,12 +38,12 @@ stays v taken p Memory on takes e why n =
     (taken_goes_on v.setup v.state taken on.going on.some takes (subst ends_in_time e why), refl)
 
 -- the problem of these parts is that of what is taken
-problem_is : (g : AtTypes) (c : After-as_slice-2 g)
-    → problem_of c.self.inside.setup.timing c.self.inside.setup.rules c.self.inside.bus_free c.as_slice.result.now c.as_slice-2.result.now
+problem_is : (g : AtTypes) (c : After-as_slice g)
+    → problem_of c.self.inside.setup.timing c.self.inside.setup.rules c.bus_free.result c.luns.result.now c.as_slice.result.now
     ≡ problem_with c.args.self.now.state c.in-Ok.taking.wants.items
 problem_is g c =
-    parts_are c.self.inside.setup _ c.self.invariant.sound c.as_slice.result.now c.as_slice-2.result.now c.in-Ok.taking.wants.items c.as_slice.ensures.value
-    c.as_slice-2.ensures.value ∙ ap (λ (x : HalfView). problem_with x.state c.in-Ok.taking.wants.items) c.self.view_is
+    parts_are c.self.inside.setup _ c.self.invariant.sound c.bus_free.result c.luns.result.now c.as_slice.result.now c.in-Ok.taking.wants.items c.bus_free.ensures c.luns.ensures.value
+    c.as_slice.ensures.value ∙ ap (λ (x : HalfView). problem_with x.state c.in-Ok.taking.wants.items) c.self.view_is
 
 pub plan_wants-next-requires-clause-problem : goal.plan_wants-next-requires-clause-problem
 plan_wants-next-requires-clause-problem g c =
@@ -53,7 +53,7 @@ plan_wants-next-requires-clause-problem g c =
 
 pub take_over-requires-clause-plans : goal.take_over-requires-clause-plans
 take_over-requires-clause-plans g c =
-    let e = problem_is g (goal.at.take_over-requires-clause-plans g c).After-as_slice-2 in
+    let e = problem_is g (goal.at.take_over-requires-clause-plans g c).After-as_slice in
     let o = c.in-Ok-next.ensures in
     record { tries = record { takes = c.in-Ok.ensures.takes; in_time = subst ends_in_time e o.in_time }; problem = o.problem ∙ e; planned = o.planned }
 
@@ -61,7 +61,7 @@ pub returns-in-Ok-next-clause-planned : goal.returns-in-Ok-next-clause-planned
 returns-in-Ok-next-clause-planned g c =
     let v = c.args.self.now in
     let taken = taken_of c.in-Ok.taking in
-    let e = problem_is g (goal.at.returns-in-Ok-next-clause-planned g c).After-as_slice-2 in
+    let e = problem_is g (goal.at.returns-in-Ok-next-clause-planned g c).After-as_slice in
     let o = c.in-Ok-next.ensures in
     let low = subst ends_in_time e o.in_time in
     let plan = planning_of c.in-Ok-next.next.batch in
@@ -73,10 +73,10 @@ returns-in-Ok-next-clause-planned g c =
 pub returns-in-Clock-clause-refused : goal.returns-in-Clock-clause-refused
 returns-in-Clock-clause-refused g c =
     let v = c.args.self.now in
-    let e = problem_is g (goal.at.returns-in-Clock-clause-refused g c).After-as_slice-2 in
+    let e = problem_is g (goal.at.returns-in-Clock-clause-refused g c).After-as_slice in
     let going : c.self.inside.stopped ≡ None = cc in
     let on = goes_on _ v c.nothing_to_plan.result c.self.view_is going c.if-nothing_to_plan.false c.nothing_to_plan.ensures in
-    let p = problem_of c.self.inside.setup.timing c.self.inside.setup.rules c.self.inside.bus_free c.as_slice.result.now c.as_slice-2.result.now in
+    let p = problem_of c.self.inside.setup.timing c.self.inside.setup.rules c.bus_free.result c.luns.result.now c.as_slice.result.now in
     let high : 2 ^ 62 ≤ horizon p = subst (StopsBecause p c.self.inside.setup.limit) c.in-Clock.is c.in-Err.ensures.stop in
     clock_stops _ _ _ c.self.view_is
     (taken_stops v.setup v.state (taken_of c.in-Ok.taking) on.going on.some c.in-Ok.ensures.takes (subst (λ (q : Problem). 2 ^ 62 ≤ horizon q) e high))
@@ -84,10 +84,10 @@ returns-in-Clock-clause-refused g c =
 pub returns : goal.returns
 returns g c =
     let v = c.args.self.now in
-    let e = problem_is g (goal.at.returns g c).After-as_slice-2 in
+    let e = problem_is g (goal.at.returns g c).After-as_slice in
     let going : c.self.inside.stopped ≡ None = cc in
     let on = goes_on _ v c.nothing_to_plan.result c.self.view_is going c.if-nothing_to_plan.false c.nothing_to_plan.ensures in
-    let p = problem_of c.self.inside.setup.timing c.self.inside.setup.rules c.self.inside.bus_free c.as_slice.result.now c.as_slice-2.result.now in
+    let p = problem_of c.self.inside.setup.timing c.self.inside.setup.rules c.bus_free.result c.luns.result.now c.as_slice.result.now in
     let why = subst (λ (x : HalfView). StopsBecause p x.setup.limit c.in-Err.stop) c.self.view_is c.in-Err.ensures.stop in
     let refused = stays v (taken_of c.in-Ok.taking) p c.in-Err.stop on c.in-Ok.ensures.takes e why c.in_default-stop.not-Clock in
     record {

@@ -26,7 +26,7 @@ returns c =
     let v = c.args.self.now in
     let i = c.self.invariant in
     let a = c.len.result in
-    let b = c.len-2.result in
+    let b = length c.wants.result.now in
     in_order v c.next_wants-wants.result.items _ (c.self.inside.planned + (a - b)) a b (subst (λ (x : HalfView). IsSound x.setup x.state) c.self.view_is i.sound)
     c.requires.in_order c.next_wants-wants.ensures (ap (λ (x : HalfView). x.state.planned + (a - b)) c.self.view_is)
-    c.len.ensures.value (c.len-2.ensures.value ∙ ap (λ (x : HalfView). length x.state.now.wants) c.self.view_is) c.new.ensures.items
+    c.len.ensures.value (ap length c.wants.ensures.value ∙ ap (λ (x : HalfView). length x.state.now.wants) c.self.view_is) c.new.ensures.items

@@ -10,9 +10,9 @@ pub returns : goal.returns
 returns c =
     let i = c.self.invariant in
     let old = c.args.self.now in
-    let few = c.if-len-from.false in
+    let few = c.if-wants-from.false in
     let none = eqb-true (vec_len c.self.inside.aside) 0 (sym c.is_empty.ensures ∙ c.if-not-is_empty.false) in
-    let here : length c.self.inside.wants.items < c.self.inside.batch = omega (arith, few, c.len.ensures.value, c.from.ensures) in
+    let here : length c.self.inside.flight.now.wants < c.self.inside.batch = (let w = ap length c.wants.ensures.value in omega (arith, few, w, c.from.ensures)) in
     let empty : length c.self.inside.aside.items ≡ 0 = omega (arith, none, c.self.inside.aside.ok.0) in
     let room = subst (λ (v : HalfView). length v.state.now.wants < v.state.batch) c.self.view_is here in
     let nothing = subst (λ (v : HalfView). length v.state.aside ≡ 0) c.self.view_is empty in

@@ -17,5 +17,5 @@ returns-clause-some c =
     let time : c.saturating_sub-time.result ≡ c.args.e - (window p w.start w.tail + w.tail) = omega arith in
     let few : c.saturating_sub-time.result < 2 ^ 64 = omega arith in (
       record { some = omega arith; reaches = omega arith },
-      window_kept p c.args.e c.saturating_sub-time.result w c.of-sight.result c.times-luns.result _ c.bus_free-limits.ensures.limits.problem sight time few refl refl c.times-luns.ensures,
+      window_kept p c.args.e c.saturating_sub-time.result w c.of-sight.result c.times-luns.result _ c.in_limits.ensures.limits.problem sight time few refl refl c.times-luns.ensures,
     )

@@ -1,7 +1,7 @@
 use Rattle.std.proofs.Common.{◌≡◌, ◌<◌, length, Some, IfErr, sym, ap, subst, ◌∙◌, arith}
 use Rattle.std.specs.Prelude.{slice_get, slice_set}
 use Rattle.onfi_lun.specs.Lanes.{LanesAgree, OthersKept}
-use Rattle.onfi_lun.proofs.Steps.{get_of_or}
+use Rattle.onfi_lun.proofs.Places.{get_of_or}
 use Rattle.onfi_lun.proofs.LunMoves.{command_agrees, others_kept, put_back, takes_within}
 use Rattle.onfi_lun.proofs.lanes.Lanes.command.Goals as goal
 

@@ -4,7 +4,7 @@ use Rattle.onfi_addr.specs.declared.place.Place.{Place}
 use Rattle.onfi_addr.specs.Rows.{row_of}
 use Rattle.onfi_problem.proofs.Places.{within_get}
 use Rattle.onfi_lun.specs.Lanes.{LanesAgree, OthersKept}
-use Rattle.onfi_lun.proofs.Steps.{get_of_or}
+use Rattle.onfi_lun.proofs.Places.{get_of_or}
 use Rattle.onfi_lun.proofs.LunMoves.{others_kept, post_agrees}
 use Rattle.onfi_lun.proofs.lanes.Lanes.post.Goals as goal
 

@@ -5,10 +5,10 @@ use Rattle.onfi_run.specs.Keys.{is_behind, is_sent}
 use Rattle.onfi_run.proofs.port.Port.submit.Goals as goal
 
 pub returns-then-self-clause-submits : goal.returns-then-self-clause-submits
-returns-then-self-clause-submits g c = is_behind c.if-self.true refl
+returns-then-self-clause-submits g c made = is_behind c.if-self.true refl
 
 pub returns-in-Ok-clause-submits : goal.returns-in-Ok-clause-submits
-returns-in-Ok-clause-submits g c =
+returns-in-Ok-clause-submits g c made =
     let old = c.args.self.now in
     is_sent c.if-self.false
     (ap (λ h. record old { host = h; answers = c.send.new.self }) c.in-Ok.ensures.sent

@@ -1,72 +1,49 @@
 use Rattle.std.proofs.Common.{◌≡◌, ap, sym, ◌∙◌, subst, None}
 use Rattle.onfi_chip.specs.Chip.{Chip}
-use Rattle.onfi_core.specs.declared.event.Event.TheVariants as event
-use Rattle.onfi_core.specs.declared.outcome.Outcome.TheVariants as outcome
-use Rattle.onfi_core.specs.declared.setup.Setup.{Setup}
-use Rattle.onfi_core.specs.Drive.{HasRun}
 use Rattle.onfi_core.specs.Dues.{IsDue}
+use Rattle.onfi_core.specs.Refusals.{phase_outcome}
 use Rattle.onfi_core.specs.State.{quiet}
-use Rattle.onfi_core.specs.Steps.{IsPromised, Step, bus_refusal}
-use Rattle.onfi_core.specs.View.{HalfView}
-use Rattle.onfi_seq.specs.Driver.{DriverFields}
-use Rattle.onfi_seq.proofs.Driving.{driven_ran, driven_stopped, may_run_here, outside, ran_phase, stopped_phase, within}
+use Rattle.onfi_core.specs.Steps.{IsPromised, bus_refusal}
+use Rattle.onfi_core.proofs.Reaching.{events_reach}
+use Rattle.onfi_core.proofs.Running.{going_on}
+use Rattle.onfi_seq.specs.Driver.{DriverFields, IsAt, RanTo, ran_of}
+use Rattle.onfi_seq.specs.declared.ran.Ran.{Ran}
+use Rattle.onfi_seq.proofs.Driving.{driven_ran, is_at, outside, phase_step, ran_to, same_quiet, within}
 use Rattle.onfi_seq.proofs.driver.Driver.run_due.Goals as goal
 
-pub run_due-requires-clause-due : goal.run_due-requires-clause-due
-run_due-requires-clause-due g c =
-    let i = c.self.invariant in
+pub run_due-came-requires-clause-sound : goal.run_due-came-requires-clause-sound
+run_due-came-requires-clause-sound g c = (events_reach c.self.inside.half.setup _ c.self.invariant.reached).half.sound
+
+pub run_due-came-requires-clause-agree : goal.run_due-came-requires-clause-agree
+run_due-came-requires-clause-agree g c =
     let f = c.self.inside in
-    let chip = g.C.Chip.state f.chip in
-    let is = within (λ (v : DriverFields). IsDue v.half c.args.due) _ _ c.self.view_is c.requires.due in
     let open' = within (λ (v : DriverFields). bus_refusal v.half ≡ None) _ _ c.self.view_is c.requires.open in
-    may_run_here f.half.setup f.half.state chip i.reached c.args.due is open' c.member-item.result.now c.member-item.ensures (record { geometry = c.setup-setup.result.geometry; timing = c.setup-setup.result.timing }) (ap (λ (s : Setup). s.geometry) (sym c.setup-setup.ensures)) (ap (λ (s : Setup). s.timing) (sym c.setup-setup.ensures)) c.requires.time
+    (events_reach f.half.setup _ c.self.invariant.reached).chip (going_on f.half.state open')
+
+pub run_due-came-requires-clause-lanes : goal.run_due-came-requires-clause-lanes
+run_due-came-requires-clause-lanes g c =
+    let f = c.self.inside in
+    let open' = within (λ (v : DriverFields). bus_refusal v.half ≡ None) _ _ c.self.view_is c.requires.open in
+    c.self.invariant.lanes_are (going_on f.half.state open')
 
 pub invariant_of-self : goal.invariant_of-self
 invariant_of-self g c =
-    let i = c.self.invariant in
     let f = c.self.inside in
-    let chip = g.C.Chip.state f.chip in
-    let is = within (λ (v : DriverFields). IsDue v.half c.args.due) _ _ c.self.view_is c.requires.due in
-    let open' = within (λ (v : DriverFields). bus_refusal v.half ≡ None) _ _ c.self.view_is c.requires.open in
-    let ran : HasRun chip f.half.setup.geometry c.args.due c.member-item.result.now c.in-Ok.ran (g.C.Chip.state c.run_due.new.chip) = subst (λ (s : Setup). HasRun chip s.geometry c.args.due c.member-item.result.now c.in-Ok.ran (g.C.Chip.state c.run_due.new.chip)) c.setup-setup.ensures c.in-Ok.ensures.ran in
-    let after = ap (λ (v : HalfView). v.state) c.done.ensures.done in
-    let lent = ap (λ (v : HalfView). v.lent) c.done.ensures.done ∙ i.settled in
-    let setup = ap (λ (v : HalfView). v.setup) c.done.ensures.done in
-    rw setup (driven_ran f.half.setup f.half.state chip i.reached c.args.due is open' c.member-item.result.now c.member-item.ensures (IsPromised g.P.Planner.exact g.P.Planner.certifies) c.done.new.self.lent (g.C.Chip.state c.run_due.new.chip) c.run_due.new.self c.in-Ok.ran c.done.new.self.state ran after lent c.in-Ok.ensures.agree i.last)
+    let e = c.run_due-came.ensures in
+    driven_ran (IsPromised g.P.Planner.exact g.P.Planner.certifies) f.half c.run_due-came.new.half (g.C.Chip.state f.chip) (g.C.Chip.state c.run_due-came.new.chip) f.lanes c.run_due-came.new.lanes
+    (phase_outcome c.run_due-came.result) e.kept e.step e.lanes c.self.invariant
 
-pub returns-in-Ok-clause-ran : goal.returns-in-Ok-clause-ran
-returns-in-Ok-clause-ran g c channel =
-    let i = c.self.invariant in
+pub returns-clause-ran : goal.returns-clause-ran
+returns-clause-ran g c =
     let f = c.self.inside in
+    let e = c.run_due-came.ensures in
+    let new = c.run_due-came.new.half in
     let chip = g.C.Chip.state f.chip in
-    let is = within (λ (v : DriverFields). IsDue v.half c.args.due) _ _ c.self.view_is c.requires.due in
-    let open' = within (λ (v : DriverFields). bus_refusal v.half ≡ None) _ _ c.self.view_is c.requires.open in
-    let ran : HasRun chip f.half.setup.geometry c.args.due c.member-item.result.now c.in-Ok.ran (g.C.Chip.state c.run_due.new.chip) = subst (λ (s : Setup). HasRun chip s.geometry c.args.due c.member-item.result.now c.in-Ok.ran (g.C.Chip.state c.run_due.new.chip)) c.setup-setup.ensures c.in-Ok.ensures.ran in
-    let after = ap (λ (v : HalfView). v.state) c.done.ensures.done in
-    let step = ran_phase f.half.setup f.half.state chip i.reached c.args.due is open' c.member-item.result.now c.member-item.ensures channel (g.C.Chip.state c.run_due.new.chip) c.in-Ok.ran c.done.new.self.state ran after in
-    outside g.C.Chip.state (λ (v : DriverFields) (old : Chip). Step v.setup (quiet v.half old) (event.Bus channel) (outcome.Phase c.args.due.start) (quiet c.done.new.self.state (g.C.Chip.state c.run_due.new.chip))) _ _ c.self.view_is step
+    let chip' = g.C.Chip.state c.run_due-came.new.chip in
+    let to = ran_to f.half.setup (quiet f.half.state chip) (quiet new.state chip') c.run_due-came.result (λ channel. phase_step f.half new chip chip' channel (phase_outcome c.run_due-came.result) e.kept e.step)
+    (same_quiet f.half new chip chip' c.run_due-came.result e.kept e.memory) in
+    let told = subst (λ (x : Ran). RanTo f.half.setup (quiet f.half.state chip) x (quiet new.state chip')) (sym c.ran_of.ensures) to in
+    outside g.C.Chip.state (λ (v : DriverFields) (old : Chip). RanTo v.setup (quiet v.half old) c.ran_of.result (quiet new.state chip')) _ _ c.self.view_is told
 
-pub invariant_of-self-in-Some : goal.invariant_of-self-in-Some
-invariant_of-self-in-Some g c =
-    let i = c.self.invariant in
-    let f = c.self.inside in
-    let chip = g.C.Chip.state f.chip in
-    let is = within (λ (v : DriverFields). IsDue v.half c.args.due) _ _ c.self.view_is c.requires.due in
-    let open' = within (λ (v : DriverFields). bus_refusal v.half ≡ None) _ _ c.self.view_is c.requires.open in
-    let stops = sym c.cause_of.ensures ∙ c.in-Some.is in
-    let after = ap (λ (v : HalfView). v.state) c.stop.ensures in
-    let lent = ap (λ (v : HalfView). v.lent) c.stop.ensures ∙ i.settled in
-    let setup = ap (λ (v : HalfView). v.setup) c.stop.ensures in
-    rw setup (driven_stopped f.half.setup f.half.state chip i.reached c.args.due is open' c.member-item.result.now c.member-item.ensures (IsPromised g.P.Planner.exact g.P.Planner.certifies) c.stop.new.self.lent (g.C.Chip.state c.run_due.new.chip) c.run_due.new.self c.in-Err.fault c.in-Some.cause c.stop.new.self.state stops c.in-Err.ensures.not_ready c.in-Err.ensures.err after lent i.last)
-
-pub returns-in-Some-clause-ran : goal.returns-in-Some-clause-ran
-returns-in-Some-clause-ran g c channel =
-    let i = c.self.invariant in
-    let f = c.self.inside in
-    let chip = g.C.Chip.state f.chip in
-    let is = within (λ (v : DriverFields). IsDue v.half c.args.due) _ _ c.self.view_is c.requires.due in
-    let open' = within (λ (v : DriverFields). bus_refusal v.half ≡ None) _ _ c.self.view_is c.requires.open in
-    let stops = sym c.cause_of.ensures ∙ c.in-Some.is in
-    let after = ap (λ (v : HalfView). v.state) c.stop.ensures in
-    let step = stopped_phase f.half.setup f.half.state chip i.reached c.args.due is open' c.member-item.result.now c.member-item.ensures channel c.in-Err.fault c.in-Some.cause (g.C.Chip.state c.run_due.new.chip) c.stop.new.self.state stops c.in-Err.ensures.not_ready c.in-Err.ensures.err after in
-    outside g.C.Chip.state (λ (v : DriverFields) (old : Chip). Step v.setup (quiet v.half old) (event.Bus channel) (outcome.Stopped c.in-Some.cause) (quiet c.stop.new.self.state (g.C.Chip.state c.run_due.new.chip))) _ _ c.self.view_is step
+pub returns-clause-start : goal.returns-clause-start
+returns-clause-start g c = subst (IsAt c.args.due.start) (sym c.ran_of.ensures) (is_at c.args.due.start c.run_due-came.result c.run_due-came.ensures.start)

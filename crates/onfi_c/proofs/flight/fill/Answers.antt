@@ -1,0 +1,40 @@
+use Rattle.std.proofs.Common.{refl, rules, sym, ◌∙◌, subst}
+use Rattle.onfi_problem.specs.Kept.{problem_of}
+use Rattle.onfi_problem.specs.Left.{InLimits}
+use Rattle.onfi_problem.specs.Problem.{Problem}
+use Rattle.onfi_c.specs.Flights.{is_bad, is_no_problem}
+use Rattle.onfi_c.specs.Refused.{IsBadProblem}
+use Rattle.onfi_c.specs.Said.{AreRules, IsSaid, IsTiming}
+use Rattle.onfi_c.proofs.Standing.{fault_told}
+use Rattle.onfi_c.proofs.flight.fill.Goals as goal
+
+pub returns-in-Some-clause-none : goal.returns-in-Some-clause-none
+returns-in-Some-clause-none c =
+    let channel = c.args.channel.now in
+    let f = c.set_luns.new.flight in
+    let e = c.set_luns.ensures in
+    let p : Problem = problem_of f.now.timing f.now.rules f.now.bus_free f.now.luns c.as_slice.result.now in
+    let said : IsSaid channel c.args.luns.now c.args.wants.now p = record {
+      timing = subst (IsTiming channel.timing) (sym e.timing) c.requires.timing;
+      rules = subst (AreRules channel.rules) (sym e.rules) c.requires.rules;
+      bus_free = e.bus_free ∙ c.requires.bus_free;
+      states = e.luns;
+      requests = c.as_slice.ensures.value ∙ c.few_wants_of-wants.ensures;
+    } in
+    is_no_problem c.requires.said (p, said, subst (IsBadProblem p) (sym c.of_problem.ensures) (fault_told p c.in-Some.fault c.in-Some.ensures))
+
+pub returns-then-is_bad_schedule-clause-none : goal.returns-then-is_bad_schedule-clause-none
+returns-then-is_bad_schedule-clause-none c =
+    let channel = c.args.channel.now in
+    let f = c.set_luns.new.flight in
+    let e = c.set_luns.ensures in
+    let p : Problem = problem_of f.now.timing f.now.rules f.now.bus_free f.now.luns c.as_slice.result.now in
+    let said : IsSaid channel c.args.luns.now c.args.wants.now p = record {
+      timing = subst (IsTiming channel.timing) (sym e.timing) c.requires.timing;
+      rules = subst (AreRules channel.rules) (sym e.rules) c.requires.rules;
+      bus_free = e.bus_free ∙ c.requires.bus_free;
+      states = e.luns;
+      requests = c.as_slice.ensures.value ∙ c.few_wants_of-wants.ensures;
+    } in
+    let limits : InLimits p = search rules in
+    is_bad p said limits (sym c.is_bad_schedule.ensures ∙ c.if-is_bad_schedule.true) refl

@@ -1,6 +1,0 @@
-use Rattle.std.proofs.Common.{◌≡◌, ◌≤◌, length, take}
-use Rattle.onfi_core.specs.Times.{later_starts}
-use Rattle.onfi_core.proofs.later.later_starts.Given as goal
-
-abbrev pub invariant-loop-start : goal.invariant-loop-start
-invariant-loop-start l = (l.all ≡ later_starts l.by (take l.start-index l.start-items)) × (length l.all ≤ l.start-index)

@@ -1,5 +1,0 @@
-use Rattle.onfi_core.proofs.Shifted.{ready_legal}
-use Rattle.onfi_core.proofs.laws.ready_is_legal.Goals as goal
-
-pub returns : goal.returns
-returns c = ready_legal

@@ -1,6 +1,0 @@
-use Rattle.std.proofs.Common.{◌≡◌, replicate}
-use Rattle.onfi_problem.specs.declared.lun_state.LunState.TheVariants.{Free}
-use Rattle.onfi_core.proofs.left.free_luns.Given as goal
-
-abbrev pub invariant-loop-lun : goal.invariant-loop-lun
-invariant-loop-lun l = l.luns.items ≡ replicate l._lun (Free 0)

@@ -1,0 +1,4 @@
+pub mod Turns
+pub mod Times
+pub mod Flight
+pub mod Laws

@@ -1,5 +1,0 @@
-use Rattle.onfi_known.proofs.Sound.{proved_is_below}
-use Rattle.onfi_known.proofs.laws.proved_is_below.Goals as goal
-
-pub returns : goal.returns
-returns c = proved_is_below

@@ -1,0 +1,13 @@
+pub mod Causes
+pub mod Views
+pub mod Unique
+pub mod Refusing
+pub mod Refused
+pub mod Marks
+pub mod Yielding
+pub mod Spelled
+pub mod Sound
+pub mod Keeping
+pub mod Walking
+pub mod Placing
+pub mod Reading

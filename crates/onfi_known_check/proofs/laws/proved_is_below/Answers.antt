@@ -1,0 +1,5 @@
+use Rattle.onfi_known_check.proofs.Sound.{proved_is_below}
+use Rattle.onfi_known_check.proofs.laws.proved_is_below.Goals as goal
+
+pub returns : goal.returns
+returns c = proved_is_below

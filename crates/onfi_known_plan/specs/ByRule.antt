@@ -1,0 +1,9 @@
+-- When the schedule of the rule ends.
+use Rattle.std.specs.Prelude.{ℕ, ◌≤◌, List}
+use Rattle.onfi_problem.specs.Problem.{Problem}
+use Rattle.onfi_schedule.specs.Runs.{Step}
+use Rattle.onfi_steady.specs.Rule.{IsRuleRun}
+
+-- it is no later than what the rule makes of the problem
+abbrev pub EndsByRule : Problem → ℕ → Type 0
+EndsByRule p finish = (steps : List Step) (f : ℕ) → IsRuleRun p steps f → finish ≤ f

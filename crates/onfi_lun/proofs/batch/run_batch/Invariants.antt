@@ -1,8 +1,0 @@
-use Rattle.onfi_lun.specs.Flight.{IsOnCourse, state_of, steps_left}
-use Rattle.onfi_lun.proofs.batch.run_batch.Given as goal
-
-abbrev pub invariant-loop-due : goal.invariant-loop-due
-invariant-loop-due g l = IsOnCourse l.target l.schedule l.fn.items.items (g.C.Chip.state l.fn.chip) l.flight l.lanes (g.C.Chip.state l.chip)
-
-abbrev pub decreases-loop-due : goal.decreases-loop-due
-decreases-loop-due g l = steps_left (state_of l.flight).left

@@ -1,8 +1,0 @@
-pub mod Steps
-mod Closed
-mod Again
-mod Waiting
-mod Between
-pub mod Node
-mod Tree
-mod Gaps

@@ -1,5 +1,0 @@
-use Rattle.onfi_planner.specs.Planning.{work}
-use Rattle.onfi_recall.proofs.choosing.+run_by.Given as goal
-
-abbrev pub decreases-run_by : goal.decreases-run_by
-decreases-run_by l = work l.problem.now.problem

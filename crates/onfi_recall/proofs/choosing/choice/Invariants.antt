@@ -1,5 +1,0 @@
-use Rattle.onfi_recall.specs.Steps.{IsStep}
-use Rattle.onfi_recall.proofs.choosing.choice.Given as goal
-
-abbrev pub invariant-loop-m : goal.invariant-loop-m
-invariant-loop-m l = IsStep l.problem l.choice.step

@@ -1,0 +1,12 @@
+use Rattle.std.proofs.Common.{◌≡◌, rules, subst}
+use Rattle.onfi_planners.specs.Choice.{IsChosen}
+use Rattle.onfi_script.proofs.Plans.{chosen_plan}
+use Rattle.onfi_script.proofs.planning.plan_by.Goals as goal
+
+pub maybe_better-requires : goal.maybe_better-requires
+maybe_better-requires c =
+    let o = c.args.options in
+    let x = c.args.problem.now in
+    let plan = c.in_ok-plan.ensures in
+    let limit : c.unwrap-limit.result ≡ o.limit = search rules in
+    chosen_plan o.planner o.limit x c.in_ok-plan.plan c.requires.begun plan.legal plan.finish plan.rising plan.none_before plan.shown (subst (λ n. IsChosen o.planner x.problem n c.in_ok-plan.plan) limit plan.promised)

@@ -1,0 +1,138 @@
+//! Plans: one is found, made better and printed.
+ghost use Rattle.std.specs.Prelude.{◌≡◌, ◌≤◌, ℕ, List, IfOk, IfErr};
+ghost use Rattle.onfi_schedule.specs.Schedule.{Legal, finish};
+ghost use Rattle.onfi_schedule.specs.Trace.{IsTrace};
+ghost use Rattle.onfi_plan.specs.Certificate.{IsSpelled, certificate_in};
+ghost use Rattle.onfi_planners.specs.Choice.{slack_in};
+ghost use Rattle.onfi_script.specs.Answer.{IsPlan, OneTells, PartsTell, Prints, TellsOver};
+ghost use Rattle.onfi_script.specs.AnswerOf.{answer_of};
+ghost use Rattle.onfi_script.specs.Limit.{IsLimit};
+
+use crate::command::{Output, PlanOptions};
+use crate::text::{Answer, plan_text};
+use onfi_early::Weights;
+use onfi_plan::{Limit, Plan, PlanFault, Planner, certificate_text};
+use onfi_planner::{NoGate, Planned, plan_split};
+use onfi_planners::{ChosenPlanner, made_better};
+use onfi_problem::Problem;
+use onfi_schedule::{Schedule, trace, trace_requests};
+use std::alloc::{AllocError, Global};
+use std::thread::Threads;
+
+/// The plan that these options ask for.
+///
+/// # Errors
+/// `Over` as the planner tells it; `Memory` where memory was refused.
+pub fn plan_by(
+    alloc: Global,
+    problem: &Problem,
+    weights: &Weights,
+    options: PlanOptions,
+) -> Result<Plan, PlanFault>
+    requires limit { IsLimit options.limit }
+    requires begun { problem.now.all ≡ problem.now.problem.wants }
+    ensures plan { IfOk result (IsPlan options.planner (slack_in options.better) options.limit problem.now.problem) }
+    ensures over { IfErr result (λ fault. (opened : ℕ) → fault ≡ PlanFault.Over opened → TellsOver OneTells options.planner options.limit problem.now.problem opened) }
+{
+    let limit = Limit::of(options.limit).unwrap();
+    let plan = options.planner.plan(alloc, problem, limit)?;
+    let better = maybe_better(alloc, problem, weights, options, plan)?;
+    Ok(better)
+}
+
+/// The plan that these options ask for, where the plain planner searches by so many workers.
+///
+/// # Errors
+/// `Over` as the planner tells it, and as [`plan_split`] does where that is the plain one; `Memory` where memory was refused.
+pub fn plan_by_workers<R: Threads + Sync>(
+    rt: &R,
+    alloc: Global,
+    problem: &Problem,
+    weights: &Weights,
+    options: PlanOptions,
+    workers: usize,
+) -> Result<Plan, PlanFault>
+    requires limit { IsLimit options.limit }
+    requires some_workers { 1 ≤ workers }
+    requires few_workers { workers ≤ 8 }
+    requires begun { problem.now.all ≡ problem.now.problem.wants }
+    ensures plan { IfOk result (IsPlan options.planner (slack_in options.better) options.limit problem.now.problem) }
+    ensures over { IfErr result (λ fault. (opened : ℕ) → fault ≡ PlanFault.Over opened → TellsOver PartsTell options.planner options.limit problem.now.problem opened) }
+{
+    match options.planner {
+        ChosenPlanner::Plain => {
+            let planned = plan_split(rt, alloc, problem, options.limit, workers, &NoGate)?;
+            let plan = Plan::of(planned, 0);
+            let better = maybe_better(alloc, problem, weights, options, plan)?;
+            Ok(better)
+        }
+        ChosenPlanner::Remembering => plan_by(alloc, problem, weights, options),
+        ChosenPlanner::BestSoFar => plan_by(alloc, problem, weights, options),
+    }
+}
+
+/// A plan of the options' planner, made better where they say so.
+fn maybe_better(
+    alloc: Global,
+    problem: &Problem,
+    weights: &Weights,
+    options: PlanOptions,
+    plan: Plan,
+) -> Result<Plan, AllocError>
+    requires { IsPlan options.planner 0 options.limit problem.now.problem plan }
+    ensures { IfOk result (IsPlan options.planner (slack_in options.better) options.limit problem.now.problem) }
+{
+    match options.better {
+        None => Ok(plan),
+        Some(per_mille) => made_better(alloc, problem, plan, weights, per_mille),
+    }
+}
+
+/// The trace of a legal schedule; each line names its request where that is asked for.
+fn trace_of(
+    alloc: Global,
+    problem: &Problem,
+    schedule: &Schedule,
+    requests: bool,
+) -> Result<Vec<u8>, AllocError>
+    requires { Legal problem.now.problem schedule.now }
+    ensures { IfOk result (λ text. IsTrace requests problem.now.problem schedule.now text.items) }
+{
+    if requests {
+        trace_requests(alloc, problem, schedule)
+    } else {
+        trace(alloc, problem, schedule)
+    }
+}
+
+/// A plan as it is printed.
+pub fn printed(
+    alloc: Global,
+    problem: &Problem,
+    plan: Plan,
+    output: Output,
+) -> Result<Answer, AllocError>
+    requires legal { Legal problem.now.problem plan.planned.schedule }
+    requires finish { finish problem.now.problem plan.planned.schedule ≡ plan.planned.finish }
+    ensures { IfOk result (λ a. (text : List ℕ) × IsSpelled problem.now.problem.rules.strict (certificate_in plan) text
+        × Prints output problem.now.problem plan.planned.schedule plan.below text (answer_of a)) }
+{
+    let Plan {
+        planned,
+        below,
+        text,
+        ..
+    } = plan;
+    let Planned {
+        schedule,
+        finish,
+        cert,
+    } = planned;
+    let strict = problem.rules().strict;
+    let certificate = certificate_text(alloc, strict, cert.as_slice(), text)?;
+    let text = match output {
+        Output::Plan => plan_text(alloc, &schedule, finish, below, certificate.as_slice())?,
+        Output::Trace { requests } => trace_of(alloc, problem, &schedule, requests)?,
+    };
+    Ok(Answer::of(text, 0))
+}

@@ -1,4 +1,0 @@
-use Rattle.onfi_seq.proofs.driver.Driver.run_due.Given as goal
-
-abbrev pub ghost-done : goal.ghost-done
-ghost-done g a = (g.C.Chip.state a.chip.now).faults

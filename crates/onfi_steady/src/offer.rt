@@ -1,0 +1,217 @@
+//! The group that a LUN would begin, of what waits for it.
+
+ghost use Rattle.std.specs.Prelude.{◌≡◌, ◌≤◌, ◌<◌, ◌+◌, ◌++◌, [], true, length};
+ghost use Rattle.std.specs.List.{find, list_any, cons_option};
+ghost use Rattle.onfi_timing.specs.declared.kind.Kind.{Kind as AnyKind};
+ghost use Rattle.onfi_group.specs.Group.{may_group};
+ghost use Rattle.onfi_steady.specs.Kept.{IsNothing};
+ghost use Rattle.onfi_steady.specs.Offer.{IsOffer, erase_group, turned_to, group_with, goes_with, is_mate, is_on_last_plane, is_same_page, is_same_row, is_due as is_due_waiter, is_kind as is_kind_of, may_grow, member_on};
+
+use crate::own::kind_rank;
+use crate::ready::list_ready;
+use crate::waiter::Waiter;
+use arrayvec::ArrayVec;
+use onfi_group::Rules;
+use onfi_request::Want;
+use onfi_timing::Kind;
+
+/// What a LUN would begin; a list without members begins nothing.
+#[derive(Drop)]
+pub struct Offer {
+    /// The request that the LUN turns to, with its mates.
+    pub group: ArrayVec<Want, 4>,
+    /// Whether more mates may come: these are programs, and the last plane has none.
+    pub is_open: bool,
+    /// Where it is open, the oldest erase, with its mates.
+    pub erase: ArrayVec<Want, 4>,
+    /// Whether a read waits.
+    pub reads: bool,
+}
+
+impl Offer {
+    /// Nothing.
+    pub fn none() -> Offer
+        ensures { IsNothing result }
+    {
+        Offer {
+            group: ArrayVec::new(),
+            is_open: false,
+            erase: ArrayVec::new(),
+            reads: false,
+        }
+    }
+
+    /// What a LUN would begin.
+    pub fn of(rules: &Rules, waiting: &[Waiter], lun: u8) -> Offer
+        requires { length waiting.now ≤ 64 }
+        ensures { IsOffer rules.now waiting.now lun result }
+    {
+        let mut ready = ArrayVec::new();
+        let reads = list_ready(&mut ready, waiting, lun);
+        let head = turned_to(ready.as_slice());
+        let group = group_with(rules, ready.as_slice(), head);
+        let is_open = may_grow(rules, head, group.as_slice());
+        let erase = erase_group(rules, ready.as_slice(), is_open);
+        Offer {
+            group,
+            is_open,
+            erase,
+            reads,
+        }
+    }
+}
+
+// The group of the oldest erase, where it is asked for.
+fn erase_group(rules: &Rules, ready: &[Waiter], is_asked: bool) -> ArrayVec<Want, 4>
+    ensures { is_asked ≡ true → result.items ≡ erase_group rules.now ready.now }
+{
+    if is_asked {
+        group_with(rules, ready, oldest_of(ready, Kind::Erase))
+    } else {
+        ArrayVec::new()
+    }
+}
+
+// The request that a LUN turns to, of those that may begin.
+fn turned_to(ready: &[Waiter]) -> Option<Waiter>
+    ensures { result ≡ turned_to ready.now }
+{
+    if let Some(waiter) = oldest_due(ready) {
+        return Some(waiter);
+    }
+    if let Some(waiter) = oldest_of(ready, Kind::Read) {
+        return Some(waiter);
+    }
+    if let Some(waiter) = oldest_of(ready, Kind::Program) {
+        return Some(waiter);
+    }
+    oldest_of(ready, Kind::Erase)
+}
+
+// The oldest that is due.
+fn oldest_due(ready: &[Waiter]) -> Option<Waiter>
+    ensures { result ≡ find is_due_waiter ready.now }
+{
+    ready.iter().copied().find(|waiter| waiter.is_due())
+}
+
+// The oldest of a kind.
+fn oldest_of(ready: &[Waiter], kind: Kind) -> Option<Waiter>
+    ensures { result ≡ find (is_kind_of kind) ready.now }
+{
+    ready.iter().copied().find(|waiter| waiter.is_kind(kind))
+}
+
+// A request with its mates, by rising plane.
+fn group_with(rules: &Rules, ready: &[Waiter], head: Option<Waiter>) -> ArrayVec<Want, 4>
+    ensures { result.items ≡ group_with rules.now ready.now head }
+{
+    let mut members = ArrayVec::new();
+    if let Some(head) = head {
+        put(&mut members, member_on(rules, ready, &head.want, 0));
+        put(&mut members, member_on(rules, ready, &head.want, 1));
+        put(&mut members, member_on(rules, ready, &head.want, 2));
+        put(&mut members, member_on(rules, ready, &head.want, 3));
+    }
+    members
+}
+
+// Puts a member behind the others, where there is one.
+fn put(members: &mut ArrayVec<Want, 4>, member: Option<Want>)
+    requires { length members.old.items < 4 }
+    ensures items { members.new.items ≡ members.old.items ++ cons_option member [] }
+    ensures few { length members.new.items ≤ length members.old.items + 1 }
+{
+    if let Some(member) = member {
+        members.push(member);
+    }
+}
+
+// What of a request's group is on a plane.
+fn member_on(rules: &Rules, ready: &[Waiter], head: &Want, plane: u8) -> Option<Want>
+    ensures { result ≡ member_on rules.now ready.now head.now plane }
+{
+    if plane == head.plane {
+        return Some(*head);
+    }
+    match mate_on(rules, ready, head, plane) {
+        Some(waiter) => Some(waiter.want),
+        None => None,
+    }
+}
+
+// The oldest that may join it on another plane.
+fn mate_on(rules: &Rules, ready: &[Waiter], head: &Want, plane: u8) -> Option<Waiter>
+    ensures { result ≡ find (is_mate rules.now head.now plane) ready.now }
+{
+    ready
+        .iter()
+        .copied()
+        .find(|waiter| is_mate(rules, head, plane, waiter))
+}
+
+fn is_mate(rules: &Rules, head: &Want, plane: u8, waiter: &Waiter) -> bool
+    ensures { result ≡ is_mate rules.now head.now plane waiter.now }
+{
+    waiter.want.plane == plane
+        && may_group(rules, head.kind)
+        && goes_with(rules, head, &waiter.want)
+}
+
+// Whether several requests of that kind may run as one.
+fn may_group(rules: &Rules, kind: Kind) -> bool
+    ensures { result ≡ may_group rules.now kind }
+{
+    match kind {
+        Kind::Read => rules.read,
+        Kind::Program | Kind::Erase => rules.write,
+    }
+}
+
+// Whether two may run as one, were they on two planes of one LUN.
+fn goes_with(rules: &Rules, head: &Want, member: &Want) -> bool
+    ensures { result ≡ goes_with rules.now head.now member.now }
+{
+    kind_rank(member.kind) == kind_rank(head.kind)
+        && is_same_page(head, member)
+        && is_same_row(rules, head, member)
+}
+
+fn is_same_page(head: &Want, member: &Want) -> bool
+    ensures { result ≡ is_same_page head.now member.now }
+{
+    kind_rank(head.kind) == kind_rank(Kind::Erase) || member.page == head.page
+}
+
+fn is_same_row(rules: &Rules, head: &Want, member: &Want) -> bool
+    ensures { result ≡ is_same_row rules.now head.now member.now }
+{
+    !rules.strict || member.block >> rules.plane_bits == head.block >> rules.plane_bits
+}
+
+// Whether more mates may come.
+fn may_grow(rules: &Rules, head: Option<Waiter>, group: &[Want]) -> bool
+    ensures { result ≡ may_grow rules.now head group.now }
+{
+    match head {
+        Some(head) => {
+            !head.is_due()
+                && head.is_kind(Kind::Program)
+                && rules.write
+                && !has_last_plane(rules, group)
+        }
+        None => false,
+    }
+}
+
+fn has_last_plane(rules: &Rules, group: &[Want]) -> bool
+    ensures { result ≡ list_any (is_on_last_plane rules.now) group.now }
+{
+    group.iter().any(|member| is_on_last_plane(rules, member))
+}
+
+fn is_on_last_plane(rules: &Rules, member: &Want) -> bool
+    ensures { result ≡ is_on_last_plane rules.now member.now }
+{
+    member.plane == (1u8 << rules.plane_bits) - 1
+}

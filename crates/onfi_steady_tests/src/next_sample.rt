@@ -1,0 +1,87 @@
+//! What tests of the next phase begin with.
+
+ghost use Rattle.std.specs.Prelude.{◌≤◌, length};
+
+use onfi_group::Rules;
+use onfi_problem::LunState;
+use onfi_request::Want;
+use onfi_steady::{Full, Waiter, Waiting, next_phase};
+use onfi_timing::{Kind, Timing};
+
+/// Two planes, and groups of all kinds.
+pub(crate) fn rules() -> Rules {
+    Rules::new(true, true, false, 1)
+}
+
+/// A request of page 0 of a block, whose last bit is its plane, waits.
+pub(crate) fn accept(
+    waiting: &mut Waiting,
+    id: u64,
+    kind: Kind,
+    lun: u8,
+    block: u16,
+) -> Result<(), Full> {
+    accept_page(waiting, id, kind, lun, block, 0)
+}
+
+/// .. or of that page.
+pub(crate) fn accept_page(
+    waiting: &mut Waiting,
+    id: u64,
+    kind: Kind,
+    lun: u8,
+    block: u16,
+    page: u16,
+) -> Result<(), Full> {
+    waiting.accept(Want {
+        id,
+        kind,
+        lun: lun % 8,
+        plane: (block % 2) as u8,
+        block,
+        page,
+    })
+}
+
+/// So many groups of one request with that number, which waits no more, begin on the LUN.
+pub(crate) fn begin(waiting: &mut Waiting, lun: u8, id: u64, groups: u16) {
+    let member = Want {
+        id,
+        ..Want::default()
+    };
+    for _ in 0..groups {
+        waiting.begin(lun % 8, &[member]);
+    }
+}
+
+/// The LUN of the phase that is next, its start, and the numbers of those that begin, 99 in place of none.
+pub(crate) fn next(
+    timing: &Timing,
+    bus_free: u64,
+    now: u64,
+    luns: &[LunState],
+    waiting: &Waiting,
+) -> Option<(u8, u64, [u64; 4])>
+    requires { length luns.now ≤ 8 }
+{
+    match next_phase(timing, bus_free, now, luns, waiting) {
+        Some(phase) => Some((phase.lun, phase.start, numbers(phase.members()))),
+        None => None,
+    }
+}
+
+fn numbers(members: &[Want]) -> [u64; 4] {
+    let mut ids = [99; 4];
+    for (id, member) in ids.iter_mut().zip(members) {
+        *id = member.id;
+    }
+    ids
+}
+
+/// What waits at that place, counted from 0; a request of number 0 where nothing does.
+pub(crate) fn waiter_at(waiting: &Waiting, at: usize) -> Waiter {
+    match waiting.as_slice().get(at) {
+        Some(waiter) => *waiter,
+        None => Waiter::default(),
+    }
+}

@@ -1,0 +1,227 @@
+"""Figures of channels in rolling use as tables."""
+
+from __future__ import annotations
+
+import statistics
+from typing import Callable, Dict, Iterable, List, Sequence, Tuple
+
+from onfi_tools.rolling_use import TWELVE, WORKLOADS, Configuration, Measured
+from onfi_tools.rolling_ways import BASE, GREEDY, PHASES, PLANS, QUICK, SOME, title
+
+# Where its throughput is at most so much of the bound, in %, there may be something to gain.
+ROOM = 95
+# What a configuration is a part of, in the order in which tables have them.
+PART_TITLES: List[Callable[[Configuration], str]] = [
+    lambda of: of.device,
+    lambda of: WORKLOADS[of.workload],
+    lambda of: f"{of.byte:g} ns a byte",
+    lambda of: f"{of.luns} LUNs",
+    lambda of: f"{of.depth} outstanding",
+]
+
+
+def row(cells: Iterable[str]) -> str:
+    return "| " + " | ".join(cells) + " |"
+
+
+def table(first: str, columns: Sequence[str], rows: Iterable[Sequence[str]]) -> List[str]:
+    return [row([first, *columns]), "|---|" + "---:|" * len(columns), *(row(cells) for cells in rows)]
+
+
+def cells_table(first: str, measured: Sequence[Measured], ways: Sequence[str], cell: Callable[[Measured, str], str]) -> List[str]:
+    rows = [[one.configuration.title(), *(cell(one, way) for way in ways)] for one in measured]
+    return table(first, [title(way) for way in ways], rows)
+
+
+def share(one: Measured, way: str) -> float:
+    """The throughput of a way, in % of that of reads first over all."""
+    return 100 * one.by_way[way]["rate"] / one.by_way[BASE]["rate"]
+
+
+def of_bound(one: Measured, way: str) -> float:
+    """The throughput of a way, in % of that which no scheduler passes."""
+    return 100 * one.by_way[way]["rate"] / one.by_way[way]["bound"]
+
+
+def of_bound_cell(one: Measured, way: str) -> str:
+    return f"{of_bound(one, way):.0f}"
+
+
+def share_cell(one: Measured, way: str) -> str:
+    figures = one.by_way[way]
+    return f"{figures['rate']:,.0f}; {100 * figures['bus']:.0f} %" if way == BASE else f"{share(one, way):.0f}"
+
+
+def latency_cell(kind: str) -> Callable[[Measured, str], str]:
+    def cell(one: Measured, way: str) -> str:
+        figures = one.by_way[way]
+        if not figures[f"{kind}s"]:
+            return ""
+        return " / ".join(f"{figures[f'{kind}_{which}']:,.0f}" for which in ("mean", "99", "999"))
+
+    return cell
+
+
+def planning_cell(one: Measured, way: str) -> str:
+    figures = one.by_way[way]
+    return f"{figures['planning_us']:,.0f} / {figures['planning_longest_us'] / 1000:,.0f}; {figures['over']:.0f} of {figures['plans']:,.0f}"
+
+
+def erasing_cell(one: Measured, way: str) -> str:
+    """How many LUNs erase in the mean while any does."""
+    return f"{one.by_way[way]['erasing']:.1f}"
+
+
+def gain_row(measured: Sequence[Measured], way: str, against: str) -> List[str]:
+    """How much higher a way's throughput is than another's, in % of the other's."""
+    found = [100 * (one.by_way[way]["rate"] / one.by_way[against]["rate"] - 1) for one in measured]
+    numbers = (statistics.median(found), statistics.mean(found), max(found), min(found))
+    return [f"{title(way)} against {title(against)}", *(f"{number:+.1f}" for number in numbers)]
+
+
+def gains_table(measured: Sequence[Measured], plans: Sequence[str], others: Sequence[str]) -> List[str]:
+    rows = [gain_row(measured, way, other) for way in plans for other in others]
+    return table("throughput, %", ["median", "mean", "best", "worst"], rows)
+
+
+def nine_of_ten(numbers: Sequence[float]) -> float:
+    """What nine of ten of the numbers are at least."""
+    return sorted(numbers)[len(numbers) // 10]
+
+
+def ratio_cell(measured: Sequence[Measured], way: str, name: str) -> str:
+    """The median of a latency in that of reads first over all, over the configurations that have such requests."""
+    pairs = [(one.by_way[way][name], one.by_way[BASE][name]) for one in measured]
+    ratios = [own / other for own, other in pairs if own and other]
+    return f"{statistics.median(ratios):.2f}" if ratios else ""
+
+
+def bound_cell(measured: Sequence[Measured], way: str) -> str:
+    """The median and the least of a way's throughput, in % of that which no scheduler passes."""
+    found = [of_bound(one, way) for one in measured]
+    return f"{statistics.median(found):.0f}; {min(found):.0f}"
+
+
+def spread_row(measured: Sequence[Measured], way: str) -> List[str]:
+    """How a way's throughput, in % of that of reads first over all, is spread over the configurations; its latencies beside."""
+    found = [share(one, way) for one in measured]
+    ahead, behind = sum(number > 101 for number in found), sum(number < 99 for number in found)
+    numbers = (statistics.median(found), nine_of_ten(found), min(found), max(found))
+    latencies = [ratio_cell(measured, way, name) for name in ("read_mean", "read_99", "program_mean", "program_99")]
+    return [title(way), *(f"{number:.1f}" for number in numbers), f"{ahead}; {behind}", bound_cell(measured, way), *latencies]
+
+
+def spread_table(first: str, measured: Sequence[Measured], ways: Sequence[str]) -> List[str]:
+    columns = ["median", "nine of ten at least", "worst", "best", "1 % ahead; behind", "of the bound: median; least",
+               "reads' mean", "reads' 99 %", "programs' mean", "programs' 99 %"]
+    return table(first, columns, [spread_row(measured, way) for way in ways])
+
+
+def room_table(measured: Sequence[Measured], ways: Sequence[str]) -> List[str]:
+    """Each way where there may be something to gain: where reads first over all is well below what no scheduler passes."""
+    own = [one for one in measured if of_bound(one, BASE) <= ROOM]
+    rows = []
+    for way in ways if own else []:
+        found = [share(one, way) for one in own]
+        numbers = (statistics.median(found), statistics.mean(found), max(found), min(found))
+        rows.append([title(way), *(f"{number:.1f}" for number in numbers), bound_cell(own, way), ratio_cell(own, way, "read_99")])
+    columns = ["median", "mean", "best", "worst", "of the bound: median; least", "reads' 99 %"]
+    return table(f"on the {len(own)} with at most {ROOM} % of the bound", columns, rows)
+
+
+def furthest_behind(measured: Sequence[Measured], ways: Sequence[str], most: int) -> List[str]:
+    """The configurations on which each way is furthest behind reads first over all, by what share of its throughput it reaches."""
+    rows = []
+    for way in ways:
+        last = sorted(measured, key=lambda one: share(one, way))[:most]
+        rows.append([title(way), "; ".join(f"{one.configuration.title()}: {share(one, way):.0f}" for one in last)])
+    return table("furthest behind", ["configurations"], rows)
+
+
+def condition_title(of: Configuration) -> str:
+    """What a configuration has beside its twelve-fold title."""
+    if of.load:
+        return f"{of.title()} at most, {100 * of.load:g} % of the bus"
+    return f"{of.title()}, arrays {of.array}"
+
+
+def condition_table(first: str, measured: Sequence[Measured], ways: Sequence[str], cell: Callable[[Measured, str], str]) -> List[str]:
+    rows = [[condition_title(one.configuration), *(cell(one, way) for way in ways)] for one in measured]
+    return table(first, [title(way) for way in ways], rows)
+
+
+def rate_cell(one: Measured, way: str) -> str:
+    figures = one.by_way[way]
+    return f"{figures['rate']:,.0f}; {figures['read_99']:,.0f}"
+
+
+def loop_cell(one: Measured, way: str) -> str:
+    figures = one.by_way[way]
+    return "; ".join(f"{figures[f'{kind}_mean']:,.0f} / {figures[f'{kind}_99']:,.0f}" for kind in ("read", "program"))
+
+
+def twelve_tables(twelve: Sequence[Measured], ways: Sequence[str], some: Sequence[str]) -> List[str]:
+    """The twelve configurations one by one: throughput, latencies, plans, erases."""
+    plans = [way for way in ways if way in PLANS]
+    planning = cells_table("a plan, us in the mean / ms at most; over", twelve, plans, planning_cell) + [""] if plans else []
+    return [
+        *cells_table("throughput, % of reads first, all", twelve, ways, share_cell), "",
+        *cells_table("throughput, % of what no scheduler passes", twelve, ways, of_bound_cell), "",
+        *cells_table("reads, us: mean / 99 % / 99.9 %", twelve, some, latency_cell("read")), "",
+        *cells_table("programs, us: mean / 99 % / 99.9 %", twelve, some, latency_cell("program")), "",
+        *planning,
+        *cells_table("LUNs that erase at once", [one for one in twelve if one.by_way[BASE]["erasing"]], ways, erasing_cell),
+    ]
+
+
+def quick_tables(parts: Sequence[Sequence[Measured]], has: Sequence[str]) -> List[str]:
+    """Of the ways that there are."""
+    twelve, early, loops = parts
+    quick, some = [way for way in QUICK if way in has], [way for way in SOME if way in has]
+    return [
+        *twelve_tables(twelve, quick, some), "",
+        *spread_table("over the twelve", twelve, quick), "",
+        *room_table(twelve, quick), "",
+        *condition_table("requests a second; reads' 99 %, us", early, some, rate_cell), "",
+        *condition_table("reads' mean / 99 %; programs', us", loops, some, loop_cell),
+    ]
+
+
+def parts_of(measured: Sequence[Measured]) -> List[Tuple[str, List[Measured]]]:
+    """All configurations, and those of each device, workload, bus, number of LUNs and of requests outstanding."""
+    parts: Dict[str, List[Measured]] = {"all": list(measured)}
+    for title_of in PART_TITLES:
+        for one in measured:
+            parts.setdefault(title_of(one.configuration), []).append(one)
+    return list(parts.items())
+
+
+def bound_row(name: str, own: Sequence[Measured]) -> List[str]:
+    found = [of_bound(one, BASE) for one in own]
+    numbers = (statistics.median(found), nine_of_ten(found), min(found))
+    return [name, str(len(own)), *(f"{number:.0f}" for number in numbers), str(sum(number <= ROOM for number in found))]
+
+
+def bound_table(measured: Sequence[Measured]) -> List[str]:
+    """How much of what no scheduler passes the best plain way has."""
+    columns = ["configurations", "median", "nine of ten at least", "least", f"at most {ROOM} %"]
+    return table(f"{title(BASE)}, % of the bound", columns, [bound_row(name, own) for name, own in parts_of(measured)])
+
+
+def part_row(name: str, own: Sequence[Measured], ways: Sequence[str]) -> List[str]:
+    return [name, *(f"{statistics.median(share(one, way) for one in own):.0f}" for way in ways)]
+
+
+def whole_tables(measured: Sequence[Measured], ways: Sequence[str]) -> List[str]:
+    """All configurations, and what each device, workload, bus and number of LUNs has of it; the twelve one by one."""
+    twelve = [one for of in TWELVE for one in measured if one.configuration._replace(array=of.array) == of]
+    planned, others = [way for way in ways if way in {**PLANS, **PHASES}], [way for way in ways if way in GREEDY]
+    return [
+        *spread_table("throughput, % of reads first, all", measured, ways), "",
+        *room_table(measured, ways), "",
+        *bound_table(measured), "",
+        *table("its median", [title(way) for way in ways], [part_row(name, own, ways) for name, own in parts_of(measured)]), "",
+        *gains_table(measured, planned, others), "",
+        *furthest_behind(measured, planned, 8), "",
+        *twelve_tables(twelve, ways, ways),
+    ]
