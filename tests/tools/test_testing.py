@@ -43,6 +43,13 @@ class Testing(unittest.TestCase):
             for name in re.findall(r"`([\w-]+\.cases)`", row[1]):
                 self.assertIn(name, pages)
 
+    def test_hostile_names_what_is_there(self) -> None:
+        names = re.findall(r"`([\w-]+\.(?:cases|py))`", (support.ROOT / "docs/HOSTILE.md").read_text())
+        self.assertGreater(len(names), 8)
+        there = {path.name for path in (support.ROOT / "tests").glob("*/*")}
+        for name in names:
+            self.assertIn(name, there)
+
     def test_cases_that_show_a_mistake_are_there(self) -> None:
         rows = rows_of(CLAIMS, "Choice and weights: shown by a case alone")
         titles = "\n".join(path.read_text() for path in (support.ROOT / "tests").glob("*/*.cases"))

@@ -1,4 +1,4 @@
-"""WORTH: its tables are of the raw rows in bench, and what it says of gains is so."""
+"""WORTH, and what SPEED and REMEMBER have of the same kind: tables are of the raw rows in bench, and what WORTH says of gains is so."""
 
 from __future__ import annotations
 
@@ -28,9 +28,9 @@ def table_of(lines: List[str]) -> Table:
     return {row[0]: dict(zip(head[1:], row[1:])) for row in rows}
 
 
-def page_table(first: str) -> Table:
-    """The table of the page that begins with this cell."""
-    lines = PAGE.splitlines()
+def page_table(first: str, page: str = PAGE) -> Table:
+    """The table of a page, WORTH where none is named, that begins with this cell."""
+    lines = page.splitlines()
     begin = next(place for place, line in enumerate(lines) if line.startswith(f"| {first} |"))
     end = next(place for place in range(begin, len(lines)) if not lines[place].startswith("|"))
     return table_of(lines[begin:end])
@@ -110,6 +110,27 @@ class Stored(unittest.TestCase):
             own = [row for row in rows if row["way"] == way]
             means, longest = [int(row["plan_us"]) for row in own], max(int(row["plan_longest_ms"]) for row in own)
             self.assertEqual(list(cells.values()), [f"{min(means):,} to {max(means):,}", str(longest)], way)
+
+    def test_remembering(self) -> None:
+        names = ("nodes", "ms", "bytes")
+        found = {row["by"]: row for row in rows_of("remember.csv") if row["scripts"] == "all"}
+        shown = page_table("search", (support.ROOT / "docs/REMEMBER.md").read_text())
+        self.assertEqual(set(shown), {f"`{by}`" for by in found})
+        for by, cells in shown.items():
+            row = found[by.strip("`")]
+            made = [" / ".join(row[f"{name}_{which}"] for which in ("median", "99", "greatest")) for name in names]
+            self.assertEqual([cell.replace(",", "") for cell in cells.values()], [row["over"], *made])
+
+    def test_certificates(self) -> None:
+        found = {(row["certificate"], row["tokens"]): row for row in rows_of("certificates.csv")}
+        text = (support.ROOT / "docs/SPEED.md").read_text().split("## Certificates that remember states")[1].split("\n## ")[0]
+        rows = [[cell.strip().replace(",", "").replace("`", "") for cell in line.strip()[1:-1].split("|")] for line in text.splitlines() if line.startswith("| ")]
+        self.assertGreaterEqual(len(rows), 4)
+        kind = ""
+        for certificate, tokens, instructions, whole in rows[1:]:
+            kind = certificate or kind
+            row = found[kind.replace("remembered by check --remember", "remembered").replace("plain by", "plain, by"), tokens]
+            self.assertEqual([row["instructions_a_token"], row["in_all"]], [instructions, whole], tokens)
 
 
 if __name__ == "__main__":
