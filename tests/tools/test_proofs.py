@@ -75,7 +75,7 @@ class Proofs(unittest.TestCase):
         section = (support.ROOT / "README.md").read_text().split("## What is promised")[1].split("\n## ")[0]
         self.assertIn("](docs/PROOFS.md#from-promise-to-proof)", section)
         self.assertNotIn("\n|", section, "promises stand in one table")
-        claimed = " ".join([self.text.split("\n## My proof fails")[0]])
+        claimed = self.text.split("\n## My proof fails")[0]
         for name in NAME.findall(section):
             self.assertIn(f"`{name}`", claimed)
 
