@@ -1,4 +1,4 @@
-"""The tables of claims: each call, clause and definition that they name is there, and clauses rest on definitions."""
+"""The further promises of PROOFS: each call, clause and definition that they name is there, and clauses rest on definitions."""
 
 from __future__ import annotations
 
@@ -10,7 +10,7 @@ from typing import Dict, List, NamedTuple, Set, Tuple
 import support
 from definitions import WORD, Definitions, Key, uses_of
 
-CLAIMS = support.ROOT / "docs/CLAIMS.md"
+PROOFS = support.ROOT / "docs/PROOFS.md"
 CRATES = sorted(path.name for path in (support.ROOT / "crates").iterdir())
 NAMED = re.compile(r"`([A-Za-z_]\w*(?:::\w+)*)`(?! of (?:std|the kit))")
 # An abbreviation of what the clause says.
@@ -30,6 +30,7 @@ class Clause(NamedTuple):
 
 class Row(NamedTuple):
     crate: str
+    path: Path
     promise: str
     clause: str
     definition: str
@@ -73,9 +74,9 @@ class Sources:
         owners = {part for name in named for part in name.split("::")}
         by_name = {clause.owner for clause in self.clauses if clause.name in named}
         types = set() if owners & self.calls else owners
-        told = [clause for clause in self.clauses
-                if clause.name in named or clause.owner in owners - by_name or clause.within in types - by_name]
-        return {key for clause in told for key in clause.cites}
+        chosen = [clause for clause in self.clauses
+                  if clause.name in named or clause.owner in owners - by_name or clause.within in types - by_name]
+        return {key for clause in chosen for key in clause.cites}
 
 
 def cited(body: str, taken: Dict[str, Key], whole: Dict[str, Tuple[str, str]], definitions: Definitions) -> Set[Key]:
@@ -84,24 +85,16 @@ def cited(body: str, taken: Dict[str, Key], whole: Dict[str, Tuple[str, str]], d
     return {found for key in keys for found in definitions.resolve(key)}
 
 
-def rows_of_claims() -> List[Row]:
+def rows_of_further() -> List[Row]:
+    """The second table of promises: crate and file, promise, clauses, definitions."""
+    section = PROOFS.read_text().split("### Further promises\n")[1].split("\n## ")[0]
     rows: List[Row] = []
-    crate = ""
-    for line in CLAIMS.read_text().splitlines():
-        heading = re.match(r"## `(\w+)`", line)
-        crate = heading.group(1) if heading else "" if line.startswith("## ") else crate
+    for line in section.splitlines():
         cells = [cell.strip() for cell in line.strip("|").split(" | ")]
-        if crate and line.startswith("| ") and len(cells) == 3 and cells[0] != "promise":
-            promise, clause, definition = (cell.strip("| ") for cell in cells)
-            clause = clause.replace("the same", rows[-1].clause) if rows else clause
-            rows.append(Row(crate, promise, clause, definition))
+        link = re.fullmatch(r"\[(onfi_\w+)\]\(\.\./(crates/\1/src/[\w/]+\.rt)\)", cells[0])
+        if link and len(cells) == 4:
+            rows.append(Row(link[1], support.ROOT / link[2], *cells[1:]))
     return rows
-
-
-def rows_of_readme() -> List[Row]:
-    text = (support.ROOT / "README.md").read_text().split("## What is promised")[1].split("\n## ")[0]
-    lines = [line for line in text.splitlines() if line.startswith("| ") and not line.startswith("| promise")]
-    return [Row("", *[cell.strip() for cell in line.strip("|").split("|")][:3]) for line in lines]
 
 
 class Claims(unittest.TestCase):
@@ -113,45 +106,31 @@ class Claims(unittest.TestCase):
             self.sources[crate] = Sources(crate, self.definitions)
         return self.sources[crate]
 
-    def behind(self, row: Row) -> Set[Key]:
-        """The definitions that the clauses of a row rest on."""
-        named = NAMED.findall(row.clause)
-        return self.definitions.below(self.source(row.crate).under(named) if row.crate else self.called(named))
-
-    def called(self, named: List[str]) -> Set[Key]:
-        """What a call promises that is named with its crate, or by itself."""
-        cites: Set[Key] = set()
-        for name in named:
-            first, _, call = name.partition("::")
-            for crate in [first] if call and first in CRATES else CRATES:
-                cites |= self.source(crate).under([call or name] if first in CRATES else [name])
-        return cites
-
     def holds(self, row: Row) -> None:
-        cites = self.behind(row)
+        """Each definition that a row names is one that its clauses rest on."""
+        cites = self.definitions.below(self.source(row.crate).under(NAMED.findall(row.clause)))
         for name in NAMED.findall(row.definition):
-            if name not in CRATES:
-                found = self.definitions.named(name) | self.definitions.named(STANDS_FOR.get(name, name))
-                self.assertTrue(found & cites, f"{row.crate}: {row.promise}: {name}")
+            found = self.definitions.named(name) | self.definitions.named(STANDS_FOR.get(name, name))
+            self.assertTrue(found & cites, f"{row.crate}: {row.promise}: {name}")
+
+    def test_each_row_is_read(self) -> None:
+        section = PROOFS.read_text().split("### Further promises\n")[1].split("\n## ")[0]
+        self.assertEqual(len(rows_of_further()), sum(line.startswith("| [") for line in section.splitlines()))
 
     def test_each_call_and_clause_is_there(self) -> None:
-        rows = rows_of_claims()
-        self.assertGreater(len(rows), 150)
-        laws = {clause.owner for crate in CRATES for clause in self.source(crate).clauses if clause.path == "laws.rt"}
+        rows = rows_of_further()
+        self.assertGreater(len(rows), 50)
         for row in rows:
-            names = self.source(row.crate).names | laws
-            for part in re.findall(r"\w+", " ".join(NAMED.findall(row.clause))):
-                self.assertIn(part, names, f"{row.crate}: {row.promise}")
+            parts = re.findall(r"\w+", " ".join(NAMED.findall(row.clause)))
+            self.assertTrue(parts, row.promise)
+            for part in parts:
+                self.assertIn(part, self.source(row.crate).names, f"{row.crate}: {row.promise}")
+            text = row.path.read_text()
+            self.assertTrue(any(re.search(rf"\b{part}\b", text) for part in parts), f"{row.path.name}: {row.promise}")
 
-    def test_each_definition_is_behind_its_clause(self) -> None:
-        for row in rows_of_claims():
-            if NAMED.search(row.clause) and not row.definition.startswith("of the same names"):
-                self.holds(row)
-
-    def test_the_definitions_of_the_readme_are_behind_its_calls(self) -> None:
-        rows = rows_of_readme()
-        self.assertGreater(len(rows), 10)
-        for row in rows:
+    def test_each_definition_is_one_that_its_clause_rests_on(self) -> None:
+        for row in rows_of_further():
+            self.assertTrue(NAMED.search(row.definition), row.promise)
             self.holds(row)
 
 

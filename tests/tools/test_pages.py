@@ -69,8 +69,8 @@ class Links(unittest.TestCase):
 
 
 class Cells(unittest.TestCase):
-    def test_cells_of_claims_are_short(self) -> None:
-        for page in (ROOT / "README.md", ROOT / "docs/CLAIMS.md", ROOT / "docs/READ-FIRST.md"):
+    def test_cells_are_short(self) -> None:
+        for page in (ROOT / "README.md", ROOT / "docs/READ-FIRST.md"):
             for cells in cells_of(page):
                 for cell in cells:
                     words = re.sub(r"\]\([^)]*\)", "]", cell).split()
@@ -79,15 +79,15 @@ class Cells(unittest.TestCase):
 
 class Crates(unittest.TestCase):
     def test_each_stands_below_those_on_it(self) -> None:
-        """In ARCHITECTURE a crate's row is below those of the crates that it stands on; CLAIMS has no other crates."""
+        """In ARCHITECTURE a crate's row is below those of the crates that it stands on; CLAIMS names no other crates."""
         rows = re.findall(r"^\| `(\w+)` \|", (ROOT / "docs/ARCHITECTURE.md").read_text(), re.MULTILINE)
         lines = re.findall(r"^(onfi_\w+)[^:\n]*:(.*)$", (ROOT / "crates.txt").read_text(), re.MULTILINE)
         self.assertEqual(sorted(rows), sorted(name for name, _ in lines))
         for name, below in lines:
             for other in re.findall(r"onfi_\w+", below):
                 self.assertLess(rows.index(other), rows.index(name), name)
-        claimed = re.findall(r"^## `(\w+)`", (ROOT / "docs/CLAIMS.md").read_text(), re.MULTILINE)
-        self.assertEqual(len(claimed), len(set(claimed) & set(rows)))
+        for name in re.findall(r"`(onfi_[a-z_]*[a-z])`", (ROOT / "docs/CLAIMS.md").read_text()):
+            self.assertTrue(name in rows or (ROOT / "crates/onfi_program" / name).exists() or name == "onfi_sim", name)
 
 
 class Examples(unittest.TestCase):

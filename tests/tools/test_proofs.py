@@ -26,7 +26,7 @@ class Row(NamedTuple):
 
 
 def rows_of(text: str) -> List[Row]:
-    section = text.split("## From promise to proof")[1].split("\n## ")[0]
+    section = text.split("## From promise to proof")[1].split("\n### ")[0]
     cells = [[cell.strip() for cell in line.strip("|").split(" | ")] for line in section.splitlines() if line.startswith("| ")]
     return [Row(*row) for row in cells[1:]]
 
@@ -71,20 +71,18 @@ class Proofs(unittest.TestCase):
     rows = rows_of(text)
     definitions = Definitions()
 
-    def test_each_promise_of_the_readme_has_its_definition_here(self) -> None:
-        told = " ".join(row.definition for row in self.rows)
-        for row in test_claims.rows_of_readme():
-            for name in NAME.findall(row.definition):
-                self.assertTrue(f"`{name}`" in told, f"{row.promise}: {name}")
+    def test_the_readme_leads_here(self) -> None:
+        section = (support.ROOT / "README.md").read_text().split("## What is promised")[1].split("\n## ")[0]
+        self.assertIn("](docs/PROOFS.md#from-promise-to-proof)", section)
+        self.assertNotIn("\n|", section, "promises stand in one table")
+        claimed = self.text.split("\n## My proof fails")[0]
+        for name in NAME.findall(section):
+            self.assertIn(f"`{name}`", claimed)
 
-    def test_each_call_of_the_readme_has_its_clause_here(self) -> None:
-        told = {name for row in self.rows for names, _ in parts_of(row.clause) for name in names}
-        for row in test_claims.rows_of_readme():
-            calls = [name.split("::")[-1] for name in re.findall(r"`([\w:]+)`", row.clause)]
-            for call in calls:
-                if call not in test_claims.CRATES and call[0].islower():
-                    self.assertTrue(call in told, f"{row.promise}: {call}")
-        self.assertIn("](docs/PROOFS.md)", (support.ROOT / "README.md").read_text().split("## What is promised")[1])
+    def test_each_clause_stands_with_its_crate(self) -> None:
+        for row in self.rows:
+            for crate, path in re.findall(r"\[([^\]]*)\]\(\.\./crates/(\w+)/", row.clause):
+                self.assertEqual(crate, path, row.promise)
 
     def test_each_call_and_clause_stands_in_its_file(self) -> None:
         self.assertGreater(len(self.rows), 20)

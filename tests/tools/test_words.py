@@ -1,4 +1,4 @@
-"""The words of the pages: the glossary, the length of README, and the sections of the standard that the code cites."""
+"""The words of the pages: the glossary, words that go, the length of README, and the sections of the standard that the code cites."""
 
 from __future__ import annotations
 
@@ -17,6 +17,22 @@ DEFINITIONS = (ROOT / "docs/DEFINITIONS.md").read_text()
 WANTED = """LUN, plane, block, page, parameter page, timing sheet, row address, R/B, opener, closer, phase, post, group, want, batch, bound, node, over,
 limit, certificate, token, finish, legal, optimal, schedule, plan, script, strict, die model, rightful, host, core, sequencer, turn, gate, channel, clause,
 definition, law, lemma, kit, case, trial, wrong body, twin, trace, remember, yield, gap, array time, move, demand, window, part"""
+
+# The pages in plain English so far; more are added as they are written anew.
+PLAIN = ["README.md", "CONTRIBUTING.md", "bench/README.md",
+         *(f"docs/{name}.md" for name in ("CLAIMS", "GATE", "GLOSSARY", "HOSTILE", "PROOFS", "READ-FIRST", "REMEMBER", "SPEED", "TESTING", "WORTH"))]
+
+
+def prose_of(text: str) -> str:
+    """The text of a page without code, names of files of crates, and targets of links."""
+    text = re.sub(r"^```.*?^```$", "", text, flags=re.MULTILINE | re.DOTALL)
+    return re.sub(r"^ {4}.*$|`[^`\n]*`|\[[\w.]+\]\([^)]*crates/[^)]*\)|\]\([^)]*\)", "", text, flags=re.MULTILINE)
+
+
+def words_that_go() -> List[str]:
+    """The left column of the list of CONTRIBUTING."""
+    section = (ROOT / "CONTRIBUTING.md").read_text().split("### Words\n")[1]
+    return [word for line in section.splitlines() if line.startswith("| `") for word in re.findall(r"`([^`]+)`", line.split(" | ")[0])]
 
 
 def tables_of(text: str) -> List[List[Tuple[str, str]]]:
@@ -55,11 +71,28 @@ class Glossary(unittest.TestCase):
                     self.assertRegex(text, rf"\b{stem}", word)
 
 
+class Words(unittest.TestCase):
+    def test_pages_have_none_of_those_that_go(self) -> None:
+        words = words_that_go()
+        self.assertGreater(len(words), 12)
+        for page in PLAIN:
+            for line in prose_of((ROOT / page).read_text()).splitlines():
+                for word in words:
+                    self.assertNotRegex(line, re.compile(rf"\b{re.escape(word)}\b", re.IGNORECASE), page)
+
+    def test_code_is_left_out(self) -> None:
+        text = "`a told` [it](behind.md) [Told](../crates/onfi_run/specs/Told.antt)\n\n    told by code\n\n```sh\necho told\n```\nno word\n"
+        self.assertNotRegex(prose_of(text), "[Tt]old|behind|echo")
+        self.assertIn("no word", prose_of(text))
+        self.assertIn("told", prose_of("he told `it`"))
+
+
 class Readme(unittest.TestCase):
     def test_it_takes_two_screens(self) -> None:
-        self.assertLessEqual(len(README.splitlines()), 120)
+        self.assertLessEqual(len(README.splitlines()), 80)
+        self.assertLessEqual(len(README.split()), 900)
 
-    def test_the_glossary_is_told_before_the_first_heading(self) -> None:
+    def test_the_glossary_is_named_before_the_first_heading(self) -> None:
         self.assertIn("](docs/GLOSSARY.md)", README.split("\n## ")[0])
 
 

@@ -1,21 +1,43 @@
-"""The tables of WORTH that raw rows stand behind."""
+"""WORTH, and what SPEED and REMEMBER have of the same kind: tables are of the raw rows in bench, and what WORTH says of gains is so."""
 
 from __future__ import annotations
 
+import csv
+import re
 import statistics
 import unittest
 from pathlib import Path
-from typing import List
+from typing import Dict, List
 
 import support
 from onfi_tools.rolling_tables import ROOM, bound_table, of_bound, room_table, share, spread_table
 from onfi_tools.rolling_use import ALL, Asked, Measured, Rows, measure
 from onfi_tools.rolling_ways import BASE, WAYS
 
-ROWS = support.ROOT / "bench/rolling.csv"
+BENCH = support.ROOT / "bench"
 PAGE = (support.ROOT / "docs/WORTH.md").read_text()
 README = (support.ROOT / "README.md").read_text()
 ASKED = Asked(requests=4000, seed=1, limit=2000, jobs=1)
+
+Table = Dict[str, Dict[str, str]]
+
+
+def table_of(lines: List[str]) -> Table:
+    """The cells of a table by the first cell of their row and by their column."""
+    head, *rows = [[cell.strip() for cell in line.strip("| ").split(" | ")] for line in lines if not re.match(r"\|[\s:|-]+\|$", line)]
+    return {row[0]: dict(zip(head[1:], row[1:])) for row in rows}
+
+
+def page_table(first: str, page: str = PAGE) -> Table:
+    """The table of a page, WORTH where none is named, that begins with this cell."""
+    lines = page.splitlines()
+    begin = next(place for place, line in enumerate(lines) if line.startswith(f"| {first} |"))
+    end = next(place for place in range(begin, len(lines)) if not lines[place].startswith("|"))
+    return table_of(lines[begin:end])
+
+
+def rows_of(name: str) -> List[Dict[str, str]]:
+    return list(csv.DictReader((BENCH / name).read_text().splitlines()))
 
 
 class Page(unittest.TestCase):
@@ -25,30 +47,90 @@ class Page(unittest.TestCase):
     @classmethod
     def setUpClass(cls) -> None:
         """All ways that the rows have. Nothing is run: a run that they don't have is an error."""
-        rows = Rows(ROWS)
+        rows = Rows(BENCH / "rolling.csv")
         cls.ways = [BASE, *(way for way in WAYS if way != BASE and any(way in key for key in rows.found))]
         cls.measured = measure(Path("/nowhere"), ALL, cls.ways, ASKED, rows)
 
     def test_its_tables_are_those_of_the_rows(self) -> None:
+        """The page may leave out rows and columns of what the tool makes."""
         spread = spread_table("throughput, % of reads first, all", self.measured, self.ways)
-        for table in (bound_table(self.measured), spread, room_table(self.measured, self.ways)):
-            self.assertTrue("\n".join(table) in PAGE, table[0])
+        for made in (bound_table(self.measured), spread, room_table(self.measured, self.ways)):
+            whole, shown = table_of(made), page_table(made[0].strip("| ").split(" | ")[0])
+            self.assertGreaterEqual(len(shown), 3)
+            for row, cells in shown.items():
+                for column, cell in cells.items():
+                    self.assertEqual(whole[row][column], cell, f"{row}: {column}")
 
-    def test_gains_are_those_that_are_told(self) -> None:
+    def test_gains_are_those_that_are_reported(self) -> None:
         """Of phase by phase in the mean of all, of those with room, and in the median of those with erases; of the rule in the mean of all."""
         room = [one for one in self.measured if of_bound(one, BASE) <= ROOM]
         erases = [one for one in self.measured if one.configuration.workload == "erases"]
         means = [statistics.mean(share(one, way) for one in own) - 100 for way, own in
                  (("steady", self.measured), ("steady", room), ("rule-one-kind", self.measured))]
         median = statistics.median(share(one, "steady") for one in erases) - 100
-        told = f"has {means[0]:.1f} % more than reads first, all, in the mean, {means[1]:.1f} % on the {len(room)}, and with erases {median:.0f} % in the median"
-        self.assertTrue(told in PAGE, told)
-        self.assertTrue(f"have {means[2]:.1f} % more in the mean" in PAGE, means)
-        self.assertTrue(f"{means[0]:.1f} % more than that way in the mean, {means[1]:.1f} % on the {len(room)}" in README, means)
+        said = f"has {means[0]:.1f} % more than reads first, all, in the mean, {means[1]:.1f} % on the {len(room)}, and with erases {median:.0f} % in the median"
+        self.assertIn(said, PAGE)
+        self.assertIn(f"have {means[2]:.1f} % more in the mean", PAGE)
+        self.assertIn(f"{means[0]:.1f} % more throughput in the mean", PAGE)
+        self.assertIn(f"{means[0]:.1f} % more than that way in the mean, {means[1]:.1f} % on the {len(room)}", README)
 
-    def test_no_way_passes_the_bound_by_more_than_is_told(self) -> None:
+    def test_no_way_passes_the_bound_by_more_than_is_reported(self) -> None:
         most = max(of_bound(one, way) for one in self.measured for way in one.by_way)
-        self.assertTrue(f"has {most - 100:.1f} % more than the bound" in PAGE, most)
+        self.assertIn(f"has {most - 100:.1f} % more than the bound", PAGE)
+
+
+class Stored(unittest.TestCase):
+    """The tables whose runs take the library or the program: their cells are those of the stored rows."""
+
+    def test_batches(self) -> None:
+        names = {"devices with strobes: all": ("profiles", "all"), "devices with strobes: reads": ("profiles", "reads")}
+        found = {(row["devices"], row["scripts"], row["way"]): f"{row['median']} / {row['mean']} / {row['best']}" for row in rows_of("batches.csv")}
+        for scripts, cells in page_table("scripts").items():
+            for way, cell in cells.items():
+                self.assertEqual(found[(*names.get(scripts, ("own", scripts)), way)], cell, scripts)
+
+    def test_216_configurations(self) -> None:
+        found = {row["way"]: row for row in rows_of("spread.csv") if row["configurations"] == "216, 2000 nodes"}
+        for way, cells in page_table("216 configurations").items():
+            row = found[way]
+            made = [row["median"], row["nine_of_ten"], row["worst"], row["best"], f"{row['one_percent_more']}; {row['one_percent_less']}", row["read_99"]]
+            self.assertEqual(list(cells.values()), made, way)
+
+    def test_twelve_configurations(self) -> None:
+        found = {(row["configuration"], row["way"]): row for row in rows_of("twelve.csv") if row["condition"] == "as stated"}
+        for configuration, cells in page_table("throughput").items():
+            for way, cell in cells.items():
+                row = found[configuration, way]
+                own = f"{int(row['rate']):,}; {row['bus']} %" if way == "reads first, all" else row["throughput"]
+                self.assertEqual(own, cell, f"{configuration}: {way}")
+
+    def test_planning(self) -> None:
+        rows = [row for row in rows_of("twelve.csv") if row["plan_us"]]
+        for way, cells in page_table("a plan").items():
+            own = [row for row in rows if row["way"] == way]
+            means, longest = [int(row["plan_us"]) for row in own], max(int(row["plan_longest_ms"]) for row in own)
+            self.assertEqual(list(cells.values()), [f"{min(means):,} to {max(means):,}", str(longest)], way)
+
+    def test_remembering(self) -> None:
+        names = ("nodes", "ms", "bytes")
+        found = {row["by"]: row for row in rows_of("remember.csv") if row["scripts"] == "all"}
+        shown = page_table("search", (support.ROOT / "docs/REMEMBER.md").read_text())
+        self.assertEqual(set(shown), {f"`{by}`" for by in found})
+        for by, cells in shown.items():
+            row = found[by.strip("`")]
+            made = [" / ".join(row[f"{name}_{which}"] for which in ("median", "99", "greatest")) for name in names]
+            self.assertEqual([cell.replace(",", "") for cell in cells.values()], [row["over"], *made])
+
+    def test_certificates(self) -> None:
+        found = {(row["certificate"], row["tokens"]): row for row in rows_of("certificates.csv")}
+        text = (support.ROOT / "docs/SPEED.md").read_text().split("## Certificates that remember states")[1].split("\n## ")[0]
+        rows = [[cell.strip().replace(",", "").replace("`", "") for cell in line.strip()[1:-1].split("|")] for line in text.splitlines() if line.startswith("| ")]
+        self.assertGreaterEqual(len(rows), 4)
+        kind = ""
+        for certificate, tokens, instructions, whole in rows[1:]:
+            kind = certificate or kind
+            row = found[kind.replace("remembered by check --remember", "remembered").replace("plain by", "plain, by"), tokens]
+            self.assertEqual([row["instructions_a_token"], row["in_all"]], [instructions, whole], tokens)
 
 
 if __name__ == "__main__":
