@@ -3,7 +3,7 @@
  *
  * A plan is the bus schedule of up to eight requests that no legal schedule beats, with a certificate that shows it; the
  * checker says of any schedule and certificate whether they do. Both are proved: each call repeats the contract of the
- * function that it calls (docs/CLAIMS.md).
+ * function that it calls (docs/PROOFS.md).
  *
  * Times are ns of the channel's clock, below 2^62; lengths and waits are below 2^50.
  *
