@@ -25,7 +25,7 @@ use Rattle.onfi_flight.specs.declared.turn.Start.{Start as AStart}
 use Rattle.onfi_flight.specs.declared.turn.Turn.{Turn}
 use Rattle.onfi_flight.specs.declared.turn.Turn.TheVariants as turn
 use Rattle.onfi_flight.specs.Turns.{IsTurn, NoneStart, starts_in}
-use Rattle.onfi_flight.specs.Flight.{Flight, IsDue, IsFlight, IsFree, IsOver, IsPhase, Tells, left_behind, member_of, move_by, move_of, turn_of, wants_behind}
+use Rattle.onfi_flight.specs.Flight.{Flight, IsDue, IsFlight, IsFree, IsOver, IsPhase, IsStuck, MayRun, Tells, left_behind, member_of, move_by, move_of, turn_of, wants_behind}
 use Rattle.onfi_flight.proofs.Lists.{cut_there, get_map, index_get}
 use Rattle.onfi_flight.proofs.Shifted.{phases_start}
 use Rattle.onfi_flight.proofs.Turns.{within_groups}
@@ -87,10 +87,31 @@ module _ (f : Flight) (s : AStart) where
     next_may flight = (first_move_law f.now f.left (Next s.at) s.time left flight.problem flight.legal (rest_next flight.legal)).is_move
 
     -- .. and it may where what is left is legal
-    pub next_may_run : IsFlight f → (group : List Want) (phase ready : ℕ) → slice_get f.now.luns s.at ≡ Some (Running group phase ready) → (max f.now.bus_free ready ≤ s.time) × (phase < 2 * length group)
-    next_may_run flight group phase ready there =
+    next_may_run : IsFlight f → MayRun f (turn.Next s)
+    next_may_run flight =
         let first = first_move_law f.now f.left (Next s.at) s.time left flight.problem flight.legal (rest_next flight.legal) in
-        (rw there at first.on_time, (flight.problem.running s.at group phase ready there).unfinished)
+        let (group, phase, ready, there) = first.is_move in
+        (group, phase, ready, there, rw there at first.on_time, (flight.problem.running s.at group phase ready there).unfinished)
+
+    -- .. else what is left can't go on: nothing runs there,
+    pub nothing_runs : ((group : List Want) (phase ready : ℕ) → slice_get f.now.luns s.at ≡ Some (Running group phase ready) → ⊥) → IsStuck f
+    nothing_runs none = inr (turn.Next s, is, λ may. let (group, phase, ready, there, _, _) = may in none group phase ready there)
+
+    -- .. or bus or LUN are taken, or the group has no phase left
+    pub next_is_stuck : (group : List Want) (phase ready : ℕ) → slice_get f.now.luns s.at ≡ Some (Running group phase ready) → (s.time < max f.now.bus_free ready) ⊎ (2 * length group ≤ phase) → IsStuck f
+    next_is_stuck group phase ready there why = inr (
+      turn.Next s,
+      is,
+      λ may. (
+          let (g, n, r, at, free, left) = may in
+          let e : Some (Running group phase ready) ≡ Some (Running g n r) = sym there ∙ at in
+          let same_ready : ready ≡ r = cc in
+          let same_phase : phase ≡ n = cc in
+          let same_group : group ≡ g = cc in
+          let same = ap (λ (x : List Want). length x) same_group in
+          let top = ap (max f.now.bus_free) same_ready in
+          elim why [ inl late ↦ omega (arith, late, free, top) | inr over ↦ omega (arith, over, left, same, same_phase) ]),
+    )
 
   module _ (is : IsTurn f.left.rest f.left.groups (turn.First s)) (g : Placed) (there : slice_get f.left.groups s.at ≡ Some g) where
     abbrev left' : Schedule
@@ -125,17 +146,31 @@ module _ (f : Flight) (s : AStart) where
     })
 
     -- .. and it may where what is left is legal
-    pub first_may : IsFlight f → IsMove f.now (Start g.members) × (earliest f.now (Start g.members) ≤ s.time)
+    first_may : IsFlight f → IsMove f.now (Start g.members) × (earliest f.now (Start g.members) ≤ s.time)
     first_may flight =
         let first = first_move_law f.now f.left (Start g.members) s.time left' flight.problem flight.legal (group_next flight.legal) in
         (first.is_move, first.on_time)
 
-    pub first_may_run : IsFlight f → (since : ℕ) → slice_get f.now.luns (lun_of g.members) ≡ Some (Free since) → (max f.now.bus_free since ≤ s.time) × (lun_of g.members < length f.left.rest)
-    first_may_run flight since free =
+    first_may_run : IsFlight f → MayRun f (turn.First s)
+    first_may_run flight =
         let may = first_may flight in
+        let (since, free, startable) = may.0 in
         let low = lun_there f.now (Start g.members) may.0 in
         let same = flight.legal.shape.luns in
-        (rw free at may.1, omega (arith, low, same))
+        (g, since, there, free, rw free at may.1, startable, omega (arith, low, same))
+
+    -- .. else what is left can't go on
+    pub first_is_stuck : ((since : ℕ) → slice_get f.now.luns (lun_of g.members) ≡ Some (Free since) → max f.now.bus_free since ≤ s.time → IsStartable f.now.rules f.now.wants g.members
+        → lun_of g.members < length f.left.rest → ⊥) → IsStuck f
+    first_is_stuck none = inr (
+      turn.First s,
+      is,
+      λ may. (
+          let (other, since, at, free, late, startable, low) = may in
+          let e : Some g ≡ Some other = sym there ∙ at in
+          let same : other ≡ g = cc in
+          none since (rw same at free) late (rw same at startable) (rw same at low)),
+    )
 
 -- What is left where something, or nothing, is due
 
@@ -207,11 +242,27 @@ all_free [] none = tt
 all_free (Free since ∷ luns) none = (tt, all_free luns (λ lun. none (suc lun)))
 all_free (Running g n r ∷ luns) none = absurd (none zero g n r refl)
 
+-- what can't go on isn't legal
+may_run : (f : Flight) (t : Turn) → IsFlight f → IsTurn f.left.rest f.left.groups t → MayRun f t
+may_run f (turn.Next s) flight is = next_may_run f s is flight
+may_run f (turn.First s) flight is =
+    let (g, there, _) = get_map (λ (x : Placed). x.starts) f.left.groups s.at (s.time ∷ is.0.there.0) is.0.there.1 in
+    first_may_run f s is g there flight
+
+pub stuck_is_illegal : (f : Flight) → IsStuck f → IsFlight f → ⊥
+stuck_is_illegal f (inl (over, undone)) flight = undone (over_is_done f flight over)
+stuck_is_illegal f (inr (t, is, not)) flight = not (may_run f t flight is)
+
+pub never_stuck : (f : Flight) (is : NextIs) → IsFlight f → Tells f is → is ≡ next.Illegal → ⊥
+never_stuck f (next.Due due) flight tells e = cc
+never_stuck f next.Done flight tells e = cc
+never_stuck f next.Illegal flight tells e = stuck_is_illegal f tells flight
+
 -- so what comes next is done exactly where no phase is left
 pub done_exactly : (f : Flight) (is : NextIs) → IsFlight f → Tells f is → (is ≡ next.Done) ↔ (phases f.now f.left ≡ [])
 done_exactly f (next.Due due) flight tells = (λ e. absurd (let z : next.Due due ≡ next.Done = e in cc), λ none. absurd (turn_left f (turn_of due) flight tells.turn none))
 done_exactly f next.Done flight tells = (λ _. none_is_left f flight tells.0.0 tells.0.1, λ _. refl)
-done_exactly f next.Illegal flight tells = absurd (tells flight)
+done_exactly f next.Illegal flight tells = absurd (stuck_is_illegal f tells flight)
 
 -- What a phase makes of the problem
 

@@ -1,8 +1,9 @@
 -- What is left of a plan, the phase of it that is due, and what that leaves.
-use Rattle.std.specs.Prelude.{◌≡◌, ℕ, ◌+◌, ◌*◌, ◌-◌, ◌<◌, ◌≤◌, ◌^◌, max, min, nat_lt, if◌then◌else◌, List, [], length, drop, remove, replicate, Option, Some, None, slice_get, slice_index_or, slice_set}
+use Rattle.std.specs.Prelude.{◌≡◌, ℕ, ◌+◌, ◌*◌, ◌-◌, ◌<◌, ◌≤◌, ◌⊎◌, ◌^◌, max, min, nat_lt, if◌then◌else◌, List, [], length, drop, remove, replicate, Option, Some, None, slice_get, slice_index_or, slice_set}
 use Rattle.onfi_timing.specs.declared.timing.Timing.{Timing}
 use Rattle.onfi_request.specs.declared.want.Want.{Want}
 use Rattle.onfi_group.specs.declared.rules.Rules.{Rules}
+use Rattle.onfi_group.specs.Group.{IsStartable, lun_of}
 use Rattle.onfi_problem.specs.declared.lun_state.LunState.{LunState}
 use Rattle.onfi_problem.specs.declared.lun_state.LunState.TheVariants.{Free, Running}
 use Rattle.onfi_problem.specs.Moves.{Move, Next, Start, IsDone, IsMove, earliest, free_from, move_lun, placed, without}
@@ -102,12 +103,25 @@ abbrev pub IsFree : LunState → Type 0
 IsFree (Free since) = Unit {0}
 IsFree (Running group next ready) = ⊥
 
--- what comes next: the due phase; or nothing is left to do; or the phase of least start may not run, or something has no start, so
--- what is left isn't legal
+-- the phase of a turn may run: it is one of a group that runs and has it left, or the first of a group that may start on a LUN
+-- of the schedule, and bus and LUN are free by its start
+abbrev pub MayRun : Flight → Turn → Type 0
+MayRun f (turn.Next s) =
+    (group : List Want) × (phase : ℕ) × (ready : ℕ) × (slice_get f.now.luns s.at ≡ Some (Running group phase ready))
+    × (max f.now.bus_free ready ≤ s.time) × (phase < 2 * length group)
+MayRun f (turn.First s) =
+    (g : Placed) × (since : ℕ) × (slice_get f.left.groups s.at ≡ Some g) × (slice_get f.now.luns (lun_of g.members) ≡ Some (Free since))
+    × (max f.now.bus_free since ≤ s.time) × IsStartable f.now.rules f.now.wants g.members × (lun_of g.members < length f.left.rest)
+
+-- no start is left, though something waits or runs; or the phase of least start may not run
+abbrev pub IsStuck : Flight → Type 0
+IsStuck f = (IsOver f.left × (IsDone f.now → ⊥)) ⊎ ((t : Turn) × IsTurn f.left.rest f.left.groups t × (MayRun f t → ⊥))
+
+-- what comes next: the due phase; or nothing is left to do; or what is left can't go on
 abbrev pub Tells : Flight → NextIs → Type 0
 Tells f (next.Due due) = IsDue f due
 Tells f next.Done = IsOver f.left × IsDone f.now
-Tells f next.Illegal = IsFlight f → ⊥
+Tells f next.Illegal = IsStuck f
 
 -- What happens
 
