@@ -13,3 +13,5 @@ pub mod NextMove
 pub mod NextHeld
 pub mod Extremes
 pub mod NextFound
+pub mod OneToken
+pub mod EachLun

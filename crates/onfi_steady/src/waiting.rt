@@ -1,4 +1,4 @@
-ghost use Rattle.std.specs.Prelude.{◌≡◌, ◌<◌, ◌≤◌, ◌↔◌, true, [], None, length, IsErr, MatchResult};
+ghost use Rattle.std.specs.Prelude.{◌≡◌, ℕ, ◌<◌, ◌≤◌, ◌↔◌, true, [], None, length, slice_get, IfSome, IsErr, MatchResult};
 ghost use Rattle.std.specs.List.{AllByRecursion as Each};
 ghost use Rattle.onfi_timing.specs.declared.kind.Kind.{Kind as AnyKind};
 ghost use Rattle.onfi_group.specs.Group.{is_member};
@@ -55,6 +55,23 @@ impl Waiting {
             waiting: ArrayVec::new(),
             newest: None,
             offers: no_offers(),
+        }
+    }
+
+    /// Of a list that a caller keeps: what waits, in the order in which it was accepted, and the number of the newest accepted
+    /// program, whether it waits or not. What each LUN would begin is made anew.
+    pub fn of(rules: Rules, waiting: ArrayVec<Waiter, 64>, newest: Option<u64>) -> Waiting
+        requires planes { Each (λ w. w.want.plane ≤ 3) waiting.items }
+        ensures rules { result.rules ≡ rules }
+        ensures waiting { result.waiting ≡ waiting.items }
+        ensures newest { result.newest ≡ newest }
+    {
+        let offers = all_offers(&rules, waiting.as_slice());
+        Waiting {
+            rules,
+            waiting,
+            newest,
+            offers,
         }
     }
 
@@ -137,6 +154,23 @@ fn no_offers() -> [Offer; 8]
         Offer::none(),
         Offer::none(),
         Offer::none(),
+    ]
+}
+
+// What each of eight LUNs would begin.
+fn all_offers(rules: &Rules, waiting: &[Waiter]) -> [Offer; 8]
+    requires { length waiting.now ≤ 64 }
+    ensures { (lun : ℕ) → IfSome (slice_get result lun) (IsOffer rules.now waiting.now lun) }
+{
+    [
+        Offer::of(rules, waiting, 0),
+        Offer::of(rules, waiting, 1),
+        Offer::of(rules, waiting, 2),
+        Offer::of(rules, waiting, 3),
+        Offer::of(rules, waiting, 4),
+        Offer::of(rules, waiting, 5),
+        Offer::of(rules, waiting, 6),
+        Offer::of(rules, waiting, 7),
     ]
 }
 
