@@ -1,5 +1,6 @@
 //! A planner that is chosen when a program runs.
 
+use crate::by_rule::plan_known_by_rule;
 use crate::remembering::RememberingPlanner;
 use onfi_known_plan::plan_within;
 use onfi_plan::{Limit, PlainPlanner, Plan, PlanFault, Planner, none_ends_before};
@@ -16,12 +17,14 @@ pub enum ChosenPlanner {
     /// By [`plan_within`](onfi_known_plan::plan_within): the best plan that was found within the limit, with a text that shows
     /// before what none ends. It refuses for memory alone.
     BestSoFar,
+    /// By the rule of [`plan_by_rule`](onfi_steady::plan_by_rule), whatever the limit, with a text that shows what the greatest
+    /// of the bounds does. It refuses for memory alone.
+    ByRule,
 }
 
 impl Planner for ChosenPlanner {
-    ghost use Rattle.std.specs.Prelude.{◌≢◌, false};
-    ghost use Rattle.onfi_planners.specs.Choice.{IsAny, IsChosen};
-    ghost use Rattle.onfi_planners.specs.declared.chosen.ChosenPlanner.TheVariants.{BestSoFar};
+    ghost use Rattle.std.specs.Prelude.{false};
+    ghost use Rattle.onfi_planners.specs.Choice.{IsAny, IsChosen, IsExact};
 
     ghost exact = { false };
 
@@ -29,12 +32,12 @@ impl Planner for ChosenPlanner {
 
     ghost promises = { IsChosen };
 
-    ghost stops = { λ planner. planner ≢ BestSoFar };
+    ghost stops = { IsExact };
 
     /// A plan by the planner that was chosen.
     ///
     /// # Errors
-    /// As those of that planner; `Over` never where the best so far was chosen.
+    /// As those of that planner; `Over` never where the best so far or the rule was chosen.
     fn plan(&self, alloc: Global, problem: &Problem, limit: Limit) -> Result<Plan, PlanFault> {
         match *self {
             ChosenPlanner::Plain => PlainPlanner.plan(alloc, problem, limit),
@@ -43,6 +46,11 @@ impl Planner for ChosenPlanner {
                 none_ends_before(problem);
                 let plan = plan_within(alloc, problem, limit)?;
                 Ok(plan)
+            }
+            ChosenPlanner::ByRule => {
+                none_ends_before(problem);
+                let ruled = plan_known_by_rule(alloc, problem)?;
+                Ok(ruled)
             }
         }
     }
