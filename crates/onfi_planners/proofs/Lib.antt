@@ -1,2 +1,1 @@
-pub mod OneToken
 pub mod Promises

@@ -1,10 +1,10 @@
 //! A planner that is chosen when a program runs.
 
-use crate::by_rule::plan_known_by_rule;
 use crate::remembering::RememberingPlanner;
 use onfi_known_plan::plan_within;
 use onfi_plan::{Limit, PlainPlanner, Plan, PlanFault, Planner, none_ends_before};
 use onfi_problem::Problem;
+use onfi_steady::plan_by_rule_with_text;
 use std::alloc::Global;
 
 /// Plans as the planner that was chosen, so that one build of a program has them all.
@@ -49,7 +49,7 @@ impl Planner for ChosenPlanner {
             }
             ChosenPlanner::ByRule => {
                 none_ends_before(problem);
-                let ruled = plan_known_by_rule(alloc, problem)?;
+                let ruled = plan_by_rule_with_text(alloc, problem)?;
                 Ok(ruled)
             }
         }

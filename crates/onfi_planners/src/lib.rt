@@ -4,7 +4,6 @@
 //! `onfi_plan`.
 #![tactic(auto)]
 
-mod by_rule;
 mod chosen;
 mod early;
 mod remembering;

@@ -15,7 +15,7 @@ use Rattle.onfi_known_check.specs.Closing.{Closes as ClosesIt, closing_demand}
 use Rattle.onfi_known_check.specs.Proves.{ProvesTokens, closed}
 use Rattle.onfi_known_check.specs.Text.{InRange, header, line}
 use Rattle.onfi_plan.specs.Certificate.{Remembering, ShowsBelow}
-use Rattle.onfi_steady.specs.Below.{remembered}
+use Rattle.onfi_known_check.specs.Word.{of_plain}
 
 abbrev kept : Demand → Kept
 kept d = record { bus = d.bus; luns = d.lun 0 ∷ d.lun 1 ∷ d.lun 2 ∷ d.lun 3 ∷ d.lun 4 ∷ d.lun 5 ∷ d.lun 6 ∷ d.lun 7 ∷ [] }
@@ -34,14 +34,14 @@ kept_lun d (suc (suc (suc (suc (suc (suc (suc (suc n)))))))) h = absurd (omega a
 is_kept : (d : Demand) → IsKept (kept d) d
 is_kept d = record { bus = refl; luns = kept_lun d }
 
-closes_it : (p : Problem) (e : ℕ) (c : Closing) → Closes p e c → ClosesIt p e (remembered (token_of c))
+closes_it : (p : Problem) (e : ℕ) (c : Closing) → Closes p e c → ClosesIt p e (of_plain (token_of c))
 closes_it p e AtEnd h = h
 closes_it p e ByBus h = h
 closes_it p e ByLead h = h
 closes_it p e ByTrail h = h
 closes_it p e (ByDie lun) h = h
 
-in_range : (p : Problem) (e : ℕ) (c : Closing) → InLimits p → Closes p e c → InRange (remembered (token_of c))
+in_range : (p : Problem) (e : ℕ) (c : Closing) → InLimits p → Closes p e c → InRange (of_plain (token_of c))
 in_range p e AtEnd limits h = tt
 in_range p e ByBus limits h = tt
 in_range p e ByLead limits h = tt
@@ -63,24 +63,24 @@ leaf p e tokens one (Opened (Child tree forest), is, holds) =
     absurd (omega arith)
 leaf p e tokens one (Opened (Yields lun forest), is, holds) = let l = ap length is in absurd (omega arith)
 
-proves_it : (x : Position) (e : ℕ) (c : Closing) → Closes x.problem e c → ProvesTokens x.all (remembered (token_of c) ∷ []) x.problem e
+proves_it : (x : Position) (e : ℕ) (c : Closing) → Closes x.problem e c → ProvesTokens x.all (of_plain (token_of c) ∷ []) x.problem e
 proves_it x e c h =
-    let token = remembered (token_of c) in
+    let token = of_plain (token_of c) in
     let d = closing_demand x.problem e token in
     (kept d, [], closed x.problem [] token (kept d) [] (closes_it x.problem e c h) (is_kept d), omega arith)
 
 certifies : (x : Position) (e : ℕ) (c : Closing) (text : List ℕ) → InLimits x.problem → Closes x.problem e c
-    → text ≡ header x.problem.rules.strict ++ line (remembered (token_of c) ∷ []) → ShowsBelow (Remembering text) x.all x.problem e
+    → text ≡ header x.problem.rules.strict ++ line (of_plain (token_of c) ∷ []) → ShowsBelow (Remembering text) x.all x.problem e
 certifies x e c text limits h spelled =
-    let tokens = remembered (token_of c) ∷ [] in
+    let tokens = of_plain (token_of c) ∷ [] in
     let each : Each InRange tokens = (in_range x.problem e c limits h, tt) in
     (tokens, record { some = omega arith; in_range = All-from_recursion InRange tokens each; spelled = spelled }, proves_it x e c h)
 
 -- the text of the one token
 pub one_token_text : (x : Position) (e : ℕ) (tokens : List Token) (token : Token) (text : List ℕ) → InLimits x.problem → length tokens ≡ 1 → slice_get tokens 0 ≡ Some token
-    → AcceptsTokens tokens x.problem e → text ≡ header x.problem.rules.strict ++ line (remembered token ∷ []) → ShowsBelow (Remembering text) x.all x.problem e
+    → AcceptsTokens tokens x.problem e → text ≡ header x.problem.rules.strict ++ line (of_plain token ∷ []) → ShowsBelow (Remembering text) x.all x.problem e
 one_token_text x e tokens token text limits one there accepted spelled =
     let (c, is, holds) = leaf x.problem e tokens one accepted in
     let first : slice_get (token_of c ∷ []) 0 ≡ Some token = subst (λ ts. slice_get ts 0 ≡ Some token) is there in
     let same : token ≡ token_of c = cc in
-    certifies x e c text limits holds (spelled ∙ ap (λ t. header x.problem.rules.strict ++ line (remembered t ∷ [])) same)
+    certifies x e c text limits holds (spelled ∙ ap (λ t. header x.problem.rules.strict ++ line (of_plain t ∷ [])) same)

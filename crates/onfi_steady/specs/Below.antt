@@ -2,8 +2,6 @@
 use Rattle.std.specs.Prelude.{ℕ, ◌+◌, ◌<◌, nat_lt, if◌then◌else◌}
 use Rattle.onfi_cert.specs.declared.token.Token.{Token}
 use Rattle.onfi_cert.specs.declared.token.Token.TheVariants as token
-use Rattle.onfi_known_check.specs.declared.token.Token.{Token as KnownToken}
-use Rattle.onfi_known_check.specs.declared.token.Token.TheVariants as known
 use Rattle.onfi_problem.specs.Problem.{Problem}
 use Rattle.onfi_bound.specs.declared.bound.Bound.{Bound}
 use Rattle.onfi_bound.specs.declared.bound.Bound.TheVariants.{Bus, Lead, Trail, Die}
@@ -35,13 +33,3 @@ token_by (Die lun) = token.Die lun
 abbrev pub IsOfLun : Bound → Type 0
 IsOfLun (Die lun) = lun < 8
 IsOfLun other = Unit {0}
-
--- the same token of a certificate that remembers states
-abbrev pub remembered : Token → KnownToken
-remembered (token.Branch width) = known.Branch width
-remembered token.Bus = known.Bus
-remembered token.Lead = known.Lead
-remembered token.Trail = known.Trail
-remembered (token.Die lun) = known.Die lun
-remembered (token.Yield lun) = known.Yield lun
-remembered token.End = known.End

@@ -5,9 +5,9 @@ ghost use Rattle.onfi_problem.specs.Left.{InLimits};
 ghost use Rattle.onfi_schedule.specs.Schedule.{Legal, finish};
 ghost use Rattle.onfi_bound.specs.Reaching.{NoneReaches};
 ghost use Rattle.onfi_check.specs.Tree.{AcceptsTokens};
+ghost use Rattle.onfi_known_check.specs.Word.{of_plain};
 ghost use Rattle.onfi_planner.specs.Planning.{AreRising};
 ghost use Rattle.onfi_plan.specs.Certificate.{IsRemembering, Remembering, ShowsBelow, certificate_in};
-ghost use Rattle.onfi_steady.specs.Below.{remembered};
 ghost use Rattle.onfi_steady.specs.Rule.{IsByRule};
 
 use crate::planning::plan_by_rule;
@@ -32,6 +32,8 @@ pub fn plan_by_rule_with_text(alloc: Global, problem: &Problem) -> Result<Plan, 
     ensures greatest { IfOk result (λ plan. NoneReaches problem.now.problem (plan.below + 1)) }
     ensures shown { IfOk result (λ plan. ShowsBelow (certificate_in plan) problem.now.all problem.now.problem plan.below) }
     ensures kind { IfOk result (λ plan. IsRemembering (certificate_in plan)) }
+    ensures opened { IfOk result (λ plan. plan.opened ≡ 0) }
+    ensures reopened { IfOk result (λ plan. plan.reopened ≡ 0) }
 {
     problem.in_limits();
     let plan = plan_by_rule(alloc, problem)?;
@@ -74,7 +76,7 @@ fn text_below(
 
 // The same token of a certificate that remembers states.
 fn remembered(token: PlainToken) -> Token
-    ensures { result ≡ remembered token }
+    ensures { result ≡ of_plain token }
 {
     match token {
         PlainToken::Branch(width) => Token::Branch(width),
