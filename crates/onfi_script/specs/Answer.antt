@@ -22,11 +22,11 @@ use Rattle.onfi_known_check.specs.declared.fault.KnownTextFault.{KnownTextFault}
 use Rattle.onfi_known_check.specs.declared.token.Token.{Token as KnownToken}
 use Rattle.onfi_planner.specs.Planning.{AreRising}
 use Rattle.onfi_early.specs.Slack.{slack_of}
-use Rattle.onfi_plan.specs.Certificate.{IsSpelled, ShowsBelow as Shows, certificate_in}
+use Rattle.onfi_plan.specs.Certificate.{IsMadeFrom, IsSpelled, ShowsBelow as Shows, certificate_in}
 use Rattle.onfi_plan.specs.declared.plan.Plan.{Plan as OnePlan}
-use Rattle.onfi_planners.specs.Choice.{certified_by, slack_in}
+use Rattle.onfi_planners.specs.Choice.{IsExact, IsPlannedByRule, certified_by, slack_in}
 use Rattle.onfi_planners.specs.declared.chosen.ChosenPlanner.{ChosenPlanner}
-use Rattle.onfi_planners.specs.declared.chosen.ChosenPlanner.TheVariants.{Plain, Remembering, BestSoFar}
+use Rattle.onfi_planners.specs.declared.chosen.ChosenPlanner.TheVariants.{Plain, Remembering, BestSoFar, ByRule}
 use Rattle.onfi_script.specs.declared.command.Command.{Command}
 use Rattle.onfi_script.specs.declared.command.Command.TheVariants as asked
 use Rattle.onfi_script.specs.declared.command.Output.{Output}
@@ -63,7 +63,7 @@ pub record ShowsBelow (planner : ChosenPlanner) (p : Problem) (below : ℕ) (tex
 
 -- a plan of a planner: a legal schedule, its groups by rising first start, and a certificate of that planner's that nothing ends
 -- before `below`. It ends at most so many thousandths later, with none it is optimal; save that the best so far may end at any
--- time where the tree of the problem has more nodes than the limit
+-- time where the tree of the problem has more nodes than the limit, and one by the rule at any time
 pub record IsPlan (planner : ChosenPlanner) (slack limit : ℕ) (p : Problem) (plan : OnePlan) : Type 0 where
   pub legal : Legal p plan.planned.schedule
   pub ends : finish p plan.planned.schedule ≡ plan.planned.finish
@@ -71,8 +71,15 @@ pub record IsPlan (planner : ChosenPlanner) (slack limit : ℕ) (p : Problem) (p
   pub kind : certified_by planner (certificate_in plan)
   pub shown : Shows (certificate_in plan) p.wants p plan.below
   pub none_before : NoneBefore p plan.below
-  pub optimal : planner ≢ BestSoFar → slack ≡ 0 → Optimal p plan.planned.schedule × (plan.below ≡ plan.planned.finish)
-  pub near : plan.below + slack_of slack p.bus_free plan.below < plan.planned.finish → (planner ≡ BestSoFar) × HasMoreNodes p limit
+  pub optimal : IsExact planner → slack ≡ 0 → Optimal p plan.planned.schedule × (plan.below ≡ plan.planned.finish)
+  pub near : planner ≢ ByRule → plan.below + slack_of slack p.bus_free plan.below < plan.planned.finish → (planner ≡ BestSoFar) × HasMoreNodes p limit
+
+-- the plan is the one that the rule makes, or was made better from it and ends at most so many thousandths later
+pub record IsFromRule (better : Option ℕ) (limit : ℕ) (p : Problem) (plan : OnePlan) : Type 0 where
+  pub first : OnePlan
+  pub rule : IsPlannedByRule p limit first
+  pub made : IsMadeFrom first (slack_of (slack_in better) p.bus_free first.below) plan
+  pub as_is : better ≡ None → plan ≡ first
 
 -- a plan is printed as asked for: the plan text with its certificate, or its trace, whose lines name their requests where that
 -- is asked for
@@ -84,6 +91,7 @@ Prints (Trace requests) p s below text answer = IsTrace requests p s answer.text
 pub record PrintsPlan (options : PlanOptions) (p : Problem) (answer : Answer) : Type 0 where
   pub plan : OnePlan
   pub is_plan : IsPlan options.planner (slack_in options.better) options.limit p plan
+  pub by_rule : options.planner ≡ ByRule → IsFromRule options.better options.limit p plan
   pub text : List ℕ
   pub spelled : IsSpelled p.rules.strict (certificate_in plan) text
   pub printed : Prints options.output p plan.planned.schedule plan.below text answer
@@ -96,11 +104,12 @@ OneTells limit p opened = (opened ≡ limit) × HasMoreNodes p limit
 abbrev pub PartsTell : ℕ → Problem → ℕ → Type 0
 PartsTell limit p opened = IsSplitOver p limit opened
 
--- what a planner tells as over, where the plain search tells so: the best so far is never over
+-- what a planner tells as over, where the plain search tells so: the best so far is never over, nor is the rule
 abbrev pub TellsOver : (ℕ → Problem → ℕ → Type 0) → ChosenPlanner → ℕ → Problem → ℕ → Type 0
 TellsOver Tells Plain limit p opened = Tells limit p opened
 TellsOver Tells Remembering limit p opened = OneTells limit p opened
 TellsOver Tells BestSoFar limit p opened = ⊥
+TellsOver Tells ByRule limit p opened = ⊥
 
 -- a plan, or how many nodes were opened
 abbrev pub AnswersPlan : (ℕ → Problem → ℕ → Type 0) → PlanOptions → Problem → Answer → Type 0
@@ -136,12 +145,17 @@ abbrev pub AnswersOptimal : ChosenPlanner → Problem → List ℕ → Answer �
 AnswersOptimal planner p text answer = MatchResult (plan_of p.wants text)
     (λ r. AnswersSchedule planner p (schedule_of p r.0) r.0.finish (finish p (schedule_of p r.0)) r.1 answer) (λ number. answer ≡ refused_at (codes "plan") number)
 
--- .. to one as a planner's are: in that of the best so far a line `below` may stand
+-- .. to one in which a line `below` may stand
+abbrev pub AnswersWithin : Problem → List ℕ → Answer → Type 0
+AnswersWithin p text answer = MatchResult (plan_within_of p.wants text)
+    (λ r. AnswersSchedule BestSoFar p (schedule_of p r.0) r.0.finish r.1 r.2 answer) (λ number. answer ≡ refused_at (codes "plan") number)
+
+-- .. to one as a planner's are: in that of the best so far, and in one by the rule, a line `below` may stand
 abbrev pub AnswersCheck : ChosenPlanner → Problem → List ℕ → Answer → Type 0
 AnswersCheck Plain p text answer = AnswersOptimal Plain p text answer
 AnswersCheck Remembering p text answer = AnswersOptimal Remembering p text answer
-AnswersCheck BestSoFar p text answer = MatchResult (plan_within_of p.wants text)
-    (λ r. AnswersSchedule BestSoFar p (schedule_of p r.0) r.0.finish r.1 r.2 answer) (λ number. answer ≡ refused_at (codes "plan") number)
+AnswersCheck BestSoFar p text answer = AnswersWithin p text answer
+AnswersCheck ByRule p text answer = AnswersWithin p text answer
 
 -- the answer to a schedule alone: that a condition is broken, or when it ends
 pub data TellsLegal (p : Problem) (s : Schedule) (answer : Answer) : Type 0 where

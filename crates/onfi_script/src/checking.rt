@@ -2,7 +2,7 @@
 ghost use Rattle.std.specs.Prelude.{◌≡◌, codes, IfOk, if◌then◌else◌};
 ghost use Rattle.onfi_schedule.specs.Schedule.{Legal, finish};
 ghost use Rattle.onfi_planners.specs.declared.chosen.ChosenPlanner.TheVariants as by;
-ghost use Rattle.onfi_script.specs.Answer.{AnswersCheck, AnswersOptimal, AnswersSchedule};
+ghost use Rattle.onfi_script.specs.Answer.{AnswersCheck, AnswersOptimal, AnswersSchedule, AnswersWithin};
 ghost use Rattle.onfi_script.specs.AnswerOf.{answer_of};
 ghost use Rattle.onfi_script.specs.Text.{known_text_refused, refused_at as spec_refused_at, refused_by, text_refused};
 
@@ -139,7 +139,7 @@ fn checked_optimal(
 /// The answer to a plan text in which a line `below` may stand.
 fn checked_within(alloc: Global, problem: &Problem, text: &[u8]) -> Result<Answer, AllocError>
     requires begun { problem.now.all ≡ problem.now.problem.wants }
-    ensures { IfOk result (λ a. AnswersCheck by.BestSoFar problem.now.problem text.now (answer_of a)) }
+    ensures { IfOk result (λ a. AnswersWithin problem.now.problem text.now (answer_of a)) }
 {
     match read_plan_within(alloc, problem.wants(), text) {
         Ok(
@@ -171,5 +171,6 @@ pub fn checked(
         ChosenPlanner::Plain => checked_optimal(alloc, false, problem, text),
         ChosenPlanner::Remembering => checked_optimal(alloc, true, problem, text),
         ChosenPlanner::BestSoFar => checked_within(alloc, problem, text),
+        ChosenPlanner::ByRule => checked_within(alloc, problem, text),
     }
 }

@@ -15,13 +15,13 @@ pub enum Output {
 /// How a problem is planned, and what is printed of the plan.
 #[derive(Clone, Copy)]
 pub struct PlanOptions {
-    /// What finds the plan; the plain planner is a search by as many workers as there are.
+    /// What finds the plan; the plain planner is a search by as many workers as there are, and the rule searches nothing.
     pub planner: ChosenPlanner,
     /// Where it is to be made better: requests end sooner by the weights of the script, and the last phase may end later by so
     /// many thousandths, 1,000 at most, of what lies between the time from when on the bus is free and the one before which
     /// nothing ends.
     pub better: Option<u16>,
-    /// How many nodes a search opens at most, 1 to 1,048,576.
+    /// How many nodes a search opens at most, 1 to 1,048,576; the rule opens none.
     pub limit: u32,
     pub output: Output,
 }
@@ -51,7 +51,8 @@ pub enum Command {
     /// Print a plan by these options.
     PlanBy(PlanOptions),
     /// Say whether the plan text behind the script shows what plans of that planner do: as `Check`, by a certificate that
-    /// remembers states where the planner does. Of the best so far a line `below` may tell before which time nothing ends.
+    /// remembers states where the planner does. Of the best so far and of the rule a line `below` may tell before which time
+    /// nothing ends.
     CheckBy(ChosenPlanner),
     /// Say whether the schedule of the plan text behind the script is legal, and when it ends. A certificate need not
     /// stand there, and isn't looked at; nor is the number behind `finish`, nor that of a line `below`.

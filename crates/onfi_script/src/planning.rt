@@ -3,8 +3,8 @@ ghost use Rattle.std.specs.Prelude.{◌≡◌, ◌≤◌, ℕ, List, IfOk, IfErr
 ghost use Rattle.onfi_schedule.specs.Schedule.{Legal, finish};
 ghost use Rattle.onfi_schedule.specs.Trace.{IsTrace};
 ghost use Rattle.onfi_plan.specs.Certificate.{IsSpelled, certificate_in};
-ghost use Rattle.onfi_planners.specs.Choice.{slack_in};
-ghost use Rattle.onfi_script.specs.Answer.{IsPlan, OneTells, PartsTell, Prints, TellsOver};
+ghost use Rattle.onfi_planners.specs.Choice.{IsPlannedByRule, slack_in};
+ghost use Rattle.onfi_script.specs.Answer.{IsFromRule, IsPlan, OneTells, PartsTell, Prints, TellsOver};
 ghost use Rattle.onfi_script.specs.AnswerOf.{answer_of};
 ghost use Rattle.onfi_script.specs.Limit.{IsLimit};
 
@@ -32,6 +32,7 @@ pub fn plan_by(
     requires limit { IsLimit options.limit }
     requires begun { problem.now.all ≡ problem.now.problem.wants }
     ensures plan { IfOk result (IsPlan options.planner (slack_in options.better) options.limit problem.now.problem) }
+    ensures by_rule { IfOk result (λ plan. options.planner ≡ ChosenPlanner.ByRule → IsFromRule options.better options.limit problem.now.problem plan) }
     ensures over { IfErr result (λ fault. (opened : ℕ) → fault ≡ PlanFault.Over opened → TellsOver OneTells options.planner options.limit problem.now.problem opened) }
 {
     let limit = Limit::of(options.limit).unwrap();
@@ -57,6 +58,7 @@ pub fn plan_by_workers<R: Threads + Sync>(
     requires few_workers { workers ≤ 8 }
     requires begun { problem.now.all ≡ problem.now.problem.wants }
     ensures plan { IfOk result (IsPlan options.planner (slack_in options.better) options.limit problem.now.problem) }
+    ensures by_rule { IfOk result (λ plan. options.planner ≡ ChosenPlanner.ByRule → IsFromRule options.better options.limit problem.now.problem plan) }
     ensures over { IfErr result (λ fault. (opened : ℕ) → fault ≡ PlanFault.Over opened → TellsOver PartsTell options.planner options.limit problem.now.problem opened) }
 {
     match options.planner {
@@ -68,6 +70,7 @@ pub fn plan_by_workers<R: Threads + Sync>(
         }
         ChosenPlanner::Remembering => plan_by(alloc, problem, weights, options),
         ChosenPlanner::BestSoFar => plan_by(alloc, problem, weights, options),
+        ChosenPlanner::ByRule => plan_by(alloc, problem, weights, options),
     }
 }
 
@@ -80,7 +83,8 @@ fn maybe_better(
     plan: Plan,
 ) -> Result<Plan, AllocError>
     requires { IsPlan options.planner 0 options.limit problem.now.problem plan }
-    ensures { IfOk result (IsPlan options.planner (slack_in options.better) options.limit problem.now.problem) }
+    ensures plan { IfOk result (IsPlan options.planner (slack_in options.better) options.limit problem.now.problem) }
+    ensures by_rule { IsPlannedByRule problem.now.problem options.limit plan → IfOk result (IsFromRule options.better options.limit problem.now.problem) }
 {
     match options.better {
         None => Ok(plan),

@@ -10,3 +10,9 @@ maybe_better-requires c =
     let plan = c.in_ok-plan.ensures in
     let limit : c.unwrap-limit.result ≡ o.limit = search rules in
     chosen_plan o.planner o.limit x c.in_ok-plan.plan c.requires.begun plan.legal plan.finish plan.rising plan.none_before plan.shown (subst (λ n. IsChosen o.planner x.problem n c.in_ok-plan.plan) limit plan.promised)
+
+pub returns-clause-by_rule : goal.returns-clause-by_rule
+returns-clause-by_rule c = λ is.
+    let o = c.args.options in
+    let limit : c.unwrap-limit.result ≡ o.limit = search rules in
+    c.in_ok-better.ensures.by_rule ((subst (λ n. IsChosen o.planner c.args.problem.now.problem n c.in_ok-plan.plan) limit c.in_ok-plan.ensures.promised).by_rule is)

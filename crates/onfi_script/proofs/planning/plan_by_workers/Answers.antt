@@ -21,3 +21,9 @@ returns-in-BestSoFar-clause-over g c =
     let o = c.args.options in
     let p = c.args.problem.now.problem in
     IfErr-weaker c.plan_by-in-BestSoFar.result _ _ (λ fault over opened e. subst (λ b. TellsOver PartsTell b o.limit p opened) (sym c.in-BestSoFar.is) (subst (λ b. TellsOver OneTells b o.limit p opened) c.in-BestSoFar.is (over opened e))) c.plan_by-in-BestSoFar.ensures.over
+
+pub returns-in-ByRule-clause-over : goal.returns-in-ByRule-clause-over
+returns-in-ByRule-clause-over g c =
+    let o = c.args.options in
+    let p = c.args.problem.now.problem in
+    IfErr-weaker c.plan_by-in-ByRule.result _ _ (λ fault over opened e. subst (λ b. TellsOver PartsTell b o.limit p opened) (sym c.in-ByRule.is) (subst (λ b. TellsOver OneTells b o.limit p opened) c.in-ByRule.is (over opened e))) c.plan_by-in-ByRule.ensures.over
