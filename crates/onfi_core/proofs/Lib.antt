@@ -8,6 +8,7 @@ pub mod Phase
 pub mod Bus
 pub mod Merged
 pub mod Marks
+pub mod Chaining
 pub mod Numbered
 pub mod Plan
 pub mod Accept

@@ -102,7 +102,7 @@ is_choice batch accepted items marks is full oldest =
 
 -- More marks
 
-marked_set : (marks : List Bool) (at : ℕ) → slice_get marks at ≡ Some false → marked (slice_set marks at true) ≡ marked marks + 1
+pub marked_set : (marks : List Bool) (at : ℕ) → slice_get marks at ≡ Some false → marked (slice_set marks at true) ≡ marked marks + 1
 marked_set [] at h = cc
 marked_set (true ∷ marks) zero h = cc
 marked_set (false ∷ marks) zero h = omega arith
@@ -115,6 +115,9 @@ set_keeps marks at i f h =
       | inl e ↦ (let bad : Some false ≡ Some true = sym f ∙ ap (slice_get marks) e ∙ h in cc)
       | inr d ↦ get_set_other marks at i true (λ e. d (sym e)) ∙ h
     ]
+
+pub has_room : (taken batch : ℕ) → (batch ≤ taken → false ≡ true) → taken < batch
+has_room taken batch h = elim (cases_lt taken batch) [ inl low ↦ low | inr full ↦ (let bad : false ≡ true = h full in cc) ]
 
 -- one more is taken
 pub taken_more : (batch : ℕ) (items : List Want) (marks : List Bool) (at : ℕ) → IsSelection batch items marks → slice_get marks at ≡ Some false → marked marks < batch → Follows items marks at → Grows batch items marks (slice_set marks at true)
@@ -136,6 +139,22 @@ taken_more batch items marks at is f low follows =
 pub set_there : (marks : List Bool) (at : ℕ) → slice_get marks at ≡ Some false → slice_get (slice_set marks at true) at ≡ Some true
 set_there marks at f = get_set_same marks at false true f
 
+pub all_more : (at : ℕ) (marks : List Bool) → AllBelow at marks → slice_get marks at ≡ Some true → AllBelow (at + 1) marks
+all_more at marks all here before low = elim (same_place before at) [
+  | inl e ↦ ap (slice_get marks) e ∙ here
+  | inr d ↦ all before (below before at low d)
+]
+  where
+    below : (i at : ℕ) → i < at + 1 → (i ≡ at → ⊥) → i < at
+    below i at low d = omega arith
+
+-- one more is taken behind those that all are
+pub front_taken : (batch : ℕ) (items : List Want) (marks : List Bool) (at : ℕ) → IsSelection batch items marks → slice_get marks at ≡ Some false → marked marks < batch → AllBelow at marks → Grows batch items marks (slice_set marks at true)
+front_taken batch items marks at is f low all = taken_more batch items marks at is f low (λ before v w lt gv gw el eb. all before lt)
+
+pub front_all : (marks : List Bool) (at : ℕ) → slice_get marks at ≡ Some false → AllBelow at marks → AllBelow (at + 1) (slice_set marks at true)
+front_all marks at f all = all_more at (slice_set marks at true) (λ before low. set_keeps marks at before f (all before low)) (set_there marks at f)
+
 -- those at the front
 pub front_selected : (batch first : ℕ) (items : List Want) (marks : List Bool) → length marks ≡ length items → marked marks ≡ first → first ≤ batch
     → ((at : ℕ) → (slice_get marks at ≡ Some true → at < first) × (at < first → slice_get marks at ≡ Some true)) → IsSelection batch items marks
@@ -146,18 +165,6 @@ front_selected batch first items marks count few low below = record {
 }
 
 -- The loops
-
-marked_few : (marks : List Bool) → marked marks ≤ length marks
-marked_few [] = omega arith
-marked_few (true ∷ marks) = let i = marked_few marks in omega arith
-marked_few (false ∷ marks) = let i = marked_few marks in omega arith
-
--- one that is marked is counted among those behind
-pub marked_there : (marks : List Bool) (at : ℕ) → slice_get marks at ≡ Some true → 1 ≤ marked (drop at marks)
-marked_there marks at h = let e = drop_next marks at true h in rw e (omega arith)
-
-pub count_fits : (marks : List Bool) (at count : ℕ) → slice_get marks at ≡ Some true → count + marked (drop at marks) ≡ marked marks → count + 1 ≤ length marks
-count_fits marks at count h e = let a = marked_there marks at h in let b = marked_few marks in omega arith
 
 one_more : (b : Bool) (n first : ℕ) (marks : List Bool) → (b ≡ true → n < first) → (n < first → b ≡ true) → length marks ≡ n → ((i : ℕ) → (slice_get marks i ≡ Some true → i < first) × (i < first → i < n → slice_get marks i ≡ Some true))
     → (i : ℕ) → (slice_get (marks ++ b ∷ []) i ≡ Some true → i < first) × (i < first → i < n + 1 → slice_get (marks ++ b ∷ []) i ≡ Some true)

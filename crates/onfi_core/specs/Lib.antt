@@ -1,6 +1,7 @@
 pub mod Ranges
 pub mod State
 pub mod Choice
+pub mod Chains
 pub mod Steps
 pub mod Renewing
 pub mod Kept
