@@ -312,6 +312,17 @@ uint32_t onfi_plan_within(const onfi_channel *channel, const onfi_lun *luns, siz
                           uint32_t limit, onfi_within *plan, uint8_t *certificate, size_t certificate_room, size_t *certificate_bytes);
 
 /*
+ * Plans by a rule, in one pass and without a search, so in microseconds: again and again each LUN gives its next phase, or a group
+ * that may start, its oldest read, else program, else erase, with all that can join it; and of these phases the one that may start
+ * soonest goes. plan->below is the greatest time that a bound shows before which nothing ends, plan->finish is no less, and the
+ * schedule is optimal where the two are one. The certificate shows plan->below by one token, for onfi_check_within.
+ *
+ * The same is told as by onfi_plan_within, and never ONFI_BAD_LIMIT.
+ */
+uint32_t onfi_plan_rule(const onfi_channel *channel, const onfi_lun *luns, size_t lun_count, const onfi_want *wants, size_t want_count,
+                        onfi_within *plan, uint8_t *certificate, size_t certificate_room, size_t *certificate_bytes);
+
+/*
  * Plans as onfi_plan_within does, and makes the plan better: requests end early. What counts is the sum over all requests of
  * their weight times the end of their last phase. With `slack` the plan may end behind plan->below by so many thousandths, 1,000
  * at most (a greater number counts as 1,000), of what lies between channel->bus_free and plan->below; it ends later only where the

@@ -88,6 +88,20 @@ def plan_within(channel: Channel, luns: Sequence[Lun], wants: Sequence[Want], li
     return PlanWithin(made.schedule.told(), made.finish, made.below, certificate)
 
 
+def plan_rule(channel: Channel, luns: Sequence[Lun], wants: Sequence[Want]) -> PlanWithin:
+    """A plan by a rule, in one pass and without a search.
+
+    Again and again each LUN gives its next phase, or a group that may start, its oldest read, else program, else erase, with all
+    that can join it; and of these phases the one that may start soonest goes. The plan's `below` is the greatest time that a bound
+    shows before which nothing ends; where it is the finish the schedule is optimal. Its certificate is for `check_within`.
+
+    Raises what `plan_within` does but `BadLimit`.
+    """
+    made = CWithin()
+    certificate = given(library().onfi_plan_rule, Problem(channel, luns, wants), made)
+    return PlanWithin(made.schedule.told(), made.finish, made.below, certificate)
+
+
 def plan_early(
     channel: Channel,
     luns: Sequence[Lun],
@@ -120,10 +134,15 @@ def planned(call: Callable[..., int], said: Problem, limit: int) -> Plan:
 
 
 def written(call: Callable[..., int], said: Problem, limit: int, made: Union[CPlan, CWithin], *words: object) -> bytes:
-    """The text of the certificate that a call writes beside its plan."""
+    """The text of the certificate that a call within a limit writes beside its plan."""
     if not 0 <= limit < 1 << 32:
         raise refusal(5)
-    status, certificate = with_room(lambda *room: call(*said.words, limit, *words, ctypes.byref(made), *room))
+    return given(call, said, made, limit, *words)
+
+
+def given(call: Callable[..., int], said: Problem, made: Union[CPlan, CWithin], *words: object) -> bytes:
+    """The text of the certificate that a call writes beside its plan."""
+    status, certificate = with_room(lambda *room: call(*said.words, *words, ctypes.byref(made), *room))
     if status != DONE:
         raise refusal(status)
     return certificate

@@ -19,6 +19,7 @@ CALLS = {
     "onfi_plan": (*PROBLEM, ctypes.c_uint32, ctypes.POINTER(CPlan), *ROOM),
     "onfi_plan_known": (*PROBLEM, ctypes.c_uint32, ctypes.POINTER(CPlan), *ROOM),
     "onfi_plan_within": (*PROBLEM, ctypes.c_uint32, ctypes.POINTER(CWithin), *ROOM),
+    "onfi_plan_rule": (*PROBLEM, ctypes.POINTER(CWithin), *ROOM),
     "onfi_plan_early": (*PROBLEM, ctypes.c_uint32, ctypes.POINTER(CWeights), ctypes.c_uint16, ctypes.POINTER(CWithin), *ROOM),
     "onfi_check": (*PROBLEM, ctypes.POINTER(CSchedule), BYTES, SIZE, ctypes.POINTER(CVerdict)),
     "onfi_check_known": (*PROBLEM, ctypes.POINTER(CSchedule), BYTES, SIZE, ctypes.POINTER(CVerdict)),

@@ -1,6 +1,6 @@
-/* plan_script [known | within LIMIT | early LIMIT SLACK WEIGHT..] < SCRIPT: the plan text of a script of the first form without faults, by
+/* plan_script [known | within LIMIT | rule | early LIMIT SLACK WEIGHT..] < SCRIPT: the plan text of a script of the first form without faults, by
  * onfi_plan, and checked by onfi_check; with `known` by onfi_plan_known and onfi_check_known, with `within` by onfi_plan_within and
- * onfi_check_within, with `early` by onfi_plan_early and onfi_check_within. */
+ * onfi_check_within, with `rule` by onfi_plan_rule and `early` by onfi_plan_early, and both by onfi_check_within. */
 #include "script.h"
 
 static problem p;
@@ -49,6 +49,14 @@ static int plan_within(uint32_t limit)
     return status == ONFI_DONE ? print_within(&plan, bytes) : (int)status;
 }
 
+static int plan_rule(void)
+{
+    onfi_within plan;
+    size_t bytes;
+    uint32_t status = onfi_plan_rule(&p.channel, p.luns, p.lun_count, p.wants, p.want_count, &plan, certificate, sizeof certificate, &bytes);
+    return status == ONFI_DONE ? print_within(&plan, bytes) : (int)status;
+}
+
 static int plan_early(uint32_t limit, uint16_t slack, size_t count, char **words)
 {
     onfi_within plan;
@@ -86,6 +94,8 @@ int main(int argc, char **argv)
     read_script(&p, stdin);
     if (argc > 2 && !strcmp(argv[1], "within"))
         return plan_within((uint32_t)strtoul(argv[2], NULL, 10));
+    if (argc > 1 && !strcmp(argv[1], "rule"))
+        return plan_rule();
     if (argc > 3 && argc <= 12 && !strcmp(argv[1], "early"))
         return plan_early((uint32_t)strtoul(argv[2], NULL, 10), (uint16_t)strtoul(argv[3], NULL, 10), (size_t)argc - 4, argv + 4);
     return plan_all(argc > 1 && !strcmp(argv[1], "known"));

@@ -76,6 +76,11 @@ static uint32_t within_of(const problem *p, onfi_within *plan, uint8_t *certific
     return onfi_plan_within(&p->channel, p->luns, p->lun_count, p->wants, p->want_count, p->limit, plan, certificate, room, bytes);
 }
 
+static uint32_t rule_of(const problem *p, onfi_within *plan, uint8_t *certificate, size_t room, size_t *bytes)
+{
+    return onfi_plan_rule(&p->channel, p->luns, p->lun_count, p->wants, p->want_count, plan, certificate, room, bytes);
+}
+
 static void refuses_within(const char *what, const problem *p, uint32_t wanted)
 {
     static const uint8_t certificate[64];
@@ -95,11 +100,15 @@ static void refuses_within(const char *what, const problem *p, uint32_t wanted)
     expect(what, (uint64_t)memcmp(&plan, &before, sizeof plan), 0);
     if (wanted == ONFI_BAD_LIMIT)
         return;
+    bytes = 1;
+    expect(what, rule_of(p, &plan, NULL, 0, &bytes), wanted);
+    expect(what, bytes, 0);
+    expect(what, (uint64_t)memcmp(&plan, &before, sizeof plan), 0);
     expect(what, onfi_check_within(&p->channel, p->luns, p->lun_count, p->wants, p->want_count, &none, 0, certificate, sizeof certificate, &verdict), wanted);
     expect(what, verdict.finish + verdict.place, 0);
 }
 
-/* By plain certificates, by those that remember states, and within a limit. */
+/* By plain certificates, by those that remember states, within a limit, and by the rule. */
 static void refuses(const char *what, const problem *p, uint32_t wanted)
 {
     refuses_plan(what, onfi_plan, p, wanted);
@@ -248,6 +257,29 @@ static void within(void)
     expect("tells no finish", verdict.finish, 0);
     plan.schedule.groups--;
     expect("a want left out", WITHIN(plan.below, text, bytes), ONFI_ILLEGAL);
+}
+
+/* The same programs by the rule: one token shows its time, and the room for it is asked for as by the others. */
+static void ruled(void)
+{
+    problem p = usual();
+    onfi_within plan, again;
+    onfi_verdict verdict;
+    char text[256] = {0}, one[1] = {0};
+    size_t bytes, told;
+    p.luns[1] = (onfi_lun){.since = 0}, p.lun_count = 4, p.want_count = 8, p.limit = 0;
+    for (unsigned at = 0; at < 8; at++)
+        p.wants[at] = (onfi_want){.id = at, .kind = ONFI_PROGRAM, .lun = (uint8_t)(at & 3), .block = (uint16_t)at};
+    expect("a plan by the rule", rule_of(&p, &plan, (uint8_t *)text, sizeof text, &bytes), ONFI_DONE);
+    expect("its certificate is one token", strchr(text + strlen("ONFICERT 3 "), ' ') == NULL && text[bytes - 1] == '\n', 1);
+    expect("and shows its time", WITHIN(plan.below, text, bytes), ONFI_DONE);
+    expect("and its finish", verdict.finish, plan.finish);
+    expect("and no later one", WITHIN(plan.below + 1, text, bytes), ONFI_BOUND_LOW);
+    expect("a byte of room", rule_of(&p, &again, (uint8_t *)one, 1, &told), ONFI_NO_ROOM);
+    expect("the length", told, bytes);
+    expect("the room is as it was", (uint64_t)one[0], 0);
+    expect("the plan is there", again.finish, plan.finish);
+    expect("no room", rule_of(&p, &again, NULL, 0, &told), ONFI_DONE);
 }
 
 static uint32_t choice_of(const problem *p, uint64_t accepted, uint8_t choice, uint8_t batch, size_t chosen[ONFI_WANTS], size_t *count)
@@ -436,6 +468,7 @@ int main(void)
     schedules();
     remembered();
     within();
+    ruled();
     choices();
     phases();
     last_times();

@@ -76,7 +76,7 @@ class Headers(unittest.TestCase):
         told = run("nm", "-D", "--defined-only", str(LIBRARY / "libonfi.so")).stdout.decode().split()[2::3]
         self.assertEqual(sorted(told), [
             "onfi_check", "onfi_check_known", "onfi_check_within", "onfi_choose", "onfi_due", "onfi_plan", "onfi_plan_early", "onfi_plan_known",
-            "onfi_plan_within", "onfi_ran", "onfi_row", "onfi_status_text", "onfi_text_check", "onfi_text_check_known",
+            "onfi_plan_rule", "onfi_plan_within", "onfi_ran", "onfi_row", "onfi_status_text", "onfi_text_check", "onfi_text_check_known",
             "onfi_text_legal", "onfi_text_plan", "onfi_text_plan_known", "onfi_text_trace", "onfi_timing_of_page", "onfi_timing_of_strobes",
             "onfi_version"])
 
@@ -299,6 +299,24 @@ class Same(unittest.TestCase):
             self.assertEqual((judged.stdout.decode(), judged.returncode), told, script)
             short += plan.below < plan.finish
         self.assertGreater(short, 0)
+
+    def test_plans_by_the_rule(self) -> None:
+        """No plan within a limit ends later, and what the certificate shows is judged by the program too."""
+        draw, by_structs = random.Random(6), build(ROOT / "tests/libraries/plan_script.c")
+        proved = 0
+        for number in range(SCRIPTS):
+            script = any_script(draw)
+            channel, luns, wants = said(script)
+            plan = onfi.plan_rule(channel, luns, wants)
+            c = run(by_structs, "rule", given=script.encode())
+            self.assertEqual((c.stdout.decode(), c.returncode, c.stderr), (plan_text(plan).decode(), 0, b""), script)
+            self.assertEqual(onfi.check_within(channel, luns, wants, plan.schedule, plan.below, plan.certificate), plan.finish, script)
+            judged = run(PROGRAM, "check", "--within", given=script.encode() + c.stdout)
+            told = (f"within {plan.finish} {plan.below}\n", 8) if plan.below < plan.finish else (f"accepted {plan.finish}\n", 0)
+            self.assertEqual((judged.stdout.decode(), judged.returncode), told, script)
+            self.assertLessEqual(onfi.plan_within(channel, luns, wants, 1).finish, plan.finish, script)
+            proved += plan.below == plan.finish
+        self.assertTrue(0 < proved < SCRIPTS)
 
     def test_plans_made_better(self) -> None:
         draw, by_structs = random.Random(5), build(ROOT / "tests/libraries/plan_script.c")

@@ -120,6 +120,21 @@ class Plans(unittest.TestCase):
         self.assertEqual((made.finish, made.below), (best, best))
         self.assertEqual(onfi.check_known(CHANNEL, luns, programs, made.schedule, made.certificate), best)
 
+    def test_a_plan_by_the_rule(self) -> None:
+        """Of two phases that may start at once a read's command goes before a program's data; nothing ends before two data outputs."""
+        reads = [onfi.Want(number, onfi.Kind.READ, number, 0) for number in range(2)]
+        made = onfi.plan_rule(CHANNEL, [onfi.Lun()] * 2, reads)
+        self.assertEqual((made.finish, made.below), (47_240, 47_240))
+        self.assertEqual(made.certificate, b"ONFICERT 3 remember\nL\n")
+        self.assertEqual([group.starts for group in made.schedule.groups], [(0, 25_240), (140, 36_240)])
+        two = [onfi.Want(0, onfi.Kind.PROGRAM, 0, 0), onfi.Want(1, onfi.Kind.READ, 1, 0)]
+        made = onfi.plan_rule(CHANNEL, [onfi.Lun()] * 2, two)
+        self.assertEqual([(group.wants, group.starts[0]) for group in made.schedule.groups], [((1,), 0), ((0,), 140)])
+        self.assertTrue(made.below <= onfi.plan(CHANNEL, [onfi.Lun()] * 2, two).finish <= made.finish)
+        self.assertEqual(onfi.check_within(CHANNEL, [onfi.Lun()] * 2, two, made.schedule, made.below, made.certificate), made.finish)
+        self.assertRaises(onfi.BadLun, onfi.plan_rule, CHANNEL, LUNS, [WANTS[1], WANTS[0]])
+        self.assertRaises(ValueError, onfi.plan_rule, CHANNEL, LUNS, [dataclasses.replace(WANTS[0], lun=-1)])
+
     def test_a_plan_made_better(self) -> None:
         """Of two reads that take turns the one that counts more goes first."""
         reads = [onfi.Want(number, onfi.Kind.READ, number, 0) for number in range(2)]

@@ -4,5 +4,6 @@ mod Geometries
 mod Giving
 mod Orders
 mod Recalled
+mod RulePlans
 mod Standing
 mod Unplanned

@@ -22,7 +22,7 @@ certifies : (x : Position) (below : ℕ) (text : List ℕ) → x.all ≡ x.probl
 certifies x below text begun (tokens, certificate, proves) = (tokens, certificate, subst (λ all. ProvesTokens all tokens x.problem below) begun proves)
 
 -- a certificate that remembers states is its text
-remembers : (strict : Bool) (cert : Certificate) (text : List ℕ) → IsRemembering cert → IsSpelled strict cert text → cert ≡ Remembers text
+pub remembers : (strict : Bool) (cert : Certificate) (text : List ℕ) → IsRemembering cert → IsSpelled strict cert text → cert ≡ Remembers text
 remembers strict (Plain tokens) text kind spelled = let is = kind.1 in cc
 remembers strict (Remembers own) text kind spelled = ap Remembers (sym spelled)
 

@@ -9,6 +9,7 @@ pub mod Ran
 pub mod Refusal
 pub mod Refused
 pub mod Room
+pub mod Ruled
 pub mod Said
 pub mod SaidGeometry
 pub mod SaidLegal

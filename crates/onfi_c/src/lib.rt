@@ -21,6 +21,7 @@ mod recalling;
 mod refusal;
 mod room;
 mod row;
+mod ruled;
 mod said;
 mod said_schedule;
 mod schedule;
