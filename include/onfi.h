@@ -44,7 +44,7 @@ extern "C" {
 #define ONFI_VERSION_NUMBER UINT32_C(10000) /* 10,000 times the first number, 100 times the second, and the third */
 
 /* The greatest counts. */
-enum { ONFI_LUNS = 8, ONFI_WANTS = 8, ONFI_MEMBERS = 4, ONFI_STARTS = 8 };
+enum { ONFI_LUNS = 8, ONFI_WANTS = 8, ONFI_MEMBERS = 4, ONFI_STARTS = 8, ONFI_WAITERS = 64 };
 
 /* The most nodes that a search may open. */
 #define ONFI_NODES UINT32_C(1048576)
@@ -268,6 +268,23 @@ typedef struct onfi_phase {
     bool is_post;
 } onfi_phase;
 
+/* A request that waits in a queue, and how many groups with a later request began on its LUN since it was accepted. */
+typedef struct onfi_waiter {
+    onfi_want want;
+    uint16_t passed;
+} onfi_waiter;
+
+/*
+ * What waits on a channel that plans no batch: the caller's memory, which the four calls for it read and write. Whatever it has, no
+ * call goes wrong: they do what it says.
+ */
+typedef struct onfi_queue {
+    uint64_t newest;    /* the id of the newest accepted program, whether it waits or not */
+    uint8_t count;      /* how many wait */
+    uint8_t has_newest; /* 0 where no program was accepted */
+    onfi_waiter waiter[ONFI_WAITERS]; /* in the order in which they were accepted; what is behind the count means nothing */
+} onfi_queue;
+
 /*
  * The ONFI_VERSION_NUMBER of the library. A program whose header has a greater one may use calls that the library doesn't
  * have.
@@ -417,6 +434,57 @@ uint32_t onfi_due(const onfi_channel *channel, const onfi_lun *luns, size_t lun_
  */
 uint32_t onfi_ran(onfi_channel *channel, onfi_lun *luns, size_t lun_count, onfi_want wants[ONFI_WANTS], size_t *want_count,
                   onfi_schedule *schedule, uint8_t lun, uint8_t number, uint64_t started);
+
+/*
+ * A channel without batches: onfi_next tells one phase after another, of what each LUN goes on with and of all that waits in the
+ * caller's queue. No memory is asked for.
+ *
+ *     onfi_queue_begin(&queue);
+ *     for (;;) {
+ *         .. onfi_queue_accept(&queue, &want) each request that has come ..
+ *         status = onfi_next(&channel, luns, lun_count, &queue, &geometry, now, &phase);
+ *         .. ONFI_NOTHING_DUE: wait for a request; phase.start > now: wait until then; else run it on the bus from `started` on ..
+ *         status = onfi_queue_ran(&channel, luns, lun_count, &queue, now, phase.lun, phase.number, started);
+ *     }
+ */
+
+/* Has a queue keep nothing: no request waits, and no program was accepted. ONFI_DONE. */
+uint32_t onfi_queue_begin(onfi_queue *queue);
+
+/*
+ * Takes a request into a queue, behind the others. Its id is above that of each one that waits.
+ *
+ * ONFI_DONE; else all is as it was, and told is the first of: ONFI_TOO_MANY, where ONFI_WAITERS wait; ONFI_BAD_KIND; ONFI_BAD_LUN,
+ * where its LUN is above 7, or it erases another page than 0; ONFI_BAD_ORDER, where its id isn't above that of the newest that waits.
+ */
+uint32_t onfi_queue_accept(onfi_queue *queue, const onfi_want *want);
+
+/*
+ * Tells the phase that is next where it is `now`, with its address and its command bytes. A LUN that runs a group goes on with it.
+ * Another one begins the oldest of its requests that is due, else its oldest read, else program, else erase, with the mates that may
+ * join it; a request is due once 128 groups with a later one began on its LUN, an erase once 512 did. Programs that lack their last
+ * plane wait for mates while they have the newest accepted program and a LUN has work. Of these phases the one goes that may start
+ * soonest; crates/onfi_steady has the rest. It starts as soon as the bus is free, its LUN is ready and it is `now`.
+ *
+ * ONFI_DONE; else nothing is given, and told is the first of: ONFI_ZERO_SPAN or ONFI_LONG_SPAN of reads, programs, erases;
+ * ONFI_BAD_PLANE_BITS; ONFI_BAD_MEMBERS; ONFI_BAD_KIND of a member of a running group; ONFI_TOO_MANY, where there are more than
+ * eight LUNs, or the count of the queue is above ONFI_WAITERS; then, where nothing runs and nothing waits for a LUN that is there,
+ * ONFI_BAD_GEOMETRY or ONFI_NOTHING_DUE; else ONFI_CLOCK, where the phase would start at 2^62 ns or later; ONFI_BAD_LUN, where
+ * the LUN that goes on has no phase left; ONFI_BAD_GEOMETRY; ONFI_BAD_PLACE. A kind above 2 in the queue is an erase.
+ */
+uint32_t onfi_next(const onfi_channel *channel, const onfi_lun *luns, size_t lun_count, const onfi_queue *queue, const onfi_geometry *geometry,
+                   uint64_t now, onfi_phase *phase);
+
+/*
+ * Makes of all that is said what stands behind the phase that is next, once it ran from `started` on, in ns, at or behind its start:
+ * the bus is free from its end, its LUN goes on or is free, and a group that began waits no more; it passed over what waits for its
+ * LUN and was accepted before one of it. `now`, `lun` and `number` are what onfi_next was told and told.
+ *
+ * ONFI_DONE; else all is as it was, and told is the first of: what onfi_next tells, but for the device's; ONFI_NOT_DUE, where another
+ * phase is next; ONFI_TOO_SOON, where `started` is before its start; ONFI_CLOCK, where it is 2^62 ns or later.
+ */
+uint32_t onfi_queue_ran(onfi_channel *channel, onfi_lun *luns, size_t lun_count, onfi_queue *queue, uint64_t now, uint8_t lun, uint8_t number,
+                        uint64_t started);
 
 /*
  * The row address of a page (ONFI 4.2, addressing): page, block and LUN number, from low to high bits.

@@ -432,6 +432,117 @@ static void devices(void)
     expect("the device is as it was", (uint64_t)memcmp(&device, &before, sizeof device), 0);
 }
 
+typedef struct {
+    problem p;
+    onfi_queue queue;
+} kept;
+
+static const onfi_geometry SMALL = {
+    .lun_count = 2, .plane_address_bits = 1, .pages_per_block = 4, .blocks_per_lun = 16, .page_bits = 2, .block_bits = 4, .lun_bits = 1,
+    .column_address_cycles = 2, .row_address_cycles = 3, .data_bytes = 2048, .spare_bytes = 64,
+};
+
+static uint32_t next_of(const kept *k, uint64_t now, onfi_phase *phase)
+{
+    return onfi_next(&k->p.channel, k->p.luns, k->p.lun_count, &k->queue, &SMALL, now, phase);
+}
+
+static uint32_t ran_of(kept *k, uint64_t now, uint8_t lun, uint8_t number, uint64_t started)
+{
+    return onfi_queue_ran(&k->p.channel, k->p.luns, k->p.lun_count, &k->queue, now, lun, number, started);
+}
+
+static void refuses_want(const char *what, onfi_queue *queue, onfi_want want, uint32_t wanted)
+{
+    onfi_queue before;
+    memcpy(&before, queue, sizeof before);
+    expect(what, onfi_queue_accept(queue, &want), wanted);
+    expect(what, (uint64_t)memcmp(queue, &before, sizeof before), 0);
+}
+
+static void refuses_next(const char *what, const kept *k, uint32_t wanted)
+{
+    onfi_phase phase, before;
+    kept again;
+    memset(&phase, 0xA5, sizeof phase);
+    memcpy(&before, &phase, sizeof phase);
+    memcpy(&again, k, sizeof again);
+    expect(what, next_of(k, 0, &phase), wanted);
+    expect(what, (uint64_t)memcmp(&phase, &before, sizeof phase), 0);
+    expect(what, ran_of(&again, 0, 0, 0, 0), wanted);
+    expect(what, (uint64_t)memcmp(&again, k, sizeof again), 0);
+}
+
+static void refuses_ran(const char *what, const kept *k, uint8_t lun, uint8_t number, uint64_t started, uint32_t wanted)
+{
+    kept again;
+    memcpy(&again, k, sizeof again);
+    expect(what, ran_of(&again, 0, lun, number, started), wanted);
+    expect(what, (uint64_t)memcmp(&again, k, sizeof again), 0);
+}
+
+/* A read of LUN 0 waits, and LUN 1 runs an erase whose array is ready at 1,000. */
+static kept queued(void)
+{
+    kept k;
+    const onfi_want read = {.id = 7, .kind = ONFI_READ};
+    memset(&k, 0xA5, sizeof k);
+    k.p = usual();
+    expect("an empty queue", onfi_queue_begin(&k.queue), ONFI_DONE);
+    expect("a read comes", onfi_queue_accept(&k.queue, &read), ONFI_DONE);
+    return k;
+}
+
+/* The read's command at once, the erase's status 500 ns late, the read's data; then nothing is left. */
+static void queue_runs(void)
+{
+    kept k = queued();
+    onfi_phase phase;
+    expect("a command", next_of(&k, 0, &phase), ONFI_DONE);
+    expect("of the read", phase.want, 7);
+    expect("at once", phase.start + phase.number + phase.is_post, 0);
+    expect("ran", ran_of(&k, 0, 0, 0, 0), ONFI_DONE);
+    expect("the bus is free behind it", k.p.channel.bus_free, 140);
+    expect("its array works", k.p.luns[0].since, 25240);
+    expect("it runs on its LUN", k.p.luns[0].members + k.p.luns[0].member[0].id, 8);
+    expect("and waits no more", k.queue.count, 0);
+    expect("a status", next_of(&k, 140, &phase), ONFI_DONE);
+    expect("of the erase", phase.kind, ONFI_ERASE);
+    expect("when its array is ready", phase.start, 1000);
+    expect("ran late", ran_of(&k, 140, 1, 1, 1500), ONFI_DONE);
+    expect("the bus is free later", k.p.channel.bus_free, 1780);
+    expect("its LUN is free", k.p.luns[1].members, 0);
+    expect("the data", next_of(&k, 1780, &phase), ONFI_DONE);
+    expect("of the read", phase.start + phase.is_post, 25241);
+    expect("ran", ran_of(&k, 1780, 0, 1, 25240), ONFI_DONE);
+    expect("nothing is left", next_of(&k, 40000, &phase), ONFI_NOTHING_DUE);
+}
+
+static void queues(void)
+{
+    kept k = queued();
+    refuses_want("an id again", &k.queue, (onfi_want){.id = 7}, ONFI_BAD_ORDER);
+    refuses_want("a kind", &k.queue, (onfi_want){.id = 8, .kind = 3}, ONFI_BAD_KIND);
+    refuses_want("LUN 8", &k.queue, (onfi_want){.id = 8, .lun = 8}, ONFI_BAD_LUN);
+    refuses_want("an erase of a page", &k.queue, (onfi_want){.id = 8, .kind = ONFI_ERASE, .page = 1}, ONFI_BAD_LUN);
+    refuses_ran("another LUN", &k, 1, 0, 0, ONFI_NOT_DUE);
+    refuses_ran("another phase", &k, 0, 1, 0, ONFI_NOT_DUE);
+    refuses_ran("the end of time", &k, 0, 0, UINT64_C(1) << 62, ONFI_CLOCK);
+    k.p.channel.bus_free = 10, refuses_ran("too soon", &k, 0, 0, 9, ONFI_TOO_SOON);
+    k = queued(), k.queue.waiter[0].want.block = 16;
+    onfi_phase phase;
+    expect("a block that isn't there", next_of(&k, 0, &phase), ONFI_BAD_PLACE);
+    k = queued(), k.queue.count = 65, refuses_next("65 requests", &k, ONFI_TOO_MANY);
+    k = queued(), k.p.lun_count = 9, refuses_next("nine LUNs", &k, ONFI_TOO_MANY);
+    k = queued(), k.p.luns[1].members = 5, refuses_next("five members", &k, ONFI_BAD_MEMBERS);
+    k = queued(), k.queue.count = 0, k.p.luns[1].next = 2, refuses_next("a group that is over", &k, ONFI_BAD_LUN);
+    k = queued(), k.queue.count = 0, k.p.luns[1].members = 0, refuses_next("nothing", &k, ONFI_NOTHING_DUE);
+    k = queued(), k.p.channel.bus_free = UINT64_C(1) << 62, refuses_next("the end of time", &k, ONFI_CLOCK);
+    for (uint64_t id = 8; id < 71; id++)
+        expect("64 requests", onfi_queue_accept(&k.queue, &(onfi_want){.id = id}), ONFI_DONE);
+    refuses_want("one more", &k.queue, (onfi_want){.id = 71}, ONFI_TOO_MANY);
+}
+
 static void texts(void)
 {
     const char script[] = "end\n";
@@ -472,6 +583,8 @@ int main(void)
     choices();
     phases();
     last_times();
+    queue_runs();
+    queues();
     devices();
     texts();
     printf("%u tried, %u failed\n", tried, failed);

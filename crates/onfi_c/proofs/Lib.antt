@@ -2,7 +2,11 @@ mod Answering
 mod Filled
 mod Geometries
 mod Giving
+mod NextRan
+mod NextThere
+mod NextTold
 mod Orders
+mod Queues
 mod Recalled
 mod RulePlans
 mod Standing

@@ -126,7 +126,7 @@ kind_again Read = refl
 kind_again Program = refl
 kind_again Erase = refl
 
-want_again : (bits : ℕ) (w : Want) → w.plane ≡ w.block % 2 ^ bits → want_of bits (written_want w) ≡ w
+pub want_again : (bits : ℕ) (w : Want) → w.plane ≡ w.block % 2 ^ bits → want_of bits (written_want w) ≡ w
 want_again bits w plane = rw (kind_again w.kind, ← plane) refl
 
 wants_again : (bits : ℕ) (wants : List Want) → Each (λ w. w.plane ≡ w.block % 2 ^ bits) wants → wants_of bits (map written_want wants) ≡ wants
@@ -153,7 +153,7 @@ tells_new bits wants group luns at lun planes some first =
     record { some = some; tells = ap (wants_of bits) same ∙ wants_again bits group each }
 
 -- .. of a running group as it did, of one that begins by its wants, which wait
-tells_by : (bits : ℕ) (place : Option ℕ) (p : Problem) (lun : ℕ) (group : List Want) (phase : ℕ) (luns : List PlainLun) (wants : List PlainWant) → IsPhase p (move_by lun group place) group phase
+pub tells_by : (bits : ℕ) (place : Option ℕ) (p : Problem) (lun : ℕ) (group : List Want) (phase : ℕ) (luns : List PlainLun) (wants : List PlainWant) → IsPhase p (move_by lun group place) group phase
     → IsMove p (move_by lun group place) → p.luns ≡ states_of bits luns → p.wants ≡ wants_of bits wants → Tells bits group (telling luns place lun group)
 tells_by bits None p lun group phase luns wants is move states requests = tells_running bits luns lun _ group phase is.0 (ap (λ xs. slice_get xs lun) (sym states) ∙ is.1)
 tells_by bits (Some at) p lun group phase luns wants is move states requests =

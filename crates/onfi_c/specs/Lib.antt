@@ -4,7 +4,10 @@ pub mod Chosen
 pub mod Device
 pub mod Due
 pub mod Flights
+pub mod Next
 pub mod Planned
+pub mod Queue
+pub mod QueueRan
 pub mod Ran
 pub mod Refusal
 pub mod Refused

@@ -92,7 +92,7 @@ fn phase_of(timing: &Timing, geometry: &Geometry, due: &Due) -> Option<PlainPhas
 }
 
 /// The phase that is due, on the device that is said.
-fn phase_on(timing: &Timing, geometry: &PlainGeometry, due: &Due) -> Result<PlainPhase, Status>
+pub fn phase_on(timing: &Timing, geometry: &PlainGeometry, due: &Due) -> Result<PlainPhase, Status>
     requires within { due.now.phase < 2 * length due.now.group }
     requires time { due.now.start < 2 ^ 63 }
     ensures phase { IfOk result (λ phase. IsOnDevice timing.now geometry.now due.now phase) }
@@ -108,7 +108,7 @@ fn phase_on(timing: &Timing, geometry: &PlainGeometry, due: &Due) -> Result<Plai
 }
 
 /// What is told where nothing is left to do.
-fn over_status(geometry: &PlainGeometry) -> Status
+pub fn over_status(geometry: &PlainGeometry) -> Status
     ensures { IsOverTold geometry.now result }
 {
     match geometry_of(geometry) {

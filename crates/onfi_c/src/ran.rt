@@ -55,7 +55,7 @@ fn plain_members(wants: &[Want]) -> [PlainWant; 4]
 }
 
 /// The LUN as it tells its group: as it did before, or where the group is a new one as that is told.
-fn telling(luns: &[PlainLun], due: &Due) -> PlainLun
+pub fn telling(luns: &[PlainLun], due: &Due) -> PlainLun
     requires { due.now.lun < length luns.now }
     ensures { result ≡ spec.telling luns.now due.now.place due.now.lun due.now.group }
 {
@@ -71,7 +71,7 @@ fn telling(luns: &[PlainLun], due: &Due) -> PlainLun
 }
 
 /// A LUN that tells its group so, once it does this.
-fn lun_in(state: &LunState, lun: &PlainLun) -> PlainLun
+pub fn lun_in(state: &LunState, lun: &PlainLun) -> PlainLun
     ensures { result ≡ spec.lun_in state.now lun.now }
 {
     match state {
@@ -124,7 +124,7 @@ fn run_late(alloc: Global, flight: &mut Flight, due: &Due, started: u64) -> Resu
 }
 
 /// Whether the due phase is of that LUN and has that number.
-fn is_due(due: &Due, lun: u8, number: u8) -> bool
+pub fn is_due(due: &Due, lun: u8, number: u8) -> bool
     ensures { IsTrue result ↔ ((due.now.lun ≡ lun) × (due.now.phase ≡ number)) }
 {
     due.lun == lun && due.phase == number

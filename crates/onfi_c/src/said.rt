@@ -1,7 +1,9 @@
 //! From what a caller says to a problem.
-ghost use Rattle.std.specs.Prelude.{◌≡◌, ◌⊎◌, ◌≤◌, Bool, false, true, length, IfOk, IfErr, MatchResult};
+ghost use Rattle.std.specs.Prelude.{◌≡◌, ◌⊎◌, ◌≤◌, Bool, false, true, length, replicate, IfOk, IfErr, MatchResult};
 ghost use Rattle.std.specs.List.{list_any};
 ghost use Rattle.onfi_c.specs.Said as spec;
+ghost use Rattle.onfi_c.specs.Written.{filled};
+ghost use Rattle.onfi_problem.specs.declared.lun_state.LunState.TheVariants.{Free};
 ghost use Rattle.onfi_c.specs.Refused.{AreBadSpans, AreGoodSpans, IsBadTiming, IsGoodTiming, IsBadProblem, IsBadSaid, IsRefused, IsUnsaid, AreSaid};
 ghost use Rattle.onfi_problem.specs.Kept.{problem_of as parts_of};
 ghost use Rattle.onfi_c.specs.declared.status.Status.TheVariants.{Memory};
@@ -124,6 +126,36 @@ pub fn states_of(
         states.push(state_of(alloc, plane_bits, lun))?;
     }
     Ok(states)
+}
+
+/// Eight LUNs that are free from 0 on.
+fn free_luns() -> [LunState; 8]
+    ensures { result ≡ replicate 8 (Free 0) }
+{
+    [
+        LunState::Free { since: 0 },
+        LunState::Free { since: 0 },
+        LunState::Free { since: 0 },
+        LunState::Free { since: 0 },
+        LunState::Free { since: 0 },
+        LunState::Free { since: 0 },
+        LunState::Free { since: 0 },
+        LunState::Free { since: 0 },
+    ]
+}
+
+/// What each of at most eight LUNs does, and free ones behind them; this takes no memory.
+pub fn few_states_of(alloc: Global, plane_bits: u8, said: &[PlainLun]) -> [LunState; 8]
+    requires bits { plane_bits ≤ 2 }
+    requires few { length said.now ≤ 8 }
+    requires members { list_any spec.has_bad_count said.now ≡ false }
+    ensures { result ≡ filled 8 (Free 0) (spec.states_of plane_bits said.now) }
+{
+    let mut states = free_luns();
+    for (at, lun) in said.iter().enumerate() {
+        states[at] = state_of(alloc, plane_bits, lun);
+    }
+    states
 }
 
 /// Whether a running group has more members than there are places.

@@ -1,0 +1,85 @@
+-- What stands behind a phase that ran on a channel that plans no batch.
+use Rattle.std.specs.Prelude.{◌≡◌, ◌⊎◌, ℕ, ◌<◌, ◌≤◌, ◌^◌, List, [], ◌∷◌, length, Option, Some, None, slice_set}
+use Rattle.onfi_request.specs.declared.want.Want.{Want}
+use Rattle.onfi_problem.specs.Moves.{placed}
+use Rattle.onfi_problem.specs.Problem.{Problem}
+use Rattle.onfi_flight.specs.declared.due.Due.{Due}
+use Rattle.onfi_steady.specs.declared.next.NextPhase.{NextPhase}
+use Rattle.onfi_steady.specs.declared.waiter.Waiter.{Waiter}
+use Rattle.onfi_steady.specs.Next.{IsIdle, IsNextPhase, move_of_phase}
+use Rattle.onfi_steady.specs.Waiting.{Books, begun, left_waiting}
+use Rattle.onfi_c.specs.declared.channel.PlainChannel.{PlainChannel}
+use Rattle.onfi_c.specs.declared.lun.PlainLun.{PlainLun}
+use Rattle.onfi_c.specs.declared.queue.PlainQueue.{PlainQueue}
+use Rattle.onfi_c.specs.declared.queue_ran.NextBehind.{NextBehind}
+use Rattle.onfi_c.specs.declared.status.Status.{Status}
+use Rattle.onfi_c.specs.declared.status.Status.TheVariants.{Clock, NotDue, NothingDue, TooMany, TooSoon}
+use Rattle.onfi_c.specs.Next.{IsNoPhase, IsPhaseOf, IsWaiting}
+use Rattle.onfi_c.specs.Queue.{left_in, newest_of, waiters_of}
+use Rattle.onfi_c.specs.Refused.{AreSaid, IsUnsaid}
+use Rattle.onfi_c.specs.Said.{states_of}
+use Rattle.onfi_c.specs.Status.{number_of}
+
+-- what a caller keeps of a channel that plans no batch
+pub record KeptQueue : Type 0 where
+  pub channel : PlainChannel
+  pub luns : List PlainLun
+  pub queue : PlainQueue
+
+-- what is kept once a phase of that LUN ran
+abbrev pub kept_behind : KeptQueue → ℕ → NextBehind → KeptQueue
+kept_behind old lun b = record {
+  channel = record old.channel { bus_free = b.bus_free };
+  luns = slice_set old.luns lun b.lun;
+  queue = left_in old.queue b.left.items;
+}
+
+-- the books once the group began, if it did
+abbrev pub begun_by : Option ℕ → Books → ℕ → List Want → Books
+begun_by None books lun group = books
+begun_by (Some place) books lun group = begun books lun group
+
+-- what waits once these members began, if any did
+abbrev pub left_by : ℕ → List Want → List Waiter → List Waiter
+left_by lun [] waiting = waiting
+left_by lun (m ∷ ms) waiting = left_waiting lun (m ∷ ms) waiting
+
+-- the phase that is next of what is said, with its group
+pub record IsNextThere (said : PlainChannel) (luns : List PlainLun) (queue : PlainQueue) (now : ℕ) (books : Books) (p : Problem) (next : NextPhase) (due : Due) : Type 0 where
+  pub waiting : IsWaiting said luns queue now books p
+  pub is : IsNextPhase books p next
+  pub of : IsPhaseOf p.luns next due
+
+-- the phase that is next ran from `started` on: bus and LUNs are those of the problem that it leaves, and what began waits no more
+pub record IsQueueRan (old new : KeptQueue) (now lun number started : ℕ) : Type 0 where
+  pub books : Books
+  pub problem : Problem
+  pub next : NextPhase
+  pub due : Due
+  pub there : IsNextThere old.channel old.luns old.queue now books problem next due
+  pub lun_is : next.lun ≡ lun
+  pub number_is : due.phase ≡ number
+  pub on_time : next.start ≤ started
+  pub channel : new.channel ≡ record old.channel { bus_free = (placed problem (move_of_phase next) started).bus_free }
+  pub states : states_of old.channel.rules.plane_bits new.luns ≡ (placed problem (move_of_phase next) started).luns
+  pub left : waiters_of old.channel.rules.plane_bits new.queue ≡ left_by lun next.members.items (waiters_of old.channel.rules.plane_bits old.queue)
+  pub newest : newest_of new.queue ≡ newest_of old.queue
+
+-- why nothing is done
+pub data IsQueueNotRan (said : PlainChannel) (luns : List PlainLun) (queue : PlainQueue) (now lun number started : ℕ) (status : Status) : Type 0 where
+  isnt_said : IsUnsaid said luns [] status → IsQueueNotRan said luns queue now lun number started status
+  are_too_many : AreSaid said luns [] → (8 < length luns) ⊎ (64 < queue.count) → status ≡ TooMany → IsQueueNotRan said luns queue now lun number started status
+  none_is_next : (books : Books) (p : Problem) → IsWaiting said luns queue now books p → IsIdle p → status ≡ NothingDue → IsQueueNotRan said luns queue now lun number started status
+  has_no_phase : (books : Books) (p : Problem) → IsWaiting said luns queue now books p → (next : NextPhase) → IsNextPhase books p next
+      → IsNoPhase p.luns next status → IsQueueNotRan said luns queue now lun number started status
+  another_is_next : (books : Books) (p : Problem) (next : NextPhase) (due : Due) → IsNextThere said luns queue now books p next due
+      → ((due.lun ≡ lun) × (due.phase ≡ number) → ⊥) → status ≡ NotDue → IsQueueNotRan said luns queue now lun number started status
+  is_early : (books : Books) (p : Problem) (next : NextPhase) (due : Due) → IsNextThere said luns queue now books p next due
+      → started < next.start → status ≡ TooSoon → IsQueueNotRan said luns queue now lun number started status
+  is_too_late : 2 ^ 62 ≤ started → status ≡ Clock → IsQueueNotRan said luns queue now lun number started status
+
+-- a caller keeps what stands behind the phase; or all is as it was, and a number tells why
+pub data GivesQueueRan (old new : KeptQueue) (now lun number started result : ℕ) : Type 0 where
+  gives_behind : IsQueueRan old new now lun number started → result ≡ 0 → GivesQueueRan old new now lun number started result
+  refuses_phase : (status : Status) → IsQueueNotRan old.channel old.luns old.queue now lun number started status → new ≡ old → result ≡ number_of status
+      → GivesQueueRan old new now lun number started result
