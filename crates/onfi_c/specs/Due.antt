@@ -10,9 +10,8 @@ use Rattle.onfi_timing.specs.Phases.{phase_length}
 use Rattle.onfi_request.specs.declared.want.Want.{Want}
 use Rattle.onfi_group.specs.Group.{group_spans}
 use Rattle.onfi_problem.specs.Moves.{IsDone}
-use Rattle.onfi_schedule.specs.Schedule.{Legal}
 use Rattle.onfi_flight.specs.declared.due.Due.{Due}
-use Rattle.onfi_flight.specs.Flight.{Flight, IsDue, IsOver, member_of}
+use Rattle.onfi_flight.specs.Flight.{Flight, IsDue, IsOver, IsStuck, member_of}
 use Rattle.onfi_c.specs.declared.channel.PlainChannel.{PlainChannel}
 use Rattle.onfi_c.specs.declared.device.PlainGeometry.{PlainGeometry}
 use Rattle.onfi_c.specs.declared.lun.PlainLun.{PlainLun}
@@ -118,7 +117,7 @@ pub record IsDueSaid (channel : PlainChannel) (luns : List PlainLun) (wants : Li
 -- why none is told: the first of these
 pub data IsNoneDue (channel : PlainChannel) (luns : List PlainLun) (wants : List PlainWant) (geometry : PlainGeometry) (schedule : PlainSchedule) (status : Status) : Type 0 where
   is_no_flight : IsNoFlight channel luns wants schedule status → IsNoneDue channel luns wants geometry schedule status
-  is_illegal : (f : Flight) → IsFlightSaid channel luns wants schedule f → (Legal f.now f.left → ⊥) → status ≡ Illegal → IsNoneDue channel luns wants geometry schedule status
+  is_illegal : (f : Flight) → IsFlightSaid channel luns wants schedule f → IsStuck f → status ≡ Illegal → IsNoneDue channel luns wants geometry schedule status
   is_over : (f : Flight) → IsFlightSaid channel luns wants schedule f → IsOver f.left → IsDone f.now → IsOverTold geometry status → IsNoneDue channel luns wants geometry schedule status
   is_off : (f : Flight) → IsFlightSaid channel luns wants schedule f → (due : Due) → IsDue f due → IsOffDevice geometry due status → IsNoneDue channel luns wants geometry schedule status
 

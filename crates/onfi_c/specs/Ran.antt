@@ -7,7 +7,7 @@ use Rattle.onfi_problem.specs.Left.{horizon, InLimits}
 use Rattle.onfi_problem.specs.Moves.{IsDone}
 use Rattle.onfi_schedule.specs.Schedule.{Legal}
 use Rattle.onfi_flight.specs.declared.due.Due.{Due}
-use Rattle.onfi_flight.specs.Flight.{Flight, IsDue, IsOver, after_late, latest_late}
+use Rattle.onfi_flight.specs.Flight.{Flight, IsDue, IsOver, IsStuck, after_late, latest_late}
 use Rattle.onfi_c.specs.declared.channel.PlainChannel.{PlainChannel}
 use Rattle.onfi_c.specs.declared.lun.PlainLun.{PlainLun}
 use Rattle.onfi_c.specs.declared.lun.PlainWant.{PlainWant}
@@ -87,7 +87,7 @@ IsLate f due started = (2 ^ 62 ≤ latest_late f due started) ⊎ (2 ^ 62 ≤ ho
 -- why nothing is done: the first of these
 pub data IsNotRan (old : Kept) (lun number started : ℕ) (status : Status) : Type 0 where
   is_no_flight : IsNoFlight old.channel old.luns old.wants old.schedule status → IsNotRan old lun number started status
-  is_illegal : (f : Flight) → Flies old f → (Legal f.now f.left → ⊥) → status ≡ Illegal → IsNotRan old lun number started status
+  is_illegal : (f : Flight) → Flies old f → IsStuck f → status ≡ Illegal → IsNotRan old lun number started status
   is_over : (f : Flight) → Flies old f → IsOver f.left → IsDone f.now → status ≡ NothingDue → IsNotRan old lun number started status
   is_not_due : (f : Flight) → Flies old f → (due : Due) → IsDue f due → ((due.lun ≡ lun) × (due.phase ≡ number) → ⊥) → status ≡ NotDue → IsNotRan old lun number started status
   is_too_soon : (f : Flight) → Flies old f → (due : Due) → IsDueThere f due lun number → started < due.start → status ≡ TooSoon → IsNotRan old lun number started status

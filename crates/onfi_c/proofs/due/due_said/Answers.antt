@@ -1,7 +1,6 @@
 use Rattle.std.proofs.Common.{refl, subst}
 use Rattle.std.proofs.lemmas.Result.{IfOk-weaker, IfErr-weaker}
 use Rattle.onfi_c.specs.Due.{IsDueSaid, IsNoneDue, IsOffDevice, IsOnDevice, is_illegal, is_no_flight, is_off, is_over}
-use Rattle.onfi_c.proofs.Standing.{flies}
 use Rattle.onfi_c.proofs.due.due_said.Goals as goal
 
 pub returns-in-Err-clause-none : goal.returns-in-Err-clause-none
@@ -33,4 +32,4 @@ returns-in-Done-clause-none c = is_over c.fill.new.flight c.in-Ok-fill.ensures.s
 
 pub returns-clause-none : goal.returns-clause-none
 returns-clause-none c =
-    is_illegal c.fill.new.flight c.in-Ok-fill.ensures.said (λ legal. c.in-Illegal.ensures.tells (flies c.fill.new.flight c.in-Ok-fill.ensures.said.limits legal)) refl
+    is_illegal c.fill.new.flight c.in-Ok-fill.ensures.said c.in-Illegal.ensures.tells refl

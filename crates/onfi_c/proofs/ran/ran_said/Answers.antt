@@ -4,7 +4,7 @@ use Rattle.onfi_problem.specs.Left.{InLimits}
 use Rattle.onfi_flight.specs.Flight.{Flight, after_late}
 use Rattle.onfi_c.specs.Ran.{IsBehind, IsDueThere, Kept, is_illegal, is_late, is_no_flight, is_not_due, is_over, is_too_soon}
 use Rattle.onfi_c.specs.Written.{written_want}
-use Rattle.onfi_c.proofs.Standing.{fewer_wants, flies, plain_there, ran_behind, same_luns}
+use Rattle.onfi_c.proofs.Standing.{fewer_wants, plain_there, ran_behind, same_luns}
 use Rattle.onfi_c.proofs.ran.ran_said.Goals as goal
 
 pub returns-in-Err-clause-none : goal.returns-in-Err-clause-none
@@ -18,7 +18,7 @@ returns-in-Done-clause-none c = is_over c.fill.new.flight c.in-Ok-fill.ensures.s
 
 pub returns-in-Illegal-clause-none : goal.returns-in-Illegal-clause-none
 returns-in-Illegal-clause-none c =
-    is_illegal c.fill.new.flight c.in-Ok-fill.ensures.said (λ legal. c.in-Illegal.ensures.tells (flies c.fill.new.flight c.in-Ok-fill.ensures.said.limits legal)) refl
+    is_illegal c.fill.new.flight c.in-Ok-fill.ensures.said c.in-Illegal.ensures.tells refl
 
 pub returns-then-not-is_due-clause-none : goal.returns-then-not-is_due-clause-none
 returns-then-not-is_due-clause-none c = is_not_due c.fill.new.flight c.in-Ok-fill.ensures.said c.in-Due.due c.in-Due.ensures.tells (search rules) refl
