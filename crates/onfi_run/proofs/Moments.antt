@@ -1,11 +1,11 @@
 -- What changes at a moment, one call after another.
-use Rattle.std.proofs.Common.{◌≡◌, ◌⊎◌, inl, inr, ◌<◌, ◌≤◌, ℕ, zero, suc, Bool, true, false, List, [], ◌∷◌, length, get_or, map, refl, sym, ap, ◌∙◌, subst, arith, Some}
+use Rattle.std.proofs.Common.{◌≡◌, ◌⊎◌, inl, inr, ◌<◌, ◌≤◌, ℕ, zero, suc, Bool, true, false, List, [], ◌∷◌, length, get_or, map, refl, sym, ◌∙◌, subst, arith, Some}
 use Rattle.std.specs.Prelude.{max, set, slice_get}
 use Rattle.std.specs.List.{AllZip}
 use Rattle.std.proofs.Math.Bool.{cond}
 use Rattle.std.proofs.Math.Seq.{map-set_same}
 use Rattle.std.proofs.lemmas.Bool.{cases_lt}
-use Rattle.std.proofs.lemmas.Option.{slice_get-get_or, slice_get_past, slice_get_within}
+use Rattle.std.proofs.lemmas.Option.{slice_get-get_or, slice_get_past}
 use Rattle.std.proofs.lemmas.Simd.{map-map}
 use Rattle.onfi_request.specs.declared.answer.Answer.{Answer}
 use Rattle.onfi_request.specs.declared.request.Request.{Request}
@@ -13,10 +13,9 @@ use Rattle.onfi_run.specs.declared.completion.Completion.{Completion}
 use Rattle.onfi_run.specs.declared.port.Port.{Port}
 use Rattle.onfi_run.specs.declared.station.Station.{Station}
 use Rattle.onfi_run.specs.Answers.{came, changed, submitted, suits}
-use Rattle.onfi_run.specs.Keys.{Collects, HasSamePorts, HaveSamePorts, LeavesOut, SendsNothing, Submits, port_key, port_state, is_behind, is_refused, is_sent, is_too_late}
+use Rattle.onfi_run.specs.Keys.{Collects, HasSamePorts, HaveSamePorts, LeavesOut, Submits, port_key, is_behind, is_refused, is_sent, is_too_late}
 use Rattle.onfi_run.specs.Moments.{AllAtMoment, AtMoment, ChangedAt, IsMoment, Makes, OnPort, is_absent, is_short, is_submitted, is_there}
 use Rattle.onfi_run.specs.Report.{AnswersView}
-use Rattle.onfi_run.proofs.Resting.{set_back}
 
 -- ---- pairs
 zip_same : {X : Type 0} (R : X → X → Type 0) → ((x : X) → R x x) → (xs : List X) → AllZip R xs xs
@@ -115,28 +114,6 @@ makes_moment now channel request ended old new (is_submitted how short) = at_mom
 makes_moment now channel request ended old new (is_short how short) = at_moment now LeavesOut channel old.ports.items new.ports.items (left_at now) how
 
 -- ---- one port
--- what no change of a port changes is told of all as before
-pub on_port_same : {K : Type 0} (key : Port → K) (went : Port → Port → Type 0) (channel : ℕ) (old new : List Port) → ((p q : Port) → went p q → key q ≡ key p)
-    → OnPort went channel old new → map key new ≡ map key old
-on_port_same key went channel old new each (is_there p q there how is) =
-    let here : get_or old channel p ≡ p = let e = sym (slice_get-get_or old channel p (slice_get_within old channel p there)) ∙ there in cc in
-    ap (map key) is ∙ map-set_same key old channel q p (each p q how ∙ ap key (sym here))
-on_port_same key went channel old new each (is_absent none is) = ap (map key) is
-
-took_nothing : (now : ℕ) (came : Bool) (p q : Port) → Collects now came p q → port_state q ≡ port_state p
-took_nothing now true p q took = took.state
-took_nothing now false p q same = ap port_state same
-
-pub collect_nothing : (now channel : ℕ) (came : Bool) (old new : List Port) → OnPort (Collects now came) channel old new → SendsNothing old new
-collect_nothing now channel came old new how = on_port_same port_state (Collects now came) channel old new (took_nothing now came) how
-
--- no reply was to be had
-pub none_collected : (now channel : ℕ) (came : Bool) (old new : List Port) → came ≡ false → OnPort (Collects now came) channel old new → new ≡ old
-none_collected now channel true old new none how = absurd (cc)
-none_collected now channel false old new none (is_there p q there how is) =
-    is ∙ set_back old channel p q (how ∙ (let e = sym (slice_get-get_or old channel p (slice_get_within old channel p there)) ∙ there in cc))
-none_collected now channel false old new none (is_absent gone is) = is
-
 pub there_went : (went : Port → Port → Type 0) (ports : List Port) (at : ℕ) (d new : Port) → at < length ports → went (get_or ports at d) new → OnPort went at ports (set ports at new)
 there_went went ports at d new h how = is_there (get_or ports at d) new (slice_get-get_or ports at d h) how refl
 

@@ -112,28 +112,29 @@ each_more {X} P xs at h one all = by_place (slice_get_cases xs at).1
     by_place (inr (past, none)) = absurd (omega (arith, past, h))
 
 -- ---- hosts
-pub stands_as : (now : ℕ) (rows : List Row) (on : ℕ → Type 0) (n n' p p' : ℕ) (ports ports' : List Port) → n' ≡ n → p' ≡ p → ports' ≡ ports
-    → Stands now rows on n p ports → Stands now rows on n' p' ports'
-stands_as now rows on n n' p p' ports ports' number passed same s =
-    subst (λ x. Stands now rows on x p' ports') (sym number) (subst (λ x. Stands now rows on n x ports') (sym passed) (subst (λ x. Stands now rows on n p x) (sym same) s))
+pub stands_as : (now : ℕ) (rows : List Row) (paces paces' : List Pace) (n n' p p' : ℕ) (ports ports' : List Port) → paces' ≡ paces → n' ≡ n → p' ≡ p → ports' ≡ ports
+    → Stands now rows paces n p ports → Stands now rows paces' n' p' ports'
+stands_as now rows paces paces' n n' p p' ports ports' paces_are number passed same s =
+    subst (λ x. Stands now rows x n' p' ports') (sym paces_are) (subst (λ x. Stands now rows paces x p' ports') (sym number)
+    (subst (λ x. Stands now rows paces n x ports') (sym passed) (subst (λ x. Stands now rows paces n p x) (sym same) s)))
 
-pub before_row : (now : ℕ) (rows : List Row) (on : ℕ → Type 0) (number passed : ℕ) (ports : List Port) (d : Row) (op : Operation) → passed < length rows
-    → operation_of number (get_or rows passed d) ≡ Some op → IsPutOff on ports op.aim.channel → Stands now rows on number passed ports
-before_row now rows on number passed ports d op h told waits = is_before (get_or rows passed d) op (slice_get-get_or rows passed d h) told waits
+pub before_row : (now : ℕ) (rows : List Row) (paces : List Pace) (number passed : ℕ) (ports : List Port) (d : Row) (op : Operation) → passed < length rows
+    → operation_of number (get_or rows passed d) ≡ Some op → IsPutOff paces ports op.aim.channel → Stands now rows paces number passed ports
+before_row now rows paces number passed ports d op h told waits = is_before (get_or rows passed d) op (slice_get-get_or rows passed d h) told waits
 
 -- who stands at a moment, and waits for none behind it, stands at each later one
-still_stands : (now at : ℕ) (rows : List Row) (on : ℕ → Type 0) (number passed : ℕ) (ports : List Port) → now ≤ at → at < no_clock → NeedsNone now (comes_at rows passed)
-    → Stands now rows on number passed ports → Stands at rows on number passed ports
-still_stands now at rows on number passed ports later before none (is_through h) = is_through h
-still_stands now at rows on number passed ports later before none (is_early h) = is_early (let far = none h in omega (arith, far, before))
-still_stands now at rows on number passed ports later before none (is_before row op there told waits) = is_before row op there told waits
+still_stands : (now at : ℕ) (rows : List Row) (paces : List Pace) (number passed : ℕ) (ports : List Port) → now ≤ at → at < no_clock → NeedsNone now (comes_at rows passed)
+    → Stands now rows paces number passed ports → Stands at rows paces number passed ports
+still_stands now at rows paces number passed ports later before none (is_through h) = is_through h
+still_stands now at rows paces number passed ports later before none (is_early h) = is_early (let far = none h in omega (arith, far, before))
+still_stands now at rows paces number passed ports later before none (is_before row op there told waits) = is_before row op there told waits
 
-pub all_rest : (now at : ℕ) (rows : List Row) (on : ℕ → Type 0) (stations : List Station) → now ≤ at → at < no_clock → Each (Rests now rows on) stations
-    → Each (NeedsNone now) (map (λ (s : Station). comes_at rows s.passed) stations) → Each (Rests at rows on) stations
-all_rest now at rows on [] later before rest none = tt
-all_rest now at rows on (s ∷ stations) later before (here, rest) (due, none) = (
-  record { stands = still_stands now at rows on s.number s.passed s.ports.items later before due here.stands; emptied = here.emptied },
-  all_rest now at rows on stations later before rest none,
+pub all_rest : (now at : ℕ) (rows : List Row) (paces : List Pace) (stations : List Station) → now ≤ at → at < no_clock → Each (Rests now rows paces) stations
+    → Each (NeedsNone now) (map (λ (s : Station). comes_at rows s.passed) stations) → Each (Rests at rows paces) stations
+all_rest now at rows paces [] later before rest none = tt
+all_rest now at rows paces (s ∷ stations) later before (here, rest) (due, none) = (
+  record { stands = still_stands now at rows paces s.number s.passed s.ports.items later before due here.stands; emptied = here.emptied },
+  all_rest now at rows paces stations later before rest none,
 )
 
 pub each_apart : {X : Type 0} (P : X → Type 0) (xs ys : List X) → Each P (xs ++ ys) → Each P xs × Each P ys

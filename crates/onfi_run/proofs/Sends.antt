@@ -1,30 +1,23 @@
 -- What hosts send, call by call.
-use Rattle.std.proofs.Common.{arith, ◌≡◌, ◌≢◌, ◌≤◌, take, ◌⊎◌, inl, inr, ℕ, zero, suc, Bool, true, false, List, [], ◌∷◌, ◌++◌, length, map, refl, sym, ap, ◌∙◌, subst, append-nil, append_assoc, Some, None}
+use Rattle.std.proofs.Common.{arith, ◌≡◌, ◌≢◌, ◌<◌, ◌≤◌, take, ◌⊎◌, inl, inr, ℕ, zero, suc, Bool, true, false, List, [], ◌∷◌, ◌++◌, length, map, get_or, refl, sym, ap, ◌∙◌, subst, append-nil, Some, None}
 use Rattle.std.specs.Prelude.{Option, slice_get, set, ◌==◌}
 use Rattle.std.specs.Option.{option_map}
 use Rattle.std.specs.List.{cons_option}
 use Rattle.std.proofs.Math.Bool.{cond}
 use Rattle.std.proofs.lemmas.Bool.{eq-eqb, ne_eqb}
-use Rattle.std.proofs.lemmas.List.{map-append}
 use Rattle.std.proofs.lemmas.List.Elements.{filter_map-append}
-use Rattle.std.proofs.lemmas.Option.{slice_get-map, slice_get_within}
+use Rattle.std.proofs.lemmas.Option.{slice_get-get_or, slice_get-map, slice_get_within}
 use Rattle.std.proofs.lemmas.Simd.{map-map}
 use Rattle.onfi_addr.specs.declared.geometry.Geometry.{Geometry}
-use Rattle.onfi_queue.specs.Ends.{item_of}
 use Rattle.onfi_request.specs.declared.request.Item.{Item}
 use Rattle.onfi_request.specs.declared.request.Request.{Request}
 use Rattle.onfi_script.specs.declared.operation.Operation.{Operation}
 use Rattle.onfi_script.specs.declared.row.Row.{Row}
 use Rattle.onfi_run.specs.declared.port.Port.{Port}
-use Rattle.onfi_run.specs.declared.station.Station.{Station}
-use Rattle.onfi_run.specs.Answers.{submitted}
-use Rattle.onfi_run.specs.Keys.{port_ends, port_key, port_state, HasSamePorts, LeavesOut, SendsNothing, Submits, is_behind, is_refused, is_sent, is_too_late}
-use Rattle.onfi_run.specs.Moments.{Makes, OnPort, is_absent, is_short, is_submitted, is_there}
+use Rattle.onfi_run.specs.Keys.{port_state, HasSamePorts, SendsNothing}
 use Rattle.onfi_run.specs.Operations.{on_channel, operation_of, request_in, requests_on}
 use Rattle.onfi_run.specs.Requests.{request_of}
-use Rattle.onfi_run.specs.Sending.{AreSending, HasSent, IsSending, sent_by, with_request}
-use Rattle.onfi_run.proofs.Moments.{on_port_same}
-use Rattle.onfi_run.proofs.Suited.{same_places}
+use Rattle.onfi_run.specs.Sending.{AreSending, HasSent, IsSending, with_request}
 
 -- ---- ports that send nothing
 pub same_keys : (old new : List Port) → SendsNothing old new → HasSamePorts old new
@@ -55,43 +48,6 @@ all_still_sending old new same requests sending channel q there =
     still_sending (requests channel) was.0 q was.2 (sending channel was.0 was.1)
 
 -- ---- a change of one port
--- a port kept its ends and places, and what its end sent are still the first of the operations with one more
-record Sends (request : Request) (p q : Port) : Type 0 where
-  same : port_key q ≡ port_key p
-  sending : (requests : List Request) → IsSending requests p → IsSending (requests ++ request ∷ []) q
-
-left_more : (requests : List Request) (request : Request) (p q : Port) → sent_by q ≡ sent_by p → q.left_out ≡ true → IsSending requests p → IsSending (requests ++ request ∷ []) q
-left_more requests request p q same left s = record {
-  rest = s.rest ++ request ∷ [];
-  first = ap (λ l. l ++ request ∷ []) s.first ∙ append_assoc (sent_by p) s.rest (request ∷ []) ∙ ap (λ l. l ++ (s.rest ++ request ∷ [])) (sym same);
-  whole = λ none. absurd (let e : true ≡ false = sym left ∙ none in cc);
-}
-
-left_sends : (request : Request) (p q : Port) → LeavesOut p q → Sends request p q
-left_sends request p q is = record {
-  same = ap port_key is;
-  sending = λ requests s. left_more requests request p q (ap sent_by is) (ap (λ (x : Port). x.left_out) is) s;
-}
-
-sent_more : (requests : List Request) (request : Request) (p q : Port) → p.left_out ≡ false → sent_by q ≡ sent_by p ++ request ∷ [] → IsSending requests p → IsSending (requests ++ request ∷ []) q
-sent_more requests request p q goes_on more s =
-    let all : requests ≡ sent_by p = s.first ∙ ap (λ r. sent_by p ++ r) (s.whole goes_on) ∙ append-nil (sent_by p) in
-    record { rest = []; first = ap (λ l. l ++ request ∷ []) all ∙ sym more ∙ sym (append-nil (sent_by q)); whole = λ none. refl }
-
-submits_sends : (now : ℕ) (request : Request) (ended : Bool) (p q : Port) → Submits now request ended p q → Sends request p q
-submits_sends now request ended p q (is_sent goes_on is) =
-    let places_are = same_places (submitted now) (λ c. refl) p.answers (length p.host.sent) in record {
-      same = ap port_key is ∙ ap (λ l. (port_ends p, l)) places_are;
-      sending = λ requests s.
-          sent_more requests request p q goes_on (ap sent_by is ∙ map-append (λ (x : Item). x.request) p.host.sent (item_of p.host request ∷ [])) s;
-    }
-submits_sends now request ended p q (is_behind left is) = record {
-  same = ap port_key is;
-  sending = λ requests s. left_more requests request p q (ap sent_by is) (ap (λ (x : Port). x.left_out) is ∙ left) s;
-}
-submits_sends now request ended p q (is_refused never is) = left_sends request p q is
-submits_sends now request ended p q (is_too_late late full is) = left_sends request p q is
-
 -- what stands at a place is what was set there, or what stood there before
 set_get : (ports : List Port) (at i : ℕ) (new q : Port) → slice_get (set ports at new) i ≡ Some q → ((i ≡ at) × (q ≡ new)) ⊎ ((at ≢ i) × (slice_get ports i ≡ Some q))
 set_get [] at i new q there = absurd (let lt = slice_get_within [] i q there in omega arith)
@@ -110,46 +66,24 @@ with_here requests at i request e = ap (λ (b : Bool). cond b (requests i ++ req
 with_other : (requests : ℕ → List Request) (at i : ℕ) (request : Request) → at ≢ i → with_request requests at request i ≡ requests i
 with_other requests at i request ne = ap (λ (b : Bool). cond b (requests i ++ request ∷ []) (requests i)) (ne_eqb at i ne)
 
-one_more : (requests : ℕ → List Request) (old : List Port) (at : ℕ) (p new : Port) (request : Request) → slice_get old at ≡ Some p → Sends request p new
-    → AreSending requests old → AreSending (with_request requests at request) (set old at new)
-one_more requests old at p new request was sends sending i q there = by_place (set_get old at i new q there)
+-- one port sent a request more, or left it out
+pub one_more : (requests : ℕ → List Request) (ports : List Port) (at : ℕ) (d new : Port) (request : Request) → at < length ports
+    → (IsSending (requests at) (get_or ports at d) → IsSending (requests at ++ request ∷ []) new) → AreSending requests ports → AreSending (with_request requests at request) (set ports at new)
+one_more requests ports at d new request h more sending i q there = by_place (set_get ports at i new q there)
   where
-    by_place : ((i ≡ at) × (q ≡ new)) ⊎ ((at ≢ i) × (slice_get old i ≡ Some q)) → IsSending (with_request requests at request i) q
+    by_place : ((i ≡ at) × (q ≡ new)) ⊎ ((at ≢ i) × (slice_get ports i ≡ Some q)) → IsSending (with_request requests at request i) q
     by_place (inl (e, is)) =
-        let here = sends.sending (requests at) (sending at p was) in
+        let here = more (sending at (get_or ports at d) (slice_get-get_or ports at d h)) in
         let there' = subst (λ j. IsSending (requests j ++ request ∷ []) new) (sym e) here in
-        subst (λ l. IsSending l q) (sym (with_here requests at i request (sym e))) (subst (λ x. IsSending (requests i ++ request ∷ []) x) (sym is) there')
+        let sent = subst (λ p. IsSending (requests i ++ request ∷ []) p) (sym is) there' in
+        subst (λ l. IsSending l q) (sym (with_here requests at i request (sym e))) sent
     by_place (inr (ne, is)) = subst (λ l. IsSending l q) (sym (with_other requests at i request ne)) (sending i q is)
 
 -- there is no such port
-none_there : (requests : ℕ → List Request) (ports : List Port) (at : ℕ) (request : Request) → slice_get ports at ≡ None → AreSending requests ports → AreSending (with_request requests at request) ports
-none_there requests ports at request none sending i q there =
-    subst (λ l. IsSending l q) (sym (with_other requests at i request (λ e. absurd (let o = sym none ∙ ap (slice_get ports) e ∙ there in cc)))) (sending i q there)
-
--- the ports of a host of which one may have sent a request, or left it out
-pub record OneSends (channel : ℕ) (request : Request) (old new : List Port) : Type 0 where
-  pub same : HasSamePorts old new
-  pub sending : (requests : ℕ → List Request) → AreSending requests old → AreSending (with_request requests channel request) new
-
-on_port_sends : (went : Port → Port → Type 0) (channel : ℕ) (request : Request) (old new : List Port) → ((p q : Port) → went p q → Sends request p q)
-    → OnPort went channel old new → (requests : ℕ → List Request) → AreSending requests old → AreSending (with_request requests channel request) new
-on_port_sends went channel request old new each (is_there p q there how is) =
-    subst (λ ports. (requests : ℕ → List Request) → AreSending requests old → AreSending (with_request requests channel request) ports) (sym is)
-    (λ requests sending. one_more requests old channel p q request there (each p q how) sending)
-on_port_sends went channel request old new each (is_absent none is) =
-    subst (λ ports. (requests : ℕ → List Request) → AreSending requests old → AreSending (with_request requests channel request) ports) (sym is)
-    (λ requests sending. none_there requests old channel request none sending)
-
-pub makes_sends : (now channel : ℕ) (request : Request) (ended : Bool) (old new : Station) → Makes now channel request ended old new
-    → OneSends channel request old.ports.items new.ports.items
-makes_sends now channel request ended old new (is_submitted how short) = record {
-  same = on_port_same port_key (Submits now request ended) channel old.ports.items new.ports.items (λ p q went. (submits_sends now request ended p q went).same) how;
-  sending = on_port_sends (Submits now request ended) channel request old.ports.items new.ports.items (submits_sends now request ended) how;
-}
-makes_sends now channel request ended old new (is_short how short) = record {
-  same = on_port_same port_key LeavesOut channel old.ports.items new.ports.items (λ p q went. ap port_key went) how;
-  sending = on_port_sends LeavesOut channel request old.ports.items new.ports.items (left_sends request) how;
-}
+pub none_there : (requests : ℕ → List Request) (ports : List Port) (at : ℕ) (request : Request) → length ports ≤ at → AreSending requests ports → AreSending (with_request requests at request) ports
+none_there requests ports at request h sending i q there =
+    let lt = slice_get_within ports i q there in
+    subst (λ l. IsSending l q) (sym (with_other requests at i request (λ e. omega (e, arith)))) (sending i q there)
 
 -- ---- rows
 by_test : (xs : List Request) (op : Operation) (geometry : Geometry) (b : Bool)

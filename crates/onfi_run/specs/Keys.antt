@@ -47,9 +47,8 @@ port_state p = (port_key p, p.host.sent, p.left_out)
 abbrev pub end_of : ℕ → ChannelQueues → PortEnds
 end_of host q = record { queue = q.requests; number = host; inbox = slice_get q.replies host; hosts = length q.replies }
 
--- the next reply is with the answers, collected at that moment, and nothing was sent
+-- the next reply is with the answers, collected at that moment
 pub record TookReply (now : ℕ) (old new : Port) : Type 0 where
-  pub state : port_state new ≡ port_state old
   pub reply : Reply
   pub inbox : new.inbox ≡ after_collecting old.inbox reply
   pub answers : new.answers ≡ with_reply now old.answers reply

@@ -32,24 +32,20 @@ pub record IsEmptied (p : Port) : Type 0 where
 abbrev pub has_ended : List Pace → ℕ → Bool
 has_ended paces channel = unwrap_or (option_map (λ (p : Pace). p.has_ended) (slice_get paces channel)) true
 
--- .. or it goes on
-abbrev pub goes_on : List Pace → ℕ → Type 0
-goes_on paces channel = has_ended paces channel ≡ false
-
 -- an operation there has to wait: the queue was full, and the channel goes on
-pub record IsPutOff (goes_on : ℕ → Type 0) (ports : List Port) (channel : ℕ) : Type 0 where
+pub record IsPutOff (paces : List Pace) (ports : List Port) (channel : ℕ) : Type 0 where
   pub full : IsFullAt ports channel
-  pub not_ended : goes_on channel
+  pub goes_on : has_ended paces channel ≡ false
 
 -- at that moment the host of that number, behind so many rows, goes behind no other: it is behind all, or before a moment of arrival that hasn't come, or before an
 -- operation of its own that has to wait
-pub data Stands (now : ℕ) (rows : List Row) (goes_on : ℕ → Type 0) (number passed : ℕ) (ports : List Port) : Type 0 where
-  is_through : length rows ≤ passed → Stands now rows goes_on number passed ports
-  is_early : now < comes_at rows passed → Stands now rows goes_on number passed ports
-  is_before : (row : Row) (op : Operation) → slice_get rows passed ≡ Some row → operation_of number row ≡ Some op → IsPutOff goes_on ports op.aim.channel
-      → Stands now rows goes_on number passed ports
+pub data Stands (now : ℕ) (rows : List Row) (paces : List Pace) (number passed : ℕ) (ports : List Port) : Type 0 where
+  is_through : length rows ≤ passed → Stands now rows paces number passed ports
+  is_early : now < comes_at rows passed → Stands now rows paces number passed ports
+  is_before : (row : Row) (op : Operation) → slice_get rows passed ≡ Some row → operation_of number row ≡ Some op → IsPutOff paces ports op.aim.channel
+      → Stands now rows paces number passed ports
 
 -- .. and no reply came to it
-pub record Rests (now : ℕ) (rows : List Row) (goes_on : ℕ → Type 0) (s : Station) : Type 0 where
-  pub stands : Stands now rows goes_on s.number s.passed s.ports.items
+pub record Rests (now : ℕ) (rows : List Row) (paces : List Pace) (s : Station) : Type 0 where
+  pub stands : Stands now rows paces s.number s.passed s.ports.items
   pub emptied : Each IsEmptied s.ports.items

@@ -1,5 +1,4 @@
 //! What the threads of a run tell each other.
-use crate::receivers::Receivers;
 use std::sync::atomic::{AtomicU64, Ordering};
 
 /// How many hosts a run has room for.
@@ -59,26 +58,4 @@ impl Board {
             self.end_channel(channel);
         }
     }
-}
-
-/// The board, as a host sees it that sends to the channels: any channel may end at any time, and none has to be woken.
-#[derive(Drop)]
-pub(crate) struct Watch<'b> {
-    pub(crate) board: &'b Board,
-}
-
-impl Receivers for Watch<'_> {
-    ghost use Rattle.std.specs.Prelude.{◌≡◌, []};
-
-    ghost queues = { λ w. [] };
-
-    ghost ended = { λ w channel told. Unit {0} };
-
-    ghost wakes = { λ w channel w'. w' ≡ w };
-
-    fn has_ended(&self, channel: usize) -> bool {
-        self.board.has_channel_ended(channel)
-    }
-
-    fn wake(&mut self, _channel: usize) {}
 }

@@ -1,7 +1,9 @@
 //! A host's ends on a channel.
-ghost use Rattle.std.specs.Prelude.{◌≡◌, IsTrue, false};
-ghost use Rattle.onfi_run.specs.Keys.{Collects, LeavesOut, Submits};
+ghost use Rattle.std.specs.Prelude.{◌≡◌, ◌++◌, [], ◌∷◌, List, IsTrue, false};
+ghost use Rattle.onfi_request.specs.declared.request.Request.{Request as ARequest};
+ghost use Rattle.onfi_run.specs.Keys.{port_key, port_state, Collects, LeavesOut, Submits};
 ghost use Rattle.onfi_run.specs.Resting.{IsEmptied, IsFull};
+ghost use Rattle.onfi_run.specs.Sending.{IsSending};
 
 use crate::answers::Answers;
 use onfi_queue::{Host, SubmitFault};
@@ -22,6 +24,7 @@ pub(crate) struct Port {
 impl Port {
     /// Collects the next reply at that moment, and answers whether there was one.
     pub(crate) fn collect<R: Wait>(&mut self, rt: &R, now: u64) -> bool
+        ensures same { port_state self.new ≡ port_state self.old }
         ensures collected { Collects now result self.old self.new }
         ensures emptied { result ≡ false → IsEmptied self.old }
     {
@@ -36,7 +39,9 @@ impl Port {
 
     /// Leaves an operation out.
     pub(crate) fn leave_out(&mut self)
-        ensures { LeavesOut self.old self.new }
+        ensures same { port_key self.new ≡ port_key self.old }
+        ensures nothing { LeavesOut self.old self.new }
+        ensures left { (requests : List ARequest) (request : ARequest) → IsSending requests self.old → IsSending (requests ++ request ∷ []) self.new }
     {
         self.left_out = true;
     }
@@ -50,6 +55,8 @@ impl Port {
         has_ended: bool,
         request: Request,
     ) -> bool
+        ensures same { port_key self.new ≡ port_key self.old }
+        ensures sent { IsTrue result → (requests : List ARequest) → IsSending requests self.old → IsSending (requests ++ request ∷ []) self.new }
         ensures submits { IsTrue result → Submits now request has_ended self.old self.new }
         ensures waits { result ≡ false → (self.new ≡ self.old) × IsFull self.old × (has_ended ≡ false) }
     {

@@ -14,13 +14,12 @@ ghost use Rattle.onfi_run.specs.Keys.{AreLinked, ports_of};
 ghost use Rattle.onfi_run.specs.Told.{IsReportOf, TellsClock};
 
 use crate::channel::Channel;
-use crate::course::Course;
 use crate::finishing::finish_all;
 use crate::no_gate::no_gates;
 use crate::opening::Stage;
 use crate::preparing::{Prepared, prepare_for};
 use crate::report::Report;
-use crate::simulation::{Settled, buses_of, simulate};
+use crate::simulation::{Course, Settled, buses_of, simulate};
 use crate::station::NO_MOMENT;
 use crate::text::report_answer;
 use crate::threads::run_threads;
@@ -49,12 +48,7 @@ fn run<R: Threads + Wait + Sync, P: Planner + Copy + Send + Drop, G: Gate + Send
     let rows = prepared.rows.as_slice();
     let stage = Stage::open(alloc, rows, &prepared.device, planner, limit, gates)?;
     let Stage { lanes, stations } = stage;
-    let course = Course {
-        alloc,
-        geometry: &prepared.device.geometry,
-        rows,
-    };
-    match run_threads(rt, course, lanes, stations) {
+    match run_threads(rt, alloc, &prepared.device.geometry, rows, lanes, stations) {
         Some(ran) => finish_all(rt, alloc, NO_MOMENT, ran.0, ran.1),
         None => Err(AllocError),
     }

@@ -9,10 +9,11 @@ ghost use Rattle.onfi_run.specs.Threads.{IsWorkerOf, is_used as spec_is_used};
 
 use crate::board::Board;
 use crate::channel::Channel;
-use crate::course::Course;
 use crate::lane::Lane;
 use crate::station::{Station, apart};
+use onfi_addr::Geometry;
 use onfi_script::Row;
+use std::alloc::Global;
 use std::snapshot::Snapshot;
 use std::sync::Wait;
 use std::thread;
@@ -21,8 +22,10 @@ use std::thread::{Promise, PromisedHandle, Scope, Threads};
 /// What all threads of a run share.
 #[derive(Clone, Copy)]
 pub(crate) struct Shared<'s> {
-    pub(crate) course: Course<'s>,
+    pub(crate) alloc: Global,
     pub(crate) board: &'s Board,
+    pub(crate) geometry: &'s Geometry,
+    pub(crate) rows: &'s [Row],
 }
 
 /// It gives back the ends of the channel that it was given.
@@ -85,16 +88,16 @@ fn start_host<'s, E, R: Threads + Wait + Sync>(
     shared: Shared<'s>,
     station: Station,
 ) -> Option<Worker>
-    ensures { IfSome result (λ w. IsWorkerOf shared.entry.course.rows.now station.number station.ports.items w) }
+    ensures { IfSome result (λ w. IsWorkerOf shared.entry.rows.now station.number station.ports.items w) }
 {
-    if !is_used(shared.course.rows, station.number) {
+    if !is_used(shared.rows, station.number) {
         return Some(Worker::Unused(station));
     }
     let promise = GivesStation {
         was: Snapshot::of(&station),
     };
     let started = scope.spawn_with(promise, move || {
-        station.work(rt, &shared.course, shared.board)
+        station.work(rt, shared.alloc, shared.geometry, shared.board, shared.rows)
     });
     match started {
         Ok(handle) => Some(Worker::AtWork(handle)),
@@ -151,7 +154,7 @@ fn spawn_lane<'s, E, R: Threads + Wait + Sync, C: Channel + Send + Drop + 's>(
         was: Snapshot::of(&lane),
     };
     let started = scope.spawn_with(promise, move || {
-        lane.serve(rt, shared.course.alloc, shared.board, number)
+        lane.serve(rt, shared.alloc, shared.board, number)
     });
     match started {
         Ok(handle) => Some(handle),
@@ -191,17 +194,21 @@ fn serve_all<'s, E, R: Threads + Wait + Sync, C: Channel + Send + Drop + 's>(
 /// made or memory was refused.
 pub(crate) fn run_threads<R: Threads + Wait + Sync, C: Channel + Send + Drop>(
     rt: &R,
-    course: Course<'_>,
+    alloc: Global,
+    geometry: &Geometry,
+    rows: &[Row],
     lanes: Vec<Lane<C>>,
     stations: [Station; 4],
 ) -> Option<(Vec<Lane<C>>, [Station; 4])>
     ensures lanes { IfSome result (λ r. map (λ l. C.queues l.channel) r.0.items ≡ map (λ l. C.queues l.channel) lanes.items) }
     ensures stations { IfSome result (λ r. HaveSamePorts stations r.1) }
 {
-    let board = Board::new(unused_hosts(course.rows));
+    let board = Board::new(unused_hosts(rows));
     let shared = Shared {
-        course,
+        alloc,
         board: &board,
+        geometry,
+        rows,
     };
     thread::scope(
         thread::scope_env(),
