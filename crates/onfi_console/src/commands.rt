@@ -84,7 +84,7 @@ fn plan_output<'a>(alloc: Global) -> Result<Command<'a>, AllocError>
     with(plan, flag(alloc, "requests", help::REQUESTS))
 }
 
-/// .. with `[--workers N] [--remember] [--within]`
+/// .. with `[--workers N] [--remember] [--within] [--rule]`
 fn plan_search<'a>(alloc: Global) -> Result<Command<'a>, AllocError>
     ensures app { IfOk result (λ a. app_of a ≡ spec.plan_search) }
     ensures local { IfOk result (λ a. (fields_of a).has_globals ≡ false) }
@@ -92,7 +92,8 @@ fn plan_search<'a>(alloc: Global) -> Result<Command<'a>, AllocError>
     let plan = plan_output(alloc)?;
     let plan = with(plan, number(alloc, "workers", help::WORKERS))?;
     let plan = with(plan, flag(alloc, "remember", help::REMEMBER_PLAN))?;
-    with(plan, flag(alloc, "within", help::WITHIN_PLAN))
+    let plan = with(plan, flag(alloc, "within", help::WITHIN_PLAN))?;
+    with(plan, flag(alloc, "rule", help::RULE_PLAN))
 }
 
 /// .. with `[--early] [--slack N]`
@@ -135,7 +136,7 @@ fn check<'a>(alloc: Global) -> Result<Command<'a>, AllocError>
     with(check, file(alloc, "PLAN", help::PLAN_FILE))
 }
 
-/// `run [--limit N] [--plain] [--within] [--slack N]`
+/// `run [--limit N] [--plain] [--within] [--slack N] [--rule]`
 fn run_search<'a>(alloc: Global) -> Result<Command<'a>, AllocError>
     ensures app { IfOk result (λ a. app_of a ≡ spec.run_search) }
     ensures local { IfOk result (λ a. (fields_of a).has_globals ≡ false) }
@@ -144,7 +145,8 @@ fn run_search<'a>(alloc: Global) -> Result<Command<'a>, AllocError>
     let run = with(run, number(alloc, "limit", help::LIMIT_RUN))?;
     let run = with(run, flag(alloc, "plain", help::PLAIN_RUN))?;
     let run = with(run, flag(alloc, "within", help::WITHIN_RUN))?;
-    with(run, number(alloc, "slack", help::SLACK_RUN))
+    let run = with(run, number(alloc, "slack", help::SLACK_RUN))?;
+    with(run, flag(alloc, "rule", help::RULE_RUN))
 }
 
 /// .. with `[--clock CLOCK] [--quiet] [FILE]`
