@@ -2,4 +2,5 @@ pub mod Appended
 pub mod CommandLemmas
 pub mod LimitLemmas
 pub mod ReadersLemmas
+pub mod RuleLemmas
 pub mod WordsLemmas

@@ -3,7 +3,7 @@ use Rattle.std.proofs.Common.{◌≡◌, ◌≢◌, ℕ, ◌||◌, Bool, List, c
 use Rattle.std.specs.Prelude.{Option, IsSomeAnd, if◌then◌else◌}
 use Rattle.clap.specs.Words.{Row, first_of, subcommand_of}
 use Rattle.onfi_planners.specs.declared.chosen.ChosenPlanner.{ChosenPlanner}
-use Rattle.onfi_planners.specs.declared.chosen.ChosenPlanner.TheVariants.{Plain, Remembering, BestSoFar}
+use Rattle.onfi_planners.specs.declared.chosen.ChosenPlanner.TheVariants.{Plain, Remembering, BestSoFar, ByRule}
 use Rattle.onfi_script.specs.declared.command.Command.{Command}
 use Rattle.onfi_script.specs.declared.command.Command.TheVariants.{Check, CheckBy, Legal}
 use Rattle.onfi_script.specs.declared.command.Output.{Output}
@@ -12,7 +12,8 @@ use Rattle.onfi_console.specs.declared.parsed.CommandName.TheVariants as called
 use Rattle.onfi_console.specs.declared.parsed.Named.{Named}
 use Rattle.onfi_console.specs.declared.parsed.Named.TheVariants.{Problem, Run, Device}
 use Rattle.onfi_console.specs.declared.parsed.Parsed.{Parsed}
-use Rattle.onfi_console.specs.Words.{Ask, IsCheck, IsLimit, IsNamed, IsParsed, IsPlan, IsWorkers, app, check_command, given, is_alone, output_of, plan_command, planner_of, usual_for}
+use Rattle.onfi_console.specs.Words.{Ask, IsCheck, IsLimit, IsNamed, IsParsed, IsPlan, IsPlanByRule, IsWorkers, app, check_command, given, is_alone, output_of, plan_command, planner_of, printed_by, usual_for}
+use Rattle.onfi_console.proofs.RuleLemmas.{one_worker, searches_not, usual_alone}
 use Rattle.onfi_console.specs.Readers.{AreRead, IsLimitRead, IsRead, IsTraceRead, IsWorkersRead, command_in, is_trace, limit_in, trace_in, word_of}
 
 -- a flag that asks for a trace is given, or none is
@@ -47,10 +48,11 @@ plan_read Plain None limit (output.Trace true) = record { named = refl; limited 
 plan_read Plain (Some slack) limit out = record { named = refl; limited = refl; traced = refl }
 plan_read Remembering better limit out = record { named = refl; limited = refl; traced = refl }
 plan_read BestSoFar better limit out = record { named = refl; limited = refl; traced = refl }
+plan_read ByRule better limit out = record { named = refl; limited = refl; traced = refl }
 
 planned : (command : Command) (workers : ℕ) (name : List ℕ) (used : List Row) → name ≡ codes "plan" → IsPlan command workers used → IsRead (Problem command workers) name used
 planned command workers name used e is =
-    let out = output_of (given (codes "trace") used) (given (codes "requests") used) in
+    let out = printed_by used in
     let it = subst (λ z. IsPlanRead z is.limit out) (sym is.is_command) (plan_read is.planner is.better is.limit out) in
     let usual = usual_found (given (codes "remember") used) (given (codes "within") used) is.planner is.is_planner in
     let limit = subst (λ n. IsLimit n (first_of (codes "limit") used) is.limit) usual is.is_limit in
@@ -59,6 +61,19 @@ planned command workers name used e is =
       limit = subst (λ z. IsLimitRead z (Problem command workers) used) (sym it.named) (subst (λ n. IsLimit (if given (codes "within") used then 65536 else 1048576) (first_of (codes "limit") used) n) (sym it.limited) limit);
       trace = subst (λ z. IsTraceRead z (Problem command workers) used) (sym it.named) (it.traced ∙ trace_told (given (codes "trace") used) (given (codes "requests") used));
       workers = subst (λ z. IsWorkersRead z (Problem command workers) used) (sym it.named) (some_workers (is_alone is.planner is.better) (first_of (codes "workers") used) workers is.is_workers);
+    }
+
+ruled : (command : Command) (workers : ℕ) (name : List ℕ) (used : List Row) → name ≡ codes "plan" → IsPlanByRule command workers used → IsRead (Problem command workers) name used
+ruled command workers name used e is =
+    let out = printed_by used in
+    let it = subst (λ z. IsPlanRead z 1048576 out) (sym is.is_command) (plan_read ByRule None 1048576 out) in
+    let alone = searches_not used is.alone in
+    let usual = usual_alone (first_of (codes "limit") used) (given (codes "within") used) 65536 alone.limit alone.within in
+    record {
+      command = ap word_of it.named ∙ sym e;
+      limit = subst (λ z. IsLimitRead z (Problem command workers) used) (sym it.named) (subst (λ n. IsLimit (if given (codes "within") used then 65536 else 1048576) (first_of (codes "limit") used) n) (sym it.limited) usual);
+      trace = subst (λ z. IsTraceRead z (Problem command workers) used) (sym it.named) (it.traced ∙ trace_told (given (codes "trace") used) (given (codes "requests") used));
+      workers = subst (λ z. IsWorkersRead z (Problem command workers) used) (sym it.named) (one_worker (first_of (codes "workers") used) workers alone.workers is.one);
     }
 
 check_read : (legal within remember : Bool) (command : Command) (workers : ℕ) (name : List ℕ) (used : List Row) → check_command legal within remember ≡ Some command → name ≡ codes "check" → workers ≡ 1 → IsRead (Problem command workers) name used
@@ -72,7 +87,8 @@ check_read true true false command workers name used is e one = cc
 check_read true true true command workers name used is e one = cc
 
 pub read : (named : Named) (name : List ℕ) (used : List Row) → IsNamed named name used → IsRead named name used
-read (Problem command workers) name used (inl (e, is)) = planned command workers name used e is
+read (Problem command workers) name used (inl (e, inl is)) = planned command workers name used e is
+read (Problem command workers) name used (inl (e, inr is)) = ruled command workers name used e is
 read (Problem command workers) name used (inr (e, is, one)) =
     check_read (given (codes "legal") used) (given (codes "within") used) (given (codes "remember") used) command workers name used is e one
 read Device name used e = record { command = sym e; limit = refl; trace = refl; workers = refl }

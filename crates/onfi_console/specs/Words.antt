@@ -3,7 +3,7 @@ use Rattle.std.specs.Prelude.{◌≡◌, ◌≤◌, ◌⊎◌, ℕ, ◌==◌, �
 use Rattle.clap.specs.Words.{App, Row as Used, Rule, first_of, new_app, new_rule, subcommand_of, with_rule, with_subcommand}
 use Rattle.clap.specs.declared.builder.ArgAction.TheVariants.{Set, SetTrue}
 use Rattle.onfi_planners.specs.declared.chosen.ChosenPlanner.{ChosenPlanner}
-use Rattle.onfi_planners.specs.declared.chosen.ChosenPlanner.TheVariants.{Plain, Remembering, BestSoFar}
+use Rattle.onfi_planners.specs.declared.chosen.ChosenPlanner.TheVariants.{Plain, Remembering, BestSoFar, ByRule}
 use Rattle.onfi_planners.specs.declared.early.SlackPlanner.{SlackPlanner}
 use Rattle.onfi_planners.specs.declared.weighing.Weighing.TheVariants.{ByAge}
 use Rattle.onfi_script.specs.declared.command.Command.{Command}
@@ -41,9 +41,9 @@ command name = new_app name
 abbrev pub plan_output : App
 plan_output = with_rule (with_rule (with_rule (command (codes "plan")) (value (codes "limit"))) (flag (codes "trace"))) (flag (codes "requests"))
 
--- .. with `[--workers N] [--remember] [--within]`
+-- .. with `[--workers N] [--remember] [--within] [--rule]`
 abbrev pub plan_search : App
-plan_search = with_rule (with_rule (with_rule plan_output (value (codes "workers"))) (flag (codes "remember"))) (flag (codes "within"))
+plan_search = with_rule (with_rule (with_rule (with_rule plan_output (value (codes "workers"))) (flag (codes "remember"))) (flag (codes "within"))) (flag (codes "rule"))
 
 -- .. with `[--early] [--slack N]`
 abbrev pub plan_early : App
@@ -65,9 +65,13 @@ check = with_rule (with_rule (with_rule check_judging quiet) (file (codes "FILE"
 abbrev pub run_search : App
 run_search = with_rule (with_rule (with_rule (with_rule (command (codes "run")) (value (codes "limit"))) (flag (codes "plain"))) (flag (codes "within"))) (value (codes "slack"))
 
+-- .. with `[--rule]`
+abbrev pub run_planning : App
+run_planning = with_rule run_search (flag (codes "rule"))
+
 -- .. with `[--clock CLOCK] [--quiet] [FILE]`
 abbrev pub run : App
-run = with_rule (with_rule (with_rule run_search (value (codes "clock"))) quiet) (file (codes "FILE"))
+run = with_rule (with_rule (with_rule run_planning (value (codes "clock"))) quiet) (file (codes "FILE"))
 
 -- `device [--quiet] [FILE]`
 abbrev pub device : App
@@ -131,11 +135,16 @@ RunPlanner = SlackPlanner ChosenPlanner
 abbrev pub run_planner : ChosenPlanner → ℕ → RunPlanner
 run_planner search slack = record { planner = search; weighing = ByAge; per_mille = slack; nodes = 1500 }
 
+-- .. of a run by the rule: its plans stay as the rule makes them
+abbrev pub rule_planner : RunPlanner
+rule_planner = record { planner = ByRule; weighing = ByAge; per_mille = 0; nodes = 0 }
+
 -- the limit of a search where none is named, and plans may end later by these thousandths
 abbrev pub usual_by : ChosenPlanner → ℕ → ℕ
 usual_by Plain slack = 1048576
 usual_by Remembering slack = if slack == 0 then 1048576 else 65536
 usual_by BestSoFar slack = 65536
+usual_by ByRule slack = 1048576
 
 -- the limit of a run where none is named
 abbrev pub usual_of : RunPlanner → ℕ
@@ -170,18 +179,21 @@ abbrev pub usual_for : ChosenPlanner → ℕ
 usual_for Plain = 1048576
 usual_for Remembering = 1048576
 usual_for BestSoFar = 65536
+usual_for ByRule = 1048576
 
 -- one worker alone plans so: none may be named
 abbrev pub is_alone : ChosenPlanner → Option ℕ → Bool
 is_alone Plain better = is_some better
 is_alone Remembering better = true
 is_alone BestSoFar better = true
+is_alone ByRule better = true
 
 -- the planner whose plans may end later by these thousandths: one that remembers states, where they may
 abbrev pub planner_within : ChosenPlanner → ℕ → ChosenPlanner
 planner_within Plain slack = if slack == 0 then Plain else Remembering
 planner_within Remembering slack = Remembering
 planner_within BestSoFar slack = BestSoFar
+planner_within ByRule slack = ByRule
 
 -- the command to plan so
 abbrev pub plan_command : ChosenPlanner → Option ℕ → ℕ → Output → Command
@@ -207,8 +219,29 @@ IsInRange Device = ⊤
 abbrev pub given : List ℕ → List Used → Bool
 given name used = is_given (first_of name used)
 
--- `plan` is for this, by so many workers
+-- an option of `plan` is given that names a search, or bounds one; `first` tells the first value of an option
+abbrev pub names_search : (List ℕ → Option (List ℕ)) → Bool
+names_search first =
+    is_some (first (codes "limit")) || is_some (first (codes "workers")) || is_given (first (codes "remember")) || is_given (first (codes "within")) || is_given (first (codes "early")) || is_some (first (codes "slack"))
+
+-- .. of `run`
+abbrev pub names_run_search : (List ℕ → Option (List ℕ)) → Bool
+names_run_search first = is_given (first (codes "plain")) || is_given (first (codes "within")) || is_some (first (codes "limit")) || is_some (first (codes "slack"))
+
+-- what is printed of a plan, by the flags that are given
+abbrev pub printed_by : List Used → Output
+printed_by used = output_of (given (codes "trace") used) (given (codes "requests") used)
+
+-- `plan --rule` is for this: no search is named, and one worker plans
+pub record IsPlanByRule (command : Command) (workers : ℕ) (used : List Used) : Type 0 where
+  pub rule : given (codes "rule") used ≡ true
+  pub alone : names_search (λ name. first_of name used) ≡ false
+  pub one : workers ≡ 1
+  pub is_command : command ≡ plan_command ByRule None 1048576 (printed_by used)
+
+-- `plan` without `--rule` is for this, by so many workers
 pub record IsPlan (command : Command) (workers : ℕ) (used : List Used) : Type 0 where
+  pub no_rule : given (codes "rule") used ≡ false
   pub planner : ChosenPlanner
   pub better : Option ℕ
   pub limit : ℕ
@@ -216,14 +249,21 @@ pub record IsPlan (command : Command) (workers : ℕ) (used : List Used) : Type 
   pub is_better : IsBetter (given (codes "early") used) (first_of (codes "slack") used) better
   pub is_limit : IsLimit (usual_for planner) (first_of (codes "limit") used) limit
   pub is_workers : IsWorkers (is_alone planner better) (first_of (codes "workers") used) workers
-  pub is_command : command ≡ plan_command planner better limit (output_of (given (codes "trace") used) (given (codes "requests") used))
+  pub is_command : command ≡ plan_command planner better limit (printed_by used)
 
 -- `check` is for this
 abbrev pub IsCheck : Command → List Used → Type 0
 IsCheck command used = check_command (given (codes "legal") used) (given (codes "within") used) (given (codes "remember") used) ≡ Some command
 
--- `run` plans by this planner
+-- `run --rule` plans by this planner: no search is named
+pub record IsRunByRule (planner : RunPlanner) (used : List Used) : Type 0 where
+  pub rule : given (codes "rule") used ≡ true
+  pub alone : names_run_search (λ name. first_of name used) ≡ false
+  pub is_planner : planner ≡ rule_planner
+
+-- `run` without `--rule` plans by this planner
 pub record IsRun (planner : RunPlanner) (used : List Used) : Type 0 where
+  pub no_rule : given (codes "rule") used ≡ false
   pub search : ChosenPlanner
   pub slack : Option ℕ
   pub is_search : search_of (given (codes "plain") used) (given (codes "within") used) ≡ Some search
@@ -232,9 +272,9 @@ pub record IsRun (planner : RunPlanner) (used : List Used) : Type 0 where
 
 -- a subcommand with these arguments is what is named
 abbrev pub IsNamed : Named → List ℕ → List Used → Type 0
-IsNamed (Problem command workers) name used = ((name ≡ codes "plan") × IsPlan command workers used) ⊎ ((name ≡ codes "check") × IsCheck command used × (workers ≡ 1))
+IsNamed (Problem command workers) name used = ((name ≡ codes "plan") × (IsPlan command workers used ⊎ IsPlanByRule command workers used)) ⊎ ((name ≡ codes "check") × IsCheck command used × (workers ≡ 1))
 IsNamed Device name used = name ≡ codes "device"
-IsNamed (Run planner limit clocked) name used = (name ≡ codes "run") × IsClock (first_of (codes "clock") used) clocked × IsRun planner used × IsLimit (usual_of planner) (first_of (codes "limit") used) limit
+IsNamed (Run planner limit clocked) name used = (name ≡ codes "run") × IsClock (first_of (codes "clock") used) clocked × (IsRun planner used ⊎ IsRunByRule planner used) × IsLimit (usual_of planner) (first_of (codes "limit") used) limit
 
 -- .. with these files, quiet or not
 abbrev pub IsParsed : Parsed → List ℕ → List Used → Type 0

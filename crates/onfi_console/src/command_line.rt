@@ -13,7 +13,7 @@ use crate::fault::{Untaken, WordsFault};
 use crate::parsed::{MOST, Named, Parsed};
 use clap::error::ErrorKind;
 use clap::{ArgMatches, Error};
-use onfi_planners::{ChosenPlanner, SlackPlanner, Weighing};
+use onfi_planners::{ChosenPlanner, Nodes, SlackPlanner, Weighing};
 use onfi_script::{Command, Output, PlanOptions, number};
 use std::alloc::{AllocError, Global};
 
@@ -32,6 +32,8 @@ enum ValueFault {
     SlackWithoutEarly,
     WorkersBesideEarly,
     Clock,
+    SearchBesideRule,
+    RunSearchBesideRule,
 }
 
 impl ValueFault {
@@ -64,6 +66,12 @@ impl ValueFault {
                 "'--workers' can't be used with '--early': one worker makes a plan better"
             }
             ValueFault::Clock => "'--clock' wants 'simulated'",
+            ValueFault::SearchBesideRule => {
+                "'--rule' can't be used with '--limit', '--workers', '--remember', '--within', '--early' or '--slack': it searches nothing"
+            }
+            ValueFault::RunSearchBesideRule => {
+                "'--rule' can't be used with '--limit', '--plain', '--within' or '--slack': it searches nothing"
+            }
         }
     }
 }
@@ -185,7 +193,7 @@ fn usual_for(planner: ChosenPlanner) -> u32
     ensures few { result ≤ 1048576 }
 {
     match planner {
-        ChosenPlanner::Plain | ChosenPlanner::Remembering => MOST,
+        ChosenPlanner::Plain | ChosenPlanner::Remembering | ChosenPlanner::ByRule => MOST,
         ChosenPlanner::BestSoFar => USUAL,
     }
 }
@@ -242,11 +250,43 @@ fn plan_command(planner: ChosenPlanner, better: Option<u16>, limit: u32, output:
     }
 }
 
+/// Whether an option of `plan` is given that names a search, or bounds one.
+fn names_search(used: &ArgMatches<'_>) -> bool
+    ensures { result ≡ spec.names_search (first_value (found_of used.now)) }
+{
+    has_value(used, "limit")
+        || has_value(used, "workers")
+        || is_given(used, "remember")
+        || is_given(used, "within")
+        || is_given(used, "early")
+        || has_value(used, "slack")
+}
+
+/// What `plan --rule` with these arguments names.
+fn plan_by_rule_of(used: &ArgMatches<'_>) -> Result<Named, ValueFault>
+    requires { spec.given (codes "rule") (rows_of (found_of used.now)) ≡ true }
+    ensures range { IfOk result (λ named. spec.IsInRange named) }
+    ensures named { IfOk result (λ named. spec.IsNamed named (codes "plan") (rows_of (found_of used.now))) }
+{
+    let searches = names_search(used);
+    if searches {
+        return Err(ValueFault::SearchBesideRule);
+    }
+    let output = output_of(used);
+    let command = plan_command(ChosenPlanner::ByRule, None, MOST, output);
+    let workers = 1;
+    Ok(Named::Problem { command, workers })
+}
+
 /// What `plan` with these arguments names.
 fn plan_of(used: &ArgMatches<'_>) -> Result<Named, ValueFault>
     ensures range { IfOk result (λ named. spec.IsInRange named) }
     ensures named { IfOk result (λ named. spec.IsNamed named (codes "plan") (rows_of (found_of used.now))) }
 {
+    let rule = is_given(used, "rule");
+    if rule {
+        return plan_by_rule_of(used);
+    }
     let early = is_given(used, "early");
     if early && has_value(used, "workers") {
         return Err(ValueFault::WorkersBesideEarly);
@@ -315,6 +355,18 @@ fn run_planner(search: ChosenPlanner, slack: u16) -> SlackPlanner<ChosenPlanner>
     SlackPlanner::of(search, Weighing::ByAge, slack)
 }
 
+/// The planner of a run by the rule, whose plans stay as the rule makes them.
+fn rule_planner() -> SlackPlanner<ChosenPlanner>
+    ensures { result ≡ spec.rule_planner }
+{
+    SlackPlanner {
+        planner: ChosenPlanner::ByRule,
+        weighing: Weighing::ByAge,
+        per_mille: 0,
+        nodes: Nodes::of(0).unwrap(),
+    }
+}
+
 /// The limit of a run by this search where none is named: the usual one where states are remembered, and plans may end later.
 fn usual_of(search: ChosenPlanner, slack: u16) -> u32
     ensures value { result ≡ spec.usual_by search slack }
@@ -323,6 +375,7 @@ fn usual_of(search: ChosenPlanner, slack: u16) -> u32
 {
     match search {
         ChosenPlanner::Plain => MOST,
+        ChosenPlanner::ByRule => MOST,
         ChosenPlanner::Remembering if slack == 0 => MOST,
         ChosenPlanner::Remembering | ChosenPlanner::BestSoFar => USUAL,
     }
@@ -339,11 +392,43 @@ fn clock_of(matches: &ArgMatches<'_>) -> Result<bool, ValueFault>
     }
 }
 
+/// Whether an option of `run` is given that names a search, or bounds one.
+fn names_run_search(used: &ArgMatches<'_>) -> bool
+    ensures { result ≡ spec.names_run_search (first_value (found_of used.now)) }
+{
+    is_given(used, "plain")
+        || is_given(used, "within")
+        || has_value(used, "limit")
+        || has_value(used, "slack")
+}
+
+/// What `run --rule` with these arguments names.
+fn run_by_rule_of(used: &ArgMatches<'_>) -> Result<Named, ValueFault>
+    requires { spec.given (codes "rule") (rows_of (found_of used.now)) ≡ true }
+    ensures range { IfOk result (λ named. spec.IsInRange named) }
+    ensures named { IfOk result (λ named. spec.IsNamed named (codes "run") (rows_of (found_of used.now))) }
+{
+    let searches = names_run_search(used);
+    if searches {
+        return Err(ValueFault::RunSearchBesideRule);
+    }
+    let clocked = clock_of(used)?;
+    Ok(Named::Run {
+        planner: rule_planner(),
+        limit: MOST,
+        clocked,
+    })
+}
+
 /// What `run` with these arguments names.
 fn run_of(used: &ArgMatches<'_>) -> Result<Named, ValueFault>
     ensures range { IfOk result (λ named. spec.IsInRange named) }
     ensures named { IfOk result (λ named. spec.IsNamed named (codes "run") (rows_of (found_of used.now))) }
 {
+    let rule = is_given(used, "rule");
+    if rule {
+        return run_by_rule_of(used);
+    }
     let plain = is_given(used, "plain");
     let within = is_given(used, "within");
     let search = search_of(plain, within)?;

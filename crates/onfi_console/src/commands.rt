@@ -84,7 +84,7 @@ fn plan_output<'a>(alloc: Global) -> Result<Command<'a>, AllocError>
     with(plan, flag(alloc, "requests", help::REQUESTS))
 }
 
-/// .. with `[--workers N] [--remember] [--within]`
+/// .. with `[--workers N] [--remember] [--within] [--rule]`
 fn plan_search<'a>(alloc: Global) -> Result<Command<'a>, AllocError>
     ensures app { IfOk result (λ a. app_of a ≡ spec.plan_search) }
     ensures local { IfOk result (λ a. (fields_of a).has_globals ≡ false) }
@@ -92,7 +92,8 @@ fn plan_search<'a>(alloc: Global) -> Result<Command<'a>, AllocError>
     let plan = plan_output(alloc)?;
     let plan = with(plan, number(alloc, "workers", help::WORKERS))?;
     let plan = with(plan, flag(alloc, "remember", help::REMEMBER_PLAN))?;
-    with(plan, flag(alloc, "within", help::WITHIN_PLAN))
+    let plan = with(plan, flag(alloc, "within", help::WITHIN_PLAN))?;
+    with(plan, flag(alloc, "rule", help::RULE_PLAN))
 }
 
 /// .. with `[--early] [--slack N]`
@@ -147,13 +148,21 @@ fn run_search<'a>(alloc: Global) -> Result<Command<'a>, AllocError>
     with(run, number(alloc, "slack", help::SLACK_RUN))
 }
 
+/// .. with `[--rule]`
+fn run_planning<'a>(alloc: Global) -> Result<Command<'a>, AllocError>
+    ensures app { IfOk result (λ a. app_of a ≡ spec.run_planner) }
+    ensures local { IfOk result (λ a. (fields_of a).has_globals ≡ false) }
+{
+    with(run_search(alloc)?, flag(alloc, "rule", help::RULE_RUN))
+}
+
 /// .. with `[--clock CLOCK] [--quiet] [FILE]`
 fn run<'a>(alloc: Global) -> Result<Command<'a>, AllocError>
     ensures app { IfOk result (λ a. app_of a ≡ spec.run) }
     ensures local { IfOk result (λ a. (fields_of a).has_globals ≡ false) }
 {
     let clock = value(alloc, "clock", "CLOCK", help::CLOCK_RUN);
-    let run = with(run_search(alloc)?, clock)?;
+    let run = with(run_planning(alloc)?, clock)?;
     let run = with(run, quiet(alloc))?;
     with(run, file(alloc, "FILE", help::FILE))
 }

@@ -31,7 +31,7 @@ pub const PLAN: &str =
 pub const PLAN_MORE: &str = "\
 Input: a script of rows up to the line 'end': a device (shape and spans rows, or page and sheet rows), the state of bus
 and LUNs (bus, free, running), and up to eight requests (want).
-Output: the plan text: its finish in ns, the starts of each group's phases, the certificate. With --within a line
+Output: the plan text: its finish in ns, the starts of each group's phases, the certificate. With --within or --rule a line
 'below N' where the plan isn't proved optimal: nothing ends before N ns. With --early requests end early by their weights
 (weight), which else mean nothing.
 
@@ -41,7 +41,8 @@ within the limit; 7 a read or write failed.
 Example:
   onfi_sim plan examples/batch.onfi
   onfi_sim plan --remember --requests examples/batch.onfi
-  onfi_sim plan --early --slack 20 examples/batch.onfi";
+  onfi_sim plan --early --slack 20 examples/batch.onfi
+  onfi_sim plan --rule examples/batch.onfi";
 
 pub const CHECK: &str =
     "Says whether a plan text is legal, ends when it says, and is optimal by its certificate.";
@@ -74,6 +75,7 @@ Example:
   onfi_sim run examples/two-hosts.onfi
   onfi_sim run --within --limit 200 examples/two-hosts.onfi
   onfi_sim run --slack 20 examples/two-hosts.onfi
+  onfi_sim run --rule examples/two-hosts.onfi
   onfi_sim run --clock simulated examples/two-hosts.onfi";
 
 pub const DEVICE: &str =
@@ -113,6 +115,11 @@ pub const REMEMBER_PLAN: &str =
 pub const WITHIN_PLAN: &str =
     "Search likewise, and give the best plan so far at the limit, 65536 where none is named";
 
+pub const RULE_PLAN: &str =
+    "Plan by a rule, in microseconds and without a search; the text is that of --within";
+
+pub const RULE_RUN: &str = "Plan by a rule, in microseconds and without a search";
+
 pub const EARLY: &str =
     "Let requests end early by the weights of the script, and nothing later than the plan does";
 
@@ -125,7 +132,8 @@ pub const SLACK_RUN: &str =
 pub const CLOCK_RUN: &str =
     "Run by a clock, 'simulated': tells when each reply came, how busy buses were and how long operations took";
 
-pub const WITHIN_CHECK: &str = "Take plan texts of 'plan --within', and no others";
+pub const WITHIN_CHECK: &str =
+    "Take plan texts of 'plan --within' and 'plan --rule', and no others";
 
 pub const REMEMBER_CHECK: &str = "Take a certificate that remembers states, and no plain one";
 

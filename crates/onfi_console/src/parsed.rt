@@ -81,7 +81,8 @@ impl Parsed<'_> {
         }
     }
 
-    /// How many nodes a search may open, 1 to 1,048,576; the greatest limit for `check` and `device`, which search nothing.
+    /// How many nodes a search may open, 1 to 1,048,576; the greatest limit for `check`, `device` and the rule, which search
+    /// nothing.
     pub fn limit(&self) -> u32
         ensures named { result ≡ spec.limit_of self.now.named }
         ensures range { IsInRange self.now.named → (1 ≤ result) × (result ≤ 1048576) }

@@ -1,4 +1,4 @@
-use Rattle.std.proofs.Common.{◌≡◌, ap, sym, ◌∙◌, Some, refl, subst, codes}
+use Rattle.std.proofs.Common.{◌≡◌, inl, ap, sym, ◌∙◌, Some, refl, subst, codes}
 use Rattle.std.specs.Prelude.{unwrap_or}
 use Rattle.clap.specs.Words.{first_of, found_of, rows_of}
 use Rattle.clap.proofs.WalkLemmas.{first_value-rows}
@@ -6,11 +6,17 @@ use Rattle.onfi_console.specs.Words as spec
 use Rattle.onfi_console.proofs.LimitLemmas.{limit_named}
 use Rattle.onfi_console.proofs.command_line.run_of.Goals as goal
 
+pub run_by_rule_of-requires : goal.run_by_rule_of-requires
+run_by_rule_of-requires c =
+    let rule : c.is_given-rule.result ≡ spec.given (codes "rule") (rows_of (found_of c.args.used.now)) = rw first_value-rows at c.is_given-rule.ensures in
+    sym rule ∙ c.if-rule.true
+
 pub returns-clause-named : goal.returns-clause-named
 returns-clause-named c =
     let rows = rows_of (found_of c.args.used.now) in
     let search = c.in_ok-search.search in
     let slack = c.in_ok-slack.slack in
+    let rule : c.is_given-rule.result ≡ spec.given (codes "rule") rows = rw first_value-rows at c.is_given-rule.ensures in
     let plain : c.is_given-plain.result ≡ spec.given (codes "plain") rows = rw first_value-rows at c.is_given-plain.ensures in
     let within : c.is_given-within.result ≡ spec.given (codes "within") rows = rw first_value-rows at c.is_given-within.ensures in
     let searched : spec.search_of (spec.given (codes "plain") rows) (spec.given (codes "within") rows) ≡ Some search =
@@ -24,6 +30,6 @@ returns-clause-named c =
     let limit = subst (λ n. spec.IsLimit c.usual_of.result (first_of (codes "limit") rows) n) (sym c.unwrap_or-limit.ensures) usual in (
       refl,
       clock,
-      record { search = search; slack = slack; is_search = searched; is_slack = slacked; is_planner = planner },
+      inl (record { no_rule = sym rule ∙ c.if-rule.false; search = search; slack = slack; is_search = searched; is_slack = slacked; is_planner = planner }),
       subst (λ n. spec.IsLimit n (first_of (codes "limit") rows) c.unwrap_or-limit.result) (c.usual_of.ensures.value ∙ sym (ap spec.usual_of c.run_planner.ensures)) limit,
     )
