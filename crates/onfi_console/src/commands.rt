@@ -150,7 +150,7 @@ fn run_search<'a>(alloc: Global) -> Result<Command<'a>, AllocError>
 
 /// .. with `[--rule]`
 fn run_planning<'a>(alloc: Global) -> Result<Command<'a>, AllocError>
-    ensures app { IfOk result (λ a. app_of a ≡ spec.run_planner) }
+    ensures app { IfOk result (λ a. app_of a ≡ spec.run_planning) }
     ensures local { IfOk result (λ a. (fields_of a).has_globals ≡ false) }
 {
     with(run_search(alloc)?, flag(alloc, "rule", help::RULE_RUN))
