@@ -9,6 +9,7 @@ pub mod Bus
 pub mod Merged
 pub mod Marks
 pub mod Chaining
+pub mod Wholes
 pub mod Numbered
 pub mod Plan
 pub mod Accept

@@ -19,7 +19,7 @@ wanted_on lun block w h = elim (cases_Bool (w.lun == lun)) [
   | inr k ↦ (let b : false ≡ true = rw k at h in cc)
 ]
 
-picked_merged : (marks : List Bool) (items : List Want) → length marks ≡ length items → AreMerged (picked marks items) (left_out marks items) items
+pub picked_merged : (marks : List Bool) (items : List Want) → length marks ≡ length items → AreMerged (picked marks items) (left_out marks items) items
 picked_merged [] [] e = (refl, refl)
 picked_merged (true ∷ marks) (w ∷ items) e = inl (picked marks items, refl, picked_merged marks items (omega arith))
 picked_merged (false ∷ marks) (w ∷ items) e = inr (left_out marks items, refl, picked_merged marks items (omega arith))
@@ -47,7 +47,7 @@ IsClosed items marks = (at : ℕ) → slice_get marks at ≡ Some true → Follo
 tail_closed : (m : Bool) (marks : List Bool) (w : Want) (items : List Want) → IsClosed (w ∷ items) (m ∷ marks) → IsClosed items marks
 tail_closed m marks w items closed at is before v u low gv gu el eb = closed (suc at) is (suc before) v u (omega arith) gv gu el eb
 
-closed_parts : (l b : ℕ) (marks : List Bool) (items : List Want) → IsClosed items marks → on l b items ≡ on l b (picked marks items) ++ on l b (left_out marks items)
+pub closed_parts : (l b : ℕ) (marks : List Bool) (items : List Want) → IsClosed items marks → on l b items ≡ on l b (picked marks items) ++ on l b (left_out marks items)
 closed_parts l b [] items closed = refl
 closed_parts l b (m ∷ marks) [] closed = refl
 closed_parts l b (true ∷ marks) (w ∷ items) closed =
@@ -70,7 +70,7 @@ closed_parts l b (false ∷ marks) (w ∷ items) closed =
       | inr k ↦ rw k i
     ]
 
-has_picked : (marks : List Bool) (items : List Want) (at : ℕ) (w : Want) → slice_get marks at ≡ Some true → slice_get items at ≡ Some w → Has (picked marks items) w
+pub has_picked : (marks : List Bool) (items : List Want) (at : ℕ) (w : Want) → slice_get marks at ≡ Some true → slice_get items at ≡ Some w → Has (picked marks items) w
 has_picked [] items at w h k = cc
 has_picked (m ∷ marks) [] at w h k = cc
 has_picked (true ∷ marks) (v ∷ items) zero w h k = inl cc

@@ -22,7 +22,7 @@ mod setup;
 mod slot;
 mod wants;
 
-pub use choosing::{Chosen, choose};
+pub use choosing::{Chosen, choose, choose_whole};
 pub use drive::{PhaseStop, cause_of, run_due};
 pub use event::Event;
 pub use half::passing::{ReadyRefusal, WaitRefusal};
