@@ -4,6 +4,7 @@ use Rattle.onfi_group.specs.declared.rules.Rules.{Rules}
 use Rattle.onfi_core.specs.declared.setup.Setup.{Setup}
 use Rattle.onfi_core.specs.declared.setup.Choice.{Choice}
 use Rattle.onfi_core.specs.declared.setup.Choice.TheVariants as choice
+use Rattle.onfi_core.specs.declared.setup.Replanning.TheVariants.{AtOnce}
 use Rattle.onfi_script.specs.declared.choosing.Choosing.TheVariants.{ByLun, ReadsFirst}
 use Rattle.onfi_script.specs.declared.row.Row.TheVariants as row
 use Rattle.onfi_script.specs.declared.device.PageDevice.{PageDevice}
@@ -77,3 +78,4 @@ pub record SetsUp (rows : List Row) (device : PageDevice) (most : ℕ) (setup : 
   pub post_cap : setup.post_cap ≡ post_cap_in rows
   pub limit : setup.limit ≡ most
   pub choice : setup.choice ≡ choice_in rows
+  pub replanning : setup.replanning ≡ AtOnce

@@ -27,9 +27,12 @@ impl Board {
         }
     }
 
-    /// A host has made its last operation.
-    pub(crate) fn end_host(&self) {
-        self.hosts.fetch_add(1, Ordering::SeqCst);
+    /// A host has made its last operation, and keeps that it told so.
+    pub(crate) fn end_host(&self, has_told: &mut bool) {
+        if !*has_told {
+            self.hosts.fetch_add(1, Ordering::SeqCst);
+        }
+        *has_told = true;
     }
 
     /// Whether all hosts have made their last operation.

@@ -225,47 +225,26 @@ impl Station {
         either(passed, collected)
     }
 
-    /// Makes all operations of this host in the order of their rows. While a queue is full it collects from all inboxes and
-    /// tries again, until the channel has ended.
-    fn act_through<R: Wait>(&mut self, rt: &R, course: &Course<'_>, board: &Board)
-        ensures number { self.new.number ≡ self.old.number }
-        ensures same { HasSamePorts self.old.ports.items self.new.ports.items }
-        ensures sent { HasSent course.now.geometry.now [] self.old.number self.old.ports.items → HasSent course.now.geometry.now course.now.rows.now self.old.number self.new.ports.items }
-    {
-        let mut watch = Watch { board };
-        self.passed = 0;
-        for _ in rt.forever() {
-            self.act(rt, course, NO_MOMENT, &mut watch);
-            if self.passed >= course.rows.len() {
-                return;
-            }
-            thread::yield_now();
-        }
-        unreachable!()
-    }
-
-    /// Collects until all hosts have ended.
-    fn wait_for_others<R: Wait>(&mut self, rt: &R, board: &Board)
-        ensures { SendsNothing self.old.ports.items self.new.ports.items }
-    {
-        for _ in rt.forever() {
-            if board.have_hosts_ended() {
-                break;
-            }
-            collect_all(rt, NO_MOMENT, &mut self.ports);
-            thread::yield_now();
-        }
-    }
-
     /// What the host's thread does: its operations in the order of their rows, and then it collects until all hosts have
-    /// ended, so that no channel waits for room in a completion queue.
+    /// ended, so that no channel waits for room in a completion queue. While a queue is full it collects from all inboxes and
+    /// tries again, until the channel has ended.
     pub(crate) fn work<R: Wait>(mut self, rt: &R, course: &Course<'_>, board: &Board) -> Station
         ensures same { HasSamePorts self.ports.items result.ports.items }
         ensures sent { HasSent course.now.geometry.now [] self.number self.ports.items → HasSent course.now.geometry.now course.now.rows.now self.number result.ports.items }
     {
-        self.act_through(rt, course, board);
-        board.end_host();
-        self.wait_for_others(rt, board);
-        self
+        let mut watch = Watch { board };
+        let mut has_told = false;
+        self.passed = 0;
+        for _ in rt.forever() {
+            self.act(rt, course, NO_MOMENT, &mut watch);
+            if self.passed >= course.rows.len() {
+                board.end_host(&mut has_told);
+                if board.have_hosts_ended() {
+                    return self;
+                }
+            }
+            thread::yield_now();
+        }
+        unreachable!()
     }
 }
