@@ -1,4 +1,4 @@
-ghost use Rattle.std.specs.Prelude.{◌≡◌, ◌<◌, ◌≤◌, ◌^◌, ◌↔◌, ◌⊎◌, max, IfOk, IsErrOf};
+ghost use Rattle.std.specs.Prelude.{[], ◌≡◌, ◌<◌, ◌≤◌, ◌^◌, ◌↔◌, ◌⊎◌, max, IfOk, IsErrOf};
 ghost use Rattle.onfi_timing.specs.Lengths.{AreLengths};
 
 use thiserror::Error;
@@ -34,7 +34,7 @@ pub enum SpanFault {
 }
 
 impl Spans {
-    ghost use Rattle.onfi_timing.specs.Phases.{phase_length, wait_before};
+    ghost use Rattle.onfi_timing.specs.Phases.{length_by_kind, wait_before, with_posts};
 
     /// The lengths of a kind, in ns.
     ///
@@ -59,9 +59,9 @@ impl Spans {
         })
     }
 
-    /// The length of phase number `phase` of a group, in ns: commands first, then posts.
+    /// The length of phase number `phase` of a group whose posts are all this kind's, in ns: commands first, then posts.
     pub fn phase_length(&self, members: usize, phase: usize) -> u64
-        ensures length { result ≡ phase_length self.now members phase }
+        ensures length { result ≡ length_by_kind self.now members phase }
         ensures some { 1 ≤ result }
         ensures short { result < 2 ^ 50 }
     {
@@ -71,7 +71,7 @@ impl Spans {
     /// The wait between phase number `phase` of a group and the phase before it, in ns. No phase goes before number 0: the
     /// answer for it, the gap, means nothing.
     pub fn wait_before(&self, members: usize, phase: usize) -> u64
-        ensures wait { result ≡ wait_before self.now members phase }
+        ensures wait { result ≡ wait_before (with_posts self.now []) members phase }
         ensures short { result < 2 ^ 50 }
     {
         if phase < members {
