@@ -1,14 +1,15 @@
 -- Groups: wants that run as one multi-plane operation.
-use Rattle.std.specs.Prelude.{◌≡◌, ℕ, ◌+◌, ◌/◌, ◌^◌, ◌<◌, ◌≤◌, ◌≢◌, ◌==◌, if◌then◌else◌, Bool, false, IsTrue, List, [], ◌∷◌, length, Some, slice_get}
+use Rattle.std.specs.Prelude.{◌≡◌, ℕ, ◌+◌, ◌-◌, ◌/◌, ◌^◌, ◌<◌, ◌≤◌, ◌≢◌, ◌==◌, if◌then◌else◌, Bool, false, IsTrue, List, [], ◌∷◌, length, map, drop, replicate, Some, slice_get}
 use Rattle.std.specs.List.{AllByRecursion as Each, filter, list_any}
 use Rattle.onfi_timing.specs.declared.kind.Kind.{Kind}
 use Rattle.onfi_timing.specs.declared.kind.Kind.TheVariants.{Read, Program, Erase}
 use Rattle.onfi_timing.specs.declared.spans.Spans.{Spans}
 use Rattle.onfi_timing.specs.declared.timing.Timing.{Timing}
 use Rattle.onfi_timing.specs.Kinds.{spans_of}
+use Rattle.onfi_timing.specs.Phases.{Lengths, with_posts}
 use Rattle.onfi_request.specs.declared.want.Want.{Want}
 use Rattle.onfi_group.specs.declared.rules.Rules.{Rules}
-use Rattle.onfi_group.specs.Words.{Pairs}
+use Rattle.onfi_group.specs.Words.{Pairs, total}
 
 -- what a group's members share is that of its first
 abbrev pub kind_of : List Want → Kind
@@ -23,8 +24,21 @@ abbrev pub page_of : List Want → ℕ
 page_of [] = 0
 page_of (m ∷ ms) = m.page
 
-abbrev pub group_spans : Timing → List Want → Spans
-group_spans timing group = spans_of timing (kind_of group)
+-- the post of a want, in ns
+abbrev pub want_post : Timing → Want → ℕ
+want_post timing w = (spans_of timing w.kind).post
+
+-- the command and the waits are those of the group's kind, each post is its member's
+abbrev pub group_spans : Timing → List Want → Lengths
+group_spans timing group = with_posts (spans_of timing (kind_of group)) (map (want_post timing) group)
+
+-- those of k members of one kind
+abbrev pub kind_lengths : Spans → ℕ → Lengths
+kind_lengths spans k = with_posts spans (replicate k spans.post)
+
+-- the posts from phase n on, of a group of k, in ns; all of them where a command is left
+abbrev pub posts_from : Lengths → ℕ → ℕ → ℕ
+posts_from lengths k n = total (λ post. post) (drop (n - k) lengths.posts)
 
 -- may several of a kind run as one
 abbrev pub may_group : Rules → Kind → Bool

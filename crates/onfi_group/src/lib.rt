@@ -3,11 +3,13 @@
 #![tactic(auto)]
 
 mod group;
+mod lengths;
 mod listing;
 mod members;
 mod rules;
 
 pub use group::Group;
+pub use lengths::{phase_length, wait_before};
 pub use listing::{candidates, startable};
 pub use members::is_group;
 pub use rules::Rules;
