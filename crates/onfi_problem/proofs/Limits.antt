@@ -2,18 +2,18 @@
 use Rattle.std.proofs.Common.{◌≡◌, ℕ, zero, suc, ◌+◌, ◌*◌, ◌-◌, ◌^◌, ◌≤◌, ◌<◌, List, [], ◌∷◌, length, Some, get_or, refl, sym, ap, ◌∙◌, subst, arith, mul-le-mul_left}
 use Rattle.std.specs.Prelude.{slice_get, slice_set, max}
 use Rattle.std.proofs.lemmas.Bool.{lt-ltb}
-use Rattle.onfi_timing.specs.declared.spans.Spans.{Spans}
 use Rattle.onfi_request.specs.declared.want.Want.{Want}
 use Rattle.onfi_problem.specs.declared.lun_state.LunState.{LunState}
 use Rattle.onfi_problem.specs.declared.lun_state.LunState.TheVariants.{Free, Running}
 use Rattle.onfi_problem.specs.Moves.{Move, Next, Start, IsMove, earliest, free_from, lun_after, after, ran_with}
 use Rattle.onfi_problem.specs.Problem.{Problem, IsProblem}
 use Rattle.onfi_timing.specs.Kinds.{spans_of}
-use Rattle.onfi_group.specs.Group.{group_spans, lun_of}
-use Rattle.onfi_timing.specs.Phases.{phase_length}
-use Rattle.onfi_problem.specs.Left.{waits_left, chain_time, want_time, latest_wait, horizon, InLimits}
+use Rattle.onfi_group.specs.Group.{group_spans, lun_of, want_post}
+use Rattle.onfi_timing.specs.Phases.{Lengths, phase_length}
+use Rattle.onfi_problem.specs.Left.{waits_left, chain_time, want_command, want_time, latest_wait, horizon, InLimits}
 use Rattle.onfi_problem.proofs.Perm.{All-weaker}
-use Rattle.onfi_problem.proofs.Totals.{total_set, total_same, startable_total}
+use Rattle.onfi_group.proofs.GroupLengths.{group_takes, posts_of_all}
+use Rattle.onfi_problem.proofs.Totals.{total_set, total_same, total_two, startable_total}
 use Rattle.onfi_problem.proofs.Work.{one_phase}
 use Rattle.onfi_problem.proofs.Waits.{one_wait, chain_after, free_after}
 use Rattle.onfi_problem.proofs.Kept.{kept, kept_small}
@@ -45,11 +45,11 @@ set_in b c (x ∷ luns) (suc l) y = let e = set_in b c luns l y in let p = lates
 pub times_le : (j a b : ℕ) → a ≤ b → j * a ≤ j * b
 times_le j a b h = mul-le-mul_left j h
 
-pub group_waits : (spans : Spans) (k : ℕ) → 1 ≤ k → waits_left spans k 0 ≤ k * max spans.gap spans.array
-group_waits spans zero h = absurd (omega arith)
-group_waits spans (suc j) h =
+pub group_waits : (lengths : Lengths) (k : ℕ) → 1 ≤ k → waits_left lengths k 0 ≤ k * max lengths.gap lengths.array
+group_waits lengths zero h = absurd (omega arith)
+group_waits lengths (suc j) h =
     let e : suc j - 1 - 0 ≡ j = omega arith in
-    let a = times_le j spans.gap (max spans.gap spans.array) (omega arith) in
+    let a = times_le j lengths.gap (max lengths.gap lengths.array) (omega arith) in
     rw (lt-ltb 0 (suc j) (omega arith), e) (omega arith)
 
 horizon_step : (p : Problem) (m : Move) → IsProblem p → IsMove p m → horizon (after p m) ≤ horizon p
@@ -65,7 +65,7 @@ horizon_step p (Next l) ip (g, n, r, at) =
     let f = free_after p.timing g n c i.group.some i.unfinished in
     let s = total_set (chain_time p.timing) p.luns l _ (lun_after p.timing g n c) at in
     let q = chain_after p.timing g n c i.group.some in
-    let u = one_phase spans k n i.unfinished in
+    let u = one_phase spans k n (group_takes p.timing g).count i.unfinished in
     let w = one_wait spans k n in
     rw at (omega arith)
 horizon_step p (Start ms) ip (since, at, st) =
@@ -81,11 +81,13 @@ horizon_step p (Start ms) ip (since, at, st) =
     let s = total_set (chain_time p.timing) p.luns (lun_of ms) _ (lun_after p.timing ms 0 c) at in
     let q = chain_after p.timing ms 0 c some in
     let z : k - 0 ≡ k = omega arith in
-    let y : 2 * k - max 0 k ≡ k = omega arith in
-    let u = rw (z, y) at (one_phase spans k 0 (omega arith)) in
+    let posts = posts_of_all p.timing ms 0 (omega arith) in
+    let u = rw (z, posts) at (one_phase spans k 0 (group_takes p.timing ms).count (omega arith)) in
     let w = one_wait spans k 0 in
     let v = startable_total (want_time p.timing) p ms ip st in
-    let o = total_same (want_time p.timing) (spans.cmd + max spans.gap spans.array + spans.post) ms (All-weaker _ _ (λ m e. ap (λ kind. (spans_of p.timing kind).cmd + max (spans_of p.timing kind).gap (spans_of p.timing kind).array + (spans_of p.timing kind).post) e) ms st.group.kind) in
+    let before_post : Want → ℕ = λ m. want_command p.timing m + max (spans_of p.timing m.kind).gap (spans_of p.timing m.kind).array in
+    let o = total_two before_post (want_post p.timing) ms in
+    let same = total_same before_post (spans.cmd + max spans.gap spans.array) ms (All-weaker _ _ (λ m e. ap (λ kind. (spans_of p.timing kind).cmd + max (spans_of p.timing kind).gap (spans_of p.timing kind).array) e) ms st.group.kind) in
     let gw = group_waits spans k some in
     rw at (omega arith)
 

@@ -20,6 +20,11 @@ pub total_same : {A : Type 0} (f : A → ℕ) (c : ℕ) (xs : List A) → All (�
 total_same f c [] h = omega arith
 total_same f c (x ∷ xs) h = let e = total_same f c xs h.1 in let a = h.0 in omega arith
 
+-- a sum of sums
+pub total_two : {A : Type 0} (f g : A → ℕ) (xs : List A) → total (λ x. f x + g x) xs ≡ total f xs + total g xs
+total_two f g [] = omega arith
+total_two f g (x ∷ xs) = let e = total_two f g xs in omega arith
+
 -- without one want
 one_without : (f : Want → ℕ) (ws : List Want) (m : Want) → Rising ws → Has ws m → total f ws ≡ f m + total f (filter (λ w. not (m.id == w.id)) ws)
 one_without f [] m r h = absurd h

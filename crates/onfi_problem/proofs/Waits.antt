@@ -1,19 +1,18 @@
 -- Chains of phases with their waits.
 use Rattle.std.proofs.Common.{◌≡◌, ◌≢◌, ℕ, suc, ◌+◌, ◌*◌, ◌-◌, ◌≤◌, ◌<◌, inl, inr, List, length, Some, refl, arith}
-use Rattle.std.specs.Prelude.{max}
 use Rattle.std.proofs.lemmas.Bool.{cases_lt, cases_eq, lt-ltb, le-ltb, eq-eqb, ne_eqb}
 use Rattle.onfi_timing.specs.declared.timing.Timing.{Timing}
-use Rattle.onfi_timing.specs.declared.spans.Spans.{Spans}
 use Rattle.onfi_request.specs.declared.want.Want.{Want}
-use Rattle.onfi_group.specs.Group.{group_spans}
-use Rattle.onfi_timing.specs.Phases.{wait_before}
+use Rattle.onfi_group.specs.Group.{group_spans, posts_from}
+use Rattle.onfi_timing.specs.Phases.{Lengths, wait_before}
 use Rattle.onfi_problem.specs.Moves.{free_from, lun_after}
-use Rattle.onfi_problem.specs.Left.{commands_left, posts_left, waits_left, chain_time}
+use Rattle.onfi_problem.specs.Left.{commands_left, waits_left, chain_time}
+use Rattle.onfi_group.proofs.GroupLengths.{group_takes, no_posts_left}
 use Rattle.onfi_problem.proofs.LunAfter.{lun_after_running, lun_after_free}
 
 -- the wait behind a phase, and the later ones
-pub one_wait : (spans : Spans) (k n : ℕ) → waits_left spans k n ≡ wait_before spans k (n + 1) + waits_left spans k (n + 1)
-one_wait spans k n =
+pub one_wait : (lengths : Lengths) (k n : ℕ) → waits_left lengths k n ≡ wait_before lengths k (n + 1) + waits_left lengths k (n + 1)
+one_wait lengths k n =
     elim (cases_lt (n + 1) k) [
       | inl a ↦ (
           let b : n < k = omega arith in
@@ -30,17 +29,17 @@ one_wait spans k n =
       ]
     ]
 
-no_waits : (spans : Spans) (k n : ℕ) → k ≤ n → waits_left spans k n ≡ 0
-no_waits spans k n h = rw (le-ltb n k h)
+no_waits : (lengths : Lengths) (k n : ℕ) → k ≤ n → waits_left lengths k n ≡ 0
+no_waits lengths k n h = rw (le-ltb n k h)
 
 -- what is left behind a phase
-pub chain_after : (timing : Timing) (g : List Want) (n c : ℕ) → 1 ≤ length g → chain_time timing (lun_after timing g n c) ≡ commands_left (length g) (n + 1) * (group_spans timing g).cmd + posts_left (length g) (n + 1) * (group_spans timing g).post + waits_left (group_spans timing g) (length g) (n + 1)
+pub chain_after : (timing : Timing) (g : List Want) (n c : ℕ) → 1 ≤ length g → chain_time timing (lun_after timing g n c) ≡ commands_left (length g) (n + 1) * (group_spans timing g).cmd + posts_from (group_spans timing g) (length g) (n + 1) + waits_left (group_spans timing g) (length g) (n + 1)
 chain_after timing g n c some =
     elim (cases_lt (n + 1) (2 * length g)) [
       | inl a ↦ rw (lun_after_running timing g n c a) refl
       | inr a ↦ (
           let e : length g - (n + 1) ≡ 0 = omega arith in
-          let q : 2 * length g - max (n + 1) (length g) ≡ 0 = omega arith in
+          let q = no_posts_left (group_spans timing g) (length g) (n + 1) (group_takes timing g).count a in
           rw (lun_after_free timing g n c a) (rw (e, q, no_waits (group_spans timing g) (length g) (n + 1) (omega arith)) (omega arith)))
     ]
 

@@ -1,21 +1,19 @@
 -- What is left to do, as sums, and by when a problem is surely done.
 use Rattle.std.specs.Prelude.{ℕ, ◌+◌, ◌*◌, ◌-◌, ◌^◌, ◌<◌, max, nat_lt, if◌then◌else◌, List, [], ◌∷◌, length}
-use Rattle.onfi_timing.specs.declared.spans.Spans.{Spans}
 use Rattle.onfi_timing.specs.declared.timing.Timing.{Timing}
 use Rattle.onfi_timing.specs.Kinds.{spans_of}
+use Rattle.onfi_timing.specs.Phases.{Lengths}
 use Rattle.onfi_request.specs.declared.want.Want.{Want}
 use Rattle.onfi_group.specs.Words.{total}
-use Rattle.onfi_group.specs.Group.{group_spans}
+use Rattle.onfi_group.specs.Group.{group_spans, posts_from}
+pub use Rattle.onfi_group.specs.Group.{want_post}
 use Rattle.onfi_problem.specs.declared.lun_state.LunState.{LunState}
 use Rattle.onfi_problem.specs.declared.lun_state.LunState.TheVariants.{Free, Running}
 use Rattle.onfi_problem.specs.Problem.{Problem, IsSmall, IsProblem}
 
--- of k commands and k posts, n of them done
+-- of k commands, where n phases are done
 abbrev pub commands_left : ℕ → ℕ → ℕ
 commands_left k n = k - n
-
-abbrev pub posts_left : ℕ → ℕ → ℕ
-posts_left k n = 2 * k - max n k
 
 -- the lengths of the commands that are left to a running group
 abbrev pub command_time : Timing → LunState → ℕ
@@ -25,13 +23,10 @@ command_time timing (Running group next ready) = commands_left (length group) ne
 -- .. and of its posts
 abbrev pub post_time : Timing → LunState → ℕ
 post_time timing (Free since) = 0
-post_time timing (Running group next ready) = posts_left (length group) next * (group_spans timing group).post
+post_time timing (Running group next ready) = posts_from (group_spans timing group) (length group) next
 
 abbrev pub want_command : Timing → Want → ℕ
 want_command timing w = (spans_of timing w.kind).cmd
-
-abbrev pub want_post : Timing → Want → ℕ
-want_post timing w = (spans_of timing w.kind).post
 
 -- the lengths of all commands that are left
 abbrev pub all_commands : Problem → ℕ
@@ -46,8 +41,8 @@ abbrev pub work : Problem → ℕ
 work p = all_commands p + all_posts p
 
 -- the waits behind phase n: the gaps between the commands that are left, and the array
-abbrev pub waits_left : Spans → ℕ → ℕ → ℕ
-waits_left spans k n = if nat_lt n k then (k - 1 - n) * spans.gap + spans.array else 0
+abbrev pub waits_left : Lengths → ℕ → ℕ → ℕ
+waits_left lengths k n = if nat_lt n k then (k - 1 - n) * lengths.gap + lengths.array else 0
 
 -- the rest of a running group, with its waits
 abbrev pub chain_time : Timing → LunState → ℕ

@@ -1,8 +1,9 @@
 //! By when a problem is surely done.
 
-ghost use Rattle.std.specs.Prelude.{◌≡◌, ◌+◌, ◌*◌, ◌^◌, ◌<◌, ◌≤◌, ◌↔◌, IsTrue, length};
+ghost use Rattle.std.specs.Prelude.{[], ◌≡◌, ◌+◌, ◌*◌, ◌^◌, ◌<◌, ◌≤◌, ◌↔◌, IsTrue, length};
+ghost use Rattle.onfi_timing.specs.Phases.{with_posts};
 ghost use Rattle.onfi_group.specs.Words.{total};
-ghost use Rattle.onfi_problem.specs.Left.{chain_time, want_time, latest_wait, waits_left};
+ghost use Rattle.onfi_problem.specs.Left.{chain_time, want_post, want_time, latest_wait, waits_left};
 ghost use Rattle.onfi_problem.specs.Checks.{time_of};
 
 use crate::lun_state::LunState;
@@ -63,19 +64,41 @@ fn chain_time(timing: &Timing, state: &LunState) -> u64
         LunState::Free { .. } => 0,
         LunState::Running { group, next, .. } => {
             let spans = timing.spans(group.kind());
-            let members = group.len() as u64;
+            let members = group.members();
+            let count = members.len() as u64;
             let next = *next as u64;
-            let commands = members.saturating_sub(next);
-            let posts = (2 * members).saturating_sub(next.max(members));
-            commands * spans.cmd + posts * spans.post + waits_left(&spans, members, next)
+            let commands = count.saturating_sub(next);
+            let over = next.saturating_sub(count).min(count);
+            let posts = posts_time(timing, &members[over as usize..]);
+            commands * spans.cmd + posts + waits_left(&spans, count, next)
         }
     }
+}
+
+// The posts of these members.
+fn posts_time(timing: &Timing, members: &[Want]) -> u64
+    requires { length members.now ≤ 4 }
+    ensures value { result ≡ total (want_post timing.now) members.now }
+    ensures small { result ≤ 4 * 2 ^ 50 }
+{
+    let mut total = 0;
+    for member in members {
+        total += want_post(timing, member);
+    }
+    total
+}
+
+fn want_post(timing: &Timing, want: &Want) -> u64
+    ensures value { result ≡ want_post timing.now want.now }
+    ensures small { result < 2 ^ 50 }
+{
+    timing.spans(want.kind).post
 }
 
 // The waits behind phase `next` of a group.
 fn waits_left(spans: &Spans, members: u64, next: u64) -> u64
     requires { members ≤ 4 }
-    ensures value { result ≡ waits_left spans.now members next }
+    ensures value { result ≡ waits_left (with_posts spans.now []) members next }
     ensures small { result ≤ 4 * 2 ^ 50 }
 {
     if next < members {
