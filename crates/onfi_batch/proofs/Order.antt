@@ -16,7 +16,7 @@ use Rattle.onfi_problem.specs.declared.lun_state.LunState.{LunState}
 use Rattle.onfi_problem.specs.declared.lun_state.LunState.TheVariants.{Free, Running}
 use Rattle.onfi_problem.specs.Moves.{Move, Next, Start, IsMove, lun_after, move_lun, next_ran, placed}
 use Rattle.onfi_problem.specs.Problem.{IsProblem, Problem}
-use Rattle.onfi_schedule.proofs.Chains.{long}
+use Rattle.onfi_group.proofs.GroupLengths.{group_phase_some}
 use Rattle.onfi_schedule.proofs.Following.{first_move_law}
 use Rattle.onfi_schedule.specs.Laws.{ComesNext}
 use Rattle.onfi_schedule.specs.Schedule.{Placed, Schedule, rest_of}
@@ -70,7 +70,7 @@ step_of schedule s h sound order (Next l) start left next group phase (ready, th
     let begins = next.begins in
     let same : Some (drop phase runs.0) ≡ Some (start ∷ begins.0) = sym runs.2 ∙ begins.1 in
     let after : placed h.now (Next l) start ≡ next_ran h.now l (Some (Running group phase ready)) start = ap (λ o. next_ran h.now l o start) there in
-    let some = long (group_spans h.now.timing group) (length group) phase in
+    let some = group_phase_some h.now.timing group phase (sound.problem.running l group phase ready there).unfinished in
     let bus = ap (λ (p : Problem). p.bus_free) after in
     record {
       starts = runs.0;
@@ -91,7 +91,8 @@ step_of schedule s h sound order (Start members) start left next group phase (sa
     let all = subst (Each (Has schedule.groups)) are order.waiting in
     let later = All-back (Has schedule.groups) before (g ∷ behind) all in
     let move = (first_move_law h.now h.left (Start members) start left sound.problem sound.legal next).is_move in
-    let some = long (group_spans h.now.timing members) (length members) 0 in
+    let one = move.2.group.some in
+    let some = group_phase_some h.now.timing members 0 (omega arith) in
     let base : P members 0 = record {
       starts = start ∷ rest;
       rest = rest;

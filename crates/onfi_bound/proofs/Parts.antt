@@ -1,14 +1,15 @@
 -- What is read from the parts of a problem.
 use Rattle.std.proofs.Common.{◌≡◌, ℕ, suc, ◌+◌, ◌*◌, ◌-◌, ◌^◌, ◌≤◌, ◌<◌, inl, inr, Bool, true, false, if◌then◌else◌, List, [], ◌∷◌, length, map, Some, refl, sym, ◌∙◌, subst, arith, get_or}
-use Rattle.std.specs.Prelude.{slice_get, ◌==◌, nat_lt, max}
+use Rattle.std.specs.Prelude.{slice_get, slice_index_or, ◌==◌, nat_lt}
 use Rattle.std.specs.List.{AllByRecursion as All, list_any}
 use Rattle.std.proofs.lemmas.Bool.{cases_Bool, cases_lt, ne_eqb, lt-ltb, le-ltb}
 use Rattle.onfi_timing.specs.declared.kind.Kind.{Kind}
-use Rattle.onfi_timing.specs.declared.spans.Spans.{Spans}
+use Rattle.onfi_timing.specs.Kinds.{spans_of}
 use Rattle.onfi_timing.specs.declared.timing.Timing.{Timing}
 use Rattle.onfi_request.specs.declared.want.Want.{Want}
+use Rattle.onfi_group.specs.declared.rules.Rules.{Rules}
 use Rattle.onfi_group.specs.Words.{total}
-use Rattle.onfi_group.specs.Group.{kind_of, group_spans}
+use Rattle.onfi_group.specs.Group.{IsGroup, kind_of, group_spans, posts_from}
 use Rattle.onfi_problem.specs.declared.lun_state.LunState.{LunState}
 use Rattle.onfi_problem.specs.declared.lun_state.LunState.TheVariants.{Free, Running}
 use Rattle.onfi_problem.specs.declared.moves.Lun.{Lun}
@@ -18,28 +19,37 @@ use Rattle.onfi_problem.specs.Left.{waits_left, command_time, post_time, want_co
 use Rattle.onfi_problem.proofs.Limits.{lun_in_limits}
 use Rattle.onfi_bound.specs.declared.chain.Chain.{Chain}
 use Rattle.onfi_bound.specs.Bounds.{same_kind, commands_next, has_command}
-use Rattle.onfi_bound.specs.Parts.{chain_of, IsShort, is_kind}
+use Rattle.onfi_bound.specs.Parts.{chain_of, IsPlaced, IsShort, is_kind}
+use Rattle.onfi_group.proofs.GroupLengths.{posts_short}
 use Rattle.onfi_bound.proofs.Classes.{times_left}
 use Rattle.onfi_problem.proofs.After.{in_table}
 use Rattle.onfi_problem.proofs.Lists.{all_at, total_by, any_by}
 
-placed_from : (groups : List (List Want)) (luns : List Lun) → ((l : ℕ) (g : List Want) (n r : ℕ) → slice_get (map (state_of groups) luns) l ≡ Some (Running g n r) → 1 ≤ length g) → All (λ lun. 1 ≤ lun.next → lun.place < length groups) luns
-placed_from groups [] h = tt
-placed_from groups (x ∷ luns) h = (λ some. let e : (x.next == 0) ≡ false = ne_eqb x.next 0 (λ e. omega arith) in in_table groups x.place (h 0 _ x.next x.time (rw e refl)), placed_from groups luns (λ l. h (suc l)))
+placed_from : (rules : Rules) (groups : List (List Want)) (luns : List Lun) → ((l : ℕ) (g : List Want) (n r : ℕ) → slice_get (map (state_of groups) luns) l ≡ Some (Running g n r) → IsGroup rules g) → All (IsPlaced groups) luns
+placed_from rules groups [] h = tt
+placed_from rules groups (x ∷ luns) h = (
+  (λ some.
+      let e : (x.next == 0) ≡ false = ne_eqb x.next 0 (λ e. omega arith) in
+      let g : IsGroup rules (slice_index_or groups x.place []) = h 0 _ x.next x.time (rw e refl) in
+      (in_table groups x.place g.some, g.kind)),
+  placed_from rules groups luns (λ l. h (suc l)),
+)
 
--- running LUNs name groups of the table
-pub placed : (p : Problem) (groups : List (List Want)) (luns : List Lun) → InLimits p → map (state_of groups) luns ≡ p.luns → All (λ lun. 1 ≤ lun.next → lun.place < length groups) luns
-placed p groups luns lim e = placed_from groups luns (λ l g n r at. (lim.problem.running l g n r (subst (λ xs. slice_get xs l ≡ Some (Running g n r)) e at)).group.some)
+-- running LUNs name groups of the table, of one kind each
+pub placed : (p : Problem) (groups : List (List Want)) (luns : List Lun) → InLimits p → map (state_of groups) luns ≡ p.luns → All (IsPlaced groups) luns
+placed p groups luns lim e = placed_from p.rules groups luns (λ l g n r at. (lim.problem.running l g n r (subst (λ xs. slice_get xs l ≡ Some (Running g n r)) e at)).group)
 
 pub place_at : (p : Problem) (groups : List (List Want)) (luns : List Lun) (lun : ℕ) (d : Lun) → InLimits p → map (state_of groups) luns ≡ p.luns
-    → lun < length luns → 1 ≤ (get_or luns lun d).next → (get_or luns lun d).place < length groups
-place_at p groups luns lun d lim e h = all_at (λ (x : Lun). 1 ≤ x.next → x.place < length groups) luns lun d h (placed p groups luns lim e)
+    → lun < length luns → IsPlaced groups (get_or luns lun d)
+place_at p groups luns lun d lim e h = all_at (IsPlaced groups) luns lun d h (placed p groups luns lim e)
 
-running_short : (spans : Spans) (k n : ℕ) → 1 ≤ k → k ≤ 4 → ((k - n) * spans.cmd ≤ 2 ^ 52) × ((2 * k - max n k) * spans.post ≤ 2 ^ 52) × (waits_left spans k n ≤ 2 ^ 52)
-running_short spans k n some few =
-    let r = spans.in_range in
+running_short : (timing : Timing) (g : List Want) (n : ℕ) → 1 ≤ length g → length g ≤ 4 → ((length g - n) * (group_spans timing g).cmd ≤ 2 ^ 52) × (posts_from (group_spans timing g) (length g) n ≤ 2 ^ 52) × (waits_left (group_spans timing g) (length g) n ≤ 2 ^ 52)
+running_short timing g n some few =
+    let k = length g in
+    let spans = group_spans timing g in
+    let r = (spans_of timing (kind_of g)).in_range in
     let a = times_left (k - n) 4 spans.cmd (omega arith) in
-    let b = times_left (2 * k - max n k) 4 spans.post (omega arith) in
+    let b = posts_short timing g n in
     let w = times_left (k - 1 - n) 3 spans.gap (omega arith) in
     (omega arith, omega arith, elim (cases_lt n k) [ inl h ↦ rw (lt-ltb n k h) (omega arith) | inr h ↦ rw (le-ltb n k h) (omega arith) ])
 
@@ -48,7 +58,7 @@ short_at p lim l (Free since) at = let a = lun_in_limits p l _ lim at in record 
 short_at p lim l (Running g n r) at =
     let a = lun_in_limits p l _ lim at in
     let i = lim.problem.running l g n r at in
-    let s = running_short (group_spans p.timing g) (length g) n i.group.some i.group.few in
+    let s = running_short p.timing g n i.group.some i.group.few in
     record { from = a; commands = s.0; posts = s.1; waits = s.2 }
 
 short_from : (timing : Timing) (luns : List LunState) → ((l : ℕ) (x : LunState) → slice_get luns l ≡ Some x → IsShort (chain_of timing x)) → All IsShort (map (chain_of timing) luns)

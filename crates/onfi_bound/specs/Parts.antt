@@ -1,5 +1,6 @@
 -- What the bounds are read from: what is left of each running group, and sums over all LUNs.
-use Rattle.std.specs.Prelude.{◌≡◌, ℕ, ◌+◌, ◌^◌, ◌<◌, ◌≤◌, ◌==◌, max, min, nat_lt, Bool, true, false, if◌then◌else◌, List, [], ◌∷◌, ◌++◌, length, map, Option, Some, None}
+use Rattle.std.specs.Prelude.{◌≡◌, ℕ, ◌+◌, ◌^◌, ◌<◌, ◌≤◌, ◌==◌, max, min, nat_lt, Bool, true, false, if◌then◌else◌, List, [], ◌∷◌, ◌++◌, length, map, Option, Some, None, slice_index_or}
+use Rattle.std.specs.List.{AllByRecursion as Each}
 use Rattle.onfi_timing.specs.declared.kind.Kind.{Kind}
 use Rattle.onfi_timing.specs.declared.kind.Kind.TheVariants.{Read, Program, Erase}
 use Rattle.onfi_timing.specs.declared.spans.Spans.{Spans}
@@ -10,6 +11,7 @@ use Rattle.onfi_group.specs.declared.rules.Rules.{Rules}
 use Rattle.onfi_group.specs.Words.{number}
 use Rattle.onfi_group.specs.Group.{kind_of, group_spans}
 use Rattle.onfi_problem.specs.declared.lun_state.LunState.{LunState}
+use Rattle.onfi_problem.specs.declared.moves.Lun.{Lun}
 use Rattle.onfi_problem.specs.declared.lun_state.LunState.TheVariants.{Free, Running}
 use Rattle.onfi_problem.specs.Problem.{Problem}
 use Rattle.onfi_problem.specs.Left.{command_time, post_time, waits_left, all_commands, all_posts, InLimits}
@@ -30,6 +32,10 @@ chain_of timing (Running group next ready) = record {
   waits = waits_left (group_spans timing group) (length group) next;
   command = if nat_lt next (length group) then Some (kind_of group) else None;
 }
+
+-- a LUN that runs a group names one of the table, and its members have one kind
+abbrev pub IsPlaced : List (List Want) → Lun → Type 0
+IsPlaced groups lun = 1 ≤ lun.next → (lun.place < length groups) × Each (λ m. m.kind ≡ kind_of (slice_index_or groups lun.place [])) (slice_index_or groups lun.place [])
 
 -- no sum of what eight LUNs and eight wants have left leaves 64 bits
 pub record IsShort (chain : Chain) : Type 0 where

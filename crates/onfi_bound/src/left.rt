@@ -5,7 +5,7 @@ ghost use Rattle.onfi_group.specs.Words.{total};
 ghost use Rattle.onfi_problem.specs.Position.{state_of, waiting_of};
 ghost use Rattle.onfi_problem.specs.Left.{want_command, want_post, InLimits};
 ghost use Rattle.onfi_bound.specs.Bounds.{same_kind};
-ghost use Rattle.onfi_bound.specs.Parts.{chain_of, has_kind, is_kind, IsShort, IsLeft};
+ghost use Rattle.onfi_bound.specs.Parts.{IsPlaced, chain_of, has_kind, is_kind, IsShort, IsLeft};
 
 use crate::chain::Chain;
 use crate::kinds::Kinds;
@@ -178,7 +178,7 @@ pub fn list_marked(all: &[Want], marks: &[bool; 8], wants: &mut ArrayVec<Want, 8
 fn list_chains(timing: &Timing, groups: &[Group], luns: &[Lun], chains: &mut ArrayVec<Chain, 8>)
     requires empty { chains.old.items ≡ [] }
     requires few { length luns.now ≤ 8 }
-    requires placed { Each (λ lun. 1 ≤ lun.next → lun.place < length groups.now) luns.now }
+    requires placed { Each (IsPlaced groups.now) luns.now }
     ensures { chains.new.items ≡ map (chain_of timing.now) (map (state_of groups.now) luns.now) }
 {
     for lun in luns {

@@ -2,6 +2,7 @@
 
 ghost use Rattle.std.specs.Prelude.{◌≡◌, ℕ, ◌+◌, ◌<◌, ◌≤◌, Some, MatchOption, length, slice_get};
 ghost use Rattle.onfi_problem.specs.Position.{state_of};
+ghost use Rattle.onfi_bound.specs.Parts.{IsPlaced};
 ghost use Rattle.onfi_bound.specs.Bounds.{die};
 ghost use Rattle.onfi_bound.specs.Loads.{IsLoad, IsTally, IsChainAt};
 ghost use Rattle.onfi_bound.specs.Reaching.{NoneReaches, IsFirstAt, IsFirstDieAt};
@@ -87,7 +88,7 @@ impl Load {
         requires load { IsLoad problem.now.problem.timing problem.now.problem.rules problem.now.problem.wants self.now }
         requires state { slice_get problem.now.problem.luns lun ≡ Some (state_of problem.now.groups state) }
         requires small { lun < 8 }
-        requires place { 1 ≤ state.next → state.place < length problem.now.groups }
+        requires place { IsPlaced problem.now.groups state }
         ensures { result ≡ die problem.now.problem lun }
     {
         let (timing, bus_free) = (problem.timing(), problem.bus_free());
@@ -124,7 +125,7 @@ impl Tally {
         requires load { IsLoad problem.now.problem.timing problem.now.problem.rules problem.now.problem.wants load.now }
         requires state { slice_get problem.now.problem.luns lun ≡ Some (state_of problem.now.groups state) }
         requires small { lun < 8 }
-        requires place { 1 ≤ state.next → state.place < length problem.now.groups }
+        requires place { IsPlaced problem.now.groups state }
         requires so_far { IsTally problem.now.problem lun self.old }
         ensures { IsTally problem.now.problem (lun + 1) self.new }
     {

@@ -14,6 +14,7 @@ use crate::schedule::PlainSchedule;
 use crate::status::Status;
 use onfi_addr::{Geometry, Place};
 use onfi_flight::{Due, Flight, Next};
+use onfi_group::phase_length;
 use onfi_timing::{Kind, Timing};
 use std::alloc::Global;
 
@@ -71,11 +72,10 @@ fn phase_of(timing: &Timing, geometry: &Geometry, due: &Due) -> Option<PlainPhas
         return None;
     }
     let (members, number) = (due.group.len(), usize::from(due.phase));
-    let spans = timing.spans(due.group.kind());
     let is_post = members <= number;
     Some(PlainPhase {
         start: due.start,
-        end: due.start + spans.phase_length(members, number),
+        end: due.start + phase_length(timing, due.group.members(), number),
         want: member.id,
         row: row_in(geometry, &place),
         block: member.block,

@@ -3,7 +3,7 @@ use Rattle.std.proofs.Common.{◌≡◌, ℕ, suc, zero, ◌+◌, ◌*◌, ◌-�
 use Rattle.std.specs.Prelude.{◌==◌}
 use Rattle.std.specs.List.{AllByRecursion as All, filter, flat_map}
 use Rattle.std.proofs.lemmas.Bool.{eq-eqb}
-use Rattle.onfi_timing.specs.declared.spans.Spans.{Spans}
+use Rattle.onfi_timing.specs.Phases.{Lengths}
 use Rattle.onfi_timing.specs.declared.timing.Timing.{Timing}
 use Rattle.onfi_request.specs.declared.reply.Reply.{Reply}
 use Rattle.onfi_request.specs.declared.request.Item.{Item}
@@ -94,9 +94,9 @@ pub back_nil : {A : Type 0} (xs ys : List A) → xs ++ ys ≡ [] → ys ≡ []
 back_nil [] ys h = h
 back_nil (x ∷ xs) ys h = cc
 
-pub no_start : (lun : ℕ) (spans : Spans) (k n : ℕ) (starts : List ℕ) (more : List Phase) → phases_from lun spans k n starts ++ more ≡ [] → starts ≡ []
-no_start lun spans k n [] more h = refl
-no_start lun spans k n (t ∷ ts) more h = cc
+pub no_start : (lun : ℕ) (lengths : Lengths) (k n : ℕ) (starts : List ℕ) (more : List Phase) → phases_from lun lengths k n starts ++ more ≡ [] → starts ≡ []
+no_start lun lengths k n [] more h = refl
+no_start lun lengths k n (t ∷ ts) more h = cc
 
 no_group : (timing : Timing) (rules : _) (groups : List Placed) → All (λ g. length g.starts ≡ 2 * length g.members) groups → All (λ g. IsGroup rules g.members) groups → flat_map (group_phases timing) groups ≡ [] → groups ≡ []
 no_group timing rules [] two group none = refl

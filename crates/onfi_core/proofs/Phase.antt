@@ -5,7 +5,7 @@ use Rattle.std.specs.List.{AllByRecursion as All}
 use Rattle.std.proofs.lemmas.Bool.{lt-ltb, le-ltb, cases_lt, eq-eqb, ne_eqb}
 use Rattle.std.proofs.lemmas.List.{drop_all, map-append, take_all}
 use Rattle.onfi_timing.specs.Kinds.{spans_of}
-use Rattle.onfi_timing.specs.Phases.{phase_length}
+use Rattle.onfi_timing.specs.Phases.{phase_length, length_by_kind}
 use Rattle.onfi_timing.specs.declared.spans.Spans.{Spans}
 use Rattle.onfi_timing.specs.declared.timing.Timing.{Timing}
 use Rattle.onfi_request.specs.declared.answer.Answer.{Answer}
@@ -14,6 +14,7 @@ use Rattle.onfi_request.specs.declared.request.Item.{Item}
 use Rattle.onfi_request.specs.declared.want.Want.{Want}
 use Rattle.onfi_group.specs.Group.{group_spans, kind_of, lun_of}
 use Rattle.onfi_group.specs.Words.{Has}
+use Rattle.onfi_group.proofs.GroupLengths.{phase_alike}
 use Rattle.onfi_problem.specs.Moves.{lun_after}
 use Rattle.onfi_problem.specs.Problem.{Problem}
 use Rattle.onfi_problem.specs.declared.lun_state.LunState.{LunState}
@@ -185,23 +186,25 @@ module _ (s : Setup) (h : HalfState) (timing : h.now.timing ≡ s.timing) (chip 
   with_member m at lt = ap (λ rs. rs ++ request_of h.accepted m ∷ []) (lane.commands lt) ∙ sym (map-append (request_of h.accepted) (take n g) (m ∷ [])) ∙ ap (map (request_of h.accepted)) (sym (take_next g n m at))
 
   -- a member's phases have the lengths of its group
-  spans_are : (m : Want) → Has g m → spans_of chip.timing (request_of h.accepted m).kind ≡ group_spans h.now.timing g
+  spans_are : (m : Want) → Has g m → spans_of chip.timing (request_of h.accepted m).kind ≡ spans_of h.now.timing (kind_of g)
   spans_are m k =
       let kind : (request_of h.accepted m).kind ≡ kind_of g = place_kind s h m (All-has (IsTaken s h.planned h.accepted) g m going.members k) ∙ All-has (λ (v : Want). v.kind ≡ kind_of g) g m going.group.kind k in
       ap (spans_of chip.timing) kind ∙ ap (λ (t : Timing). spans_of t (kind_of g)) (agrees.timing ∙ sym timing)
 
-  after_gap : n + 1 < length g → (spans : Spans) → spans ≡ group_spans h.now.timing g → start + spans.cmd + spans.gap ≡ ready_after h.now g n start
+  after_gap : n + 1 < length g → (spans : Spans) → spans ≡ spans_of h.now.timing (kind_of g) → start + spans.cmd + spans.gap ≡ ready_after h.now g n start
   after_gap lt spans e = rw (e, lt-ltb n (length g) (omega arith), lt-ltb (n + 1) (length g) lt) refl
 
-  after_array : n + 1 ≡ length g → (spans : Spans) → spans ≡ group_spans h.now.timing g → start + spans.cmd + spans.array ≡ ready_after h.now g n start
+  after_array : n + 1 ≡ length g → (spans : Spans) → spans ≡ spans_of h.now.timing (kind_of g) → start + spans.cmd + spans.array ≡ ready_after h.now g n start
   after_array q spans e =
       let same : (n + 1 == length g) ≡ true = eq-eqb (n + 1) (length g) q in
       rw (e, lt-ltb n (length g) (omega arith), le-ltb (n + 1) (length g) (omega arith), same) refl
 
-  after_last : length g ≤ n → (spans : Spans) → spans ≡ group_spans h.now.timing g → start + spans.post ≡ ready_after h.now g n start
+  after_last : length g ≤ n → (spans : Spans) → spans ≡ spans_of h.now.timing (kind_of g) → start + spans.post ≡ ready_after h.now g n start
   after_last le spans e =
       let other : (n + 1 == length g) ≡ false = ne_eqb (n + 1) (length g) (λ q. omega arith) in
-      rw (e, le-ltb n (length g) le, le-ltb (n + 1) (length g) (omega arith), other) (omega arith)
+      let by_kind : length_by_kind (spans_of h.now.timing (kind_of g)) (length g) n ≡ (spans_of h.now.timing (kind_of g)).post = rw (le-ltb n (length g) le) refl in
+      let post = phase_alike h.now.timing g n going.group.kind going.within ∙ by_kind in
+      rw (e, ← post, le-ltb (n + 1) (length g) (omega arith), other) (omega arith)
 
   -- a command behind which more come
   pub after_command : (chip' : Chip) → Commands h.accepted g n start chip chip' → ChipAgrees s later chip'
@@ -300,7 +303,7 @@ module _ (s : Setup) (h : HalfState) (timing : h.now.timing ≡ s.timing) (chip 
       let has = get_has g (n - length g) member c.is in
       let p = post_is chip' member answer c in
       let at : c.post.place.lun ≡ l = ap (λ (x : Post). x.place.lun) p ∙ member_lun member has in
-      let spans : spans_of chip.timing c.post.kind ≡ group_spans h.now.timing g = ap (λ (x : Post). spans_of chip.timing x.kind) p ∙ spans_are member has in
+      let spans : spans_of chip.timing c.post.kind ≡ spans_of h.now.timing (kind_of g) = ap (λ (x : Post). spans_of chip.timing x.kind) p ∙ spans_are member has in
       let d = c.done.state in
       let faults = ap (λ (x : Chip). device_for s x) d in
       let luns : chip'.luns ≡ slice_set chip.luns l (posts_behind c.others (ready_after h.now g n start)) =

@@ -20,7 +20,8 @@ use Rattle.onfi_problem.proofs.Lists.{map_set}
 use Rattle.onfi_schedule.proofs.Exchange.{not_member}
 use Rattle.onfi_bound.specs.Bounds.{on_lun}
 use Rattle.onfi_bound.proofs.DieBound.{on_lun_other}
-use Rattle.onfi_demand.specs.Left.{LunLeft, Idle, Rest, left_on, SameLeft, has_left_at, has_left}
+use Rattle.onfi_demand.specs.Left.{LunLeft, Idle, Rest, kinds_left, left_on, SameLeft, has_left_at, has_left}
+use Rattle.onfi_demand.proofs.Agree.{agree_phase, groups_agree, kinds_later}
 
 abbrev pub Alike : List LunState → List LunState → Type 0
 Alike xs ys = map left_on xs ≡ map left_on ys
@@ -34,16 +35,17 @@ pub record AlikeRunning (xs : List LunState) (l : ℕ) (g : List Want) (n : ℕ)
   pub here : slice_get xs l ≡ Some (Running group n ready)
   pub kind : kind_of group ≡ kind_of g
   pub size : length group ≡ length g
+  pub kinds : kinds_left group n ≡ kinds_left g n
 
 pub running_alike : (xs ys : List LunState) (l : ℕ) (g : List Want) (n r : ℕ) → Alike xs ys → slice_get ys l ≡ Some (Running g n r) → AlikeRunning xs l g n
 running_alike xs ys l g n r h at = go (slice_get xs l) refl (alike_at xs ys l h ∙ ap (option_map left_on) at)
   where
-    go : (o : Option LunState) → slice_get xs l ≡ o → option_map left_on o ≡ Some (Rest (kind_of g) (length g) n) → AlikeRunning xs l g n
+    go : (o : Option LunState) → slice_get xs l ≡ o → option_map left_on o ≡ Some (Rest (kind_of g) (length g) (kinds_left g n) n) → AlikeRunning xs l g n
     go None e k = cc
     go (Some (Free a)) e k = cc
     go (Some (Running g' n' r')) e k =
         let same : n' ≡ n = cc in
-        record { group = g'; ready = r'; here = subst (λ i. slice_get xs l ≡ Some (Running g' i r')) same e; kind = cc; size = cc }
+        record { group = g'; ready = r'; here = subst (λ i. slice_get xs l ≡ Some (Running g' i r')) same e; kind = cc; size = cc; kinds = subst (λ i. kinds_left g' i ≡ kinds_left g n) same (cc) }
 
 pub free_alike : (xs ys : List LunState) (l b : ℕ) → Alike xs ys → slice_get ys l ≡ Some (Free b) → (a : ℕ) × (slice_get xs l ≡ Some (Free a))
 free_alike xs ys l b h at = go (slice_get xs l) refl (alike_at xs ys l h ∙ ap (option_map left_on) at)
@@ -54,10 +56,10 @@ free_alike xs ys l b h at = go (slice_get xs l) refl (alike_at xs ys l h ∙ ap 
     go (Some (Running g' n' r')) e k = cc
 
 -- behind a phase the LUN has the same left, whenever it ended
-pub after_alike : (timing : Timing) (g g' : List Want) (n c c' : ℕ) → kind_of g ≡ kind_of g' → length g ≡ length g' → left_on (lun_after timing g n c) ≡ left_on (lun_after timing g' n c')
-after_alike timing g g' n c c' kind size =
+pub after_alike : (timing : Timing) (g g' : List Want) (n c c' : ℕ) → kind_of g ≡ kind_of g' → length g ≡ length g' → kinds_left g n ≡ kinds_left g' n → left_on (lun_after timing g n c) ≡ left_on (lun_after timing g' n c')
+after_alike timing g g' n c c' kind size kinds =
     elim (cases_lt (n + 1) (2 * length g)) [
-      | inl k ↦ (let k' : n + 1 < 2 * length g' = omega arith in rw (lun_after_running timing g n c k, lun_after_running timing g' n c' k') (cc))
+      | inl k ↦ (let k' : n + 1 < 2 * length g' = omega arith in let later = kinds_later g g' n size kinds in rw (lun_after_running timing g n c k, lun_after_running timing g' n c' k') (cc))
       | inr k ↦ (let k' : 2 * length g' ≤ n + 1 = omega arith in rw (lun_after_free timing g n c k, lun_after_free timing g' n c' k') refl)
     ]
 
@@ -107,17 +109,18 @@ module _ (timing : Timing) (rules : Rules) where
       let c = t + phase_length (group_spans timing g) (length g) n in
       with_times wants c (slice_set luns l (lun_after timing g n c))
 
-  is_behind : (wants : List Want) (b : ℕ) (luns : List LunState) (l : ℕ) (g g' : List Want) (n t : ℕ) (x : LunState) → slice_get luns l ≡ Some x → kind_of g ≡ kind_of g' → length g ≡ length g' → IsBehind (behind wants luns l g n t) (with_times wants b luns) l (phase_length (group_spans timing g') (length g') n) (waits timing g' n) t
-  is_behind wants b luns l g g' n t x at kind size =
-      let long : phase_length (group_spans timing g) (length g) n ≡ phase_length (group_spans timing g') (length g') n = rw (kind, size) refl in
+  is_behind : (wants : List Want) (b : ℕ) (luns : List LunState) (l : ℕ) (g g' : List Want) (n t : ℕ) (x : LunState) → slice_get luns l ≡ Some x → kind_of g ≡ kind_of g' → length g ≡ length g' → kinds_left g n ≡ kinds_left g' n → IsBehind (behind wants luns l g n t) (with_times wants b luns) l (phase_length (group_spans timing g') (length g') n) (waits timing g' n) t
+  is_behind wants b luns l g g' n t x at kind size kinds =
+      let long : phase_length (group_spans timing g) (length g) n ≡ phase_length (group_spans timing g') (length g') n =
+      agree_phase (group_spans timing g) (group_spans timing g') (length g) n (groups_agree timing g g' n kind size kinds) ∙ ap (λ k. phase_length (group_spans timing g') k n) size in
       let c = t + phase_length (group_spans timing g) (length g) n in
       let w = waits_behind timing g n c in
       let s = waits_alike timing g g' n kind size in
       let there = get_set_same luns l x (lun_after timing g n c) at in
       record { bus = omega arith; own = rw there (omega arith); others = λ i d. get_set_other luns l i (lun_after timing g n c) d }
 
-  same_behind : (wants : List Want) (luns luns' : List LunState) (l : ℕ) (g g' : List Want) (n t u : ℕ) → Alike luns luns' → kind_of g ≡ kind_of g' → length g ≡ length g' → SameLeft (behind wants luns l g n t) (behind wants luns' l g' n u)
-  same_behind wants luns luns' l g g' n t u h kind size = record { timing = refl; rules = refl; wants = refl; luns = set_alike luns luns' l _ _ h (after_alike timing g g' n _ _ kind size) }
+  same_behind : (wants : List Want) (luns luns' : List LunState) (l : ℕ) (g g' : List Want) (n t u : ℕ) → Alike luns luns' → kind_of g ≡ kind_of g' → length g ≡ length g' → kinds_left g n ≡ kinds_left g' n → SameLeft (behind wants luns l g n t) (behind wants luns' l g' n u)
+  same_behind wants luns luns' l g g' n t u h kind size kinds = record { timing = refl; rules = refl; wants = refl; luns = set_alike luns luns' l _ _ h (after_alike timing g g' n _ _ kind size kinds) }
 
   both_times : (m : Move) (wants : List Want) (b b' : ℕ) (luns luns' : List LunState) → Alike luns luns' → IsMove (with_times wants b' luns') m → BothMove (with_times wants b luns) (with_times wants b' luns') m
   both_times (Next l) wants b b' luns luns' h (g, n, r, at) =
@@ -127,21 +130,21 @@ module _ (timing : Timing) (rules : Rules) where
         is_move = (k.group, n, k.ready, at');
         long = phase_length (group_spans timing g) (length g) n;
         wait = waits timing g n;
-        here = λ t. rw at' (is_behind wants b luns l k.group g n t _ at' k.kind k.size);
-        there = λ t. rw at (is_behind wants b' luns' l g g n t _ at refl refl);
-        left = λ t u. rw (at', at) (same_behind wants luns luns' l k.group g n t u h k.kind k.size);
+        here = λ t. rw at' (is_behind wants b luns l k.group g n t _ at' k.kind k.size k.kinds);
+        there = λ t. rw at (is_behind wants b' luns' l g g n t _ at refl refl refl);
+        left = λ t u. rw (at', at) (same_behind wants luns luns' l k.group g n t u h k.kind k.size k.kinds);
       }
   both_times (Start ms) wants b b' luns luns' h (since, at, st) =
       let k = free_alike luns luns' (lun_of ms) since h at in
-      let one = λ (t : ℕ). is_behind (without ms wants) b luns (lun_of ms) ms ms 0 t (Free k.0) k.1 refl refl in
-      let two = λ (t : ℕ). is_behind (without ms wants) b' luns' (lun_of ms) ms ms 0 t (Free since) at refl refl in
+      let one = λ (t : ℕ). is_behind (without ms wants) b luns (lun_of ms) ms ms 0 t (Free k.0) k.1 refl refl refl in
+      let two = λ (t : ℕ). is_behind (without ms wants) b' luns' (lun_of ms) ms ms 0 t (Free since) at refl refl refl in
       record {
         is_move = (k.0, k.1, record { group = st.group; first = st.first });
         long = phase_length (group_spans timing ms) (length ms) 0;
         wait = waits timing ms 0;
         here = λ t. record { bus = (one t).bus; own = (one t).own; others = (one t).others };
         there = λ t. record { bus = (two t).bus; own = (two t).own; others = (two t).others };
-        left = λ t u. same_behind (without ms wants) luns luns' (lun_of ms) ms ms 0 t u h refl refl;
+        left = λ t u. same_behind (without ms wants) luns luns' (lun_of ms) ms ms 0 t u h refl refl refl;
       }
 
 -- what is said of times of p is said of a problem with the same left
@@ -156,7 +159,7 @@ both_move p q m s = of_same (λ z. IsMove z m → BothMove p z m) p q s (both_ti
 
 -- something is left to both or to neither
 abbrev has_rest : List Want → Option LunLeft → Bool
-has_rest wants (Some (Rest kind k n)) = true
+has_rest wants (Some (Rest kind k kinds n)) = true
 has_rest (w ∷ wants) _ = true
 has_rest [] _ = false
 

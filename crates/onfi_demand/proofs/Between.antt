@@ -1,16 +1,17 @@
 -- The window bound is at most the finish of each run.
-use Rattle.std.proofs.Common.{◌≡◌, ◌≢◌, ℕ, zero, suc, ◌+◌, ◌*◌, ◌-◌, ◌≤◌, ◌<◌, inl, inr, true, false, List, [], ◌∷◌, ◌++◌, length, Option, Some, None, refl, sym, ap, ◌∙◌, arith}
+use Rattle.std.proofs.Common.{◌≡◌, ◌≢◌, ℕ, zero, suc, ◌+◌, ◌*◌, ◌-◌, ◌≤◌, ◌<◌, inl, inr, true, false, List, [], ◌∷◌, ◌++◌, length, Option, Some, None, refl, sym, ap, ◌∙◌, subst, arith}
 use Rattle.std.specs.Prelude.{slice_get, max, nat_le, if◌then◌else◌, ◌==◌}
 use Rattle.std.specs.List.{AllByRecursion as All}
 use Rattle.std.proofs.lemmas.Bool.{cases_Bool, cases_lt, lt-ltb, le-ltb, eq-eqb, ne_eqb, leb-true, le-leb}
 use Rattle.onfi_timing.specs.declared.spans.Spans.{Spans}
 use Rattle.onfi_timing.specs.declared.timing.Timing.{Timing}
 use Rattle.onfi_timing.specs.Kinds.{spans_of}
-use Rattle.onfi_timing.specs.Phases.{phase_length, wait_before}
+use Rattle.onfi_timing.specs.Phases.{Lengths, phase_length, length_by_kind, wait_before}
 use Rattle.onfi_request.specs.declared.want.Want.{Want}
 use Rattle.onfi_group.specs.declared.rules.Rules.{Rules}
 use Rattle.onfi_group.specs.Words.{Has, total}
-use Rattle.onfi_group.specs.Group.{kind_of, group_spans, lun_of, IsStartable}
+use Rattle.onfi_group.specs.Group.{kind_of, group_spans, kind_lengths, lun_of, IsStartable}
+use Rattle.onfi_group.proofs.GroupLengths.{group_takes, no_posts_left, alike_lengths, kind_phase, kind_posts}
 use Rattle.onfi_problem.specs.declared.lun_state.LunState.{LunState}
 use Rattle.onfi_problem.specs.declared.lun_state.LunState.TheVariants.{Free, Running}
 use Rattle.onfi_problem.specs.Problem.{Problem, IsProblem}
@@ -111,9 +112,9 @@ later_self a (x ∷ xs) = (omega arith, refl, omega arith, later_self a xs)
 pub within_sooner : (go go' r q : ℕ) (xs : List PhaseLeft) → go ≤ go' → within go r q xs ≤ within go' r q xs
 within_sooner go go' r q xs le = within_later 0 go go' r q xs xs (later_self 0 xs) (omega arith)
 
-later_group : (a : ℕ) (spans : Spans) (k rest count n from from' : ℕ) → from ≤ a + from' → Later a (group_left spans k rest count n from) (group_left spans k rest count n from')
-later_group a spans k rest zero n from from' h = tt
-later_group a spans k rest (suc count) n from from' h = (h, refl, omega arith, later_group a spans k rest count (n + 1) _ _ (omega arith))
+later_group : (a : ℕ) (lengths : Lengths) (k rest count n from from' : ℕ) → from ≤ a + from' → Later a (group_left lengths k rest count n from) (group_left lengths k rest count n from')
+later_group a lengths k rest zero n from from' h = tt
+later_group a lengths k rest (suc count) n from from' h = (h, refl, omega arith, later_group a lengths k rest count (n + 1) _ _ (omega arith))
 
 later_wants : (a : ℕ) (timing : Timing) (from from' : ℕ) (ws : List Want) → from ≤ a + from' → Later a (wants_left timing from ws) (wants_left timing from' ws)
 later_wants a timing from from' [] h = tt
@@ -126,14 +127,14 @@ later_append a (x ∷ xs) ys [] ys' h k = absurd h
 later_append a (x ∷ xs) ys (x' ∷ xs') ys' (f, l, t, rest) k = (f, l, t, later_append a xs ys xs' ys' rest k)
 
 -- a chain is its first phase, the wait behind it and the rest
-pub chain_step : (spans : Spans) (k n : ℕ) → n < 2 * k → chain_from spans k n ≡ phase_length spans k n + wait_before spans k (n + 1) + chain_from spans k (n + 1)
-chain_step spans k n h = let a = one_phase spans k n h in let b = one_wait spans k n in omega arith
+pub chain_step : (lengths : Lengths) (k n : ℕ) → length lengths.posts ≡ k → n < 2 * k → chain_from lengths k n ≡ phase_length lengths k n + wait_before lengths k (n + 1) + chain_from lengths k (n + 1)
+chain_step lengths k n count h = let a = one_phase lengths k n count h in let b = one_wait lengths k n in omega arith
 
 -- nothing is left of a chain
-chain_over : (spans : Spans) (k n : ℕ) → 1 ≤ k → 2 * k ≤ n → chain_from spans k n ≡ 0
-chain_over spans k n some h =
+chain_over : (lengths : Lengths) (k n : ℕ) → length lengths.posts ≡ k → 1 ≤ k → 2 * k ≤ n → chain_from lengths k n ≡ 0
+chain_over lengths k n count some h =
     let a : k - n ≡ 0 = omega arith in
-    let b : 2 * k - max n k ≡ 0 = omega arith in
+    let b = no_posts_left lengths k n count h in
     rw (a, b, le-ltb n k (omega arith)) (omega arith)
 
 -- all that is left to a LUN whose group goes on with phase n
@@ -147,7 +148,8 @@ own_phase timing rules g ws n go c r q some h le =
     let k = length g in
     let rest = wants_work timing rules ws in
     let count : 2 * k - n ≡ suc (2 * k - (n + 1)) = omega arith in
-    let step = chain_step spans k n h in
+    let takes = (group_takes timing g).count in
+    let step = chain_step spans k n takes h in
     let a = phase_length spans k n + wait_before spans k (n + 1) in
     let tail_group = group_left spans k rest (2 * k - (n + 1)) (n + 1) (0 + phase_length spans k n + wait_before spans k (n + 1)) in
     let tail_wants = wants_left timing (chain_from spans k n) ws in
@@ -158,7 +160,7 @@ own_phase timing rules g ws n go c r q some h le =
           let w = within_later a go (max c (c + wait_before spans k (n + 1))) r q (tail_group ++ tail_wants) (running timing rules g ws (n + 1)) later (omega arith) in
           rw (lun_after_running timing g n c more) (omega arith))
       | inr last ↦ (
-          let over = chain_over spans k (n + 1) some last in
+          let over = chain_over spans k (n + 1) takes some last in
           let none : 2 * k - (n + 1) ≡ 0 = omega arith in
           let wait : wait_before spans k (n + 1) ≡ 0 = rw (le-ltb (n + 1) k (omega arith), ne_eqb (n + 1) k (λ e. omega arith)) refl in
           let later = later_wants (phase_length spans k n) timing (chain_from spans k n) 0 ws (omega arith) in
@@ -187,46 +189,49 @@ wants_total timing go r q (w ∷ ws) =
     omega arith
 
 -- behind a command of a group stand an array and a post at least
-command_tail : (spans : Spans) (k n : ℕ) → n < k → spans.array + spans.post ≤ wait_before spans k (n + 1) + chain_from spans k (n + 1)
+command_tail : (spans : Spans) (k n : ℕ) → n < k → spans.array + spans.post ≤ wait_before (kind_lengths spans k) k (n + 1) + chain_from (kind_lengths spans k) k (n + 1)
 command_tail spans k n h =
     let posts = times_left 1 k spans.post (omega arith) in
     let all : 2 * k - max (n + 1) k ≡ k = omega arith in
+    let left = rw all at (kind_posts spans k (n + 1)) in
     elim (cases_lt (n + 1) k) [
-      | inl a ↦ rw (all, lt-ltb (n + 1) k a) (omega arith)
-      | inr a ↦ (let e : n + 1 ≡ k = omega arith in rw (all, le-ltb (n + 1) k a, eq-eqb (n + 1) k e) (omega arith))
+      | inl a ↦ rw (lt-ltb (n + 1) k a) (omega arith)
+      | inr a ↦ (let e : n + 1 ≡ k = omega arith in rw (le-ltb (n + 1) k a, eq-eqb (n + 1) k e) (omega arith))
     ]
 
 -- the phases of a group that begins when its wants may, or later
-group_within : (spans : Spans) (k rest count n from go go' r q : ℕ) (x y : PhaseLeft) → n + count ≡ 2 * k → x.from ≡ 0 → x.length ≡ spans.cmd → x.tail ≡ spans.array + spans.post → y.from ≡ spans.cmd + spans.array → y.length ≡ spans.post → y.tail ≡ 0 → go ≤ go' + from → (k ≤ n → go + spans.cmd + spans.array ≤ go' + from) → (k - n) * one go r q x + (2 * k - max n k) * one go r q y ≤ within go' r q (group_left spans k rest count n from)
+group_within : (spans : Spans) (k rest count n from go go' r q : ℕ) (x y : PhaseLeft) → n + count ≡ 2 * k → x.from ≡ 0 → x.length ≡ spans.cmd → x.tail ≡ spans.array + spans.post → y.from ≡ spans.cmd + spans.array → y.length ≡ spans.post → y.tail ≡ 0 → go ≤ go' + from → (k ≤ n → go + spans.cmd + spans.array ≤ go' + from) → (k - n) * one go r q x + (2 * k - max n k) * one go r q y ≤ within go' r q (group_left (kind_lengths spans k) k rest count n from)
 group_within spans k rest zero n from go go' r q x y e xf xl xt yf yl yt le post =
     let a : k - n ≡ 0 = omega arith in
     let b : 2 * k - max n k ≡ 0 = omega arith in
     rw (a, b) (omega arith)
 group_within spans k rest (suc count) n from go go' r q x y e xf xl xt yf yl yt le post =
-    let phase = group_phase spans k rest n from in
-    let next = from + phase_length spans k n + wait_before spans k (n + 1) in
-    let cons = within_cons go' r q phase (group_left spans k rest count (n + 1) next) in
+    let lengths = kind_lengths spans k in
+    let phase = group_phase lengths k rest n from in
+    let next = from + phase_length lengths k n + wait_before lengths k (n + 1) in
+    let cons = within_cons go' r q phase (group_left lengths k rest count (n + 1) next) in
     elim (cases_lt n k) [
       | inl h ↦ (
-          let long : phase_length spans k n ≡ spans.cmd = rw (lt-ltb n k h) refl in
+          let long : phase_length lengths k n ≡ spans.cmd = rw (lt-ltb n k h) refl in
           let tail = command_tail spans k n h in
           let o = one_more go go' r r q x phase (omega arith) (omega arith) (λ s. omega arith) in
-          let ih = group_within spans k rest count (n + 1) next go go' r q x y (omega arith) xf xl xt yf yl yt (omega arith) (λ m. let last : n + 1 ≡ k = omega arith in let w : wait_before spans k (n + 1) ≡ spans.array = rw (le-ltb (n + 1) k m, eq-eqb (n + 1) k last) refl in omega arith) in
+          let ih = group_within spans k rest count (n + 1) next go go' r q x y (omega arith) xf xl xt yf yl yt (omega arith) (λ m. let last : n + 1 ≡ k = omega arith in let w : wait_before lengths k (n + 1) ≡ spans.array = rw (le-ltb (n + 1) k m, eq-eqb (n + 1) k last) refl in omega arith) in
           let a : k - n ≡ suc (k - (n + 1)) = omega arith in
           let b : 2 * k - max n k ≡ 2 * k - max (n + 1) k = omega arith in
           rw (a, b) (omega arith))
       | inr h ↦ (
-          let long : phase_length spans k n ≡ spans.post = rw (le-ltb n k h) refl in
+          let by_kind : length_by_kind spans k n ≡ spans.post = rw (le-ltb n k h) refl in
+          let long : phase_length lengths k n ≡ spans.post = kind_phase spans k n (omega arith) ∙ by_kind in
           let o = one_more go go' r r q y phase (omega arith) (omega arith) (λ s. let p = post h in omega arith) in
           let ih = group_within spans k rest count (n + 1) next go go' r q x y (omega arith) xf xl xt yf yl yt (omega arith) (λ m. let p = post h in omega arith) in
           let a : k - n ≡ 0 = omega arith in
           let a' : k - (n + 1) ≡ 0 = omega arith in
           let b : 2 * k - max n k ≡ suc (2 * k - max (n + 1) k) = omega arith in
-          let ih' : 0 * one go r q x + (2 * k - max (n + 1) k) * one go r q y ≤ within go' r q (group_left spans k rest count (n + 1) next) = rw a' at ih in
+          let ih' : 0 * one go r q x + (2 * k - max (n + 1) k) * one go r q y ≤ within go' r q (group_left lengths k rest count (n + 1) next) = rw a' at ih in
           rw (a, b) (omega arith))
     ]
 
-member_within : (timing : Timing) (ms : List Want) (go r q : ℕ) (m : Want) → m.kind ≡ kind_of ms → of_want timing go r q m ≡ one go r q (record { from = 0; length = (group_spans timing ms).cmd; tail = (group_spans timing ms).array + (group_spans timing ms).post }) + one go r q (record { from = 0 + (group_spans timing ms).cmd + (group_spans timing ms).array; length = (group_spans timing ms).post; tail = 0 })
+member_within : (timing : Timing) (ms : List Want) (go r q : ℕ) (m : Want) → m.kind ≡ kind_of ms → of_want timing go r q m ≡ one go r q (record { from = 0; length = (group_spans timing ms).cmd; tail = (group_spans timing ms).array + (spans_of timing (kind_of ms)).post }) + one go r q (record { from = 0 + (group_spans timing ms).cmd + (group_spans timing ms).array; length = (spans_of timing (kind_of ms)).post; tail = 0 })
 unfolding of_want
 member_within timing ms go r q m e = rw e refl
 
@@ -237,7 +242,9 @@ start_within p ms go r q ip st =
     let k = length ms in
     let ws = on_lun lun p.wants in
     let left = without ms ws in
-    let spans = group_spans p.timing ms in
+    let spans = spans_of p.timing (kind_of ms) in
+    let lengths = group_spans p.timing ms in
+    let alike = alike_lengths p.timing ms st.group.kind in
     let rest = wants_work p.timing p.rules left in
     let rising = Pairs-filter _ (λ w. w.lun == lun) p.wants ip.ids in
     let wanted : All (Has ws) ms = All-each (Has ws) ms (λ m h. Has-filter (λ w. w.lun == lun) p.wants m (All-has (Has p.wants) ms m (startable_wanted p ms st) h) (eq-eqb m.lun lun (All-has _ ms m st.group.lun h))) in
@@ -250,9 +257,10 @@ start_within p ms go r q ip st =
     let z : k - 0 ≡ k = omega arith in
     let z' : 2 * k - max 0 k ≡ k = omega arith in
     let group = group_within spans k rest (2 * k - 0) 0 0 go go r q x y (omega arith) refl refl refl (omega arith) refl refl (omega arith) (λ h. let s = st.group.some in omega arith) in
-    let group' : k * one go r q x + k * one go r q y ≤ within go r q (group_left spans k rest (2 * k - 0) 0 0) = rw (z, z') at group in
-    let wants = within_later 0 go go r q (wants_left p.timing 0 left) (wants_left p.timing (chain_from spans k 0) left) (later_wants 0 p.timing 0 (chain_from spans k 0) left (omega arith)) (omega arith) in
-    let both = within_append go r q (group_left spans k rest (2 * k - 0) 0 0) (wants_left p.timing (chain_from spans k 0) left) in
+    let group' : k * one go r q x + k * one go r q y ≤ within go r q (group_left lengths k rest (2 * k - 0) 0 0) =
+    subst (λ l. k * one go r q x + k * one go r q y ≤ within go r q (group_left l k rest (2 * k - 0) 0 0)) (sym alike) (rw (z, z') at group) in
+    let wants = within_later 0 go go r q (wants_left p.timing 0 left) (wants_left p.timing (chain_from lengths k 0) left) (later_wants 0 p.timing 0 (chain_from lengths k 0) left (omega arith)) (omega arith) in
+    let both = within_append go r q (group_left lengths k rest (2 * k - 0) 0 0) (wants_left p.timing (chain_from lengths k 0) left) in
     rw (on_lun_own ms p.wants lun) (omega arith)
 
 -- behind a phase that ends at c its LUN has its tail to do
@@ -266,7 +274,7 @@ tail_left p l g ws n c some h bus at =
           rw is (let go = ap free_from is in omega arith))
       | inr last ↦ (
           let is = at ∙ ap Some (lun_after_free p.timing g n c last) in
-          let over = chain_over spans k (n + 1) some last in
+          let over = chain_over spans k (n + 1) (group_takes p.timing g).count some last in
           let wait : wait_before spans k (n + 1) ≡ 0 = rw (le-ltb (n + 1) k (omega arith), ne_eqb (n + 1) k (λ e. omega arith)) refl in
           rw is (idle ws is over wait))
     ]

@@ -1,13 +1,16 @@
 -- The demand of the lead bound, as it is worked out.
-use Rattle.std.proofs.Common.{◌≡◌, ℕ, zero, suc, ◌+◌, ◌-◌, ◌≤◌, ◌<◌, inl, inr, Bool, true, false, List, [], ◌∷◌, ◌++◌, length, map, get_or, take, Option, Some, None, refl, sym, ap, ◌∙◌, subst, arith}
+use Rattle.std.proofs.Common.{◌≡◌, ℕ, zero, suc, ◌+◌, ◌*◌, ◌-◌, ◌≤◌, ◌<◌, inl, inr, Bool, true, false, List, [], ◌∷◌, ◌++◌, length, map, replicate, max, get_or, take, Option, Some, None, refl, sym, ap, ◌∙◌, subst, arith}
 use Rattle.std.specs.Prelude.{slice_get}
 use Rattle.std.specs.Option.{option_map}
 use Rattle.std.proofs.lemmas.Bool.{cases_lt, false≢true}
 use Rattle.std.proofs.lemmas.Option.{get_or_from_slice_get, slice_get_past}
+use Rattle.onfi_timing.specs.declared.kind.Kind.{Kind}
 use Rattle.onfi_timing.specs.declared.timing.Timing.{Timing}
 use Rattle.onfi_timing.specs.Kinds.{spans_of}
 use Rattle.onfi_request.specs.declared.want.Want.{Want}
 use Rattle.onfi_group.specs.Words.{Has, total}
+use Rattle.onfi_group.specs.Group.{kind_of, group_spans, kind_lengths, posts_from}
+use Rattle.onfi_group.proofs.GroupLengths.{kind_posts}
 use Rattle.onfi_problem.specs.declared.lun_state.LunState.{LunState}
 use Rattle.onfi_problem.specs.declared.lun_state.LunState.TheVariants.{Free, Running}
 use Rattle.onfi_problem.specs.Left.{post_time, want_post, all_posts}
@@ -19,13 +22,14 @@ use Rattle.onfi_bound.specs.Bounds.{on_lun, least, least_with, plus_each, to_pos
 use Rattle.onfi_bound.proofs.LeadBound.{least_has, starts_have, start_of}
 pub use Rattle.onfi_demand.proofs.Bounding.{some_state, post_has}
 use Rattle.onfi_bound.proofs.Steps.{waiting_yes, waiting_no, summed}
-use Rattle.onfi_demand.specs.Left.{LunLeft, Idle, left_on, has_left, has_left_at}
+use Rattle.onfi_demand.proofs.Agree.{agree_posts, kept_agrees}
+use Rattle.onfi_demand.specs.Left.{LunLeft, Idle, kinds_left, left_on, has_left, has_left_at}
 use Rattle.onfi_demand.specs.Demand.{before_post, lead_at, lead_demand, of_bus}
 use Rattle.onfi_demand.specs.Kept.{IsKept}
 use Rattle.onfi_demand.specs.Work.{left_of, IsWork}
 use Rattle.onfi_demand.specs.declared.demand.Demand.{Demand as Kept}
 use Rattle.onfi_demand.specs.declared.left.LunLeft.{LunLeft as KeptLeft}
-use Rattle.onfi_demand.specs.declared.left.LunLeft.TheVariants.{Idle as KeptIdle}
+use Rattle.onfi_demand.specs.declared.left.LunLeft.TheVariants.{Idle as KeptIdle, Rest as KeptRest}
 use Rattle.onfi_demand.specs.declared.left.LunWork.{LunWork}
 use Rattle.onfi_problem.proofs.Wants.{total-append}
 
@@ -34,6 +38,19 @@ posts_yes timing marks ws i d sum h m e = rw (waiting_yes marks ws i d h m) (let
 
 pub posts_no : (timing : Timing) (marks : List Bool) (ws : List Want) (i sum : ℕ) → get_or marks i false ≡ false → sum ≡ total (want_post timing) (waiting_of marks (take i ws)) → sum ≡ total (want_post timing) (waiting_of marks (take (i + 1) ws))
 posts_no timing marks ws i sum m e = e ∙ sym (ap (total (want_post timing)) (waiting_no marks ws i m))
+
+-- the posts of a group that is kept as so many members of a kind
+pub rest_posts : (timing : Timing) (x : LunState) (kind : Kind) (k n : ℕ) → left_on x ≡ left_of (KeptRest kind k n) → (2 * k - max n k) * (spans_of timing kind).post ≡ post_time timing x
+rest_posts timing (Free a) kind k n e = cc
+rest_posts timing (Running g i r) kind k n e =
+    let same : kind_of g ≡ kind = cc in
+    let size : length g ≡ k = cc in
+    let next : i ≡ n = cc in
+    let kinds : kinds_left g i ≡ replicate (k - (n - k)) kind = cc in
+    let kinds' = subst (λ j. kinds_left g j ≡ replicate (k - (n - k)) kind) next kinds in
+    let agree = kept_agrees timing g kind k n same size kinds' in
+    sym (ap (λ j. posts_from (group_spans timing g) (length g) j) next ∙ ap (λ j. posts_from (group_spans timing g) j n) size
+    ∙ agree_posts (group_spans timing g) (kind_lengths (spans_of timing kind) k) k n agree ∙ kind_posts (spans_of timing kind) k n)
 
 -- one running group more
 pub rest_more : (p : Problem) (timing : Timing) (i sum next : ℕ) (left : KeptLeft) → timing ≡ p.timing → i < length p.luns → option_map left_on (slice_get p.luns i) ≡ Some (left_of left) → ((x : LunState) → left_on x ≡ left_of left → next ≡ post_time timing x) → sum ≡ total (post_time p.timing) (take i p.luns) → sum + next ≡ total (post_time p.timing) (take (i + 1) p.luns)

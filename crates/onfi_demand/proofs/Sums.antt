@@ -1,5 +1,5 @@
 -- What has the same left has the same sums.
-use Rattle.std.proofs.Common.{◌≡◌, ℕ, ◌+◌, ◌*◌, Bool, true, false, if◌then◌else◌, List, [], ◌∷◌, ◌++◌, length, map, Option, Some, None, refl, sym, ap, ◌∙◌, arith}
+use Rattle.std.proofs.Common.{◌≡◌, ℕ, ◌+◌, ◌*◌, ◌-◌, Bool, true, false, if◌then◌else◌, List, [], ◌∷◌, ◌++◌, length, map, Option, Some, None, refl, sym, ap, ◌∙◌, arith}
 use Rattle.std.specs.Prelude.{nat_lt}
 use Rattle.std.specs.List.{list_any}
 use Rattle.std.specs.Option.{option_map}
@@ -7,18 +7,20 @@ use Rattle.onfi_timing.specs.declared.kind.Kind.{Kind}
 use Rattle.onfi_timing.specs.declared.kind.Kind.TheVariants.{Read, Program, Erase}
 use Rattle.onfi_timing.specs.declared.timing.Timing.{Timing}
 use Rattle.onfi_timing.specs.Kinds.{spans_of}
+use Rattle.onfi_timing.specs.Phases.{with_posts}
 use Rattle.onfi_request.specs.declared.want.Want.{Want}
 use Rattle.onfi_group.specs.declared.rules.Rules.{Rules}
 use Rattle.onfi_group.specs.Words.{total}
-use Rattle.onfi_group.specs.Group.{kind_of}
+use Rattle.onfi_group.specs.Group.{kind_of, group_spans, posts_from}
 use Rattle.onfi_problem.specs.declared.lun_state.LunState.{LunState}
 use Rattle.onfi_problem.specs.declared.lun_state.LunState.TheVariants.{Free, Running}
 use Rattle.onfi_problem.specs.Problem.{Problem}
 use Rattle.onfi_problem.specs.Moves.{may_go}
-use Rattle.onfi_problem.specs.Left.{commands_left, posts_left, waits_left, command_time, post_time, chain_time, want_command, want_post, all_commands, all_posts}
+use Rattle.onfi_problem.specs.Left.{commands_left, waits_left, command_time, post_time, chain_time, want_command, want_post, all_commands, all_posts}
 use Rattle.onfi_bound.specs.Bounds.{least, to_post, commands_next, same_kind, has_command, behind_commands, trail, trail_from, wants_work, die_at}
 use Rattle.onfi_problem.proofs.Lists.{total_by, any_by}
-use Rattle.onfi_demand.specs.Left.{LunLeft, Idle, Rest, left_on, SameLeft, has_left_at}
+use Rattle.onfi_demand.proofs.Agree.{kind_post, posts_by_kinds}
+use Rattle.onfi_demand.specs.Left.{LunLeft, Idle, Rest, kinds_left, left_on, SameLeft, has_left_at}
 use Rattle.onfi_demand.proofs.Alike.{Alike, of_same}
 
 total_alike : (f : LunState → ℕ) (g : LunLeft → ℕ) → ((x : LunState) → f x ≡ g (left_on x)) → (xs ys : List LunState) → Alike xs ys → total f xs ≡ total f ys
@@ -29,25 +31,29 @@ any_alike f g h xs ys e = any_by f g left_on h xs ∙ (ap (list_any g) e ∙ sym
 
 command_rest : Timing → LunLeft → ℕ
 command_rest timing Idle = 0
-command_rest timing (Rest kind k n) = commands_left k n * (spans_of timing kind).cmd
+command_rest timing (Rest kind k kinds n) = commands_left k n * (spans_of timing kind).cmd
 
 post_rest : Timing → LunLeft → ℕ
 post_rest timing Idle = 0
-post_rest timing (Rest kind k n) = posts_left k n * (spans_of timing kind).post
+post_rest timing (Rest kind k kinds n) = total (kind_post timing) kinds
 
 next_rest : Kind → LunLeft → Bool
 next_rest kind Idle = false
-next_rest kind (Rest other k n) = if same_kind kind other then nat_lt n k else false
+next_rest kind (Rest other k kinds n) = if same_kind kind other then nat_lt n k else false
 
 command_by : (timing : Timing) (x : LunState) → command_time timing x ≡ command_rest timing (left_on x)
 unfolding command_rest
 command_by timing (Free since) = refl
 command_by timing (Running g n r) = refl
 
+-- the posts that are left are those of their kinds
+posts_by : (timing : Timing) (g : List Want) (n : ℕ) → posts_from (group_spans timing g) (length g) n ≡ total (kind_post timing) (kinds_left g n)
+posts_by timing g n = ap (total (λ post. post)) (posts_by_kinds timing (n - length g) g) ∙ sym (total_by (kind_post timing) (λ post. post) (kind_post timing) (λ kind. refl) (kinds_left g n))
+
 post_by : (timing : Timing) (x : LunState) → post_time timing x ≡ post_rest timing (left_on x)
 unfolding post_rest
 post_by timing (Free since) = refl
-post_by timing (Running g n r) = refl
+post_by timing (Running g n r) = posts_by timing g n
 
 next_by : (kind : Kind) (x : LunState) → commands_next kind x ≡ next_rest kind (left_on x)
 unfolding next_rest
@@ -92,7 +98,7 @@ post_alike timing ws (Running g n r) (Running g' n' r') e = ap (λ z. rest_to_po
   where
     rest_to_post : Timing → LunLeft → Option ℕ
     rest_to_post timing Idle = None
-    rest_to_post timing (Rest kind k i) = Some (commands_left k i * (spans_of timing kind).cmd + waits_left (spans_of timing kind) k i)
+    rest_to_post timing (Rest kind k kinds i) = Some (commands_left k i * (spans_of timing kind).cmd + waits_left (with_posts (spans_of timing kind) []) k i)
 
 -- what a LUN with something left takes behind the time from which it may go on
 abbrev pub work_at : Timing → Rules → List Want → Option LunState → ℕ
@@ -114,13 +120,13 @@ die_idle p l (w ∷ ws) None h = cc
 die_idle p l (w ∷ ws) (Some (Free a)) h = cc
 
 abbrev work_rest : Timing → Rules → List Want → Option LunLeft → ℕ
-work_rest timing rules ws (Some (Rest kind k i)) = commands_left k i * (spans_of timing kind).cmd + posts_left k i * (spans_of timing kind).post + waits_left (spans_of timing kind) k i + wants_work timing rules ws
+work_rest timing rules ws (Some (Rest kind k kinds i)) = commands_left k i * (spans_of timing kind).cmd + total (kind_post timing) kinds + waits_left (with_posts (spans_of timing kind) []) k i + wants_work timing rules ws
 work_rest timing rules ws _ = wants_work timing rules ws
 
 work_by : (timing : Timing) (rules : Rules) (ws : List Want) (o : Option LunState) → work_at timing rules ws o ≡ work_rest timing rules ws (option_map left_on o)
 work_by timing rules ws None = refl
 work_by timing rules ws (Some (Free a)) = refl
-work_by timing rules ws (Some (Running g n r)) = refl
+work_by timing rules ws (Some (Running g n r)) = let posts = posts_by timing g n in omega arith
 
 pub work_alike : (timing : Timing) (rules : Rules) (ws : List Want) (a b : Option LunState) → option_map left_on a ≡ option_map left_on b → work_at timing rules ws a ≡ work_at timing rules ws b
 work_alike timing rules ws a b e = work_by timing rules ws a ∙ (ap (work_rest timing rules ws) e ∙ sym (work_by timing rules ws b))

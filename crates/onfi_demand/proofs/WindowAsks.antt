@@ -1,37 +1,71 @@
 -- The demand of the window bound.
-use Rattle.std.proofs.Common.{◌≡◌, ℕ, ◌+◌, ◌*◌, ◌-◌, ◌≤◌, inl, inr, true, false, List, [], ◌∷◌, ◌++◌, length, Option, Some, None, refl, sym, ap, ◌∙◌, subst, arith}
+use Rattle.std.proofs.Common.{◌≡◌, ℕ, ◌+◌, ◌*◌, ◌-◌, ◌≤◌, inl, inr, true, false, List, [], ◌∷◌, ◌++◌, length, replicate, Option, Some, None, refl, sym, ap, ◌∙◌, subst, arith}
 use Rattle.std.specs.Prelude.{slice_get, max}
 use Rattle.std.specs.Option.{option_map}
 use Rattle.std.proofs.lemmas.Bool.{cases_Bool}
 use Rattle.onfi_timing.specs.declared.timing.Timing.{Timing}
 use Rattle.onfi_timing.specs.Kinds.{spans_of}
+use Rattle.onfi_timing.specs.Phases.{Lengths}
 use Rattle.onfi_request.specs.declared.want.Want.{Want}
 use Rattle.onfi_group.specs.declared.rules.Rules.{Rules}
-use Rattle.onfi_group.specs.Group.{kind_of}
+use Rattle.onfi_group.specs.Group.{kind_of, group_spans, kind_lengths}
 use Rattle.onfi_problem.specs.declared.lun_state.LunState.{LunState}
 use Rattle.onfi_problem.specs.declared.lun_state.LunState.TheVariants.{Free, Running}
 use Rattle.onfi_problem.specs.Problem.{Problem}
 use Rattle.onfi_problem.specs.Moves.{may_go}
 use Rattle.onfi_bound.specs.Bounds.{on_lun, wants_work}
-use Rattle.onfi_demand.specs.Left.{LunLeft, Idle, Rest, left_on, SameLeft, has_left_at, has_left}
+use Rattle.onfi_demand.specs.Left.{kinds_left, left_on, SameLeft, has_left_at, has_left}
 use Rattle.onfi_demand.specs.Window.{PhaseLeft, chain_from, group_left, wants_left, phases_left_at, phases_left_on, is_within, within, sum_of, window, needed, WindowAsksLaw}
+use Rattle.onfi_demand.specs.Work.{left_of}
+use Rattle.onfi_demand.specs.declared.left.LunLeft.{LunLeft as KeptLeft}
+use Rattle.onfi_demand.specs.declared.left.LunLeft.TheVariants.{Idle as KeptIdle, Rest as KeptRest}
+use Rattle.onfi_demand.proofs.Agree.{Agree, agree_left, agree_chain, groups_agree, kept_agrees}
 use Rattle.onfi_demand.proofs.Alike.{alike_at, of_same, same_luns}
 use Rattle.onfi_demand.proofs.Between.{one_in, one_out, within_head, within_cons, sum_below, window_below}
 
-abbrev pub rest_left : Timing → Rules → List Want → LunLeft → List PhaseLeft
-rest_left timing rules ws Idle = wants_left timing 0 ws
-rest_left timing rules ws (Rest kind k n) = group_left (spans_of timing kind) k (wants_work timing rules ws) (2 * k - n) n 0 ++ wants_left timing (chain_from (spans_of timing kind) k n) ws
+-- the phases of lengths from phase n on, and of wants behind them
+abbrev from_phase : Timing → Rules → List Want → Lengths → ℕ → ℕ → List PhaseLeft
+from_phase timing rules ws lengths k n = group_left lengths k (wants_work timing rules ws) (2 * k - n) n 0 ++ wants_left timing (chain_from lengths k n) ws
 
-pub phases_by : (timing : Timing) (rules : Rules) (ws : List Want) (o : Option LunState) (l : LunLeft) → option_map left_on o ≡ Some l → phases_left_at timing rules ws o ≡ rest_left timing rules ws l
+same_phases_left : (timing : Timing) (rules : Rules) (ws : List Want) (a b : Lengths) (k n : ℕ) → Agree a b k n → from_phase timing rules ws a k n ≡ from_phase timing rules ws b k n
+same_phases_left timing rules ws a b k n agree =
+    ap (λ xs. xs ++ wants_left timing (chain_from a k n) ws) (agree_left a b k (wants_work timing rules ws) (2 * k - n) n 0 agree)
+    ∙ ap (λ from. group_left b k (wants_work timing rules ws) (2 * k - n) n 0 ++ wants_left timing from ws) (agree_chain a b k n agree)
+
+abbrev pub rest_left : Timing → Rules → List Want → KeptLeft → List PhaseLeft
+rest_left timing rules ws KeptIdle = wants_left timing 0 ws
+rest_left timing rules ws (KeptRest kind k n) = from_phase timing rules ws (kind_lengths (spans_of timing kind) k) k n
+
+pub phases_by : (timing : Timing) (rules : Rules) (ws : List Want) (o : Option LunState) (l : KeptLeft) → option_map left_on o ≡ Some (left_of l) → phases_left_at timing rules ws o ≡ rest_left timing rules ws l
 phases_by timing rules ws None l e = cc
-phases_by timing rules ws (Some (Free a)) l e = let k : Idle ≡ l = cc in ap (rest_left timing rules ws) k
-phases_by timing rules ws (Some (Running g n r)) l e = let k : Rest (kind_of g) (length g) n ≡ l = cc in ap (rest_left timing rules ws) k
+phases_by timing rules ws (Some (Free a)) KeptIdle e = refl
+phases_by timing rules ws (Some (Free a)) (KeptRest kind k n) e = cc
+phases_by timing rules ws (Some (Running g n r)) KeptIdle e = cc
+phases_by timing rules ws (Some (Running g n r)) (KeptRest kind k i) e =
+    let same : kind_of g ≡ kind = cc in
+    let size : length g ≡ k = cc in
+    let next : n ≡ i = cc in
+    let kinds : kinds_left g n ≡ replicate (k - (i - k)) kind = cc in
+    let kinds' = subst (λ j. kinds_left g j ≡ replicate (k - (i - k)) kind) next kinds in
+    let agree = kept_agrees timing g kind k i same size kinds' in
+    ap (λ j. from_phase timing rules ws (group_spans timing g) (length g) j) next ∙ ap (λ j. from_phase timing rules ws (group_spans timing g) j i) size
+    ∙ same_phases_left timing rules ws (group_spans timing g) (kind_lengths (spans_of timing kind) k) k i agree
 
 phases_alike : (timing : Timing) (rules : Rules) (ws : List Want) (a b : Option LunState) → option_map left_on a ≡ option_map left_on b → phases_left_at timing rules ws a ≡ phases_left_at timing rules ws b
 phases_alike timing rules ws None None e = refl
 phases_alike timing rules ws None (Some b) e = cc
 phases_alike timing rules ws (Some a) None e = cc
-phases_alike timing rules ws (Some a) (Some b) e = phases_by timing rules ws (Some a) (left_on b) e ∙ sym (phases_by timing rules ws (Some b) (left_on b) refl)
+phases_alike timing rules ws (Some (Free a)) (Some (Free b)) e = refl
+phases_alike timing rules ws (Some (Free a)) (Some (Running g n r)) e = cc
+phases_alike timing rules ws (Some (Running g n r)) (Some (Free b)) e = cc
+phases_alike timing rules ws (Some (Running g n r)) (Some (Running g' n' r')) e =
+    let kind : kind_of g ≡ kind_of g' = cc in
+    let size : length g ≡ length g' = cc in
+    let next : n' ≡ n = cc in
+    let kinds : kinds_left g n ≡ kinds_left g' n' = cc in
+    let kinds' = subst (λ j. kinds_left g n ≡ kinds_left g' j) next kinds in
+    same_phases_left timing rules ws (group_spans timing g) (group_spans timing g') (length g) n (groups_agree timing g g' n kind size kinds')
+    ∙ ap (λ k. from_phase timing rules ws (group_spans timing g') k n) size ∙ ap (λ j. from_phase timing rules ws (group_spans timing g') (length g') j) (sym next)
 
 same_phases : (p q : Problem) (l : ℕ) → SameLeft p q → phases_left_on p l ≡ phases_left_on q l
 same_phases p q l s = of_same (λ z. phases_left_on p l ≡ phases_left_on z l) p q s (phases_alike p.timing p.rules (on_lun l p.wants) (slice_get p.luns l) (slice_get q.luns l) (alike_at p.luns q.luns l s.luns))

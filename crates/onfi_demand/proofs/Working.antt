@@ -1,12 +1,14 @@
 -- What is left to a LUN, as it is read.
-use Rattle.std.proofs.Common.{◌≡◌, ℕ, ◌+◌, ◌≤◌, ◌<◌, inl, inr, Bool, true, false, List, [], ◌∷◌, ◌++◌, length, map, get_or, take, Option, Some, None, refl, sym, ap, ◌∙◌, subst, arith}
+use Rattle.std.proofs.Common.{◌≡◌, ℕ, zero, suc, ◌+◌, ◌-◌, ◌≤◌, ◌<◌, inl, inr, Bool, true, false, List, [], ◌∷◌, ◌++◌, length, map, drop, replicate, get_or, take, Option, Some, None, refl, sym, ap, ◌∙◌, subst, arith}
 use Rattle.std.specs.Prelude.{slice_get, ◌==◌}
 use Rattle.std.specs.List.{filter, AllByRecursion as All}
 use Rattle.std.specs.Option.{option_map}
 use Rattle.std.proofs.lemmas.Bool.{cases_Bool, eq-eqb, false≢true, ne_eqb}
 use Rattle.std.proofs.lemmas.List.{length-map}
 use Rattle.std.proofs.lemmas.List.Elements.{filter-append}
+use Rattle.onfi_timing.specs.declared.kind.Kind.{Kind}
 use Rattle.onfi_request.specs.declared.want.Want.{Want}
+use Rattle.onfi_group.specs.Group.{kind_of}
 use Rattle.onfi_problem.specs.declared.lun_state.LunState.{LunState}
 use Rattle.onfi_problem.specs.declared.lun_state.LunState.TheVariants.{Free, Running}
 use Rattle.onfi_problem.specs.declared.moves.Lun.{Lun}
@@ -17,11 +19,12 @@ use Rattle.onfi_problem.proofs.Lists.{map_found}
 use Rattle.onfi_problem.proofs.Places.{get_within}
 use Rattle.onfi_problem.proofs.Perm.{append_nil}
 use Rattle.onfi_bound.specs.Bounds.{on_lun}
+use Rattle.onfi_bound.specs.Parts.{IsPlaced}
 use Rattle.onfi_bound.proofs.Counting.{within_luns}
 use Rattle.onfi_bound.proofs.Loading.{waits_at}
 use Rattle.onfi_bound.proofs.Parts.{placed}
 use Rattle.onfi_bound.proofs.Steps.{all_at, waiting_yes, waiting_no}
-use Rattle.onfi_demand.specs.Left.{Rest, left_on}
+use Rattle.onfi_demand.specs.Left.{Rest, kinds_left, left_on}
 use Rattle.onfi_demand.specs.Work.{left_of, IsShape}
 use Rattle.onfi_demand.specs.declared.left.LunLeft.{LunLeft as KeptLeft}
 use Rattle.onfi_demand.specs.declared.left.LunLeft.TheVariants.{Idle as KeptIdle, Rest as KeptRest}
@@ -29,8 +32,8 @@ use Rattle.onfi_demand.specs.declared.left.LunLeft.TheVariants.{Idle as KeptIdle
 abbrev pub no_lun : Lun
 no_lun = record { next = 0; place = 0; time = 0 }
 
-pub place_there : (p : Problem) (groups gs : List (List Want)) (luns : List Lun) (lun : ℕ) → InLimits p → map (state_of groups) luns ≡ p.luns → gs ≡ groups → lun < length p.luns → 1 ≤ (get_or luns lun no_lun).next → (get_or luns lun no_lun).place < length gs
-place_there p groups gs luns lun limits e g h = rw g (all_at (λ (x : Lun). 1 ≤ x.next → x.place < length groups) luns lun no_lun (within_luns p groups luns e lun h) (placed p groups luns limits e))
+pub place_there : (p : Problem) (groups gs : List (List Want)) (luns : List Lun) (lun : ℕ) → InLimits p → map (state_of groups) luns ≡ p.luns → gs ≡ groups → lun < length p.luns → IsPlaced gs (get_or luns lun no_lun)
+place_there p groups gs luns lun limits e g h = rw g (all_at (IsPlaced groups) luns lun no_lun (within_luns p groups luns e lun h) (placed p groups luns limits e))
 
 pub state_at : (p : Problem) (groups gs : List (List Want)) (luns : List Lun) (lun : ℕ) (left : KeptLeft) → map (state_of groups) luns ≡ p.luns → lun < length p.luns → gs ≡ groups → left_of left ≡ left_on (state_of gs (get_or luns lun no_lun)) → option_map left_on (slice_get p.luns lun) ≡ Some (left_of left)
 state_at p groups gs luns lun left e h g q =
@@ -38,11 +41,21 @@ state_at p groups gs luns lun left e h g q =
     let s = map_found (state_of groups) luns lun no_lun x.0 (subst (λ z. slice_get z lun ≡ Some x.0) (sym e) x.1) in
     rw x.1 (ap Some (sym (q ∙ (ap (λ z. left_on (state_of z (get_or luns lun no_lun))) g ∙ ap left_on s))))
 
+-- members of one kind are kept as so many of it
+kinds_alike : (kind : Kind) (i : ℕ) (group : List Want) → All (λ (m : Want). m.kind ≡ kind) group → map (λ (m : Want). m.kind) (drop i group) ≡ replicate (length group - i) kind
+kinds_alike kind zero [] h = refl
+kinds_alike kind (suc i) [] h = refl
+kinds_alike kind zero (m ∷ ms) h = let rest = kinds_alike kind zero ms h.1 in rw h.0 (ap (λ ks. kind ∷ ks) rest)
+kinds_alike kind (suc i) (m ∷ ms) h = kinds_alike kind i ms h.1
+
+pub kept_left : (group : List Want) (next : ℕ) → All (λ (m : Want). m.kind ≡ kind_of group) group → left_of (KeptRest (kind_of group) (length group) next) ≡ Rest (kind_of group) (length group) (kinds_left group next) next
+kept_left group next alike = ap (λ kinds. Rest (kind_of group) (length group) kinds next) (sym (kinds_alike (kind_of group) (next - length group) group alike))
+
 pub shape_of : (p : Problem) (lun : ℕ) (left : KeptLeft) → InLimits p → option_map left_on (slice_get p.luns lun) ≡ Some (left_of left) → IsShape left
 shape_of p lun KeptIdle limits h = tt
 shape_of p lun (KeptRest kind k n) limits h = go (slice_get p.luns lun) refl h
   where
-    go : (o : Option LunState) → slice_get p.luns lun ≡ o → option_map left_on o ≡ Some (Rest kind k n) → IsShape (KeptRest kind k n)
+    go : (o : Option LunState) → slice_get p.luns lun ≡ o → option_map left_on o ≡ Some (left_of (KeptRest kind k n)) → IsShape (KeptRest kind k n)
     go None e q = cc
     go (Some (Free a)) e q = cc
     go (Some (Running g n' r)) e q =

@@ -1,5 +1,5 @@
 -- What is left to a LUN, as a program keeps it.
-use Rattle.std.specs.Prelude.{◌≡◌, ℕ, ◌*◌, ◌^◌, ◌<◌, ◌≤◌, Some, slice_get}
+use Rattle.std.specs.Prelude.{◌≡◌, ℕ, ◌-◌, ◌*◌, ◌^◌, ◌<◌, ◌≤◌, replicate, Some, slice_get}
 use Rattle.std.specs.Option.{option_map}
 use Rattle.onfi_problem.specs.Problem.{Problem}
 use Rattle.onfi_problem.specs.Moves.{may_go}
@@ -9,9 +9,10 @@ use Rattle.onfi_demand.specs.declared.left.LunLeft.{LunLeft as KeptLeft}
 use Rattle.onfi_demand.specs.declared.left.LunLeft.TheVariants.{Idle as KeptIdle, Rest as KeptRest}
 use Rattle.onfi_demand.specs.declared.left.LunWork.{LunWork}
 
+-- all members are of the kind
 abbrev pub left_of : KeptLeft → LunLeft
 left_of KeptIdle = Idle
-left_of (KeptRest kind members next) = Rest kind members next
+left_of (KeptRest kind members next) = Rest kind members (replicate (members - (next - members)) kind) next
 
 -- a group of one to four members, of which at least one phase is over and one is left
 abbrev pub IsShape : KeptLeft → Type 0

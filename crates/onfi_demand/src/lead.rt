@@ -1,7 +1,8 @@
 //! What the lead bound asks for.
 
-ghost use Rattle.std.specs.Prelude.{◌≡◌, ℕ, ◌+◌, ◌-◌, ◌*◌, ◌^◌, ◌≤◌, ◌<◌, IfSome, length, map, slice_get};
+ghost use Rattle.std.specs.Prelude.{[], ◌≡◌, ℕ, ◌+◌, ◌-◌, ◌*◌, ◌^◌, ◌≤◌, ◌<◌, IfSome, length, map, slice_get};
 ghost use Rattle.onfi_timing.specs.Kinds.{spans_of};
+ghost use Rattle.onfi_timing.specs.Phases.{with_posts};
 ghost use Rattle.onfi_group.specs.Words.{total};
 ghost use Rattle.onfi_problem.specs.declared.lun_state.LunState.{LunState as State};
 ghost use Rattle.onfi_problem.specs.Left.{commands_left, waits_left, post_time, want_post, all_posts};
@@ -79,7 +80,7 @@ fn all_posts(problem: &Problem) -> u64
 /// How long a running group takes to its first post, in ns.
 pub(crate) fn rest_to_post(spans: &Spans, members: u8, next: u8) -> u64
     requires { members ≤ 4 }
-    ensures value { result ≡ commands_left members next * spans.now.cmd + waits_left spans.now members next }
+    ensures value { result ≡ commands_left members next * spans.now.cmd + waits_left (with_posts spans.now []) members next }
     ensures small { result ≤ 2 ^ 54 }
 {
     if next < members {

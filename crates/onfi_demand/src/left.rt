@@ -4,6 +4,7 @@ ghost use Rattle.std.specs.Prelude.{◌≡◌, ◌≤◌, ◌<◌, true, false, 
 ghost use Rattle.std.specs.Option.{option_map};
 ghost use Rattle.onfi_problem.specs.Position.{state_of, waiting_of};
 ghost use Rattle.onfi_bound.specs.Bounds.{on_lun};
+ghost use Rattle.onfi_bound.specs.Parts.{IsPlaced};
 ghost use Rattle.onfi_demand.specs.Left.{left_on, has_left};
 ghost use Rattle.onfi_demand.specs.Work.{left_of, IsWork, IsShape};
 ghost use Rattle.onfi_problem.specs.Problem.{Problem as AnyProblem};
@@ -69,7 +70,7 @@ pub fn left_on(problem: &Problem, lun: u8) -> LunLeft
 
 /// What is left of what a LUN does.
 fn left_of(groups: &[Group], lun: Lun) -> LunLeft
-    requires place { 1 ≤ lun.next → lun.place < length groups.now }
+    requires { IsPlaced groups.now lun }
     ensures { left_of result ≡ left_on (state_of groups.now lun) }
 {
     if lun.next == 0 {

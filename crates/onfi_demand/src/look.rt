@@ -1,6 +1,7 @@
 //! The window bound: phases that start at a time or later and leave some time behind them stand in between.
 
 ghost use Rattle.std.specs.Prelude.{◌≡◌, ℕ, ◌+◌, ◌-◌, ◌*◌, ◌^◌, ◌≤◌, ◌<◌, ◌∷◌, [], IfSome, IfNone, length, slice_index};
+ghost use Rattle.onfi_group.specs.Group.{kind_lengths};
 ghost use Rattle.onfi_bound.specs.Bounds.{on_lun, wants_work};
 ghost use Rattle.onfi_bound.specs.Loads.{IsLoad};
 ghost use Rattle.onfi_demand.specs.Kept.{IsKept};
@@ -73,10 +74,10 @@ impl Look {
         requires go { self.now.go < 2 ^ 62 }
         requires members { members ≤ 4 }
         requires next { next ≤ 2 * members }
-        requires chain { chain ≡ chain_from spans.now members next }
+        requires chain { chain ≡ chain_from (kind_lengths spans.now members) members next }
         requires small { chain < 2 ^ 60 }
         requires rest { rest < 2 ^ 62 }
-        ensures sees { Sees self.now nothing_seen (group_left spans.now members rest (2 * members - next) next 0) result }
+        ensures sees { Sees self.now nothing_seen (group_left (kind_lengths spans.now members) members rest (2 * members - next) next 0) result }
         ensures small { result.length ≤ 2 ^ 54 }
     {
         let mut seen = Seen::none();
@@ -114,7 +115,7 @@ impl Look {
 // What is left of a group from phase `next` on, with its waits, in ns.
 fn chain_left(spans: &Spans, members: u8, next: u8) -> u64
     requires { members ≤ 4 }
-    ensures value { result ≡ chain_from spans.now members next }
+    ensures value { result ≡ chain_from (kind_lengths spans.now members) members next }
     ensures small { result ≤ 2 ^ 55 }
 {
     let posts = (2 * members).saturating_sub(next.max(members));

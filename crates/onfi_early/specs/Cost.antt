@@ -4,7 +4,7 @@ use Rattle.onfi_timing.specs.declared.timing.Timing.{Timing}
 use Rattle.onfi_timing.specs.Kinds.{spans_of}
 use Rattle.onfi_request.specs.declared.want.Want.{Want}
 use Rattle.onfi_group.specs.Words.{total}
-use Rattle.onfi_group.specs.Group.{group_spans}
+use Rattle.onfi_group.specs.Group.{kind_of}
 use Rattle.onfi_problem.specs.declared.lun_state.LunState.{LunState}
 use Rattle.onfi_problem.specs.Position.{Position}
 use Rattle.onfi_demand.specs.Left.{LunLeft, Idle, Rest, left_on}
@@ -27,7 +27,7 @@ member_weights wants weights members = map (λ m. weight_of wants weights m.id) 
 
 -- a new group: behind a command for each member stands a post for each
 abbrev pub group_cost : Timing → List Want → List ℕ → Placed → ℕ
-group_cost timing wants weights g = posts_cost (group_spans timing g.members).post (member_weights wants weights g.members) 0 (drop (length g.members) g.starts)
+group_cost timing wants weights g = posts_cost (spans_of timing (kind_of g.members)).post (member_weights wants weights g.members) 0 (drop (length g.members) g.starts)
 
 -- a group that runs: the commands that are left, then the posts
 abbrev pub left_cost : Timing → List ℕ → LunLeft → List ℕ → ℕ

@@ -3,7 +3,8 @@
 ghost use Rattle.std.specs.Prelude.{◌≡◌, ◌≤◌, ◌<◌, ◌↔◌, IsTrue, length, map, take, []};
 ghost use Rattle.onfi_group.specs.Words.{Pairs};
 ghost use Rattle.onfi_demand.specs.Demand.{Meets};
-ghost use Rattle.onfi_demand.specs.Left.{has_left, left_on, Rest};
+ghost use Rattle.onfi_demand.specs.Left.{has_left, left_on};
+ghost use Rattle.onfi_demand.specs.declared.left.LunLeft.TheVariants.{Rest as KeptRest};
 ghost use Rattle.onfi_demand.specs.Work.{left_of};
 ghost use Rattle.onfi_known_check.specs.Proves.{Describes, times_of};
 
@@ -65,7 +66,7 @@ fn is_same(one: LunLeft, other: LunLeft) -> bool
 
 // Whether so much of a group is left.
 fn is_rest(left: LunLeft, kind: Kind, members: u8, next: u8) -> bool
-    ensures { IsTrue result ↔ (Rest kind members next ≡ left_of left) }
+    ensures { IsTrue result ↔ (left_of (KeptRest kind members next) ≡ left_of left) }
 {
     match left {
         LunLeft::Idle => false,

@@ -4,36 +4,43 @@ use Rattle.std.specs.Prelude.{slice_get, slice_set}
 use Rattle.std.specs.List.{AllByRecursion as All, flat_map}
 use Rattle.std.proofs.lemmas.Bool.{cases_lt}
 use Rattle.onfi_timing.specs.declared.timing.Timing.{Timing}
-use Rattle.onfi_timing.specs.declared.spans.Spans.{Spans}
 use Rattle.onfi_request.specs.declared.want.Want.{Want}
 use Rattle.onfi_problem.specs.declared.lun_state.LunState.{LunState}
 use Rattle.onfi_problem.specs.declared.lun_state.LunState.TheVariants.{Free, Running}
 use Rattle.onfi_problem.specs.Problem.{Problem, IsProblem}
 use Rattle.onfi_group.specs.Group.{group_spans, lun_of}
-use Rattle.onfi_timing.specs.Phases.{phase_length, wait_before}
-use Rattle.onfi_schedule.specs.Schedule.{Placed, Schedule, Phase, end_of, phases_from, phases_left, rest_phases, group_phases, phases, InOrder, Apart, Before, StartsFrom, Legal}
+use Rattle.onfi_timing.specs.Phases.{Lengths, phase_length, wait_before}
+use Rattle.onfi_schedule.specs.Schedule.{Placed, Schedule, Phase, end_of, phases_from, phases_left, rest_phases, group_phases, phases, InOrder, Apart, Before, StartsFrom, IsSchedule, Legal}
 use Rattle.onfi_schedule.specs.Conditions.{StateFits, StateWaits, StateSince, LeftFirst, FromSince}
 use Rattle.onfi_problem.specs.Moves.{lun_after, ran}
 use Rattle.onfi_problem.proofs.Perm.{Perm, same, on_left, All-perm, Pairs-perm, All-append, All-weaker, All-both}
 use Rattle.onfi_problem.proofs.Places.{length_set}
 use Rattle.onfi_problem.proofs.LunAfter.{lun_after_running, lun_after_free}
+use Rattle.onfi_group.proofs.GroupLengths.{group_takes}
 use Rattle.onfi_schedule.proofs.Chains.{all_long}
 use Rattle.onfi_schedule.proofs.Rests.{RunningFirst, FromFree, At, set_state, set_at, rest_changed}
 use Rattle.onfi_schedule.proofs.LegalIs.{fits_of, waits_of, left_from, since_from}
 
 -- every phase takes time
-rest_long : (timing : Timing) (first : ℕ) (luns : List LunState) (rest : List (List ℕ)) → All (λ x. 1 ≤ x.length) (rest_phases timing first luns rest)
-rest_long timing first [] rest = tt
-rest_long timing first (x ∷ luns) [] = tt
-rest_long timing first (Free since ∷ luns) (ts ∷ rest) = rest_long timing (first + 1) luns rest
-rest_long timing first (Running g n r ∷ luns) (ts ∷ rest) = All-append (λ x. 1 ≤ x.length) (phases_from first (group_spans timing g) (length g) n ts) _ (all_long first (group_spans timing g) (length g) n ts) (rest_long timing (first + 1) luns rest)
+abbrev RestFits : List LunState → List (List ℕ) → Type 0
+RestFits luns rest = (l : ℕ) (g : List Want) (n r : ℕ) (ts : List ℕ) → slice_get luns l ≡ Some (Running g n r) → slice_get rest l ≡ Some ts → n + length ts ≡ 2 * length g
 
-groups_long : (timing : Timing) (groups : List Placed) → All (λ x. 1 ≤ x.length) (flat_map (group_phases timing) groups)
-groups_long timing [] = tt
-groups_long timing (g ∷ groups) = All-append (λ x. 1 ≤ x.length) (group_phases timing g) _ (all_long (lun_of g.members) (group_spans timing g.members) (length g.members) 0 g.starts) (groups_long timing groups)
+rest_long : (timing : Timing) (first : ℕ) (luns : List LunState) (rest : List (List ℕ)) → RestFits luns rest → All (λ x. 1 ≤ x.length) (rest_phases timing first luns rest)
+rest_long timing first [] rest fits = tt
+rest_long timing first (x ∷ luns) [] fits = tt
+rest_long timing first (Free since ∷ luns) (ts ∷ rest) fits = rest_long timing (first + 1) luns rest (λ l g n r us a b. fits (suc l) g n r us a b)
+rest_long timing first (Running g n r ∷ luns) (ts ∷ rest) fits =
+    let count = fits 0 g n r ts refl refl in
+    All-append (λ x. 1 ≤ x.length) (phases_from first (group_spans timing g) (length g) n ts) _ (all_long first (group_spans timing g) (length g) n ts (group_takes timing g) (omega arith)) (rest_long timing (first + 1) luns rest (λ l g' n' r' us a b. fits (suc l) g' n' r' us a b))
 
-pub phases_long : (p : Problem) (s : Schedule) → All (λ x. 1 ≤ x.length) (phases p s)
-phases_long p s = All-append (λ x. 1 ≤ x.length) (rest_phases p.timing 0 p.luns s.rest) _ (rest_long p.timing 0 p.luns s.rest) (groups_long p.timing s.groups)
+groups_long : (timing : Timing) (groups : List Placed) → All (λ g. length g.starts ≡ 2 * length g.members) groups → All (λ x. 1 ≤ x.length) (flat_map (group_phases timing) groups)
+groups_long timing [] fit = tt
+groups_long timing (g ∷ groups) fit =
+    let count = fit.0 in
+    All-append (λ x. 1 ≤ x.length) (group_phases timing g) _ (all_long (lun_of g.members) (group_spans timing g.members) (length g.members) 0 g.starts (group_takes timing g.members) (omega arith)) (groups_long timing groups fit.1)
+
+pub phases_long : (p : Problem) (s : Schedule) → IsSchedule p s → All (λ x. 1 ≤ x.length) (phases p s)
+phases_long p s shape = All-append (λ x. 1 ≤ x.length) (rest_phases p.timing 0 p.luns s.rest) _ (rest_long p.timing 0 p.luns s.rest shape.rest) (groups_long p.timing s.groups shape.starts)
 
 pub left_after : (timing : Timing) (l : ℕ) (g : List Want) (n ended : ℕ) (ts : List ℕ) → n + suc (length ts) ≡ 2 * length g → phases_left timing l (lun_after timing g n ended) ts ≡ phases_from l (group_spans timing g) (length g) (n + 1) ts
 left_after timing l g n ended [] e = rw (lun_after_free timing g n ended (omega arith))
@@ -43,9 +50,9 @@ pub starts_lower : (a b : ℕ) (ts : List ℕ) → a ≤ b → StartsFrom b ts �
 starts_lower a b [] l h = tt
 starts_lower a b (t ∷ ts) l h = omega arith
 
-pub starts_from : (b lun : ℕ) (spans : Spans) (k n : ℕ) (ts : List ℕ) → All (λ y. b ≤ y.start) (phases_from lun spans k n ts) → StartsFrom b ts
-starts_from b lun spans k n [] h = tt
-starts_from b lun spans k n (t ∷ ts) h = h.0
+pub starts_from : (b lun : ℕ) (lengths : Lengths) (k n : ℕ) (ts : List ℕ) → All (λ y. b ≤ y.start) (phases_from lun lengths k n ts) → StartsFrom b ts
+starts_from b lun lengths k n [] h = tt
+starts_from b lun lengths k n (t ∷ ts) h = h.0
 
 -- the state that a phase leaves, and the starts behind it
 fits_after : (timing : Timing) (g : List Want) (n ended : ℕ) (ts : List ℕ) → n + suc (length ts) ≡ 2 * length g → StateFits (lun_after timing g n ended) ts
@@ -114,7 +121,7 @@ module _ (p : Problem) (s : Schedule) (ip : IsProblem p) (lg : Legal p s) (l : �
       let b = t + phase_length (group_spans p.timing g) (length g) n in
       let order = lg.rest_waits l g n r (t ∷ ts) at starts_at in
       let least' = All-perm (λ x. t ≤ x.start) next_phases least in
-      let long' = All-perm (λ x. 1 ≤ x.length) next_phases (phases_long p s) in
+      let long' = All-perm (λ x. 1 ≤ x.length) next_phases (phases_long p s lg.shape) in
       let apart = Pairs-perm Apart Apart-sym next_phases lg.no_overlap in
       let fits = new_fits p s lg l g n b ts (t ∷ ts) _ at starts_at next_count in
       record {

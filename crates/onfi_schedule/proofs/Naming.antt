@@ -4,8 +4,7 @@ use Rattle.std.specs.Prelude.{slice_get, slice_index_or}
 use Rattle.std.specs.List.{AllByRecursion as All}
 use Rattle.std.proofs.lemmas.List.{length-map}
 use Rattle.std.proofs.lemmas.Option.{slice_get-get_or}
-use Rattle.onfi_timing.specs.declared.spans.Spans.{Spans}
-use Rattle.onfi_timing.specs.Phases.{phase_length}
+use Rattle.onfi_timing.specs.Phases.{Lengths, phase_length}
 use Rattle.onfi_request.specs.declared.want.Want.{Want}
 use Rattle.onfi_group.specs.Words.{Has}
 use Rattle.onfi_problem.specs.declared.lun_state.LunState.{LunState}
@@ -40,25 +39,25 @@ pub state_at : (table : List (List Want)) (luns : List Lun) (i : ℕ) (d : Lun) 
 state_at table luns i d h = map_get (state_of table) luns i (get_or luns i d) (slice_get-get_or luns i d h)
 
 -- all are phases of the LUN
-pub all_of_lun : (next lun : ℕ) (spans : Spans) (ms : List Want) (n : ℕ) (ts : List ℕ) → All (λ (x : Named). x.phase.lun ≡ lun) (named_from next lun spans ms n ts)
-all_of_lun next lun spans ms n [] = tt
-all_of_lun next lun spans ms n (t ∷ ts) = (refl, all_of_lun next lun spans ms (n + 1) ts)
+pub all_of_lun : (next lun : ℕ) (lengths : Lengths) (ms : List Want) (n : ℕ) (ts : List ℕ) → All (λ (x : Named). x.phase.lun ≡ lun) (named_from next lun lengths ms n ts)
+all_of_lun next lun lengths ms n [] = tt
+all_of_lun next lun lengths ms n (t ∷ ts) = (refl, all_of_lun next lun lengths ms (n + 1) ts)
 
 -- phase n of members, at a start
-abbrev pub phase_at : ℕ → ℕ → Spans → List Want → ℕ → ℕ → Named
-phase_at next lun spans ms n t = record { name = name_of next lun ms n; phase = record { lun = lun; start = t; length = phase_length spans (length ms) n } }
+abbrev pub phase_at : ℕ → ℕ → Lengths → List Want → ℕ → ℕ → Named
+phase_at next lun lengths ms n t = record { name = name_of next lun ms n; phase = record { lun = lun; start = t; length = phase_length lengths (length ms) n } }
 
 -- the phase that starts at a place
-pub named_at : (next lun : ℕ) (spans : Spans) (ms : List Want) (n : ℕ) (ts : List ℕ) (i t : ℕ) → slice_get ts i ≡ Some t
-    → slice_get (named_from next lun spans ms n ts) i ≡ Some (phase_at next lun spans ms (n + i) t)
-named_at next lun spans ms n [] i t h = cc
-named_at next lun spans ms n (u ∷ ts) zero t h =
+pub named_at : (next lun : ℕ) (lengths : Lengths) (ms : List Want) (n : ℕ) (ts : List ℕ) (i t : ℕ) → slice_get ts i ≡ Some t
+    → slice_get (named_from next lun lengths ms n ts) i ≡ Some (phase_at next lun lengths ms (n + i) t)
+named_at next lun lengths ms n [] i t h = cc
+named_at next lun lengths ms n (u ∷ ts) zero t h =
     let e : u ≡ t = cc in
     let z : n ≡ n + 0 = omega arith in
-    ap Some (ap (λ k. phase_at next lun spans ms k u) z ∙ ap (λ k. phase_at next lun spans ms (n + 0) k) e)
-named_at next lun spans ms n (u ∷ ts) (suc i) t h =
+    ap Some (ap (λ k. phase_at next lun lengths ms k u) z ∙ ap (λ k. phase_at next lun lengths ms (n + 0) k) e)
+named_at next lun lengths ms n (u ∷ ts) (suc i) t h =
     let e : n + 1 + i ≡ n + suc i = omega arith in
-    named_at next lun spans ms (n + 1) ts i t h ∙ ap Some (ap (λ k. phase_at next lun spans ms k t) e)
+    named_at next lun lengths ms (n + 1) ts i t h ∙ ap Some (ap (λ k. phase_at next lun lengths ms k t) e)
 
 -- what all of them start at or behind, so do their phases
 pub all_from : (t : ℕ) (slots : List Slot) → All (λ (x : Named). t ≤ x.phase.start) (named_in slots) → All (λ (x : Phase). t ≤ x.start) (phases_in slots)

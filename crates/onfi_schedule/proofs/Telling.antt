@@ -3,9 +3,8 @@ use Rattle.std.proofs.Common.{◌≡◌, ◌≢◌, Bool, true, false, IsTrue, �
 use Rattle.std.specs.Prelude.{slice_get}
 use Rattle.std.specs.List.{AllByRecursion as All}
 use Rattle.std.proofs.lemmas.Option.{slice_get-get_or}
-use Rattle.onfi_timing.specs.declared.spans.Spans.{Spans}
 use Rattle.onfi_timing.specs.declared.timing.Timing.{Timing}
-use Rattle.onfi_timing.specs.Phases.{phase_length, wait_before}
+use Rattle.onfi_timing.specs.Phases.{Lengths, phase_length, wait_before}
 use Rattle.onfi_request.specs.declared.want.Want.{Want}
 use Rattle.onfi_timing.specs.declared.kind.Kind.TheVariants.{Read}
 use Rattle.onfi_group.specs.declared.rules.Rules.{Rules}
@@ -121,16 +120,16 @@ from_first : (ts : List ℕ) (t : ℕ) → slice_get ts 0 ≡ Some t → ts ≡ 
 from_first [] t e = cc
 from_first (u ∷ ts) t e = let same : u ≡ t = cc in ap (λ k. k ∷ ts) same
 
-pub wait_told : (p : Problem) (s : Schedule) (spans : Spans) (lun : ℕ) (members : List Want) (next due floor : ℕ) (starts : List ℕ) (index number start : ℕ) (b : Breach)
-    → spans ≡ group_spans p.timing members → HasWork p s lun members next due starts → number ≡ next + index → slice_get starts index ≡ Some start → start < floor
+pub wait_told : (p : Problem) (s : Schedule) (lengths : Lengths) (lun : ℕ) (members : List Want) (next due floor : ℕ) (starts : List ℕ) (index number start : ℕ) (b : Breach)
+    → lengths ≡ group_spans p.timing members → HasWork p s lun members next due starts → number ≡ next + index → slice_get starts index ≡ Some start → start < floor
     → (index ≡ 0 → floor ≡ due)
-    → ((i : ℕ) → index ≡ i + 1 → floor ≡ get_or starts i 0 + phase_length spans (length members) (next + i) + wait_before spans (length members) (next + i + 1))
+    → ((i : ℕ) → index ≡ i + 1 → floor ≡ get_or starts i 0 + phase_length lengths (length members) (next + i) + wait_before lengths (length members) (next + i + 1))
     → (number ≤ next → b ≡ NotReady (name_of next lun members number) lun start floor)
     → (next < number → b ≡ WaitTooShort (name_of next lun members number) (name_of next lun members (number - 1)) lun start floor)
     → Tells p s b
-wait_told p s spans lun members next due floor starts zero number start b es (inl new) en at lt first behind one later =
+wait_told p s lengths lun members next due floor starts zero number start b es (inl new) en at lt first behind one later =
     let none = first refl in let zero_due = new.1 in absurd (omega arith)
-wait_told p s spans lun members next due floor starts zero number start b es (inr runs) en at lt first behind one later =
+wait_told p s lengths lun members next due floor starts zero number start b es (inr runs) en at lt first behind one later =
     let e : number ≡ next = omega arith in
     let due_is : floor ≡ due = first refl in
     subst (Tells p s) (sym (one (omega arith))) (record {
@@ -142,7 +141,7 @@ wait_told p s spans lun members next due floor starts zero number start b es (in
       called = ap (λ n. name_of next lun members n) (sym e);
       early = lt;
     })
-wait_told p s spans lun members next due floor starts (suc i) number start b es work en at lt first behind one later =
+wait_told p s lengths lun members next due floor starts (suc i) number start b es work en at lt first behind one later =
     let i1 : suc i ≡ i + 1 = omega arith in
     let within : i < length starts = get_within_first starts i start (subst (λ k. slice_get starts k ≡ Some start) i1 at) in
     let there = named_at next lun (group_spans p.timing members) members next starts i (get_or starts i 0) (slice_get-get_or starts i 0 within) in
@@ -163,7 +162,7 @@ wait_told p s spans lun members next due floor starts (suc i) number start b es 
       behind = next_there;
       told = (ap (λ n. name_of next lun members n) own, refl);
       told_before = ap (λ n. name_of next lun members n) before;
-      over = rw (← es) (sym floor_is);
+      over = subst (λ (z : Lengths). get_or starts i 0 + phase_length z (length members) (next + i) + wait_before z (length members) (next + i + 1) ≡ floor) es (sym floor_is);
       early = lt;
     })
   where

@@ -152,7 +152,7 @@ fn of_turns(problem: &Problem, schedule: &Schedule) -> Option<Breach>
     if breach.is_some() {
         return breach;
     }
-    since::lun_not_free(&timing, table, luns, groups)
+    since::lun_not_free(table, luns, groups)
 }
 
 // Requests on one block keep their order.

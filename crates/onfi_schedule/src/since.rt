@@ -17,9 +17,8 @@ use crate::placed::Placed;
 use crate::slots::Work;
 use onfi_group::Group;
 use onfi_problem::Lun;
-use onfi_timing::Timing;
 
-fn before_free(timing: &Timing, lun: &Lun, group: &Placed) -> Option<Breach>
+fn before_free(lun: &Lun, group: &Placed) -> Option<Breach>
     ensures none { (table : List (List Want)) → IsNone result ↔ StateSince (state_of table lun.now) group.now.starts }
     ensures about { IfSome result (λ b. condition_of b ≡ lun_is_free) }
     ensures told { (table : List (List Want)) (p : Problem) (s : Schedule) → Has s.groups group.now → slice_get p.luns (lun_of group.now.members) ≡ Some (state_of table lun.now) → IfSome result (Tells p s) }
@@ -30,19 +29,14 @@ fn before_free(timing: &Timing, lun: &Lun, group: &Placed) -> Option<Breach>
     }
     let members = group.members();
     Some(Breach::LunNotFree {
-        phase: Work::of_new(timing, members).name(members.members(), 0),
+        phase: Work::of_new(members).name(members.members(), 0),
         lun: members.lun(),
         start: starts[0],
         since: lun.time,
     })
 }
 
-fn group_before_free(
-    timing: &Timing,
-    table: &[Group],
-    luns: &[Lun],
-    group: &Placed,
-) -> Option<Breach>
+fn group_before_free(table: &[Group], luns: &[Lun], group: &Placed) -> Option<Breach>
     ensures none { IsNone result ↔ FromSince (states_of table.now luns.now) group.now }
     ensures about { IfSome result (λ b. condition_of b ≡ lun_is_free) }
     ensures told { (p : Problem) (s : Schedule) → p.luns ≡ states_of table.now luns.now → Has s.groups group.now → IfSome result (Tells p s) }
@@ -51,22 +45,17 @@ fn group_before_free(
     if place >= luns.len() {
         return None;
     }
-    before_free(timing, &luns[place], group)
+    before_free(&luns[place], group)
 }
 
 /// A group that starts before its LUN is free.
-pub(crate) fn lun_not_free(
-    timing: &Timing,
-    table: &[Group],
-    luns: &[Lun],
-    groups: &[Placed],
-) -> Option<Breach>
+pub(crate) fn lun_not_free(table: &[Group], luns: &[Lun], groups: &[Placed]) -> Option<Breach>
     ensures none { IsNone result ↔ Each (FromSince (states_of table.now luns.now)) groups.now }
     ensures about { IfSome result (λ b. condition_of b ≡ lun_is_free) }
     ensures told { (p : Problem) (s : Schedule) → p.luns ≡ states_of table.now luns.now → s.groups ≡ groups.now → IfSome result (Tells p s) }
 {
     for group in groups {
-        let breach = group_before_free(timing, table, luns, group);
+        let breach = group_before_free(table, luns, group);
         if breach.is_some() {
             return breach;
         }

@@ -17,7 +17,7 @@ use crate::breach::Breach;
 use crate::placed::Placed;
 use crate::slots::Work;
 use crate::starts::Starts;
-use onfi_group::Group;
+use onfi_group::{Group, phase_length, wait_before};
 use onfi_problem::Lun;
 use onfi_request::Want;
 use onfi_timing::Timing;
@@ -48,12 +48,18 @@ fn not_ready(work: &Work, members: &[Want], number: usize, start: u64, ready: u6
 }
 
 // A phase of these members that starts before the wait behind the one before it is over, or the first one before `floor`.
-fn in_group(work: &Work, members: &[Want], floor: u64, starts: &[u64]) -> Option<Breach>
+fn in_group(
+    timing: &Timing,
+    work: &Work,
+    members: &[Want],
+    floor: u64,
+    starts: &[u64],
+) -> Option<Breach>
     requires starts { Each (λ t. t < 2 ^ 63) starts.now }
     requires phases { work.now.next + length starts.now < 2 ^ 60 }
-    ensures none { IsNone result ↔ InOrder work.now.spans (length members.now) work.now.next floor starts.now }
+    ensures none { IsNone result ↔ InOrder (group_spans timing.now members.now) (length members.now) work.now.next floor starts.now }
     ensures about { IfSome result (λ b. condition_of b ≡ keeps_waits) }
-    ensures told { (p : Problem) (s : Schedule) → work.now.spans ≡ group_spans p.timing members.now → HasWork p s work.now.lun members.now work.now.next floor starts.now → IfSome result (Tells p s) }
+    ensures told { (p : Problem) (s : Schedule) → p.timing ≡ timing.now → HasWork p s work.now.lun members.now work.now.next floor starts.now → IfSome result (Tells p s) }
 {
     let mut floor = floor;
     let mut number = work.next;
@@ -61,9 +67,9 @@ fn in_group(work: &Work, members: &[Want], floor: u64, starts: &[u64]) -> Option
         if *start < floor {
             return Some(not_ready(work, members, number, *start, floor));
         }
-        let ended = *start + work.spans.phase_length(members.len(), number);
+        let ended = *start + phase_length(timing, members, number);
         number += 1;
-        floor = ended + work.spans.wait_before(members.len(), number);
+        floor = ended + wait_before(timing, members, number);
     }
     None
 }
@@ -78,8 +84,8 @@ fn in_left(timing: &Timing, table: &[Group], at: u8, lun: &Lun, starts: &Starts)
         return None;
     }
     let group = &table[lun.place as usize];
-    let work = Work::of_running(timing, group, at, lun);
-    in_group(&work, group.members(), lun.time, starts.as_slice())
+    let work = Work::of_running(group, at, lun);
+    in_group(timing, &work, group.members(), lun.time, starts.as_slice())
 }
 
 /// A phase of a running group that starts too early.
@@ -111,8 +117,14 @@ fn in_new(timing: &Timing, group: &Placed) -> Option<Breach>
     ensures told { (p : Problem) (s : Schedule) → p.timing ≡ timing.now → Has s.groups group.now → IfSome result (Tells p s) }
 {
     let members = group.members();
-    let work = Work::of_new(timing, members);
-    in_group(&work, members.members(), 0, group.starts().as_slice())
+    let work = Work::of_new(members);
+    in_group(
+        timing,
+        &work,
+        members.members(),
+        0,
+        group.starts().as_slice(),
+    )
 }
 
 /// A phase of a new group that starts too early.

@@ -3,7 +3,7 @@ use Rattle.std.proofs.Common.{◌≡◌, ℕ, zero, suc, ◌+◌, ◌-◌, ◌^�
 use Rattle.std.specs.Prelude.{IfSome, MatchOption, if◌then◌else◌, OnErr, is_some, map, max, slice_get, slice_set}
 use Rattle.std.specs.List.{flat_map}
 use Rattle.std.proofs.Math.Seq.{take-nil}
-use Rattle.onfi_timing.specs.declared.spans.Spans.{Spans}
+use Rattle.onfi_timing.specs.Phases.{Lengths}
 use Rattle.onfi_timing.specs.declared.timing.Timing.{Timing}
 use Rattle.onfi_group.specs.Group.{group_spans, lun_of}
 use Rattle.onfi_problem.specs.declared.lun_state.LunState.{LunState}
@@ -117,9 +117,9 @@ rest_back by timing lun (x ∷ luns) (ts ∷ rest) none =
 group_back : (by : ℕ) (timing : Timing) (g : Placed) → group_phases timing (later_group by g) ≡ [] → group_phases timing g ≡ []
 group_back by timing g none = from_back (group_spans timing g.members) (length g.members) g.starts none
   where
-    from_back : (spans : Spans) (k : ℕ) (ts : List ℕ) → phases_from (lun_of g.members) spans k 0 (later_starts by ts) ≡ [] → phases_from (lun_of g.members) spans k 0 ts ≡ []
-    from_back spans k [] none = refl
-    from_back spans k (t ∷ ts) none = cc
+    from_back : (lengths : Lengths) (k : ℕ) (ts : List ℕ) → phases_from (lun_of g.members) lengths k 0 (later_starts by ts) ≡ [] → phases_from (lun_of g.members) lengths k 0 ts ≡ []
+    from_back lengths k [] none = refl
+    from_back lengths k (t ∷ ts) none = cc
 
 groups_back : (by : ℕ) (timing : Timing) (groups : List Placed) → flat_map (group_phases timing) (map (later_group by) groups) ≡ [] → flat_map (group_phases timing) groups ≡ []
 groups_back by timing [] none = refl

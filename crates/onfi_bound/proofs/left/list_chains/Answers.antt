@@ -1,8 +1,8 @@
-use Rattle.std.proofs.Common.{◌≤◌, ◌<◌, length, map, ap, ◌∙◌}
+use Rattle.std.proofs.Common.{map, ap, ◌∙◌}
 use Rattle.std.proofs.lemmas.List.{take_all}
 use Rattle.onfi_problem.specs.declared.moves.Lun.{Lun}
 use Rattle.onfi_problem.specs.Position.{state_of}
-use Rattle.onfi_bound.specs.Parts.{chain_of}
+use Rattle.onfi_bound.specs.Parts.{IsPlaced, chain_of}
 use Rattle.onfi_bound.proofs.Steps.{all_at, both_mapped}
 use Rattle.onfi_bound.proofs.left.list_chains.Goals as goal
 
@@ -10,7 +10,7 @@ abbrev none : Lun
 none = record { next = 0; place = 0; time = 0 }
 
 pub of-requires : goal.of-requires
-of-requires c = all_at (λ (lun : Lun). 1 ≤ lun.next → lun.place < length c.args.groups.now) c.args.luns.now c.loop-lun.lun-index none c.loop-lun-test.true c.requires.placed
+of-requires c = all_at (IsPlaced c.args.groups.now) c.args.luns.now c.loop-lun.lun-index none c.loop-lun-test.true c.requires.placed
 
 pub loop-lun-preserved : goal.loop-lun-preserved
 loop-lun-preserved c = both_mapped (chain_of c.args.timing.now) (state_of c.args.groups.now) c.args.luns.now c.loop-lun.lun-index none c.loop-lun.chains.items _ c.of.result c.loop-lun-test.true c.loop-lun.invariant c.push.ensures.items c.of.ensures

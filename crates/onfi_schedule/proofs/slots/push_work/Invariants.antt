@@ -1,5 +1,6 @@
 use Rattle.std.proofs.Common.{◌≡◌, ◌+◌, ◌++◌, length, drop}
 use Rattle.arrayvec.specs.ArrayVec.{array_vec_len}
+use Rattle.onfi_group.specs.Group.{group_spans}
 use Rattle.onfi_schedule.specs.Schedule.{phases_from}
 use Rattle.onfi_schedule.specs.Names.{named_from}
 use Rattle.onfi_schedule.specs.Slots.{phases_in, named_in}
@@ -11,6 +12,6 @@ invariant-loop-start _ l =
     record {
       number : l.number ≡ w.next + l.start-index;
       len : array_vec_len l.slots ≡ array_vec_len l.initial.slots + l.start-index;
-      phases : phases_in l.slots.items ++ phases_from w.lun w.spans (length l.members) l.number (drop l.start-index l.starts) ≡ phases_in l.initial.slots.items ++ phases_from w.lun w.spans (length l.members) w.next l.starts;
-      named : named_in l.slots.items ++ named_from w.next w.lun w.spans l.members l.number (drop l.start-index l.starts) ≡ named_in l.initial.slots.items ++ named_from w.next w.lun w.spans l.members w.next l.starts;
+      phases : phases_in l.slots.items ++ phases_from w.lun (group_spans l.timing l.members) (length l.members) l.number (drop l.start-index l.starts) ≡ phases_in l.initial.slots.items ++ phases_from w.lun (group_spans l.timing l.members) (length l.members) w.next l.starts;
+      named : named_in l.slots.items ++ named_from w.next w.lun (group_spans l.timing l.members) l.members l.number (drop l.start-index l.starts) ≡ named_in l.initial.slots.items ++ named_from w.next w.lun (group_spans l.timing l.members) l.members w.next l.starts;
     }
