@@ -23,10 +23,11 @@ void by_lun_library(const machine *m, batch *chosen)
 #endif
 
 #ifdef HAS_ONFI_NEXT
-/* Greater than each device that is simulated. */
+/* At least as large as each device that is simulated. */
 static onfi_geometry geometry_of(const setup *setup)
 {
-    onfi_geometry made = {.blocks_per_lun = 65536, .block_bits = 16, .pages_per_block = 4096, .page_bits = 12, .lun_bits = 3, .data_bytes = 1};
+    onfi_geometry made = {.blocks_per_lun = 65536, .block_bits = 16, .pages_per_block = 4096, .page_bits = 12, .data_bytes = 1};
+    made.lun_bits = setup->luns > 4 ? 3 : setup->luns > 2 ? 2 : setup->luns > 1 ? 1 : 0;
     made.lun_count = (uint8_t)setup->luns;
     made.plane_address_bits = setup->channel.rules.plane_bits;
     made.column_address_cycles = 2;
