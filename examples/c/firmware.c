@@ -1,6 +1,6 @@
 /*
- * A driver of one channel, to take as a pattern. The bus is the firmware's own; the library says what is planned, which phase is due
- * with which bytes, and what stands behind it. Its loop on a board is
+ * A driver of one channel, to take as a pattern. The bus is the firmware's own; the library says which phase is next, with which bytes,
+ * and what stands behind it. It plans no batch and asks for no memory. Its loop on a board is
  *
  *     for (;;) {
  *         uint64_t now = timer();
@@ -8,7 +8,7 @@
  *         if (!driver_next(&driver, now, &phase))
  *             wait_for_interrupt();
  *         else if (phase.start > now)
- *             sleep_until(phase.start);       (or until an interrupt: what is due may be another then)
+ *             sleep_until(phase.start);       (or until an interrupt: what is next may be another then)
  *         else if (driver_run(&driver, &phase, now, page_of(phase.want)) && phase.is_post)
  *             answer(phase.want, driver.status);
  *     }
@@ -52,141 +52,25 @@ bool went_well(driver *d, uint32_t status)
     return status == ONFI_DONE;
 }
 
-static bool is_planned(const driver *d, uint64_t id)
+/* Gives what has come to the library's queue, in its order, as far as there is room; what is left waits here. */
+static bool fill_waiting(driver *d)
 {
-    for (size_t at = 0; at < d->batched; at++)
-        if (d->batch[at].id == id)
-            return true;
-    return false;
+    size_t given = 0;
+    while (given < d->queued && d->waiting.count < ONFI_WAITERS && went_well(d, onfi_queue_accept(&d->waiting, &d->queue[given])))
+        given++;
+    d->queued -= given;
+    memmove(d->queue, d->queue + given, d->queued * sizeof *d->queue);
+    memmove(d->arrived, d->arrived + given, d->queued * sizeof *d->arrived);
+    return d->refused == ONFI_DONE;
 }
 
-/* Which of the queue a plan from now on takes, by their places. */
-static uint32_t call_choice(const driver *d, uint64_t now, size_t place[ONFI_WANTS], size_t *count)
-{
-    onfi_channel channel = d->channel;
-    channel.bus_free = later_of(channel.bus_free, now);
-    if (d->plans.choice == ONE_KIND)
-        return choose_one_kind(d, &channel, place, count);
-    return onfi_choose(&channel, d->lun, d->luns, d->queue, d->queued, d->accepted, d->plans.choice, ONFI_WANTS, place, count);
-}
-
-/* The same, and whether one of them isn't planned yet. */
-static bool choose_batch(driver *d, uint64_t now, size_t place[ONFI_WANTS], size_t *count, bool *is_new)
-{
-    uint32_t status = call_choice(d, now, place, count);
-    *is_new = false;
-    for (size_t at = 0; status == ONFI_DONE && at < *count; at++)
-        *is_new = *is_new || !is_planned(d, d->queue[place[at]].id);
-    return went_well(d, status);
-}
-
-/* The sum of the ages of the batch. */
-static double ages_waiting(const driver *d, const size_t *place, uint64_t now)
-{
-    double sum = 0;
-    for (size_t at = 0; at < d->batched; at++)
-        sum += (double)(now - d->arrived[place[at]]);
-    return sum;
-}
-
-/* The sum of the ages of a LUN's running group. */
-static double ages_running(const driver *d, unsigned lun, uint64_t now)
-{
-    double sum = 0;
-    for (unsigned at = 0; at < d->lun[lun].members; at++)
-        sum += (double)(now - d->member_arrived[lun][at]);
-    return sum;
-}
-
-/* The mean age of what is planned, at least 1 ns. */
-static double mean_age(const driver *d, const size_t *place, uint64_t now)
-{
-    double sum = ages_waiting(d, place, now), count = (double)d->batched;
-    for (unsigned lun = 0; lun < d->luns; lun++) {
-        sum += ages_running(d, lun, now);
-        count += d->lun[lun].members;
-    }
-    return sum > count ? sum / count : 1;
-}
-
-/* 8, and 32 times the square of its age in mean ages: what waits long can't be last in every plan. Reads may count for more. */
-static uint16_t weight_of(const driver *d, uint64_t age, double mean, uint8_t kind)
-{
-    double share = (double)age / mean, weight = (8 + 32 * share * share) * (kind == ONFI_READ ? d->plans.reads : 1);
-    if (!d->plans.by_age)
-        return 1;
-    return weight < UINT16_MAX ? (uint16_t)weight : UINT16_MAX;
-}
-
-static void weigh_running(const driver *d, unsigned lun, uint64_t now, double mean, onfi_weights *made)
-{
-    for (unsigned at = 0; at < d->lun[lun].members; at++)
-        made->running[lun][at] = weight_of(d, now - d->member_arrived[lun][at], mean, d->lun[lun].member[at].kind);
-}
-
-static void weigh_waiting(const driver *d, const size_t *place, uint64_t now, double mean, onfi_weights *made)
-{
-    for (size_t at = 0; at < d->batched; at++)
-        made->want[at] = weight_of(d, now - d->arrived[place[at]], mean, d->batch[at].kind);
-}
-
-static onfi_weights weights_of(const driver *d, const size_t *place, uint64_t now)
-{
-    onfi_weights made;
-    double mean = mean_age(d, place, now);
-    memset(&made, 0, sizeof made);
-    weigh_waiting(d, place, now, mean, &made);
-    for (unsigned lun = 0; lun < d->luns; lun++)
-        weigh_running(d, lun, now, mean, &made);
-    return made;
-}
-
-/* The call. Nobody reads the certificate here, so it has no room. */
-static uint32_t call_planner(const driver *d, const onfi_weights *weights, onfi_within *plan)
-{
-    size_t bytes;
-    if (!d->plans.early)
-        return onfi_plan_within(&d->channel, d->lun, d->luns, d->batch, d->batched, d->plans.limit, plan, NULL, 0, &bytes);
-    return onfi_plan_early(&d->channel, d->lun, d->luns, d->batch, d->batched, d->plans.limit, weights, d->plans.slack, plan, NULL, 0, &bytes);
-}
-
-/*
- * Plans the chosen requests and what runs, from now on. Here alone the bus is told that time has passed: a plan that was made before
- * stays legal for what it was made of, and if its phases start late onfi_ran is told so.
- */
-static bool make_plan(driver *d, const size_t *place, size_t count, uint64_t now)
-{
-    onfi_within plan;
-    d->channel.bus_free = later_of(d->channel.bus_free, now);
-    d->batched = count;
-    for (size_t at = 0; at < count; at++)
-        d->batch[at] = d->queue[place[at]];
-    onfi_weights weights = weights_of(d, place, now);
-    uint32_t status = call_planner(d, &weights, &plan);
-    if (!went_well(d, status))
-        return false;
-    d->schedule = plan.schedule;
-    d->has_plan = true;
-    d->has_news = false;
-    d->planned++;
-    return true;
-}
-
-/*
- * Which phase is due, and when; false where none is, or a call refused. It plans anew where a request is chosen that isn't
- * planned, or a LUN has told that it is ready: else what is left of the plan is as good as it was.
- */
+/* Which phase is next, and when; false where none is, or a call refused. It may be another one once a request has come or R/B# risen. */
 bool driver_next(driver *d, uint64_t now, onfi_phase *phase)
 {
-    size_t place[ONFI_WANTS], count;
-    bool is_new;
-    if (!choose_batch(d, now, place, &count, &is_new))
+    if (!fill_waiting(d))
         return false;
-    if ((is_new || d->has_news) && !make_plan(d, place, count, now))
-        return false;
-    if (!d->has_plan)
-        return false;
-    uint32_t status = onfi_due(&d->channel, d->lun, d->luns, d->batch, d->batched, &d->geometry, &d->schedule, phase);
+    d->asked = now;
+    uint32_t status = onfi_next(&d->channel, d->lun, d->luns, &d->waiting, &d->geometry, now, phase);
     return status != ONFI_NOTHING_DUE && went_well(d, status);
 }
 
@@ -203,44 +87,23 @@ uint64_t drive(driver *d, const onfi_phase *phase, uint64_t start, uint8_t *page
     return bus->status(bus->board, start, phase, &d->status);
 }
 
-/* Takes a request out of the queue, and gives when it came. */
-static uint64_t leave_queue(driver *d, uint64_t id)
+/* A phase ended then: where that is later than is stated, bus and LUN are ready so much later too. */
+void note_end(driver *d, unsigned lun, uint64_t end)
 {
-    size_t at = 0;
-    while (d->queue[at].id != id)
-        at++;
-    uint64_t arrived = d->arrived[at];
-    d->queued--;
-    memmove(d->queue + at, d->queue + at + 1, (d->queued - at) * sizeof *d->queue);
-    memmove(d->arrived + at, d->arrived + at + 1, (d->queued - at) * sizeof *d->arrived);
-    return arrived;
-}
-
-/* A group has begun on a LUN: its members wait no longer. */
-void note_begin(driver *d, unsigned lun)
-{
-    for (unsigned at = 0; at < d->lun[lun].members; at++)
-        d->member_arrived[lun][at] = leave_queue(d, d->lun[lun].member[at].id);
-}
-
-/* A phase took so much longer than is stated: what is left of the plan comes too soon. */
-static void note_slow(driver *d, unsigned lun, uint64_t by)
-{
-    d->channel.bus_free += by;
-    d->lun[lun].since += by;
+    if (end <= d->channel.bus_free)
+        return;
+    d->lun[lun].since += end - d->channel.bus_free;
+    d->channel.bus_free = end;
     d->has_news = true;
 }
 
-/* Runs the due phase from `start` on, at or behind its start by the plan; `page` is the data of its request. */
+/* Runs the next phase from `start` on, at or behind its own start; `page` is the data of its request. */
 bool driver_run(driver *d, const onfi_phase *phase, uint64_t start, uint8_t *page)
 {
     uint64_t end = drive(d, phase, start, page);
-    uint32_t status = onfi_ran(&d->channel, d->lun, d->luns, d->batch, &d->batched, &d->schedule, phase->lun, phase->number, start);
+    uint32_t status = onfi_queue_ran(&d->channel, d->lun, d->luns, &d->waiting, d->asked, phase->lun, phase->number, start);
     if (!went_well(d, status))
         return false;
-    if (phase->number == 0)
-        note_begin(d, phase->lun);
-    if (end > d->channel.bus_free)
-        note_slow(d, phase->lun, end - d->channel.bus_free);
+    note_end(d, phase->lun, end);
     return true;
 }

@@ -2,8 +2,9 @@
  * What the files of this driver share; firmware.c says what it is.
  *
  *   firmware.c         the driver: the pattern
- *   firmware_choice.c  a choice of its own, of one kind a LUN
- *   firmware_greedy.c  a greedy way in its place, to compare with
+ *   firmware_plans.c   the same by plans of eight
+ *   firmware_choice.c  of those a choice of its own, of one kind a LUN
+ *   firmware_greedy.c  a greedy way without the library, to compare with
  *   firmware_board.c   a mock of a board: the bus judged by a table of its own
  *   firmware_host.c    requests by a seed
  *   firmware_main.c    the loop, its words and its figures
@@ -45,10 +46,12 @@ struct onfi_bus {
 
 enum { ONE_KIND = 255 }; /* a choice of the driver's own, beside those of the library */
 
-/* How it plans. */
+enum { EARLY, WITHIN, RULE }; /* planners: requests end early; what ends first; by a rule, without a search */
+
+/* How it plans, where it does. */
 typedef struct {
     uint8_t choice; /* an onfi_choice, or ONE_KIND */
-    bool early;     /* requests end early */
+    uint8_t planner;
     bool by_age;    /* the older a request, the more it counts */
     uint8_t reads;  /* how many times as much a read counts then */
     uint16_t slack; /* by how many thousandths a plan may end later for that */
@@ -58,47 +61,64 @@ typedef struct {
 /* All is the driver's own and stands from the beginning: it asks for no memory itself. */
 typedef struct {
     const struct onfi_bus *bus;
-    planning plans;
     onfi_geometry geometry;
     onfi_channel channel;
     size_t luns;
     onfi_lun lun[ONFI_LUNS];
-    uint64_t member_arrived[ONFI_LUNS][ONFI_MEMBERS]; /* when the members of running groups came */
-    uint64_t accepted;                                /* how many so far: a request's number is its place among them */
+    uint8_t status;    /* the last status byte */
+    uint32_t refused;  /* the status of a call that refused; ONFI_DONE: none did */
+    uint64_t accepted; /* how many so far: a request's number is its place among them */
     size_t queued;
-    onfi_want queue[QUEUE];  /* what waits, in order of acceptance */
+    onfi_want queue[QUEUE];  /* what waits, in order of acceptance; of the pattern, what has found no room in the library's queue */
     uint64_t arrived[QUEUE]; /* when it came */
+
+    /* of firmware.c: these and those above but `arrived` are all that it takes */
+    onfi_queue waiting; /* the library's: what waits */
+    uint64_t asked;     /* when it was asked last which phase is next */
+
+    /* of plans */
+    planning plans;
+    uint64_t member_arrived[ONFI_LUNS][ONFI_MEMBERS]; /* when the members of running groups came */
     size_t batched;
     onfi_want batch[ONFI_WANTS]; /* what of the queue is planned */
     bool has_plan;
     bool has_news;          /* a LUN has told that it is ready since the plan was made */
     onfi_schedule schedule; /* what is left of the plan */
     uint64_t planned;       /* how many plans were made */
-    uint8_t status;         /* the last status byte */
-    uint32_t refused;       /* the status of a call that refused; ONFI_DONE: none did */
-    onfi_lun goes_on;       /* of the greedy way: the LUN that it lets go on, with its group */
+
+    /* of the greedy way */
+    onfi_lun goes_on; /* the LUN that it lets go on, with its group */
 } driver;
 
 /* A request has come, at that time; no more than QUEUE wait. Gives it with its number. */
 onfi_want driver_accept(driver *d, onfi_want want, uint64_t arrived);
 /* R/B# of a LUN has risen at that time, before the stated one. */
 void driver_ready(driver *d, unsigned number, uint64_t since);
-/* Which phase is due, and when; false where none is, or a call refused. */
+/* Which phase is next, and when; false where none is, or a call refused. */
 bool driver_next(driver *d, uint64_t now, onfi_phase *phase);
-/* Has that phase on the bus from `start` on, at or behind phase->start; `page` is the data of its request. False where a call refused. */
+/*
+ * Has the phase that driver_next told last on the bus from `start` on, at or behind phase->start; `page` is the data of its request.
+ * False where a call refused.
+ */
 bool driver_run(driver *d, const onfi_phase *phase, uint64_t start, uint8_t *page);
 
-/* The same two without plans. */
+/* The same two by plans of eight. */
+bool plans_next(driver *d, uint64_t now, onfi_phase *phase);
+bool plans_run(driver *d, const onfi_phase *phase, uint64_t start, uint8_t *page);
+
+/* The same two without the library. */
 bool greedy_next(driver *d, uint64_t now, onfi_phase *phase);
 bool greedy_run(driver *d, const onfi_phase *phase, uint64_t start, uint8_t *page);
 
 /* Chooses requests of one kind for each LUN, by their places in the queue; gives a status. */
 uint32_t choose_one_kind(const driver *d, const onfi_channel *channel, size_t chosen[ONFI_WANTS], size_t *count);
 
-/* What both have from firmware.c. */
+/* What the others have of firmware.c. */
 uint64_t later_of(uint64_t one, uint64_t other);
 bool went_well(driver *d, uint32_t status);
 uint64_t drive(driver *d, const onfi_phase *phase, uint64_t start, uint8_t *page);
+void note_end(driver *d, unsigned lun, uint64_t end);
+/* What the greedy way has of firmware_plans.c: a group has begun on a LUN, and its members leave the driver's own queue. */
 void note_begin(driver *d, unsigned lun);
 
 /* What is simulated. */

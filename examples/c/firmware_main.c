@@ -1,5 +1,5 @@
 /*
- * The driver of firmware.c on a mock of a board, and a greedy way in its place; it prints what came of both.
+ * The driver of firmware.c on a mock of a board; in its place the one by plans, or a greedy way. It prints what came of each.
  *
  *     cc -std=c99 -O2 firmware*.c $(pkg-config --cflags --libs onfi) -lm -o firmware
  *     ./firmware [NAME VALUE]..
@@ -18,9 +18,10 @@
  *   requests  answered before it ends                    2000
  *   seconds   of simulated time, in place of requests    0: as many as are asked for
  *   seed      of all that is random                      1
- *   way       both, plans, greedy                        both
+ *   way       phases, plans, greedy, both, all           phases; both: plans and greedy
  *   choice    by-lun, in-order, reads-first, one-kind    by-lun
- *   plan      early: requests end early; within: no      early
+ *   plan      early: requests end early; within: no;     early
+ *             rule: without a search
  *   weights   age, equal; reads: by age, 20 times theirs age
  *   limit     nodes that a search may open               2000
  *   slack     thousandths that an early plan ends later  20
@@ -46,7 +47,9 @@ typedef struct {
     bool (*run)(driver *d, const onfi_phase *phase, uint64_t start, uint8_t *page);
 } way;
 
-static const way WAYS[] = {{"plans", driver_next, driver_run}, {"greedy", greedy_next, greedy_run}};
+enum { PHASES, PLANS, GREEDY, WAYS };
+
+static const way WAY_OF[WAYS] = {{"phases", driver_next, driver_run}, {"plans", plans_next, plans_run}, {"greedy", greedy_next, greedy_run}};
 
 /* A request that the host has sent and that isn't answered. */
 typedef struct {
@@ -94,9 +97,11 @@ size_t stack_peak(void);
 
 static void print_costs(const run *r)
 {
-    double plans = r->firmware.planned ? (double)r->firmware.planned : 1;
-    printf("  memory %zu bytes, stack %zu bytes, a plan %.0f us in the mean, %.0f us at most\n", pool_peak(), stack_peak(), r->planning / plans * 1e6,
-           r->longest * 1e6);
+    double plans = (double)r->firmware.planned;
+    printf("  memory %zu bytes, stack %zu bytes", pool_peak(), stack_peak());
+    if (r->firmware.planned)
+        printf(", a plan %.0f us in the mean, %.0f us at most", r->planning / plans * 1e6, r->longest * 1e6);
+    printf("\n");
 }
 #else
 static void stack_paint(void)
@@ -390,13 +395,15 @@ static const struct {
 };
 
 /* The first value is the usual one. */
+enum { VALUES = 5 };
+
 static const struct {
-    const char *name, *value[4];
+    const char *name, *value[VALUES];
 } CHOSEN[CHOICES] = {
-    {"device", {"tlc", "slc", "qlc", ""}},    {"workload", {"mixed", "reads", "sequential", "erases"}},
-    {"told", {"yes", "no", "", ""}},          {"way", {"both", "plans", "greedy", ""}},
-    {"choice", {"by-lun", "in-order", "reads-first", "one-kind"}}, {"plan", {"early", "within", "", ""}},
-    {"weights", {"age", "equal", "reads", ""}}, {"ends", {"no", "yes", "", ""}},
+    {"device", {"tlc", "slc", "qlc", "", ""}},    {"workload", {"mixed", "reads", "sequential", "erases", ""}},
+    {"told", {"yes", "no", "", "", ""}},          {"way", {"phases", "plans", "greedy", "both", "all"}},
+    {"choice", {"by-lun", "in-order", "reads-first", "one-kind", ""}}, {"plan", {"early", "within", "rule", "", ""}},
+    {"weights", {"age", "equal", "reads", "", ""}}, {"ends", {"no", "yes", "", "", ""}},
 };
 
 static const device DEVICES[] = {
@@ -404,6 +411,9 @@ static const device DEVICES[] = {
     {"slc", 4096 + 224, 1, {25000, 250000, 2000000}},
     {"qlc", 16384 + 2048, 2, {140000, 2500000, 15000000}},
 };
+
+/* Which ways a value of `way` names. */
+static const bool IS_ASKED_FOR[VALUES][WAYS] = {{true, false, false}, {false, true, false}, {false, false, true}, {false, true, true}, {true, true, true}};
 
 typedef struct {
     double number[NUMBERS];
@@ -438,9 +448,9 @@ static bool put_number(const char *name, const char *text, words *w)
 
 static bool put_choice(const char *name, const char *text, words *w)
 {
-    for (unsigned at = 0; at < 4 * CHOICES && *text; at++)
-        if (!strcmp(CHOSEN[at / 4].name, name) && !strcmp(CHOSEN[at / 4].value[at % 4], text)) {
-            w->chosen[at / 4] = at % 4;
+    for (unsigned at = 0; at < VALUES * CHOICES && *text; at++)
+        if (!strcmp(CHOSEN[at / VALUES].name, name) && !strcmp(CHOSEN[at / VALUES].value[at % VALUES], text)) {
+            w->chosen[at / VALUES] = at % VALUES;
             return true;
         }
     return false;
@@ -482,7 +492,7 @@ static void print_choice(unsigned at)
 {
     print_name(CHOSEN[at].name);
     printf("%s", CHOSEN[at].value[0]);
-    for (unsigned value = 1; value < 4 && *CHOSEN[at].value[value]; value++)
+    for (unsigned value = 1; value < VALUES && *CHOSEN[at].value[value]; value++)
         printf(", %s", CHOSEN[at].value[value]);
     printf("\n");
 }
@@ -519,10 +529,10 @@ static void print_words(void)
 
 static planning planning_of(const words *w)
 {
-    static const uint8_t CHOICE_OF[] = {ONFI_BY_LUN, ONFI_IN_ORDER, ONFI_READS_FIRST, ONE_KIND};
+    static const uint8_t CHOICE_OF[] = {ONFI_BY_LUN, ONFI_IN_ORDER, ONFI_READS_FIRST, ONE_KIND}, PLANNER_OF[] = {EARLY, WITHIN, RULE};
     planning made;
     made.choice = CHOICE_OF[w->chosen[CHOICE]];
-    made.early = w->chosen[PLAN] == 0;
+    made.planner = PLANNER_OF[w->chosen[PLAN]];
     made.by_age = w->chosen[WEIGHTS] != 1;
     made.reads = w->chosen[WEIGHTS] == 2 ? 20 : 1;
     made.slack = (uint16_t)w->number[SLACK];
@@ -564,8 +574,8 @@ int main(int count, char **texts)
         return 2;
     setup of = setup_of(&w);
     bool is_well = true;
-    for (unsigned at = 0; at < 2 && is_well; at++)
-        if (w.chosen[WAY] == 0 || w.chosen[WAY] == at + 1)
-            is_well = run_way(&r, &of, &WAYS[at]);
+    for (unsigned at = 0; at < WAYS && is_well; at++)
+        if (IS_ASKED_FOR[w.chosen[WAY]][at])
+            is_well = run_way(&r, &of, &WAY_OF[at]);
     return is_well ? EXIT_SUCCESS : EXIT_FAILURE;
 }

@@ -3,7 +3,7 @@
     ONFI_LIBRARY=lib/libonfi.so PYTHONPATH=python python3 examples/python/ssd.py [--requests N] [--seed N] [--load SHARE] [--ends] ..
 
 A channel has 64 requests outstanding: a new one comes with each answer, or with --load by itself. It does what the driver of
-examples/c/firmware.c does: channel 0 answers each request when `firmware way plans` with the same seed does, channel 1 when it
+examples/c/firmware_plans.c does: channel 0 answers each request when `firmware way plans` with the same seed does, channel 1 when it
 does with the next seed. With --ends it prints when: channel, number, end.
 
 SimPy 3 or later is wanted (Debian's python3-simpy3, or pip's simpy). Without it nothing is simulated. Times are ns.

@@ -18,12 +18,13 @@ STRICT = ["-Wall", "-Wextra", "-Werror"]
 CROSS, QEMU = "aarch64-linux-gnu-gcc", "qemu-system-aarch64"
 FLAGS = ["-std=c99", "-O2", "-ffreestanding", "-static", "-nostdlib", "-Wl,--build-id=none"]
 MACHINE = [QEMU, "-M", "virt", "-cpu", "cortex-a53", "-display", "none", "-serial", "stdio", "-semihosting"]
-FIRMWARE = ["firmware.c", "firmware_board.c", "firmware_choice.c", "firmware_greedy.c", "firmware_host.c", "firmware_main.c"]
-# Words of the driver: both planners, each kind of request, arrivals by themselves, a word that can't be read.
+FIRMWARE = ["firmware.c", "firmware_board.c", "firmware_choice.c", "firmware_greedy.c", "firmware_host.c", "firmware_main.c", "firmware_plans.c"]
+# Words of the driver: each way, both searches, each kind of request, arrivals by themselves, a word that can't be read.
 RUNS = [
-    "requests 200",
-    "requests 300 plan within workload erases byte 0.833",
-    "requests 200 device slc load 0.7 array 0.4-0.7 ends yes",
+    "requests 200 way all",
+    "requests 300 way both plan within workload erases byte 0.833",
+    "requests 200 way both device slc load 0.7 array 0.4-0.7 ends yes",
+    "requests 2000 workload erases depth 256 ends yes",
     "way greedy requests 1000 device qlc late 700 slow 90 ends yes",
     "luns 9",
     "help",

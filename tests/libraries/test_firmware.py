@@ -23,9 +23,10 @@ EXAMPLES, TRIALS = ROOT / "examples/c", ROOT / "tests/libraries"
 STRICT = ["-Wall", "-Wextra", "-Werror", "-Wpedantic", "-Wconversion"]
 SANE = ["-fsanitize=address,undefined", "-fno-sanitize-recover=all", "-g"]
 C99, CXX = ("cc", "-std=c99", "-xc"), ("c++", "-std=c++17", "-xc++")
-FIRMWARE = ["firmware.c", "firmware_board.c", "firmware_choice.c", "firmware_greedy.c", "firmware_host.c", "firmware_main.c"]
+FIRMWARE = ["firmware.c", "firmware_board.c", "firmware_choice.c", "firmware_greedy.c", "firmware_host.c", "firmware_main.c", "firmware_plans.c"]
 SSD = ROOT / "examples/python/ssd.py"
-# Runs whose plans are more than 10,000 together: what a loop, a device, a choice and a planner can be.
+WAYS = ["phases", "plans", "greedy"]
+# Runs by each way, whose plans are more than 10,000 together: what a loop, a device, a choice and a planner can be.
 RUNS = [
     "requests 500",
     "requests 800 byte 0.833 slack 0 workload erases choice reads-first weights equal",
@@ -37,9 +38,11 @@ RUNS = [
     "requests 1500 plan within device slc workload reads luns 4 depth 16 choice in-order",
     "requests 1000 plan within device qlc byte 20 limit 200 load 0.8",
     "requests 1500 plan within load 0.9 array 0.4-0.9 choice reads-first",
+    "requests 800 plan rule byte 0.833 workload erases depth 256",
+    "requests 800 plan rule choice one-kind load 0.7 array 0.4-0.7 late 300 slow 60",
 ]
 PLANS = 10_000
-# Runs by which the greedy way, and plans in order, are what the simulator has.
+# Runs by which phases, the greedy way, and plans in order, are what the simulator has.
 SIMULATED = [
     "device tlc byte 2 workload mixed",
     "device slc byte 0.833 workload erases array 0.4-0.7",
@@ -131,25 +134,25 @@ class Driver(unittest.TestCase):
     def test_ten_thousand_plans_under_sanitizers(self) -> None:
         plans = 0
         for words in RUNS:
-            told = self.told(sane(), words)
-            found = re.findall(r"^(plans|greedy): ([\d.]+) requests a second, bus busy ([\d.]+) %, (\d+) plans$", told, re.MULTILINE)
-            self.assertEqual([row[0] for row in found], ["plans", "greedy"], words)
-            self.assertEqual(found[1][3], "0", words)
+            told = self.told(sane(), f"{words} way all")
+            found = re.findall(r"^(\w+): ([\d.]+) requests a second, bus busy ([\d.]+) %, (\d+) plans$", told, re.MULTILINE)
+            self.assertEqual([row[0] for row in found], WAYS, words)
+            self.assertEqual([row[3] for row in (found[0], found[2])], ["0", "0"], words)
             self.assertTrue(all(0 < float(row[2]) <= 100 for row in found), words)
-            plans += int(found[0][3])
+            plans += int(found[1][3])
         self.assertGreaterEqual(plans, PLANS)
 
     def test_is_cxx_too(self) -> None:
-        words = "requests 400 device slc load 0.7 array 0.4-0.7 ends yes"
+        words = "requests 400 device slc load 0.7 array 0.4-0.7 ends yes way all"
         by_cxx = self.told(firmware("cxx", CXX, ["-O1", *SANE]), words)
         self.assertEqual(by_cxx, self.told(sane(), words))
-        self.assertEqual(by_cxx.count("\n"), 800)
+        self.assertEqual(by_cxx.count("\n"), 1200)
 
     def test_has_no_fault_of_memory(self) -> None:
         if shutil.which("valgrind") is None:
             print("the driver under valgrind: left out, since Debian's valgrind is not installed")
             return
-        program, words = firmware("plain"), "requests 200 device slc load 0.7 array 0.4-0.7".split()
+        program, words = firmware("plain"), "requests 200 device slc load 0.7 array 0.4-0.7 way all".split()
         ran = run("valgrind", "--quiet", "--error-exitcode=9", "--leak-check=full", "--show-leak-kinds=all", program, *words)
         self.assertEqual((ran.returncode, ran.stderr), (0, ""), ran.stdout)
 
@@ -159,6 +162,12 @@ class Driver(unittest.TestCase):
         mean, bus = (175 + 75_100 + 37_639) / 1_000, (175 + 37_639) / (175 + 75_100 + 37_639)
         self.assertEqual(told.splitlines(), [f"greedy: {1e6 / mean:.3f} requests a second, bus busy {100 * bus:.3f} %, 0 plans",
                                              f"  180 reads: {mean:.3f} us in the mean, 99 % within 113 us"])
+
+    def test_a_value_names_its_ways(self) -> None:
+        """Where no way is named it is the pattern's."""
+        for word, ways in (("", WAYS[:1]), ("way both", WAYS[1:]), ("way all", WAYS), *((f"way {way}", [way]) for way in WAYS)):
+            told = self.told(sane(), f"{word} requests 20")
+            self.assertEqual(re.findall(r"^(\w+): ", told, re.MULTILINE), ways, word)
 
     def test_so_much_time_in_place_of_so_many_requests(self) -> None:
         ends = ends_of(self.told(sane(), "way greedy seconds 0.05 ends yes"))
@@ -184,6 +193,15 @@ class Driver(unittest.TestCase):
 
 class Simulated(unittest.TestCase):
     """The driver and the simulator of tools/onfi_tools/rolling end each request at the same time."""
+
+    def test_phase_by_phase(self) -> None:
+        """The simulator's way is code of its own; of 256 requests that are outstanding the first 64 are in the library's queue."""
+        simulator = rolling_use.build(Path(ROOM.name) / "steady", None)
+        deep = ["device tlc byte 0.833 workload erases depth 256", "device slc workload sequential luns 2 depth 256 load 0.9"]
+        for words in (*SIMULATED, *deep):
+            found = ends_of(run(sane(), *words.split(), "way", "phases", "ends", "yes").stdout)
+            self.assertEqual(found, simulated_ends(simulator, [*words.split(), "way", "steady"]), words)
+            self.assertEqual(len(found), 2_000, words)
 
     def test_the_greedy_way(self) -> None:
         simulator = rolling_use.build(Path(ROOM.name) / "greedy", None)
@@ -230,6 +248,16 @@ class Pool(unittest.TestCase):
         made = compiled("pool-trials", C99, ["-O1", *SANE, *names, "-DPOOL_BYTES=8192"], [TRIALS / "pool_trials.c", EXAMPLES / "pool.c"])
         ran = run(made)
         self.assertEqual((ran.stdout, ran.stderr), ("wrong 0, some refused 1, too much refused 1, all at once 1, peak 1\n", ""))
+
+    def test_phase_by_phase_takes_none_of_a_pool(self) -> None:
+        """Of the pool is taken what is printed alone: with 64 bytes of it nothing else changes."""
+        words = "requests 100 device slc workload erases".split()
+        told = run(firmware("ample", pool=1 << 20), *words)
+        memory = re.search(r"^  memory (\d+) bytes, stack (\d+) bytes$", told.stdout, re.MULTILINE)
+        assert memory is not None, told.stdout
+        self.assertTrue(1_000 < int(memory[2]) < 1 << 16, memory[0])
+        ends = run(firmware("least", pool=64), *words, "ends", "yes")
+        self.assertEqual((ends.returncode, ends.stdout, ends.stderr), (0, run(sane(), *words, "ends", "yes").stdout, ""))
 
     def test_the_driver_over_a_pool(self) -> None:
         """It does the same, and tells how much it took; with less a plan is refused. What is printed has 4 KB of the pool."""

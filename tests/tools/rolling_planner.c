@@ -1,6 +1,6 @@
 /*
- * What the planners of tools/onfi_tools/rolling ask of the library, a line each: weights by kind and age, and the slack of a
- * way. In place of the library stand calls that print it and refuse.
+ * What tools/onfi_tools/rolling asks of the library, a line each: weights by kind and age, the slack of a way, and a choice. In
+ * place of the library stand calls that print it and refuse.
  */
 #include "rolling.h"
 
@@ -37,6 +37,15 @@ uint32_t onfi_plan_early(const onfi_channel *channel, const onfi_lun *luns, size
         print_weights(luns, lun_count, want_count, weights);
     else
         printf("slack %u\n", slack);
+    return ONFI_MEMORY;
+}
+
+uint32_t onfi_choose(const onfi_channel *channel, const onfi_lun *luns, size_t lun_count, const onfi_want *wants, size_t want_count,
+                     uint64_t accepted, uint8_t choice, uint8_t batch, size_t chosen[ONFI_WANTS], size_t *chosen_count)
+{
+    (void)channel, (void)luns, (void)wants, (void)chosen;
+    *chosen_count = 0;
+    printf("%u of %zu that wait, %" PRIu64 " accepted, %zu LUNs, choice %u\n", batch, want_count, accepted, lun_count, choice);
     return ONFI_MEMORY;
 }
 
@@ -92,7 +101,8 @@ int main(void)
                                         "plan-near-by-lun",
                                         "plan-near-reads-first",
                                         "plan-near-heavy-reads",
-                                        "plan-near-one-kind"};
+                                        "plan-near-one-kind",
+                                        "near-library"};
     print_planners();
     for (size_t at = 0; at < sizeof names / sizeof *names; at++)
         print_way(names[at], OF_THE_WAY);

@@ -16,7 +16,7 @@ from onfi_tools.rolling_tables import (furthest_behind, gains_table, nine_of_ten
                                        whole_tables)
 from onfi_tools.rolling_use import (ALL, OF_THE_LIBRARY, SOURCES, STRICT, TWELVE, WITH_ERASES, Asked, Configuration, Figures, Measured, Rows, build,
                                     calls_of, key_of, measure, run_way, ways_of)
-from onfi_tools.rolling_ways import BASE, GREEDY, OWN, PLANS, QUICK, SETTINGS, WAYS, lines_of_missing
+from onfi_tools.rolling_ways import BASE, GREEDY, NAMESAKES, OWN, PLANS, QUICK, SETTINGS, WAYS, lines_of_missing
 
 KIT_ARCHIVE = "c/liblibc_c.a"
 ASKED = Asked(requests=200, seed=3, limit=2000, jobs=1)
@@ -87,6 +87,8 @@ plan-near-heavy-reads: slack 20
 the planner refuses a problem
 plan-near-one-kind: slack 20
 the planner refuses a problem
+near-library: 8 of 64 that wait, 64 accepted, 8 LUNs, choice 1
+the library refuses to choose
 plan-near-by-lun: slack 0
 the planner refuses a problem
 plan-early: slack 7
@@ -283,6 +285,27 @@ class Plans(Answered, unittest.TestCase):
             self.assertAlmostEqual(figures["rate"], 4e9 / four, 2, way)
 
 
+class FromC(Answered, unittest.TestCase):
+    """Ways by the library's calls alone, without a search; and what they and their namesakes of the simulator's own code do."""
+
+    requests = 200
+
+    @classmethod
+    def setUpClass(cls) -> None:
+        found = library(Path(ROOM.name))
+        if found is None:
+            raise unittest.SkipTest("no built library")
+        cls.program = build(Path(ROOM.name) / "from-c", found)
+        cls.ways = [way for way in NAMESAKES if way in ways_of(cls.program) and not WAYS[way].searches]
+
+    def test_each_phase_is_that_of_the_namesake(self) -> None:
+        deep = Configuration("slc", "erases", 2, luns=2, depth=256, load=0.9, array="0.4-0.7")
+        for way in (*self.ways, "near-library"):
+            for of in (*TWELVE, deep, TWELVE[8]._replace(depth=256), TWELVE[1]._replace(array="0.4-0.7")):
+                requests = 60 if WAYS[way].searches else 1000
+                self.assertEqual(phases(self.program, of, way, requests), phases(self.program, of, NAMESAKES[way], requests), (way, of))
+
+
 def measured_by(rates: Dict[str, List[float]]) -> List[Measured]:
     """Configurations on which each way has a rate, latencies of 1 us, and what else the tables name."""
     figures: Figures = {"bound": 125, "bus": 0.5, "reads": 1, "programs": 1, "plans": 1, "over": 0, "planning_us": 2, "planning_longest_us": 3000, "erasing": 2}
@@ -333,7 +356,7 @@ class Tables(unittest.TestCase):
     def test_ways_that_the_library_lacks_are_told(self) -> None:
         self.assertEqual(ways_of(GREEDY_ALONE), OWN)
         told = ["left out: phase by phase, from C, for want of onfi_next", "left out: plan in order, for want of the library"]
-        self.assertEqual(lines_of_missing(["next", "plan"]), told)
+        self.assertEqual(lines_of_missing(["steady-library", "plan"]), told)
 
     def test_calls_that_a_library_has(self) -> None:
         """By the names of its archive: one that it only asks for is none of its own."""

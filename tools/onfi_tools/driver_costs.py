@@ -28,7 +28,7 @@ WAYS = {
 }
 FUNCTION = re.compile(r"(c?)fn=(\(\d+\)) ?(.*)")
 COST = re.compile(r"(?:[+-]?\d+|\*) (\d+)$")
-TURN = re.compile(r"(?:driver|greedy|phases)_(?:accept|ready|next|run)$")
+TURN = re.compile(r"(?:driver|plans|greedy)_(?:accept|ready|next|run)$")
 BOARD = re.compile(r"board_(?:command|data_in|data_out|status)$")
 SAID = re.compile(r": [\d.]+ requests a second, .*, (\d+) plans$", re.MULTILINE)
 

@@ -36,9 +36,13 @@ PLANS = {
     "rule-by-lun": Way("rule, by LUN"),
     "rule-one-kind": Way("rule, one kind"),
     "rule-whole-groups": Way("rule, whole groups", False, "ONFI_WHOLE_GROUPS"),
+    "near-library": Way("plan by LUN, near, from C", True),
+    "rule-library": Way("rule, by LUN, from C", False, "onfi_plan_rule"),
 }
-# The first by code of the simulator, which a test compares with onfi_steady at each phase; so are plans by the rule.
-PHASES = {"steady": Way("phase by phase"), "next": Way("phase by phase, from C", False, "onfi_next")}
+# The first by code of the simulator, which a test compares with onfi_steady at each phase; so are plans by the rule. What comes from C
+# chooses, plans and goes on by the library's calls alone, and has the same phases as its namesake.
+PHASES = {"steady": Way("phase by phase"), "steady-library": Way("phase by phase, from C", False, "onfi_next")}
+NAMESAKES = {"near-library": "plan-near-by-lun", "rule-library": "rule-by-lun", "steady-library": "steady"}
 WAYS: Dict[str, Way] = {**GREEDY, **PLANS, **PHASES}
 # Those that need no library.
 OWN = [*GREEDY, "steady", "rule-by-lun", "rule-one-kind"]
@@ -46,7 +50,7 @@ OWN = [*GREEDY, "steady", "rule-by-lun", "rule-one-kind"]
 BASE = "rfirst:all"
 # The plans of the short measurement: in order, early, by LUN, each setting, and those without a search.
 SETTINGS = ["plan-near-by-lun", "plan-near-reads-first", "plan-near-heavy-reads", "plan-near-one-kind"]
-WITHOUT_SEARCH = ["rule-by-lun", "rule-one-kind", "rule-whole-groups", *PHASES]
+WITHOUT_SEARCH = ["rule-by-lun", "rule-one-kind", "rule-library", "rule-whole-groups", *PHASES]
 QUICK = [*GREEDY, "plan", "plan-early", "plan-by-lun", *SETTINGS, "plan-near-whole-groups", *WITHOUT_SEARCH]
 SOME = ["rfirst:8", BASE, "plan", *SETTINGS, *WITHOUT_SEARCH]
 

@@ -54,6 +54,7 @@ void accept_request(machine *m, onfi_want want, uint64_t arrived)
 {
     m->waiting[m->waiting_count++] = (request){.want = want, .arrived = arrived};
     m->outstanding++;
+    m->accepted++;
 }
 
 /* Whether the array of a LUN ends before it is stated to. */

@@ -5,7 +5,7 @@
 #include <string.h>
 #include <time.h>
 
-static onfi_lun lun_of(const lun_state *lun)
+onfi_lun lun_of(const lun_state *lun)
 {
     onfi_lun made = {.since = lun->ready, .members = (uint8_t)lun->members, .next = (uint8_t)lun->next};
     for (unsigned at = 0; at < lun->members; at++)

@@ -8,6 +8,20 @@ uint32_t plan_known(const problem *problem, uint32_t limit, onfi_planned *plan)
     return onfi_plan_known(&problem->channel, problem->lun, problem->luns, problem->want, problem->wants, limit, plan, &no_room, 0, &bytes);
 }
 
+#ifdef HAS_ONFI_PLAN_RULE
+uint32_t plan_rule_library(const problem *problem, uint32_t limit, onfi_planned *plan)
+{
+    onfi_within within;
+    uint8_t no_room;
+    size_t bytes;
+    (void)limit;
+    uint32_t status = onfi_plan_rule(&problem->channel, problem->lun, problem->luns, problem->want, problem->wants, &within, &no_room, 0, &bytes);
+    if (status == ONFI_DONE)
+        *plan = (onfi_planned){.schedule = within.schedule, .finish = within.finish};
+    return status;
+}
+#endif
+
 /* The mean age of all requests of a problem, at least 1. */
 static double mean_age(const problem *problem)
 {

@@ -10,6 +10,7 @@
  *   steady.c    the way that the library's dispatcher goes, and plans by its rule, by code of its own
  *   planned.c   ways that plan a batch, and follow the plan until there is something new
  *   planners.c  the planners of the library
+ *   library.c   the library's choice, and its phase by phase
  *   figures.c   what came of it
  *   simulate.c  the loop
  *
@@ -101,10 +102,11 @@ typedef struct {
     request waiting[MOST_WAITING]; /* accepted and not started, in order of acceptance */
     size_t waiting_count;
     size_t outstanding; /* accepted and not answered */
+    uint64_t accepted; /* how many so far */
 } machine;
 
 /* What has the bus next: the next phase of a LUN's group, or the first one of a new group. */
-typedef struct {
+typedef struct step {
     uint64_t start;
     unsigned lun;
     size_t members; /* 0: the running group goes on */
@@ -174,11 +176,14 @@ const char *judge_phase(judge *j, const phase *p);
 typedef struct {
     size_t count;
     size_t place[MOST_WAITING];
+    uint32_t refused; /* the status of the library's choice where it failed */
 } batch;
 
 typedef void choice(const machine *m, batch *chosen);
 
 choice everything, first_eight, by_lun, by_lun_reads_first, by_lun_one_kind;
+/* By onfi_choose, by LUN. */
+choice by_lun_library;
 
 /* Whether it may join the group of the waiting requests at those places. */
 bool joins(const machine *m, const size_t *group, size_t members, size_t place);
@@ -194,6 +199,9 @@ typedef struct {
 } rule;
 
 extern const rule ROUND_ROBIN, COMMANDS_FIRST, MQSIM, READS_FIRST;
+
+/* A LUN as the library takes it. */
+onfi_lun lun_of(const lun_state *lun);
 
 /* A problem as the library takes it. */
 typedef struct {
@@ -213,6 +221,8 @@ typedef uint32_t planner(const problem *problem, uint32_t limit, onfi_planned *p
 planner plan_known, plan_early, plan_early_by_age, plan_early_reads;
 /* By the rule, with no search and no library: it never refuses. */
 planner plan_rule;
+/* By onfi_plan_rule. */
+planner plan_rule_library;
 
 typedef struct {
     step step[PLAN_STEPS]; /* in order of start */
@@ -227,14 +237,24 @@ typedef struct {
     double seconds, longest; /* processor time of all plans, and of the longest */
 } planning;
 
+/* What a firmware that goes phase by phase by the library keeps of its channel. */
+typedef struct {
+    onfi_channel channel;
+    onfi_lun lun[ONFI_LUNS];
+    onfi_queue queue;
+    uint64_t accepted; /* 1 more than the id of the last request that the queue took; 0: it took none */
+} kept;
+
 /* What a way keeps. */
 typedef struct {
     unsigned turn; /* the LUN behind the one that had the bus last */
     bool told; /* a LUN has told that it is ready since the last plan */
     uint64_t programs; /* 1 more than the id of the newest program that a phase by phase way has seen; 0: none */
+    bool has_begun, has_run; /* of phase by phase by the library: whether it has begun, and whether the step that it told last has run */
+    kept now, behind; /* how the channel stands, and how behind that step */
     plan plan;
     planning planning;
-    uint32_t refused; /* the status of a planner that failed otherwise than by being over */
+    uint32_t refused; /* the status of a call that failed otherwise than by being over */
 } mind;
 
 typedef struct way {
@@ -250,6 +270,8 @@ typedef struct way {
 bool in_order(const way *way, mind *mind, const machine *m, const batch *batch, step *step);
 bool by_rule(const way *way, mind *mind, const machine *m, const batch *batch, step *step);
 bool phase_by_phase(const way *way, mind *mind, const machine *m, const batch *batch, step *step);
+/* By the library's queue. */
+bool phase_by_library(const way *way, mind *mind, const machine *m, const batch *batch, step *step);
 bool by_plan(const way *way, mind *mind, const machine *m, const batch *batch, step *step);
 
 /* The way of that name; null where there is none. */

@@ -87,6 +87,7 @@ static void count_erase(figures *f, const phase *p)
 static void note_step(run *r, const step *step)
 {
     r->mind.turn = (step->lun + 1) % r->machine.setup->luns;
+    r->mind.has_run = true;
     r->mind.plan.at++;
 }
 
@@ -113,14 +114,16 @@ static void run_next(run *r, const step *step)
 /* Runs what is next, or waits for what comes to be known before it could start. */
 static void turn(run *r)
 {
-    batch batch;
+    batch batch = {.count = 0};
     step step = {.start = NEVER};
     accept_all(r);
     r->mind.told = tell_ready(&r->machine) || r->mind.told;
     r->way->choose(&r->machine, &batch);
     bool any = r->way->decide(r->way, &r->mind, &r->machine, &batch, &step);
     uint64_t event = next_event(r);
-    if (r->mind.refused)
+    if (batch.refused)
+        r->wrong = "the library refuses to choose";
+    else if (r->mind.refused)
         r->wrong = "the planner refuses a problem";
     else if (any && step.start <= event)
         run_next(r, &step);

@@ -3,7 +3,7 @@
 
 #include <string.h>
 
-/* Without the library (-DWITHOUT_PLANS) there are no plans by a search. */
+/* Without the library (-DWITHOUT_PLANS) there are no plans by a search; of its newer calls each is there with -DHAS_ and its name. */
 static const way WAYS[] = {
     {"fifo", everything, in_order, NULL, NULL, 0},
     {"round-robin", first_eight, by_rule, &ROUND_ROBIN, NULL, 0},
@@ -25,6 +25,13 @@ static const way WAYS[] = {
     {"plan-near-reads-first", by_lun_reads_first, by_plan, &ROUND_ROBIN, plan_early, 20},
     {"plan-near-heavy-reads", by_lun_reads_first, by_plan, &ROUND_ROBIN, plan_early_reads, 20},
     {"plan-near-one-kind", by_lun_one_kind, by_plan, &ROUND_ROBIN, plan_early_reads, 20},
+    {"near-library", by_lun_library, by_plan, &ROUND_ROBIN, plan_early_by_age, 20},
+#ifdef HAS_ONFI_PLAN_RULE
+    {"rule-library", by_lun_library, by_plan, NULL, plan_rule_library, 0},
+#endif
+#ifdef HAS_ONFI_NEXT
+    {"steady-library", everything, phase_by_library, NULL, NULL, 0},
+#endif
 #endif
 };
 

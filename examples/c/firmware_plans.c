@@ -1,0 +1,181 @@
+/*
+ * The same driver by plans of eight, in place of the library's queue: the library chooses of what waits, plans it, says which phase of
+ * the plan is due, and what stands behind it. It plans anew where a chosen request isn't planned yet, where R/B# rises before the stated
+ * time, and behind a phase that took longer than is stated. A plan takes memory and far more time than a phase of firmware.c.
+ */
+#include "firmware.h"
+
+#include <string.h>
+
+static bool is_planned(const driver *d, uint64_t id)
+{
+    for (size_t at = 0; at < d->batched; at++)
+        if (d->batch[at].id == id)
+            return true;
+    return false;
+}
+
+/* Which of the queue a plan from now on takes, by their places. */
+static uint32_t call_choice(const driver *d, uint64_t now, size_t place[ONFI_WANTS], size_t *count)
+{
+    onfi_channel channel = d->channel;
+    channel.bus_free = later_of(channel.bus_free, now);
+    if (d->plans.choice == ONE_KIND)
+        return choose_one_kind(d, &channel, place, count);
+    return onfi_choose(&channel, d->lun, d->luns, d->queue, d->queued, d->accepted, d->plans.choice, ONFI_WANTS, place, count);
+}
+
+/* The same, and whether one of them isn't planned yet. */
+static bool choose_batch(driver *d, uint64_t now, size_t place[ONFI_WANTS], size_t *count, bool *is_new)
+{
+    uint32_t status = call_choice(d, now, place, count);
+    *is_new = false;
+    for (size_t at = 0; status == ONFI_DONE && at < *count; at++)
+        *is_new = *is_new || !is_planned(d, d->queue[place[at]].id);
+    return went_well(d, status);
+}
+
+/* The sum of the ages of the batch. */
+static double ages_waiting(const driver *d, const size_t *place, uint64_t now)
+{
+    double sum = 0;
+    for (size_t at = 0; at < d->batched; at++)
+        sum += (double)(now - d->arrived[place[at]]);
+    return sum;
+}
+
+/* The sum of the ages of a LUN's running group. */
+static double ages_running(const driver *d, unsigned lun, uint64_t now)
+{
+    double sum = 0;
+    for (unsigned at = 0; at < d->lun[lun].members; at++)
+        sum += (double)(now - d->member_arrived[lun][at]);
+    return sum;
+}
+
+/* The mean age of what is planned, at least 1 ns. */
+static double mean_age(const driver *d, const size_t *place, uint64_t now)
+{
+    double sum = ages_waiting(d, place, now), count = (double)d->batched;
+    for (unsigned lun = 0; lun < d->luns; lun++) {
+        sum += ages_running(d, lun, now);
+        count += d->lun[lun].members;
+    }
+    return sum > count ? sum / count : 1;
+}
+
+/* 8, and 32 times the square of its age in mean ages: what waits long can't be last in every plan. Reads may count for more. */
+static uint16_t weight_of(const driver *d, uint64_t age, double mean, uint8_t kind)
+{
+    double share = (double)age / mean, weight = (8 + 32 * share * share) * (kind == ONFI_READ ? d->plans.reads : 1);
+    if (!d->plans.by_age)
+        return 1;
+    return weight < UINT16_MAX ? (uint16_t)weight : UINT16_MAX;
+}
+
+static void weigh_running(const driver *d, unsigned lun, uint64_t now, double mean, onfi_weights *made)
+{
+    for (unsigned at = 0; at < d->lun[lun].members; at++)
+        made->running[lun][at] = weight_of(d, now - d->member_arrived[lun][at], mean, d->lun[lun].member[at].kind);
+}
+
+static void weigh_waiting(const driver *d, const size_t *place, uint64_t now, double mean, onfi_weights *made)
+{
+    for (size_t at = 0; at < d->batched; at++)
+        made->want[at] = weight_of(d, now - d->arrived[place[at]], mean, d->batch[at].kind);
+}
+
+static onfi_weights weights_of(const driver *d, const size_t *place, uint64_t now)
+{
+    onfi_weights made;
+    double mean = mean_age(d, place, now);
+    memset(&made, 0, sizeof made);
+    weigh_waiting(d, place, now, mean, &made);
+    for (unsigned lun = 0; lun < d->luns; lun++)
+        weigh_running(d, lun, now, mean, &made);
+    return made;
+}
+
+/* The call. Nobody reads the certificate here, so it has no room. */
+static uint32_t call_planner(const driver *d, const size_t *place, uint64_t now, onfi_within *plan)
+{
+    size_t bytes;
+    if (d->plans.planner == RULE)
+        return onfi_plan_rule(&d->channel, d->lun, d->luns, d->batch, d->batched, plan, NULL, 0, &bytes);
+    if (d->plans.planner == WITHIN)
+        return onfi_plan_within(&d->channel, d->lun, d->luns, d->batch, d->batched, d->plans.limit, plan, NULL, 0, &bytes);
+    onfi_weights weights = weights_of(d, place, now);
+    return onfi_plan_early(&d->channel, d->lun, d->luns, d->batch, d->batched, d->plans.limit, &weights, d->plans.slack, plan, NULL, 0, &bytes);
+}
+
+/*
+ * Plans the chosen requests and what runs, from now on. Here alone the bus is told that time has passed: a plan that was made before
+ * stays legal for what it was made of, and if its phases start late onfi_ran is told so.
+ */
+static bool make_plan(driver *d, const size_t *place, size_t count, uint64_t now)
+{
+    onfi_within plan;
+    d->channel.bus_free = later_of(d->channel.bus_free, now);
+    d->batched = count;
+    for (size_t at = 0; at < count; at++)
+        d->batch[at] = d->queue[place[at]];
+    uint32_t status = call_planner(d, place, now, &plan);
+    if (!went_well(d, status))
+        return false;
+    d->schedule = plan.schedule;
+    d->has_plan = true;
+    d->has_news = false;
+    d->planned++;
+    return true;
+}
+
+/*
+ * Which phase is due, and when; false where none is, or a call refused. It plans anew where a request is chosen that isn't
+ * planned, or a LUN has told that it is ready: else what is left of the plan is as good as it was.
+ */
+bool plans_next(driver *d, uint64_t now, onfi_phase *phase)
+{
+    size_t place[ONFI_WANTS], count;
+    bool is_new;
+    if (!choose_batch(d, now, place, &count, &is_new))
+        return false;
+    if ((is_new || d->has_news) && !make_plan(d, place, count, now))
+        return false;
+    if (!d->has_plan)
+        return false;
+    uint32_t status = onfi_due(&d->channel, d->lun, d->luns, d->batch, d->batched, &d->geometry, &d->schedule, phase);
+    return status != ONFI_NOTHING_DUE && went_well(d, status);
+}
+
+/* Takes a request out of the queue, and gives when it came. */
+static uint64_t leave_queue(driver *d, uint64_t id)
+{
+    size_t at = 0;
+    while (d->queue[at].id != id)
+        at++;
+    uint64_t arrived = d->arrived[at];
+    d->queued--;
+    memmove(d->queue + at, d->queue + at + 1, (d->queued - at) * sizeof *d->queue);
+    memmove(d->arrived + at, d->arrived + at + 1, (d->queued - at) * sizeof *d->arrived);
+    return arrived;
+}
+
+/* A group has begun on a LUN: its members wait no longer. */
+void note_begin(driver *d, unsigned lun)
+{
+    for (unsigned at = 0; at < d->lun[lun].members; at++)
+        d->member_arrived[lun][at] = leave_queue(d, d->lun[lun].member[at].id);
+}
+
+/* Runs the due phase from `start` on, at or behind its start by the plan; `page` is the data of its request. */
+bool plans_run(driver *d, const onfi_phase *phase, uint64_t start, uint8_t *page)
+{
+    uint64_t end = drive(d, phase, start, page);
+    uint32_t status = onfi_ran(&d->channel, d->lun, d->luns, d->batch, &d->batched, &d->schedule, phase->lun, phase->number, start);
+    if (!went_well(d, status))
+        return false;
+    if (phase->number == 0)
+        note_begin(d, phase->lun);
+    note_end(d, phase->lun, end);
+    return true;
+}
