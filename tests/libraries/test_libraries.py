@@ -77,8 +77,8 @@ class Headers(unittest.TestCase):
         self.assertEqual(sorted(told), [
             "onfi_check", "onfi_check_known", "onfi_check_within", "onfi_choose", "onfi_due", "onfi_next", "onfi_plan", "onfi_plan_early", "onfi_plan_known",
             "onfi_plan_rule", "onfi_plan_within", "onfi_queue_accept", "onfi_queue_begin", "onfi_queue_ran", "onfi_ran", "onfi_row", "onfi_status_text",
-            "onfi_text_check", "onfi_text_check_known", "onfi_text_legal", "onfi_text_plan", "onfi_text_plan_known", "onfi_text_trace", "onfi_timing_of_page", "onfi_timing_of_strobes",
-            "onfi_version"])
+            "onfi_text_check", "onfi_text_check_known", "onfi_text_legal", "onfi_text_plan", "onfi_text_plan_known", "onfi_text_trace",
+            "onfi_timing_of_page", "onfi_timing_of_strobes", "onfi_version"])
 
     def test_shared_library_is_named_by_its_major_version(self) -> None:
         version = (ROOT / "VERSION").read_text().strip()
