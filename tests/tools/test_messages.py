@@ -109,10 +109,10 @@ class WrongWords(unittest.TestCase):
 class Help(unittest.TestCase):
     """Help is said on standard error with status 5; the version is an answer."""
 
-    OPTIONS = {"plan": ["--limit <N>", "--trace", "--requests", "--workers <N>", "--remember", "--within", "--early", "--slack <N>", "-q, --quiet",
-                        "[FILE]"],
+    OPTIONS = {"plan": ["--limit <N>", "--trace", "--requests", "--workers <N>", "--remember", "--within", "--rule", "--early", "--slack <N>",
+                        "-q, --quiet", "[FILE]"],
                "check": ["--remember", "--within", "--legal", "-q, --quiet", "[FILE]", "[PLAN]"],
-               "run": ["--limit <N>", "--plain", "--within", "--slack <N>", "--clock <CLOCK>", "-q, --quiet", "[FILE]"],
+               "run": ["--limit <N>", "--plain", "--within", "--slack <N>", "--rule", "--clock <CLOCK>", "-q, --quiet", "[FILE]"],
                "device": ["-q, --quiet", "[FILE]"]}
 
     def help(self, *words: str) -> str:
