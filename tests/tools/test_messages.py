@@ -142,7 +142,7 @@ class Help(unittest.TestCase):
 
     def test_help_of_a_command_names_the_options_that_it_takes(self) -> None:
         for command, options in self.OPTIONS.items():
-            told = set(re.findall(r"--\w+", self.help(command, "--help").split("Options:")[1].split("\n\n")[0]))
+            told = set(re.findall(r"(?m)^ +(?:-\w, )?(--\w+)", self.help(command, "--help").split("Options:")[1].split("\n\n")[0]))
             self.assertEqual(told - {"--help"}, set(re.findall(r"--\w+", " ".join(options))))
 
     def test_the_examples_of_help_are_there_and_go_well(self) -> None:
