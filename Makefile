@@ -3,7 +3,7 @@
 #                       line; else it plans the same
 # make library          proves and builds lib/libonfi.a and lib/libonfi.so, for C and for Python
 #                       TARGET=aarch64: those for 64-bit Arm in lib/aarch64, libonfi.so where Debian's gcc-aarch64-linux-gnu is installed;
-#                       likewise make wheel, make install and the next three, below /usr/local/aarch64-linux-gnu where no PREFIX is named
+#                       the same of make wheel, make install and the next three, below /usr/local/aarch64-linux-gnu where no PREFIX is named
 # make wheel            the same library in a wheel for pip, dist/onfi-VERSION-py3-none-PLATFORM.whl
 # make install          puts the program with its manual page, and the libraries with their header and a pkg-config file, below
 #                       PREFIX, /usr/local where none is named; DESTDIR=DIR puts a package together in DIR

@@ -8,7 +8,7 @@
  * Times are ns of the channel's clock, below 2^62; lengths and waits are below 2^50.
  *
  * What each call asks of its caller, and can't test:
- *   - A pointer with a count behind it points to as many items as the count says, and may be null where that is 0. No other
+ *   - A pointer with a count after it points to as many items as the count says, and may be null where that is 0. No other
  *     pointer is null.
  *   - Memory that a call writes overlaps no other memory of that call.
  *   - A bool is 0 or 1. All else may have any value: what is out of its range is refused by a number.
@@ -79,19 +79,19 @@ enum onfi_status {
     ONFI_TOO_SOON = 34, /* The phase started before it may. */
     /* texts of certificates */
     ONFI_BAD_HEADER = 40, /* The header line is none of a certificate. */
-    ONFI_BAD_TOKEN = 41, /* No token stands at the place, or so many good ones do and the text doesn't end with one LF behind them. */
+    ONFI_BAD_TOKEN = 41, /* No token stands at the place, or so many good ones do and the text doesn't end with one LF after them. */
     ONFI_TOO_MANY_TOKENS = 42, /* A certificate has more than 100,000,000 tokens. */
     ONFI_OTHER_OPTION = 43, /* The header names another option than the channel has. */
     /* certificates; the place is that of the token, counted from 0 */
     ONFI_ILLEGAL = 50, /* The schedule isn't legal. */
     ONFI_SHORT = 51, /* The tokens end inside a tree. */
-    ONFI_TRAILING = 52, /* A token stands behind the tree. */
+    ONFI_TRAILING = 52, /* A token stands after the tree. */
     ONFI_WIDTH = 53, /* A branch has another width than there are moves, or there is no move. */
     ONFI_BOUND_LOW = 54, /* A bound doesn't reach the finish, or there is none. */
     ONFI_YIELD_NO_FIT = 55, /* A move of the LUN that is yielded to doesn't end in time, or there is none. */
     ONFI_YIELD_LOOP = 56, /* A move yields to its own LUN, to one that yields, or was yielded to. */
     ONFI_NOT_END = 57, /* Something is left to do, or less time has passed. */
-    ONFI_ENDS_BEFORE = 58, /* The schedule ends before the time that is told. */
+    ONFI_ENDS_BEFORE = 58, /* The schedule ends before the time that is given. */
     /* parameter pages */
     ONFI_PAGE_SHORT = 60, /* A parameter page has fewer than 256 bytes. */
     ONFI_NO_COPY = 61, /* No copy of a parameter page has two signature bytes and the right check value. */
@@ -132,7 +132,7 @@ enum { ONFI_SCRIPT_REFUSED = 1, ONFI_PLAN_REFUSED = 2 };
 /* Kinds of requests. */
 enum onfi_kind { ONFI_READ = 0, ONFI_PROGRAM = 1, ONFI_ERASE = 2 };
 
-/* How a batch is chosen: the oldest requests; by LUN, the one that comes free first at first; by LUN, and of each its reads first. */
+/* How a batch is chosen: the oldest requests; by LUN, the one that comes free soonest first; by LUN, and of each its reads first. */
 enum onfi_choice { ONFI_IN_ORDER = 0, ONFI_BY_LUN = 1, ONFI_READS_FIRST = 2 };
 
 /* How long the phases of a kind take, in ns. */
@@ -263,7 +263,7 @@ typedef struct onfi_phase {
     uint8_t number;     /* its number in its group: commands are 0 .., posts follow */
     uint8_t members;    /* how many requests its group has */
     uint8_t opener;     /* the first command byte (ONFI 4.2): 00h, 80h, 60h; of a data output 06h, of a status 78h */
-    uint8_t closer;     /* the last one: 30h, 10h, D0h; with more of its group behind it 32h, 11h, D1h; of a data output E0h; of a status 0: none */
+    uint8_t closer;     /* the last one: 30h, 10h, D0h; with more of its group after it 32h, 11h, D1h; of a data output E0h; of a status 0: none */
     uint8_t row_cycles; /* how many cycles of the row address, lowest byte first */
     bool is_post;
 } onfi_phase;
@@ -282,7 +282,7 @@ typedef struct onfi_queue {
     uint64_t newest;    /* the id of the newest accepted program, whether it waits or not */
     uint8_t count;      /* how many wait */
     uint8_t has_newest; /* 0 where no program was accepted */
-    onfi_waiter waiter[ONFI_WAITERS]; /* in the order in which they were accepted; what is behind the count means nothing */
+    onfi_waiter waiter[ONFI_WAITERS]; /* in the order in which they were accepted; what is past the count means nothing */
 } onfi_queue;
 
 /*
@@ -294,14 +294,14 @@ uint32_t onfi_version(void);
 /*
  * Plans the wants of a channel.
  *
- * Gives the plan, and where there is room for any byte the text of its certificate; *certificate_bytes tells how many
+ * Gives the plan, and where there is room for any byte the text of its certificate; *certificate_bytes says how many
  * bytes that text has, without a final NUL. The search opens at most `limit` nodes, 1 to ONFI_NODES. Eight wants have
  * certificates of some hundred bytes mostly, and of megabytes at worst.
  *
  * ONFI_DONE, or ONFI_NO_ROOM where 0 < certificate_room < *certificate_bytes: the plan is given, and the room is as it
- * was. Else nothing is given and *certificate_bytes is 0; told is the first of: ONFI_BAD_LIMIT; ONFI_ZERO_SPAN or
+ * was. Else nothing is given and *certificate_bytes is 0; the answer is the first of: ONFI_BAD_LIMIT; ONFI_ZERO_SPAN or
  * ONFI_LONG_SPAN of reads, programs, erases; ONFI_BAD_PLANE_BITS; ONFI_BAD_MEMBERS; ONFI_BAD_KIND; ONFI_TOO_MANY;
- * ONFI_BAD_LUN; ONFI_CLOCK; ONFI_OVER. ONFI_MEMORY may stand in place of any behind ONFI_BAD_KIND.
+ * ONFI_BAD_LUN; ONFI_CLOCK; ONFI_OVER. ONFI_MEMORY may stand in place of any after ONFI_BAD_KIND.
  */
 uint32_t onfi_plan(const onfi_channel *channel, const onfi_lun *luns, size_t lun_count, const onfi_want *wants, size_t want_count,
                    uint32_t limit, onfi_planned *plan, uint8_t *certificate, size_t certificate_room, size_t *certificate_bytes);
@@ -310,9 +310,9 @@ uint32_t onfi_plan(const onfi_channel *channel, const onfi_lun *luns, size_t lun
  * Plans as onfi_plan does, by a search that remembers states, and gives a certificate that does so too, for
  * onfi_check_known. It answers in practice where onfi_plan is over, with certificates of some kilobytes, and promises
  * neither. The search that finds the plan and the one that writes the certificate open at most `limit` nodes each;
- * plan->opened tells how many the first opened.
+ * plan->opened says how many the first opened.
  *
- * The same is told.
+ * The same is answered.
  */
 uint32_t onfi_plan_known(const onfi_channel *channel, const onfi_lun *luns, size_t lun_count, const onfi_want *wants, size_t want_count,
                          uint32_t limit, onfi_planned *plan, uint8_t *certificate, size_t certificate_room, size_t *certificate_bytes);
@@ -323,7 +323,7 @@ uint32_t onfi_plan_known(const onfi_channel *channel, const onfi_lun *luns, size
  * less than plan->finish only where the search tree has more nodes than the limit. 65,536 nodes were enough in nearly all
  * batches that were tried.
  *
- * The same is told, and never ONFI_OVER.
+ * The same is answered, and never ONFI_OVER.
  */
 uint32_t onfi_plan_within(const onfi_channel *channel, const onfi_lun *luns, size_t lun_count, const onfi_want *wants, size_t want_count,
                           uint32_t limit, onfi_within *plan, uint8_t *certificate, size_t certificate_room, size_t *certificate_bytes);
@@ -334,21 +334,21 @@ uint32_t onfi_plan_within(const onfi_channel *channel, const onfi_lun *luns, siz
  * soonest goes. plan->below is the greatest time that a bound shows before which nothing ends, plan->finish is no less, and the
  * schedule is optimal where the two are one. The certificate shows plan->below by one token, for onfi_check_within.
  *
- * The same is told as by onfi_plan_within, and never ONFI_BAD_LIMIT.
+ * The same is answered as by onfi_plan_within, and never ONFI_BAD_LIMIT.
  */
 uint32_t onfi_plan_rule(const onfi_channel *channel, const onfi_lun *luns, size_t lun_count, const onfi_want *wants, size_t want_count,
                         onfi_within *plan, uint8_t *certificate, size_t certificate_room, size_t *certificate_bytes);
 
 /*
  * Plans as onfi_plan_within does, and makes the plan better: requests end early. What counts is the sum over all requests of
- * their weight times the end of their last phase. With `slack` the plan may end behind plan->below by so many thousandths, 1,000
+ * their weight times the end of their last phase. With `slack` the plan may end after plan->below by so many thousandths, 1,000
  * at most (a greater number counts as 1,000), of what lies between channel->bus_free and plan->below; it ends later only where the
  * search tree has more nodes than the limit. onfi_check_within judges it.
  *
  * That the plan counts for no more than the one it was made from is proved of the function that makes it better (`improve` of
  * onfi_early), and shown of this call by tests; that none counts for less isn't promised.
  *
- * What onfi_plan_within tells is told.
+ * It answers what onfi_plan_within does.
  */
 uint32_t onfi_plan_early(const onfi_channel *channel, const onfi_lun *luns, size_t lun_count, const onfi_want *wants, size_t want_count,
                          uint32_t limit, const onfi_weights *weights, uint16_t slack,
@@ -358,9 +358,9 @@ uint32_t onfi_plan_early(const onfi_channel *channel, const onfi_lun *luns, size
  * Checks by the text of a certificate that no legal schedule of the wants ends sooner than this one. Whoever made the two
  * need not be trusted.
  *
- * ONFI_DONE: the schedule is optimal, and verdict->finish says when it ends. Else told is the first of the channel's
+ * ONFI_DONE: the schedule is optimal, and verdict->finish says when it ends. Else the answer is the first of the channel's
  * faults as by onfi_plan; ONFI_BAD_SCHEDULE; a fault of the text (40 ..), ONFI_ILLEGAL, a fault of the tokens (51 ..) with
- * verdict->place. An id that no want has makes a schedule illegal. ONFI_MEMORY may stand in place of any behind
+ * verdict->place. An id that no want has makes a schedule illegal. ONFI_MEMORY may stand in place of any after
  * ONFI_BAD_KIND.
  */
 uint32_t onfi_check(const onfi_channel *channel, const onfi_lun *luns, size_t lun_count, const onfi_want *wants, size_t want_count,
@@ -370,7 +370,7 @@ uint32_t onfi_check(const onfi_channel *channel, const onfi_lun *luns, size_t lu
  * The same by the text of a certificate that remembers states; a plain one is ONFI_BAD_HEADER here, as one of these is
  * there. Of each open node 80 bytes are kept until the call returns, so who bounds the text bounds the memory.
  *
- * The same is told, a fault of the tokens by the numbers from 90 on too, and never ONFI_TOO_MANY_TOKENS.
+ * The same is answered, a fault of the tokens by the numbers from 90 on too, and never ONFI_TOO_MANY_TOKENS.
  */
 uint32_t onfi_check_known(const onfi_channel *channel, const onfi_lun *luns, size_t lun_count, const onfi_want *wants, size_t want_count,
                           const onfi_schedule *schedule, const uint8_t *certificate, size_t certificate_bytes, onfi_verdict *verdict);
@@ -379,7 +379,7 @@ uint32_t onfi_check_known(const onfi_channel *channel, const onfi_lun *luns, siz
  * Checks by the text of a certificate that remembers states that no legal schedule of the wants ends before `below`, in ns,
  * and that this one is legal and doesn't either. verdict->finish says when it ends; it is optimal where it ends then.
  *
- * What onfi_check_known tells is told, and behind ONFI_ILLEGAL ONFI_ENDS_BEFORE where the schedule ends before `below`.
+ * It answers what onfi_check_known does, and after ONFI_ILLEGAL ONFI_ENDS_BEFORE where the schedule ends before `below`.
  */
 uint32_t onfi_check_within(const onfi_channel *channel, const onfi_lun *luns, size_t lun_count, const onfi_want *wants, size_t want_count,
                            const onfi_schedule *schedule, uint64_t below, const uint8_t *certificate, size_t certificate_bytes, onfi_verdict *verdict);
@@ -387,56 +387,81 @@ uint32_t onfi_check_within(const onfi_channel *channel, const onfi_lun *luns, si
 /*
  * Chooses a batch of at most `batch` requests, 1 to 8, of the want_count that wait, which may be more than eight: chosen[0 ..
  * *chosen_count - 1] are their places in the list of wants, rising. The list is in acceptance order, each id is the place of
- * acceptance, and `accepted` counts all that were accepted: those that are missing behind a want started before it.
+ * acceptance, and `accepted` counts all that were accepted: those that are missing after a want started before it.
  *
  * Proved: ONFI_IN_ORDER takes the oldest. By each choice the later of two requests on one block is chosen only with the earlier;
  * the batch is full, or all are chosen; and once 64 later ones started before the oldest, it is chosen.
  *
- * Shown by tests alone: which requests the other two choices take beside that. LUNs give in turn, the one that comes free first
- * at first, of equals the lower number, each its oldest request that may be taken, or by ONFI_READS_FIRST its oldest read, else
+ * Shown by tests alone: which requests the other two choices take beside that. LUNs give in turn, the one that comes free soonest
+ * first, of equals the lower number, each its oldest request that may be taken, or by ONFI_READS_FIRST its oldest read, else
  * program, else erase, with those that can join its group; round and round until the batch is full.
  *
- * ONFI_DONE; else nothing is given, and told is the first of: ONFI_ZERO_SPAN or ONFI_LONG_SPAN of reads, programs, erases;
+ * ONFI_DONE; else nothing is given, and the answer is the first of: ONFI_ZERO_SPAN or ONFI_LONG_SPAN of reads, programs, erases;
  * ONFI_BAD_PLANE_BITS; ONFI_BAD_MEMBERS; ONFI_BAD_KIND; ONFI_BAD_CHOICE; ONFI_BAD_BATCH; ONFI_BAD_ORDER; ONFI_MEMORY.
  */
 uint32_t onfi_choose(const onfi_channel *channel, const onfi_lun *luns, size_t lun_count, const onfi_want *wants, size_t want_count,
                      uint64_t accepted, uint8_t choice, uint8_t batch, size_t chosen[ONFI_WANTS], size_t *chosen_count);
 
 /*
- * Tells the phase that is due: the undone one of least start, with its address and its command bytes. `schedule` is what is
+ * Chooses a batch by whole groups, as onfi_next begins them: at most `batch` requests, 1 to 8, of the want_count that wait;
+ * chosen[0 .. *chosen_count - 1] are their places in the list of wants, rising. The list is in acceptance order, and the ids rise.
+ * passed[at] counts how many groups with a later request began on the LUN of wants[at] since it was accepted: whoever begins a
+ * group adds one to each request of its LUN that waits and was accepted before one of its members. Of wants past the last of the
+ * passed_count counts it is 0. `newest` is the id of the newest accepted program, whether it waits or not, where has_newest is true.
+ *
+ * A program whose group lacks its last plane waits for its mates while the group holds the newest program and a LUN has work. So
+ * the batch may have room left.
+ *
+ * Proved: of two requests on one block the later is chosen only with the earlier. Of a LUN the oldest request that is due and may
+ * begin is chosen, but where the batch is full of such: one is due once 128 groups with a later request began on its LUN, an erase
+ * once 512 did. The batch is full, or what may begin and isn't chosen is a program whose LUN holds it back as above. Where nothing
+ * runs on any LUN and something waits, something is chosen.
+ *
+ * Shown by tests alone: which requests are taken beside that. LUNs give in turn, the one that comes free soonest first, each its
+ * oldest read, else program, else erase, with those that can join its group; round and round until the batch is full.
+ *
+ * ONFI_DONE; else nothing is given, and the answer is the first of: ONFI_ZERO_SPAN or ONFI_LONG_SPAN of reads, programs, erases;
+ * ONFI_BAD_PLANE_BITS; ONFI_BAD_MEMBERS; ONFI_BAD_KIND; ONFI_BAD_BATCH; ONFI_BAD_ORDER, also where an id is UINT64_MAX; ONFI_MEMORY.
+ */
+uint32_t onfi_choose_whole(const onfi_channel *channel, const onfi_lun *luns, size_t lun_count, const onfi_want *wants, size_t want_count,
+                           const uint16_t *passed, size_t passed_count, bool has_newest, uint64_t newest, uint8_t batch,
+                           size_t chosen[ONFI_WANTS], size_t *chosen_count);
+
+/*
+ * Gives the phase that is due: the undone one of least start, with its address and its command bytes. `schedule` is what is
  * left of a plan of these LUNs and wants, or any other legal schedule of them. Of the schedule only this phase is looked at:
  * that the bus is free and its LUN ready by then, and that a new group may start. So of a schedule that isn't legal a phase may
- * be told, one that may run; a check of the whole is onfi_check_within's. No memory is asked for.
+ * be given, one that may run; a check of the whole is onfi_check_within's. No memory is asked for.
  *
- * ONFI_DONE; else nothing is given, and told is the first of the channel's and the problem's faults as by onfi_plan;
+ * ONFI_DONE; else nothing is given, and the answer is the first of the channel's and the problem's faults as by onfi_plan;
  * ONFI_BAD_SCHEDULE; ONFI_ILLEGAL, where the phase of least start may not run, or none has a start and something waits or runs;
- * ONFI_BAD_GEOMETRY; ONFI_NOTHING_DUE; ONFI_BAD_PLACE, where the device doesn't have the page. ONFI_MEMORY is never told.
+ * ONFI_BAD_GEOMETRY; ONFI_NOTHING_DUE; ONFI_BAD_PLACE, where the device doesn't have the page. ONFI_MEMORY is never answered.
  */
 uint32_t onfi_due(const onfi_channel *channel, const onfi_lun *luns, size_t lun_count, const onfi_want *wants, size_t want_count,
                   const onfi_geometry *geometry, const onfi_schedule *schedule, onfi_phase *phase);
 
 /*
- * Makes of all that is said what stands behind the phase that is due, once it ran from `started` on, in ns: the bus is free
- * from its end; its LUN goes on with its group, or is free behind the last post; a group that began has left the wants and
- * runs on its LUN; and all starts that are left are later by as much as `started` is behind the phase's start. The first
- * *want_count of the wants wait, of ONFI_WANTS places; what is behind them stays as it is. `lun` and `number` are those of
- * the phase, as onfi_due tells them.
+ * Makes of all that is said what stands after the phase that is due, once it ran from `started` on, in ns: the bus is free
+ * from its end; its LUN goes on with its group, or is free after the last post; a group that began has left the wants and
+ * runs on its LUN; and all starts that are left are later by as much as `started` is after the phase's start. The first
+ * *want_count of the wants wait, of ONFI_WANTS places; what is past them stays as it is. `lun` and `number` are those of
+ * the phase, as onfi_due gives them.
  *
  * A phase may start late, and the rest waits for it: a legal schedule stays legal, so channel->bus_free and the LUNs stay what
- * this call made of them until a new plan is made. A LUN that is ready early may be told so by a lesser `since`. As by onfi_due
+ * this call made of them until a new plan is made. A lesser `since` may say that a LUN is ready early. As by onfi_due
  * only the phase is looked at, and no memory is asked for.
  *
- * ONFI_DONE; else all is as it was, and told is the first of: ONFI_TOO_MANY, where *want_count is above ONFI_WANTS; the
+ * ONFI_DONE; else all is as it was, and the answer is the first of: ONFI_TOO_MANY, where *want_count is above ONFI_WANTS; the
  * channel's and the problem's faults as by onfi_plan; ONFI_BAD_SCHEDULE; ONFI_ILLEGAL, as by onfi_due; ONFI_NOTHING_DUE;
  * ONFI_NOT_DUE, where another phase is due; ONFI_TOO_SOON, where `started` is before its start; ONFI_CLOCK, where a phase would
- * start at 2^62 ns or later, or what is left could last until then: so no later call tells ONFI_CLOCK of what this one made.
- * ONFI_MEMORY is never told.
+ * start at 2^62 ns or later, or what is left could last until then: so no later call answers ONFI_CLOCK of what this one made.
+ * ONFI_MEMORY is never answered.
  */
 uint32_t onfi_ran(onfi_channel *channel, onfi_lun *luns, size_t lun_count, onfi_want wants[ONFI_WANTS], size_t *want_count,
                   onfi_schedule *schedule, uint8_t lun, uint8_t number, uint64_t started);
 
 /*
- * A channel without batches: onfi_next tells one phase after another, of what each LUN goes on with and of all that waits in the
+ * A channel without batches: onfi_next gives one phase after another, of what each LUN goes on with and of all that waits in the
  * caller's queue. No memory is asked for.
  *
  *     onfi_queue_begin(&queue);
@@ -452,21 +477,21 @@ uint32_t onfi_ran(onfi_channel *channel, onfi_lun *luns, size_t lun_count, onfi_
 uint32_t onfi_queue_begin(onfi_queue *queue);
 
 /*
- * Takes a request into a queue, behind the others. Its id is above that of each one that waits.
+ * Takes a request into a queue, after the others. Its id is above that of each one that waits.
  *
- * ONFI_DONE; else all is as it was, and told is the first of: ONFI_TOO_MANY, where ONFI_WAITERS wait; ONFI_BAD_KIND; ONFI_BAD_LUN,
+ * ONFI_DONE; else all is as it was, and the answer is the first of: ONFI_TOO_MANY, where ONFI_WAITERS wait; ONFI_BAD_KIND; ONFI_BAD_LUN,
  * where its LUN is above 7, or it erases another page than 0; ONFI_BAD_ORDER, where its id isn't above that of the newest that waits.
  */
 uint32_t onfi_queue_accept(onfi_queue *queue, const onfi_want *want);
 
 /*
- * Tells the phase that is next where it is `now`, with its address and its command bytes. A LUN that runs a group goes on with it.
+ * Gives the phase that is next where it is `now`, with its address and its command bytes. A LUN that runs a group goes on with it.
  * Another one begins the oldest of its requests that is due, else its oldest read, else program, else erase, with the mates that may
  * join it; a request is due once 128 groups with a later one began on its LUN, an erase once 512 did. Programs that lack their last
  * plane wait for mates while they have the newest accepted program and a LUN has work. Of these phases the one goes that may start
  * soonest; crates/onfi_steady has the rest. It starts as soon as the bus is free, its LUN is ready and it is `now`.
  *
- * ONFI_DONE; else nothing is given, and told is the first of: ONFI_ZERO_SPAN or ONFI_LONG_SPAN of reads, programs, erases;
+ * ONFI_DONE; else nothing is given, and the answer is the first of: ONFI_ZERO_SPAN or ONFI_LONG_SPAN of reads, programs, erases;
  * ONFI_BAD_PLANE_BITS; ONFI_BAD_MEMBERS; ONFI_BAD_KIND of a member of a running group; ONFI_TOO_MANY, where there are more than
  * eight LUNs, or the count of the queue is above ONFI_WAITERS; then, where nothing runs and nothing waits for a LUN that is there,
  * ONFI_BAD_GEOMETRY or ONFI_NOTHING_DUE; else ONFI_CLOCK, where the phase would start at 2^62 ns or later; ONFI_BAD_LUN, where
@@ -476,12 +501,12 @@ uint32_t onfi_next(const onfi_channel *channel, const onfi_lun *luns, size_t lun
                    uint64_t now, onfi_phase *phase);
 
 /*
- * Makes of all that is said what stands behind the phase that is next, once it ran from `started` on, in ns, at or behind its start:
+ * Makes of all that is said what stands after the phase that is next, once it ran from `started` on, in ns, at or after its start:
  * the bus is free from its end, its LUN goes on or is free, and a group that began waits no more; it passed over what waits for its
- * LUN and was accepted before one of it. `now`, `lun` and `number` are what onfi_next was told and told.
+ * LUN and was accepted before one of it. `now`, `lun` and `number` are what onfi_next was given and gave.
  *
- * ONFI_DONE; else all is as it was, and told is the first of: what onfi_next tells, but for the device's; ONFI_NOT_DUE, where another
- * phase is next; ONFI_TOO_SOON, where `started` is before its start; ONFI_CLOCK, where it is 2^62 ns or later.
+ * ONFI_DONE; else all is as it was, and the answer is the first of: what onfi_next answers, but for the device's; ONFI_NOT_DUE, where
+ * another phase is next; ONFI_TOO_SOON, where `started` is before its start; ONFI_CLOCK, where it is 2^62 ns or later.
  */
 uint32_t onfi_queue_ran(onfi_channel *channel, onfi_lun *luns, size_t lun_count, onfi_queue *queue, uint64_t now, uint8_t lun, uint8_t number,
                         uint64_t started);
@@ -489,7 +514,7 @@ uint32_t onfi_queue_ran(onfi_channel *channel, onfi_lun *luns, size_t lun_count,
 /*
  * The row address of a page (ONFI 4.2, addressing): page, block and LUN number, from low to high bits.
  *
- * ONFI_DONE; else *row is as it was, and told is ONFI_BAD_GEOMETRY, or ONFI_BAD_PLACE, where the device doesn't have the page.
+ * ONFI_DONE; else *row is as it was, and the answer is ONFI_BAD_GEOMETRY, or ONFI_BAD_PLACE, where the device doesn't have the page.
  */
 uint32_t onfi_row(const onfi_geometry *geometry, uint8_t lun, uint16_t block, uint16_t page, uint32_t *row);
 
@@ -497,7 +522,7 @@ uint32_t onfi_row(const onfi_geometry *geometry, uint8_t lun, uint16_t block, ui
  * Reads a device from the bytes of its parameter page, with as many redundant copies as there are, and from the text of a
  * timing sheet: rows NAME,VALUE for tWC, tRC, tADL, tWHR, tRHW, tWB, tPLRBSY, tPLPBSY and tPLEBSY, in ns, digits alone.
  *
- * ONFI_DONE and *place 0; else nothing is given, and told is the first fault of the page (60 ..), of the device (70 ..), of
+ * ONFI_DONE and *place 0; else nothing is given, and the answer is the first fault of the page (60 ..), of the device (70 ..), of
  * the sheet (80 ..), or ONFI_MEMORY. Where bit 1 of byte 114 of the page is clear, device->rules.strict = 1 is the caller's to set
  * (onfi_device says why). *place is the row that ONFI_SHEET_UNKNOWN and ONFI_SHEET_NOT_A_NUMBER speak of,
  * counted from 1, the parameter of ONFI_SHEET_MISSING and ONFI_SHEET_REPEATED, from 1 in the order above, else 0.
@@ -510,8 +535,8 @@ uint32_t onfi_timing_of_page(const uint8_t *page, size_t page_bytes, const char 
  * doesn't have. Each length is its sum in ps, rounded up to whole ns once; docs/DEFINITIONS.md has the sums. tRC of the sheet may be
  * missing, and isn't looked at.
  *
- * Told is as by onfi_timing_of_page: the first fault of the page, of the device, of the text of the sheet, of the text of the
- * strobes (86 .., where the place is that of its row or parameter likewise), of what the sheet lacks, of what the strobes lack.
+ * The answer is as by onfi_timing_of_page: the first fault of the page, of the device, of the text of the sheet, of the text of the
+ * strobes (86 .., where the place is that of its row or parameter too), of what the sheet lacks, of what the strobes lack.
  * ONFI_SHEET_TOO_LONG also says that a value of the strobes is 2^32 ps or more, ONFI_SHEET_ZERO_CYCLE that their tRC or tDSC is 0.
  */
 uint32_t onfi_timing_of_strobes(const uint8_t *page, size_t page_bytes, const char *sheet, size_t sheet_bytes, const char *strobes,
@@ -519,7 +544,7 @@ uint32_t onfi_timing_of_strobes(const uint8_t *page, size_t page_bytes, const ch
 
 /*
  * What `onfi_sim plan` writes for a script (docs/FORMATS.md), or with `trace` what `onfi_sim plan --trace` writes; the
- * search opens at most `limit` nodes. *answer_bytes tells how many bytes there are, without a final NUL.
+ * search opens at most `limit` nodes. *answer_bytes says how many bytes there are, without a final NUL.
  *
  * ONFI_DONE, ONFI_SCRIPT_REFUSED, ONFI_MEMORY and ONFI_OVER with the answer; ONFI_NO_ROOM where it is longer than the room,
  * which is then as it was; ONFI_BAD_LIMIT with no answer.
@@ -534,29 +559,29 @@ uint32_t onfi_text_plan_known(const char *script, size_t script_bytes, uint32_t 
 
 /*
  * What `onfi_sim plan --requests` writes: the trace of the plan, whose lines name their requests in a last column; with
- * `remember` what `onfi_sim plan --remember --requests` writes. The same is told.
+ * `remember` what `onfi_sim plan --remember --requests` writes. The same is answered.
  */
 uint32_t onfi_text_trace(const char *script, size_t script_bytes, uint32_t limit, bool remember, char *answer, size_t answer_room, size_t *answer_bytes);
 
 /*
- * What `onfi_sim check` writes for a script with a plan text behind it. *answer_bytes tells how many bytes there are.
+ * What `onfi_sim check` writes for a script with a plan text after it. *answer_bytes says how many bytes there are.
  *
  * ONFI_DONE where the plan is accepted, ONFI_SCRIPT_REFUSED, ONFI_PLAN_REFUSED and ONFI_MEMORY with the answer;
  * ONFI_NO_ROOM as above.
  */
 uint32_t onfi_text_check(const char *script, size_t script_bytes, char *answer, size_t answer_room, size_t *answer_bytes);
 
-/* What `onfi_sim check --remember` writes: the same by a certificate that remembers states. The same is told. */
+/* What `onfi_sim check --remember` writes: the same by a certificate that remembers states. The same is answered. */
 uint32_t onfi_text_check_known(const char *script, size_t script_bytes, char *answer, size_t answer_room, size_t *answer_bytes);
 
 /*
  * What `onfi_sim check --legal` writes: whether the schedule of the plan text is legal and when it ends. Its certificate
- * may be missing, and isn't looked at. ONFI_DONE where the schedule is legal; the same is told.
+ * may be missing, and isn't looked at. ONFI_DONE where the schedule is legal; the same is answered.
  */
 uint32_t onfi_text_legal(const char *script, size_t script_bytes, char *answer, size_t answer_room, size_t *answer_bytes);
 
 /*
- * The text of an onfi_status, without a final NUL; of any other number there is none. *text_bytes tells how many bytes
+ * The text of an onfi_status, without a final NUL; of any other number there is none. *text_bytes says how many bytes
  * it has, at most 80.
  *
  * ONFI_DONE, or ONFI_NO_ROOM where it is longer than the room, which is then as it was.

@@ -1,4 +1,4 @@
-/* device PAGE SHEET [STROBES]: what the bytes of a parameter page, a timing sheet and strobes tell of a device. */
+/* device PAGE SHEET [STROBES]: what the bytes of a parameter page, a timing sheet and strobes say of a device. */
 #include <onfi.h>
 
 #include <inttypes.h>

@@ -1,6 +1,6 @@
 /*
  * A driver of one channel, to take as a pattern. The bus is the firmware's own; the library says which phase is next, with which bytes,
- * and what stands behind it. It plans no batch and asks for no memory. Its loop on a board is
+ * and what stands after it. It plans no batch and asks for no memory. Its loop on a board is
  *
  *     for (;;) {
  *         uint64_t now = timer();
@@ -97,7 +97,7 @@ void note_end(driver *d, unsigned lun, uint64_t end)
     d->has_news = true;
 }
 
-/* Runs the next phase from `start` on, at or behind its own start; `page` is the data of its request. */
+/* Runs the next phase from `start` on, at or after its own start; `page` is the data of its request. */
 bool driver_run(driver *d, const onfi_phase *phase, uint64_t start, uint8_t *page)
 {
     uint64_t end = drive(d, phase, start, page);

@@ -82,7 +82,7 @@ typedef struct {
     size_t batched;
     onfi_want batch[ONFI_WANTS]; /* what of the queue is planned */
     bool has_plan;
-    bool has_news;          /* a LUN has told that it is ready since the plan was made */
+    bool has_news;          /* a LUN has reported that it is ready since the plan was made */
     onfi_schedule schedule; /* what is left of the plan */
     uint64_t planned;       /* how many plans were made */
 
@@ -97,7 +97,7 @@ void driver_ready(driver *d, unsigned number, uint64_t since);
 /* Which phase is next, and when; false where none is, or a call refused. */
 bool driver_next(driver *d, uint64_t now, onfi_phase *phase);
 /*
- * Has the phase that driver_next told last on the bus from `start` on, at or behind phase->start; `page` is the data of its request.
+ * Has the phase that driver_next gave last on the bus from `start` on, at or after phase->start; `page` is the data of its request.
  * False where a call refused.
  */
 bool driver_run(driver *d, const onfi_phase *phase, uint64_t start, uint8_t *page);
@@ -142,7 +142,7 @@ typedef struct {
     double load;               /* the share of the bus that arriving requests ask for; 0: a new one comes with each answer */
     double least_array;        /* how long arrays take in truth, in shares of what is stated */
     double most_array;
-    bool told;                 /* R/B# tells when they are ready */
+    bool told;                 /* R/B# shows when they are ready */
     bool ends;                 /* when each request ends is printed, in place of figures */
     double late, slow;         /* by how many ns phases start later, and take longer, at most */
     size_t requests;           /* how many are answered before it ends */
@@ -161,7 +161,7 @@ typedef struct {
     unsigned members, posts; /* no members: it is free */
     uint32_t row[ONFI_MEMBERS];
     uint64_t may;   /* from when on its next phase may start */
-    uint64_t rises; /* when R/B# rises before the stated time; NEVER: it doesn't, or was told */
+    uint64_t rises; /* when R/B# rises before the stated time; NEVER: it doesn't, or was reported */
     uint64_t first; /* the number of its first member's request, by which its array time is drawn */
 } chip;
 
@@ -187,7 +187,7 @@ typedef struct {
     const setup *of;
     uint64_t wants, arrivals; /* states of random numbers */
     uint64_t programs;        /* how many so far */
-    onfi_want mate;           /* the erase behind which `mates` more of its planes come */
+    onfi_want mate;           /* the erase after which `mates` more of its planes come */
     unsigned planes, mates;
     double mean_time; /* between arrivals */
     uint64_t next_arrival;

@@ -41,7 +41,7 @@ static chip *chip_at(board *b, uint64_t start, const onfi_phase *phase)
     return finds(b, start < b->lun[lun].may, "the LUN isn't ready") ? NULL : &b->lun[lun];
 }
 
-/* The bus is in use from `start` on for so long, or somewhat longer, and the LUN's next phase may start so long behind that. */
+/* The bus is in use from `start` on for so long, or somewhat longer, and the LUN's next phase may start so long after that. */
 static uint64_t pass(board *b, chip *c, uint64_t start, uint64_t length, uint64_t wait)
 {
     length += (uint64_t)(next_share(&b->delays) * b->of->slow);
@@ -142,7 +142,7 @@ static uint64_t board_command(void *self, uint64_t start, const onfi_phase *phas
     return run_command(b, start, phase, is_read ? READ : ERASE, (is_read ? 7 : 5) * b->cycle);
 }
 
-/* Pages of a block are programmed in order; behind the last the first counts as erased. */
+/* Pages of a block are programmed in order; after the last the first counts as erased. */
 static uint64_t board_data_in(void *self, uint64_t start, const onfi_phase *phase, const uint8_t *page)
 {
     static const uint8_t PROGRAM[2] = {0x11, 0x10};

@@ -52,7 +52,7 @@ static onfi_want next_program(host *h)
     return want_of(ONFI_PROGRAM, lun, (FIRST_PROGRAMMED + row / PAGES % PROGRAM_BLOCKS) * h->planes + place % h->planes, row % PAGES);
 }
 
-/* An erase on plane 0; those of the other planes come behind it. */
+/* An erase on plane 0; those of the other planes come after it. */
 static onfi_want first_erase(host *h)
 {
     unsigned lun = next_below(&h->wants, h->of->luns);

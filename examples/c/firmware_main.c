@@ -12,7 +12,7 @@
  *   depth     requests outstanding, 1 to 256             64
  *   load      share of the bus that arrivals ask for     0: a new request comes with each answer
  *   array     real array times, in shares of the stated  1-1
- *   told      yes: R/B# tells when a LUN is ready; no    yes
+ *   told      yes: R/B# shows when a LUN is ready; no    yes
  *   late      ns by which phases start later at most     0
  *   slow      ns by which they take longer at most       0
  *   requests  answered before it ends                    2000
@@ -28,7 +28,7 @@
  *   ends      yes prints when each request ends; no      no
  *
  * The first tenth isn't measured. The exit status is 0, 1 where a call refuses or the board is misused, 2 where a word can't be
- * read. Devices, workloads and the greedy way are those of tools/onfi_tools/rolling.
+ * read. Devices, workloads and the greedy way are those of examples/simulator/rolling.
  */
 #include "firmware.h"
 

@@ -1,7 +1,7 @@
 /*
  * The same driver by plans of eight, in place of the library's queue: the library chooses of what waits, plans it, says which phase of
- * the plan is due, and what stands behind it. It plans anew where a chosen request isn't planned yet, where R/B# rises before the stated
- * time, and behind a phase that took longer than is stated. A plan takes memory and far more time than a phase of firmware.c.
+ * the plan is due, and what stands after it. It plans anew where a chosen request isn't planned yet, where R/B# rises before the stated
+ * time, and after a phase that took longer than is stated. A plan takes memory and far more time than a phase of firmware.c.
  */
 #include "firmware.h"
 
@@ -109,8 +109,8 @@ static uint32_t call_planner(const driver *d, const size_t *place, uint64_t now,
 }
 
 /*
- * Plans the chosen requests and what runs, from now on. Here alone the bus is told that time has passed: a plan that was made before
- * stays legal for what it was made of, and if its phases start late onfi_ran is told so.
+ * Plans the chosen requests and what runs, from now on. Here alone the bus is shown that time has passed: a plan that was made before
+ * stays legal for what it was made of, and if its phases start late onfi_ran is given that.
  */
 static bool make_plan(driver *d, const size_t *place, size_t count, uint64_t now)
 {
@@ -131,7 +131,7 @@ static bool make_plan(driver *d, const size_t *place, size_t count, uint64_t now
 
 /*
  * Which phase is due, and when; false where none is, or a call refused. It plans anew where a request is chosen that isn't
- * planned, or a LUN has told that it is ready: else what is left of the plan is as good as it was.
+ * planned, or a LUN has reported that it is ready: else what is left of the plan is as good as it was.
  */
 bool plans_next(driver *d, uint64_t now, onfi_phase *phase)
 {
@@ -160,14 +160,14 @@ static uint64_t leave_queue(driver *d, uint64_t id)
     return arrived;
 }
 
-/* A group has begun on a LUN: its members wait no longer. */
+/* A group has begun on a LUN: its members wait no more. */
 void note_begin(driver *d, unsigned lun)
 {
     for (unsigned at = 0; at < d->lun[lun].members; at++)
         d->member_arrived[lun][at] = leave_queue(d, d->lun[lun].member[at].id);
 }
 
-/* Runs the due phase from `start` on, at or behind its start by the plan; `page` is the data of its request. */
+/* Runs the due phase from `start` on, at or after its start by the plan; `page` is the data of its request. */
 bool plans_run(driver *d, const onfi_phase *phase, uint64_t start, uint8_t *page)
 {
     uint64_t end = drive(d, phase, start, page);

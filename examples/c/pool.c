@@ -7,7 +7,7 @@
  * The first free place that is large enough is taken, and free places beside each other become one. Where none is large enough,
  * the call of the library answers ONFI_MEMORY. It is for one thread. A call of the library gives back all memory before it returns.
  *
- * pool_peak tells how much of the array was ever in use. stack_paint and stack_note, around a call, tell how deep the stack went.
+ * pool_peak says how much of the array was ever in use. stack_paint and stack_note, around a call, say how deep the stack went.
  */
 #include <stdbool.h>
 #include <stddef.h>
@@ -49,7 +49,7 @@ static size_t behind(size_t at)
     return at + 1 + pool[at].block.units;
 }
 
-/* Joins a block with the free ones behind it. */
+/* Joins a block with the free ones after it. */
 static void join(size_t at)
 {
     while (behind(at) < UNITS && !pool[behind(at)].block.is_used)

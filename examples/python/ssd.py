@@ -181,7 +181,7 @@ class Controller:
             return None
 
     def run_phase(self, phase: Phase) -> Iterator[Any]:
-        """Has it on the bus, and tells the library that it ran."""
+        """Has it on the bus, and reports to the library that it ran."""
         assert self.schedule is not None
         started = self.env.now
         yield self.env.timeout(phase.end - phase.start)

@@ -68,7 +68,7 @@ def plan_known(channel: Channel, luns: Sequence[Lun], wants: Sequence[Want], lim
     """The same by a search that remembers states, with a certificate for `check_known`.
 
     It answers in practice where `plan` raises `Over`; that isn't promised. The search that finds the plan and the one that
-    writes the certificate open at most `limit` nodes each; the plan tells how many the first opened.
+    writes the certificate open at most `limit` nodes each; the plan says how many the first opened.
 
     Raises what `plan` does.
     """
@@ -113,10 +113,10 @@ def plan_early(
 ) -> PlanWithin:
     """The same, made better: requests end early, each by its weight.
 
-    `weights` tells those of wants by their places, `running` those of each LUN's running group by the places of its members;
-    1 counts where none is told. The sum of weight times end over all requests is no more than that of the plan it was made
+    `weights` gives those of wants by their places, `running` those of each LUN's running group by the places of its members;
+    1 counts where none is given. The sum of weight times end over all requests is no more than that of the plan it was made
     from, which is proved of what makes it better and shown of this call by tests; that none has less isn't promised. With
-    `slack` the plan may end behind its `below` by so many thousandths, 1,000 at most, of what lies between the time from when
+    `slack` the plan may end after its `below` by so many thousandths, 1,000 at most, of what lies between the time from when
     on the bus is free and that `below`; later only where the search tree has more nodes than the limit. `check_within` judges it.
 
     Raises what `plan_within` does; `ValueError` where a weight or the slack isn't below 65,536.
@@ -169,7 +169,7 @@ def check_known(channel: Channel, luns: Sequence[Lun], wants: Sequence[Want], sc
 def check_within(channel: Channel, luns: Sequence[Lun], wants: Sequence[Want], schedule: Schedule, below: int, certificate: Text) -> int:
     """When the schedule ends, in ns, where it is legal and the certificate shows that no legal schedule ends before `below`.
 
-    The schedule is optimal where that is its end. Raises what `check_known` does, and behind `Illegal` `EndsBefore`, where
+    The schedule is optimal where that is its end. Raises what `check_known` does, and after `Illegal` `EndsBefore`, where
     the schedule ends before `below`.
     """
     number(below, 1 << 64, "a time")
@@ -210,10 +210,39 @@ def choose(
     return chosen[: count.value]
 
 
+def choose_whole(
+    channel: Channel,
+    luns: Sequence[Lun],
+    wants: Sequence[Want],
+    passed: Sequence[int],
+    newest: Optional[int],
+    batch: int = WANTS,
+) -> List[int]:
+    """The places, in the list of the requests that wait, of those that a batch of at most `batch` takes by whole groups; they rise.
+
+    The list is in acceptance order, and the ids rise. `passed` counts for each how many groups with a later request began on
+    its LUN since it was accepted, 0 past the last count; `newest` is the id of the newest accepted program, whether it waits or
+    not, None where there is none. A program whose group lacks its last plane waits for its mates while the group holds the newest
+    one and a LUN has work, so the batch may have room left. It is proved that of two requests on one block the later is chosen only
+    with the earlier; that the oldest one of a LUN that is due and may begin is chosen, but where the batch is full of such: one is
+    due once 128 such groups began, an erase once 512 did; that else the batch is full, or what may begin is held back as a program
+    is; and that something is chosen where nothing runs.
+
+    Raises what `choose` raises but `BadChoice`.
+    """
+    said, chosen, count = Problem(channel, luns, wants), (ctypes.c_size_t * WANTS)(), ctypes.c_size_t()
+    counts = (ctypes.c_uint16 * len(passed))(*(number(it, 65536, "a count") for it in passed))
+    words = (newest is not None, number(newest or 0, 1 << 64, "an id"), number(batch, 256, "a batch"))
+    status = library().onfi_choose_whole(*said.words, counts, len(passed), *words, ctypes.byref(chosen), ctypes.byref(count))
+    if status != DONE:
+        raise refusal(status)
+    return chosen[: count.value]
+
+
 def due(channel: Channel, luns: Sequence[Lun], wants: Sequence[Want], geometry: Geometry, schedule: Schedule) -> Phase:
     """The phase that is due: the undone one of least start, with its address and its command bytes.
 
-    Only this phase is looked at: of a schedule that isn't legal one may be told that may run.
+    Only this phase is looked at: of a schedule that isn't legal one may be given that may run.
 
     Raises what `plan` raises of the channel, but for `Memory`; `BadSchedule`; `Illegal` where the phase of least start may not
     run, or none has a start and something waits or runs; `BadGeometry`, `NothingDue`, `BadPlace`.
@@ -226,7 +255,7 @@ def due(channel: Channel, luns: Sequence[Lun], wants: Sequence[Want], geometry: 
 
 
 def ran(channel: Channel, luns: Sequence[Lun], wants: Sequence[Want], schedule: Schedule, lun: int, phase: int, started: int) -> Stand:
-    """What stands behind the phase that is due, once it ran from `started` on, in ns, at or behind its start by the schedule.
+    """What stands after the phase that is due, once it ran from `started` on, in ns, at or after its start by the schedule.
 
     The bus is free from its end, its LUN goes on or is free, a group that began has left the wants, and the starts that are
     left are later by as much as this one was. `lun` and `phase` are the LUN of the phase and its number in its group.
@@ -258,7 +287,7 @@ def row(geometry: Geometry, lun: int, block: int, page: int) -> int:
 
 
 def timing_of_page(page: Octets, sheet: Text, strobes: Optional[Text] = None) -> Device:
-    """The device that the bytes of a parameter page and the text of a timing sheet tell of, with strobes or without.
+    """The device that the bytes of a parameter page and the text of a timing sheet describe, with strobes or without.
 
     The sheet has a row NAME,VALUE, in ns, for each of tWC, tRC, tADL, tWHR, tRHW, tWB, tPLRBSY, tPLPBSY and tPLEBSY. The rules
     that are given aren't strict: where bit 1 of the page's byte 114 is clear the device has block address restrictions, and its
@@ -270,7 +299,7 @@ def timing_of_page(page: Octets, sheet: Text, strobes: Optional[Text] = None) ->
 
     Raises the first fault of the page (`PageShort`, `NoCopy`), of the device (`WideBus` .. `TooLarge`), of the sheet
     (`SheetMissing` .. `SheetTooLong`, with the row or the parameter as its place) or of the strobes (`StrobeMissing` ..
-    `StrobeNotANumber` likewise; `SheetZeroCycle` and `SheetTooLong` speak of them too); `Memory`. `TypeError` where the page
+    `StrobeNotANumber`, with theirs; `SheetZeroCycle` and `SheetTooLong` speak of them too); `Memory`. `TypeError` where the page
     isn't bytes, or the sheet or the strobes neither str nor bytes.
     """
     device, place, page, sheet = CDevice(), ctypes.c_uint64(), octets(page, "a parameter page"), text(sheet, "a timing sheet")
@@ -302,7 +331,7 @@ def text_plan(script: Text, limit: int = MOST_NODES, trace: bool = False, rememb
 
 
 def text_check(script: Text, remember: bool = False) -> Answer:
-    """What `onfi_sim check` writes for a script with a plan text behind it, with `remember` what `check --remember` writes.
+    """What `onfi_sim check` writes for a script with a plan text after it, with `remember` what `check --remember` writes.
 
     The two are one str or bytes. Raises `Memory`.
     """
@@ -312,7 +341,7 @@ def text_check(script: Text, remember: bool = False) -> Answer:
 
 
 def text_legal(script: Text) -> Answer:
-    """What `onfi_sim check --legal` writes for a script with a plan text behind it: whether the schedule is legal, and when it ends.
+    """What `onfi_sim check --legal` writes for a script with a plan text after it: whether the schedule is legal, and when it ends.
 
     A certificate need not stand there, and isn't looked at. The two are one str or bytes. Raises `Memory`.
     """

@@ -25,6 +25,16 @@ CALLS = {
     "onfi_check_known": (*PROBLEM, ctypes.POINTER(CSchedule), BYTES, SIZE, ctypes.POINTER(CVerdict)),
     "onfi_check_within": (*PROBLEM, ctypes.POINTER(CSchedule), ctypes.c_uint64, BYTES, SIZE, ctypes.POINTER(CVerdict)),
     "onfi_choose": (*PROBLEM, ctypes.c_uint64, ctypes.c_uint8, ctypes.c_uint8, ctypes.POINTER(SIZE * WANTS), ctypes.POINTER(SIZE)),
+    "onfi_choose_whole": (
+        *PROBLEM,
+        ctypes.POINTER(ctypes.c_uint16),
+        SIZE,
+        ctypes.c_bool,
+        ctypes.c_uint64,
+        ctypes.c_uint8,
+        ctypes.POINTER(SIZE * WANTS),
+        ctypes.POINTER(SIZE),
+    ),
     "onfi_due": (*PROBLEM, ctypes.POINTER(CGeometry), ctypes.POINTER(CSchedule), ctypes.POINTER(CPhase)),
     "onfi_ran": (*PROBLEM[:3], ctypes.POINTER(CWant * WANTS), ctypes.POINTER(SIZE), ctypes.POINTER(CSchedule), ctypes.c_uint8, ctypes.c_uint8, ctypes.c_uint64),
     "onfi_row": (ctypes.POINTER(CGeometry), ctypes.c_uint8, ctypes.c_uint16, ctypes.c_uint16, ctypes.POINTER(ctypes.c_uint32)),
@@ -41,7 +51,7 @@ CALLS = {
 
 
 def places() -> List[Tuple[str, str]]:
-    """Where the library may be, each with what tells so: where ONFI_LIBRARY says, and nowhere else then; else beside this file, then where the system looks."""
+    """Where the library may be, each with what says so: where ONFI_LIBRARY says, and nowhere else then; else beside this file, then where the system looks."""
     told = os.environ.get("ONFI_LIBRARY")
     if told:
         return [(told, "as ONFI_LIBRARY says")]
@@ -50,7 +60,7 @@ def places() -> List[Tuple[str, str]]:
 
 
 def opened(tried: List[Tuple[str, str]]) -> ctypes.CDLL:
-    """The first of these libraries that can be loaded; OSError tells each that was tried, and what to do."""
+    """The first of these libraries that can be loaded; OSError names each that was tried, and what to do."""
     missing = []
     for path, why in tried:
         try:

@@ -145,7 +145,7 @@ class BadHeader(Refused):
 
 
 class BadToken(Refused):
-    """No token stands at the place, or so many good ones do and the text doesn't end with one LF behind them."""
+    """No token stands at the place, or so many good ones do and the text doesn't end with one LF after them."""
 
     status = 41
 
@@ -175,7 +175,7 @@ class Short(Refused):
 
 
 class Trailing(Refused):
-    """A token stands behind the tree."""
+    """A token stands after the tree."""
 
     status = 52
 
@@ -211,7 +211,7 @@ class NotEnd(Refused):
 
 
 class EndsBefore(Refused):
-    """The schedule ends before the time that is told."""
+    """The schedule ends before the time that is given."""
 
     status = 58
 

@@ -174,7 +174,7 @@ class CWeights(ctypes.Structure):
 
     @classmethod
     def of(cls, weights: Sequence[int], running: Sequence[Sequence[int]]) -> CWeights:
-        """The weights of wants and of running groups by their places; 1 where none is told."""
+        """The weights of wants and of running groups by their places; 1 where none is given."""
         made = cls()
         for told, places in zip((weights, *running), (made.want, *made.running)):
             for at in range(len(places)):

@@ -1,4 +1,4 @@
-/* What the mock board of examples/c says of a row of phases in which one was spoilt, a line each. */
+/* What the mock board of examples/c says of a row of phases in which one was broken on purpose, a line each. */
 #include "firmware.h"
 
 #include <stdio.h>

@@ -1,4 +1,4 @@
-"""A plain model of the calls of a firmware's own loop: which requests a batch takes, which phase is due, what stands behind it.
+"""A plain model of the calls of a firmware's own loop: which requests a batch takes, which phase is due, what stands after it.
 
 It is written from what include/onfi.h says of these calls, over the package's dataclasses, and calls nothing of the library.
 """
@@ -46,7 +46,7 @@ def length_of(spans: Spans, members: int, number: int) -> int:
 
 
 def wait_behind(spans: Spans, members: int, number: int) -> int:
-    """How long a LUN can't have its next phase behind that one."""
+    """How long a LUN can't have its next phase after that one."""
     if number + 1 < members:
         return spans.gap
     return spans.array if number + 1 == members else 0
@@ -56,7 +56,7 @@ def wait_behind(spans: Spans, members: int, number: int) -> int:
 
 
 def parts_of(luns: Sequence[Lun], wants: Sequence[Want], schedule: Schedule) -> List[Part]:
-    """All phases that are left, the one that is due first at first."""
+    """All phases that are left, the one that is due first in front."""
     by_id = {want.id: want for want in wants}
     found = []
     for place, (lun, starts) in enumerate(zip(luns, schedule.rest)):
@@ -97,7 +97,7 @@ def later(starts: Sequence[int], by: int) -> Tuple[int, ...]:
 
 
 def stand_behind(channel: Channel, luns: Sequence[Lun], wants: Sequence[Want], schedule: Schedule, part: Part, started: int) -> Stand:
-    """What stands behind the due phase, which began at `started`."""
+    """What stands after the due phase, which began at `started`."""
     spans, members, lun = spans_of(channel, part.want.kind), len(part.members), part.want.lun
     end = started + length_of(spans, members, part.number)
     ready = end + wait_behind(spans, members, part.number)

@@ -321,14 +321,14 @@ static void refuses_due(const char *what, const problem *p, const onfi_schedule 
     expect(what, (uint64_t)memcmp(&phase, &before, sizeof phase), 0);
 }
 
-/* A schedule without want 8, whose LUN runs an erase: want 7 at `start`, and the erase's status behind it. */
+/* A schedule without want 8, whose LUN runs an erase: want 7 at `start`, and the erase's status after it. */
 static onfi_schedule read_and_status(uint64_t start, uint64_t data, uint64_t status)
 {
     return (onfi_schedule){
         .luns = 2, .groups = 1, .rest = {{0}, {.starts = 1, .start = {status}}}, .group = {{.members = 1, .want = {7}, .start = {start, data}}}};
 }
 
-/* One phase is looked at: it has to be one that may run, whatever stands behind it. */
+/* One phase is looked at: it has to be one that may run, whatever stands after it. */
 static void phases(void)
 {
     problem p = usual();

@@ -192,11 +192,11 @@ class Driver(unittest.TestCase):
 
 
 class Simulated(unittest.TestCase):
-    """The driver and the simulator of tools/onfi_tools/rolling end each request at the same time."""
+    """The driver and the simulator of examples/simulator/rolling end each request at the same time."""
 
     def test_phase_by_phase(self) -> None:
-        """The simulator's way is code of its own; of 256 requests that are outstanding the first 64 are in the library's queue."""
-        simulator = rolling_use.build(Path(ROOM.name) / "steady", None)
+        """Of 256 requests that are outstanding the first 64 are in the library's queue."""
+        simulator = rolling_use.build(Path(ROOM.name) / "steady", LIBRARY)
         deep = ["device tlc byte 0.833 workload erases depth 256", "device slc workload sequential luns 2 depth 256 load 0.9"]
         for words in (*SIMULATED, *deep):
             found = ends_of(run(sane(), *words.split(), "way", "phases", "ends", "yes").stdout)
@@ -219,7 +219,6 @@ class Simulated(unittest.TestCase):
             self.assertEqual(len(found), 200, words)
 
     def test_plans_by_choice(self) -> None:
-        """The simulator chooses by code of its own, the driver by the library."""
         simulator = rolling_use.build(Path(ROOM.name) / "chosen", LIBRARY)
         settings = {
             "plan-near-by-lun": "choice by-lun weights age",
@@ -260,7 +259,7 @@ class Pool(unittest.TestCase):
         self.assertEqual((ends.returncode, ends.stdout, ends.stderr), (0, run(sane(), *words, "ends", "yes").stdout, ""))
 
     def test_the_driver_over_a_pool(self) -> None:
-        """It does the same, and tells how much it took; with less a plan is refused. What is printed has 4 KB of the pool."""
+        """It does the same, and says how much it took; with less a plan is refused. What is printed has 4 KB of the pool."""
         words = "requests 100 way plans limit 2000".split()
         ample = firmware("ample", pool=1 << 20)
         ends = run(ample, *words, "ends", "yes")

@@ -75,9 +75,9 @@ class Headers(unittest.TestCase):
     def test_shared_library_shows_its_calls_alone(self) -> None:
         told = run("nm", "-D", "--defined-only", str(LIBRARY / "libonfi.so")).stdout.decode().split()[2::3]
         self.assertEqual(sorted(told), [
-            "onfi_check", "onfi_check_known", "onfi_check_within", "onfi_choose", "onfi_due", "onfi_next", "onfi_plan", "onfi_plan_early", "onfi_plan_known",
-            "onfi_plan_rule", "onfi_plan_within", "onfi_queue_accept", "onfi_queue_begin", "onfi_queue_ran", "onfi_ran", "onfi_row", "onfi_status_text",
-            "onfi_text_check", "onfi_text_check_known", "onfi_text_legal", "onfi_text_plan", "onfi_text_plan_known", "onfi_text_trace",
+            "onfi_check", "onfi_check_known", "onfi_check_within", "onfi_choose", "onfi_choose_whole", "onfi_due", "onfi_next", "onfi_plan", "onfi_plan_early",
+            "onfi_plan_known", "onfi_plan_rule", "onfi_plan_within", "onfi_queue_accept", "onfi_queue_begin", "onfi_queue_ran", "onfi_ran", "onfi_row",
+            "onfi_status_text", "onfi_text_check", "onfi_text_check_known", "onfi_text_legal", "onfi_text_plan", "onfi_text_plan_known", "onfi_text_trace",
             "onfi_timing_of_page", "onfi_timing_of_strobes", "onfi_version"])
 
     def test_shared_library_is_named_by_its_major_version(self) -> None:
@@ -114,7 +114,7 @@ class Examples(unittest.TestCase):
         ])
 
     def test_pool(self) -> None:
-        """A static pool serves a batch; one that is too small is told as refused memory. Both run without sanitizers, whose allocator it replaces."""
+        """A static pool serves a batch; one that is too small is reported as refused memory. Both run without sanitizers, whose allocator it replaces."""
         for size, status in (("1048576", 0), ("512", 1)):
             made = str(Path(BUILT.name) / f"pool-{size}")
             sources = [str(ROOT / "examples/c" / name) for name in ("batch.c", "pool.c")]
@@ -144,14 +144,6 @@ class Examples(unittest.TestCase):
         named = line.replace(" pool.o", f" {room}/pool.o").replace("-o batch", f"-o {room}/batch").replace("../../lib/", f"{LIBRARY}/")
         return f"cd {ROOT / 'examples/c'} && {named}{f' -o {room}/pool.o' if ' -c ' in line else ''}"
 
-    def test_simulator(self) -> None:
-        told = run(example("simulator"))
-        self.assertEqual((told.returncode, told.stderr), (0, b""))
-        busy = [float(line.split()[-2]) for line in told.stdout.decode().splitlines()]
-        self.assertEqual(len(busy), 3)
-        self.assertGreater(busy[2], busy[1])
-        self.assertGreater(busy[1], busy[0])
-
     def test_device(self) -> None:
         import test_devices_of_page
 
@@ -174,6 +166,10 @@ class Choices(unittest.TestCase):
     def test_batches_by_hand(self) -> None:
         told = run(build(ROOT / "tests/libraries/choices.c"))
         self.assertEqual((told.returncode, told.stderr, told.stdout), (0, b"", b"39 tried, 0 failed\n"))
+
+    def test_whole_groups_by_hand(self) -> None:
+        told = run(build(ROOT / "tests/libraries/wholes.c"))
+        self.assertEqual((told.returncode, told.stderr, told.stdout), (0, b"", b"21 tried, 0 failed\n"))
 
 
 class Nothing(unittest.TestCase):
@@ -228,7 +224,7 @@ def plan_text(plan: Union[onfi.Plan, onfi.PlanWithin]) -> bytes:
 
 
 def cost_of(channel: onfi.Channel, luns: Sequence[onfi.Lun], wants: Sequence[onfi.Want], weights: Sequence[int], schedule: onfi.Schedule) -> int:
-    """What a plan counts for: of each request that has a post left its weight, 1 where none is told, times the end of its post."""
+    """What a plan counts for: of each request that has a post left its weight, 1 where none is given, times the end of its post."""
     length = {onfi.Kind.READ: channel.timing.read.post, onfi.Kind.PROGRAM: channel.timing.program.post, onfi.Kind.ERASE: channel.timing.erase.post}
     by_id = {want.id: (want, weights[at] if at < len(weights) else 1) for at, want in enumerate(wants)}
     cost = 0

@@ -146,7 +146,7 @@ class Plans(unittest.TestCase):
             self.assertEqual((made.finish, made.below), (onfi.plan_within(CHANNEL, luns, reads).finish,) * 2)
 
     def test_a_running_group_that_counts(self) -> None:
-        """A status that is due goes before the data of a program where it counts, and behind them where the program counts more."""
+        """A status that is due goes before the data of a program where it counts, and after them where the program counts more."""
         program = onfi.Want(0, onfi.Kind.PROGRAM, 0, 4)
         luns = [onfi.Lun(0, [program], 1), onfi.Lun()]
         for weight, starts in ((0, (10_800, 0)), (1_000, (0, 280))):

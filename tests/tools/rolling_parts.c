@@ -1,5 +1,5 @@
 /*
- * Parts of the simulator of tools/onfi_tools/rolling alone, a line each: what the judge says of phases that were spoilt, how a
+ * Parts of the simulator of examples/simulator/rolling alone, a line each: what the judge says of phases that were broken on purpose, how a
  * run ends whose way is bad, and what is chosen of requests that wait.
  */
 #include "rolling.h"
@@ -114,7 +114,7 @@ typedef struct {
     void (*spoil)(phase *p);
 } spoilt;
 
-/* What the judge says of the legal phases with that one spoilt; null where it finds nothing. */
+/* What the judge says of the legal phases with that one broken on purpose; null where it finds nothing. */
 static const char *judged(const setup *setup, uint64_t since, const spoilt *spoilt)
 {
     phase p[PHASES];
@@ -197,118 +197,24 @@ static void print_choice(const char *name, choice *choose, const machine *m)
     printf("\n");
 }
 
-static void wait_for(machine *m, unsigned kind, unsigned lun, unsigned block, unsigned page)
-{
-    onfi_want want = {.id = m->waiting_count, .kind = (uint8_t)kind, .lun = (uint8_t)lun, .block = (uint16_t)block, .page = (uint16_t)page};
-    accept_request(m, want, 0);
-}
-
 /* Seven programs of LUN 0, which runs one; then requests of LUN 1 and LUN 2, which are free. */
-static void put_waiting(machine *m)
-{
-    m->lun[0] = (lun_state){.members = 1, .next = 1, .member = {{.want = {.kind = ONFI_PROGRAM}}}, .ready = 800000, .real = 800000};
-    for (unsigned page = 0; page < 7; page++)
-        wait_for(m, ONFI_PROGRAM, 0, 0, page);
-    wait_for(m, ONFI_PROGRAM, 1, 0, 0);
-    wait_for(m, ONFI_READ, 1, 0, 0);
-    wait_for(m, ONFI_READ, 1, 5, 3);
-    wait_for(m, ONFI_READ, 2, 0, 4);
-    wait_for(m, ONFI_READ, 2, 1, 4);
-    wait_for(m, ONFI_READ, 2, 2, 9);
-    wait_for(m, ONFI_READ, 2, 6, 4);
-    wait_for(m, ONFI_READ, 2, 3, 4);
-}
-
 static void print_choices(void)
 {
+    static const struct { unsigned kind, lun, block, page; } waits[] = {
+        {ONFI_PROGRAM, 1, 0, 0}, {ONFI_READ, 1, 0, 0}, {ONFI_READ, 1, 5, 3}, {ONFI_READ, 2, 0, 4},
+        {ONFI_READ, 2, 1, 4}, {ONFI_READ, 2, 2, 9}, {ONFI_READ, 2, 6, 4}, {ONFI_READ, 2, 3, 4},
+    };
     setup setup = setup_of(3);
     machine m = {.setup = &setup};
-    put_waiting(&m);
+    m.lun[0] = (lun_state){.members = 1, .next = 1, .member = {{.want = {.kind = ONFI_PROGRAM}}}, .ready = 800000, .real = 800000};
+    for (unsigned page = 0; page < 7; page++)
+        accept_request(&m, (onfi_want){.id = page, .kind = ONFI_PROGRAM, .page = (uint16_t)page}, 0);
+    for (size_t at = 0; at < sizeof waits / sizeof *waits; at++)
+        accept_request(&m, (onfi_want){.id = 7 + at, .kind = (uint8_t)waits[at].kind, .lun = (uint8_t)waits[at].lun,
+                                       .block = (uint16_t)waits[at].block, .page = (uint16_t)waits[at].page}, 0);
     print_choice("everything", everything, &m);
     print_choice("first eight", first_eight, &m);
-    print_choice("by LUN", by_lun, &m);
-    print_choice("by LUN, reads first", by_lun_reads_first, &m);
     print_choice("by LUN, one kind", by_lun_one_kind, &m);
-}
-
-/* The same behind a program of LUN 2, whose reads are chosen before it until too many have passed it over. */
-static void print_passed(void)
-{
-    setup setup = setup_of(3);
-    machine m = {.setup = &setup};
-    wait_for(&m, ONFI_PROGRAM, 2, 4, 0);
-    put_waiting(&m);
-    print_choice("reads before a program", by_lun_reads_first, &m);
-    m.waiting[0].passed = PASSED_AT_MOST;
-    print_choice("the program passed over", by_lun_reads_first, &m);
-    print_choice("one kind, the program passed over", by_lun_one_kind, &m);
-}
-
-/* The phase that goes first phase by phase, of what waits: its LUN and start, and the requests that begin. */
-static void print_next(const char *name, const machine *m, mind *mind)
-{
-    batch all;
-    step step = {.start = NEVER};
-    everything(m, &all);
-    printf("%s:", name);
-    if (phase_by_phase(NULL, mind, m, &all, &step))
-        printf(" LUN %u at %" PRIu64 ",", step.lun, step.start);
-    for (size_t at = 0; at < step.members; at++)
-        printf(" %" PRIu64, step.member[at]);
-    printf("\n");
-}
-
-/* Programs of planes 0 to 2 of LUN 0, and an erase of it; what else waits or runs decides whether they wait for plane 3. */
-static machine open_group(const setup *setup)
-{
-    machine m = {.setup = setup};
-    for (unsigned plane = 0; plane < 3; plane++)
-        wait_for(&m, ONFI_PROGRAM, 0, plane, 0);
-    wait_for(&m, ONFI_ERASE, 0, 8, 0);
-    return m;
-}
-
-static void print_open_groups(const setup *setup)
-{
-    machine m = open_group(setup);
-    mind mind = {0};
-    print_next("no LUN has work", &m, &mind);
-    wait_for(&m, ONFI_READ, 1, 0, 0);
-    m.lun[1].ready = 900;
-    print_next("a read of a LUN that isn't ready", &m, &mind);
-    m.waiting[3].want.lun = 2;
-    m.lun[2].ready = 500;
-    print_next("the erase is of another LUN, which isn't ready", &m, &mind);
-    m.waiting[1].groups = 128;
-    print_next("one is due", &m, &mind);
-    m.waiting[1].groups = 0;
-    mind.programs = 6;
-    print_next("the newest program has begun", &m, &mind);
-    mind.programs = 0;
-    wait_for(&m, ONFI_PROGRAM, 0, 3, 0);
-    print_next("the last plane has come", &m, &mind);
-}
-
-/* LUN 0 is in its commands and goes on within the gap, at 600; what LUN 1 could begin before that. */
-static void print_kept_bus(const setup *setup)
-{
-    machine m = {.setup = setup};
-    mind mind = {0};
-    m.lun[0] = (lun_state){.members = 2, .next = 1, .member = {{.want = {.kind = ONFI_READ}}, {.want = {.kind = ONFI_READ}}}, .ready = 600};
-    wait_for(&m, ONFI_PROGRAM, 1, 3, 0);
-    print_next("data that would end behind the gap", &m, &mind);
-    wait_for(&m, ONFI_READ, 2, 0, 0);
-    print_next("a command that ends within it", &m, &mind);
-    m.lun[0].ready = 601;
-    m.waiting_count = 1;
-    print_next("a gap that is too long", &m, &mind);
-}
-
-static void print_phase_by_phase(void)
-{
-    setup setup = setup_of(3);
-    print_open_groups(&setup);
-    print_kept_bus(&setup);
 }
 
 int main(void)
@@ -316,7 +222,5 @@ int main(void)
     print_judgements();
     print_runs();
     print_choices();
-    print_passed();
-    print_phase_by_phase();
     return 0;
 }

@@ -1,4 +1,4 @@
-"""The page of calls: that it is as the tool makes it, and that it has each name that a crate hands out."""
+"""The page of calls: that it is as the tool makes it, and that it has each name that a crate exports."""
 
 from __future__ import annotations
 
@@ -34,16 +34,18 @@ class Page(unittest.TestCase):
                 found += len(names)
         self.assertGreater(found, 300)
 
-    def test_each_says_what_it_is(self) -> None:
-        for row in re.findall(r"^\| `.*$", PAGE, re.MULTILINE):
-            self.assertRegex(row, r"^\| `\w+`(: (`\w+`(, )?)+)? \| \S.{3,} \|$")
+    def test_each_leads_to_the_source_that_defines_it(self) -> None:
+        found = re.findall(r"\[`(\w+)`\]\(\.\./(crates/[\w/]+\.rt)\)", PAGE)
+        self.assertGreater(len(found), 200)
+        for name, path in found:
+            self.assertRegex((support.ROOT / path).read_text(), rf"\b{name}\b")
 
     def test_worked_rows(self) -> None:
-        self.assertIn("| `Place` | A page of a device: its LUN, its block in the LUN and its page in the block, each counted from 0. |\n", sections()["onfi_addr"])
-        self.assertRegex(sections()["onfi_chip"], r"\| `Chip`: `command`, `data_out`, `status`, `poll`")
-        self.assertRegex(sections()["onfi_core"], r"\| `Core`: `open`, `last`, `open_with`, `step`, `run`")
+        self.assertRegex(sections()["onfi_addr"], r"\[`Place`\]\(../crates/onfi_addr/src/place.rt\)\n")
+        self.assertRegex(sections()["onfi_chip"], r"- \[`Chip`\]\(.*\): `command`, `data_out`, `status`, `poll`")
+        self.assertRegex(sections()["onfi_core"], r"- \[`Core`\]\(.*\): `open`, `last`, `open_with`, `step`, `run`")
         self.assertRegex(sections()["onfi_core"], r"Laws: .*`headline`")
-        self.assertIn("| `plan` | ", sections()["onfi_planner"])
+        self.assertIn("[`plan`](../crates/onfi_planner/src/", sections()["onfi_planner"])
 
 
 class Below(unittest.TestCase):

@@ -13,7 +13,7 @@ from onfi_tools.device import Spans
 from onfi_tools.channel_bound import (Channel, Request, bounds_of, bus_bound, dies_bound, found_mates, loop_bound, most_outstanding, read_source,
                                       requests_for)
 from onfi_tools.rolling_use import ALL, TWELVE, Asked, Configuration, bound_of, build, run_way
-from onfi_tools.rolling_ways import OWN
+from onfi_tools.rolling_ways import GREEDY
 
 # Of tlc at 2 ns a byte: a read alone, and four programs as one, on their LUN.
 READ = 175 + 75_100 + 37_639
@@ -80,7 +80,7 @@ class ByHand(unittest.TestCase):
         erases = [Request("erase", 0), *[Request("erase", 0, True)] * 3]
         self.assertEqual(most_outstanding(channel(depth=16), erases), 19)
         self.assertEqual(most_outstanding(channel(depth=16), erases[:1]), 16)
-        # All four have had their parts, 1,166 / 4 ns each, behind the stay of 1,040.
+        # All four have had their parts, 1,166 / 4 ns each, after the stay of 1,040.
         self.assertAlmostEqual(loop_bound(channel(depth=1), erases, range(0, 4)), 4e9 / 1166)
 
     def test_reads_find_mates_seldom(self) -> None:
@@ -127,7 +127,7 @@ class Simulated(unittest.TestCase):
         conditions = [*TWELVE, *ALL[::31], TWELVE[10]._replace(array="0.4-0.7"), TWELVE[10]._replace(load=0.9), TWELVE[1]._replace(array="0.4-0.7", told=False)]
         for of in conditions:
             bound = bound_of(PROGRAM, of, ASKED)
-            for way in OWN:
+            for way in GREEDY:
                 self.assertLess(run_way(PROGRAM, of, way, ASKED)["rate"], bound * (1.05 if of.workload == "erases" else 1.01), (of, way))
 
 

@@ -91,9 +91,9 @@ def rows_of_further() -> List[Row]:
     rows: List[Row] = []
     for line in section.splitlines():
         cells = [cell.strip() for cell in line.strip("|").split(" | ")]
-        link = re.fullmatch(r"\[(onfi_\w+)\]\(\.\./(crates/\1/src/[\w/]+\.rt)\)", cells[0])
-        if link and len(cells) == 4:
-            rows.append(Row(link[1], support.ROOT / link[2], *cells[1:]))
+        link = re.fullmatch(r"\[(onfi_\w+)\]\(\.\./(crates/\1/src/[\w/]+\.rt)\): (.*)", cells[0])
+        if link and len(cells) == 3:
+            rows.append(Row(link[1], support.ROOT / link[2], link[3], *cells[1:]))
     return rows
 
 

@@ -39,7 +39,7 @@ def numbers_in(line: str) -> List[int]:
 
 
 class Plain:
-    """One channel whose chip never fails. Which optimal plan is taken it is told; all else it keeps itself."""
+    """One channel whose chip never fails. Which optimal plan is taken it is given; all else it keeps itself."""
 
     def __init__(self) -> None:
         self.sent = [0] * HOSTS

@@ -26,7 +26,7 @@ def page_rows(script: Path) -> List[str]:
 
 
 def commands_of(page: Path) -> List[Tuple[str, str]]:
-    """The commands of a page's shell blocks that are followed by what they print, each of its lines behind `# `."""
+    """The commands of a page's shell blocks that are followed by what they print, each of its lines after `# `."""
     found: List[Tuple[str, str]] = []
     for block in re.findall(r"^```sh\n(.*?)^```$", page.read_text(), re.MULTILINE | re.DOTALL):
         for command, written in re.findall(r"^((?!#).+)\n((?:#.*\n)*)", block, re.MULTILINE):

@@ -65,21 +65,6 @@ class Refusals(unittest.TestCase):
         for name in names - told_as_a_range - {"Page", "Geometry", "Sheet", "Problem", "LUN"}:
             self.assertRegex(to_do, rf"`[^`]*\b{name}\b[^`]*`")
 
-    @unittest.skipUnless(support.program(), "no built program")
-    def test_the_examples_are_answered_so(self) -> None:
-        device = "".join((support.ROOT / "examples/one-read.onfi").read_text().splitlines(keepends=True)[:4])
-        want = "want,read,0,0,0\n"
-        plan = support.run_program("plan", given=device + want + "end\n").stdout
-        checked = device + want + "end\n"
-        given = [("plan", device + want), ("plan", device + "want,read,0,0\nend\n"),
-                 ("plan", device + "free,5,10\nend\n"), ("plan", device + "running,0,0,0,read,0,0\nend\n"),
-                 ("check", checked + plan.replace("\n", "\r\n", 1)),
-                 ("check", checked + plan.replace("L\n", "Q\n")), ("check", checked + plan.replace("L\n", "L L\n")),
-                 ("check", checked + plan.replace("36240\n", "36241\n", 1))]
-        table = FORMATS.read_text().split("## Examples of refusals")[1]
-        rows = re.findall(r"^\| .*? \| `([^`]+)` \|$", table, re.MULTILINE)
-        self.assertEqual([support.run_program(word, given=text).stdout.rstrip("\n") for word, text in given], rows)
-
 
 if __name__ == "__main__":
     unittest.main()

@@ -42,7 +42,7 @@ class Closed(unittest.TestCase):
             os.close(writes)
 
     def test_each_tool_ends_quietly(self) -> None:
-        self.assertGreater(len(PYTHON), 25)
+        self.assertGreater(len(PYTHON), 20)
         for name in PYTHON:
             ran = self.ended([name, "--help"], BUFFERED)
             self.assertEqual((ran.returncode, ran.stderr), (CLOSED, ""), name)

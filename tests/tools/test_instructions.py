@@ -1,4 +1,4 @@
-"""tools/bench-instructions, on searches that do a known amount of work for each node, and what it makes of counts of calls."""
+"""tools/bench instructions, on searches that do a known amount of work for each node, and what it makes of counts of calls."""
 
 from __future__ import annotations
 
@@ -12,7 +12,7 @@ from typing import List
 
 import support
 
-from onfi_tools import driver_costs, whole_plans
+from onfi_tools.bench import driver_costs, instructions, whole_plans
 
 COUNTS = """version: 1
 cmd: count_calls plain 9 a b
@@ -125,7 +125,7 @@ def searches(folder: str) -> List[str]:
 class Instructions(unittest.TestCase):
     def test_twice_the_work_counts_twice(self) -> None:
         with tempfile.TemporaryDirectory() as folder:
-            said = support.run_tool("bench-instructions", *searches(folder), "--functions", "1")
+            said = support.run_tool("bench", "instructions", *searches(folder), "--functions", "1")
         self.assertEqual(said.returncode, 0, said.stderr)
         rows = re.findall(r"\| a node of [\w-]+ \| ([\d,]+) \| ([\d,]+) \|", said.stdout)
         self.assertEqual(len(rows), 4)
@@ -165,8 +165,8 @@ class Calls(unittest.TestCase):
             self.assertEqual(drawn, whole_plans.drawn_batches(5, requests), "a seed names its scripts")
 
     def test_what_a_start_plans_has_no_requests(self) -> None:
-        rows = support.load("bench-instructions").WITHOUT_REQUESTS.splitlines()
-        self.assertEqual([row.split(b",")[0] for row in rows], [b"shape", b"spans", b"spans", b"spans", b"end"])
+        rows = instructions.WITHOUT_REQUESTS.splitlines()
+        self.assertEqual([row.split(",")[0] for row in rows], ["shape", "spans", "spans", "spans", "end"])
 
     def test_every_set_has_scripts_of_its_own(self) -> None:
         drawn = whole_plans.drawn_sets(2)

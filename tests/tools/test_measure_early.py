@@ -1,4 +1,4 @@
-"""tools/measure-early: what plans cost, and the least that any schedule of a small problem costs."""
+"""tools/bench early: what plans cost, and the least that any schedule of a small problem costs."""
 
 from __future__ import annotations
 
@@ -10,7 +10,7 @@ from pathlib import Path
 
 import support
 
-from onfi_tools import early
+from onfi_tools import costs
 from onfi_tools.chains import Running, State
 from onfi_tools.device import Spans
 from onfi_tools.policies import Device, Want
@@ -27,43 +27,43 @@ def with_status_due() -> State:
 
 
 class Costs(unittest.TestCase):
-    """The erase ends at 908 at the soonest; behind its command the status ends at 8 and the program at 461."""
+    """The erase ends at 908 at the soonest; after its command the status ends at 8 and the program at 461."""
 
     def test_ends_of_a_plan(self) -> None:
-        ends = early.ends_of(with_status_due(), PLAN)
+        ends = costs.ends_of(with_status_due(), PLAN)
         self.assertEqual((ends.wants, ends.running), ({0: 908, 1: 461}, [8]))
         self.assertEqual((ends.cost(EQUAL), ends.cost({0: 1, 1: 20}), ends.mean()), (1377, 10136, 459.0))
 
     def test_ends_of_a_group(self) -> None:
         state = with_status_due()._replace(wants=[Want(4, "read", 0, 0, 0), Want(6, "read", 0, 1, 0)], running={}, free={0: 0, 1: 0, 2: 0})
-        self.assertEqual(early.ends_of(state, "group 4+6 0 11 121 141\n").wants, {4: 141, 6: 161})
+        self.assertEqual(costs.ends_of(state, "group 4+6 0 11 121 141\n").wants, {4: 141, 6: 161})
 
     def test_the_least_of_all_schedules(self) -> None:
         state = with_status_due()
-        self.assertEqual(early.least_cost(state, EQUAL, 908), 1377)
-        self.assertEqual(early.least_cost(state, EQUAL, 911), 3 + 911 + 461)
-        self.assertEqual(early.least_cost(state, {0: 1, 1: 20}, 908), 908 + 58 + 20 * 458)
-        self.assertIsNone(early.least_cost(state, EQUAL, 907))
+        self.assertEqual(costs.least_cost(state, EQUAL, 908), 1377)
+        self.assertEqual(costs.least_cost(state, EQUAL, 911), 3 + 911 + 461)
+        self.assertEqual(costs.least_cost(state, {0: 1, 1: 20}, 908), 908 + 58 + 20 * 458)
+        self.assertIsNone(costs.least_cost(state, EQUAL, 907))
 
     def test_groups_are_tried(self) -> None:
         """Two programs on two planes: apart the second waits for the first."""
         wants = [Want(0, "program", 0, 0, 0), Want(1, "program", 0, 1, 0)]
         state = State(Device(1, 1, True, True, LENGTHS), 0, {0: 0}, {}, wants)
-        self.assertEqual(early.least_cost(state, {}, 10_000), 504 + 507)
+        self.assertEqual(costs.least_cost(state, {}, 10_000), 504 + 507)
         alone = state._replace(device=state.device._replace(group_writes=False))
-        self.assertEqual(early.least_cost(alone, {}, 10_000), 453 + 906)
+        self.assertEqual(costs.least_cost(alone, {}, 10_000), 453 + 906)
 
     def test_rows_of_weights(self) -> None:
-        self.assertEqual(early.weight_rows({0: 3, 7: 65_535}), "weight,0,3\nweight,7,65535\n")
+        self.assertEqual(costs.weight_rows({0: 3, 7: 65_535}), "weight,0,3\nweight,7,65535\n")
 
     def test_quantiles(self) -> None:
-        self.assertEqual([early.quantile([3, 1, 2], share) for share in (0, 0.5, 0.9, 1)], [1, 2, 3, 3])
+        self.assertEqual([costs.quantile([3, 1, 2], share) for share in (0, 0.5, 0.9, 1)], [1, 2, 3, 3])
 
 
 class Tool(unittest.TestCase):
     @unittest.skipUnless(support.program(), "no built program")
     def test_the_built_program(self) -> None:
-        said = support.run_tool("measure-early", str(support.program()), "--small", "3", "--scripts", "2", "--slack", "0", "20")
+        said = support.run_tool("bench", "early", str(support.program()), "--small", "3", "--scripts", "2", "--slack", "0", "20")
         self.assertEqual(said.returncode, 0, said.stderr)
         self.assertIn("seed 1, 3 small problems, each against all its schedules", said.stdout)
         self.assertEqual(len(re.findall(r"(?m)^\| (?:0|20) \| \d+ \| \d+ \|", said.stdout)), 2)
@@ -76,9 +76,9 @@ class Tool(unittest.TestCase):
             plan = "ONFIPLAN 1\\nfinish 9\\nbelow 8\\nONFICERT 3 remember\\nU"
             program.write_text(f"#!{sys.executable}\nimport sys\nprint('{plan}' if 'plan' in sys.argv else 'within 9 8')\n")
             program.chmod(0o755)
-            said = support.run_tool("measure-early", str(program), "--small", "1", "--scripts", "0", "--slack", "0", "--jobs", "1")
+            said = support.run_tool("bench", "early", str(program), "--small", "1", "--scripts", "0", "--slack", "0", "--jobs", "1")
         self.assertEqual((said.returncode, said.stdout), (1, ""))
-        self.assertTrue(said.stderr.startswith("measure-early: "), said.stderr)
+        self.assertTrue(said.stderr.startswith("bench early: "), said.stderr)
 
 
 if __name__ == "__main__":

@@ -1,4 +1,4 @@
-"""tools/measure-remember, on programs whose searches open a known number of nodes."""
+"""tools/bench remember, on programs whose searches open a known number of nodes."""
 
 from __future__ import annotations
 
@@ -40,7 +40,7 @@ def measured(plain_nodes: int = 37, nodes: int = 3, finish: int = 7, accepted: i
         program = Path(folder) / "program"
         program.write_text(PROGRAM.format(python=sys.executable, plain_nodes=plain_nodes, nodes=nodes, finish=finish, accepted=accepted))
         os.chmod(program, stat.S_IRWXU)
-        said = support.run_tool("measure-remember", str(program), "5", "--scripts", "4", "--chains", "0")
+        said = support.run_tool("bench", "remember", str(program), "5", "--scripts", "4", "--chains", "0")
     return said.returncode, said.stdout, said.stderr
 
 
@@ -75,7 +75,7 @@ PLAN = "ONFIPLAN 1\nfinish 58240\ngroup 2 0 25240\ngroup 0+1 140 880 36240 47240
 
 
 class Chains(unittest.TestCase):
-    """What a channel is behind some phases of the plan of examples/batch.onfi."""
+    """What a channel is after some phases of the plan of examples/batch.onfi."""
 
     def left(self, count: int) -> chains.State:
         device = Device(2, 1, True, True, USUAL)
@@ -110,7 +110,7 @@ class Chains(unittest.TestCase):
 
     @unittest.skipUnless(support.program(), "no built program")
     def test_chains_of_the_built_program(self) -> None:
-        said = support.run_tool("measure-remember", str(support.program()), "5", "--scripts", "4", "--chains", "2", "--few")
+        said = support.run_tool("bench", "remember", str(support.program()), "5", "--scripts", "4", "--chains", "2", "--few")
         self.assertEqual(said.returncode, 0, said.stderr)
         self.assertIn("2 chains of 6 rolling batches: 12", said.stdout)
         self.assertRegex(said.stdout, r"\n\| 65,536 \| \d+\.\d % \|")

@@ -38,7 +38,7 @@ def ran(*words: Word, given: bytes = b"") -> Ran:
 
 @unittest.skipUnless(support.program(), "no built program")
 class WrongWords(unittest.TestCase):
-    """A refused command line has status 5, no answer, and is told what is wrong with it."""
+    """A refused command line has status 5, no answer, and is shown what is wrong with it."""
 
     def assert_refused(self, words: Sequence[Word], *told: str) -> None:
         found = ran(*words, given=BATCH.read_bytes())

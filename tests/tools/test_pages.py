@@ -80,7 +80,7 @@ class Cells(unittest.TestCase):
 class Crates(unittest.TestCase):
     def test_each_stands_below_those_on_it(self) -> None:
         """In ARCHITECTURE a crate's row is below those of the crates that it stands on; CLAIMS names no other crates."""
-        rows = re.findall(r"^\| `(\w+)` \|", (ROOT / "docs/ARCHITECTURE.md").read_text(), re.MULTILINE)
+        rows = re.findall(r"^- `(onfi_\w+)`:", (ROOT / "docs/ARCHITECTURE.md").read_text(), re.MULTILINE)
         lines = re.findall(r"^(onfi_\w+)[^:\n]*:(.*)$", (ROOT / "crates.txt").read_text(), re.MULTILINE)
         self.assertEqual(sorted(rows), sorted(name for name, _ in lines))
         for name, below in lines:

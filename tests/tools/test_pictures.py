@@ -153,7 +153,7 @@ class Windows(unittest.TestCase):
 
 class Drawings(unittest.TestCase):
     def bars(self, root: ET.Element) -> List[Tuple[float, float, Tuple[str, ...]]]:
-        """Left side, width and what its title tells, of each bar."""
+        """Left side, width and what its title says, of each bar."""
         found = []
         for rect in root.iter(SVG + "rect"):
             title = rect.find(SVG + "title")

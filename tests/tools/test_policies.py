@@ -1,4 +1,4 @@
-"""The plain policies of tools/worth: worked schedules, and legality by a checker of this file."""
+"""The plain policies of tools/bench worth: worked schedules, and legality by a checker of this file."""
 
 from __future__ import annotations
 
@@ -143,7 +143,7 @@ class Legal(unittest.TestCase):
 
     @unittest.skipUnless(support.program(), "no built program")
     def test_the_measurement(self) -> None:
-        ran = support.run_tool("worth", str(support.program()), "--scripts", "20", "--check", "20", "--limit", "20000")
+        ran = support.run_tool("bench", "worth", str(support.program()), "--scripts", "20", "--check", "20", "--limit", "20000")
         self.assertEqual((ran.returncode, ran.stderr), (0, ""))
         self.assertIn("80 schedules of the ways judged legal", ran.stdout)
 

@@ -22,7 +22,6 @@ class Row(NamedTuple):
     clause: str
     definition: str
     lemmas: str
-    hard: str
 
 
 def rows_of(text: str) -> List[Row]:
@@ -32,7 +31,7 @@ def rows_of(text: str) -> List[Row]:
 
 
 def parts_of(cell: str) -> List[Tuple[List[str], Path]]:
-    """The names of a cell with the file that the link behind them leads to."""
+    """The names of a cell with the file that the link after them leads to."""
     ends = list(LINK.finditer(cell))
     begins = [0, *(end.end() for end in ends)]
     return [(NAME.findall(cell[begin:end.start()]), support.ROOT / end[1]) for begin, end in zip(begins, ends)]
@@ -115,7 +114,7 @@ class Proofs(unittest.TestCase):
         imports = Imports()
         for row in self.rows:
             below = set().union(*(imports.below(crate_of(path)) for _, path in parts_of(row.clause)))
-            modules = parts_of(row.lemmas) + parts_of(row.hard)
+            modules = parts_of(row.lemmas)
             self.assertTrue(modules, row.promise)
             for _, path in modules:
                 self.assertEqual(path.parent.name, "proofs", row.promise)

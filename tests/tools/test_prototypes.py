@@ -1,4 +1,4 @@
-"""tools/bench-plan --prototypes, on a program that tells what the plain searches of bench/ find."""
+"""tools/bench plan --prototypes, on a program that says what the plain searches of bench/ find."""
 
 from __future__ import annotations
 
@@ -10,7 +10,7 @@ from pathlib import Path
 
 import support
 
-# Answers by the plain searches: `plan --limit N` is over where theirs is, and `plan --remember` tells their finish, or one ns more.
+# Answers by the plain searches: `plan --limit N` is over where theirs is, and `plan --remember` gives their finish, or one ns more.
 PROGRAM = """#!/bin/sh
 script={room}/given.onfi
 cat > $script
@@ -30,7 +30,7 @@ class Prototypes(unittest.TestCase):
         program = Path(room) / "program"
         program.write_text(PROGRAM.format(room=room, more=more))
         program.chmod(0o755)
-        return support.run_tool("bench-plan", str(program), "--prototypes", "--rounds", "1", "--random", str(random))
+        return support.run_tool("bench", "plan", str(program), "--prototypes", "--rounds", "1", "--random", str(random))
 
     def test_both_are_measured(self) -> None:
         with tempfile.TemporaryDirectory() as room:

@@ -1,4 +1,4 @@
-"""The simulator of channels in rolling use: worked runs, its judge on spoilt phases, its choices, and its tables."""
+"""The simulator of channels in rolling use: worked runs, its judge on broken phases, its choices, and its tables."""
 
 from __future__ import annotations
 
@@ -11,12 +11,10 @@ from pathlib import Path
 from typing import Dict, List, NamedTuple, Optional
 
 import support
-from onfi_tools.rolling_report import Whole
-from onfi_tools.rolling_tables import (furthest_behind, gains_table, nine_of_ten, of_bound, quick_tables, room_table, spread_table,
-                                       whole_tables)
+from onfi_tools.rolling_tables import nine_of_ten, of_bound, quick_tables, room_table, spread_table, whole_tables
 from onfi_tools.rolling_use import (ALL, OF_THE_LIBRARY, SOURCES, STRICT, TWELVE, WITH_ERASES, Asked, Configuration, Figures, Measured, Rows, build,
-                                    calls_of, key_of, measure, run_way, ways_of)
-from onfi_tools.rolling_ways import BASE, GREEDY, NAMESAKES, OWN, PLANS, QUICK, SETTINGS, WAYS, lines_of_missing
+                                    key_of, measure, run_way)
+from onfi_tools.rolling_ways import BASE, GREEDY, PLANS, QUICK, SETTINGS, SOME, WAYS, WITHOUT_SEARCH
 
 KIT_ARCHIVE = "c/liblibc_c.a"
 ASKED = Asked(requests=200, seed=3, limit=2000, jobs=1)
@@ -49,50 +47,7 @@ too soon on the bus: the bus isn't free
 never: requests are left, and nothing is done
 everything: 0 1 2 3 4 5 6 7 8 9 10 11 12 13 14
 first eight: 0 1 2 3 4 5 6 7
-by LUN: 0 7 8 10 11 12 13 14
-by LUN, reads first: 0 7 9 10 11 12 13 14
 by LUN, one kind: 0 1 9 10 11 12 13 14
-reads before a program: 1 8 10 11 12 13 14 15
-the program passed over: 0 1 8 10 11 12 14 15
-one kind, the program passed over: 1 2 10 11 12 13 14 15
-no LUN has work: LUN 0 at 0, 0 1 2
-a read of a LUN that isn't ready: LUN 0 at 0, 3
-the erase is of another LUN, which isn't ready: LUN 2 at 500, 3
-one is due: LUN 0 at 0, 1 0 2
-the newest program has begun: LUN 0 at 0, 0 1 2
-the last plane has come: LUN 0 at 0, 0 1 2 5
-data that would end behind the gap: LUN 0 at 600,
-a command that ends within it: LUN 2 at 0, 1
-a gap that is too long: LUN 1 at 0, 0
-"""
-# Of equal weights, of weights by age, and of those where reads count twenty times; the greatest is 65,535.
-PLANNERS = """\
-weights 1 1 1 LUN 1: 1
-weights 1 1 1 1 1 1 1 1 LUN 0: 1 LUN 0: 1 LUN 0: 1 LUN 0: 1
-weights 8 40 136 LUN 1: 40
-weights 4616 8 8 8 8 8 8 8 LUN 0: 8 LUN 0: 8 LUN 0: 8 LUN 0: 8
-weights 160 40 2720 LUN 1: 40
-weights 65535 160 160 160 160 160 160 160 LUN 0: 160 LUN 0: 160 LUN 0: 160 LUN 0: 160
-plan: known, 8 wants, limit 7
-the planner refuses a problem
-plan-early: slack 0
-the planner refuses a problem
-plan-early-reads-first: slack 0
-the planner refuses a problem
-plan-near-by-lun: slack 20
-the planner refuses a problem
-plan-near-reads-first: slack 20
-the planner refuses a problem
-plan-near-heavy-reads: slack 20
-the planner refuses a problem
-plan-near-one-kind: slack 20
-the planner refuses a problem
-near-library: 8 of 64 that wait, 64 accepted, 8 LUNs, choice 1
-the library refuses to choose
-plan-near-by-lun: slack 0
-the planner refuses a problem
-plan-early: slack 7
-the planner refuses a problem
 """
 
 
@@ -157,10 +112,7 @@ class Parts(unittest.TestCase):
         return ran.stdout
 
     def test_judge_and_choice(self) -> None:
-        self.assertEqual(self.printed("rolling_parts.c", [OF_THE_LIBRARY, "main.c"], "-DWITHOUT_PLANS"), PARTS)
-
-    def test_what_is_asked_of_the_library(self) -> None:
-        self.assertEqual(self.printed("rolling_planner.c", ["main.c"]), PLANNERS)
+        self.assertEqual(self.printed("rolling_parts.c", [OF_THE_LIBRARY, "main.c"], "-DWITHOUT_LIBRARY"), PARTS)
 
 
 class Answered:
@@ -202,7 +154,7 @@ class Answered:
 
 
 class Greedy(Answered, unittest.TestCase):
-    ways = OWN
+    ways = list(GREEDY)
     requests = 200
 
     def setUp(self) -> None:
@@ -212,7 +164,7 @@ class Greedy(Answered, unittest.TestCase):
         return run_way(self.program, of, way, ASKED)["rate"]
 
     def test_first_in_first_out_by_hand(self) -> None:
-        # One LUN, none grouped: a program's data of 37,439, its array of 800,100, its status of 305, one behind another.
+        # One LUN, none grouped: a program's data of 37,439, its array of 800,100, its status of 305, one after another.
         self.assertAlmostEqual(self.rate(Configuration("tlc", "sequential", 2, luns=1), "fifo"), 1e9 / 837844, 2)
         ran = phases(self.program, Configuration("tlc", "sequential", 2, luns=2), "fifo", 8)
         # Four planes of LUN 0, then those of LUN 1: the fifth request doesn't wait for the fourth.
@@ -223,13 +175,6 @@ class Greedy(Answered, unittest.TestCase):
         # One LUN: the data of four programs with gaps of 600 between them, one array, four statuses.
         four = 4 * 37439 + 3 * 600 + 800100 + 4 * 305
         self.assertAlmostEqual(self.rate(Configuration("tlc", "sequential", 2, luns=1), "rfirst:all"), 4e9 / four, 2)
-
-    def test_phase_by_phase_whole_groups_wait_for_their_mates(self) -> None:
-        """Sixteen programs of eight LUNs, four planes each: in groups of four, as the greedy way has them."""
-        of = Configuration("tlc", "sequential", 2, depth=16)
-        figures = run_way(self.program, of, "steady", ASKED)
-        self.assertEqual(figures["group"], 4)
-        self.assertAlmostEqual(figures["rate"] / self.rate(of, "rfirst:all"), 1, 4)
 
     def test_an_array_that_is_early_counts_where_it_is_told(self) -> None:
         of = Configuration("tlc", "reads", 2, luns=1, depth=1, array="0.5-0.5")
@@ -261,7 +206,7 @@ class Greedy(Answered, unittest.TestCase):
 
 
 class Plans(Answered, unittest.TestCase):
-    ways = [way for way in PLANS if WAYS[way].searches and not WAYS[way].takes]
+    ways = list(PLANS)
     requests = 80
 
     @classmethod
@@ -285,25 +230,23 @@ class Plans(Answered, unittest.TestCase):
             self.assertAlmostEqual(figures["rate"], 4e9 / four, 2, way)
 
 
-class FromC(Answered, unittest.TestCase):
-    """Ways by the library's calls alone, without a search; and what they and their namesakes of the simulator's own code do."""
+class WithoutSearch(Plans):
+    """Plans by the rule, and phase by phase."""
 
+    ways = list(WITHOUT_SEARCH)
     requests = 200
 
-    @classmethod
-    def setUpClass(cls) -> None:
-        found = library(Path(ROOM.name))
-        if found is None:
-            raise unittest.SkipTest("no built library")
-        cls.program = build(Path(ROOM.name) / "from-c", found)
-        cls.ways = [way for way in NAMESAKES if way in ways_of(cls.program) and not WAYS[way].searches]
+    def test_a_search_that_is_over_is_counted(self) -> None:
+        """There is none."""
+        for way in self.ways:
+            self.assertEqual(run_way(self.program, TWELVE[0], way, ASKED._replace(limit=1))["over"], 0, way)
 
-    def test_each_phase_is_that_of_the_namesake(self) -> None:
-        deep = Configuration("slc", "erases", 2, luns=2, depth=256, load=0.9, array="0.4-0.7")
-        for way in (*self.ways, "near-library"):
-            for of in (*TWELVE, deep, TWELVE[8]._replace(depth=256), TWELVE[1]._replace(array="0.4-0.7")):
-                requests = 60 if WAYS[way].searches else 1000
-                self.assertEqual(phases(self.program, of, way, requests), phases(self.program, of, NAMESAKES[way], requests), (way, of))
+    def test_phase_by_phase_whole_groups_wait_for_their_mates(self) -> None:
+        """Sixteen programs of eight LUNs, four planes each: in groups of four, as the greedy way has them."""
+        of = Configuration("tlc", "sequential", 2, depth=16)
+        figures = run_way(self.program, of, "steady", ASKED)
+        self.assertEqual(figures["group"], 4)
+        self.assertAlmostEqual(figures["rate"] / run_way(self.program, of, BASE, ASKED)["rate"], 1, 4)
 
 
 def measured_by(rates: Dict[str, List[float]]) -> List[Measured]:
@@ -323,12 +266,6 @@ class Tables(unittest.TestCase):
         self.assertEqual(len(TWELVE), 12)
         self.assertLessEqual(set(TWELVE), set(ALL))
         self.assertLessEqual(set(SETTINGS), set(QUICK))
-        self.assertEqual({of.array for of in Whole(["plan"], "0.7-0.9").configurations()}, {"0.7-0.9"})
-
-    def test_gains_by_hand(self) -> None:
-        measured = measured_by({"plan": [150, 90, 100.5]})
-        row = "| plan in order against first in first out | +0.5 | +13.5 | +50.0 | -10.0 |"
-        self.assertEqual(gains_table(measured, ["plan"], ["fifo"])[2], row)
 
     def test_spread_by_hand(self) -> None:
         """Ten configurations: nine of ten are at least the second least. Reads take twice as long on all but one, which has none."""
@@ -340,8 +277,6 @@ class Tables(unittest.TestCase):
         row = "| plan in order | 100.0 | 90.0 | 80.0 | 150.0 | 1; 2 | 80; 64 | 1.00 | 2.00 | 1.00 | 1.00 |"
         self.assertEqual(spread_table("of ten", measured, ["plan"])[2], row)
         self.assertEqual(nine_of_ten(list(range(216))), 21)
-        last = f"{ALL[3].title()}: 80; {ALL[1].title()}: 90"
-        self.assertEqual(furthest_behind(measured, ["plan"], 2)[2], f"| plan in order | {last} |")
 
     def test_where_there_is_room_by_hand(self) -> None:
         """Reads first over all has 80 % of a bound of 125; of three configurations one has a bound of 105."""
@@ -353,27 +288,13 @@ class Tables(unittest.TestCase):
         self.assertEqual(room_table(measured, ["plan"])[2], "| plan in order | 95.0 | 95.0 | 100.0 | 90.0 | 76; 72 | 1.00 |")
         self.assertEqual(len(room_table(measured[:1], ["plan"])), 2)
 
-    def test_ways_that_the_library_lacks_are_told(self) -> None:
-        self.assertEqual(ways_of(GREEDY_ALONE), OWN)
-        told = ["left out: phase by phase, from C, for want of onfi_next", "left out: plan in order, for want of the library"]
-        self.assertEqual(lines_of_missing(["steady-library", "plan"]), told)
-
-    def test_calls_that_a_library_has(self) -> None:
-        """By the names of its archive: one that it only asks for is none of its own."""
-        room = Path(ROOM.name) / "calls"
-        room.mkdir()
-        (room / "calls.c").write_text("int onfi_plan_rule(void);\nint onfi_next(void) { return onfi_plan_rule(); }\n")
-        subprocess.run(["cc", "-c", str(room / "calls.c"), "-o", str(room / "calls.o")], check=True)
-        subprocess.run(["ar", "rcs", str(room / "libonfi.a"), str(room / "calls.o")], check=True)
-        self.assertEqual(calls_of(room), ["onfi_next"])
-
     def test_runs_with_erases_are_longer(self) -> None:
         self.assertEqual([ASKED.requests_of(of) for of in TWELVE[7:9]], [ASKED.requests, WITH_ERASES])
         self.assertEqual(ASKED._replace(requests=20_000).requests_of(TWELVE[8]), 20_000)
 
     def test_each_table_has_a_cell_for_each_column(self) -> None:
         whole = whole_tables([one._replace(configuration=of) for of, one in zip(ALL, measured_by({"plan": [90.0] * 216}))], list(WAYS))
-        quick = quick_tables([measured_by({"plan": [90.0] * size}) for size in (12, 6, 3)], list(WAYS))
+        quick = quick_tables([measured_by({"plan": [90.0] * size}) for size in (12, 6, 3)], QUICK, SOME)
         for lines in (whole, quick):
             tables = [part.splitlines() for part in "\n".join(lines).split("\n\n")]
             self.assertGreaterEqual(len(tables), 4)
@@ -396,14 +317,14 @@ class Tables(unittest.TestCase):
         self.assertEqual(Rows(path).found[key_of(of[1], BASE, ASKED)], both[1].by_way[BASE])
 
     def test_a_way_that_there_isnt(self) -> None:
-        ran = support.run_tool("worth", "--rolling", "--ways", "plan,best")
+        ran = support.run_tool("bench", "rolling", "--ways", "plan,best")
         self.assertEqual((ran.returncode, ran.stdout), (2, ""))
         self.assertIn("no way best; there are fifo, ", ran.stderr)
 
     def test_a_folder_without_the_library(self) -> None:
-        ran = support.run_tool("worth", "--rolling", "--quick", "--library", "/nowhere")
+        ran = support.run_tool("bench", "rolling", "--quick", "--library", "/nowhere")
         self.assertEqual((ran.returncode, ran.stdout), (1, ""))
-        self.assertEqual(ran.stderr, "worth: no libonfi.a in /nowhere: `make library` builds it\n")
+        self.assertEqual(ran.stderr, "bench rolling: no libonfi.a in /nowhere: `make library` builds it\n")
 
 
 if __name__ == "__main__":

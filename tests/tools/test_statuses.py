@@ -1,4 +1,4 @@
-"""The page of statuses: the header, the Python package and the Rattle source say what it says, and the tool tells where one doesn't."""
+"""The page of statuses: the header, the Python package and the Rattle source say what it says, and the tool says where one doesn't."""
 
 from __future__ import annotations
 

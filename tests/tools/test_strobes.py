@@ -1,4 +1,4 @@
-"""Devices by strobes: their lengths as reckoned here, and strobes that give a sheet's lengths give its texts."""
+"""Devices by strobes: their lengths as computed here, and strobes that give a sheet's lengths give its texts."""
 
 from __future__ import annotations
 

@@ -26,10 +26,10 @@ class Testing(unittest.TestCase):
             tool = " ".join(words[:2]) if words[0] == "rt" or "--streams" in words else words[0]
             self.assertIn(f"`{tool}", run_by, name)
 
-    def test_each_tool_that_measures_has_a_row(self) -> None:
-        tools = [path.name for path in (support.ROOT / "tools").iterdir() if re.match(r"bench-|measure-|worth|fuzz|soak", path.name)]
-        self.assertGreater(len(tools), 7)
-        for name in tools:
+    def test_each_measure_has_a_row(self) -> None:
+        names = [path.stem for path in (support.ROOT / "tools/onfi_tools/bench").glob("*.py") if "def words(" in path.read_text()]
+        self.assertGreater(len(names), 7)
+        for name in [*(f"bench {name}" for name in names), "fuzz", "soak"]:
             self.assertIn(f"`tools/{name}", TESTING)
 
     def test_what_only_tests_show_is_by_what_is_there(self) -> None:

@@ -1,4 +1,4 @@
-"""The version stands in the file VERSION; all other places that tell one tell the same."""
+"""The version stands in the file VERSION; all other places that give one give the same."""
 
 from __future__ import annotations
 

@@ -18,9 +18,8 @@ WANTED = """LUN, plane, block, page, parameter page, timing sheet, row address, 
 limit, certificate, token, finish, legal, optimal, schedule, plan, script, strict, die model, rightful, host, core, sequencer, turn, gate, channel, clause,
 definition, law, lemma, kit, case, trial, wrong body, twin, trace, remember, yield, gap, array time, move, demand, window, part"""
 
-# The pages in plain English so far; more are added as they are written anew.
-PLAIN = ["README.md", "CONTRIBUTING.md", "bench/README.md",
-         *(f"docs/{name}.md" for name in ("CLAIMS", "GATE", "GLOSSARY", "HOSTILE", "PROOFS", "READ-FIRST", "REMEMBER", "SPEED", "TESTING", "WORTH"))]
+# All pages.
+PLAIN = [ROOT / "README.md", ROOT / "CONTRIBUTING.md", *(path for folder in ("bench", "docs", "examples", "tests") for path in (ROOT / folder).glob("**/*.md"))]
 
 
 def prose_of(text: str) -> str:
@@ -29,20 +28,26 @@ def prose_of(text: str) -> str:
     return re.sub(r"^ {4}.*$|`[^`\n]*`|\[[\w.]+\]\([^)]*crates/[^)]*\)|\]\([^)]*\)", "", text, flags=re.MULTILINE)
 
 
+def comments_of(text: str) -> str:
+    """The comments of a source in Rattle or C without code, each in one line."""
+    found = re.findall(r"/\*(?:.|\n)*?\*/|(?:^[ \t]*//[^\n]*\n)+", text, flags=re.MULTILINE)
+    plain = [re.sub(r"^[ \t]*(?://[/!]?|/?\*+/?)|\*/", " ", comment, flags=re.MULTILINE) for comment in found]
+    return "\n".join(" ".join(re.sub(r"`[^`]*`", "", comment).split()) for comment in plain)
+
+
 def words_that_go() -> List[str]:
     """The left column of the list of CONTRIBUTING."""
     section = (ROOT / "CONTRIBUTING.md").read_text().split("### Words\n")[1]
     return [word for line in section.splitlines() if line.startswith("| `") for word in re.findall(r"`([^`]+)`", line.split(" | ")[0])]
 
 
-def tables_of(text: str) -> List[List[Tuple[str, str]]]:
-    sections = text.split("\n## ")[1:]
-    rows = [[line.strip("| ").split(" | ") for line in section.splitlines() if line.startswith("| ")][1:] for section in sections]
-    return [[(word, meaning) for word, meaning in table] for table in rows]
+def lists_of(text: str) -> List[List[Tuple[str, str]]]:
+    """The words of each section, each with its meaning."""
+    return [re.findall(r"^- \*\*(.+?)\*\*: (.+)$", section, re.MULTILINE) for section in text.split("\n## ")[1:]]
 
 
 class Glossary(unittest.TestCase):
-    tables = tables_of(GLOSSARY)
+    tables = lists_of(GLOSSARY)
 
     def test_each_word_stands_once_in_order_with_a_short_line(self) -> None:
         seen: List[str] = []
@@ -68,17 +73,39 @@ class Glossary(unittest.TestCase):
             for word, _ in table:
                 if word != "R/B":
                     stem = re.escape(word.lower().rstrip("y"))
-                    self.assertRegex(text, rf"\b{stem}", word)
+                    self.assertTrue(re.search(rf"\b{stem}", text), word)
 
 
 class Words(unittest.TestCase):
     def test_pages_have_none_of_those_that_go(self) -> None:
         words = words_that_go()
         self.assertGreater(len(words), 12)
+        self.assertGreater(len(PLAIN), 25)
+        manual = re.sub(r"^\.EX\n.*?^\.EE\n", "", (ROOT / "docs/onfi_sim.1").read_text(), flags=re.MULTILINE | re.DOTALL)
+        self.assertNotRegex(manual, re.compile("|".join(rf"\b{re.escape(word)}\b" for word in words), re.IGNORECASE))
         for page in PLAIN:
-            for line in prose_of((ROOT / page).read_text()).splitlines():
+            for line in prose_of(page.read_text()).splitlines():
                 for word in words:
-                    self.assertNotRegex(line, re.compile(rf"\b{re.escape(word)}\b", re.IGNORECASE), page)
+                    self.assertNotRegex(line, re.compile(rf"\b{re.escape(word)}\b", re.IGNORECASE), str(page))
+
+    def test_comments_have_none_of_those_that_go(self) -> None:
+        """Those of the Rattle sources and of the header for C."""
+        going = re.compile("|".join(rf"\b{re.escape(word)}\b" for word in words_that_go()), re.IGNORECASE)
+        sources = sorted((ROOT / "crates").glob("*/src/**/*.rt"))
+        self.assertGreater(len(sources), 300)
+        sources.append(ROOT / "include/onfi.h")
+        for source in sources:
+            for comment in comments_of(source.read_text()).splitlines():
+                self.assertNotRegex(comment, going, str(source))
+
+    def test_only_comments_are_read(self) -> None:
+        source = "//! One\n\n/// two `told`, for\n/// want of it\nlet told = 2; // three\n    // four\n/* five */\n/*\n * six\n */\n"
+        self.assertEqual(comments_of(source), "One\ntwo , for want of it\nfour\nfive\nsix")
+
+    def test_they_are_short(self) -> None:
+        """README and docs have at most 30,000 words together, as `wc -w` counts them."""
+        pages = [ROOT / "README.md", *(ROOT / "docs").glob("*.md")]
+        self.assertLessEqual(sum(len(page.read_text().split()) for page in pages), 30_000)
 
     def test_code_is_left_out(self) -> None:
         text = "`a told` [it](behind.md) [Told](../crates/onfi_run/specs/Told.antt)\n\n    told by code\n\n```sh\necho told\n```\nno word\n"

@@ -1,4 +1,4 @@
-"""tools/bench-plan --workers, on a program whose threads do a known amount of work and count it themselves."""
+"""tools/bench plan --workers, on a program whose threads do a known amount of work and count it themselves."""
 
 from __future__ import annotations
 
@@ -9,8 +9,8 @@ from pathlib import Path
 
 import support
 
-# Plans by parts of 300, 100, 200 and 200 ms, 100 ms before them and 100 behind; by several workers each part takes 10 ms
-# more. The work is counted, not done: the clock that it defines in front of the C library's tells the count.
+# Plans by parts of 300, 100, 200 and 200 ms, 100 ms before them and 100 after; by several workers each part takes 10 ms
+# more. The work is counted, not done: the clock that it defines in front of the C library's gives the count.
 PROGRAM = r"""
 #include <pthread.h>
 #include <stdio.h>
@@ -90,7 +90,7 @@ def said_of(plan: str, end: str) -> "subprocess.CompletedProcess[str]":
         source.write_text(PROGRAM)
         options = [f"-DPLAN={plan}", f"-DEND={end}", "-O1", "-w", "-rdynamic", "-pthread"]
         subprocess.run(["cc", *options, "-o", made, str(source)], check=True)
-        return support.run_tool("bench-plan", "--workers", made, "--rounds", "2", "--random", "3")
+        return support.run_tool("bench", "plan", "--workers", made, "--rounds", "2", "--random", "3")
 
 
 class Workers(unittest.TestCase):

@@ -46,7 +46,7 @@ end
 
 
 def made(trace: str, *words: str, device: str = DEVICE) -> Tuple[int, str, str]:
-    """Status, rows behind the device and standard error of the tool, of a trace that is its text."""
+    """Status, rows after the device and standard error of the tool, of a trace that is its text."""
     with tempfile.TemporaryDirectory() as room:
         path = Path(room) / "trace.csv"
         path.write_text(trace)
@@ -116,7 +116,7 @@ class Places(unittest.TestCase):
         self.assertTrue(all(channel < 2 and lun < 2 and block < 6 and page < 4 for channel, lun, block, page in found))
 
     def test_reads_find_what_was_written_last(self) -> None:
-        """Against a model of pages: each is programmed once behind its erase, in the order of its block."""
+        """Against a model of pages: each is programmed once after its erase, in the order of its block."""
         rng = random.Random(7)
         shape = SMALL._replace(blocks=80)
         for erases in (True, False):

@@ -17,7 +17,7 @@ from onfi_tools.rolling_ways import BASE, WAYS
 BENCH = support.ROOT / "bench"
 PAGE = (support.ROOT / "docs/WORTH.md").read_text()
 README = (support.ROOT / "README.md").read_text()
-ASKED = Asked(requests=4000, seed=1, limit=2000, jobs=1)
+ASKED = Asked(requests=10000, seed=1, limit=2000, jobs=1)
 
 Table = Dict[str, Dict[str, str]]
 
@@ -105,11 +105,13 @@ class Stored(unittest.TestCase):
                 self.assertEqual(own, cell, f"{configuration}: {way}")
 
     def test_planning(self) -> None:
+        said = PAGE.split("### What planning takes\n")[1].split("\n#")[0]
         rows = [row for row in rows_of("twelve.csv") if row["plan_us"]]
-        for way, cells in page_table("a plan").items():
+        for way in ("plan in order", "plan by LUN, near", "plan one kind, near"):
             own = [row for row in rows if row["way"] == way]
-            means, longest = [int(row["plan_us"]) for row in own], max(int(row["plan_longest_ms"]) for row in own)
-            self.assertEqual(list(cells.values()), [f"{min(means):,} to {max(means):,}", str(longest)], way)
+            means = [int(row["plan_us"]) for row in own]
+            self.assertIn(f"{min(means):,} to {max(means):,}", said, way)
+            self.assertIn(str(max(int(row["plan_longest_ms"]) for row in own)), said, way)
 
     def test_remembering(self) -> None:
         names = ("nodes", "ms", "bytes")

@@ -1,4 +1,4 @@
-"""The public calls and types of a crate, with what its sources say that each is for."""
+"""The public calls and types of a crate, with the file that each stands in."""
 
 from __future__ import annotations
 
@@ -14,35 +14,22 @@ LAW = re.compile(r"^\{\s*\}", re.MULTILINE)
 
 
 class Item(NamedTuple):
-    """A public name of a crate: what it is, the calls of a type, and the first sentence of what its source says."""
+    """A public name of a crate: what it is, the calls of a type, and the source that it stands in."""
 
     name: str
     what: str
     calls: List[str]
-    said: str
+    source: Path
     is_law: bool
 
 
 def exported(text: str) -> Iterator[str]:
-    """The names that a lib.rt hands out, each with its path there."""
+    """The names that a lib.rt exports, each with its path there."""
     for used in USE.findall(text):
         path, _, inner = used.partition("{")
         for name in (it.strip() for it in inner.rstrip("} \n").split(",")) if inner else [""]:
             if name or not inner:
                 yield "".join((path + name).split())
-
-
-def first_sentence(lines: List[str]) -> str:
-    """Of the comment that ends the lines; attributes may stand behind it."""
-    said: List[str] = []
-    for line in reversed(lines):
-        if line.startswith("///"):
-            said.insert(0, line[3:].strip())
-        elif not line.startswith(("#[", ")]", "    ")):
-            break
-    text = " ".join(said[: said.index("")] if "" in said else said)
-    text = re.sub(r"\[(`[^`]+`)\](?:\([^)]*\))?", r"\1", text)
-    return re.split(r"(?<=\.) (?=[A-Z`])", text)[0].replace("|", "\\|")
 
 
 def calls_of(name: str, texts: List[str]) -> List[str]:
@@ -51,52 +38,44 @@ def calls_of(name: str, texts: List[str]) -> List[str]:
     return list(dict.fromkeys(found))
 
 
-def item_of(name: str, texts: List[str]) -> Item:
-    for text in texts:
+def item_of(name: str, texts: Dict[Path, str]) -> Item:
+    for path, text in texts.items():
         defined = re.search(ITEM.format(name=name), text, re.MULTILINE)
         if defined:
             body = text[defined.start() :]
             until = re.search(r"^\}" if defined["what"] in ("fn", "trait") else r"^\}|;$", body, re.MULTILINE)
             own = body[: until.end()] if until else body
-            calls = calls_of(name, texts)
-            if defined["what"] == "trait":
-                calls = [call for _, call in METHOD.findall(own)]
-            return Item(name, defined["what"], calls, first_sentence(text[: defined.start()].splitlines()), bool(LAW.search(own)))
+            calls = [call for _, call in METHOD.findall(own)] if defined["what"] == "trait" else calls_of(name, list(texts.values()))
+            return Item(name, defined["what"], calls, path, bool(LAW.search(own)))
     raise ValueError(f"{name}: its definition isn't found")
 
 
 def items_of(crates: Path, crate: str) -> List[Item]:
-    """What a crate hands out, functions before types; of another crate's item the name alone."""
-    sources = sorted((crates / crate / "src").glob("**/*.rt"))
-    texts = [path.read_text() for path in sources]
+    """What a crate gives out, functions before types; of another crate's item the name alone."""
+    texts = {path: path.read_text() for path in sorted((crates / crate / "src").glob("**/*.rt"))}
     found: List[Item] = []
     for path in exported((crates / crate / "src/lib.rt").read_text()):
         head, name = path.split("::")[0], path.split("::")[-1]
         if (crates / head).is_dir():
-            found.append(Item(name, "of", [], f"that of `{head}`", False))
+            found.append(Item(name, "of", [], crates / head / "src/lib.rt", False))
         else:
             found.append(item_of(name, texts))
     return sorted(found, key=lambda it: (it.what not in ("fn", "of"), it.name[0].isupper()))
 
 
-def about(lib: str) -> str:
-    """The first sentence of a lib.rt."""
-    lines = [line[3:].strip() for line in lib.splitlines() if line.startswith("//!")]
-    text = " ".join(lines[: lines.index("")] if "" in lines else lines)
-    return re.sub(r"\[(`[^`]+`)\]", r"\1", re.split(r"(?<=\.) (?=[A-Z`])", text)[0])
-
-
 def page_of_crate(crates: Path, crate: str) -> List[str]:
-    """The section of a crate."""
-    items = items_of(crates, crate)
-    rows = [f"| {called(it)} | {it.said} |" for it in items if not it.is_law]
-    laws = [f"`{it.name}`" for it in items if it.is_law]
-    lines = [f"## `{crate}`", "", about((crates / crate / "src/lib.rt").read_text()), "", "| call | is |", "|---|---|", *rows]
-    return [*lines, "", *([f"Laws: {', '.join(laws)}.", ""] if laws else [])]
+    """The section of a crate: calls and types, each with a link to its source, then types with their calls, then laws."""
+    items = [it for it in items_of(crates, crate) if not it.is_law]
+    links = {it.name: f"[`{it.name}`](../{it.source.relative_to(crates.parent)})" for it in items}
+    alone = [links[it.name] for it in items if not it.calls]
+    rows = [f"- {links[it.name]}: {named(it.calls)}" for it in items if it.calls]
+    laws = [it.name for it in items_of(crates, crate) if it.is_law]
+    parts = [[", ".join(alone)] if alone else [], rows, [f"Laws: {named(laws)}."] if laws else []]
+    return [f"## `{crate}`", *(line for part in parts if part for line in ("", *part)), ""]
 
 
-def called(item: Item) -> str:
-    return f"`{item.name}`" + (": " + ", ".join(f"`{call}`" for call in item.calls) if item.calls else "")
+def named(names: List[str]) -> str:
+    return ", ".join(f"`{name}`" for name in names)
 
 
 def crates_below(text: str) -> Dict[str, List[str]]:

@@ -20,7 +20,7 @@ ESCAPED.update((b"x%02X" % byte, bytes([byte])) for byte in range(256))
 
 
 class Part(NamedTuple):
-    """A part of a page: where it begins, its mark, what stands behind that, and the text up to the next mark."""
+    """A part of a page: where it begins, its mark, what stands after that, and the text up to the next mark."""
 
     place: str
     mark: str

@@ -5,7 +5,6 @@ from __future__ import annotations
 import re
 from typing import Dict, List, NamedTuple, Optional, Sequence
 
-from onfi_tools.device import Spans
 from onfi_tools.policies import Device, Want
 
 REST = re.compile(r"^rest (\d+) ([\d ]+)$", re.MULTILINE)
@@ -13,7 +12,7 @@ GROUP = re.compile(r"^group ([\d+]+) ([\d ]+)$", re.MULTILINE)
 
 
 class Running(NamedTuple):
-    """A LUN in the midst of a group: kind, page, blocks, which phase comes next, and from when on, in ns."""
+    """A LUN that runs a group: kind, page, blocks, which phase comes next, and from when on, in ns."""
 
     kind: str
     page: int
@@ -23,16 +22,6 @@ class Running(NamedTuple):
 
     def phases(self) -> int:
         return 2 * len(self.blocks)
-
-    def length(self, spans: Spans) -> int:
-        """How long the next phase takes."""
-        return spans.cmd if self.next < len(self.blocks) else spans.post
-
-    def wait_behind(self, spans: Spans) -> int:
-        """The wait between the next phase and the one behind it."""
-        if self.next + 1 < len(self.blocks):
-            return spans.gap
-        return spans.array if self.next + 1 == len(self.blocks) else 0
 
     def row(self, lun: int) -> str:
         return ",".join(map(str, ["running", lun, self.next, self.ready, self.kind, self.page, *self.blocks]))
@@ -91,12 +80,13 @@ def behind(state: State, phase: Phase) -> State:
         del free[phase.lun]
     group = running[phase.lun]
     spans = state.device.lengths[group.kind]
-    end = phase.start + group.length(spans)
+    size = len(group.blocks)
+    end = phase.start + spans.length(size, group.next)
     if group.next + 1 == group.phases():
         del running[phase.lun]
         free[phase.lun] = end
     else:
-        running[phase.lun] = group._replace(next=group.next + 1, ready=end + group.wait_behind(spans))
+        running[phase.lun] = group._replace(next=group.next + 1, ready=end + spans.wait_after(size, group.next))
     return State(state.device, end, free, running, wants)
 
 

@@ -144,7 +144,7 @@ def name_declared(line: str) -> Optional[str]:
 
 
 def items_of_proofs(text: str) -> Iterator[Tuple[str, str]]:
-    """The lines of definitions and lemmas, each with the name that was declared last; in a section, behind the section's head."""
+    """The lines of definitions and lemmas, each with the name that was declared last; in a section, after the section's head."""
     name, section = "", ""
     for line in ELSEWHERE.sub("", text).split("\n"):
         if not line.startswith(" "):
@@ -163,7 +163,7 @@ def part_of_rust(path: str, name: str, lines: List[str]) -> Part:
 
 
 def part_of_proofs(path: str, name: str, lines: List[str]) -> Part:
-    """A definition with all that it says, or a lemma's statement: its first line and those that stand to the right behind it."""
+    """A definition with all that it says, or a lemma's statement: its first line and those that stand to the right after it."""
     is_open = path.startswith("specs/") or any(OPEN.match(line.strip()) for line in lines)
     declared = next((at for at, line in enumerate(lines) if name_declared(line.strip()) == name), 0)
     behind = (at for at in range(declared + 1, len(lines)) if indent_of(lines[at]) <= indent_of(lines[declared]))

@@ -21,7 +21,7 @@ each LUN a bus of its own; let it stop a request for another and go on with it l
 and be answered as soon as so many are served and so many have stayed as long as one that runs alone. Whatever a scheduler does, these
 LUNs have answered as many by then. For when the j-th member of a group is answered, the group has had its LUN for at least j of those
 parts; of all orders the one that goes on with what has the least left has served the most at any time; and what comes sooner is answered
-no later. So, answer by answer, that loop is never behind.
+no later. So, answer by answer, that loop is never later.
 
 Reads are of random pages, and two of one LUN run as one only where they are of one page on two planes. Whichever reads a scheduler holds
 back for that, not knowing which will come, of those that come at most `found_mates` find one such in the mean, and each of them saves an

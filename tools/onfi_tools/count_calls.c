@@ -41,7 +41,7 @@ static void weigh_alike(void)
             weights.running[lun][at] = 1;
 }
 
-/* A token stands behind each LF and each blank but the last, and all but yields are nodes. */
+/* A token stands after each LF and each blank but the last, and all but yields are nodes. */
 static void print_certificate(size_t bytes)
 {
     unsigned tokens = 0, nodes = 0;

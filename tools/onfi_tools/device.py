@@ -60,6 +60,14 @@ class Spans(NamedTuple):
     array: int
     post: int
 
+    def length(self, size: int, phase: int) -> int:
+        """How long a phase of a group of so many members takes; phases count from 0."""
+        return self.cmd if phase < size else self.post
+
+    def wait_after(self, size: int, phase: int) -> int:
+        """The wait between a phase and the next one."""
+        return self.gap if phase + 1 < size else self.array if phase + 1 == size else 0
+
 
 def crc16(data: bytes) -> int:
     """The check value of a copy's first 254 bytes: high bit first, no reflection, no final exclusive or."""
@@ -78,7 +86,7 @@ def crc_behind(remainder: int, byte: int) -> int:
 
 
 def page_of(numbers: Mapping[str, int], texts: Mapping[str, str]) -> bytes:
-    """One copy of the parameter page with these fields, all others 0. ValueError tells what doesn't fit."""
+    """One copy of the parameter page with these fields, all others 0. ValueError says what doesn't fit."""
     page = bytearray(COPY)
     page[0:4] = SIGNATURE
     for name, value in numbers.items():
@@ -164,7 +172,7 @@ def spans_of(page: Mapping[str, int], sheet: Mapping[str, int]) -> Dict[str, Spa
 
 
 def by_strobes(plain: int, before: int, cycle: int, behind: int, size: int) -> int:
-    """A phase of so many ns, and so many bytes by strobes, all in ps: two in a cycle, and whole ns behind the end."""
+    """A phase of so many ns, and so many bytes by strobes, all in ps: two in a cycle, and whole ns after the end."""
     picoseconds = 1000 * plain + before + -(-size // 2) * cycle + behind
     return -(-picoseconds // 1000)
 

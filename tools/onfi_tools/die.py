@@ -1,4 +1,4 @@
-"""What a die answers: the contents of blocks, as the definitions of the simulated chip tell them."""
+"""What a die answers: the contents of blocks, as the definitions of the simulated chip give them."""
 
 from __future__ import annotations
 

@@ -8,7 +8,7 @@ import sys
 from pathlib import Path
 from typing import Callable, NoReturn, Optional, Union
 
-# What a shell tells of a program that the closed pipe itself ended.
+# What a shell reports of a program that the closed pipe itself ended.
 CLOSED = 141
 
 Status = Union[int, str, None]
@@ -40,7 +40,7 @@ def nobody_reads() -> bool:
 
 
 def written(status: Status, name: str) -> Status:
-    """The status once all is written that was printed; Python would try it again at the exit, and tell of it in its own way."""
+    """The status once all is written that was printed; Python would try it again at the exit, and report it in its own way."""
     try:
         sys.stdout.flush()
     except OSError as wrong:

@@ -30,7 +30,7 @@ class Drawing(NamedTuple):
 
 
 def all_below(below: Below) -> Dict[str, FrozenSet[str]]:
-    """What each thing stands on, directly or not; what stands on others comes behind them."""
+    """What each thing stands on, directly or not; what stands on others comes after them."""
     found: Dict[str, FrozenSet[str]] = {}
     for name, others in below.items():
         found[name] = others.union(*(found[other] for other in others))

@@ -76,7 +76,7 @@ TOP: Dict[str, str] = {
     "note": r"!.*",
 }
 COMPILED: Dict[str, Pattern[str]] = {name: re.compile(form) for name, form in {**FORMS, **TOP}.items()}
-# Which form a line may have, by its first word or the first behind ` = `.
+# Which form a line may have, by its first word or the first after ` = `.
 BY_WORD = {
     "alloca": "alloca", "load": "load", "store": "store", "getelementptr": "place", "icmp": "compared", "ptrtoaddr": "address",
     "extractvalue": "taken", "br": "branch", "switch": "switch", "]": "cases end", "ret": "return",
@@ -89,7 +89,7 @@ INTRINSIC = re.compile(r"@llvm\.(?:mem(?:set\.p0|cpy\.p0\.p0|move\.p0\.p0)\.i64|
 HEAP = {"@rattle_alloc", "@rattle_realloc", "@rattle_dealloc"}
 PROBES = ("probe-stack", "stack-probe-size")
 OF_PROCESSOR = ("target-cpu", "target-features", "tune-cpu")
-# What is told of a line that has no form of these, by the first that it holds.
+# What is said of a line that has no form of these, by the first that it holds.
 TELLING = [
     (r"\binttoptr\b", "a pointer made of a number"),
     (r"\basm\b", "assembler"),
@@ -110,7 +110,7 @@ class Unknown(Exception):
 
 
 class Export(NamedTuple):
-    """A call that the library hands out: its name, and the types of what it is given."""
+    """A call that the library exports: its name, and the types of what it is given."""
 
     name: str
     given: List[str]
@@ -251,7 +251,7 @@ class Module:
         yield f"  {found['to']} = alloca {'[8 x i8]' if found['type'] == 'ptr' else found['type']}, align {found['align']}"
 
     def at(self, place: str, behind: int) -> Tuple[str, List[str]]:
-        """A place so many bytes behind another, and the line that makes it."""
+        """A place so many bytes after another, and the line that makes it."""
         if not behind:
             return place, []
         name = self.name_anew()

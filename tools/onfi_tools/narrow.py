@@ -7,7 +7,7 @@ from typing import Dict, List, NamedTuple
 
 CALL = re.compile(r"^(uint32_t|void) (onfi_\w+)\(([^)]*)\);", re.MULTILINE)
 PARAMETER = re.compile(r"(?P<kind>(?:const )?\w+ \*?)(?P<name>\w+)(?:\[(?P<size>\w+)\])?")
-# Counts that a call is given and changes, and those that it only tells.
+# Counts that a call is given and changes, and those that it only gives.
 CHANGED = {"want_count"}
 TOLD = {"certificate_bytes", "answer_bytes", "text_bytes", "chosen_count"}
 OF_C = {"uint64_t": "i64", "size_t": "i64", "uint32_t": "i32", "uint16_t": "i16", "uint8_t": "i8", "bool": "i1"}

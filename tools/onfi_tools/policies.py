@@ -49,13 +49,11 @@ class Group:
         self.ready = 0
 
     def place(self, start: int) -> int:
-        """Places the next phase; gives its end, and keeps from when on the one behind it may start."""
-        size = len(self.members)
-        done = len(self.starts)
-        end = start + (self.spans.cmd if done < size else self.spans.post)
-        wait = self.spans.gap if done < size - 1 else self.spans.array if done == size - 1 else 0
+        """Places the next phase; gives its end, and keeps from when on the one after it may start."""
+        size, done = len(self.members), len(self.starts)
+        end = start + self.spans.length(size, done)
         self.starts.append(start)
-        self.ready = end + wait
+        self.ready = end + self.spans.wait_after(size, done)
         return end
 
     def posts(self) -> bool:
@@ -113,37 +111,6 @@ def first_in_first_out(device: Device, wants: Sequence[Want]) -> Planned:
     return Planned(bus, groups)
 
 
-def round_robin(device: Device, wants: Sequence[Want], commands_first: bool = False) -> Planned:
-    """The LUNs in turn, each with the largest group that it can start.
-
-    When the bus is free it goes to the first LUN, in turn behind the one that had it last (at first from LUN 0), that
-    has a phase which can start then; where none has, to the first in turn of those that can start soonest. A LUN that
-    runs a group has the next phase of that; an idle one starts the largest group of its waiting requests, the first in
-    rising bit mask of list positions among equals, and keeps the list's order on each block.
-
-    With `commands_first` a LUN whose next phase is a command comes before those whose next is a post.
-    """
-    waiting, groups = list(wants), []  # type: List[Want], List[Group]
-    running: Dict[int, Group] = {}
-    since = dict.fromkeys(range(device.luns), 0)
-    bus, turn = 0, 0
-    while waiting or running:
-        start, lun = next_turn(device, waiting, running, since, bus, turn, commands_first)
-        if lun not in running:
-            running[lun] = Group(largest_group(device, waiting, lun), device.lengths)
-            groups.append(running[lun])
-            waiting = [want for want in waiting if want not in running[lun].members]
-        bus = since[lun] = running[lun].place(start)
-        turn = (lun + 1) % device.luns
-        if running[lun].is_over():
-            del running[lun]
-    return Planned(bus, groups)
-
-
-def round_robin_commands_first(device: Device, wants: Sequence[Want]) -> Planned:
-    return round_robin(device, wants, commands_first=True)
-
-
 class Next(NamedTuple):
     """What a LUN could do next: go on with the group that it runs, or begin one; and how much work it has left, in ns."""
 
@@ -195,11 +162,8 @@ RANKS: Tuple[Rank, ...] = (Next.size, by_work, by_commands, by_posts, by_work_al
 
 def left_of(group: Group) -> int:
     """How long a group takes from its next phase on, if nothing else has the bus."""
-    size, done, spans = len(group.members), len(group.starts), group.spans
-    commands = max(size - done, 0)
-    posts = min(size, 2 * size - done)
-    before = commands * spans.cmd + (commands - 1) * spans.gap + spans.array if commands else 0
-    return before + posts * spans.post
+    size, spans, left = len(group.members), group.spans, range(len(group.starts), 2 * len(group.members))
+    return sum(spans.length(size, phase) for phase in left) + sum(spans.wait_after(size, phase) for phase in left)
 
 
 def groups_of(device: Device, waiting: List[Want], lun: int) -> List[List[Want]]:
@@ -228,22 +192,38 @@ def all_next(device: Device, waiting: List[Want], running: Mapping[int, Group], 
     return found
 
 
-def ranked(device: Device, wants: Sequence[Want], rank: Rank) -> Planned:
-    """What can start soonest goes next; of that, what ranks highest."""
+def greedy(device: Device, wants: Sequence[Want], key: Callable[[Next, int], Tuple[float, ...]]) -> Planned:
+    """Again and again the phase of the least key goes next; the key is also given the LUN after the one that had the bus last."""
     waiting, groups = list(wants), []  # type: List[Want], List[Group]
     running: Dict[int, Group] = {}
     since = dict.fromkeys(range(device.luns), 0)
-    bus = 0
+    bus, turn = 0, 0
     while waiting or running:
-        one = min(all_next(device, waiting, running, since, bus), key=lambda each: (each.start, -rank(each)))
+        one = min(all_next(device, waiting, running, since, bus), key=lambda each: key(each, turn))
         if one.begins:
             running[one.lun] = one.group
             groups.append(one.group)
             waiting = [want for want in waiting if want not in one.group.members]
         bus = since[one.lun] = one.group.place(one.start)
+        turn = (one.lun + 1) % device.luns
         if one.group.is_over():
             del running[one.lun]
     return Planned(bus, groups)
+
+
+def ranked(device: Device, wants: Sequence[Want], rank: Rank) -> Planned:
+    """What can start soonest goes next; of that, what ranks highest."""
+    return greedy(device, wants, lambda one, _: (one.start, -rank(one)))
+
+
+def round_robin(device: Device, wants: Sequence[Want], commands_first: bool = False) -> Planned:
+    """What can start soonest goes next, of that the LUNs in turn; an idle LUN starts its largest group, the first in rising bit mask of
+    list positions among equals. With `commands_first` a LUN whose next phase is a command comes before those whose next is a post."""
+    return greedy(device, wants, lambda one, turn: (one.start, commands_first and one.group.posts(), (one.lun - turn) % device.luns, -one.size()))
+
+
+def round_robin_commands_first(device: Device, wants: Sequence[Want]) -> Planned:
+    return round_robin(device, wants, commands_first=True)
 
 
 def best_of_ranks(device: Device, wants: Sequence[Want]) -> Planned:
@@ -251,39 +231,6 @@ def best_of_ranks(device: Device, wants: Sequence[Want]) -> Planned:
     plans = [ranked(device, wants, rank) for rank in RANKS]
     plans += [round_robin(device, wants), round_robin_commands_first(device, wants)]
     return min(plans, key=lambda planned: planned.finish)
-
-
-def next_turn(
-    device: Device,
-    waiting: List[Want],
-    running: Mapping[int, Group],
-    since: Mapping[int, int],
-    bus: int,
-    turn: int,
-    commands_first: bool,
-) -> Tuple[int, int]:
-    """When the bus is used next, and by which LUN."""
-    found = []
-    for place in range(device.luns):
-        lun = (turn + place) % device.luns
-        if lun in running:
-            later = commands_first and running[lun].posts()
-            found.append((max(bus, running[lun].ready), later, place, lun))
-        elif any(want.lun == lun for want in waiting):
-            found.append((max(bus, since[lun]), False, place, lun))
-    start, _, _, lun = min(found)
-    return start, lun
-
-
-def largest_group(device: Device, waiting: List[Want], lun: int) -> List[Want]:
-    """The largest startable group of a LUN that has a waiting request; planes rise."""
-    firsts = first_wants(waiting, lun)
-    best: List[Want] = []
-    for mask in range(1, 1 << len(firsts)):
-        chosen = [want for at, want in enumerate(firsts) if mask >> at & 1]
-        if len(chosen) > len(best) and is_group(device, chosen):
-            best = chosen
-    return sorted(best, key=lambda want: device.plane(want.block))
 
 
 def first_wants(waiting: List[Want], lun: int) -> List[Want]:

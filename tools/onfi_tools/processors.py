@@ -10,7 +10,7 @@ DIVIDED = ["-mllvm", "-expand-div-rem-bits=64"]
 
 
 class Processor(NamedTuple):
-    """How a processor is named, how its memory is laid out, and what its compiler is told; pointers have so many bits."""
+    """How a processor is named, how its memory is laid out, and what its compiler is given; pointers have so many bits."""
 
     triple: str
     layout: str
@@ -21,7 +21,7 @@ class Processor(NamedTuple):
     probes: bool = False
     # Whether code may lie at any address (-fPIC), as a shared library of Linux asks.
     moves: bool = False
-    # What the assembler is told of each object, and the compiler of C.
+    # What the assembler is given for each object, and the compiler of C.
     attribute: str = ""
     of_c: Tuple[str, ...] = ()
 
@@ -42,7 +42,7 @@ PROCESSORS: Dict[str, Processor] = {
     ),
 }
 
-# What the kit tells its compiler that is of x86-64 alone, or names files.
+# What the kit gives its compiler that is of x86-64 alone, or names files.
 X86 = ("--target=", "--sysroot=", "-march=")
 X86_PASS = "-no-x86-call-frame-opt"
 PLAIN = {"-no-trap-after-noreturn", "-ffunction-sections", "-fdata-sections", "-trap-unreachable", "-disable-machine-licm", "-disable-postra-machine-licm",
@@ -50,9 +50,9 @@ PLAIN = {"-no-trap-after-noreturn", "-ffunction-sections", "-fdata-sections", "-
 
 
 def words_for(processor: Processor, kit: Sequence[str]) -> List[str]:
-    """What the compiler is told for a processor: as the kit tells it for x86-64, but for what is of x86-64 alone.
+    """What the compiler is given for a processor: as the kit gives it for x86-64, but for what is of x86-64 alone.
 
-    ValueError: the kit tells it something that isn't known here.
+    ValueError: the kit gives it something that isn't known here.
     """
     words = [f"--target={processor.triple}", *processor.words]
     given = iter(kit)

@@ -2,7 +2,7 @@
  *
  * It is put in by LD_PRELOAD. REFUSE_WHAT names the calls: `growth` of memory, `read` or `write`. They are counted
  * from 1, over all threads; those from REFUSE_FIRST to REFUSE_LAST are refused, a read or a write with EIO. Each call
- * is told by a byte written to the descriptor REFUSE_TOLD, '-' where it was refused and '+' where not. Where reads or
+ * is reported by a byte written to the descriptor REFUSE_TOLD, '-' where it was refused and '+' where not. Where reads or
  * writes are named, each transfers 16 bytes at most. Writes to standard error are left alone.
  */
 #include <errno.h>

@@ -3,10 +3,11 @@
 from __future__ import annotations
 
 import statistics
-from typing import Callable, Dict, Iterable, List, Sequence, Tuple
+from typing import Callable, Dict, List, Sequence, Tuple
 
+from onfi_tools.bench.runs import table
 from onfi_tools.rolling_use import TWELVE, WORKLOADS, Configuration, Measured
-from onfi_tools.rolling_ways import BASE, GREEDY, PHASES, PLANS, QUICK, SOME, title
+from onfi_tools.rolling_ways import BASE, PLANS, title
 
 # Where its throughput is at most so much of the bound, in %, there may be something to gain.
 ROOM = 95
@@ -20,17 +21,18 @@ PART_TITLES: List[Callable[[Configuration], str]] = [
 ]
 
 
-def row(cells: Iterable[str]) -> str:
-    return "| " + " | ".join(cells) + " |"
+Cell = Callable[[Measured, str], str]
 
 
-def table(first: str, columns: Sequence[str], rows: Iterable[Sequence[str]]) -> List[str]:
-    return [row([first, *columns]), "|---|" + "---:|" * len(columns), *(row(cells) for cells in rows)]
+def cells_table(first: str, measured: Sequence[Measured], ways: Sequence[str], cell: Cell) -> List[str]:
+    rows = [[title_of(one.configuration), *(cell(one, way) for way in ways)] for one in measured]
+    return table([first, *(title(way) for way in ways)], rows)
 
 
-def cells_table(first: str, measured: Sequence[Measured], ways: Sequence[str], cell: Callable[[Measured, str], str]) -> List[str]:
-    rows = [[one.configuration.title(), *(cell(one, way) for way in ways)] for one in measured]
-    return table(first, [title(way) for way in ways], rows)
+def title_of(of: Configuration) -> str:
+    """A configuration with what it has beside its twelve-fold title."""
+    load = f" at most, {100 * of.load:g} % of the bus" if of.load else ""
+    return of.title() + load + ("" if of.array == "1-1" else f", arrays {of.array}")
 
 
 def share(one: Measured, way: str) -> float:
@@ -52,7 +54,7 @@ def share_cell(one: Measured, way: str) -> str:
     return f"{figures['rate']:,.0f}; {100 * figures['bus']:.0f} %" if way == BASE else f"{share(one, way):.0f}"
 
 
-def latency_cell(kind: str) -> Callable[[Measured, str], str]:
+def latency_cell(kind: str) -> Cell:
     def cell(one: Measured, way: str) -> str:
         figures = one.by_way[way]
         if not figures[f"{kind}s"]:
@@ -70,18 +72,6 @@ def planning_cell(one: Measured, way: str) -> str:
 def erasing_cell(one: Measured, way: str) -> str:
     """How many LUNs erase in the mean while any does."""
     return f"{one.by_way[way]['erasing']:.1f}"
-
-
-def gain_row(measured: Sequence[Measured], way: str, against: str) -> List[str]:
-    """How much higher a way's throughput is than another's, in % of the other's."""
-    found = [100 * (one.by_way[way]["rate"] / one.by_way[against]["rate"] - 1) for one in measured]
-    numbers = (statistics.median(found), statistics.mean(found), max(found), min(found))
-    return [f"{title(way)} against {title(against)}", *(f"{number:+.1f}" for number in numbers)]
-
-
-def gains_table(measured: Sequence[Measured], plans: Sequence[str], others: Sequence[str]) -> List[str]:
-    rows = [gain_row(measured, way, other) for way in plans for other in others]
-    return table("throughput, %", ["median", "mean", "best", "worst"], rows)
 
 
 def nine_of_ten(numbers: Sequence[float]) -> float:
@@ -105,16 +95,16 @@ def bound_cell(measured: Sequence[Measured], way: str) -> str:
 def spread_row(measured: Sequence[Measured], way: str) -> List[str]:
     """How a way's throughput, in % of that of reads first over all, is spread over the configurations; its latencies beside."""
     found = [share(one, way) for one in measured]
-    ahead, behind = sum(number > 101 for number in found), sum(number < 99 for number in found)
+    more, less = sum(number > 101 for number in found), sum(number < 99 for number in found)
     numbers = (statistics.median(found), nine_of_ten(found), min(found), max(found))
     latencies = [ratio_cell(measured, way, name) for name in ("read_mean", "read_99", "program_mean", "program_99")]
-    return [title(way), *(f"{number:.1f}" for number in numbers), f"{ahead}; {behind}", bound_cell(measured, way), *latencies]
+    return [title(way), *(f"{number:.1f}" for number in numbers), f"{more}; {less}", bound_cell(measured, way), *latencies]
 
 
 def spread_table(first: str, measured: Sequence[Measured], ways: Sequence[str]) -> List[str]:
-    columns = ["median", "nine of ten at least", "worst", "best", "1 % ahead; behind", "of the bound: median; least",
+    columns = ["median", "nine of ten at least", "worst", "best", "1 % more; less", "of the bound: median; least",
                "reads' mean", "reads' 99 %", "programs' mean", "programs' 99 %"]
-    return table(first, columns, [spread_row(measured, way) for way in ways])
+    return table([first, *columns], [spread_row(measured, way) for way in ways])
 
 
 def room_table(measured: Sequence[Measured], ways: Sequence[str]) -> List[str]:
@@ -126,28 +116,7 @@ def room_table(measured: Sequence[Measured], ways: Sequence[str]) -> List[str]:
         numbers = (statistics.median(found), statistics.mean(found), max(found), min(found))
         rows.append([title(way), *(f"{number:.1f}" for number in numbers), bound_cell(own, way), ratio_cell(own, way, "read_99")])
     columns = ["median", "mean", "best", "worst", "of the bound: median; least", "reads' 99 %"]
-    return table(f"on the {len(own)} with at most {ROOM} % of the bound", columns, rows)
-
-
-def furthest_behind(measured: Sequence[Measured], ways: Sequence[str], most: int) -> List[str]:
-    """The configurations on which each way is furthest behind reads first over all, by what share of its throughput it reaches."""
-    rows = []
-    for way in ways:
-        last = sorted(measured, key=lambda one: share(one, way))[:most]
-        rows.append([title(way), "; ".join(f"{one.configuration.title()}: {share(one, way):.0f}" for one in last)])
-    return table("furthest behind", ["configurations"], rows)
-
-
-def condition_title(of: Configuration) -> str:
-    """What a configuration has beside its twelve-fold title."""
-    if of.load:
-        return f"{of.title()} at most, {100 * of.load:g} % of the bus"
-    return f"{of.title()}, arrays {of.array}"
-
-
-def condition_table(first: str, measured: Sequence[Measured], ways: Sequence[str], cell: Callable[[Measured, str], str]) -> List[str]:
-    rows = [[condition_title(one.configuration), *(cell(one, way) for way in ways)] for one in measured]
-    return table(first, [title(way) for way in ways], rows)
+    return table([f"on the {len(own)} with at most {ROOM} % of the bound", *columns], rows)
 
 
 def rate_cell(one: Measured, way: str) -> str:
@@ -174,16 +143,14 @@ def twelve_tables(twelve: Sequence[Measured], ways: Sequence[str], some: Sequenc
     ]
 
 
-def quick_tables(parts: Sequence[Sequence[Measured]], has: Sequence[str]) -> List[str]:
-    """Of the ways that there are."""
+def quick_tables(parts: Sequence[Sequence[Measured]], ways: Sequence[str], some: Sequence[str]) -> List[str]:
     twelve, early, loops = parts
-    quick, some = [way for way in QUICK if way in has], [way for way in SOME if way in has]
     return [
-        *twelve_tables(twelve, quick, some), "",
-        *spread_table("over the twelve", twelve, quick), "",
-        *room_table(twelve, quick), "",
-        *condition_table("requests a second; reads' 99 %, us", early, some, rate_cell), "",
-        *condition_table("reads' mean / 99 %; programs', us", loops, some, loop_cell),
+        *twelve_tables(twelve, ways, some), "",
+        *spread_table("over the twelve", twelve, ways), "",
+        *room_table(twelve, ways), "",
+        *cells_table("requests a second; reads' 99 %, us", early, some, rate_cell), "",
+        *cells_table("reads' mean / 99 %; programs', us", loops, some, loop_cell),
     ]
 
 
@@ -205,7 +172,7 @@ def bound_row(name: str, own: Sequence[Measured]) -> List[str]:
 def bound_table(measured: Sequence[Measured]) -> List[str]:
     """How much of what no scheduler passes the best plain way has."""
     columns = ["configurations", "median", "nine of ten at least", "least", f"at most {ROOM} %"]
-    return table(f"{title(BASE)}, % of the bound", columns, [bound_row(name, own) for name, own in parts_of(measured)])
+    return table([f"{title(BASE)}, % of the bound", *columns], [bound_row(name, own) for name, own in parts_of(measured)])
 
 
 def part_row(name: str, own: Sequence[Measured], ways: Sequence[str]) -> List[str]:
@@ -215,13 +182,10 @@ def part_row(name: str, own: Sequence[Measured], ways: Sequence[str]) -> List[st
 def whole_tables(measured: Sequence[Measured], ways: Sequence[str]) -> List[str]:
     """All configurations, and what each device, workload, bus and number of LUNs has of it; the twelve one by one."""
     twelve = [one for of in TWELVE for one in measured if one.configuration._replace(array=of.array) == of]
-    planned, others = [way for way in ways if way in {**PLANS, **PHASES}], [way for way in ways if way in GREEDY]
     return [
         *spread_table("throughput, % of reads first, all", measured, ways), "",
         *room_table(measured, ways), "",
         *bound_table(measured), "",
-        *table("its median", [title(way) for way in ways], [part_row(name, own, ways) for name, own in parts_of(measured)]), "",
-        *gains_table(measured, planned, others), "",
-        *furthest_behind(measured, planned, 8), "",
+        *table(["its median", *(title(way) for way in ways)], [part_row(name, own, ways) for name, own in parts_of(measured)]), "",
         *twelve_tables(twelve, ways, ways),
     ]

@@ -16,12 +16,10 @@ from onfi_tools.channel_bound import bounds_of, read_source, requests_for
 from onfi_tools.rolling_ways import WAYS
 
 ROOT = Path(__file__).resolve().parent.parent.parent
-SOURCES = Path(__file__).resolve().parent / "rolling"
-OF_THE_LIBRARY = "planners.c"
+SOURCES = ROOT / "examples/simulator/rolling"
+OF_THE_LIBRARY = "library.c"
 STRICT = ("-std=c99", "-O2", "-Wall", "-Wextra", "-Werror", "-pedantic")
 
-# What a library may lack, which a way takes.
-NEWER_CALLS = ("onfi_plan_rule", "onfi_next")
 # So many requests at least are answered where erases come: before, a way gains by leaving them undone.
 WITH_ERASES = 10_000
 
@@ -125,7 +123,7 @@ LOADS = (0.04, 0.4, 0.7)
 
 
 def readiness(of: Configuration) -> List[Configuration]:
-    """Arrays that take what is stated, or less, which LUNs tell; where they don't, all is as with the first."""
+    """Arrays that take what is stated, or less, which LUNs report; where they don't, all is as with the first."""
     return [of, *(of._replace(array=array) for array in ARRAYS)]
 
 
@@ -133,34 +131,20 @@ def open_loops(of: Configuration) -> List[Configuration]:
     return [of._replace(load=load) for load in LOADS]
 
 
-def calls_of(library: Path) -> List[str]:
-    """Of the calls that a library may lack those that it has."""
-    names = subprocess.run(["nm", "-g", "--defined-only", str(library / "libonfi.a")], capture_output=True, text=True).stdout.split()
-    return [call for call in NEWER_CALLS if call in names]
-
-
 def build(made: Path, library: Optional[Path]) -> Path:
-    """The simulator; without a library it has greedy ways alone. ValueError tells what the compiler said."""
+    """The simulator; without a library it has greedy ways alone. ValueError says what the compiler said."""
     sources = sorted(SOURCES.glob("*.c"))
     line = [os.environ.get("CC", "cc"), *STRICT, f"-I{ROOT / 'include'}"]
-    archive = []
     if library is None:
-        line.append("-DWITHOUT_PLANS")
+        line.append("-DWITHOUT_LIBRARY")
         sources = [source for source in sources if source.name != OF_THE_LIBRARY]
     elif not (library / "libonfi.a").is_file():
         raise ValueError(f"no libonfi.a in {library}: `make library` builds it")
-    else:
-        line += [f"-DHAS_{call.upper()}" for call in calls_of(library)]
-        archive = [str(library / "libonfi.a")]
+    archive = [str(library / "libonfi.a")] if library else []
     ran = subprocess.run([*line, *map(str, sources), *archive, "-lm", "-o", str(made)], capture_output=True, text=True)
     if ran.returncode:
         raise ValueError(ran.stderr)
     return made
-
-
-def ways_of(program: Path) -> List[str]:
-    """The ways that a built simulator has."""
-    return subprocess.run([str(program), "ways"], capture_output=True, text=True, check=True).stdout.split()
 
 
 def words_of(of: Configuration, requests: int, asked: Asked) -> List[str]:
@@ -168,7 +152,7 @@ def words_of(of: Configuration, requests: int, asked: Asked) -> List[str]:
 
 
 def told(program: Path, of: Configuration, words: Sequence[str]) -> str:
-    """What a run prints. ValueError tells what was illegal."""
+    """What a run prints. ValueError says what was illegal."""
     ran = subprocess.run([str(program), *words], capture_output=True, text=True)
     if ran.returncode:
         raise ValueError(f"{of.title()}: {ran.stderr.strip()}")

@@ -1,4 +1,4 @@
-"""The phase lengths of a script, of either form; the program tells what is wrong with a script, this reader doesn't."""
+"""The phase lengths of a script, of either form; the program says what is wrong with a script, this reader doesn't."""
 
 from __future__ import annotations
 

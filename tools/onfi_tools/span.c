@@ -1,9 +1,9 @@
-/* Stands in front of the C library of a program that is linked with it at run time, and tells how long a run would
+/* Stands in front of the C library of a program that is linked with it at run time, and says how long a run would
  * take if each of its threads had a processor of its own.
  *
  * It is put in by LD_PRELOAD. As the program ends, two numbers of ns of processor time are written to the descriptor
  * SPAN_TOLD: the longest chain of work in which each piece waits for the one before it, and the work of all threads
- * together. A thread's chain goes on from its maker's; behind a join it is the longer one of the two.
+ * together. A thread's chain goes on from its maker's; after a join it is the longer one of the two.
  */
 #define _GNU_SOURCE
 #include <dlfcn.h>

@@ -1,6 +1,6 @@
 """Which crates' wrong bodies a landing tries whole, by turns: those whose turn is longest ago first, as long as there is room.
 
-.ci/landings has a line for each landing, the last one last: its commit, and behind it the crates whose wrong bodies it tried whole,
+.ci/landings has a line for each landing, the last one last: its commit, and after it the crates whose wrong bodies it tried whole,
 each edit with its twin. A line with a commit alone says of no crate that it was tried. .ci/costs has a line for each crate, with the
 minutes that all its wrong bodies take, and one for the room, the minutes that those of one landing may take together.
 """
@@ -50,7 +50,7 @@ def landings_ago(crate: str, landings: Sequence[Landing]) -> int:
 
 
 def in_turn(minutes: Dict[str, float], landings: Sequence[Landing], room: float) -> Tuple[List[str], List[str]]:
-    """Of crates that are not due whole, with the minutes that the rest of each takes: those in their turn, and those left for want of room.
+    """Of crates that are not due whole, with the minutes that the rest of each takes: those in their turn, and those left where there is no room.
 
     The one whose turn is longest ago is taken in any case, so each comes: what is left stands before all that was taken.
     """

@@ -64,7 +64,7 @@ def nothing(signal: Signal) -> str:
 
 
 def picture(phases: List[Phase], lengths: Optional[Mapping[str, Spans]], window: Optional[Window] = None) -> str:
-    """The dump, from 0 to the finish or of a window, in ns; waits for the bus are told only where the lengths are known."""
+    """The dump, from 0 to the finish or of a window, in ns; waits for the bus are shown only where the lengths are known."""
     luns = by_lun(phases)
     window = window or whole(phases)
     bus = Signal("!", "bus_owner", 3)
@@ -98,7 +98,7 @@ def bus_changes(bus: Signal, phase: Phase) -> List[Change]:
 
 
 def lun_changes(lun: OfLun, stretch: Stretch) -> List[Change]:
-    """What begins with a stretch, and idle behind it; what follows at once takes the place of that."""
+    """What begins with a stretch, and idle after it; what follows at once takes the place of that."""
     known = stretch.part is not Part.BEFORE
     state = "x" if not known else "0" if stretch.part in BUSY else "1"
     code = f"{CODES[stretch.part]:03b}" if known else UNKNOWN
@@ -109,7 +109,7 @@ def lun_changes(lun: OfLun, stretch: Stretch) -> List[Change]:
 
 
 def dumped(changes: List[Change]) -> List[str]:
-    """The changes by time, of one signal at one time the last told, without those that change nothing."""
+    """The changes by time, of one signal at one time the last given, without those that change nothing."""
     at: Dict[int, Dict[Signal, str]] = {}
     for time, signal, value in changes:
         at.setdefault(time, {})[signal] = value

@@ -44,7 +44,7 @@ class Shape(NamedTuple):
         return self.channels * self.planes * self.luns
 
     def home_blocks(self) -> int:
-        """How many blocks of a plane hold what stands on the drive at first."""
+        """How many blocks of a plane hold what stands on the drive as it begins."""
         return self.blocks // self.planes * HOME_SHARE[0] // HOME_SHARE[1]
 
     def logical_pages(self) -> int:
@@ -166,7 +166,7 @@ class Mapping:
         return [row_of("read", place)] if place else []
 
     def write(self, logical: int, request: Request) -> List[str]:
-        """The next page of the block that the plane writes to; behind its last one the next block is erased first."""
+        """The next page of the block that the plane writes to; after its last one the next block is erased first."""
         lane, _ = lane_of(self.shape, logical)
         number = self.written.get(lane, 0)
         place = lane.place(self.shape, self.shape.home_blocks() * self.shape.pages + number)

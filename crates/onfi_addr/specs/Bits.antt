@@ -1,4 +1,4 @@
--- How many bits tell a number of things apart.
+-- How many bits distinguish a number of things.
 use Rattle.std.specs.Prelude.{ℕ, ◌≤◌, ◌^◌}
 
 -- the least number with 2 ^ bits at least the count

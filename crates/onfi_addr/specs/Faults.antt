@@ -32,7 +32,7 @@ Has page RowTooWide = RowsAreTooWide page
 Has page ColumnTooWide = 2 ^ (8 * column_cycles page) < page_bytes page
 Has page TooLarge = (4096 < pages_per_block page) ⊎ ((65536 < blocks_per_lun page) ⊎ (65535 < page_bytes page))
 
--- the place of a fault in the order in which they are told
+-- the place of a fault in the order in which they are reported
 abbrev pub order_of : GeometryFault → ℕ
 order_of WideBus = 0
 order_of NoStatusEnhanced = 1
@@ -45,7 +45,7 @@ order_of RowTooWide = 7
 order_of ColumnTooWide = 8
 order_of TooLarge = 9
 
--- the page has this fault and none that is told before it
+-- the page has this fault and none that is reported before it
 pub record IsFirstFault (page : List ℕ) (fault : GeometryFault) : Type 0 where
   pub there : Has page fault
   pub none_before : (earlier : GeometryFault) → order_of earlier < order_of fault → ¬ Has page earlier

@@ -1,7 +1,7 @@
 use std::fmt;
 use thiserror::Error;
 
-/// Why a device can't be driven, in the order in which it is told.
+/// Why a device can't be driven, in the order in which it is reported.
 #[derive(Clone, Copy, Debug, PartialEq, Eq, Error)]
 pub enum GeometryFault {
     WideBus,
@@ -17,7 +17,7 @@ pub enum GeometryFault {
 }
 
 impl GeometryFault {
-    // What a reader is told of it.
+    // What a reader is shown of it.
     fn text(&self) -> &'static str {
         match self {
             GeometryFault::WideBus => "the data bus has 16 bits",

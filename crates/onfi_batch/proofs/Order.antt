@@ -8,6 +8,7 @@ use Rattle.onfi_request.specs.declared.want.Want.{Want}
 use Rattle.onfi_chip.specs.Chip.{Chip}
 use Rattle.onfi_group.specs.Group.{IsGroup, group_spans, lun_of}
 use Rattle.onfi_group.specs.Words.{Has}
+use Rattle.onfi_group.proofs.PhaseLengths.{phase_some}
 use Rattle.onfi_problem.proofs.LunAfter.{running_is}
 use Rattle.onfi_problem.proofs.Ordered.{Pairs-append}
 use Rattle.onfi_problem.proofs.Perm.{All-append, All-back, All-each, All-front, All-has, All-weaker}
@@ -16,7 +17,6 @@ use Rattle.onfi_problem.specs.declared.lun_state.LunState.{LunState}
 use Rattle.onfi_problem.specs.declared.lun_state.LunState.TheVariants.{Free, Running}
 use Rattle.onfi_problem.specs.Moves.{Move, Next, Start, IsMove, lun_after, move_lun, next_ran, placed}
 use Rattle.onfi_problem.specs.Problem.{IsProblem, Problem}
-use Rattle.onfi_schedule.proofs.Chains.{long}
 use Rattle.onfi_schedule.proofs.Following.{first_move_law}
 use Rattle.onfi_schedule.specs.Laws.{ComesNext}
 use Rattle.onfi_schedule.specs.Schedule.{Placed, Schedule, rest_of}
@@ -49,7 +49,7 @@ drop_tail (suc n) (x ∷ xs) y ys h = let e : suc n + 1 ≡ suc (n + 1) = omega 
 
 -- A phase of the schedule
 
--- the phase is that of a group of the schedule, and what stands behind it
+-- the phase is that of a group of the schedule, and what stands after it
 record IsStepOf (schedule : Schedule) (h : HalfState) (l : ℕ) (group : List Want) (phase start : ℕ) (now : Problem) (left : Schedule) : Type 0 where
   starts : List ℕ
   rest : List ℕ
@@ -70,7 +70,7 @@ step_of schedule s h sound order (Next l) start left next group phase (ready, th
     let begins = next.begins in
     let same : Some (drop phase runs.0) ≡ Some (start ∷ begins.0) = sym runs.2 ∙ begins.1 in
     let after : placed h.now (Next l) start ≡ next_ran h.now l (Some (Running group phase ready)) start = ap (λ o. next_ran h.now l o start) there in
-    let some = long (group_spans h.now.timing group) (length group) phase in
+    let some = phase_some h.now.timing group phase (sound.problem.running l group phase ready there).unfinished in
     let bus = ap (λ (p : Problem). p.bus_free) after in
     record {
       starts = runs.0;
@@ -91,7 +91,8 @@ step_of schedule s h sound order (Start members) start left next group phase (sa
     let all = subst (Each (Has schedule.groups)) are order.waiting in
     let later = All-back (Has schedule.groups) before (g ∷ behind) all in
     let move = (first_move_law h.now h.left (Start members) start left sound.problem sound.legal next).is_move in
-    let some = long (group_spans h.now.timing members) (length members) 0 in
+    let more = move.2.group.some in
+    let some = phase_some h.now.timing members 0 (omega (arith, more)) in
     let base : P members 0 = record {
       starts = start ∷ rest;
       rest = rest;
@@ -201,7 +202,7 @@ group_of : (p : Problem) → IsProblem p → (move : Move) → IsMove p move →
 group_of p ip (Next l) m g n (ready, at) = (ip.running l g n ready at).group
 group_of p ip (Start members) (since, at, st) g n (same, none) = subst (IsGroup p.rules) same st.group
 
--- a LUN that told that it isn't ready is that of the status
+-- a LUN that said that it isn't ready is that of the status
 pub status_told : (schedule : Schedule) (s : Setup) (h : HalfState) → IsSound s h → IsInOrder schedule h → (fault : BatchFault) → IsFaultOf h fault
     → (start : ℕ) × TellsStatus schedule start fault
 status_told schedule s h sound order fault.Bus why = (0, tt)

@@ -26,7 +26,7 @@ use Rattle.onfi_flight.specs.Flight.{left_behind, member_of, move_of}
 use Rattle.onfi_core.specs.Dues.{IsDue, after_due, replies_of}
 use Rattle.onfi_core.specs.Kept.{IsHalf, IsSound, IsTaken, ChipAgrees}
 use Rattle.onfi_core.specs.State.{HalfState, device_for, item_at, no_item}
-use Rattle.onfi_core.specs.Steps.{RunsOnChip, half_after_phase}
+use Rattle.onfi_core.specs.Steps.{RunsOnChip}
 use Rattle.onfi_core.proofs.Bus.{AfterPhase, after_move}
 use Rattle.onfi_core.proofs.Done.{goes}
 use Rattle.onfi_core.proofs.Driving.{asks_status, ran_on_chip}
@@ -79,7 +79,7 @@ module _ (s : Setup) (h : HalfState) (chip : Chip) (half : IsHalf s (device_for 
       → AfterPhase s chip (after_due h due replies) chip'
   after_run chip' replies on = after_move s h chip half agrees (move_of due) due.start (left_behind h.left due) (is.next half.sound.legal) due.group due.phase is.phase chip' replies on
 
-  -- the half and the chip agree behind it
+  -- the half and the chip agree after it
   pub agree_behind : (h' : HalfState) (chip' : Chip) → GoesOn h chip due h' chip' → IsHalf s (device_for s chip') h' × ChipAgrees s h' chip'
   agree_behind h' chip' (replies, on, after) =
       let a = after_run chip' replies on in

@@ -61,7 +61,7 @@ pub record IsDriven (target : Target) (course : Course) (lanes : List AnyLun) (c
 abbrev pub GoesOn : HalfState → Chip → Due → HalfState → Chip → Type 0
 GoesOn h chip due h' chip' = (replies : List Reply) × RunsOnChip h.accepted due.group due.phase due.start chip chip' replies × (h' ≡ after_due h due replies)
 
--- only the status of a program or an erase tells that its LUN isn't ready, where it comes next
+-- only the status of a program or an erase says that its LUN isn't ready, where it comes next
 abbrev pub IsFaultOf : HalfState → BatchFault → Type 0
 IsFaultOf h fault.Bus = Unit {0}
 IsFaultOf h (fault.NotReady lun) = IsCauseOf h (cause.NotReady lun)
@@ -71,7 +71,7 @@ IsFaultOf h fault.Memory = Unit {0}
 abbrev pub steps_left : Schedule → ℕ
 steps_left s = total (λ starts. length starts) s.rest + total (λ (g : Placed). length g.starts) s.groups
 
--- what runs and what waits are groups of the schedule; the replies so far are in order of post start, and the bus is free behind them
+-- what runs and what waits are groups of the schedule; the replies so far are in order of post start, and the bus is free after them
 pub record IsInOrder (schedule : Schedule) (h : HalfState) : Type 0 where
   pub waiting : Each (Has schedule.groups) h.left.groups
   pub running : (lun : ℕ) (group : List Want) (next ready : ℕ) → slice_get h.now.luns lun ≡ Some (Running group next ready)
@@ -81,7 +81,7 @@ pub record IsInOrder (schedule : Schedule) (h : HalfState) : Type 0 where
   pub rise : Pairs (λ a b. a < b) starts
   pub behind : Each (λ start. start < h.now.bus_free) starts
 
--- a batch on course, since its chip was as at first
+-- a batch on course, since its chip was as it opened
 pub record IsOnCourse (target : Target) (schedule : Schedule) (items : List Item) (first : Chip) (course : Course)
     (lanes : List AnyLun) (chip : Chip) : Type 0 where
   pub driven : IsDriven target course lanes chip

@@ -9,7 +9,7 @@ use Rattle.onfi_schedule.specs.Schedule.{Placed, Schedule}
 use Rattle.onfi_batch.specs.declared.fault.BatchFault.{BatchFault}
 use Rattle.onfi_batch.specs.declared.fault.BatchFault.TheVariants.{Bus, NotReady, Memory}
 
--- the post of the want starts then: behind the starts of all commands of its group come those of the posts, in the order of the members
+-- the post of the want starts then: after the starts of all commands of its group come those of the posts, in the order of the members
 pub record PostStarts (schedule : Schedule) (w : Want) (start : ℕ) : Type 0 where
   pub group : Placed
   pub planned : Has schedule.groups group

@@ -26,7 +26,7 @@ use std::alloc::Global;
 /// The problem has no running group, and its want i is item i, which the device takes.
 ///
 /// # Errors
-/// `Bus`, or `NotReady` with the LUN whose status told so, one on which the schedule has a program or an erase; each only
+/// `Bus`, or `NotReady` with the LUN whose status said so, one on which the schedule has a program or an erase; each only
 /// where the chip's count of that fault rose, and nothing more is then known of the chip. `Memory` where a growth was
 /// refused; calls may have been made, and the chip is as they left it.
 pub fn run_batch<C: Chip>(
@@ -51,7 +51,7 @@ pub fn run_batch<C: Chip>(
     problem_is_one(problem);
     let target = Target {
         geometry: *geometry,
-        timing: problem.timing(),
+        timing: *problem.timing(),
     };
     let Ok(mut course) = Course::of(alloc, geometry, problem, schedule, items) else {
         return Err(BatchFault::Memory);

@@ -33,7 +33,7 @@ impl Course {
     /// A schedule of the items of which nothing is done, on the LUNs of the device, on which nothing runs.
     ///
     /// # Errors
-    /// Want of memory.
+    /// Where memory was refused.
     pub(crate) fn of(
         alloc: Global,
         geometry: &Geometry,
@@ -44,7 +44,7 @@ impl Course {
         ensures { IfOk result (λ course. state_of course ≡ opening geometry.now.lun_count problem.now.problem schedule.now items.items) }
     {
         let replies = Vec::with_capacity(alloc, items.len())?;
-        let (timing, rules) = (problem.timing(), problem.rules());
+        let (timing, rules) = (*problem.timing(), problem.rules());
         let lun_count = geometry.lun_count;
         let mut flight = Flight::idle(alloc, timing, rules, problem.bus_free(), lun_count);
         let left = Schedule::new(no_starts(usize::from(lun_count)), schedule.copy_groups());

@@ -1,6 +1,6 @@
 -- The bus bound is at most the finish of each run.
-use Rattle.std.proofs.Common.{◌≡◌, ◌≢◌, ℕ, suc, ◌+◌, ◌*◌, ◌-◌, ◌≤◌, List, [], ◌∷◌, length, Some, refl, ap, arith}
-use Rattle.std.specs.Prelude.{slice_get, max}
+use Rattle.std.proofs.Common.{◌≡◌, ◌≢◌, ℕ, suc, ◌+◌, ◌-◌, ◌≤◌, List, [], ◌∷◌, length, Some, refl, ap, arith}
+use Rattle.std.specs.Prelude.{slice_get}
 use Rattle.onfi_request.specs.declared.want.Want.{Want}
 use Rattle.onfi_problem.specs.declared.lun_state.LunState.{LunState}
 use Rattle.onfi_problem.specs.declared.lun_state.LunState.TheVariants.{Free, Running}
@@ -17,14 +17,15 @@ use Rattle.onfi_problem.proofs.Perm.{All-weaker}
 use Rattle.onfi_problem.proofs.Totals.{total_set, total_same, startable_total}
 use Rattle.onfi_problem.proofs.Work.{one_phase, commands_after, posts_after}
 use Rattle.onfi_problem.proofs.Kept.{kept}
+use Rattle.onfi_bound.proofs.GroupPosts.{start_posts}
 
--- behind a move all that was left stands behind its start
+-- after a move all that was left comes after its start
 pub bus_placed : (p : Problem) (m : Move) (t : ℕ) → IsProblem p → IsMove p m → bus (placed p m t) ≡ t + work p
 bus_placed p (Next l) t ip (g, n, r, at) =
     let i = ip.running l g n r at in
     let some = i.group.some in
     let c = t + phase_length (group_spans p.timing g) (length g) n in
-    let one = one_phase (group_spans p.timing g) (length g) n i.unfinished in
+    let one = one_phase p.timing g n i.unfinished in
     let a = total_set (command_time p.timing) p.luns l _ (lun_after p.timing g n c) at in
     let b = total_set (post_time p.timing) p.luns l _ (lun_after p.timing g n c) at in
     let a' = commands_after p.timing g n c some in
@@ -36,8 +37,7 @@ bus_placed p (Start ms) t ip (since, at, st) =
     let spans = group_spans p.timing ms in
     let c = t + phase_length spans k 0 in
     let z : k - 0 ≡ k = omega arith in
-    let y : 2 * k - max 0 k ≡ k = omega arith in
-    let one = rw (z, y) at (one_phase spans k 0 (omega arith)) in
+    let one = rw z at (one_phase p.timing ms 0 (omega arith)) in
     let a = total_set (command_time p.timing) p.luns (lun_of ms) _ (lun_after p.timing ms 0 c) at in
     let b = total_set (post_time p.timing) p.luns (lun_of ms) _ (lun_after p.timing ms 0 c) at in
     let a' = commands_after p.timing ms 0 c some in
@@ -45,7 +45,7 @@ bus_placed p (Start ms) t ip (since, at, st) =
     let wc = startable_total (want_command p.timing) p ms ip st in
     let wp = startable_total (want_post p.timing) p ms ip st in
     let mc = total_same (want_command p.timing) spans.cmd ms (All-weaker _ _ (λ m e. ap (λ kind. (spans_of p.timing kind).cmd) e) ms st.group.kind) in
-    let mp = total_same (want_post p.timing) spans.post ms (All-weaker _ _ (λ m e. ap (λ kind. (spans_of p.timing kind).post) e) ms st.group.kind) in
+    let mp = start_posts p.timing ms in
     omega arith
 
 pub bus_after : (p : Problem) (m : Move) → IsProblem p → IsMove p m → bus (after p m) ≡ earliest p m + work p

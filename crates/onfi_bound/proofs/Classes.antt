@@ -7,6 +7,8 @@ use Rattle.onfi_timing.specs.declared.kind.Kind.{Kind}
 use Rattle.onfi_timing.specs.declared.kind.Kind.TheVariants.{Read, Program, Erase}
 use Rattle.onfi_timing.specs.declared.spans.Spans.{Spans}
 use Rattle.onfi_timing.specs.declared.timing.Timing.{Timing}
+use Rattle.onfi_timing.specs.Kinds.{spans_of}
+use Rattle.onfi_timing.specs.Phases.{Lengths}
 use Rattle.onfi_request.specs.declared.want.Want.{Want}
 use Rattle.onfi_group.specs.Words.{Has, Pairs, total, number}
 use Rattle.onfi_group.specs.Group.{IsGroup, kind_of, page_of, above_planes_of, group_spans}
@@ -153,9 +155,13 @@ class_form spans n g h = go (min spans.gap spans.array) (spans.array - min spans
 pub times_left : (a b d : ℕ) → a ≤ b → a * d ≤ b * d
 times_left a b d h = mul-le-mul_right d h
 
-class_step : (spans : Spans) (k n n' g g' : ℕ) → 1 ≤ k → n ≡ k + n' → g ≤ 1 + g' → g ≤ n → g' ≤ n' → class_waits spans n g ≤ waits_left spans k 0 + class_waits spans n' g'
-class_step spans zero n n' g g' h q a b c = absurd (omega arith)
-class_step spans (suc j) n n' g g' h q a b c =
+-- a group whose members share these lengths, whatever their posts
+abbrev sharing : Spans → List ℕ → Lengths
+sharing spans posts = record { cmd = spans.cmd; gap = spans.gap; array = spans.array; posts = posts }
+
+class_step : (spans : Spans) (posts : List ℕ) (k n n' g g' : ℕ) → 1 ≤ k → n ≡ k + n' → g ≤ 1 + g' → g ≤ n → g' ≤ n' → class_waits spans n g ≤ waits_left (sharing spans posts) k 0 + class_waits spans n' g'
+class_step spans posts zero n n' g g' h q a b c = absurd (omega arith)
+class_step spans posts (suc j) n n' g g' h q a b c =
     let m = min spans.gap spans.array in
     let d = spans.array - m in
     let e : suc j - 1 - 0 ≡ j = omega arith in
@@ -208,7 +214,7 @@ module _ (timing : Timing) (rules : Rules) (ms ws : List Want) (group : IsGroup 
       let above = group_above rules ms in
       let q : number (in_class rules kind page above) ws ≡ length ms + number (in_class rules kind page above) left = omega (arith, split_number (in_class rules kind page above), all_in rules kind page above ms classes) in
       let a : deepest rules kind page above ws ≤ 1 + deepest rules kind page above left = omega (arith, plane_step kind page above 0, plane_step kind page above 1, plane_step kind page above 2, plane_step kind page above 3) in
-      class_step (group_spans timing ms) (length ms) (number (in_class rules kind page above) ws) (number (in_class rules kind page above) left) (deepest rules kind page above ws) (deepest rules kind page above left) group.some q a (deepest_in rules kind page above ws) (deepest_in rules kind page above left)
+      class_step (spans_of timing (kind_of ms)) (group_spans timing ms).posts (length ms) (number (in_class rules kind page above) ws) (number (in_class rules kind page above) left) (deepest rules kind page above ws) (deepest rules kind page above left) group.some q a (deepest_in rules kind page above ws) (deepest_in rules kind page above left)
 
   kind_step : (kind : Kind) → kind_waits timing rules ws kind ≤ (if same_kind kind (kind_of ms) then own_wait else 0) + kind_waits timing rules left kind
   kind_step kind =
@@ -220,7 +226,7 @@ module _ (timing : Timing) (rules : Rules) (ms ws : List Want) (group : IsGroup 
         | inr k ↦ rw k (grid_step (2 ^ 16) (2 ^ 16) (waits_of timing rules ws kind) (waits_of timing rules left kind) 0 0 0 (λ page above d. let q = same_class kind page above (inl k) in omega arith) (let q = same_class kind 0 0 (inl k) in omega arith))
       ]
 
-  -- a started group takes at least the waits behind its first command
+  -- a started group takes at least the waits after its first command
   pub waits_step : all_waits timing rules ws ≤ own_wait + all_waits timing rules left
   waits_step =
       let a = kind_step Read in let b = kind_step Program in let c = kind_step Erase in

@@ -49,7 +49,7 @@ of_one_kind kind k (m ∷ ms) a =
     subst (λ z. (if same_kind kind z then 1 else 0) + total (one_of kind) ms ≡ (if same_kind kind k then length (m ∷ ms) else 0)) (sym a.0)
     (more_of (same_kind kind k) (length ms) (length (m ∷ ms)) (total (one_of kind) ms) (omega arith) h)
 
--- what is left of a LUN behind a phase
+-- what is left of a LUN after a phase
 pub running_after : (kind : Kind) (timing : Timing) (g : List Want) (n c : ℕ) → 1 ≤ length g → commands_on kind (lun_after timing g n c) ≡ (if same_kind kind (kind_of g) then length g - (n + 1) else 0)
 running_after kind timing g n c some =
     elim (cases_lt (n + 1) (2 * length g)) [

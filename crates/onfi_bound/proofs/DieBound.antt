@@ -9,13 +9,13 @@ use Rattle.onfi_problem.specs.declared.lun_state.LunState.{LunState}
 use Rattle.onfi_problem.specs.declared.lun_state.LunState.TheVariants.{Free, Running}
 use Rattle.onfi_problem.specs.Moves.{Move, Next, Start, IsMove, earliest, free_from, lun_after, ran_with, placed, without}
 use Rattle.onfi_group.specs.declared.rules.Rules.{Rules}
-use Rattle.onfi_group.specs.Words.{Has}
+use Rattle.onfi_group.specs.Words.{Has, total}
 use Rattle.onfi_problem.specs.Problem.{Problem, IsProblem}
 use Rattle.onfi_timing.specs.Kinds.{spans_of}
 use Rattle.onfi_group.specs.Group.{group_spans, lun_of, IsStartable, is_member}
-use Rattle.onfi_timing.specs.Phases.{phase_length}
+use Rattle.onfi_timing.specs.Phases.{phase_length, posts_from}
 use Rattle.onfi_schedule.specs.Runs.{Step, Run}
-use Rattle.onfi_problem.specs.Left.{commands_left, posts_left, waits_left, chain_time, want_command, want_post}
+use Rattle.onfi_problem.specs.Left.{commands_left, waits_left, chain_time, want_command, want_post}
 use Rattle.onfi_bound.specs.Bounds.{on_lun, wants_work, die_at, die}
 use Rattle.onfi_problem.proofs.Perm.{All-has, All-each, All-weaker}
 use Rattle.onfi_problem.proofs.Places.{get_set_same, get_set_other, same_place}
@@ -23,6 +23,7 @@ use Rattle.onfi_problem.proofs.Wants.{Pairs-filter, Has-filter}
 use Rattle.onfi_problem.proofs.Totals.{total_same, split_total, startable_wanted, startable_apart}
 use Rattle.onfi_problem.proofs.Work.{one_phase}
 use Rattle.onfi_problem.proofs.Waits.{one_wait, chain_after, free_after}
+use Rattle.onfi_bound.proofs.GroupPosts.{start_posts}
 use Rattle.onfi_bound.proofs.Classes.{waits_step, no_waits_left}
 use Rattle.onfi_schedule.proofs.Exchange.{not_member}
 use Rattle.onfi_problem.proofs.Kept.{kept, placed_luns}
@@ -73,7 +74,7 @@ die_later p c lun luns' wants' (w ∷ ws) None e le = rw e (omega arith)
 die_later p c lun luns' wants' [] None e le = le
 
 -- a phase of this LUN
-own_step : (p : Problem) (l : ℕ) (g : List Want) (n t : ℕ) (x : LunState) (wants' ws ws' : List Want) → slice_get p.luns l ≡ Some x → 1 ≤ length g → n < 2 * length g → all_work p l x ws ≤ t + (commands_left (length g) n * (group_spans p.timing g).cmd + posts_left (length g) n * (group_spans p.timing g).post + waits_left (group_spans p.timing g) (length g) n) + wants_work p.timing p.rules ws' → die_at p l ws (slice_get p.luns l) ≤ die_at (ran_with p l g n t wants') l ws' (slice_get (ran_with p l g n t wants').luns l)
+own_step : (p : Problem) (l : ℕ) (g : List Want) (n t : ℕ) (x : LunState) (wants' ws ws' : List Want) → slice_get p.luns l ≡ Some x → 1 ≤ length g → n < 2 * length g → all_work p l x ws ≤ t + (commands_left (length g) n * (group_spans p.timing g).cmd + posts_from (group_spans p.timing g) (length g) n + waits_left (group_spans p.timing g) (length g) n) + wants_work p.timing p.rules ws' → die_at p l ws (slice_get p.luns l) ≤ die_at (ran_with p l g n t wants') l ws' (slice_get (ran_with p l g n t wants').luns l)
 own_step p l g n t x wants' ws ws' at some h le =
     let spans = group_spans p.timing g in
     let c = t + phase_length spans (length g) n in
@@ -81,13 +82,18 @@ own_step p l g n t x wants' ws ws' at some h le =
     let there = get_set_same p.luns l x y at in
     let a = die_below p l x ws at in
     let b = die_above (ran_with p l g n t wants') l y ws' there (λ since e. let f = free_is p.timing g n c since (ap Some e) in omega (arith, f.0)) in
-    let u = one_phase spans (length g) n h in
+    let u = one_phase p.timing g n h in
     let w = one_wait spans (length g) n in
     let q = chain_after p.timing g n c some in
     let f = free_after p.timing g n c some h in
     rw (at, there) (omega arith)
 
-start_work : (p : Problem) (ms : List Want) → IsProblem p → IsStartable p.rules p.wants ms → wants_work p.timing p.rules (on_lun (lun_of ms) p.wants) ≤ length ms * (group_spans p.timing ms).cmd + length ms * (group_spans p.timing ms).post + waits_left (group_spans p.timing ms) (length ms) 0 + wants_work p.timing p.rules (on_lun (lun_of ms) (without ms p.wants))
+-- two sums at once
+total_both : (f g : Want → ℕ) (ws : List Want) → total (λ w. f w + g w) ws ≡ total f ws + total g ws
+total_both f g [] = refl
+total_both f g (w ∷ ws) = let e = total_both f g ws in omega arith
+
+start_work : (p : Problem) (ms : List Want) → IsProblem p → IsStartable p.rules p.wants ms → wants_work p.timing p.rules (on_lun (lun_of ms) p.wants) ≤ length ms * (group_spans p.timing ms).cmd + posts_from (group_spans p.timing ms) (length ms) 0 + waits_left (group_spans p.timing ms) (length ms) 0 + wants_work p.timing p.rules (on_lun (lun_of ms) (without ms p.wants))
 start_work p ms ip st =
     let lun = lun_of ms in
     let ws = on_lun lun p.wants in
@@ -97,7 +103,9 @@ start_work p ms ip st =
     let wanted : All (Has ws) ms = All-each (Has ws) ms (λ m h. Has-filter (λ w. w.lun == lun) p.wants m (All-has (Has p.wants) ms m (startable_wanted p ms st) h) (eq-eqb m.lun lun (All-has _ ms m st.group.lun h))) in
     let a = waits_step p.timing p.rules ms ws st.group rising wanted apart in
     let b = split_total (λ w. want_command p.timing w + want_post p.timing w) ms ws rising wanted apart in
-    let d = total_same (λ w. want_command p.timing w + want_post p.timing w) (spans.cmd + spans.post) ms (All-weaker _ _ (λ m e. ap (λ kind. (spans_of p.timing kind).cmd + (spans_of p.timing kind).post) e) ms st.group.kind) in
+    let both = total_both (want_command p.timing) (want_post p.timing) ms in
+    let d = total_same (want_command p.timing) spans.cmd ms (All-weaker _ _ (λ m e. ap (λ kind. (spans_of p.timing kind).cmd) e) ms st.group.kind) in
+    let posts = start_posts p.timing ms in
     rw (on_lun_own ms p.wants lun) (omega arith)
 
 die_step : (p : Problem) (m : Move) (t lun : ℕ) → IsProblem p → IsMove p m → earliest p m ≤ t → lun < length p.luns → die p lun ≤ die (placed p m t) lun
@@ -119,9 +127,8 @@ die_step p (Start ms) t lun ip (since, at, st) late within =
     elim (same_place l lun) [
       | inl e ↦ (
           let z : length ms - 0 ≡ length ms = omega arith in
-          let y : 2 * length ms - max 0 (length ms) ≡ length ms = omega arith in
           let w = start_work p ms ip st in
-          rw (← e) (own_step p l ms 0 t (Free since) (without ms p.wants) (on_lun l p.wants) (on_lun l (without ms p.wants)) at some (omega arith) (rw (z, y) (omega arith))))
+          rw (← e) (own_step p l ms 0 t (Free since) (without ms p.wants) (on_lun l p.wants) (on_lun l (without ms p.wants)) at some (omega arith) (rw z (omega arith))))
       | inr d ↦ (
           let same = get_set_other p.luns l lun (lun_after p.timing ms 0 c) (λ e. d (sym e)) in
           let wants = on_lun_other ms p.wants lun (λ w h k. not_member p ip ms st w h (λ q. d (sym q ∙ k))) in

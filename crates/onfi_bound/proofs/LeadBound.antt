@@ -1,5 +1,5 @@
 -- The lead bound is at most the finish of each run.
-use Rattle.std.proofs.Common.{◌≡◌, ◌≢◌, ℕ, zero, suc, ◌+◌, ◌*◌, ◌-◌, ◌≤◌, ◌<◌, inl, inr, List, [], ◌∷◌, ◌++◌, length, Option, Some, None, refl, sym, ap, ◌∙◌, subst, arith}
+use Rattle.std.proofs.Common.{◌≡◌, ◌≢◌, ℕ, zero, suc, ◌+◌, ◌*◌, ◌-◌, ◌≤◌, ◌<◌, inl, inr, List, [], ◌∷◌, length, Option, Some, None, refl, sym, ap, ◌∙◌, subst, arith}
 use Rattle.std.specs.Prelude.{slice_get, slice_set, max, min, ◌==◌}
 use Rattle.std.specs.List.{AllByRecursion as All}
 use Rattle.std.proofs.lemmas.Bool.{cases_lt, eq-eqb, lt-ltb, le-ltb}
@@ -11,16 +11,18 @@ use Rattle.onfi_group.specs.Words.{Has, total}
 use Rattle.onfi_problem.specs.Problem.{Problem, IsProblem}
 use Rattle.onfi_timing.specs.Kinds.{spans_of}
 use Rattle.onfi_group.specs.Group.{group_spans, lun_of, IsStartable}
-use Rattle.onfi_timing.specs.Phases.{phase_length, wait_before}
+use Rattle.onfi_group.proofs.PhaseLengths.{posts_behind_command, posts_behind_post}
+use Rattle.onfi_timing.specs.Phases.{phase_length, wait_before, posts_from}
 use Rattle.onfi_schedule.specs.Runs.{Step, Run}
-use Rattle.onfi_problem.specs.Left.{commands_left, posts_left, post_time, waits_left, want_post, all_posts}
+use Rattle.onfi_problem.specs.Left.{commands_left, post_time, waits_left, want_post, all_posts}
 use Rattle.onfi_bound.specs.Bounds.{on_lun, least, least_with, plus_each, to_post, post_starts, lead, bus}
 use Rattle.onfi_problem.proofs.Perm.{All-has, All-weaker, Has-map, Has-append_right, Has-append_cases}
 use Rattle.onfi_problem.proofs.Places.{get_set_same, get_set_other, same_place}
 use Rattle.onfi_problem.proofs.Wants.{Has-filter}
-use Rattle.onfi_problem.proofs.Totals.{total_set, total_same, startable_total, startable_wanted}
+use Rattle.onfi_problem.proofs.Totals.{total_set, startable_total, startable_wanted}
 use Rattle.onfi_problem.proofs.LunAfter.{lun_after_running}
 use Rattle.onfi_problem.proofs.Work.{posts_after, one_less}
+use Rattle.onfi_bound.proofs.GroupPosts.{start_posts}
 use Rattle.onfi_bound.proofs.BusBound.{bus_bound, free_total}
 use Rattle.onfi_problem.proofs.Waits.{one_wait}
 use Rattle.onfi_bound.proofs.DieBound.{on_lun_other}
@@ -91,7 +93,7 @@ pub start_of : (p : Problem) (v : ℕ) → Has (post_starts p 0 p.luns) v → Is
 start_of p v k = start_in p 0 v p.luns (λ i lun x e q. let z : i ≡ lun = omega arith in subst (λ j. slice_get p.luns j ≡ Some x) z q) k
 
 -- the posts that are left, with this phase
-posts_step : (p : Problem) (l : ℕ) (g : List Want) (n t : ℕ) (x : LunState) (wants : List Want) → slice_get p.luns l ≡ Some x → 1 ≤ length g → post_time p.timing x + total (want_post p.timing) p.wants ≡ posts_left (length g) n * (group_spans p.timing g).post + total (want_post p.timing) wants → all_posts p + posts_left (length g) (n + 1) * (group_spans p.timing g).post ≡ all_posts (ran_with p l g n t wants) + posts_left (length g) n * (group_spans p.timing g).post
+posts_step : (p : Problem) (l : ℕ) (g : List Want) (n t : ℕ) (x : LunState) (wants : List Want) → slice_get p.luns l ≡ Some x → 1 ≤ length g → post_time p.timing x + total (want_post p.timing) p.wants ≡ posts_from (group_spans p.timing g) (length g) n + total (want_post p.timing) wants → all_posts p + posts_from (group_spans p.timing g) (length g) (n + 1) ≡ all_posts (ran_with p l g n t wants) + posts_from (group_spans p.timing g) (length g) n
 posts_step p l g n t x wants at some h =
     let c = t + phase_length (group_spans p.timing g) (length g) n in
     let a = total_set (post_time p.timing) p.luns l x (lun_after p.timing g n c) at in
@@ -122,7 +124,7 @@ command_starts p l g n t e x wants at some h bus le same st lun y b k q =
           rw there (omega arith))
     ]
 
--- a post: all starts are behind it
+-- a post: all starts are after it
 post_starts_behind : (p : Problem) (e : ℕ) → e ≤ p.bus_free → Starts p e
 unfolding Starts
 post_starts_behind p e le lun x b h k = omega arith
@@ -145,8 +147,7 @@ lead_next p l g n r t e ip at late st =
     let posts = posts_step p l g n t x p.wants at i.group.some refl in
     elim (cases_lt n k) [
       | inl h ↦ (
-          let same : 2 * k - max n k ≡ 2 * k - max (n + 1) k = omega arith in
-          let posts' : all_posts p + posts_left k (n + 1) * spans.post ≡ all_posts (ran_with p l g n t p.wants) + posts_left k (n + 1) * spans.post = rw same at posts in
+          let same = posts_behind_command p.timing g n h in
           record {
             e' = e;
             starts = command_starts p l g n t e x p.wants at i.group.some h (omega arith) (omega arith) (λ lun d. refl) st;
@@ -156,12 +157,10 @@ lead_next p l g n r t e ip at late st =
       | inr h ↦ (
           let none : k - n ≡ 0 = omega arith in
           let first' : e ≤ max p.bus_free r + (0 * spans.cmd + 0) = rw (none, le-ltb n k h) at first in
-          let less : 2 * k - max n k ≡ suc (2 * k - max (n + 1) k) = omega arith in
-          let posts' : all_posts p + posts_left k (n + 1) * spans.post ≡ all_posts (ran_with p l g n t p.wants) + suc (posts_left k (n + 1)) * spans.post = rw less at posts in
-          let len : phase_length spans k n ≡ spans.post = rw (le-ltb n k h) refl in
+          let less = posts_behind_post p.timing g n h i.unfinished in
           record {
-            e' = e + spans.post;
-            starts = post_starts_behind (ran_with p l g n t p.wants) (e + spans.post) (omega arith);
+            e' = e + phase_length spans k n;
+            starts = post_starts_behind (ran_with p l g n t p.wants) (e + phase_length spans k n) (omega arith);
             posts = omega arith;
             at_end = λ done. omega arith;
           })
@@ -186,14 +185,12 @@ lead_start p ms since t e ip at st late sts =
     let first : e ≤ max p.bus_free since + b.0 = rw at at (sts l (Free since) b.0 at b.1) in
     let value : b.0 ≤ spans.cmd + spans.array = subst (λ q. b.0 ≤ (spans_of p.timing q).cmd + (spans_of p.timing q).array) kind b.2 in
     let z : k - 0 ≡ k = omega arith in
-    let y : 2 * k - max 0 k ≡ k = omega arith in
-    let y' : 2 * k - max (0 + 1) k ≡ k = omega arith in
     let times = times_left 1 k spans.cmd some in
     let waits : spans.array ≤ waits_left spans k 0 = rw (lt-ltb 0 k (omega arith)) (omega arith) in
     let wp = startable_total (want_post p.timing) p ms ip st in
-    let mp = total_same (want_post p.timing) spans.post ms (All-weaker _ _ (λ m e. ap (λ kind. (spans_of p.timing kind).post) e) ms st.group.kind) in
-    let posts : all_posts p + posts_left k (0 + 1) * spans.post ≡ all_posts (ran_with p l ms 0 t (without ms p.wants)) + posts_left k 0 * spans.post = posts_step p l ms 0 t (Free since) (without ms p.wants) at some (rw y (omega arith)) in
-    let posts' : all_posts p + k * spans.post ≡ all_posts (ran_with p l ms 0 t (without ms p.wants)) + k * spans.post = rw (y, y') at posts in
+    let mp = start_posts p.timing ms in
+    let posts = posts_step p l ms 0 t (Free since) (without ms p.wants) at some (omega arith) in
+    let same = posts_behind_command p.timing ms 0 (omega arith) in
     record {
       e' = e;
       starts = command_starts p l ms 0 t e (Free since) (without ms p.wants) at some (omega arith) (omega arith) (rw z (omega arith)) (λ lun d. on_lun_other ms p.wants lun (λ w h q. not_member p ip ms st w h (λ i. d (sym i ∙ q)))) sts;

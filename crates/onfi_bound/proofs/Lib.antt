@@ -4,6 +4,7 @@ pub mod Counts
 pub mod Whole
 pub mod Tallying
 pub mod Loading
+pub mod GroupPosts
 pub mod BusBound
 pub mod Classes
 pub mod DieBound

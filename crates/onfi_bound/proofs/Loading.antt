@@ -10,7 +10,6 @@ use Rattle.onfi_timing.specs.declared.timing.Timing.{Timing}
 use Rattle.onfi_timing.specs.Kinds.{spans_of}
 use Rattle.onfi_request.specs.declared.want.Want.{Want}
 use Rattle.onfi_group.specs.declared.rules.Rules.{Rules}
-use Rattle.onfi_group.specs.Words.{total}
 use Rattle.onfi_problem.specs.declared.moves.Move.{Move as KeptMove}
 use Rattle.onfi_problem.specs.Problem.{Problem}
 use Rattle.onfi_problem.specs.Moves.{Move, Next, Start, IsMove, after}
@@ -78,17 +77,13 @@ any_more test ws w = list_any-append test ws (w ∷ []) ∙ go (list_any test ws
     go false false = refl
 
 -- no sum of a few wants' phases leaves its type
-pub total_few : (f : Want → ℕ) (ws : List Want) → ((w : Want) → f w ≤ 2 ^ 50) → total f ws ≤ length ws * 2 ^ 50
-total_few f [] h = omega arith
-total_few f (w ∷ ws) h = let a = h w in let b = total_few f ws h in omega arith
-
 -- a want's own command and array, or the least so far where its LUN had wants
 abbrev pub IsOwnFirst : Timing → Want → Load → ℕ → Type 0
 IsOwnFirst timing w load first =
     let own = (spans_of timing w.kind).cmd + (spans_of timing w.kind).array in
     ((get_or load.work w.lun 0 ≡ 0) × (first ≡ own)) ⊎ ((1 ≤ get_or load.work w.lun 0) × (first ≡ min own (get_or load.firsts w.lun 0)))
 
--- the entries of one want more, behind all others
+-- the entries of one want more, after all others
 module _ (timing : Timing) (rules : Rules) (ws : List Want) (w : Want) (load : Load) (h : IsShortLoad timing rules ws load) where
   abbrev here : ℕ
   here = get_or load.work w.lun 0
@@ -138,7 +133,7 @@ none_wait marks [] h = refl
 none_wait [] (w ∷ ws) h = refl
 none_wait (b ∷ marks) (w ∷ ws) h = let e : b ≡ false = h 0 (omega arith) in rw e (none_wait marks ws (λ i k. h (suc i) (omega arith)))
 
--- a want is marked behind all that are
+-- a want is marked after all that are
 pub one_more_waits : (marks : List Bool) (ws : List Want) (n : ℕ) (d : Want) → n < length marks → n < length ws → ((i : ℕ) → n ≤ i → i < length ws → get_or marks i false ≡ false) → waiting_of (slice_set marks n true) ws ≡ waiting_of marks ws ++ get_or ws n d ∷ []
 one_more_waits [] ws n d h k none = absurd (omega arith)
 one_more_waits (b ∷ marks) [] n d h k none = absurd (omega arith)

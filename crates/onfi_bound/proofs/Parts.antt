@@ -1,11 +1,12 @@
 -- What is read from the parts of a problem.
 use Rattle.std.proofs.Common.{◌≡◌, ℕ, suc, ◌+◌, ◌*◌, ◌-◌, ◌^◌, ◌≤◌, ◌<◌, inl, inr, Bool, true, false, if◌then◌else◌, List, [], ◌∷◌, length, map, Some, refl, sym, ◌∙◌, subst, arith, get_or}
-use Rattle.std.specs.Prelude.{slice_get, ◌==◌, nat_lt, max}
+use Rattle.std.specs.Prelude.{slice_get, ◌==◌, nat_lt}
 use Rattle.std.specs.List.{AllByRecursion as All, list_any}
 use Rattle.std.proofs.lemmas.Bool.{cases_Bool, cases_lt, ne_eqb, lt-ltb, le-ltb}
 use Rattle.onfi_timing.specs.declared.kind.Kind.{Kind}
-use Rattle.onfi_timing.specs.declared.spans.Spans.{Spans}
 use Rattle.onfi_timing.specs.declared.timing.Timing.{Timing}
+use Rattle.onfi_timing.specs.Kinds.{spans_of}
+use Rattle.onfi_timing.specs.Phases.{posts_from}
 use Rattle.onfi_request.specs.declared.want.Want.{Want}
 use Rattle.onfi_group.specs.Words.{total}
 use Rattle.onfi_group.specs.Group.{kind_of, group_spans}
@@ -20,6 +21,7 @@ use Rattle.onfi_bound.specs.declared.chain.Chain.{Chain}
 use Rattle.onfi_bound.specs.Bounds.{same_kind, commands_next, has_command}
 use Rattle.onfi_bound.specs.Parts.{chain_of, IsShort, is_kind}
 use Rattle.onfi_bound.proofs.Classes.{times_left}
+use Rattle.onfi_bound.proofs.GroupPosts.{posts_short}
 use Rattle.onfi_problem.proofs.After.{in_table}
 use Rattle.onfi_problem.proofs.Lists.{all_at, total_by, any_by}
 
@@ -35,20 +37,20 @@ pub place_at : (p : Problem) (groups : List (List Want)) (luns : List Lun) (lun 
     → lun < length luns → 1 ≤ (get_or luns lun d).next → (get_or luns lun d).place < length groups
 place_at p groups luns lun d lim e h = all_at (λ (x : Lun). 1 ≤ x.next → x.place < length groups) luns lun d h (placed p groups luns lim e)
 
-running_short : (spans : Spans) (k n : ℕ) → 1 ≤ k → k ≤ 4 → ((k - n) * spans.cmd ≤ 2 ^ 52) × ((2 * k - max n k) * spans.post ≤ 2 ^ 52) × (waits_left spans k n ≤ 2 ^ 52)
-running_short spans k n some few =
+running_short : (timing : Timing) (g : List Want) (n : ℕ) → 1 ≤ length g → length g ≤ 4 → ((length g - n) * (group_spans timing g).cmd ≤ 2 ^ 52) × (posts_from (group_spans timing g) (length g) n ≤ 2 ^ 52) × (waits_left (group_spans timing g) (length g) n ≤ 2 ^ 52)
+running_short timing g n some few =
+    let spans = spans_of timing (kind_of g) in
     let r = spans.in_range in
-    let a = times_left (k - n) 4 spans.cmd (omega arith) in
-    let b = times_left (2 * k - max n k) 4 spans.post (omega arith) in
-    let w = times_left (k - 1 - n) 3 spans.gap (omega arith) in
-    (omega arith, omega arith, elim (cases_lt n k) [ inl h ↦ rw (lt-ltb n k h) (omega arith) | inr h ↦ rw (le-ltb n k h) (omega arith) ])
+    let a = times_left (length g - n) 4 spans.cmd (omega arith) in
+    let w = times_left (length g - 1 - n) 3 spans.gap (omega arith) in
+    (omega arith, posts_short timing g n few, elim (cases_lt n (length g)) [ inl h ↦ rw (lt-ltb n (length g) h) (omega arith) | inr h ↦ rw (le-ltb n (length g) h) (omega arith) ])
 
 pub short_at : (p : Problem) → InLimits p → (l : ℕ) (x : LunState) → slice_get p.luns l ≡ Some x → IsShort (chain_of p.timing x)
 short_at p lim l (Free since) at = let a = lun_in_limits p l _ lim at in record { from = a; commands = omega arith; posts = omega arith; waits = omega arith }
 short_at p lim l (Running g n r) at =
     let a = lun_in_limits p l _ lim at in
     let i = lim.problem.running l g n r at in
-    let s = running_short (group_spans p.timing g) (length g) n i.group.some i.group.few in
+    let s = running_short p.timing g n i.group.some i.group.few in
     record { from = a; commands = s.0; posts = s.1; waits = s.2 }
 
 short_from : (timing : Timing) (luns : List LunState) → ((l : ℕ) (x : LunState) → slice_get luns l ≡ Some x → IsShort (chain_of timing x)) → All IsShort (map (chain_of timing) luns)

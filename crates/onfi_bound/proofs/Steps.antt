@@ -13,7 +13,7 @@ use Rattle.onfi_timing.specs.declared.kind.Kind.{Kind}
 use Rattle.onfi_bound.specs.Bounds.{same_kind}
 pub use Rattle.onfi_problem.proofs.Lists.{all_at}
 
--- what a list gives behind its end
+-- what a list gives past its end
 abbrev pub no_chain : Chain
 no_chain = record { running = false; from = 0; commands = 0; posts = 0; waits = 0; command = None }
 
@@ -32,7 +32,7 @@ tested p xs i d so_far next h a b = go so_far a b
     go true a b = rw (list_any_more p xs i d h, ← a) b
     go false a b = rw (list_any_more p xs i d h, ← a) b
 
--- the same behind a test that went before
+-- the same after a test that went before
 pub tested_too : {A : Type 0} (first : Bool) (p : A → Bool) (xs : List A) (i : ℕ) (d : A) (so_far next : Bool) → i < length xs → so_far ≡ (if first then true else list_any p (take i xs)) → next ≡ (if so_far then true else p (get_or xs i d)) → next ≡ (if first then true else list_any p (take (i + 1) xs))
 tested_too true p xs i d so_far next h a b = rw a at b
 tested_too false p xs i d so_far next h a b = tested p xs i d so_far next h a b

@@ -24,7 +24,7 @@ use Rattle.onfi_problem.proofs.Limits.{bus_in_limits, lun_in_limits}
 use Rattle.onfi_bound.specs.declared.chain.Chain.{Chain}
 use Rattle.onfi_bound.specs.declared.load.Load.{Load}
 use Rattle.onfi_bound.specs.declared.tally.Tally.{Tally}
-use Rattle.onfi_bound.specs.Bounds.{on_lun, wants_work, least, least_with, earlier, commands_next, has_command, to_post, post_starts, die, bus}
+use Rattle.onfi_bound.specs.Bounds.{on_lun, wants_work, least, least_with, earlier, commands_next, has_command, to_post, post_starts, die}
 use Rattle.onfi_bound.specs.Parts.{chain_of, is_kind, has_kind, AreSums}
 use Rattle.onfi_bound.specs.Loads.{IsLoad, IsLeast, commands_to_post, IsChainAt, IsTally}
 use Rattle.onfi_bound.proofs.DieBound.{no_work}
@@ -37,7 +37,7 @@ or_more : (a b c : Bool) → (if (if a then true else b) then true else c) ≡ (
 or_more true b c = refl
 or_more false b c = refl
 
--- what a chain tells of its LUN
+-- what a chain says of its LUN
 from_of : (timing : Timing) (x : LunState) → (chain_of timing x).from ≡ free_from (Some x)
 from_of timing (Free since) = refl
 from_of timing (Running g n r) = refl

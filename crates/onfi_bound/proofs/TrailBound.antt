@@ -1,6 +1,6 @@
 -- The trail bound is at most the finish of each run.
 use Rattle.std.proofs.Common.{◌≡◌, ℕ, zero, suc, ◌+◌, ◌*◌, ◌-◌, ◌≤◌, ◌<◌, ◌⊎◌, inl, inr, Bool, true, false, if◌then◌else◌, List, [], ◌∷◌, ◌++◌, length, Option, Some, None, refl, sym, ap, ◌∙◌, subst, arith}
-use Rattle.std.specs.Prelude.{slice_get, slice_set, max, nat_lt}
+use Rattle.std.specs.Prelude.{slice_get, max, nat_lt}
 use Rattle.std.specs.List.{AllByRecursion as All}
 use Rattle.std.proofs.lemmas.Bool.{cases_lt, eq-eqb, lt-ltb, le-ltb}
 use Rattle.onfi_timing.specs.declared.kind.Kind.{Kind}
@@ -17,20 +17,21 @@ use Rattle.onfi_timing.specs.Phases.{phase_length, wait_before}
 use Rattle.onfi_schedule.specs.Runs.{Step, Run}
 use Rattle.onfi_problem.specs.Left.{commands_left, command_time, want_command, all_commands}
 use Rattle.onfi_bound.specs.Bounds.{on_lun, least, same_kind, has_command, behind_commands, trail_from, trail, die, die_at}
-use Rattle.onfi_bound.specs.Commands.{commands_on, one_of, commands_of}
+use Rattle.onfi_bound.specs.Commands.{commands_on, commands_of}
 use Rattle.onfi_problem.proofs.Perm.{All-front, All-back, All-weaker}
 use Rattle.onfi_problem.proofs.Places.{get_set_same, within_get, length_set}
 use Rattle.onfi_problem.proofs.Totals.{total_set, total_same, startable_total}
 use Rattle.onfi_problem.proofs.LunAfter.{lun_after_running}
 use Rattle.onfi_problem.proofs.Work.{commands_after, one_less}
+use Rattle.onfi_bound.proofs.GroupPosts.{first_post}
 use Rattle.onfi_bound.proofs.BusBound.{free_total}
-use Rattle.onfi_bound.proofs.Classes.{same_kind_self, times_left}
+use Rattle.onfi_bound.proofs.Classes.{same_kind_self}
 use Rattle.onfi_bound.proofs.Counting.{running_after, next_takes, start_takes, commands_long, commands_some, some_there}
 use Rattle.onfi_bound.proofs.DieBound.{die_bound}
 use Rattle.onfi_bound.proofs.LeadBound.{least_all}
 use Rattle.onfi_problem.proofs.Kept.{kept}
 
--- a is at most what is behind each command that is left
+-- a is at most what is after each command that is left
 Trails : Problem → ℕ → Type 0
 Trails p a = (kind : Kind) → 1 ≤ commands_of p kind → a ≤ (spans_of p.timing kind).array + (spans_of p.timing kind).post
 
@@ -87,11 +88,9 @@ module _ (p : Problem) (l : ℕ) (g : List Want) (n t : ℕ) (x : LunState) (wan
             let last : n + 1 ≡ k = let e = none (kind_of g) in omega arith in
             let wait : wait_before spans k (n + 1) ≡ spans.array = rw (le-ltb (n + 1) k (omega arith), eq-eqb (n + 1) k last) refl in
             let own_a = tra (kind_of g) (some_there (kind_of g) (kind_of g) (commands_of p' (kind_of g)) (commands_of p (kind_of g)) refl (counts (kind_of g))) in
-            let y : 2 * k - max (n + 1) k ≡ k = omega arith in
-            let times = times_left 1 k spans.post some in
+            let post = first_post p.timing g (n + 1) some (omega arith) in
             let dies' : die_at p' l (on_lun l wants) (Some (Running g (n + 1) (b + wait_before spans k (n + 1)))) ≤ f = subst (λ o. die_at p' l (on_lun l wants) o ≤ f) (there ∙ ap Some run) dies in
             let go : may_go p' l ≡ max b (free_from (Some (Running g (n + 1) (b + wait_before spans k (n + 1))))) = ap (λ o. max b (free_from o)) (there ∙ ap Some run) in
-            let dies'' = rw y at dies' in
             omega arith)
       ]
 

@@ -56,7 +56,7 @@ abbrev pub lead_from : Problem → Option ℕ → ℕ
 lead_from p None = p.bus_free
 lead_from p (Some start) = start + all_posts p
 
--- all posts stand behind the first one
+-- all posts come after the first one
 abbrev pub lead : Problem → ℕ
 lead p = lead_from p (least (post_starts p 0 p.luns))
 
@@ -82,7 +82,7 @@ abbrev pub trail_from : Problem → Option ℕ → Option ℕ
 trail_from p None = None
 trail_from p (Some rest) = Some (p.bus_free + all_commands p + rest)
 
--- behind the last command there is an array and a post; there is no such bound where no command is left
+-- after the last command there is an array and a post; there is no such bound where no command is left
 abbrev pub trail : Problem → Option ℕ
 trail p = trail_from p (least (behind_commands p Read ++ (behind_commands p Program ++ behind_commands p Erase)))
 

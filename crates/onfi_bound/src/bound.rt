@@ -3,9 +3,9 @@
 pub enum Bound {
     /// What is left takes the bus one phase after another.
     Bus,
-    /// All posts stand behind the first one.
+    /// All posts come after the first one.
     Lead,
-    /// Behind the last command stand its array and a post.
+    /// After the last command come its array and a post.
     Trail,
     /// The LUN of that number does all that is left to it, one group after another.
     Die(u8),

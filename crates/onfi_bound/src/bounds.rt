@@ -53,10 +53,10 @@ pub fn die(problem: &Problem, lun: u8) -> u64
 {
     let (timing, rules) = (problem.timing(), problem.rules());
     let bus_free = problem.bus_free();
-    let chain = Chain::of(&timing, problem.groups(), problem.luns()[lun as usize]);
+    let chain = Chain::of(timing, problem.groups(), problem.luns()[lun as usize]);
     let mut wants = ArrayVec::new();
     list_marked(problem.wants(), problem.waiting(), &mut wants);
-    let work = work_of_wants(&timing, &rules, &wants, lun);
+    let work = work_of_wants(timing, &rules, &wants, lun);
     if !chain.running && work == 0 {
         return bus_free;
     }
@@ -105,7 +105,7 @@ pub fn trail_of(problem: &Problem, commands: u64, kinds: Kinds) -> Option<u64>
     ensures small { IfSome result (λ t. t < 2 ^ 62) }
 {
     let (timing, bus_free) = (problem.timing(), problem.bus_free());
-    trail_by(&timing, bus_free, commands, kinds)
+    trail_by(timing, bus_free, commands, kinds)
 }
 
 /// The trail bound, in ns, of any problem with these phase lengths whose bus is free from `bus_free` on and to which
@@ -130,12 +130,12 @@ impl Left {
         ensures small { result < 2 ^ 62 }
     {
         let timing = problem.timing();
-        let first = first_post(&timing, self.bus_free, &self.chains, &self.wants);
+        let first = first_post(timing, self.bus_free, &self.chains, &self.wants);
         self.sums.lead(problem, first)
     }
 }
 
-/// The lesser of what is behind a command of this kind, where one is left, and what is behind others.
+/// The lesser of what comes after a command of this kind, where one is left, and what comes after others.
 fn behind_command(left: bool, spans: &Spans, others: Option<u64>) -> Option<u64>
     requires { IfSome others (λ rest. rest < 2 ^ 51) }
     ensures value { result ≡ (if left then Some (least_with (spans.now.array + spans.now.post) others) else others) }

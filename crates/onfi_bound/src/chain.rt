@@ -1,10 +1,12 @@
-ghost use Rattle.std.specs.Prelude.{◌≡◌, ◌+◌, ◌^◌, ◌<◌, ◌≤◌, max, length};
+ghost use Rattle.std.specs.Prelude.{◌≡◌, ◌+◌, ◌*◌, ◌^◌, ◌<◌, ◌≤◌, max, length};
 ghost use Rattle.onfi_timing.specs.declared.timing.Timing.{Timing as Shape};
+ghost use Rattle.onfi_timing.specs.Phases.{posts_from};
+ghost use Rattle.onfi_group.specs.Group.{group_spans};
 ghost use Rattle.onfi_problem.specs.declared.lun_state.LunState.TheVariants.{Free, Running};
 ghost use Rattle.onfi_problem.specs.Position.{state_of};
 ghost use Rattle.onfi_bound.specs.Parts.{chain_of};
 
-use onfi_group::Group;
+use onfi_group::{Group, posts_from};
 use onfi_problem::Lun;
 use onfi_timing::{Kind, Timing};
 
@@ -23,6 +25,28 @@ pub struct Chain {
     pub waits: u64,
     /// The kind of the next phase, where that is a command.
     pub command: Option<Kind>,
+}
+
+// The posts of a group from phase `next` on, in ns. Most groups have one member, for which no walk is needed.
+#[inline(always)]
+fn posts_left(timing: &Timing, group: &Group, next: u8) -> u64
+    ensures value { result ≡ posts_from (group_spans timing.now group.now) (length group.now) next }
+    ensures short { result ≤ 4 * 2 ^ 50 }
+{
+    if group.len() == 1 && next <= 1 {
+        timing.spans(group.kind()).post
+    } else {
+        posts_of_several(timing, group, next)
+    }
+}
+
+// What it is in any case; apart, so that the way of one member stays short.
+#[inline(never)]
+fn posts_of_several(timing: &Timing, group: &Group, next: u8) -> u64
+    ensures value { result ≡ posts_from (group_spans timing.now group.now) (length group.now) next }
+    ensures short { result ≤ 4 * 2 ^ 50 }
+{
+    posts_from(timing, group.members(), next as usize)
 }
 
 impl Chain {
@@ -64,14 +88,13 @@ impl Chain {
         ensures { result ≡ chain_of timing.now (Running group.now next ready) }
     {
         let spans = timing.spans(group.kind());
-        let members = group.len() as u64;
-        let next = next as u64;
+        let (members, commands_done) = (group.len() as u64, next as u64);
         Chain {
             running: true,
             from: ready,
-            commands: (members - next) * spans.cmd,
-            posts: members * spans.post,
-            waits: (members - 1 - next) * spans.gap + spans.array,
+            commands: (members - commands_done) * spans.cmd,
+            posts: posts_left(timing, group, next),
+            waits: (members - 1 - commands_done) * spans.gap + spans.array,
             command: Some(group.kind()),
         }
     }
@@ -82,13 +105,11 @@ impl Chain {
         requires { length group.now ≤ next }
         ensures { result ≡ chain_of timing.now (Running group.now next ready) }
     {
-        let spans = timing.spans(group.kind());
-        let members = group.len() as u64;
         Chain {
             running: true,
             from: ready,
             commands: 0,
-            posts: (2 * members).saturating_sub(next as u64) * spans.post,
+            posts: posts_left(timing, group, next),
             waits: 0,
             command: None,
         }

@@ -161,7 +161,7 @@ impl Commands {
         ensures { result ≡ trail problem.now.problem }
     {
         let timing = problem.timing();
-        self.trail_from(&timing, problem.bus_free())
+        self.trail_from(timing, problem.bus_free())
     }
 
     // The trail bound, in ns, of any problem with these phase lengths whose bus is free from `bus_free` on and to which
@@ -199,6 +199,6 @@ impl Commands {
     {
         let timing = problem.timing();
         let left = self.after(problem, m);
-        is_reached(left.trail_from(&timing, problem.end_of(m)), e)
+        is_reached(left.trail_from(timing, problem.end_of(m)), e)
     }
 }

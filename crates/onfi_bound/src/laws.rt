@@ -14,14 +14,14 @@ pub fn bus_is_below()
     ensures small { (p : Problem) → InLimits p → bus p < 2 ^ 62 }
 {}
 
-/// The lead bound: all posts stand behind the first one.
+/// The lead bound: all posts come after the first one.
 pub fn lead_is_below()
     ensures schedules { (p : Problem) (s : Schedule) → IsProblem p → Legal p s → lead p ≤ finish p s }
     ensures runs { (p : Problem) (steps : List Step) (f : ℕ) → IsProblem p → Run p steps f → lead p ≤ f }
     ensures small { (p : Problem) → InLimits p → lead p < 2 ^ 62 }
 {}
 
-/// The trail bound, where there is one: behind the last command stand its array and a post.
+/// The trail bound, where there is one: after the last command come its array and a post.
 pub fn trail_is_below()
     ensures schedules { (p : Problem) (s : Schedule) (v : ℕ) → IsProblem p → Legal p s → trail p ≡ Some v → v ≤ finish p s }
     ensures runs { (p : Problem) (steps : List Step) (f v : ℕ) → IsProblem p → Run p steps f → trail p ≡ Some v → v ≤ f }

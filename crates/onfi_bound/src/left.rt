@@ -154,9 +154,9 @@ impl Left {
         ensures { IsLeft problem.now.problem self.new }
     {
         let timing = problem.timing();
-        list_chains(&timing, problem.groups(), problem.luns(), &mut self.chains);
+        list_chains(timing, problem.groups(), problem.luns(), &mut self.chains);
         list_marked(problem.wants(), problem.waiting(), &mut self.wants);
-        self.sums = Sums::of_chains(&self.chains).with_wants(&timing, &self.wants);
+        self.sums = Sums::of_chains(&self.chains).with_wants(timing, &self.wants);
     }
 }
 

@@ -1,4 +1,4 @@
-//! Lower bounds: four numbers that no legal schedule of a problem ends before. Alone, it tells how soon a problem may
+//! Lower bounds: four numbers that no legal schedule of a problem ends before. Alone, it says how soon a problem may
 //! be done at best, and which bound lets a search stop.
 #![tactic(auto)]
 

@@ -50,7 +50,7 @@ impl Load {
         let mut wants = ArrayVec::new();
         list_marked(problem.wants(), marks, &mut wants);
         let (timing, rules) = (problem.timing(), problem.rules());
-        Load::none(marks).with_all(&timing, &rules, &wants)
+        Load::none(marks).with_all(timing, &rules, &wants)
     }
 
     // What these wants take, where nothing was taken before.
@@ -83,11 +83,11 @@ impl Load {
         let mut before = ArrayVec::new();
         list_marked(wants, &self.marks, &mut before);
         let (timing, rules) = (problem.timing(), problem.rules());
-        self.add(&timing, &rules, &before, &wants[number]);
+        self.add(timing, &rules, &before, &wants[number]);
         self.marks[number] = true;
     }
 
-    // One want more, behind those whose load it was.
+    // One want more, after those whose load it was.
     fn add(&mut self, timing: &Timing, rules: &Rules, before: &[Want], want: &Want)
         requires load { IsShortLoad timing.now rules.now before.now self.old }
         requires few { length before.now ≤ 8 }

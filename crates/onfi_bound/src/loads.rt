@@ -68,7 +68,7 @@ impl Loads {
         ensures { IfSome result (λ load. IsLoad problem.now.problem.timing problem.now.problem.rules problem.now.problem.wants load.now) }
     {
         let waiting = problem.waiting();
-        // (marks behind the last want mean nothing, and are no part of a place)
+        // (marks past the last want mean nothing, and are no part of a place)
         let place = index_of(waiting) & self.of.len().wrapping_sub(1);
         let load = self.of.get(place)?;
         if load.is_of(waiting) {
@@ -79,7 +79,7 @@ impl Loads {
     }
 }
 
-// Behind the loads of all sets of the wants before that number stand, in their order, those that have this want too.
+// After the loads of all sets of the wants before that number come, in their order, those that have this want too.
 fn add_want(of: &mut Vec<Load>, problem: &Problem, number: usize) -> Result<(), AllocError>
     requires number { number < length problem.now.all }
     requires loads { AreLoadsBefore problem.now number of.old.items }

@@ -91,7 +91,7 @@ impl Load {
         ensures { result ≡ die problem.now.problem lun }
     {
         let (timing, bus_free) = (problem.timing(), problem.bus_free());
-        let chain = Chain::of(&timing, problem.groups(), state);
+        let chain = Chain::of(timing, problem.groups(), state);
         let work = self.work[lun as usize];
         if !chain.running && work == 0 {
             return bus_free;
@@ -118,7 +118,7 @@ impl Tally {
         tally
     }
 
-    // One LUN more. The three cases are told apart before the sums, so that each is a few additions.
+    // One LUN more. The three cases are separated before the sums, so that each is a few additions.
     #[inline(always)]
     fn add_lun(&mut self, problem: &Problem, load: &Load, lun: u8, state: Lun)
         requires load { IsLoad problem.now.problem.timing problem.now.problem.rules problem.now.problem.wants load.now }
@@ -134,10 +134,10 @@ impl Tally {
         }
         let (timing, group) = (problem.timing(), &problem.groups()[state.place as usize]);
         if (state.next as usize) < group.len() {
-            let chain = Chain::of_commands(&timing, group, state.next, state.time);
+            let chain = Chain::of_commands(timing, group, state.next, state.time);
             self.add(problem, load, lun, chain);
         } else {
-            let chain = Chain::of_posts(&timing, group, state.next, state.time);
+            let chain = Chain::of_posts(timing, group, state.next, state.time);
             self.add(problem, load, lun, chain);
         }
     }

@@ -5,7 +5,8 @@ use Rattle.std.proofs.lemmas.List.{length-map, length-replicate, take_all}
 use Rattle.onfi_flight.proofs.Lists.{mapped_more}
 use Rattle.onfi_c.specs.Written.{filled}
 
-filled_next : {A : Type 0} (n : ℕ) (rest y : A) (xs : List A) → length xs < n → slice_set (filled n rest xs) (length xs) y ≡ filled n rest (xs ++ y ∷ [])
+-- the place after them is filled
+pub filled_next : {A : Type 0} (n : ℕ) (rest y : A) (xs : List A) → length xs < n → slice_set (filled n rest xs) (length xs) y ≡ filled n rest (xs ++ y ∷ [])
 filled_next zero rest y xs low = absurd (omega (arith, low))
 filled_next (suc n) rest y [] low = refl
 filled_next (suc n) rest y (x ∷ xs) low = ap (λ zs. x ∷ zs) (filled_next n rest y xs (omega (arith, low)))

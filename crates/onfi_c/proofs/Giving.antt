@@ -1,4 +1,4 @@
--- From a plan or a verdict as it is told to what a caller is given.
+-- From a plan or a verdict as it is said to what a caller is given.
 use Rattle.std.proofs.Common.{◌≡◌, ℕ, List, sym, subst, ◌∙◌}
 use Rattle.std.specs.Prelude.{IfOk, IfErr, Result, Ok, Err}
 use Rattle.onfi_problem.specs.Problem.{Problem}

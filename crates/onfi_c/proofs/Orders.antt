@@ -7,7 +7,7 @@ use Rattle.std.proofs.lemmas.List.{drop_all}
 use Rattle.onfi_request.specs.declared.want.Want.{Want}
 use Rattle.onfi_core.specs.Choice.{AreMerged, Rise}
 use Rattle.onfi_core.specs.declared.setup.Choice.{Choice}
-use Rattle.onfi_core.specs.declared.setup.Choice.TheVariants.{InOrder, ByLun, ReadsFirst}
+use Rattle.onfi_core.specs.declared.setup.Choice.TheVariants.{InOrder, ByLun, ReadsFirst, WholeGroups}
 use Rattle.onfi_core.proofs.Lists.{All-at, drop_next, next_cases}
 use Rattle.onfi_problem.proofs.Places.{get_within}
 use Rattle.onfi_c.specs.declared.lun.PlainWant.{PlainWant}
@@ -46,7 +46,7 @@ rise_of accepted bits floor (w ∷ wants) rise =
 
 -- What is chosen is there
 
-merged_there : (items chosen rest : List Want) → AreMerged chosen rest items → (i : ℕ) (w : Want) → slice_get chosen i ≡ Some w → (at : ℕ) × (slice_get items at ≡ Some w)
+pub merged_there : (items chosen rest : List Want) → AreMerged chosen rest items → (i : ℕ) (w : Want) → slice_get chosen i ≡ Some w → (at : ℕ) × (slice_get items at ≡ Some w)
 merged_there [] chosen rest are i w there = absurd (let e : slice_get chosen i ≡ slice_get [] i = ap (λ xs. slice_get xs i) are.0 in cc)
 merged_there (z ∷ items) chosen rest (inl (more, is, are)) zero w there = (zero, sym (ap (λ xs. slice_get xs zero) is) ∙ there)
 merged_there (z ∷ items) chosen rest (inl (more, is, are)) (suc i) w there = let r = merged_there items more rest are i w (sym (ap (λ xs. slice_get xs (suc i)) is) ∙ there) in (suc r.0, r.1)
@@ -64,6 +64,7 @@ pub chosen_there : (choice : Choice) (batch accepted : ℕ) (items chosen : List
 chosen_there InOrder batch accepted items chosen is i w there = taken_there items batch i w (sym (ap (λ xs. slice_get xs i) is) ∙ there)
 chosen_there ByLun batch accepted items chosen (rest, is) i w there = merged_there items chosen rest is.both i w there
 chosen_there ReadsFirst batch accepted items chosen (rest, is) i w there = merged_there items chosen rest is.both i w there
+chosen_there WholeGroups batch accepted items chosen (rest, is) i w there = merged_there items chosen rest is.both i w there
 
 -- Places by numbers
 

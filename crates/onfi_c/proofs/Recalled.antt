@@ -1,4 +1,4 @@
--- A plan by a search that remembers states, as it is told.
+-- A plan by a search that remembers states, as it is given.
 use Rattle.std.proofs.Common.{◌≡◌, ℕ, ◌≤◌, Bool, List, refl, sym, ap, ◌∙◌, subst}
 use Rattle.onfi_problem.specs.Position.{Position}
 use Rattle.onfi_problem.specs.Problem.{Problem}

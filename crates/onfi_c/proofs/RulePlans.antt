@@ -1,4 +1,4 @@
--- A plan by the rule, as it is told.
+-- A plan by the rule, as it is given.
 use Rattle.std.proofs.Common.{◌≡◌, ℕ, ◌+◌, ◌≤◌, List, refl, sym, subst}
 use Rattle.std.specs.Prelude.{IfOk, IfErr, Result, Ok, Err}
 use Rattle.onfi_problem.specs.Position.{Position}

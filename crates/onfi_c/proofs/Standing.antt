@@ -1,4 +1,4 @@
--- What is kept behind a phase says the problem that the phase leaves.
+-- What is kept after a phase says the problem that the phase leaves.
 use Rattle.std.proofs.Common.{◌≡◌, ℕ, zero, suc, ◌+◌, ◌*◌, ◌%◌, ◌^◌, ◌<◌, ◌≤◌, ◌⊎◌, Bool, true, false, List, [], ◌∷◌, length, map, take, drop, Option, Some, None, inl, inr, refl, sym, ap, ◌∙◌, subst, arith, length-set}
 use Rattle.std.specs.Prelude.{◌==◌, not, nat_lt, if◌then◌else◌, slice_get, slice_set, slice_index_or, replicate}
 use Rattle.std.specs.List.{AllByRecursion as Each, filter}
@@ -21,7 +21,7 @@ use Rattle.onfi_problem.specs.Faults.{TellsFault}
 use Rattle.onfi_problem.specs.Kept.{problem_of}
 use Rattle.onfi_problem.specs.Left.{InLimits, horizon}
 use Rattle.onfi_problem.specs.Problem.{Problem, IsProblem, IsSmall}
-use Rattle.onfi_problem.specs.Moves.{IsMove, lun_after, without}
+use Rattle.onfi_problem.specs.Moves.{IsMove, lun_after}
 use Rattle.onfi_problem.proofs.Kept.{kept, kept_small}
 use Rattle.onfi_problem.proofs.Lists.{map_found, map_set}
 use Rattle.onfi_problem.proofs.Wants.{All-filter, filter_shorter}
@@ -34,14 +34,14 @@ use Rattle.onfi_c.specs.declared.channel.PlainChannel.{PlainChannel}
 use Rattle.onfi_c.specs.declared.lun.PlainLun.{PlainLun}
 use Rattle.onfi_c.specs.declared.lun.PlainWant.{PlainWant}
 use Rattle.onfi_c.specs.declared.ran.Behind.{Behind}
+use Rattle.onfi_c.specs.declared.schedule.PlainSchedule.{PlainSchedule}
 use Rattle.onfi_c.specs.declared.status.Status.TheVariants as status
 use Rattle.onfi_c.specs.Due.{number_of_kind}
-use Rattle.onfi_c.specs.Flights.{IsFlightSaid}
 use Rattle.onfi_c.specs.Ran.{Flies, IsBehind, IsDueThere, IsRan, Kept, kept_behind, lun_in, no_want, telling}
 use Rattle.onfi_c.specs.Refused.{IsBadProblem, IsFaultSaid}
 use Rattle.onfi_c.specs.Said.{AreRules, IsSaid, IsTiming, kind_of, members_of, state_of, states_of, want_of, wants_of}
 use Rattle.onfi_c.specs.Status.{problem_status}
-use Rattle.onfi_c.specs.Written.{filled, written_want}
+use Rattle.onfi_c.specs.Written.{filled, written_schedule, written_want}
 
 -- Why what is said is no problem
 
@@ -133,7 +133,7 @@ wants_again : (bits : ℕ) (wants : List Want) → Each (λ w. w.plane ≡ w.blo
 wants_again bits [] each = refl
 wants_again bits (w ∷ wants) each = ap (λ x. x ∷ wants_of bits (map written_want wants)) (want_again bits w each.0) ∙ ap (λ xs. w ∷ xs) (wants_again bits wants each.1)
 
--- it tells the group of the phase
+-- it names the group of the phase
 pub record Tells (bits : ℕ) (group : List Want) (lun : PlainLun) : Type 0 where
   pub some : 1 ≤ lun.members
   pub tells : wants_of bits (take lun.members lun.member) ≡ group
@@ -172,7 +172,7 @@ waiting_fewer (Some at) group wants = filter_shorter (λ w. not (is_member group
 
 -- All of it
 
-set_there : {A : Type 0} (xs : List A) (i : ℕ) (x : A) → i < length xs → slice_get (slice_set xs i x) i ≡ Some x
+pub set_there : {A : Type 0} (xs : List A) (i : ℕ) (x : A) → i < length xs → slice_get (slice_set xs i x) i ≡ Some x
 set_there [] i x low = absurd (omega (arith, low))
 set_there (y ∷ xs) zero x low = refl
 set_there (y ∷ xs) (suc i) x low = set_there xs i x (omega (arith, low))
@@ -209,43 +209,55 @@ module _ (channel : PlainChannel) (luns : List PlainLun) (wants : List PlainWant
       omega (arith, few, same, all, mapped)
 
   -- what the LUN says then it does
-  lun_says : (b : Behind) → IsBehind luns due g b → state_of channel.rules.plane_bits b.lun ≡ state
-  lun_says b written =
+  lun_says : (lun : PlainLun) → ((x : LunState) → slice_get g.now.luns due.lun ≡ Some x → lun ≡ lun_in x (telling luns due.place due.lun due.group)) → state_of channel.rules.plane_bits lun ≡ state
+  lun_says lun written =
       let told = tells_by channel.rules.plane_bits due.place f.now due.lun due.group due.phase luns wants is.phase is.is_move said.states said.requests in
       let at = ap (λ xs. slice_get xs due.lun) luns_are ∙ set_there f.now.luns due.lun state (due_lun f due is) in
-      ap (state_of channel.rules.plane_bits) (written.lun state at)
+      ap (state_of channel.rules.plane_bits) (written state at)
       ∙ goes_on f.now.timing due.group due.phase (started + phase_length (group_spans f.now.timing due.group) (length due.group) due.phase)
       channel.rules.plane_bits (telling luns due.place due.lun due.group) state refl told.some told.tells
 
-  pub said_behind : (b : Behind) → IsBehind luns due g b → IsSaid (record channel { bus_free = b.bus_free }) (slice_set luns due.lun b.lun) b.wants.items g.now
-  said_behind b written = record {
+  -- what is said of the bus, of that LUN and of what waits, is the problem then
+  pub said_then : (bus_free : ℕ) (lun : PlainLun) (waiting : List PlainWant) → bus_free ≡ g.now.bus_free
+      → ((x : LunState) → slice_get g.now.luns due.lun ≡ Some x → lun ≡ lun_in x (telling luns due.place due.lun due.group)) → waiting ≡ map written_want g.now.wants
+      → IsSaid (record channel { bus_free = bus_free }) (slice_set luns due.lun lun) waiting g.now
+  said_then bus_free lun waiting bus written left = record {
     timing = subst (IsTiming channel.timing) (sym (ap (λ (p : Problem). p.timing) (placed_is f due started is))) said.timing;
     rules = subst (AreRules channel.rules) (sym (ap (λ (p : Problem). p.rules) (placed_is f due started is))) said.rules;
-    bus_free = sym written.bus_free;
-    states = luns_are ∙ ap (λ xs. slice_set xs due.lun state) said.states ∙ ap (slice_set (states_of channel.rules.plane_bits luns) due.lun) (sym (lun_says b written))
-        ∙ sym (map_set (state_of channel.rules.plane_bits) luns due.lun b.lun);
+    bus_free = sym bus;
+    states = luns_are ∙ ap (λ xs. slice_set xs due.lun state) said.states ∙ ap (slice_set (states_of channel.rules.plane_bits luns) due.lun) (sym (lun_says lun written))
+        ∙ sym (map_set (state_of channel.rules.plane_bits) luns due.lun lun);
     requests = (
         let planes = subst (Each (λ w. w.plane ≡ w.block % 2 ^ channel.rules.plane_bits)) (sym said.requests) (planes_of channel.rules.plane_bits wants) in
         let kept = subst (Each (λ w. w.plane ≡ w.block % 2 ^ channel.rules.plane_bits)) (sym wants_are) (waiting_planes channel.rules.plane_bits due.place due.group f.now.wants planes) in
-        sym (ap (wants_of channel.rules.plane_bits) written.wants ∙ wants_again channel.rules.plane_bits g.now.wants kept)
+        sym (ap (wants_of channel.rules.plane_bits) left ∙ wants_again channel.rules.plane_bits g.now.wants kept)
         );
   }
 
--- what stands behind the due phase is what a caller keeps then
-pub ran_behind : (old : Kept) (f : Flight) (due : Due) (lun number started : ℕ) (b : Behind) → Flies old f → IsDueThere f due lun number → due.start ≤ started
-    → IsBehind old.luns due (after_late f due started) b → InLimits (after_late f due started).now → IsRan old (kept_behind old lun b) lun number started
-ran_behind old f due lun number started b said there on_time written limits = record {
+-- that of the bus, of the LUN, of what waits and of the schedule is what a caller keeps then
+pub ran_then : (old : Kept) (f : Flight) (due : Due) (lun number started bus_free : ℕ) (behind : PlainLun) (waiting : List PlainWant) (schedule : PlainSchedule) → Flies old f → IsDueThere f due lun number
+    → due.start ≤ started → bus_free ≡ (after_late f due started).now.bus_free
+    → ((x : LunState) → slice_get (after_late f due started).now.luns due.lun ≡ Some x → behind ≡ lun_in x (telling old.luns due.place due.lun due.group))
+    → waiting ≡ map written_want (after_late f due started).now.wants → schedule ≡ written_schedule (after_late f due started).left → InLimits (after_late f due started).now
+    → IsRan old (record { channel = record old.channel { bus_free = bus_free }; luns = slice_set old.luns lun behind; wants = waiting; schedule = schedule }) lun number started
+ran_then old f due lun number started bus_free behind waiting schedule said there on_time bus written left later limits = record {
   flight = f;
   said = said;
   due = due;
   there = there;
   on_time = on_time;
   legal = λ legal. (late_stays f due started (flies f said.limits legal) there.is on_time).legal;
-  after = subst (λ n. IsSaid (record old.channel { bus_free = b.bus_free }) (slice_set old.luns n b.lun) b.wants.items (after_late f due started).now) there.lun_is
-      (said_behind old.channel old.luns old.wants f due started said.said.problem there.is b written);
+  after = subst (λ n. IsSaid (record old.channel { bus_free = bus_free }) (slice_set old.luns n behind) waiting (after_late f due started).now) there.lun_is
+      (said_then old.channel old.luns old.wants f due started said.said.problem there.is bus_free behind waiting bus written left);
   limits = limits;
-  later = written.schedule;
+  later = later;
 }
+
+-- what stands after the due phase is what a caller keeps then
+pub ran_behind : (old : Kept) (f : Flight) (due : Due) (lun number started : ℕ) (b : Behind) → Flies old f → IsDueThere f due lun number → due.start ≤ started
+    → IsBehind old.luns due (after_late f due started) b → InLimits (after_late f due started).now → IsRan old (kept_behind old lun b) lun number started
+ran_behind old f due lun number started b said there on_time written limits =
+    ran_then old f due lun number started b.bus_free b.lun b.wants.items b.schedule said there on_time written.bus_free written.lun written.wants written.schedule limits
 
 -- the problem that a due phase leaves has no fault but its times
 pub only_late_behind : (f : Flight) (due : Due) (started : ℕ) (fault : ProblemFault) → InLimits f.now → IsDue f due → TellsFault (after_late f due started).now (Some fault)

@@ -1,4 +1,4 @@
--- Why there is no plan, as it is told.
+-- Why there is no plan, as it is answered.
 use Rattle.std.proofs.Common.{◌≡◌, ℕ, refl, sym, subst}
 use Rattle.onfi_problem.specs.Problem.{Problem}
 use Rattle.onfi_check.specs.Nodes.{HasMoreNodes}

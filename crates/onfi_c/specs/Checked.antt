@@ -1,4 +1,4 @@
--- What a caller is told of a schedule with its certificate.
+-- What a caller is answered of a schedule with its certificate.
 use Rattle.std.specs.Prelude.{◌≡◌, ℕ, List}
 use Rattle.onfi_problem.specs.Problem.{Problem}
 use Rattle.onfi_schedule.specs.Schedule.{Schedule, finish}
@@ -20,7 +20,7 @@ use Rattle.onfi_c.specs.Refusal.{whole, text_refusal, known_text_refusal}
 use Rattle.onfi_c.specs.SaidLegal.{IsNoSchedule, IsScheduleSaid}
 use Rattle.onfi_c.specs.Status.{number_of}
 
--- a fault of the schedule or its certificate is told: a plain one, one of a time before which nothing ends, and one that
+-- a fault of the schedule or its certificate is reported: a plain one, one of a time before which nothing ends, and one that
 -- remembers states
 abbrev pub IsFaultTold : Problem → Schedule → List ℕ → Refusal → Type 0
 IsFaultTold p s text refusal = (fault : TextFault CertFault CertTextFault) × IsTextFault p s text fault × (refusal ≡ text_refusal fault)
@@ -32,14 +32,14 @@ IsWithinFaultTold p s below text refusal =
 abbrev pub IsKnownFaultTold : Problem → Schedule → List ℕ → Refusal → Type 0
 IsKnownFaultTold p s text refusal = IsWithinFaultTold p s (finish p s) text refusal
 
--- a number and a place tell why
+-- a number and a place say why
 pub record IsRefusedBy (refusal : Refusal) (verdict : PlainVerdict) (result : ℕ) : Type 0 where
   pub finish : verdict.finish ≡ 0
   pub place : verdict.place ≡ refusal.place
   pub number : result ≡ number_of refusal.status
 
--- a caller is told when the schedule ends that he says, where its certificate shows this of it; or by a number and a place why
--- it is refused: what is told then of the two, or why there is no such schedule
+-- a caller is given when the schedule ends that he says, where its certificate shows this of it; or by a number and a place why
+-- it is refused: what is said then of the two, or why there is no such schedule
 pub data GivesVerdict (Shows : Problem → Schedule → List ℕ → Type 0) (Tells : Problem → Schedule → List ℕ → Refusal → Type 0)
     (channel : PlainChannel) (luns : List PlainLun) (wants : List PlainWant) (schedule : PlainSchedule) (certificate : List ℕ) (verdict : PlainVerdict)
     (result : ℕ) : Type 0 where

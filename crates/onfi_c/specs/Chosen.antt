@@ -3,7 +3,7 @@ use Rattle.std.specs.Prelude.{◌≡◌, ◌⊎◌, ℕ, ◌+◌, ◌<◌, ◌�
 use Rattle.onfi_request.specs.declared.want.Want.{Want}
 use Rattle.onfi_core.specs.Choice.{IsChoice}
 use Rattle.onfi_core.specs.declared.setup.Choice.{Choice}
-use Rattle.onfi_core.specs.declared.setup.Choice.TheVariants.{InOrder, ByLun, ReadsFirst}
+use Rattle.onfi_core.specs.declared.setup.Choice.TheVariants.{InOrder, ByLun, ReadsFirst, WholeGroups}
 use Rattle.onfi_c.specs.declared.channel.PlainChannel.{PlainChannel}
 use Rattle.onfi_c.specs.declared.lun.PlainLun.{PlainLun}
 use Rattle.onfi_c.specs.declared.lun.PlainWant.{PlainWant}
@@ -27,6 +27,7 @@ abbrev pub ChoosesBy : Choice → ℕ → ℕ → List Want → List Want → Ty
 ChoosesBy InOrder batch accepted items chosen = chosen ≡ take batch items
 ChoosesBy ByLun batch accepted items chosen = (rest : List Want) × IsChoice batch accepted items chosen rest
 ChoosesBy ReadsFirst batch accepted items chosen = (rest : List Want) × IsChoice batch accepted items chosen rest
+ChoosesBy WholeGroups batch accepted items chosen = (rest : List Want) × IsChoice batch accepted items chosen rest
 
 -- these are their places
 abbrev pub AreThere : List Want → List ℕ → List Want → Type 0
@@ -55,7 +56,7 @@ pub data IsUnchosen (channel : PlainChannel) (luns : List PlainLun) (wants : Lis
   is_no_order : AreSaid channel luns wants → choice ≤ 2 → 1 ≤ batch → batch ≤ 8 → (RiseFrom 0 accepted wants → ⊥) → status ≡ BadOrder → IsUnchosen channel luns wants accepted choice batch status
   is_no_memory : AreSaid channel luns wants → choice ≤ 2 → 1 ≤ batch → batch ≤ 8 → RiseFrom 0 accepted wants → status ≡ Memory → IsUnchosen channel luns wants accepted choice batch status
 
--- a caller is given the places of the batch, and how many, or a number that tells why there are none, and nothing else
+-- a caller is given the places of the batch, and how many, or a number that says why there are none, and nothing else
 pub data GivesChosen (channel : PlainChannel) (luns : List PlainLun) (wants : List PlainWant) (accepted choice batch : ℕ) (room_old room_new : List ℕ) (count_old count_new result : ℕ) : Type 0 where
   gives_chosen : (places : List ℕ) → IsChosen channel luns wants accepted choice batch places → room_new ≡ places ++ drop (length places) room_old → count_new ≡ length places → result ≡ 0
       → GivesChosen channel luns wants accepted choice batch room_old room_new count_old count_new result

@@ -1,4 +1,4 @@
--- What a parameter page and a timing sheet tell of a device.
+-- What a parameter page and a timing sheet say of a device.
 use Rattle.std.specs.Prelude.{◌≡◌, ◌≤◌, ◌<◌, ℕ, List, Ok, Err, length, false}
 use Rattle.onfi_param.specs.Copies.{IsFirstCopy, IsPageCopy, copy_at}
 use Rattle.onfi_addr.specs.Faults.{IsFirstFault, NoFault}
@@ -70,7 +70,7 @@ pub record IsDevice (bytes text : List ℕ) (device : PlainDevice) : Type 0 wher
   pub is_timing : IsTiming page geometry sheet timing
   pub written : device ≡ written_device geometry timing
 
--- parameters by their numbers, in the order in which a missing one is told
+-- parameters by their numbers, in the order in which a missing one is reported
 abbrev pub parameter_number : Parameter → ℕ
 parameter_number Twc = 1
 parameter_number Trc = 2
@@ -82,7 +82,7 @@ parameter_number Tplrbsy = 7
 parameter_number Tplpbsy = 8
 parameter_number Tplebsy = 9
 
--- what tells a fault of a geometry
+-- the status for a fault of a geometry
 abbrev pub geometry_status : GeometryFault → Status
 geometry_status geometry.WideBus = status.WideBus
 geometry_status geometry.NoStatusEnhanced = status.NoStatusEnhanced
@@ -95,7 +95,7 @@ geometry_status geometry.RowTooWide = status.RowTooWide
 geometry_status geometry.ColumnTooWide = status.ColumnTooWide
 geometry_status geometry.TooLarge = status.TooLarge
 
--- what tells a fault of a sheet, with the parameter or the row that it names
+-- the refusal for a fault of a sheet, with the parameter or the row that it names
 abbrev pub sheet_refusal : SheetFault → Refusal
 sheet_refusal (sheet_fault.Missing parameter) = record { status = status.SheetMissing; place = parameter_number parameter }
 sheet_refusal (sheet_fault.Repeated parameter) = record { status = status.SheetRepeated; place = parameter_number parameter }
@@ -111,7 +111,7 @@ IsNoPage bytes status.PageShort = length bytes < 256
 IsNoPage bytes status.NoCopy = (256 ≤ length bytes) × ((number : ℕ) → IsPageCopy (copy_at bytes number) → ⊥)
 IsNoPage bytes _ = ⊥
 
--- why page and sheet tell of no device: the first of these
+-- why page and sheet describe no device: the first of these
 pub data IsNoDevice (bytes text : List ℕ) (refusal : Refusal) : Type 0 where
   is_page : (fault : Status) → IsNoPage bytes fault → refusal ≡ whole fault → IsNoDevice bytes text refusal
   is_geometry : (page : List ℕ) (fault : GeometryFault) → IsFirstCopy bytes page → IsFirstFault page fault → refusal ≡ whole (geometry_status fault) → IsNoDevice bytes text refusal
@@ -119,7 +119,7 @@ pub data IsNoDevice (bytes text : List ℕ) (refusal : Refusal) : Type 0 where
   is_timing : (page : List ℕ) (sheet : Sheet) (fault : SheetFault) → IsFirstCopy bytes page → NoFault page → IsSheetOf text (Ok sheet) → IsTimingFault sheet fault
       → refusal ≡ sheet_refusal fault → IsNoDevice bytes text refusal
 
--- a caller is given a device, or told by a number and a place why there is none
+-- a caller is given a device, or by a number and a place why there is none
 pub data GivesDevice (bytes text : List ℕ) (old new : PlainDevice) (place result : ℕ) : Type 0 where
   gives : IsDevice bytes text new → place ≡ 0 → result ≡ 0 → GivesDevice bytes text old new place result
   refuses : (refusal : Refusal) → IsNoDevice bytes text refusal → new ≡ old → place ≡ refusal.place → result ≡ number_of refusal.status → GivesDevice bytes text old new place result

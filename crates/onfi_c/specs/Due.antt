@@ -1,4 +1,4 @@
--- The phase that is due, as a plain struct tells it.
+-- The phase that is due, as a plain struct gives it.
 use Rattle.std.specs.Prelude.{◌≡◌, ◌⊎◌, ℕ, ◌+◌, ◌==◌, nat_le, Bool, true, false, List, length, Some}
 use Rattle.onfi_addr.specs.declared.geometry.Geometry.{Geometry}
 use Rattle.onfi_addr.specs.declared.place.Place.{Place}
@@ -40,7 +40,7 @@ opener_of Read true = 6
 opener_of Program true = 120
 opener_of Erase true = 120
 
--- the last one: 30h, 10h and D0h behind the last plane of a group, 32h, 11h and D1h behind another; of a data output E0h, and a status has none
+-- the last one: 30h, 10h and D0h after the last plane of a group, 32h, 11h and D1h after another; of a data output E0h, and a status has none
 abbrev pub closer_of : Kind → Bool → Bool → ℕ
 closer_of Read false true = 48
 closer_of Read false false = 50
@@ -79,7 +79,7 @@ written_phase timing geometry group member start number = record {
 abbrev pub IsMember : List Want → ℕ → Want → Type 0
 IsMember group number member = member_of group number ≡ Some member
 
--- phase `number` of a group, as a plain struct tells it
+-- phase `number` of a group, as a plain struct gives it
 pub record IsWritten (timing : Timing) (geometry : Geometry) (group : List Want) (start number : ℕ) (phase : PlainPhase) : Type 0 where
   pub member : Want
   pub is : IsMember group number member
@@ -102,7 +102,7 @@ IsOffDevice geometry due status =
     (IsNoGeometry geometry × (status ≡ BadGeometry))
     ⊎ ((device : Geometry) × (geometry ≡ written_geometry device) × IsOutside device due.group due.phase × (status ≡ BadPlace))
 
--- what is told where nothing is left to do
+-- what is answered where nothing is left to do
 abbrev pub IsOverTold : PlainGeometry → Status → Type 0
 IsOverTold geometry status = (IsNoGeometry geometry × (status ≡ BadGeometry)) ⊎ ((device : Geometry) × (geometry ≡ written_geometry device) × (status ≡ NothingDue))
 
@@ -114,14 +114,14 @@ pub record IsDueSaid (channel : PlainChannel) (luns : List PlainLun) (wants : Li
   pub is : IsDue flight due
   pub on : IsOnDevice flight.now.timing geometry due phase
 
--- why none is told: the first of these
+-- why none is given: the first of these
 pub data IsNoneDue (channel : PlainChannel) (luns : List PlainLun) (wants : List PlainWant) (geometry : PlainGeometry) (schedule : PlainSchedule) (status : Status) : Type 0 where
   is_no_flight : IsNoFlight channel luns wants schedule status → IsNoneDue channel luns wants geometry schedule status
   is_illegal : (f : Flight) → IsFlightSaid channel luns wants schedule f → IsStuck f → status ≡ Illegal → IsNoneDue channel luns wants geometry schedule status
   is_over : (f : Flight) → IsFlightSaid channel luns wants schedule f → IsOver f.left → IsDone f.now → IsOverTold geometry status → IsNoneDue channel luns wants geometry schedule status
   is_off : (f : Flight) → IsFlightSaid channel luns wants schedule f → (due : Due) → IsDue f due → IsOffDevice geometry due status → IsNoneDue channel luns wants geometry schedule status
 
--- a caller is given the phase that is due, or a number that tells why there is none, and nothing else
+-- a caller is given the phase that is due, or a number that says why there is none, and nothing else
 pub data GivesDue (channel : PlainChannel) (luns : List PlainLun) (wants : List PlainWant) (geometry : PlainGeometry) (schedule : PlainSchedule) (old new : PlainPhase) (result : ℕ) : Type 0 where
   gives_due : IsDueSaid channel luns wants geometry schedule new → result ≡ 0 → GivesDue channel luns wants geometry schedule old new result
   refuses_due : (status : Status) → IsNoneDue channel luns wants geometry schedule status → new ≡ old → result ≡ number_of status → GivesDue channel luns wants geometry schedule old new result

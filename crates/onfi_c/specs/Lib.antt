@@ -4,11 +4,13 @@ pub mod Chosen
 pub mod Device
 pub mod Due
 pub mod Flights
+pub mod InOrder
 pub mod Next
 pub mod Planned
 pub mod Queue
 pub mod QueueRan
 pub mod Ran
+pub mod RanPlain
 pub mod Refusal
 pub mod Refused
 pub mod Room
@@ -21,5 +23,6 @@ pub mod Script
 pub mod Status
 pub mod StatusText
 pub mod StrobedDevice
+pub mod WholeChosen
 pub mod Within
 pub mod Written

@@ -1,4 +1,4 @@
--- The phase that is next on a channel that plans no batch, as a plain struct tells it.
+-- The phase that is next on a channel that plans no batch, as a plain struct gives it.
 use Rattle.std.specs.Prelude.{◌≡◌, ◌⊎◌, ℕ, ◌*◌, ◌<◌, ◌≤◌, ◌^◌, max, List, [], ◌∷◌, length, Some, slice_get}
 use Rattle.onfi_timing.specs.declared.timing.Timing.{Timing}
 use Rattle.onfi_request.specs.declared.want.Want.{Want}
@@ -6,12 +6,14 @@ use Rattle.onfi_problem.specs.declared.lun_state.LunState.{LunState}
 use Rattle.onfi_problem.specs.declared.lun_state.LunState.TheVariants.{Running}
 use Rattle.onfi_problem.specs.Problem.{Problem}
 use Rattle.onfi_flight.specs.declared.due.Due.{Due}
+use Rattle.onfi_flight.specs.Flight.{move_of}
 use Rattle.onfi_steady.specs.declared.next.NextPhase.{NextPhase}
-use Rattle.onfi_steady.specs.Next.{IsIdle, IsNextPhase}
+use Rattle.onfi_steady.specs.Next.{IsIdle, IsNextPhase, move_of_phase}
 use Rattle.onfi_steady.specs.Waiting.{Books, channel}
 use Rattle.onfi_c.specs.declared.channel.PlainChannel.{PlainChannel}
 use Rattle.onfi_c.specs.declared.device.PlainGeometry.{PlainGeometry}
 use Rattle.onfi_c.specs.declared.lun.PlainLun.{PlainLun}
+use Rattle.onfi_c.specs.declared.next.NextDue.{NextDue}
 use Rattle.onfi_c.specs.declared.phase.PlainPhase.{PlainPhase}
 use Rattle.onfi_c.specs.declared.queue.PlainQueue.{PlainQueue}
 use Rattle.onfi_c.specs.declared.status.Status.{Status}
@@ -44,7 +46,7 @@ IsPhaseOf luns next due = IsPhaseIn luns next.lun next.members.items due × (due
 abbrev pub IsNoPhase : List LunState → NextPhase → Status → Type 0
 IsNoPhase luns next status = ((2 ^ 62 ≤ next.start) × (status ≡ Clock)) ⊎ IsNoPhaseOn luns next.lun status
 
--- .. as a plain struct tells it on the device that is said
+-- .. as a plain struct gives it on the device that is said
 abbrev pub IsTold : Timing → List LunState → PlainGeometry → NextPhase → PlainPhase → Type 0
 IsTold timing luns geometry next phase = (due : Due) × IsPhaseOf luns next due × IsOnDevice timing geometry due phase
 
@@ -61,6 +63,32 @@ pub record IsWaiting (said : PlainChannel) (luns : List PlainLun) (queue : Plain
   pub newest : books.newest ≡ newest_of queue
   pub problem : p ≡ channel p.timing (max said.bus_free now) (states_of said.rules.plane_bits luns) books
 
+-- nothing runs there, and nothing waits for a LUN that is there
+abbrev pub IsIdleSaid : PlainChannel → List PlainLun → PlainQueue → ℕ → Type 0
+IsIdleSaid said luns queue now = (books : Books) × (p : Problem) × IsWaiting said luns queue now books p × IsIdle p
+
+-- the phase that is next of what is said, with its group, and with the lengths of the kinds
+pub record IsNextDue (said : PlainChannel) (luns : List PlainLun) (queue : PlainQueue) (now : ℕ) (of : NextDue) : Type 0 where
+  pub books : Books
+  pub problem : Problem
+  pub waiting : IsWaiting said luns queue now books problem
+  pub next : NextPhase
+  pub is : IsNextPhase books problem next
+  pub phase : IsPhaseOf problem.luns next of.due
+  pub timing : of.timing ≡ problem.timing
+  pub move : move_of of.due ≡ move_of_phase next
+  pub lun : of.due.lun ≡ next.lun
+  pub there : of.due.lun < length luns
+  pub within : of.due.phase < 2 * length of.due.group
+  pub time : of.due.start < 2 ^ 63
+
+-- why none is: the first of these
+pub data IsNoneDue (said : PlainChannel) (luns : List PlainLun) (queue : PlainQueue) (now : ℕ) (status : Status) : Type 0 where
+  unsaid : IsUnsaid said luns [] status → IsNoneDue said luns queue now status
+  too_many : AreSaid said luns [] → (8 < length luns) ⊎ (64 < queue.count) → status ≡ TooMany → IsNoneDue said luns queue now status
+  no_phase : (books : Books) (p : Problem) → IsWaiting said luns queue now books p → (next : NextPhase) → IsNextPhase books p next
+      → IsNoPhase p.luns next status → IsNoneDue said luns queue now status
+
 -- the phase that is next of what is said: it may come next, as soon as it may; and what is due goes first on its LUN
 pub record IsNextSaid (said : PlainChannel) (luns : List PlainLun) (queue : PlainQueue) (geometry : PlainGeometry) (now : ℕ) (phase : PlainPhase) : Type 0 where
   pub books : Books
@@ -70,7 +98,7 @@ pub record IsNextSaid (said : PlainChannel) (luns : List PlainLun) (queue : Plai
   pub is : IsNextPhase books problem next
   pub told : IsTold problem.timing problem.luns geometry next phase
 
--- why none is told: the first of these
+-- why none is given: the first of these
 pub data IsNoneNext (said : PlainChannel) (luns : List PlainLun) (queue : PlainQueue) (geometry : PlainGeometry) (now : ℕ) (status : Status) : Type 0 where
   is_unsaid : IsUnsaid said luns [] status → IsNoneNext said luns queue geometry now status
   are_many : AreSaid said luns [] → (8 < length luns) ⊎ (64 < queue.count) → status ≡ TooMany → IsNoneNext said luns queue geometry now status
@@ -78,7 +106,7 @@ pub data IsNoneNext (said : PlainChannel) (luns : List PlainLun) (queue : PlainQ
   is_untold : (books : Books) (p : Problem) → IsWaiting said luns queue now books p → (next : NextPhase) → IsNextPhase books p next
       → IsUntold p.luns geometry next status → IsNoneNext said luns queue geometry now status
 
--- a caller is given the phase that is next, or a number that tells why there is none, and nothing else
+-- a caller is given the phase that is next, or a number that says why there is none, and nothing else
 pub data GivesNext (said : PlainChannel) (luns : List PlainLun) (queue : PlainQueue) (geometry : PlainGeometry) (now : ℕ) (old new : PlainPhase) (result : ℕ) : Type 0 where
   gives_next : IsNextSaid said luns queue geometry now new → result ≡ 0 → GivesNext said luns queue geometry now old new result
   refuses_next : (status : Status) → IsNoneNext said luns queue geometry now status → new ≡ old → result ≡ number_of status

@@ -39,7 +39,7 @@ pub record IsPlan (p : Problem) (limit : ℕ) (plan : PlainPlan) (text : List �
   pub certificate : text ≡ text_of p.rules.strict tokens
 
 -- the same with the text of a certificate that remembers states; where no walk but the first one opened a node, the text
--- has as many nodes as are told
+-- has as many nodes as are said
 pub record IsRecalled (p : Problem) (limit : ℕ) (plan : PlainPlan) (text : List ℕ) : Type 0 where
   pub schedule : Schedule
   pub known : IsProved Remembering p schedule text
@@ -74,14 +74,14 @@ pub data GivesAsked (text old new : List ℕ) (bytes result : ℕ) : Type 0 wher
   asked : 1 ≤ length old → Gives text 0 old new bytes result → GivesAsked text old new bytes result
   unasked : length old ≡ 0 → bytes ≡ length text → new ≡ old → result ≡ 0 → GivesAsked text old new bytes result
 
--- nothing is given, and a number tells why
+-- nothing is given, and a number says why
 pub record IsUngiven {Plan : Type 0} (old new : Plan) (room_old room_new : List ℕ) (bytes result : ℕ) (status : Status) : Type 0 where
   pub plan : new ≡ old
   pub room : room_new ≡ room_old
   pub none : bytes ≡ 0
   pub number : result ≡ number_of status
 
--- a caller is given a plan of what he says, of which this is promised, and its certificate; or a number that tells why there is
+-- a caller is given a plan of what he says, of which this is promised, and its certificate; or a number that says why there is
 -- none, of the problem or before, and nothing else
 pub data GivesPlan {Plan : Type 0} (Promises : Problem → ℕ → Plan → List ℕ → Type 0) (Tells : Problem → ℕ → Status → Type 0)
     (channel : PlainChannel) (luns : List PlainLun) (wants : List PlainWant) (limit : ℕ) (old new : Plan) (room_old room_new : List ℕ)

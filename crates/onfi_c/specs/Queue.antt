@@ -1,11 +1,13 @@
 -- What waits on a channel, as a queue in the caller's memory says it.
-use Rattle.std.specs.Prelude.{◌≡◌, ℕ, ◌-◌, ◌<◌, ◌≤◌, ◌==◌, nat_lt, not, if◌then◌else◌, Bool, true, false, List, [], ◌∷◌, ◌++◌, length, map, take, drop, Option, Some, None, slice_get}
+use Rattle.std.specs.Prelude.{◌≡◌, ℕ, ◌+◌, ◌-◌, ◌<◌, ◌≤◌, ◌==◌, min, nat_lt, not, if◌then◌else◌, Bool, true, false, List, [], ◌∷◌, ◌++◌, map, take, Option, Some, None, slice_get}
+use Rattle.std.specs.List.{filter, list_any}
+use Rattle.onfi_request.specs.declared.want.Want.{Want}
 use Rattle.onfi_group.specs.declared.rules.Rules.{Rules}
 use Rattle.onfi_steady.specs.declared.waiter.Waiter.{Waiter}
-use Rattle.onfi_steady.specs.Waiting.{Books}
+use Rattle.onfi_steady.specs.Waiting.{Books, greatest_number}
 use Rattle.onfi_c.specs.Said.{want_of}
 use Rattle.onfi_c.specs.Status.{number_of}
-use Rattle.onfi_c.specs.Written.{written_want}
+use Rattle.onfi_c.specs.declared.lun.PlainLun.{PlainLun}
 use Rattle.onfi_c.specs.declared.lun.PlainWant.{PlainWant}
 use Rattle.onfi_c.specs.declared.queue.PlainQueue.{PlainQueue}
 use Rattle.onfi_c.specs.declared.queue.PlainWaiter.{PlainWaiter}
@@ -22,12 +24,43 @@ waiting_in q = take q.count q.waiter
 abbrev pub waiters_of : ℕ → PlainQueue → List Waiter
 waiters_of plane_bits q = map (waiter_of plane_bits) (waiting_in q)
 
-abbrev pub written_waiter : Waiter → PlainWaiter
-written_waiter w = record { want = written_want w.want; passed = w.passed }
+-- a LUN is there that runs nothing
+abbrev pub runs_nothing : Option PlainLun → Bool
+runs_nothing None = false
+runs_nothing (Some lun) = lun.members == 0
 
--- a queue that keeps these in place of what waited
-abbrev pub left_in : PlainQueue → List PlainWaiter → PlainQueue
-left_in q ws = record q { count = length ws; waiter = ws ++ drop (length ws) q.waiter }
+abbrev pub is_free : List PlainLun → ℕ → Bool
+is_free luns lun = runs_nothing (slice_get luns lun)
+
+-- of these what waits for LUNs that run nothing
+abbrev pub shown_of : ℕ → List PlainLun → List PlainWaiter → List Waiter
+shown_of plane_bits luns ws = map (waiter_of plane_bits) (filter (λ w. is_free luns w.want.lun) ws)
+
+-- .. with one more looked at
+abbrev pub shown_with : ℕ → List PlainLun → List Waiter → PlainWaiter → List Waiter
+shown_with plane_bits luns list w = if is_free luns w.want.lun then list ++ waiter_of plane_bits w ∷ [] else list
+
+abbrev pub has_number : List Want → ℕ → Bool
+has_number members id = list_any (λ m. m.id == id) members
+
+-- a member of the group that begins on the LUN
+abbrev pub begins_with : ℕ → List Want → PlainWaiter → Bool
+begins_with lun members w = if w.want.lun == lun then has_number members w.want.id else false
+
+-- how often it was passed over once that group began, whose greatest number is `last`
+abbrev pub passed_of : ℕ → ℕ → PlainWaiter → ℕ
+passed_of lun last w = if w.want.lun == lun then (if nat_lt w.want.id last then min (w.passed + 1) 65535 else w.passed) else w.passed
+
+abbrev pub left_over : ℕ → ℕ → PlainWaiter → PlainWaiter
+left_over lun last w = record { want = w.want; passed = passed_of lun last w }
+
+-- those of these that wait on
+abbrev pub left_of : ℕ → List Want → List PlainWaiter → List PlainWaiter
+left_of lun members ws = map (left_over lun (greatest_number 0 members)) (filter (λ w. not (begins_with lun members w)) ws)
+
+-- .. with one more looked at
+abbrev pub left_with : ℕ → List Want → ℕ → List PlainWaiter → PlainWaiter → List PlainWaiter
+left_with lun members last list w = if not (begins_with lun members w) then list ++ left_over lun last w ∷ [] else list
 
 abbrev pub newest_of : PlainQueue → Option ℕ
 newest_of q = if q.has_newest == 0 then None else Some q.newest
@@ -52,7 +85,7 @@ is_later q id = if q.count == 0 then true else is_above (slice_get q.waiter (q.c
 abbrev pub is_bad_want : PlainWant → Bool
 is_bad_want w = if nat_lt 7 w.lun then true else (if w.kind == 2 then not (w.page == 0) else false)
 
--- there is room for it, and it is a request behind those that wait
+-- there is room for it, and it is a request after those that wait
 pub record IsAcceptable (q : PlainQueue) (w : PlainWant) : Type 0 where
   pub room : q.count < 64
   pub kind : w.kind ≤ 2
@@ -66,7 +99,7 @@ pub data IsUnacceptable (q : PlainQueue) (w : PlainWant) (status : Status) : Typ
   is_no_want : q.count < 64 → w.kind ≤ 2 → is_bad_want w ≡ true → status ≡ BadLun → IsUnacceptable q w status
   is_no_later : q.count < 64 → w.kind ≤ 2 → is_bad_want w ≡ false → is_later q w.id ≡ false → status ≡ BadOrder → IsUnacceptable q w status
 
--- the request waits behind the others, passed over by none; or a number tells why it doesn't, and all is as it was
+-- the request waits after the others, passed over by none; or a number says why it doesn't, and all is as it was
 pub data GivesAccepted (old new : PlainQueue) (w : PlainWant) (result : ℕ) : Type 0 where
   gives_room : IsAcceptable old w → waiting_in new ≡ waiting_in old ++ record { want = w; passed = 0 } ∷ [] → newest_of new ≡ newest_behind old w → result ≡ 0
       → GivesAccepted old new w result

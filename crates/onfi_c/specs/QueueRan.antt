@@ -1,4 +1,4 @@
--- What stands behind a phase that ran on a channel that plans no batch.
+-- What stands after a phase that ran on a channel that plans no batch.
 use Rattle.std.specs.Prelude.{◌≡◌, ◌⊎◌, ℕ, ◌<◌, ◌≤◌, ◌^◌, List, [], ◌∷◌, length, Option, Some, None, slice_set}
 use Rattle.onfi_request.specs.declared.want.Want.{Want}
 use Rattle.onfi_problem.specs.Moves.{placed}
@@ -7,15 +7,16 @@ use Rattle.onfi_flight.specs.declared.due.Due.{Due}
 use Rattle.onfi_steady.specs.declared.next.NextPhase.{NextPhase}
 use Rattle.onfi_steady.specs.declared.waiter.Waiter.{Waiter}
 use Rattle.onfi_steady.specs.Next.{IsIdle, IsNextPhase, move_of_phase}
-use Rattle.onfi_steady.specs.Waiting.{Books, begun, left_waiting}
+use Rattle.onfi_steady.specs.Waiting.{Books, left_waiting}
 use Rattle.onfi_c.specs.declared.channel.PlainChannel.{PlainChannel}
 use Rattle.onfi_c.specs.declared.lun.PlainLun.{PlainLun}
 use Rattle.onfi_c.specs.declared.queue.PlainQueue.{PlainQueue}
+use Rattle.onfi_c.specs.declared.queue.PlainWaiter.{PlainWaiter}
 use Rattle.onfi_c.specs.declared.queue_ran.NextBehind.{NextBehind}
 use Rattle.onfi_c.specs.declared.status.Status.{Status}
 use Rattle.onfi_c.specs.declared.status.Status.TheVariants.{Clock, NotDue, NothingDue, TooMany, TooSoon}
 use Rattle.onfi_c.specs.Next.{IsNoPhase, IsPhaseOf, IsWaiting}
-use Rattle.onfi_c.specs.Queue.{left_in, newest_of, waiters_of}
+use Rattle.onfi_c.specs.Queue.{left_of, newest_of, waiters_of, waiting_in}
 use Rattle.onfi_c.specs.Refused.{AreSaid, IsUnsaid}
 use Rattle.onfi_c.specs.Said.{states_of}
 use Rattle.onfi_c.specs.Status.{number_of}
@@ -26,18 +27,20 @@ pub record KeptQueue : Type 0 where
   pub luns : List PlainLun
   pub queue : PlainQueue
 
--- what is kept once a phase of that LUN ran
-abbrev pub kept_behind : KeptQueue → ℕ → NextBehind → KeptQueue
-kept_behind old lun b = record {
-  channel = record old.channel { bus_free = b.bus_free };
-  luns = slice_set old.luns lun b.lun;
-  queue = left_in old.queue b.left.items;
-}
+-- what waits in a queue once the phase ran
+abbrev pub left_by_place : Option ℕ → ℕ → List Want → List PlainWaiter → List PlainWaiter
+left_by_place None lun group ws = ws
+left_by_place (Some place) lun group ws = left_of lun group ws
 
--- the books once the group began, if it did
-abbrev pub begun_by : Option ℕ → Books → ℕ → List Want → Books
-begun_by None books lun group = books
-begun_by (Some place) books lun group = begun books lun group
+abbrev pub left_behind : Due → List PlainWaiter → List PlainWaiter
+left_behind due ws = left_by_place due.place due.lun due.group ws
+
+-- a caller keeps this in place of what was kept once a phase of that LUN ran
+pub record IsKeptBehind (old : KeptQueue) (lun : ℕ) (b : NextBehind) (new : KeptQueue) : Type 0 where
+  pub channel : new.channel ≡ record old.channel { bus_free = b.bus_free }
+  pub luns : new.luns ≡ slice_set old.luns lun b.lun
+  pub waiting : waiting_in new.queue ≡ left_behind b.due (waiting_in old.queue)
+  pub newest : newest_of new.queue ≡ newest_of old.queue
 
 -- what waits once these members began, if any did
 abbrev pub left_by : ℕ → List Want → List Waiter → List Waiter
@@ -65,7 +68,7 @@ pub record IsQueueRan (old new : KeptQueue) (now lun number started : ℕ) : Typ
   pub left : waiters_of old.channel.rules.plane_bits new.queue ≡ left_by lun next.members.items (waiters_of old.channel.rules.plane_bits old.queue)
   pub newest : newest_of new.queue ≡ newest_of old.queue
 
--- why nothing is done
+-- why nothing is done: the first of these
 pub data IsQueueNotRan (said : PlainChannel) (luns : List PlainLun) (queue : PlainQueue) (now lun number started : ℕ) (status : Status) : Type 0 where
   isnt_said : IsUnsaid said luns [] status → IsQueueNotRan said luns queue now lun number started status
   are_too_many : AreSaid said luns [] → (8 < length luns) ⊎ (64 < queue.count) → status ≡ TooMany → IsQueueNotRan said luns queue now lun number started status
@@ -75,10 +78,11 @@ pub data IsQueueNotRan (said : PlainChannel) (luns : List PlainLun) (queue : Pla
   another_is_next : (books : Books) (p : Problem) (next : NextPhase) (due : Due) → IsNextThere said luns queue now books p next due
       → ((due.lun ≡ lun) × (due.phase ≡ number) → ⊥) → status ≡ NotDue → IsQueueNotRan said luns queue now lun number started status
   is_early : (books : Books) (p : Problem) (next : NextPhase) (due : Due) → IsNextThere said luns queue now books p next due
-      → started < next.start → status ≡ TooSoon → IsQueueNotRan said luns queue now lun number started status
-  is_too_late : 2 ^ 62 ≤ started → status ≡ Clock → IsQueueNotRan said luns queue now lun number started status
+      → (due.lun ≡ lun) × (due.phase ≡ number) → started < next.start → status ≡ TooSoon → IsQueueNotRan said luns queue now lun number started status
+  is_too_late : (books : Books) (p : Problem) (next : NextPhase) (due : Due) → IsNextThere said luns queue now books p next due
+      → (due.lun ≡ lun) × (due.phase ≡ number) → next.start ≤ started → 2 ^ 62 ≤ started → status ≡ Clock → IsQueueNotRan said luns queue now lun number started status
 
--- a caller keeps what stands behind the phase; or all is as it was, and a number tells why
+-- a caller keeps what stands after the phase; or all is as it was, and a number says why
 pub data GivesQueueRan (old new : KeptQueue) (now lun number started result : ℕ) : Type 0 where
   gives_behind : IsQueueRan old new now lun number started → result ≡ 0 → GivesQueueRan old new now lun number started result
   refuses_phase : (status : Status) → IsQueueNotRan old.channel old.luns old.queue now lun number started status → new ≡ old → result ≡ number_of status

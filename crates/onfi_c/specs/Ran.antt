@@ -1,4 +1,4 @@
--- What stands behind a phase that ran.
+-- What stands after a phase that ran.
 use Rattle.std.specs.Prelude.{◌≡◌, ◌⊎◌, ℕ, ◌<◌, ◌≤◌, ◌^◌, List, length, drop, map, replicate, Option, Some, None, slice_get, slice_index_or, slice_set}
 use Rattle.onfi_request.specs.declared.want.Want.{Want}
 use Rattle.onfi_problem.specs.declared.lun_state.LunState.{LunState}
@@ -23,17 +23,17 @@ use Rattle.onfi_c.specs.Written.{filled, written_schedule, written_want}
 abbrev pub no_want : PlainWant
 no_want = record { id = 0; kind = 0; lun = 0; block = 0; page = 0 }
 
--- how a LUN tells its group: as it did, or where the group is a new one as this
+-- how a LUN names its group: as it did, or where the group is a new one as this
 abbrev pub telling : List PlainLun → Option ℕ → ℕ → List Want → PlainLun
 telling luns None lun group = slice_index_or luns lun (record { since = 0; members = 0; next = 0; member = replicate 4 no_want })
 telling luns (Some at) lun group = record { since = 0; members = length group; next = 0; member = filled 4 no_want (map written_want group) }
 
--- a LUN that tells its group so, once it does this
+-- a LUN that names its group so, once it does this
 abbrev pub lun_in : LunState → PlainLun → PlainLun
 lun_in (Free since) lun = record { since = since; members = 0; next = 0; member = lun.member }
 lun_in (Running group next ready) lun = record { since = ready; members = lun.members; next = next; member = lun.member }
 
--- what stands behind the phase that was due, of a flight as it stands then
+-- what stands after the phase that was due, of a flight as it stands then
 pub record IsBehind (luns : List PlainLun) (due : Due) (f : Flight) (b : Behind) : Type 0 where
   pub bus_free : b.bus_free ≡ f.now.bus_free
   pub lun : (state : LunState) → slice_get f.now.luns due.lun ≡ Some state → b.lun ≡ lun_in state (telling luns due.place due.lun due.group)
@@ -100,8 +100,8 @@ pub record IsSame (old new : Kept) (room_old room_new : List PlainWant) (count_o
   pub room : room_new ≡ room_old
   pub count : count_new ≡ count_old
 
--- a caller keeps what stands behind the phase, and wants behind those that wait are as they were; or all is as it was, and a
--- number tells why
+-- a caller keeps what stands after the phase, and wants after those that wait are as they were; or all is as it was, and a
+-- number says why
 pub data GivesRan (old new : Kept) (room_old room_new : List PlainWant) (count_old count_new : ℕ) (lun number started result : ℕ) : Type 0 where
   gives_ran : IsRan old new lun number started → count_new ≤ count_old → drop count_new room_new ≡ drop count_new room_old → result ≡ 0
       → GivesRan old new room_old room_new count_old count_new lun number started result

@@ -1,4 +1,4 @@
--- What tells faults of certificates.
+-- The refusals for faults of certificates.
 use Rattle.onfi_cert.specs.declared.fault.CertTextFault.{CertTextFault}
 use Rattle.onfi_cert.specs.declared.fault.CertTextFault.TheVariants as cert_text
 use Rattle.onfi_check.specs.declared.fault.CertFault.{CertFault}

@@ -6,7 +6,7 @@ abbrev pub no_room : ℕ
 no_room = 3
 
 -- a text with its status, given in a caller's room: it stands at the beginning of the room, or where it is longer the
--- room is as it was; its length is told in both cases
+-- room is as it was; its length is given in both cases
 pub record Gives (text : List ℕ) (status : ℕ) (old new : List ℕ) (bytes result : ℕ) : Type 0 where
   pub counted : bytes ≡ length text
   pub fits : length text ≤ length old → (new ≡ text ++ drop (length text) old) × (result ≡ status)

@@ -29,7 +29,7 @@ pub record IsPlanByRule (p : Problem) (plan : PlainWithin) (text : List ℕ) : T
   pub greatest : NoneReaches p (plan.below + 1)
   pub written : plan ≡ written_within schedule (finish p schedule) plan.below
 
--- a caller is given that plan of what he says, and its certificate; or a number that tells why there is none, and nothing else
+-- a caller is given that plan of what he says, and its certificate; or a number that says why there is none, and nothing else
 pub data GivesByRule (channel : PlainChannel) (luns : List PlainLun) (wants : List PlainWant) (old new : PlainWithin) (room_old room_new : List ℕ)
     (bytes result : ℕ) : Type 0 where
   gives_by_rule : (p : Problem) (text : List ℕ) → IsSaid channel luns wants p → IsPlanByRule p new text

@@ -61,7 +61,7 @@ IsNoRow said place BadGeometry = IsNoGeometry said
 IsNoRow said place BadPlace = IsNoPlace said place
 IsNoRow said place _ = ⊥
 
--- a caller is given a row address, or a number that tells why there is none, and nothing else
+-- a caller is given a row address, or a number that says why there is none, and nothing else
 pub data GivesRow (said : PlainGeometry) (place : Place) (old new result : ℕ) : Type 0 where
   gives_row : IsRowSaid said place new → result ≡ 0 → GivesRow said place old new result
   refuses_row : (status : Status) → IsNoRow said place status → new ≡ old → result ≡ number_of status → GivesRow said place old new result

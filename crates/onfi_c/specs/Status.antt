@@ -1,4 +1,4 @@
--- What calls tell by numbers.
+-- What calls answer by numbers.
 use Rattle.std.specs.Prelude.{ℕ, List, codes}
 use Rattle.onfi_planner.specs.declared.fault.PlanFault.{PlanFault}
 use Rattle.onfi_planner.specs.declared.fault.PlanFault.TheVariants.{Over as SearchOver, Memory as SearchMemory}

@@ -1,4 +1,4 @@
--- The texts of what calls tell.
+-- The texts of what calls answer.
 use Rattle.std.specs.Prelude.{◌==◌, ℕ, List, [], Option, Some, None, find}
 use Rattle.onfi_c.specs.declared.status.Status.{Status}
 use Rattle.onfi_c.specs.declared.status.TheConstants.{ALL}

@@ -1,4 +1,4 @@
--- What a parameter page, a timing sheet and strobes tell of a device.
+-- What a parameter page, a timing sheet and strobes say of a device.
 use Rattle.std.specs.Prelude.{◌≡◌, ℕ, List, Ok, Err}
 use Rattle.onfi_param.specs.Copies.{IsFirstCopy}
 use Rattle.onfi_addr.specs.Faults.{IsFirstFault, NoFault}
@@ -39,7 +39,7 @@ pub record IsStrobedDevice (bytes text rows : List ℕ) (device : PlainDevice) :
   pub is_timing : IsStrobedTiming page geometry sheet strobes timing
   pub written : device ≡ written_device geometry timing
 
--- parameters of strobes by their numbers, in the order in which a missing one is told
+-- parameters of strobes by their numbers, in the order in which a missing one is reported
 abbrev pub strobe_number : Strobe → ℕ
 strobe_number Trpre = 1
 strobe_number Trc = 2
@@ -50,7 +50,7 @@ strobe_number Tdsc = 6
 strobe_number Twpst = 7
 strobe_number Twpsth = 8
 
--- what tells a fault of strobes, with the parameter or the row that it names
+-- the refusal for a fault of strobes, with the parameter or the row that it names
 abbrev pub strobe_refusal : StrobeFault → Refusal
 strobe_refusal (strobe_fault.Sheet fault) = sheet_refusal fault
 strobe_refusal (strobe_fault.Missing strobe) = record { status = status.StrobeMissing; place = strobe_number strobe }
@@ -61,7 +61,7 @@ strobe_refusal strobe_fault.ZeroCycle = whole status.SheetZeroCycle
 strobe_refusal strobe_fault.TooLong = whole status.SheetTooLong
 strobe_refusal strobe_fault.Memory = whole status.Memory
 
--- why page, sheet and strobes tell of no device: the first of these
+-- why page, sheet and strobes describe no device: the first of these
 pub data IsNoStrobedDevice (bytes text rows : List ℕ) (refusal : Refusal) : Type 0 where
   no_page : (fault : Status) → IsNoPage bytes fault → refusal ≡ whole fault → IsNoStrobedDevice bytes text rows refusal
   no_geometry : (page : List ℕ) (fault : GeometryFault) → IsFirstCopy bytes page → IsFirstFault page fault → refusal ≡ whole (geometry_status fault)
@@ -73,7 +73,7 @@ pub data IsNoStrobedDevice (bytes text rows : List ℕ) (refusal : Refusal) : Ty
   no_timing : (page : List ℕ) (sheet : Sheet) (strobes : Strobes) (fault : StrobeFault) → IsFirstCopy bytes page → NoFault page → IsSheetOf text (Ok sheet)
       → AreStrobesOf rows (Ok strobes) → IsStrobedFault sheet strobes fault → refusal ≡ strobe_refusal fault → IsNoStrobedDevice bytes text rows refusal
 
--- a caller is given a device, or told by a number and a place why there is none
+-- a caller is given a device, or by a number and a place why there is none
 pub data GivesStrobedDevice (bytes text rows : List ℕ) (old new : PlainDevice) (place result : ℕ) : Type 0 where
   gives_it : IsStrobedDevice bytes text rows new → place ≡ 0 → result ≡ 0 → GivesStrobedDevice bytes text rows old new place result
   refuses_it : (refusal : Refusal) → IsNoStrobedDevice bytes text rows refusal → new ≡ old → place ≡ refusal.place → result ≡ number_of refusal.status

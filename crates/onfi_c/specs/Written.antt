@@ -17,7 +17,7 @@ filled n rest xs = xs ++ drop (length xs) (replicate n rest)
 abbrev pub written_want : Want → PlainWant
 written_want w = record { id = w.id; kind = number_of_kind w.kind; lun = w.lun; block = w.block; page = w.page }
 
--- starts of which none is behind the last
+-- starts of which none is past the last
 abbrev pub written_rest : List ℕ → PlainRest
 written_rest starts = record { starts = length starts; start = filled 8 0 starts }
 

@@ -13,7 +13,7 @@ use crate::stand::{Stand, said_of};
 use onfi_check::check_text;
 use std::alloc::Global;
 
-/// Tells a verdict.
+/// Gives a verdict.
 pub fn give_verdict(judged: Result<u64, Refusal>, verdict: &mut PlainVerdict) -> u32
     ensures accepted { IfOk judged (λ ends. (verdict.new.finish ≡ ends) × (verdict.new.place ≡ 0) × (result ≡ 0)) }
     ensures refused { IfErr judged (λ refusal. IsRefusedBy refusal verdict.new result) }
@@ -45,7 +45,7 @@ pub fn judge(alloc: Global, stand: &Stand, certificate: &[u8]) -> Result<u64, Re
     }
 }
 
-/// Checks by the text of a certificate that no legal schedule of a channel's wants ends sooner than this one, and tells
+/// Checks by the text of a certificate that no legal schedule of a channel's wants ends sooner than this one, and says
 /// when it ends, in ns. Who made the schedule and the certificate need not be trusted.
 ///
 /// Answers 0 where it is so; else the number of a [`Status`], with the place of the token that it speaks of, counted

@@ -32,7 +32,7 @@ fn choice_of(choice: u8) -> Choice
 }
 
 /// Whether numbers rise, and stay below the count of all that were accepted.
-fn are_rising(wants: &[PlainWant], accepted: u64) -> bool
+pub fn are_rising(wants: &[PlainWant], accepted: u64) -> bool
     ensures { IsTrue result ↔ spec.RiseFrom 0 accepted wants.now }
 {
     let mut floor = 0;
@@ -72,7 +72,7 @@ fn choose_of(
 {
     match choice {
         Choice::InOrder => Ok(oldest(items, batch)),
-        Choice::ByLun | Choice::ReadsFirst => {
+        Choice::ByLun | Choice::ReadsFirst | Choice::WholeGroups => {
             let chosen = choose(
                 alloc, timing, rules, choice, bus_free, luns, items, accepted, batch,
             )?;
@@ -104,7 +104,7 @@ fn place_of(items: &[Want], want: &Want) -> usize
 }
 
 /// The places of items.
-fn places_of(items: &[Want], chosen: &[Want]) -> ArrayVec<usize, 8>
+pub fn places_of(items: &[Want], chosen: &[Want]) -> ArrayVec<usize, 8>
     requires rise { Rise items.now }
     requires few { length chosen.now ≤ 8 }
     requires there { (i : ℕ) (w : AWant) → slice_get chosen.now i ≡ Some w → (at : ℕ) × (slice_get items.now at ≡ Some w) }
@@ -183,7 +183,7 @@ fn choose_said(
 }
 
 /// Puts places in front of what stands there.
-fn put(room: &mut [usize; 8], places: &[usize])
+pub fn put(room: &mut [usize; 8], places: &[usize])
     requires { length places.now ≤ 8 }
     ensures { room.new ≡ places.now ++ drop (length places.now) room.old }
 {
@@ -195,7 +195,7 @@ fn put(room: &mut [usize; 8], places: &[usize])
 /// all that were accepted. `choice` is 0 for the oldest ones; 1 by LUN, and 2 by LUN with reads first, as
 /// [`choose`](onfi_core::choose) does.
 ///
-/// Answers 0; or the first of the numbers that [`onfi_plan`](crate::planning::onfi_plan) tells of a channel's lengths and
+/// Answers 0; or the first of the numbers that [`onfi_plan`](crate::planning::onfi_plan) answers for a channel's lengths and
 /// plane bits, of members and kinds, and those of `BadChoice`, `BadBatch`, `BadOrder` and `Memory`; and nothing is given.
 #[unsafe(no_mangle)]
 pub extern "C" fn onfi_choose(

@@ -4,6 +4,7 @@ ghost use Rattle.onfi_c.specs.Due.{GivesDue, IsDueSaid, IsNoneDue, IsOffDevice, 
 
 use crate::channel::PlainChannel;
 use crate::device::PlainGeometry;
+use crate::due_plain::due_in_order;
 use crate::flight::{fill, timing_of};
 use crate::geometry::geometry_of;
 use crate::lun::{PlainLun, PlainWant};
@@ -14,6 +15,7 @@ use crate::schedule::PlainSchedule;
 use crate::status::Status;
 use onfi_addr::{Geometry, Place};
 use onfi_flight::{Due, Flight, Next};
+use onfi_group::phase_length;
 use onfi_timing::{Kind, Timing};
 use std::alloc::Global;
 
@@ -71,11 +73,10 @@ fn phase_of(timing: &Timing, geometry: &Geometry, due: &Due) -> Option<PlainPhas
         return None;
     }
     let (members, number) = (due.group.len(), usize::from(due.phase));
-    let spans = timing.spans(due.group.kind());
     let is_post = members <= number;
     Some(PlainPhase {
         start: due.start,
-        end: due.start + spans.phase_length(members, number),
+        end: due.start + phase_length(timing, due.group.members(), number),
         want: member.id,
         row: row_in(geometry, &place),
         block: member.block,
@@ -107,7 +108,7 @@ pub fn phase_on(timing: &Timing, geometry: &PlainGeometry, due: &Due) -> Result<
     }
 }
 
-/// What is told where nothing is left to do.
+/// What is answered where nothing is left to do.
 pub fn over_status(geometry: &PlainGeometry) -> Status
     ensures { IsOverTold geometry.now result }
 {
@@ -134,6 +135,9 @@ fn due_said(
         Err(status) => return Err(status),
     };
     let rules = rules(&channel.rules);
+    if let Some(due) = due_in_order(alloc, &rules, channel, luns, wants, schedule) {
+        return phase_on(&timing, geometry, &due);
+    }
     let mut flight = Flight::idle(alloc, timing, rules, channel.bus_free, luns.len() as u8);
     match fill(alloc, &mut flight, channel, luns, wants, schedule) {
         Ok(()) => {}
@@ -148,9 +152,9 @@ fn due_said(
 
 /// The phase that is due of a schedule, what is left of a plan: the undone one of least start, with the bytes and the
 /// address that a driver gives out for it. That it may run is looked at, and nothing else of the schedule: of one that isn't
-/// legal a phase may be told. This asks for no memory.
+/// legal a phase may be given. This asks for no memory.
 ///
-/// Answers 0; or the first of the numbers that [`onfi_plan`](crate::planning::onfi_plan) tells of the channel, but for
+/// Answers 0; or the first of the numbers that [`onfi_plan`](crate::planning::onfi_plan) answers for the channel, but for
 /// `Memory`, and those of `BadSchedule`, of `Illegal` where the phase of least start may not run, or what waits or runs has no
 /// start, and of `BadGeometry`, `NothingDue` and `BadPlace`; and the phase is as it was.
 #[unsafe(no_mangle)]

@@ -77,7 +77,7 @@ fn set_luns(alloc: Global, flight: &mut Flight, plane_bits: u8, luns: &[PlainLun
 }
 
 /// Has an idle flight on as many LUNs be what is left of the schedule that a caller says, of the problem that he says. What
-/// it is where that is refused isn't told. A flight goes round by a borrow, as it has some thousand bytes.
+/// it is where that is refused isn't said. A flight goes round by a borrow, as it has some thousand bytes.
 pub fn fill(
     alloc: Global,
     flight: &mut Flight,

@@ -7,7 +7,7 @@ ghost use Rattle.onfi_c.specs.SaidGeometry as spec;
 use crate::device::PlainGeometry;
 use onfi_addr::Geometry;
 
-/// Whether so many bits, and no fewer, tell so many things apart.
+/// Whether so many bits, and no fewer, distinguish so many things.
 fn is_bit_count(count: u32, bits: u32) -> bool
     requires { bits ≤ 16 }
     ensures { IsTrue result ↔ IsBitCount count bits }

@@ -1,8 +1,8 @@
 //! The phase that is next on a channel that plans no batch.
-ghost use Rattle.std.specs.Prelude.{◌≡◌, ◌⊎◌, ◌↔◌, ◌*◌, ◌<◌, ◌≤◌, ◌^◌, [], None, length, IfOk, IfErr, IsTrue};
+ghost use Rattle.std.specs.Prelude.{◌≡◌, ◌⊎◌, ◌↔◌, ◌*◌, ◌<◌, ◌^◌, None, length, IfOk, IfErr, IsTrue, MatchOption};
 ghost use Rattle.onfi_flight.specs.Flight.{move_of};
 ghost use Rattle.onfi_steady.specs.Next.{move_of_phase};
-ghost use Rattle.onfi_c.specs.Next.{GivesNext, IsGoingOn, IsNextSaid, IsNoPhase, IsNoPhaseOn, IsNoneNext, IsPhaseOf, IsTold, IsUntold};
+ghost use Rattle.onfi_c.specs.Next.{GivesNext, IsGoingOn, IsIdleSaid, IsNextDue, IsNextSaid, IsNoPhase, IsNoPhaseOn, IsNoneDue, IsNoneNext, IsPhaseOf};
 
 use crate::channel::PlainChannel;
 use crate::device::PlainGeometry;
@@ -10,17 +10,24 @@ use crate::due::{over_status, phase_on};
 use crate::lun::PlainLun;
 use crate::phase::PlainPhase;
 use crate::queue::{PlainQueue, waiting_of};
-use crate::said::{few_states_of, timing_said};
+use crate::said::{few_states_of, rules, timing_said};
 use crate::status::Status;
 use onfi_flight::Due;
 use onfi_group::Group;
 use onfi_problem::LunState;
-use onfi_steady::{NextPhase, next_phase};
+use onfi_steady::{NextPhase, next_phase_of};
 use onfi_timing::Timing;
 use std::alloc::Global;
 
 /// No phase starts as late as this, in ns.
 pub const LATE: u64 = 1 << 62;
+
+/// The phase that is next, and the lengths of the channel's kinds.
+#[derive(Drop)]
+pub struct NextDue {
+    pub timing: Timing,
+    pub due: Due,
+}
 
 /// The next phase of what a LUN runs.
 fn going_on(luns: &[LunState], lun: u8, start: u64) -> Result<Due, Status>
@@ -55,7 +62,7 @@ fn going_on(luns: &[LunState], lun: u8, start: u64) -> Result<Due, Status>
 }
 
 /// The phase that is next, with its group.
-pub fn due_of(alloc: Global, luns: &[LunState], next: &NextPhase) -> Result<Due, Status>
+fn due_of(alloc: Global, luns: &[LunState], next: &NextPhase) -> Result<Due, Status>
     ensures due { IfOk result (IsPhaseOf luns.now next.now) }
     ensures within { IfOk result (λ due. due.phase < 2 * length due.group) }
     ensures time { IfOk result (λ due. due.start < 2 ^ 63) }
@@ -79,31 +86,54 @@ pub fn due_of(alloc: Global, luns: &[LunState], next: &NextPhase) -> Result<Due,
     })
 }
 
-/// The phase that is next, as a plain struct.
-fn phase_told(
-    alloc: Global,
-    timing: &Timing,
-    luns: &[LunState],
-    geometry: &PlainGeometry,
-    next: &NextPhase,
-) -> Result<PlainPhase, Status>
-    ensures told { IfOk result (IsTold timing.now luns.now geometry.now next.now) }
-    ensures none { IfErr result (IsUntold luns.now geometry.now next.now) }
-{
-    match due_of(alloc, luns, next) {
-        Ok(due) => phase_on(timing, geometry, &due),
-        Err(status) => Err(status),
-    }
-}
-
 /// Whether more is said than a channel and a queue may have.
-pub fn are_more(luns: &[PlainLun], queue: &PlainQueue) -> bool
+fn are_more(luns: &[PlainLun], queue: &PlainQueue) -> bool
     ensures { IsTrue result ↔ ((8 < length luns.now) ⊎ (64 < queue.now.count)) }
 {
     luns.len() > 8 || queue.count > 64
 }
 
-/// The phase that is next of what is said.
+/// The phase that is next of what is said; None where nothing runs and nothing waits for a LUN that is there.
+pub fn next_due(
+    alloc: Global,
+    channel: &PlainChannel,
+    luns: &[PlainLun],
+    queue: &PlainQueue,
+    now: u64,
+) -> Result<Option<NextDue>, Status>
+    ensures next { IfOk result (λ next. MatchOption next (IsIdleSaid channel.now luns.now queue.now now) (IsNextDue channel.now luns.now queue.now now)) }
+    ensures none { IfErr result (IsNoneDue channel.now luns.now queue.now now) }
+{
+    let timing = match timing_said(channel, luns, &[]) {
+        Ok(timing) => timing,
+        Err(status) => return Err(status),
+    };
+    if are_more(luns, queue) {
+        return Err(Status::TooMany);
+    }
+    let plane_bits = channel.rules.plane_bits;
+    let states = few_states_of(alloc, plane_bits, luns);
+    let states = &states[..luns.len()];
+    let waiting = waiting_of(plane_bits, luns, queue);
+    let next = match next_phase_of(
+        &timing,
+        channel.bus_free,
+        now,
+        states,
+        &rules(&channel.rules),
+        waiting.as_slice(),
+        queue.newest(),
+    ) {
+        Some(next) => next,
+        None => return Ok(None),
+    };
+    match due_of(alloc, states, &next) {
+        Ok(due) => Ok(Some(NextDue { timing, due })),
+        Err(status) => Err(status),
+    }
+}
+
+/// The phase that is next of what is said, as a plain struct.
 fn next_said(
     alloc: Global,
     channel: &PlainChannel,
@@ -115,28 +145,19 @@ fn next_said(
     ensures next { IfOk result (IsNextSaid channel.now luns.now queue.now geometry.now now) }
     ensures none { IfErr result (IsNoneNext channel.now luns.now queue.now geometry.now now) }
 {
-    let timing = match timing_said(channel, luns, &[]) {
-        Ok(timing) => timing,
-        Err(status) => return Err(status),
-    };
-    if are_more(luns, queue) {
-        return Err(Status::TooMany);
-    }
-    let states = few_states_of(alloc, channel.rules.plane_bits, luns);
-    let states = &states[..luns.len()];
-    let waiting = waiting_of(channel, queue);
-    match next_phase(&timing, channel.bus_free, now, states, &waiting) {
-        Some(next) => phase_told(alloc, &timing, states, geometry, &next),
-        None => Err(over_status(geometry)),
+    match next_due(alloc, channel, luns, queue, now) {
+        Ok(Some(next)) => phase_on(&next.timing, geometry, &next.due),
+        Ok(None) => Err(over_status(geometry)),
+        Err(status) => Err(status),
     }
 }
 
 /// The phase that is next on a channel where it is `now`, of what waits in a queue, with the bytes and the address that a driver
 /// gives out for it: what each LUN goes on with, or a group that may begin on it, and of these the one that goes first, as
-/// [`next_phase`](onfi_steady::next_phase) tells it. A request goes first on its LUN once 128 groups with a later one began
+/// [`next_phase`](onfi_steady::next_phase) gives it. A request goes first on its LUN once 128 groups with a later one began
 /// there, an erase once 512 did. This asks for no memory.
 ///
-/// Answers 0; or the first of the numbers that [`onfi_plan`](crate::planning::onfi_plan) tells of the channel's lengths, plane
+/// Answers 0; or the first of the numbers that [`onfi_plan`](crate::planning::onfi_plan) answers for the channel's lengths, plane
 /// bits, members and kinds, of `TooMany` where there are more than eight LUNs or 64 requests, of `NothingDue` where nothing runs
 /// and nothing waits for a LUN that is there, of `Clock` where the phase would start at 2^62 ns or later, of `BadLun` where a LUN
 /// runs a group that is over, of `BadGeometry` and `BadPlace`; and the phase is as it was.

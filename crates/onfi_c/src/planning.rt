@@ -35,7 +35,7 @@ pub fn problem_posed(
     problem_of(alloc, channel, luns, wants)
 }
 
-/// Gives a text where there is room for any, and tells how many bytes it has.
+/// Gives a text where there is room for any, and says how many bytes it has.
 fn give_asked(text: &[u8], room: &mut [u8], bytes: &mut usize) -> u32
     ensures { GivesAsked text.now room.old room.new bytes.new result }
 {
@@ -46,7 +46,7 @@ fn give_asked(text: &[u8], room: &mut [u8], bytes: &mut usize) -> u32
     give(text, 0, room, bytes)
 }
 
-/// Gives a plan, and its certificate where there is room for any byte; or tells why there is none.
+/// Gives a plan, and its certificate where there is room for any byte; or says why there is none.
 pub fn give_told<P: Copy>(
     told: Result<Told<P>, Status>,
     plan: &mut P,
@@ -78,7 +78,7 @@ fn certificate(alloc: Global, strict: bool, planned: &Planned) -> Result<Vec<u8>
     }
 }
 
-/// A plan, as it is told.
+/// A plan, as it is given.
 pub fn tell(alloc: Global, problem: &Problem, limit: u32) -> Result<Told<PlainPlan>, Status>
     ensures plan { IfOk result (λ t. IsPlan problem.now.problem limit t.plan t.text.items) }
     ensures none { IfErr result (λ status. IsUnplanned problem.now.problem limit status) }
@@ -103,7 +103,7 @@ pub fn tell(alloc: Global, problem: &Problem, limit: u32) -> Result<Told<PlainPl
 
 /// Plans the wants of a channel: the schedule that no legal schedule beats, when it ends, how many nodes the search
 /// opened, at most `limit` of them, 1 to 1,048,576, and where `certificate` has room for any byte, the text of the
-/// certificate that shows it. `bytes` tells how many bytes that text has.
+/// certificate that shows it. `bytes` says how many bytes that text has.
 ///
 /// Answers 0, or 3 where the certificate has more bytes than there is room for, which is then as it was; or the number
 /// of a [`Status`], and nothing is given.

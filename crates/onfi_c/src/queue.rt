@@ -1,15 +1,14 @@
 //! The requests that wait on a channel that plans no batch, in memory of the caller's.
-ghost use Rattle.std.specs.Prelude.{◌≡◌, ℕ, ◌<◌, ◌≤◌, ◌∷◌, ◌++◌, [], None, length, map, IfNone, IfSome};
+ghost use Rattle.std.specs.Prelude.{◌≡◌, ℕ, ◌+◌, ◌<◌, ◌≤◌, ◌∷◌, ◌++◌, [], None, length, IfNone, IfSome};
 ghost use Rattle.onfi_c.specs.Queue as spec;
-ghost use Rattle.onfi_c.specs.Said.{AreRules};
+ghost use Rattle.onfi_steady.specs.Waiting.{greatest_number};
 
-use crate::channel::PlainChannel;
-use crate::lun::PlainWant;
-use crate::said::{rules, want_of};
+use crate::lun::{PlainLun, PlainWant};
+use crate::said::want_of;
 use crate::status::Status;
-use crate::written::plain_want;
 use arrayvec::ArrayVec;
-use onfi_steady::{Waiter, Waiting};
+use onfi_request::Want;
+use onfi_steady::Waiter;
 
 /// A request that waits, and how many groups with a later request began on its LUN since it was accepted.
 #[repr(C)]
@@ -32,7 +31,7 @@ pub struct PlainQueue {
 
 impl PlainQueue {
     /// The number of the newest accepted program.
-    fn newest(&self) -> Option<u64>
+    pub fn newest(&self) -> Option<u64>
         ensures { result ≡ spec.newest_of self.now }
     {
         if self.has_newest == 0 {
@@ -53,60 +52,148 @@ fn waiter_of(plane_bits: u8, said: &PlainWaiter) -> Waiter
     }
 }
 
-/// Puts requests that wait, in their order, into the empty list.
-fn list_waiters(list: &mut ArrayVec<Waiter, 64>, plane_bits: u8, said: &[PlainWaiter])
+/// Whether a LUN is there that runs nothing.
+fn is_free(luns: &[PlainLun], lun: u8) -> bool
+    ensures { result ≡ spec.is_free luns.now lun }
+{
+    match luns.get(usize::from(lun)) {
+        Some(state) => state.members == 0,
+        None => false,
+    }
+}
+
+/// Appends a request that waits, where it is for a LUN that runs nothing.
+fn put_shown(list: &mut ArrayVec<Waiter, 64>, plane_bits: u8, luns: &[PlainLun], said: &PlainWaiter)
+    requires room { length list.old.items < 64 }
+    requires bits { plane_bits ≤ 2 }
+    ensures items { list.new.items ≡ spec.shown_with plane_bits luns.now list.old.items said.now }
+    ensures few { length list.new.items ≤ length list.old.items + 1 }
+{
+    if is_free(luns, said.want.lun) {
+        list.push(waiter_of(plane_bits, said));
+    }
+}
+
+/// Puts those requests that wait for LUNs that run nothing, in their order, into the empty list.
+fn list_shown(
+    list: &mut ArrayVec<Waiter, 64>,
+    plane_bits: u8,
+    luns: &[PlainLun],
+    said: &[PlainWaiter],
+)
     requires none { list.old.items ≡ [] }
     requires bits { plane_bits ≤ 2 }
     requires few { length said.now ≤ 64 }
-    ensures { list.new.items ≡ map (spec.waiter_of plane_bits) said.now }
+    ensures { list.new.items ≡ spec.shown_of plane_bits luns.now said.now }
 {
     for waiter in said {
-        list.push(waiter_of(plane_bits, waiter));
+        put_shown(list, plane_bits, luns, waiter);
     }
 }
 
-/// What waits in a queue, with what each LUN of the channel would begin.
-pub fn waiting_of(channel: &PlainChannel, queue: &PlainQueue) -> Waiting
-    requires bits { channel.now.rules.plane_bits ≤ 2 }
+/// What waits in a queue for LUNs of the channel that run nothing.
+pub fn waiting_of(plane_bits: u8, luns: &[PlainLun], queue: &PlainQueue) -> ArrayVec<Waiter, 64>
+    requires bits { plane_bits ≤ 2 }
     requires few { queue.now.count ≤ 64 }
-    ensures rules { AreRules channel.now.rules result.rules }
-    ensures waiting { result.waiting ≡ spec.waiters_of channel.now.rules.plane_bits queue.now }
-    ensures newest { result.newest ≡ spec.newest_of queue.now }
+    ensures { result.items ≡ spec.shown_of plane_bits luns.now (spec.waiting_in queue.now) }
 {
     let mut list = ArrayVec::new();
     let waiters = &queue.waiter[..usize::from(queue.count)];
-    list_waiters(&mut list, channel.rules.plane_bits, waiters);
-    Waiting::of(rules(&channel.rules), list, queue.newest())
+    list_shown(&mut list, plane_bits, luns, waiters);
+    list
 }
 
-/// Puts requests that wait, as plain structs, into the empty list.
-pub fn list_plain(list: &mut ArrayVec<PlainWaiter, 64>, waiters: &[Waiter])
-    requires none { list.old.items ≡ [] }
-    requires few { length waiters.now ≤ 64 }
-    ensures { list.new.items ≡ map spec.written_waiter waiters.now }
+/// The greatest of the numbers of these members.
+fn greatest_number(members: &[Want]) -> u64
+    ensures { result ≡ greatest_number 0 members.now }
 {
-    for waiter in waiters {
-        list.push(plain_waiter(waiter));
+    let mut greatest = 0u64;
+    for member in members {
+        greatest = greatest.max(member.id);
+    }
+    greatest
+}
+
+/// Whether it is a member of the group that begins on the LUN.
+fn begins_with(lun: u8, members: &[Want], waiter: &PlainWaiter) -> bool
+    ensures { result ≡ spec.begins_with lun members.now waiter.now }
+{
+    waiter.want.lun == lun && has_number(members, waiter.want.id)
+}
+
+/// Whether one of them has that number.
+fn has_number(members: &[Want], id: u64) -> bool
+    ensures { result ≡ spec.has_number members.now id }
+{
+    members.iter().any(|m| m.id == id)
+}
+
+/// How often it was passed over once the group began on the LUN: once more where it is of the LUN and a member is later.
+fn passed_by(lun: u8, last: u64, waiter: &PlainWaiter) -> u16
+    ensures { result ≡ spec.passed_of lun last waiter.now }
+{
+    if waiter.want.lun == lun && waiter.want.id < last {
+        return waiter.passed.saturating_add(1);
+    }
+    waiter.passed
+}
+
+/// Appends a request, where it waits on; `last` is the greatest number of the group.
+fn put_left(
+    list: &mut ArrayVec<PlainWaiter, 64>,
+    lun: u8,
+    members: &[Want],
+    last: u64,
+    waiter: &PlainWaiter,
+)
+    requires { length list.old.items < 64 }
+    ensures items { list.new.items ≡ spec.left_with lun members.now last list.old.items waiter.now }
+    ensures few { length list.new.items ≤ length list.old.items + 1 }
+{
+    if !begins_with(lun, members, waiter) {
+        list.push(PlainWaiter {
+            want: waiter.want,
+            passed: passed_by(lun, last, waiter),
+        });
     }
 }
 
-/// A request that waits, as a plain struct.
-fn plain_waiter(waiter: &Waiter) -> PlainWaiter
-    ensures { result ≡ spec.written_waiter waiter.now }
+/// Puts those requests that wait on once the group of these members began on the LUN, in their order, into the empty list.
+fn list_left(list: &mut ArrayVec<PlainWaiter, 64>, lun: u8, members: &[Want], said: &[PlainWaiter])
+    requires none { list.old.items ≡ [] }
+    requires few { length said.now ≤ 64 }
+    ensures { list.new.items ≡ spec.left_of lun members.now said.now }
 {
-    PlainWaiter {
-        want: plain_want(&waiter.want),
-        passed: waiter.passed,
+    let last = greatest_number(members);
+    for waiter in said {
+        put_left(list, lun, members, last, waiter);
     }
 }
 
 /// Has a queue keep these in place of what waited.
-pub fn put_back(queue: &mut PlainQueue, waiters: &[PlainWaiter])
+fn put_back(queue: &mut PlainQueue, waiters: &[PlainWaiter])
     requires { length waiters.now ≤ 64 }
-    ensures { queue.new ≡ spec.left_in queue.old waiters.now }
+    ensures waiting { spec.waiting_in queue.new ≡ waiters.now }
+    ensures newest { spec.newest_of queue.new ≡ spec.newest_of queue.old }
 {
     queue.waiter[..waiters.len()].copy_from_slice(waiters);
     queue.count = waiters.len() as u8;
+}
+
+/// Leaves in a queue those that wait once the group of these members began on the LUN.
+pub fn leave(queue: &mut PlainQueue, lun: u8, members: &[Want])
+    requires { queue.old.count ≤ 64 }
+    ensures waiting { spec.waiting_in queue.new ≡ spec.left_of lun members.now (spec.waiting_in queue.old) }
+    ensures newest { spec.newest_of queue.new ≡ spec.newest_of queue.old }
+{
+    let mut left = ArrayVec::new();
+    list_left(
+        &mut left,
+        lun,
+        members,
+        &queue.waiter[..usize::from(queue.count)],
+    );
+    put_back(queue, left.as_slice());
 }
 
 /// Has a queue keep nothing: no request waits, and no program was accepted. Answers 0.
@@ -159,7 +246,7 @@ fn refusal_of(queue: &PlainQueue, want: &PlainWant) -> Option<Status>
     None
 }
 
-/// Takes a request in behind the others.
+/// Takes a request in after the others.
 fn put(queue: &mut PlainQueue, want: &PlainWant)
     requires { queue.old.count < 64 }
     ensures waiting { spec.waiting_in queue.new ≡ spec.waiting_in queue.old ++ record { want = want.now; passed = 0 } ∷ [] }
@@ -176,7 +263,7 @@ fn put(queue: &mut PlainQueue, want: &PlainWant)
     }
 }
 
-/// Takes a request into a queue, behind the others; no group has passed it over.
+/// Takes a request into a queue, after the others; no group has passed it over.
 ///
 /// Answers 0; or the first of the numbers of `TooMany` where 64 requests wait, of `BadKind`, of `BadLun` where its LUN is above 7
 /// or it erases another page than 0, and of `BadOrder` where its number isn't above that of the newest request that waits; and all is

@@ -1,36 +1,33 @@
-//! What stands behind a phase of a channel that plans no batch.
-ghost use Rattle.std.specs.Prelude.{◌≡◌, ◌+◌, ◌*◌, ◌<◌, ◌≤◌, ◌^◌, [], length, map, IfOk, IfErr};
+//! What stands after a phase of a channel that plans no batch.
+ghost use Rattle.std.specs.Prelude.{◌≡◌, ◌+◌, ◌*◌, ◌<◌, ◌≤◌, ◌^◌, length, IfOk, IfErr};
 ghost use Rattle.onfi_timing.specs.Phases.{phase_length};
 ghost use Rattle.onfi_group.specs.Group.{group_spans};
 ghost use Rattle.onfi_problem.specs.Moves.{lun_after};
-ghost use Rattle.onfi_c.specs.Queue.{waiters_of, written_waiter};
+ghost use Rattle.onfi_c.specs.Queue.{newest_of, waiting_in};
 ghost use Rattle.onfi_c.specs.Ran.{lun_in, telling};
-ghost use Rattle.onfi_c.specs.QueueRan.{GivesQueueRan, IsQueueNotRan, IsQueueRan, KeptQueue, begun_by, kept_behind};
+ghost use Rattle.onfi_c.specs.QueueRan.{GivesQueueRan, IsKeptBehind, IsQueueNotRan, IsQueueRan, KeptQueue, left_behind};
 
 use crate::channel::PlainChannel;
 use crate::lun::PlainLun;
-use crate::next::{LATE, are_more, due_of};
-use crate::queue::{PlainQueue, PlainWaiter, list_plain, put_back, waiting_of};
+use crate::next::{LATE, NextDue, next_due};
+use crate::queue::{PlainQueue, leave};
 use crate::ran::{is_due, lun_in, telling};
-use crate::said::{few_states_of, timing_said};
 use crate::status::Status;
-use arrayvec::ArrayVec;
 use onfi_flight::Due;
-use onfi_group::Group;
+use onfi_group::{Group, phase_length, wait_before};
 use onfi_problem::LunState;
-use onfi_steady::{Waiting, next_phase};
 use onfi_timing::Timing;
 use std::alloc::Global;
 
-/// What stands behind a phase.
+/// What stands after a phase.
 #[derive(Drop)]
 pub struct NextBehind {
     /// From when on the bus is free, in ns.
     pub bus_free: u64,
     /// What the LUN of the phase does.
     pub lun: PlainLun,
-    /// The requests that wait.
-    pub left: ArrayVec<PlainWaiter, 64>,
+    /// The phase that ran.
+    pub due: Due,
 }
 
 /// What the LUN of a group does once a phase of it has ended.
@@ -42,7 +39,7 @@ fn lun_after(timing: &Timing, group: &Group, phase: u8, ended: u64) -> LunState
     let count = group.len();
     let next = usize::from(phase) + 1;
     if next < 2 * count {
-        let wait = timing.spans(group.kind()).wait_before(count, next);
+        let wait = wait_before(timing, group.members(), next);
         LunState::Running {
             group: group.copy(),
             next: next as u8,
@@ -53,44 +50,37 @@ fn lun_after(timing: &Timing, group: &Group, phase: u8, ended: u64) -> LunState
     }
 }
 
-/// The requests that wait no more, where the phase is the first of a group.
-fn begin(waiting: &mut Waiting, due: &Due)
-    requires { due.now.lun < 8 }
-    ensures { waiting.new ≡ begun_by due.now.place waiting.old due.now.lun due.now.group }
+/// Leaves in a queue what waits after the phase: where it is the first of a group, its requests wait no more.
+fn leave_behind(queue: &mut PlainQueue, due: &Due)
+    requires { queue.old.count ≤ 64 }
+    ensures waiting { waiting_in queue.new ≡ left_behind due.now (waiting_in queue.old) }
+    ensures newest { newest_of queue.new ≡ newest_of queue.old }
 {
     if due.place.is_some() {
-        waiting.begin(due.lun, due.group.members());
+        leave(queue, due.lun, due.group.members());
     }
 }
 
-/// What stands behind the due phase, once it ran from then on.
-fn behind_of(
-    timing: &Timing,
-    luns: &[PlainLun],
-    waiting: &Waiting,
-    due: &Due,
-    started: u64,
-) -> NextBehind
-    requires there { due.now.lun < length luns.now }
-    requires within { due.now.phase < 2 * length due.now.group }
+/// What stands after the due phase, once it ran from then on.
+fn behind_of(timing: &Timing, luns: &[PlainLun], due: Due, started: u64) -> NextBehind
+    requires there { due.lun < length luns.now }
+    requires within { due.phase < 2 * length due.group }
     requires time { started < 2 ^ 62 }
-    ensures bus_free { result.bus_free ≡ started + phase_length (group_spans timing.now due.now.group) (length due.now.group) due.now.phase }
-    ensures lun { result.lun ≡ lun_in (lun_after timing.now due.now.group due.now.phase result.bus_free) (telling luns.now due.now.place due.now.lun due.now.group) }
-    ensures left { result.left.items ≡ map written_waiter waiting.now.waiting }
+    ensures due { result.due ≡ due }
+    ensures bus_free { result.bus_free ≡ started + phase_length (group_spans timing.now due.group) (length due.group) due.phase }
+    ensures lun { result.lun ≡ lun_in (lun_after timing.now due.group due.phase result.bus_free) (telling luns.now due.place due.lun due.group) }
 {
-    let spans = timing.spans(due.group.kind());
-    let ended = started + spans.phase_length(due.group.len(), usize::from(due.phase));
+    let ended = started + phase_length(timing, due.group.members(), usize::from(due.phase));
     let state = lun_after(timing, &due.group, due.phase, ended);
-    let mut left = ArrayVec::new();
-    list_plain(&mut left, waiting.as_slice());
+    let lun = lun_in(&state, &telling(luns, &due));
     NextBehind {
         bus_free: ended,
-        lun: lun_in(&state, &telling(luns, due)),
-        left,
+        lun,
+        due,
     }
 }
 
-/// What stands behind the phase that is next of what is said, if it is this one.
+/// What stands after the phase that is next of what is said, if it is this one.
 fn ran_said(
     alloc: Global,
     channel: &PlainChannel,
@@ -102,27 +92,14 @@ fn ran_said(
     started: u64,
 ) -> Result<NextBehind, Status>
     ensures ran { let old : KeptQueue = record { channel = channel.now; luns = luns.now; queue = queue.now } in
-        IfOk result (λ b. IsQueueRan old (kept_behind old lun b) now lun number started) }
+        IfOk result (λ b. (new : KeptQueue) → IsKeptBehind old lun b new → IsQueueRan old new now lun number started) }
     ensures there { IfOk result (λ b. lun < length luns.now) }
-    ensures few { IfOk result (λ b. length b.left.items ≤ 64) }
+    ensures few { IfOk result (λ b. queue.now.count ≤ 64) }
     ensures none { IfErr result (IsQueueNotRan channel.now luns.now queue.now now lun number started) }
 {
-    let timing = match timing_said(channel, luns, &[]) {
-        Ok(timing) => timing,
-        Err(status) => return Err(status),
-    };
-    if are_more(luns, queue) {
-        return Err(Status::TooMany);
-    }
-    let states = few_states_of(alloc, channel.rules.plane_bits, luns);
-    let states = &states[..luns.len()];
-    let mut waiting = waiting_of(channel, queue);
-    let next = match next_phase(&timing, channel.bus_free, now, states, &waiting) {
-        Some(next) => next,
-        None => return Err(Status::NothingDue),
-    };
-    let due = match due_of(alloc, states, &next) {
-        Ok(due) => due,
+    let NextDue { timing, due } = match next_due(alloc, channel, luns, queue, now) {
+        Ok(Some(next)) => next,
+        Ok(None) => return Err(Status::NothingDue),
         Err(status) => return Err(status),
     };
     if !is_due(&due, lun, number) {
@@ -134,15 +111,14 @@ fn ran_said(
     if started >= LATE {
         return Err(Status::Clock);
     }
-    begin(&mut waiting, &due);
-    Ok(behind_of(&timing, luns, &waiting, &due, started))
+    Ok(behind_of(&timing, luns, due, started))
 }
 
-/// What stands behind the phase that is next, as [`onfi_next`](crate::next::onfi_next) tells it where it is `now`, once it ran from
-/// `started` on, in ns, at or behind its start: the bus is free from its end, its LUN goes on or is free, and a group that began
+/// What stands after the phase that is next, as [`onfi_next`](crate::next::onfi_next) gives it where it is `now`, once it ran from
+/// `started` on, in ns, at or after its start: the bus is free from its end, its LUN goes on or is free, and a group that began
 /// waits no more; it passed over what waits for its LUN and was accepted before one of it. This asks for no memory.
 ///
-/// Answers 0; or the first of the numbers that `onfi_next` tells but for those of the device, and those of `NotDue` where LUN and number
+/// Answers 0; or the first of the numbers that `onfi_next` answers but for those of the device, and those of `NotDue` where LUN and number
 /// aren't those of the phase that is next, of `TooSoon`, and of `Clock` where `started` is 2^62 ns or later; and all is as it was.
 #[unsafe(no_mangle)]
 pub extern "C" fn onfi_queue_ran(
@@ -164,7 +140,7 @@ pub extern "C" fn onfi_queue_ran(
         Ok(behind) => {
             channel.bus_free = behind.bus_free;
             luns[usize::from(lun)] = behind.lun;
-            put_back(queue, behind.left.as_slice());
+            leave_behind(queue, &behind.due);
             0
         }
         Err(status) => status.number(),

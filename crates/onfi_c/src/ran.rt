@@ -1,26 +1,31 @@
-//! What stands behind a phase, in place of what stood before it.
-ghost use Rattle.std.specs.Prelude.{◌≡◌, ◌↔◌, ◌++◌, ◌<◌, ◌≤◌, drop, length, map, take, IfOk, IfErr, IsTrue};
+//! What stands after a phase, in place of what stood before it.
+ghost use Rattle.std.specs.Prelude.{◌≡◌, ◌↔◌, ◌++◌, ◌<◌, ◌≤◌, drop, length, map, take, IfOk, IfErr, IfSome, IsTrue};
 ghost use Rattle.onfi_flight.specs.Flight.{IsDue, after_late};
 ghost use Rattle.onfi_problem.specs.Left.{InLimits};
 ghost use Rattle.onfi_c.specs.Ran.{GivesRan, IsLate, IsNotRan, IsRan, Kept, kept_behind};
 ghost use Rattle.onfi_c.specs.Ran as spec;
+ghost use Rattle.onfi_c.specs.RanPlain.{IsStep};
 ghost use Rattle.onfi_c.specs.Written.{filled, written_want};
 ghost use Rattle.onfi_c.specs.declared.status.Status.TheVariants.{Clock};
 
 use crate::channel::PlainChannel;
+use crate::due_plain::due_in_order;
 use crate::flight::{fault_of, fill, timing_of};
+use crate::in_order::HALF;
 use crate::lun::{PlainLun, PlainWant};
+use crate::ran_plain::{delay_schedule, lun_behind, wants_left};
 use crate::said::rules;
 use crate::schedule::PlainSchedule;
 use crate::status::Status;
 use crate::written::{self, plain_want, plain_wants};
 use arrayvec::ArrayVec;
 use onfi_flight::{Due, Flight, Next};
+use onfi_group::phase_length;
 use onfi_problem::LunState;
 use onfi_request::Want;
 use std::alloc::Global;
 
-/// What stands behind a phase.
+/// What stands after a phase.
 #[derive(Drop)]
 pub struct Behind {
     /// From when on the bus is free, in ns.
@@ -54,7 +59,7 @@ fn plain_members(wants: &[Want]) -> [PlainWant; 4]
     all
 }
 
-/// The LUN as it tells its group: as it did before, or where the group is a new one as that is told.
+/// The LUN as it names its group: as before, or with the group that the due phase begins.
 pub fn telling(luns: &[PlainLun], due: &Due) -> PlainLun
     requires { due.now.lun < length luns.now }
     ensures { result ≡ spec.telling luns.now due.now.place due.now.lun due.now.group }
@@ -70,7 +75,7 @@ pub fn telling(luns: &[PlainLun], due: &Due) -> PlainLun
     }
 }
 
-/// A LUN that tells its group so, once it does this.
+/// A LUN that names its group so, once it does this.
 pub fn lun_in(state: &LunState, lun: &PlainLun) -> PlainLun
     ensures { result ≡ spec.lun_in state.now lun.now }
 {
@@ -90,7 +95,7 @@ pub fn lun_in(state: &LunState, lun: &PlainLun) -> PlainLun
     }
 }
 
-/// What is left behind a phase, as plain structs.
+/// What is left after a phase, as plain structs.
 fn behind_of(flight: &Flight, luns: &[PlainLun], due: &Due) -> Behind
     requires there { due.now.lun < length luns.now }
     requires same { length flight.now.now.luns ≡ length luns.now }
@@ -130,7 +135,7 @@ pub fn is_due(due: &Due, lun: u8, number: u8) -> bool
     due.lun == lun && due.phase == number
 }
 
-/// What stands behind the phase that is due of what is said, if it is this one.
+/// What stands after the phase that is due of what is said, if it is this one.
 fn ran_said(
     alloc: Global,
     channel: &PlainChannel,
@@ -183,16 +188,50 @@ fn put(room: &mut [PlainWant; 8], wants: &[PlainWant])
     room[..wants.len()].copy_from_slice(wants);
 }
 
-/// What stands behind the phase that is due, once it ran from `started` on, in ns, at or behind its start by the schedule:
+/// A phase that is due, when it ends, in ns, and what its LUN says then.
+#[derive(Drop)]
+struct Step {
+    due: Due,
+    ended: u64,
+    lun: PlainLun,
+}
+
+/// The phase that is due of what is said, if it is this one, where all is in order, and so it is once this one ran from then on.
+fn step_in_order(
+    alloc: Global,
+    channel: &PlainChannel,
+    luns: &[PlainLun],
+    wants: &[PlainWant],
+    schedule: &PlainSchedule,
+    lun: u8,
+    number: u8,
+    started: u64,
+) -> Option<Step>
+    ensures { IfSome result (IsStep channel.now luns.now wants.now schedule.now lun number started) }
+{
+    let Ok(timing) = timing_of(channel, luns, wants) else {
+        return None;
+    };
+    let rules = rules(&channel.rules);
+    let due = due_in_order(alloc, &rules, channel, luns, wants, schedule)?;
+    if !is_due(&due, lun, number) || started < due.start || started >= HALF {
+        return None;
+    }
+    let ended = started + phase_length(&timing, due.group.members(), usize::from(due.phase));
+    let lun = lun_behind(&timing, luns, &due, ended);
+    Some(Step { due, ended, lun })
+}
+
+/// What stands after the phase that is due, once it ran from `started` on, in ns, at or after its start by the schedule:
 /// the bus is free from its end, its LUN goes on or is free, a group that began has left the first `count` wants, which wait,
 /// and the starts that are left are later by as much as it was. What is left of a legal schedule is legal; of another only
 /// that phase is looked at. This asks for no memory.
 ///
-/// Answers 0; or the first of the numbers that [`onfi_plan`](crate::planning::onfi_plan) tells of the channel, but for
-/// `Memory`, and those of `BadSchedule`, of `Illegal` as [`onfi_due`](crate::due::onfi_due) tells it, of `NothingDue`, of
+/// Answers 0; or the first of the numbers that [`onfi_plan`](crate::planning::onfi_plan) answers for the channel, but for
+/// `Memory`, and those of `BadSchedule`, of `Illegal` as [`onfi_due`](crate::due::onfi_due) answers it, of `NothingDue`, of
 /// `NotDue` where LUN and number aren't those of the phase that is due, of `TooSoon`, and of `Clock` where a phase would start
 /// at 2^62 ns or later, or what is left could reach 2^62 ns, so that each later call would refuse it; and all is as it was.
-/// `TooMany` is told first where `count` is above 8.
+/// `TooMany` comes first where `count` is above 8.
 #[unsafe(no_mangle)]
 pub extern "C" fn onfi_ran(
     alloc: Global,
@@ -214,6 +253,17 @@ pub extern "C" fn onfi_ran(
         return Status::TooMany.number();
     }
     let waiting = &wants[..*count];
+    if let Some(step) = step_in_order(
+        alloc, channel, luns, waiting, schedule, lun, number, started,
+    ) {
+        let left = wants_left(&step.due, waiting);
+        *schedule = delay_schedule(started - step.due.start, schedule, &step.due);
+        channel.bus_free = step.ended;
+        luns[usize::from(lun)] = step.lun;
+        *count = left.len();
+        put(wants, left.as_slice());
+        return 0;
+    }
     match ran_said(
         alloc, channel, luns, waiting, schedule, lun, number, started,
     ) {

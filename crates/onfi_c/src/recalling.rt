@@ -22,7 +22,7 @@ use onfi_plan::{Limit, Plan, certificate_text};
 use onfi_problem::Problem;
 use std::alloc::Global;
 
-/// A plan by a search that remembers states, as it is told.
+/// A plan by a search that remembers states, as it is given.
 pub fn tell(alloc: Global, problem: &Problem, limit: u32) -> Result<Told<PlainPlan>, Status>
     requires some { 1 ≤ limit }
     requires few { limit ≤ 1048576 }
@@ -57,7 +57,7 @@ pub fn tell(alloc: Global, problem: &Problem, limit: u32) -> Result<Told<PlainPl
 
 /// Plans the wants of a channel as [`onfi_plan`](crate::planning::onfi_plan) does, by a search that remembers states,
 /// with the text of a certificate that does so too; the search that finds the plan and the one that writes the
-/// certificate open at most `limit` nodes each, and the plan tells how many the first opened.
+/// certificate open at most `limit` nodes each, and the plan says how many the first opened.
 ///
 /// Answers what `onfi_plan` does.
 #[unsafe(no_mangle)]

@@ -1,10 +1,10 @@
-//! What a call tells, with a place.
+//! What a call answers, with a place.
 use crate::status::Status;
 use onfi_cert::CertTextFault;
 use onfi_check::{CertFault, TextFault};
 use onfi_known_check::{KnownFault, KnownTextFault};
 
-/// What a call tells, and the place that it speaks of; 0 where it speaks of none.
+/// What a call answers, and the place that it speaks of; 0 where it speaks of none.
 #[derive(Clone, Copy)]
 pub struct Refusal {
     pub status: Status,
@@ -22,7 +22,7 @@ impl Refusal {
         Refusal { status, place: 0 }
     }
 
-    /// What tells a fault of the tokens of a certificate, with its place.
+    /// The refusal for a fault of the tokens of a certificate, with its place.
     fn of_cert(fault: CertFault) -> Refusal
         ensures { result ≡ cert_refusal fault }
     {
@@ -43,7 +43,7 @@ impl Refusal {
         }
     }
 
-    /// What tells a fault of a text that is no certificate, with its place.
+    /// The refusal for a fault of a text that is no certificate, with its place.
     fn of_cert_text(fault: CertTextFault) -> Refusal
         ensures { result ≡ cert_text_refusal fault }
     {
@@ -58,7 +58,7 @@ impl Refusal {
         }
     }
 
-    /// What tells why the text of a certificate doesn't show that a schedule ends first.
+    /// The refusal that says why the text of a certificate doesn't show that a schedule ends first.
     pub fn of_text(fault: TextFault) -> Refusal
         ensures { result ≡ text_refusal fault }
     {
@@ -69,7 +69,7 @@ impl Refusal {
         }
     }
 
-    /// What tells a fault of a schedule or of the tokens of a certificate that remembers states, with its place.
+    /// The refusal for a fault of a schedule or of the tokens of a certificate that remembers states, with its place.
     fn of_known(fault: KnownFault) -> Refusal
         ensures { result ≡ known_refusal fault }
     {
@@ -87,7 +87,7 @@ impl Refusal {
         }
     }
 
-    /// What tells why the text of a certificate that remembers states doesn't show that nothing ends before a schedule, or
+    /// The refusal that says why the text of a certificate that remembers states doesn't show that nothing ends before a schedule, or
     /// before a number then or sooner.
     pub fn of_known_text(fault: TextFault<KnownFault, KnownTextFault>) -> Refusal
         ensures { result ≡ known_text_refusal fault }

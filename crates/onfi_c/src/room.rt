@@ -5,8 +5,8 @@ ghost use Rattle.onfi_c.specs.Room.{Gives};
 /// The status of a text that is longer than the room for it.
 const NO_ROOM: u32 = 3;
 
-/// Puts a text at the beginning of a room, tells how many bytes it has, and answers its status; where the text is longer
-/// than the room, it only tells so.
+/// Puts a text at the beginning of a room, says how many bytes it has, and answers its status; where the text is longer
+/// than the room, it only says so.
 pub fn give(text: &[u8], status: u32, room: &mut [u8], bytes: &mut usize) -> u32
     ensures { Gives text.now status room.old room.new bytes.new result }
 {

@@ -16,7 +16,7 @@ use onfi_problem::Problem;
 use onfi_steady::plan_by_rule_with_text;
 use std::alloc::Global;
 
-/// The plan by the rule, as it is told.
+/// The plan by the rule, as it is given.
 fn tell(alloc: Global, problem: &Problem) -> Result<Told<PlainWithin>, Status>
     requires begun { problem.now.all ≡ problem.now.problem.wants }
     ensures plan { IfOk result (λ t. IsPlanByRule problem.now.problem t.plan t.text.items) }

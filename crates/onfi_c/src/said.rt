@@ -144,7 +144,7 @@ fn free_luns() -> [LunState; 8]
     ]
 }
 
-/// What each of at most eight LUNs does, and free ones behind them; this takes no memory.
+/// What each of at most eight LUNs does, and free ones after them; this takes no memory.
 pub fn few_states_of(alloc: Global, plane_bits: u8, said: &[PlainLun]) -> [LunState; 8]
     requires bits { plane_bits ≤ 2 }
     requires few { length said.now ≤ 8 }

@@ -44,7 +44,7 @@ pub struct PlainWithin {
     pub below: u64,
 }
 
-/// What a check tells: when the schedule ends, in ns, where it is accepted, and the token that a refusal speaks of.
+/// What a check reports: when the schedule ends, in ns, where it is accepted, and the token that a refusal speaks of.
 #[repr(C)]
 #[derive(Clone, Copy)]
 pub struct PlainVerdict {

@@ -100,9 +100,9 @@ fn requests_of(limit: u32, remember: bool) -> Command
 }
 
 /// The bytes of a script in, out the plan that `onfi_sim plan` prints for it, or with `trace` its trace; the search
-/// opens at most `limit` nodes, 1 to 1,048,576. `bytes` tells how many bytes the answer has.
+/// opens at most `limit` nodes, 1 to 1,048,576. `bytes` says how many bytes the answer has.
 ///
-/// Answers the status of that program: 0 for a plan, 1 where the script is refused, 4 for want of memory, 6 where as
+/// Answers the status of that program: 0 for a plan, 1 where the script is refused, 4 where memory was refused, 6 where as
 /// many nodes were opened as may be. 3 where the answer has more bytes than there is room for, and 5 where the limit is
 /// out of its range: the room is then as it was.
 #[unsafe(no_mangle)]
@@ -158,11 +158,11 @@ pub extern "C" fn onfi_text_trace(
     give_plan(alloc, script, limit, command, answer, bytes)
 }
 
-/// The bytes of a script and of a plan text behind it in, out the line that `onfi_sim check` prints. `bytes` tells how
+/// The bytes of a script and of a plan text after it in, out the line that `onfi_sim check` prints. `bytes` says how
 /// many bytes the answer has.
 ///
 /// Answers the status of that program: 0 where the plan is accepted, 1 where the script is refused, 2 where the plan
-/// text or its certificate is, 4 for want of memory. 3 where the answer has more bytes than there is room for: the room
+/// text or its certificate is, 4 where memory was refused. 3 where the answer has more bytes than there is room for: the room
 /// is then as it was.
 #[unsafe(no_mangle)]
 pub extern "C" fn onfi_text_check(
@@ -197,7 +197,7 @@ pub extern "C" fn onfi_text_check_known(
     )
 }
 
-/// The bytes of a script and of a plan text behind it in, whose certificate may be missing, out the line that `onfi_sim
+/// The bytes of a script and of a plan text after it in, whose certificate may be missing, out the line that `onfi_sim
 /// check --legal` prints.
 ///
 /// Answers the same numbers, 0 where the schedule is legal.

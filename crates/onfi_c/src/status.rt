@@ -1,4 +1,4 @@
-//! What a call tells.
+//! What a call answers.
 ghost use Rattle.std.specs.Prelude.{◌≡◌};
 ghost use Rattle.onfi_c.specs.Status.{number_of, plan_status, problem_status, spans_status, text_of};
 
@@ -6,7 +6,7 @@ use onfi_planner::PlanFault;
 use onfi_problem::ProblemFault;
 use onfi_timing::SpanFault;
 
-/// What a call tells by a number, what scripts are answered with apart.
+/// What a call answers by a number, the answers to scripts apart.
 #[derive(Clone, Copy)]
 pub enum Status {
     /// All went well.
@@ -55,7 +55,7 @@ pub enum Status {
     TooSoon,
     /// The header line is none of a certificate.
     BadHeader,
-    /// No token stands at the place, or so many good ones do and the text doesn't end with one LF behind them.
+    /// No token stands at the place, or so many good ones do and the text doesn't end with one LF after them.
     BadToken,
     /// A certificate has more than 100,000,000 tokens.
     TooManyTokens,
@@ -65,7 +65,7 @@ pub enum Status {
     Illegal,
     /// The tokens end inside a tree.
     Short,
-    /// A token stands behind the tree.
+    /// A token stands after the tree.
     Trailing,
     /// A branch has another width than there are moves, or there is no move.
     Width,
@@ -77,7 +77,7 @@ pub enum Status {
     YieldLoop,
     /// Something is left to do, or less time has passed.
     NotEnd,
-    /// The schedule ends before the time that is told.
+    /// The schedule ends before the time that is given.
     EndsBefore,
     /// A parameter page has fewer than 256 bytes.
     PageShort,
@@ -341,7 +341,7 @@ impl Status {
         }
     }
 
-    /// What tells a fault of lengths.
+    /// The status for a fault of lengths.
     pub fn of_spans(fault: SpanFault) -> Status
         ensures { result ≡ spans_status fault }
     {
@@ -351,7 +351,7 @@ impl Status {
         }
     }
 
-    /// What tells why what is said is no problem.
+    /// The status that says why what is said is no problem.
     pub fn of_problem(fault: ProblemFault) -> Status
         ensures { result ≡ problem_status fault }
     {
@@ -363,7 +363,7 @@ impl Status {
         }
     }
 
-    /// What tells why there is no plan.
+    /// The status that says why there is no plan.
     pub fn of_plan(fault: PlanFault) -> Status
         ensures { result ≡ plan_status fault }
     {

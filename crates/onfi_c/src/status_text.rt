@@ -1,4 +1,4 @@
-//! The texts of what calls tell.
+//! The texts of what calls answer.
 ghost use Rattle.std.specs.Prelude.{◌≡◌, ◌==◌, find, option_map};
 ghost use Rattle.onfi_c.specs.Room.{Gives};
 ghost use Rattle.onfi_c.specs.StatusText.{named as spec_named, text_at};
@@ -23,7 +23,7 @@ fn text_of(number: u32) -> &'static str
     }
 }
 
-/// The text of the number of a [`Status`](crate::status::Status), none of another number. `bytes` tells how many bytes
+/// The text of the number of a [`Status`](crate::status::Status), none of another number. `bytes` says how many bytes
 /// it has.
 ///
 /// Answers 0, or 3 where the text has more bytes than there is room for, which is then as it was.

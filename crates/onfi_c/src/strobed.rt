@@ -26,7 +26,7 @@ fn strobe_number(strobe: Strobe) -> u64
     }
 }
 
-/// What tells a fault of strobes, with the parameter or the row that it names.
+/// The refusal for a fault of strobes, with the parameter or the row that it names.
 fn strobe_refusal(fault: StrobeFault) -> Refusal
     ensures { result ≡ spec.strobe_refusal fault }
 {
@@ -86,7 +86,7 @@ fn strobed_device(
     }
 }
 
-/// The device that the bytes of a parameter page and the texts of a timing sheet and of strobes tell of: the lengths of its
+/// The device that the bytes of a parameter page and the texts of a timing sheet and of strobes describe: the lengths of its
 /// phases, in ns, what it may group, and its geometry.
 ///
 /// Answers 0; else the number of a [`Status`], with the row of the sheet or of the strobes, counted from 1, or the number of

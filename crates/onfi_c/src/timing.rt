@@ -29,7 +29,7 @@ fn parameter_number(parameter: Parameter) -> u64
     }
 }
 
-/// What tells a fault of a geometry.
+/// The status for a fault of a geometry.
 pub fn geometry_status(fault: GeometryFault) -> Status
     ensures { result ≡ spec.geometry_status fault }
 {
@@ -47,7 +47,7 @@ pub fn geometry_status(fault: GeometryFault) -> Status
     }
 }
 
-/// What tells a fault of a sheet, with the parameter or the row that it names.
+/// The refusal for a fault of a sheet, with the parameter or the row that it names.
 pub fn sheet_refusal(fault: SheetFault) -> Refusal
     ensures { result ≡ spec.sheet_refusal fault }
 {
@@ -163,7 +163,7 @@ fn device_of(alloc: Global, bytes: &[u8], text: &[u8]) -> Result<PlainDevice, Re
     }
 }
 
-/// The device that the bytes of a parameter page and the text of a timing sheet tell of: the lengths of its phases, in
+/// The device that the bytes of a parameter page and the text of a timing sheet describe: the lengths of its phases, in
 /// ns, what it may group, and its geometry.
 ///
 /// Answers 0; else the number of a [`Status`], with the row of the sheet, counted from 1, or the number of the parameter

@@ -7,7 +7,7 @@ const MINOR: u32 = 0;
 
 const PATCH: u32 = 0;
 
-/// The version of the library, as the header tells its own by `ONFI_VERSION_NUMBER`: 10,000 times the first number, 100
+/// The version of the library, as the header gives its own by `ONFI_VERSION_NUMBER`: 10,000 times the first number, 100
 /// times the second and the third.
 #[unsafe(no_mangle)]
 pub extern "C" fn onfi_version() -> u32

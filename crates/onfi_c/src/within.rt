@@ -32,7 +32,7 @@ const EQUAL: Weights = Weights {
     running: [[1; 4]; 8],
 };
 
-/// The best plan within a limit of nodes, made better where a slack is named, in thousandths; as it is told.
+/// The best plan within a limit of nodes, made better where a slack is named, in thousandths; as it is given.
 pub fn tell(
     alloc: Global,
     problem: &Problem,
@@ -120,7 +120,7 @@ fn judge(alloc: Global, stand: &Stand, below: u64, certificate: &[u8]) -> Result
 }
 
 /// Checks by the text of a certificate that remembers states that no legal schedule of a channel's wants ends before
-/// `below`, in ns, and that this one is legal and doesn't either; tells when it ends, in ns. It is optimal where it ends
+/// `below`, in ns, and that this one is legal and doesn't either; says when it ends, in ns. It is optimal where it ends
 /// then.
 ///
 /// Answers what [`onfi_check_known`](crate::recalling::onfi_check_known) does, and the number of `EndsBefore` where the

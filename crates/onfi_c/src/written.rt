@@ -36,7 +36,7 @@ pub fn plain_wants(wants: &[Want]) -> ArrayVec<PlainWant, 8>
     all
 }
 
-/// Starts, and 0 in the places behind them.
+/// Starts, and 0 in the places past them.
 fn filled(starts: &[u64]) -> [u64; 8]
     requires { length starts.now ≤ 8 }
     ensures { result ≡ spec.filled 8 0 starts.now }
@@ -46,7 +46,7 @@ fn filled(starts: &[u64]) -> [u64; 8]
     all
 }
 
-/// The numbers of a group's members, and 0 in the places behind them.
+/// The numbers of a group's members, and 0 in the places past them.
 fn numbers(wants: &[Want]) -> [u64; 4]
     requires { length wants.now ≤ 4 }
     ensures { result ≡ spec.filled 4 0 (map (λ w. w.id) wants.now) }
@@ -82,19 +82,19 @@ fn group(placed: &Placed) -> PlainGroup
 }
 
 /// What stands where a LUN has nothing left.
-const NO_REST: PlainRest = PlainRest {
+pub const NO_REST: PlainRest = PlainRest {
     starts: 0,
     start: [0; 8],
 };
 
 /// What stands where there is no group.
-const NO_GROUP: PlainGroup = PlainGroup {
+pub const NO_GROUP: PlainGroup = PlainGroup {
     members: 0,
     want: [0; 4],
     start: [0; 8],
 };
 
-/// What is left of running groups, and nothing in the places behind them.
+/// What is left of running groups, and nothing in the places past them.
 fn rests(of: &[Starts]) -> [PlainRest; 8]
     requires { length of.now ≤ 8 }
     ensures { result ≡ spec.filled 8 spec.no_rest (map spec.written_rest of.now) }
@@ -106,7 +106,7 @@ fn rests(of: &[Starts]) -> [PlainRest; 8]
     all
 }
 
-/// New groups, and none in the places behind them.
+/// New groups, and none in the places past them.
 fn groups(of: &[Placed]) -> [PlainGroup; 8]
     requires { length of.now ≤ 8 }
     ensures { result ≡ spec.filled 8 spec.no_group (map spec.written_group of.now) }

@@ -12,6 +12,6 @@ module _ {T : Type 0} (spelling : T → List ℕ) where
   fronted_joined t [] = ap (λ x. 32 ∷ x) (append-nil (spelling t))
   fronted_joined t (u ∷ ts) = ap (λ x. 32 ∷ (spelling t ++ x)) (fronted_joined u ts)
 
-  -- joined tokens with this behind them
+  -- joined tokens with this after them
   pub fronted_line : (t : T) (ts : List T) (tail : List ℕ) → fronted_of spelling (t ∷ ts) ++ tail ≡ 32 ∷ (joined_of spelling (t ∷ ts) ++ tail)
   fronted_line t ts tail = ap (λ x. x ++ tail) (fronted_joined t ts)

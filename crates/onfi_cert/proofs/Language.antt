@@ -1,4 +1,4 @@
--- Kinds of tokens whose spellings can be told apart.
+-- Kinds of tokens whose spellings can be distinguished.
 use Rattle.std.proofs.Common.{◌≡◌, ℕ, List, [], ◌∷◌, ◌++◌, get_or, refl, sym, ap, ◌∙◌, subst}
 use Rattle.std.specs.Prelude.{IfSome, Option, Some, None, ◌≢◌, false}
 use Rattle.std.proofs.lemmas.Bool.{false≢true}

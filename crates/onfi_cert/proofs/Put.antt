@@ -5,7 +5,7 @@ use Rattle.std.proofs.lemmas.List.{take_more, length-take-le}
 use Rattle.std.proofs.lemmas.List.Elements.{All-nil, All-cons, All-append}
 use Rattle.onfi_cert.specs.Text.{joined_of}
 
--- these tokens, each with what is kept of it, were put behind what stood there
+-- these tokens, each with what is kept of it, were put after what stood there
 pub record Put {T : Type 0} (spelling : T → List ℕ) (Kept : T → Type 0) (before out : List ℕ) (tokens : List T) : Type 0 where
   pub kept : All Kept tokens
   pub spelled : out ≡ before ++ joined_of spelling tokens
@@ -16,7 +16,7 @@ joined_more spelling t [] u = refl
 joined_more spelling t (v ∷ ts) u =
     ap (λ x. spelling t ++ 32 ∷ x) (joined_more spelling v ts u) ∙ sym (append_assoc (spelling t) (32 ∷ joined_of spelling (v ∷ ts)) (32 ∷ spelling u))
 
--- one more token, behind a space if it is not the first
+-- one more token, after a space if it is not the first
 put_one : {T : Type 0} (spelling : T → List ℕ) (Kept : T → Type 0) (before out spaced : List ℕ) (ts : List T) (u : T) → Put spelling Kept before out ts → Kept u
     → ((0 < length ts) × (spaced ≡ out ++ 32 ∷ [])) ⊎ ((length ts ≡ 0) × (spaced ≡ out)) → Put spelling Kept before (spaced ++ spelling u) (ts ++ u ∷ [])
 put_one spelling Kept before out spaced [] u p h (inl s) = absurd (omega (arith, s.0))

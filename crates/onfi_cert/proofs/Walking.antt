@@ -36,23 +36,23 @@ module _ {T : Type 0} (token_of : List ℕ → Option T) (most : ℕ) where
       → ahead_of token_of most place text ≡ line → (Ok (Some t) ≡ next_of line) × (ahead_of token_of most (place + 1) rest ≡ later line)
   gives_token place text {rest} h e same = let is = ahead_is place text h e same in (sym (ap next_of is), later_is place rest ∙ sym (ap later is))
 
-  -- the end is told
+  -- the end is reported
   pub gives_end : (place : ℕ) (text : List ℕ) {line : Line T} → place ≤ most → Ok None ≡ step token_of most place (from place text)
       → ahead_of token_of most place text ≡ line → (Ok None ≡ next_of line) × (line ≡ later line)
   gives_end place text h e same = let is = ahead_is place text h e same in (sym (ap next_of is), is ∙ sym (ap later is))
 
-  -- a fault is told
+  -- a fault is reported
   pub gives_fault : (place : ℕ) (text : List ℕ) {fault : LineFault} {line : Line T} → place ≤ most → Err fault ≡ step token_of most place (from place text)
       → ahead_of token_of most place text ≡ line → (Err fault ≡ next_of line) × (line ≡ later line)
   gives_fault place text h e same = let is = ahead_is place text h e same in (sym (ap next_of is), is ∙ sym (ap later is))
 
--- what is wrong behind n tokens
+-- what is wrong after n tokens
 pub data Wrong {T : Type 0} (Kept : T → Type 0) (spelling : T → List ℕ) (most n : ℕ) (tail : List ℕ) : Type 0 where
   cut : tail ≡ [] → Wrong Kept spelling most n tail
   on : (b : ℕ) (more : List ℕ) → tail ≡ 10 ∷ b ∷ more → Wrong Kept spelling most n tail
   bad : (more : List ℕ) → tail ≡ 32 ∷ more → NoToken Kept spelling (word more) → n < most → Wrong Kept spelling most n tail
 
--- how a line stops behind n tokens
+-- how a line stops after n tokens
 abbrev pub Stops : {T : Type 0} → (T → Type 0) → (T → List ℕ) → ℕ → ℕ → Option LineFault → List ℕ → Type 0
 Stops Kept spelling most n None tail = tail ≡ 10 ∷ []
 Stops Kept spelling most n (Some (fault.BadToken place)) tail = (place ≡ n) × Wrong Kept spelling most n tail

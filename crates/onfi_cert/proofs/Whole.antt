@@ -1,4 +1,4 @@
--- A whole text: its header, and the line behind it.
+-- A whole text: its header, and the line after it.
 use Rattle.std.proofs.Common.{◌≡◌, ◌⊎◌, ◌≤◌, inl, inr, ℕ, ◌+◌, ◌-◌, List, [], ◌∷◌, ◌++◌, Bool, true, false, cond, length, drop, get_or, refl, sym, ap, ◌∙◌, subst, arith, append_assoc, append-nil, ap₂}
 use Rattle.std.specs.Prelude.{Option, Some, None, Result, Ok, Err, All, ◌≢◌, IfOk, IfErr, MatchResult, option_map}
 use Rattle.std.proofs.lemmas.Bool.{cases_eq, ne_eqb, eq-eqb}
@@ -94,7 +94,7 @@ module _ {T : Type 0} {Kept : T → Type 0} {spelling : T → List ℕ} {token_o
   unfolding ahead_of
   all_ahead bytes = let room : most + 1 - 0 ≡ most + 1 = omega arith in ap (λ n. walk token_of most n 0 (led bytes)) room
 
-  -- what stands behind a header is what the text holds
+  -- what follows a header is what the text holds
   pub start_holds : (head : Bool → List ℕ) (strict : Bool) (text bytes : List ℕ) → text ≡ head strict ++ bytes
       → HoldsLine head Kept spelling most text strict (ahead_of token_of most 0 bytes)
   start_holds head strict text bytes e =

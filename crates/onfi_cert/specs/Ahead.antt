@@ -24,16 +24,16 @@ abbrev pub IsUpTo : ℕ → LineFault → Type 0
 IsUpTo place (fault.BadToken told) = told ≤ place
 IsUpTo place fault.TooLong = ⊤
 
--- the word behind `place` tokens is this token
+-- the word after `place` tokens is this token
 abbrev pub found : {T : Type 0} → ℕ → Option T → List ℕ → Result (Option (T × List ℕ)) LineFault
 found place None rest = Err (fault.BadToken place)
 found place (Some t) rest = Ok (Some (t, rest))
 
--- a token behind `place` tokens, and what stands behind it
+-- a token after `place` tokens, and what follows it
 abbrev pub token_in : {T : Type 0} → (List ℕ → Option T) → ℕ → List ℕ → Result (Option (T × List ℕ)) LineFault
 token_in token_of place text = found place (token_of (word text)) (behind_word text)
 
--- the next of the tokens that stand behind `place` tokens, each with a space in front, and what stands behind it
+-- the next of the tokens that stand after `place` tokens, each with a space in front, and what follows it
 abbrev pub step : {T : Type 0} → (List ℕ → Option T) → ℕ → ℕ → List ℕ → Result (Option (T × List ℕ)) LineFault
 step token_of most place [] = Err (fault.BadToken place)
 step token_of most place (b ∷ []) =
@@ -44,17 +44,17 @@ step token_of most place (b ∷ c ∷ rest) =
     if b == 32 then (if nat_lt place most then token_in token_of place (c ∷ rest) else Err fault.TooLong)
     else Err (fault.BadToken place)
 
--- the bytes that stand behind `place` tokens, with a space in front of each token
+-- the bytes that stand after `place` tokens, with a space in front of each token
 abbrev pub from : ℕ → List ℕ → List ℕ
 from place text = if place == 0 then led text else text
 
--- one step, and the walk behind it
+-- one step, and the walk after it
 abbrev pub walked : {T : Type 0} → Result (Option (T × List ℕ)) LineFault → (List ℕ → Line T) → Line T
 walked (Err e) next = record { tokens = []; fault = Some e }
 walked (Ok None) next = record { tokens = []; fault = None }
 walked (Ok (Some p)) next = record { tokens = p.0 ∷ (next p.1).tokens; fault = (next p.1).fault }
 
--- the tokens behind `place` tokens and how they end, where fewer than `room` more are read
+-- the tokens after `place` tokens and how they end, where fewer than `room` more are read
 unfoldable pub walk : {T : Type 0} → (List ℕ → Option T) → ℕ → ℕ → ℕ → List ℕ → Line T
 walk token_of most zero place text = record { tokens = []; fault = None }
 walk token_of most (suc room) place text = walked (step token_of most place text) (walk token_of most room (place + 1))

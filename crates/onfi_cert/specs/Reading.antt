@@ -1,4 +1,4 @@
--- What a text holds behind its header: tokens of a kind, or what is wrong with them.
+-- What a text holds after its header: tokens of a kind, or what is wrong with them.
 use Rattle.std.specs.Prelude.{ℕ, ◌==◌, ◌≡◌, ◌≢◌, ◌<◌, ◌≤◌, ◌⊎◌, List, [], ◌∷◌, ◌++◌, Bool, Option, Some, None, Result, Ok, Err, All, length, option_map, if◌then◌else◌}
 use Rattle.onfi_cert.specs.declared.token.Token.{Token}
 use Rattle.onfi_cert.specs.declared.fault.CertTextFault.{CertTextFault}
@@ -15,17 +15,17 @@ led [] = 32 ∷ []
 led (b ∷ []) = if b == 10 then b ∷ [] else 32 ∷ b ∷ []
 led (b ∷ c ∷ rest) = 32 ∷ b ∷ c ∷ rest
 
--- how the bytes behind a header go wrong after these good tokens, where there may be so many
+-- how the bytes after a header go wrong after these good tokens, where there may be so many
 pub data IsWrongAfter {T : Type 0} (Kept : T → Type 0) (spelling : T → List ℕ) (most : ℕ) (good : List T) (bytes : List ℕ) : Type 0 where
   -- the next word is no token
   no_token : (rest : List ℕ) → led bytes ≡ fronted_of spelling good ++ 32 ∷ rest → NoToken Kept spelling (word rest) → length good < most
       → IsWrongAfter Kept spelling most good bytes
   -- they end without LF
   no_end : led bytes ≡ fronted_of spelling good → IsWrongAfter Kept spelling most good bytes
-  -- they go on behind LF
+  -- they go on after LF
   goes_on : (b : ℕ) (more : List ℕ) → led bytes ≡ fronted_of spelling good ++ 10 ∷ b ∷ more → IsWrongAfter Kept spelling most good bytes
 
--- how the bytes behind a header end after these good tokens: well, or by a fault
+-- how the bytes after a header end after these good tokens: well, or by a fault
 abbrev pub EndsBy : {T : Type 0} → (T → Type 0) → (T → List ℕ) → ℕ → List T → List ℕ → Option LineFault → Type 0
 EndsBy Kept spelling most good bytes None = bytes ≡ line_of spelling good
 EndsBy Kept spelling most good bytes (Some (in_line.BadToken place)) = (place ≡ length good) × IsWrongAfter Kept spelling most good bytes

@@ -41,7 +41,7 @@ joined_of spelling tokens = join_with_byte 32 (map spelling tokens)
 abbrev pub fronted_of : {T : Type 0} → (T → List ℕ) → List T → List ℕ
 fronted_of spelling tokens = flat_map (λ t. 32 ∷ spelling t) tokens
 
--- .. joined, and LF behind them
+-- .. joined, and LF after them
 abbrev pub line_of : {T : Type 0} → (T → List ℕ) → List T → List ℕ
 line_of spelling tokens = joined_of spelling tokens ++ 10 ∷ []
 

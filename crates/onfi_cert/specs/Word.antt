@@ -13,7 +13,7 @@ is_separator b = b == 32 || b == 10
 abbrev pub word : List ℕ → List ℕ
 word text = before_first is_separator text
 
--- what stands behind that word
+-- what follows that word
 abbrev pub behind_word : List ℕ → List ℕ
 behind_word text = drop (position_or_len is_separator text) text
 

@@ -14,7 +14,7 @@ pub(crate) fn header(strict: bool) -> &'static [u8]
     }
 }
 
-/// The option of the header line, and what stands behind it.
+/// The option of the header line, and what follows it.
 pub(crate) fn header_of(text: &[u8]) -> Option<(bool, &[u8])>
     ensures some { IfSome result (λ p. text.now ≡ header p.0 ++ p.1.now) }
     ensures none { IfNone result (NoHeader text.now) }
@@ -22,7 +22,7 @@ pub(crate) fn header_of(text: &[u8]) -> Option<(bool, &[u8])>
     option_of(b"ONFICERT 1\n", b"ONFICERT 2 strict\n", text)
 }
 
-// What stands behind this header.
+// What follows this header.
 fn behind<'a>(header: &[u8], text: &'a [u8]) -> Option<&'a [u8]>
     ensures { MatchOption result ((rest : List ℕ) → text.now ≢ header.now ++ rest)
         (λ rest. text.now ≡ header.now ++ rest.now) }
@@ -30,7 +30,7 @@ fn behind<'a>(header: &[u8], text: &'a [u8]) -> Option<&'a [u8]>
     text.strip_prefix(header)
 }
 
-/// Of two header lines, one for each option, which one a text begins with, and what stands behind it.
+/// Of two header lines, one for each option, which one a text begins with, and what follows it.
 pub fn option_of<'a>(plain: &[u8], strict: &[u8], text: &'a [u8]) -> Option<(bool, &'a [u8])>
     ensures some { IfSome result (λ p. text.now ≡ (if p.0 then strict.now else plain.now) ++ p.1.now) }
     ensures none { IfNone result (BeginsWithNeither (λ option. if option then strict.now else plain.now) text.now) }

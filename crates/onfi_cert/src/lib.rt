@@ -2,7 +2,7 @@
 //!
 //! A certificate is a tree of claims about a schedule, written in preorder as a list of [`Token`]s. This crate
 //! alone gives its one spelling: [`write`] spells a list of tokens, [`read`] takes exactly the texts that `write`
-//! makes and tells of every other text what is wrong and at which token, [`Tokens`] reads a text token by token
+//! makes and says of every other text what is wrong and at which token, [`Tokens`] reads a text token by token
 //! without memory, and [`TokenSource`] lets a checker walk over a list and over a text alike. [`LineTokens`] and
 //! [`text_behind`] do so for tokens of any kind that is [`Spelled`].
 //!

@@ -8,13 +8,13 @@ use crate::spelled::Spelled;
 use crate::step::step;
 use std::marker::{Model, PhantomData};
 
-/// A reader that gives the tokens behind a header one by one, without memory.
+/// A reader that gives the tokens after a header one by one, without memory.
 ///
-/// Contracts see what is still ahead: the good tokens, and the end or the fault behind them.
+/// Contracts see what is still ahead: the good tokens, and the end or the fault after them.
 #[derive(Drop)]
 pub struct LineTokens<'a, T: Spelled> {
     place: usize,
-    /// What stands behind the tokens that were given: the space in front of the next one, or LF.
+    /// What follows the tokens that were given: the space in front of the next one, or LF.
     rest: &'a [u8],
     kind: PhantomData<T>,
 }
@@ -67,7 +67,7 @@ impl<'a, T: Spelled> LineTokens<'a, T> {
     /// Reads on to the end of the line.
     ///
     /// # Errors
-    /// The fault behind the tokens that are left.
+    /// The fault after the tokens that are left.
     pub fn finish(&mut self) -> Result<(), LineFault>
         ensures ok { OnOk result (self.old.fault ≡ None) }
         ensures err { IfErr result (λ e. self.old.fault ≡ Some e) }
@@ -90,7 +90,7 @@ impl<'a, T: Spelled> TokenSource for LineTokens<'a, T> {
 
     ghost behind = { λ t. t.fault };
 
-    /// The next good token; None at the end of the line and at its fault, which `finish` tells.
+    /// The next good token; None at the end of the line and at its fault, which `finish` reports.
     fn next(&mut self) -> Option<T> {
         LineTokens::next(self).unwrap_or(None)
     }

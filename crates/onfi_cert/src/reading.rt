@@ -28,8 +28,8 @@ fn taken(alloc: Global, text: &[u8]) -> Result<(bool, Vec<Token>), CertTextFault
 ///
 /// # Errors
 /// `Header` where the text begins with neither header line; `BadToken` with the place, counted from 0, at which no
-/// token stands, or with the number of good tokens where the text does not end behind them with one LF; `TooLong` where
-/// a space stands behind the 100,000,000th good token; `Memory` where a growth was refused.
+/// token stands, or with the number of good tokens where the text does not end after them with one LF; `TooLong` where
+/// a space follows the 100,000,000th good token; `Memory` where a growth was refused.
 pub fn read(alloc: Global, text: &[u8]) -> Result<(bool, Vec<Token>), CertTextFault>
     ensures tokens { IfOk result (λ r. IsCertificate text.now r.0 r.1.items) }
     ensures fault { IfErr result (λ e. (e ≡ CertTextFault.Memory) ⊎ IsFaultOf text.now e) }

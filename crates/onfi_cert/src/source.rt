@@ -3,7 +3,7 @@
 /// A list of tokens that is given from the front on, whatever holds it.
 ///
 /// A checker that walks over a `TokenSource` reads a list by [`crate::TokenList`] and a text by [`crate::Tokens`], with
-/// one body and one proof. Contracts see the tokens that are left, and what stands behind them: the fault of a text,
+/// one body and one proof. Contracts see the tokens that are left, and what follows them: the fault of a text,
 /// its bytes, or nothing.
 pub trait TokenSource {
     ghost use Rattle.std.specs.Prelude.{◌≡◌, List, [], ◌∷◌, IfSome, IfNone};

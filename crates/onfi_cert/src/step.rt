@@ -8,7 +8,7 @@ use crate::fault::LineFault;
 use crate::spelled::Spelled;
 use crate::word::cut_word;
 
-/// The token behind `place` others, behind the space in front of it, and what stands behind it.
+/// The token after `place` others, after the space in front of it, and what follows it.
 // Inlined, so that the rest of the text stays in registers: a text is read twice as fast.
 #[inline(always)]
 fn token_in<T: Spelled>(place: usize, text: &[u8]) -> Result<Option<(T, &[u8])>, LineFault>
@@ -38,7 +38,7 @@ fn first<T: Spelled>(line: &[u8]) -> Result<Option<(T, &[u8])>, LineFault>
     token_in(0, line)
 }
 
-/// The token behind `place` others, where the line goes on with the space between them.
+/// The token after `place` others, where the line goes on with the space between them.
 fn following<T: Spelled>(place: usize, rest: &[u8]) -> Result<Option<(T, &[u8])>, LineFault>
     ensures exact { result_map_both (option_map (λ p. (p.0, p.1.now))) (λ e. e) result ≡ step T.token_of T.MOST place rest.now }
     ensures room { IfOk result (λ found. IsSome found → place < T.MOST) }
@@ -51,7 +51,7 @@ fn following<T: Spelled>(place: usize, rest: &[u8]) -> Result<Option<(T, &[u8])>
     }
 }
 
-/// The token behind `place` others and what stands behind it, or None at the end of the line.
+/// The token after `place` others and what follows it, or None at the end of the line.
 pub(crate) fn step<T: Spelled>(place: usize, rest: &[u8]) -> Result<Option<(T, &[u8])>, LineFault>
     ensures exact { result_map_both (option_map (λ p. (p.0, p.1.now))) (λ e. e) result ≡ step T.token_of T.MOST place (from place rest.now) }
     ensures room { IfOk result (λ found. IsSome found → place < T.MOST) }

@@ -16,11 +16,11 @@ use crate::token::Token;
 pub struct Tokens<'a> {
     /// The option of the header.
     pub strict: bool,
-    /// What is ahead: the good tokens, and the end or the fault behind them.
+    /// What is ahead: the good tokens, and the end or the fault after them.
     pub line: LineTokens<'a, Token>,
 }
 
-// The fault of a text, from that of the line behind its header.
+// The fault of a text, from that of the line after its header.
 fn cert_fault(fault: LineFault) -> CertTextFault
     requires { IsUpTo MOST_TOKENS fault }
     ensures { result ≡ cert_fault fault }
@@ -35,7 +35,7 @@ impl<'a> Tokens<'a> {
     /// A reader that stands before the first token of the text.
     ///
     /// # Errors
-    /// `Header` exactly where the text begins with neither header line. Faults behind the header are told by `next`.
+    /// `Header` exactly where the text begins with neither header line. Faults after the header are reported by `next`.
     pub fn new(text: &'a [u8]) -> Result<Tokens<'a>, CertTextFault>
         ensures ok { IfOk result (λ tokens. Holds text.now tokens.strict tokens.line) }
         ensures err { IfErr result (λ e. (e ≡ CertTextFault.Header) × NoHeader text.now) }
@@ -59,7 +59,7 @@ impl<'a> Tokens<'a> {
     /// The next token, or None where the text ends well.
     ///
     /// # Errors
-    /// What `read` answers of this text, behind the tokens in front of the fault: `BadToken` with the number of these
+    /// What `read` answers of this text, after the tokens in front of the fault: `BadToken` with the number of these
     /// tokens, or `TooLong`. At its end and at a fault the reader stays where it is.
     pub fn next(&mut self) -> Result<Option<Token>, CertTextFault>
         ensures given { result ≡ result_map_both (λ token. token) cert_fault (next_of self.old.line) }
@@ -75,7 +75,7 @@ impl<'a> Tokens<'a> {
     /// Reads on to the end of the text.
     ///
     /// # Errors
-    /// The fault of the text behind the tokens that are left: `BadToken` or `TooLong`.
+    /// The fault of the text after the tokens that are left: `BadToken` or `TooLong`.
     pub fn finish(&mut self) -> Result<(), CertTextFault>
         ensures ok { OnOk result (self.old.line.fault ≡ None) }
         ensures err { IfErr result (λ e. option_map cert_fault self.old.line.fault ≡ Some e) }
@@ -99,7 +99,7 @@ impl<'a> TokenSource for Tokens<'a> {
 
     ghost behind = { λ t. t.line.fault };
 
-    /// The next good token; None at the end of the text and at its fault, which `finish` tells.
+    /// The next good token; None at the end of the text and at its fault, which `finish` reports.
     fn next(&mut self) -> Option<Token> {
         TokenSource::next(&mut self.line)
     }

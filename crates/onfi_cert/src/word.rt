@@ -87,7 +87,7 @@ fn word_len(text: &[u8]) -> usize
     text.len()
 }
 
-/// The bytes up to the next space or LF, and what stands behind them.
+/// The bytes up to the next space or LF, and what follows them.
 pub fn cut_word(text: &[u8]) -> (&[u8], &[u8])
     ensures word { result.0.now ≡ word text.now }
     ensures behind { result.1.now ≡ behind_word text.now }

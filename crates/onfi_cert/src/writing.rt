@@ -75,7 +75,7 @@ fn put_line<T: Spelled>(out: &mut Vec<u8>, tokens: &[T]) -> Result<(), AllocErro
     Ok(())
 }
 
-/// A header line, and behind it the tokens with a space between each two and LF at their end.
+/// A header line, and after it the tokens with a space between each two and LF at their end.
 ///
 /// # Errors
 /// Only where memory was refused.

@@ -20,7 +20,7 @@ use std::process::Abort;
 /// An operation: its kind, LUN, block and page, and the byte that a program fills its page with.
 type Op = (Kind, u8, u16, u16, u8);
 
-/// What a reply tells; `All` where each byte of a page is that one.
+/// What a reply says; `All` where each byte of a page is that one.
 #[derive(Clone, Copy, Debug, PartialEq, Eq)]
 enum Told {
     Done,

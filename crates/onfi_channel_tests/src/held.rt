@@ -20,7 +20,7 @@ use std::sync::atomic::{AtomicBool, Ordering};
 use std::thread;
 use std::thread::Threads;
 
-// Plans as the plain search does, and tells no more than that nothing ends before 0.
+// Plans as the plain search does, and says no more than that nothing ends before 0.
 #[derive(Clone, Copy)]
 struct Modest;
 
@@ -70,7 +70,7 @@ const PLACE: Place = Place {
     page: 0,
 };
 
-// What the threads of two channels and of a host tell each other: whether channel 0 may begin, whether its gate gave up
+// What the threads of two channels and of a host show each other: whether channel 0 may begin, whether its gate gave up
 // before, and whether the host has ended.
 #[derive(Drop)]
 struct Signals {

@@ -1,7 +1,11 @@
-//! Tests of what no program of the gate calls: batches on a chip, choices of requests, a planner of one's own, a channel that is
-//! held, when a sequencer plans anew, and the plans of a core and of a sequencer that name no planner. Cores and sequencers are tried by rows, in `tests/calls`.
+//! Tests of parameter pages, requests and chips on the sample device, and of what channels and sequencers do, by public calls alone: of
+//! what no program of the gate calls.
+//!
+//! What a page, a sheet or a run of the built program shows is a case, and what a chip or a core does an event of `tests/calls`.
 #![tactic(auto)]
 
+#[cfg(test)]
+mod addr;
 #[cfg(test)]
 mod batch;
 #[cfg(test)]
@@ -13,4 +17,18 @@ mod lazy;
 #[cfg(test)]
 mod opened;
 #[cfg(test)]
+mod page;
+#[cfg(test)]
+mod param;
+#[cfg(test)]
 mod plain;
+#[cfg(test)]
+mod request;
+#[cfg(test)]
+mod texts;
+#[cfg(test)]
+mod three_calls;
+#[cfg(test)]
+mod timing;
+#[cfg(test)]
+mod whole;

@@ -7,7 +7,7 @@ use Rattle.onfi_check.specs.declared.fault.TextFault.{TextFault}
 use Rattle.onfi_check.specs.declared.fault.TextFault.TheVariants.{Text, Option as OtherOption, Cert}
 use Rattle.onfi_check.specs.Faults.{ByCause, IsTextFaultBy, OrTrailing}
 
--- a fault that tells of no token behind the tree says the rest
+-- a fault that names no token after the tree says the rest
 pub none_trails : {said : Type 0} (Trails : ℕ → Type 0) (f : CertFault) → ((place : ℕ) → f ≡ Trailing place → ⊥) → said → OrTrailing Trails said f
 none_trails Trails Illegal none h = h
 none_trails Trails Short none h = h

@@ -1,4 +1,4 @@
--- Whether the moves of a LUN fit before a time, told by when they end.
+-- Whether the moves of a LUN fit before a time, given by when they end.
 use Rattle.std.proofs.Common.{◌≡◌, ℕ, ◌≤◌, ◌↔◌, IsTrue, List, Some, None, arith}
 use Rattle.std.specs.Prelude.{nat_le}
 use Rattle.std.specs.List.{AllByRecursion as All}

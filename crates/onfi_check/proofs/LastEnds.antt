@@ -46,7 +46,7 @@ own_more p ms m lun (Some e) q h =
           subst (λ z. IsLastEnd p (ms ++ m ∷ []) lun (Some z)) s whole)
     ]
 
--- behind one more item, for its own LUN
+-- after one more item, for its own LUN
 pub end_own : (p : Problem) (groups : List (List Want)) (items : List KeptMove) (i lun end : ℕ) (d : KeptMove) (o : Option ℕ) → i < length items → move_lun (move_of groups (get_or items i d)) ≡ lun → end ≡ (after p (move_of groups (get_or items i d))).bus_free → IsLastEnd p (moves_of groups (take i items)) lun o → IsLastEnd p (moves_of groups (take (i + 1) items)) lun (later_of o end)
 end_own p groups items i lun end d o h q e inv = rw (one_more groups items i d h, e) (own_more p (moves_of groups (take i items)) (move_of groups (get_or items i d)) lun o q inv)
 

@@ -1,4 +1,4 @@
--- Where the tokens stand of which a fault tells.
+-- Where the tokens stand that a fault names.
 use Rattle.std.proofs.Common.{◌≡◌, ◌≢◌, ℕ, ◌+◌, ◌<◌, ◌⊎◌, inl, inr, List, [], ◌∷◌, ◌++◌, length, refl, sym, ap, ◌∙◌, subst, arith, append_assoc, length-append}
 use Rattle.std.specs.Prelude.{Result, Ok, Err, OnOk, IfErr}
 use Rattle.onfi_problem.specs.Problem.{Problem}
@@ -21,7 +21,7 @@ read_none first tokens = record { taken = []; tokens_are = refl; next_is = omega
 pub read_one : {T : Type 0} (first next : ℕ) (tokens left : List T) (token : T) → tokens ≡ token ∷ left → next ≡ first + 1 → ReadOn first next tokens left
 read_one first next tokens left token t n = record { taken = token ∷ []; tokens_are = t; next_is = n }
 
--- .. and some behind these
+-- .. and some after these
 pub read_more : {T : Type 0} (first next last : ℕ) (tokens left rest : List T) → ReadOn first next tokens left → ReadOn next last left rest → ReadOn first last tokens rest
 read_more first next last tokens left rest a b =
     let long = length-append a.taken b.taken in
@@ -76,7 +76,7 @@ at_behind first next place tokens left Such r a =
       such = a.such;
     }
 
--- what fits the tokens behind some fits the whole
+-- what fits the tokens after some fits the whole
 module _ {T : Type 0} (Branches Bounds Unfit Loops Ends : T → Type 0) (memory : Type 0) where
   pub kind_behind : (first next : ℕ) (tokens left rest : List T) (f : CertFault) → ReadOn first next tokens left → FitsKind Branches Bounds Unfit Loops Ends memory next left rest f → FitsKind Branches Bounds Unfit Loops Ends memory first tokens rest f
   kind_behind first next tokens left rest Illegal r h = h
@@ -89,7 +89,7 @@ module _ {T : Type 0} (Branches Bounds Unfit Loops Ends : T → Type 0) (memory 
   kind_behind first next tokens left rest (NotEnd place) r h = at_behind first next place tokens left _ r h
   kind_behind first next tokens left rest Memory r h = h
 
-  -- why a yield isn't taken, told at its place
+  -- why a yield isn't taken, reported at its place
   pub yield_fits : (round : Type 0) (place told : ℕ) (token : T) (behind left : List T) (f : CertFault) → told ≡ place → Unfit token → Loops token → IsYieldFaultBy round told f → FitsKind Branches Bounds Unfit Loops Ends memory place (token ∷ behind) left f
   yield_fits round place told token behind left Illegal n u l h = h
   yield_fits round place told token behind left Short n u l h = absurd h

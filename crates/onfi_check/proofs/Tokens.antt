@@ -1,4 +1,4 @@
--- The tokens of one tree, with nothing behind them.
+-- The tokens of one tree, with nothing after them.
 use Rattle.std.proofs.Common.{◌≡◌, ℕ, List, [], ◌∷◌, sym, ◌∙◌, subst, append-nil}
 use Rattle.onfi_problem.specs.Problem.{Problem}
 use Rattle.onfi_cert.specs.declared.token.Token.{Token}

@@ -1,4 +1,4 @@
--- How the token, the child or the tree that was read tells of the whole.
+-- How the token, the child or the tree that was read bears on the whole.
 use Rattle.std.proofs.Common.{◌≡◌, ℕ, ◌+◌, ◌≤◌, ◌<◌, ◌↔◌, Bool, true, false, List, [], ◌∷◌, length, drop, get_or, refl, sym, ap, ◌∙◌, subst, arith}
 use Rattle.std.specs.Prelude.{Result, Ok, Err, OnOk, IfErr, slice_set}
 use Rattle.std.specs.List.{AllByRecursion as All}
@@ -66,7 +66,7 @@ fewer_left tokens left next token (Ok x) s h = let q = ap length s in omega arit
 pub begun : (x : Position) (e : ℕ) (items : List KeptMove) (tokens rest : List Token) → All (IsNamed x.groups) items → BeginsRest x.problem e (moves_of x.groups items) (moves_of x.groups items) (false ∷ false ∷ false ∷ false ∷ false ∷ false ∷ false ∷ false ∷ []) (false ∷ false ∷ false ∷ false ∷ false ∷ false ∷ false ∷ false ∷ []) tokens rest ↔ BeginsEach x.problem e (moves_of x.groups items) tokens rest
 begun x e items tokens rest named = rest_each x.problem e 8 (moves_of x.groups items) _ _ tokens rest (small_named x.groups items named) refl refl none_marked none_marked
 
--- behind one more child
+-- after one more child
 pub one_more_child : (x : Position) (e : ℕ) (items : List KeptMove) (i : ℕ) (d : KeptMove) (before behind : Standing) (tokens left begun rest : List Token) → i < length items → ReadsChild x.problem e (moves_of x.groups items) (move_of x.groups (get_or items i d)) before behind tokens left → BeginsRest x.problem e (moves_of x.groups (drop i items)) (moves_of x.groups items) before.awaited before.leaving tokens rest ↔ BeginsEach x.problem e (moves_of x.groups items) begun rest → BeginsRest x.problem e (moves_of x.groups (drop (i + 1) items)) (moves_of x.groups items) behind.awaited behind.leaving left rest ↔ BeginsEach x.problem e (moves_of x.groups items) begun rest
 one_more_child x e items i d before behind tokens left begun rest lt reads same =
     let all = moves_of x.groups items in
@@ -81,7 +81,7 @@ refused_child x e items i d before tokens begun rest lt refuses same b =
     let all = moves_of x.groups items in
     refuses (moves_of x.groups (drop (i + 1) items)) rest (subst (λ z. BeginsRest x.problem e z all before.awaited before.leaving tokens rest) (drop_step x items i d lt) (same.1 b))
 
--- behind the last child
+-- after the last child
 pub all_children : (x : Position) (e : ℕ) (items : List KeptMove) (i : ℕ) (ys ls : List Bool) (left begun : List Token) → length items ≤ i → BeginsRest x.problem e (moves_of x.groups (drop i items)) (moves_of x.groups items) ys ls left left ↔ BeginsEach x.problem e (moves_of x.groups items) begun left → BeginsEach x.problem e (moves_of x.groups items) begun left
 all_children x e items i ys ls left begun le same =
     let none : moves_of x.groups (drop i items) ≡ [] = ap (moves_of x.groups) (drop_all i items le) in

@@ -66,7 +66,7 @@ IsYieldFault standing j l place fault = IsYieldFaultBy (GoesRound standing j l) 
 abbrev pub NoTree : Problem → ℕ → List Token → Type 0
 NoTree p e tokens = (tree : Tree) (rest : List Token) → Accepts tree p e → tokens ≢ preorder tree ++ rest
 
--- an accepted tree stands in front, and behind it the token at this place
+-- an accepted tree stands in front, and after it the token at this place
 pub record IsTrailing (p : Problem) (e : ℕ) (tokens : List Token) (place : ℕ) : Type 0 where
   pub tree : Tree
   pub accepted : Accepts tree p e
@@ -75,7 +75,7 @@ pub record IsTrailing (p : Problem) (e : ℕ) (tokens : List Token) (place : ℕ
   pub tokens_are : tokens ≡ preorder tree ++ token ∷ behind
   pub place_is : place ≡ length (preorder tree)
 
--- a fault says this of the place of a token behind the tree, and every other one that
+-- a fault says this of the place of a token after the tree, and every other one that
 abbrev pub OrTrailing : (ℕ → Type 0) → Type 0 → CertFault → Type 0
 OrTrailing Trails said (Trailing place) = Trails place
 OrTrailing Trails said _ = said

@@ -32,7 +32,7 @@ HasMoreNodes p n = (f : ℕ) × EndsFirstRun p f × HasNodes f p (n + 1)
 abbrev pub PartHasMore : Problem → ℕ → Type 0
 PartHasMore p n = (f : ℕ) × EndsFirstRun p f × IsOpen f p × ((m : Move) × IsMove p m × HasNodes f (after p m) (n + 1))
 
--- a split search with this limit for each part may tell n as over: a part has more nodes than the limit, or the parts
+-- a split search with this limit for each part may report n as over: a part has more nodes than the limit, or the parts
 -- have n together, which are too many
 abbrev pub IsSplitOver : Problem → ℕ → ℕ → Type 0
 IsSplitOver p limit n = ((n ≡ limit) × PartHasMore p limit) ⊎ ((1048575 < n) × HasMoreNodes p n)

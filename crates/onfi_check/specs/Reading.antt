@@ -8,7 +8,7 @@ use Rattle.onfi_problem.specs.Problem.{Problem}
 use Rattle.onfi_check.specs.declared.yields.Standing.{Standing}
 use Rattle.onfi_check.specs.Tree.{Tree, Forest, NoMore, Child, Yields, preorder, preorders, Accepts, AcceptsEach}
 
--- the tokens are those of an accepted tree, and `rest` behind them
+-- the tokens are those of an accepted tree, and `rest` after them
 abbrev pub Begins : Problem → ℕ → List Token → List Token → Type 0
 Begins p e tokens rest = (tree : Tree) × (tokens ≡ preorder tree ++ rest) × Accepts tree p e
 
@@ -44,11 +44,11 @@ Rest (Child t f) p e (m ∷ ms) all ys ls = Accepts t (after p m) e × Rest f p 
 Rest (Yields l f) p e [] all ys ls = ⊥
 Rest (Yields l f) p e (m ∷ ms) all ys ls = IsYield p all ys ls (move_lun m) l × Rest f p e ms all (slice_set ys l true) (slice_set ls (move_lun m) true)
 
--- the tokens are those of such children, and `rest` behind them
+-- the tokens are those of such children, and `rest` after them
 abbrev pub BeginsRest : Problem → ℕ → List Move → List Move → List Bool → List Bool → List Token → List Token → Type 0
 BeginsRest p e ms all ys ls tokens rest = (f : Forest) × (tokens ≡ preorders f ++ rest) × Rest f p e ms all ys ls
 
--- what is left behind the child of a node's move is accepted exactly where what stood before it is
+-- what is left after the child of a node's move is accepted exactly where what stood before it is
 abbrev pub ReadsChild : Problem → ℕ → List Move → Move → Standing → Standing → List Token → List Token → Type 0
 ReadsChild p e moves m before behind tokens left = (later : List Move) (rest : List Token) → BeginsRest p e later moves behind.awaited behind.leaving left rest ↔ BeginsRest p e (m ∷ later) moves before.awaited before.leaving tokens rest
 

@@ -88,6 +88,6 @@ abbrev mutual
   AcceptsEach (Yields lun forest) p e [] all all_moves = ⊥
   AcceptsEach (Yields lun forest) p e (m ∷ moves) all all_moves = MayYield p all_moves all m lun × AcceptsEach forest p e moves all all_moves
 
--- the tokens are those of one accepted tree, with nothing behind them
+-- the tokens are those of one accepted tree, with nothing after them
 abbrev pub AcceptsTokens : List Token → Problem → ℕ → Type 0
 AcceptsTokens tokens p e = (tree : Tree) × (preorder tree ≡ tokens) × Accepts tree p e

@@ -42,9 +42,9 @@ fn check_source<S: TokenSource<Token = Token>>(
 ///
 /// # Errors
 /// `Illegal` exactly where the schedule isn't legal. Else `Memory` where the memory for a copy of the problem was
-/// refused. Else `Trailing` with the place behind an accepted tree where one stands in front. Else `Short`, or a fault
+/// refused. Else `Trailing` with the place after an accepted tree where one stands in front. Else `Short`, or a fault
 /// of the kind of the token at its place: `Width` of a branch, `BoundLow` of a bound, `YieldLoop` or `YieldNoFit` of a
-/// yield, `NotEnd` of an end. Of several such faults the walk tells the first; no clause says which that is.
+/// yield, `NotEnd` of an end. Of several such faults the walk reports the first; no clause says which that is.
 pub fn check(
     alloc: Global,
     problem: &Problem,
@@ -61,12 +61,12 @@ pub fn check(
     check_source(alloc, problem, schedule, &mut tokens)
 }
 
-/// The same by the text of a certificate, which is read once: a fault of the text is told before all others, so behind
+/// The same by the text of a certificate, which is read once: a fault of the text is reported before all others, so after
 /// another fault the text is read on to its end. No list of tokens is built.
 ///
 /// # Errors
 /// `Text` where the text is no certificate, with its fault, never `Memory`. Else `Option` where its header names
-/// another option than the problem's rules have. Else `Cert` with what `check` tells of its tokens.
+/// another option than the problem's rules have. Else `Cert` with what `check` says of its tokens.
 pub fn check_text(
     alloc: Global,
     problem: &Problem,

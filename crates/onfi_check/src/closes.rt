@@ -25,7 +25,7 @@ pub(crate) fn closes(problem: &Problem, bounds: NodeBounds, token: &Token, e: u6
     }
 }
 
-/// Whether a bus or a trail token closes the node behind a move for the finish `e`, in ns, where `bounds` are those before the
+/// Whether a bus or a trail token closes the node after a move for the finish `e`, in ns, where `bounds` are those before the
 /// move. Most leaves are such, so the move isn't made for them.
 pub(crate) fn closes_after(
     problem: &Problem,

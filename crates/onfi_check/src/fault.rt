@@ -11,7 +11,7 @@ pub enum CertFault {
     /// The tokens end inside a tree.
     #[error("the tokens end too soon")]
     Short,
-    /// A token stands behind the tree.
+    /// A token stands after the tree.
     #[error("token {0} stands behind the tree")]
     Trailing(usize),
     /// The branch has another width than there are moves, or there is no move.
@@ -34,7 +34,7 @@ pub enum CertFault {
     Memory,
 }
 
-/// Why the text of a certificate doesn't show that no legal schedule ends sooner. `Text` is told first, then `Option`,
+/// Why the text of a certificate doesn't show that no legal schedule ends sooner. `Text` is reported first, then `Option`,
 /// then `Cert`. Certificates of another kind have other faults `F` of tokens and `T` of texts.
 #[derive(Clone, Copy, Debug, PartialEq, Eq, Error)]
 #[error_bound(F: Display + Drop, T: Display + Drop)]

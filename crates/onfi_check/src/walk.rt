@@ -19,7 +19,7 @@ use onfi_bound::NodeBounds;
 use onfi_cert::{Numbered, Token, TokenSource, Width};
 use onfi_problem::{Move, Moves, Problem};
 
-// What speaks against a token that closes no node, told at that place.
+// What speaks against a token that closes no node, reported at that place.
 fn closing_fault(token: Token, place: usize) -> CertFault
     requires { (width : ℕ) → token ≢ Token.Branch width }
     ensures { (behind left : List OneToken) → FaultFits place (token ∷ behind) left result }
@@ -52,7 +52,7 @@ fn read_closing(
     }
 }
 
-// Reads a bus or a trail token behind a move.
+// Reads a bus or a trail token after a move.
 fn read_leaf(
     problem: &Problem,
     e: u64,
@@ -208,7 +208,7 @@ fn read_child<S: TokenSource<Token = Token>>(
     }
 }
 
-// Reads the tree behind a move, whose first token was taken already.
+// Reads the tree after a move, whose first token was taken already.
 #[cycle(read)]
 fn read_below<S: TokenSource<Token = Token>>(
     problem: &mut Problem,
@@ -239,11 +239,11 @@ fn read_below<S: TokenSource<Token = Token>>(
     Ok(())
 }
 
-/// Reads the tree of a problem, with nothing behind it. On Ok the problem is as it was.
+/// Reads the tree of a problem, with nothing after it. On Ok the problem is as it was.
 ///
 /// # Errors
 /// The first fault in reading order: `Short`, `Width`, `BoundLow`, `YieldLoop`, `YieldNoFit` or `NotEnd`, else
-/// `Trailing` at the first token behind the tree. Then the problem may be one within the tree.
+/// `Trailing` at the first token after the tree. Then the problem may be one within the tree.
 pub(crate) fn read_whole<S: TokenSource<Token = Token>>(
     problem: &mut Problem,
     e: u64,

@@ -58,7 +58,7 @@ fn fits(problem: &Problem, end: Option<u64>, own: u8) -> bool
     }
 }
 
-// What speaks against a yield of a move of LUN `own` to LUN `lun`, whose moves end by `end`, told at that place.
+// What speaks against a yield of a move of LUN `own` to LUN `lun`, whose moves end by `end`, reported at that place.
 fn yield_fault(
     problem: &Problem,
     standing: &Standing,

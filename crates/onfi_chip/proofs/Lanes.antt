@@ -157,7 +157,7 @@ last_added g t s u lanes now i x z r ready closer v l e k c sh d b h =
     subst (λ (y : Sim). chip_of (view g t u (set lanes i z)) ≡ added closer (chip_of y) r ready) v
     (subst (λ (y : Closer). chip_of (view g t u (set lanes i z)) ≡ added y (chip_of (view g t s lanes)) r ready) (sym c) core)
 
--- the LUN that is found is the one that is told
+-- the LUN that is found is the one that is given
 pub lun_found :
     (g : Geometry) (t : Timing) (s : Stored) (lanes : List Lane) (now : Sim) (i j : ℕ) (x : Lane) (lun : Lun) →
     view g t s lanes ≡ now → i < length lanes → x ≡ get_or lanes i x → i ≡ j → slice_get now.luns j ≡ Some lun → lun_of x ≡ lun

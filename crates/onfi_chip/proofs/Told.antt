@@ -1,4 +1,4 @@
--- What a status byte tells of the answer.
+-- What a status byte says of the answer.
 use Rattle.std.proofs.Common.{◌≡◌, ◌≢◌, ℕ, ◌^◌, ◌⊎◌, inl, inr, sym, ◌∙◌, arith}
 use Rattle.std.specs.Prelude.{◌==◌, bit_and}
 use Rattle.std.proofs.lemmas.Bool.{cases_Bool}
@@ -13,7 +13,7 @@ is_zero n =
       | inr f ↦ inr (λ e. let e' : n ≡ 0 = e in grind (arith, nat_tests))
     ]
 
--- a status byte tells one answer
+-- a status byte gives one answer
 pub one_told : (byte : ℕ) (a b : Answer) → TellsAnswer byte a → TellsAnswer byte b → a ≡ b
 one_told byte a b ha hb =
     elim (is_zero (bit_and byte (2 ^ 0))) [

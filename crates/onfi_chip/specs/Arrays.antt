@@ -18,7 +18,7 @@ is_of lun number time = (time.lun == lun) && (time.number == number)
 abbrev pub listed : List ArrayTime → ℕ → ℕ → Option ℕ
 listed times lun number = option_map (λ (time : ArrayTime). time.length) (find (is_of lun number) times)
 
--- the wait behind a group's last command, which starts at `now`, by the real length; at most the stated one counts
+-- the wait after a group's last command, which starts at `now`, by the real length; at most the stated one counts
 abbrev pub real_wait : ℕ → Spans → Option ℕ → Option Wait
 real_wait now spans None = None
 real_wait now spans (Some length) = Some (record { from = now; length = spans.cmd + min spans.array length })
@@ -43,7 +43,7 @@ with_changed lun change (Some array) arrays = slice_set arrays lun (change array
 abbrev pub with_change : ℕ → (LunArray → LunArray) → List LunArray → List LunArray
 with_change lun change arrays = with_changed lun change (slice_get arrays lun) arrays
 
--- the arrays behind a command at `now`: a group's last one starts that of its LUN
+-- the arrays after a command at `now`: a group's last one starts that of its LUN
 abbrev pub behind : Closer → List ArrayTime → ℕ → ℕ → Spans → List LunArray → List LunArray
 behind More times lun now spans arrays = arrays
 behind Last times lun now spans arrays = with_change lun (one_started times lun now spans) arrays
@@ -60,11 +60,11 @@ abbrev pub is_done_at : ℕ → Option LunArray → Bool
 is_done_at now None = false
 is_done_at now (Some array) = is_done now array
 
--- when a wait is over, where that is behind `now` and a moment of 64 bits
+-- when a wait is over, where that is after `now` and a moment of 64 bits
 abbrev pub over_behind : ℕ → Wait → Option ℕ
 over_behind now wait = if nat_lt now (over_at wait) && nat_lt (over_at wait) (2 ^ 64) then Some (over_at wait) else None
 
--- when the operation that runs is done by its real length, where that is behind `now`
+-- when the operation that runs is done by its real length, where that is after `now`
 abbrev pub done_behind : ℕ → LunArray → Option ℕ
 done_behind now array = option_and_then (over_behind now) array.real
 

@@ -24,7 +24,7 @@ pub record IsCarried (geometry : Geometry) (row : ℕ) (kind : Kind) (bytes : Li
   pub bytes_are : r.bytes ≡ bytes
   pub fits : Fits geometry r
 
--- the request may join a group behind these: one kind, one page, and a plane above theirs
+-- the request may join a group after these: one kind, one page, and a plane above theirs
 abbrev pub MayJoin : Geometry → Request → Request → Type 0
 MayJoin geometry r earlier =
     (earlier.kind ≡ r.kind) × (earlier.place.page ≡ r.place.page) × (plane_of_block geometry earlier.place.block < plane_of_block geometry r.place.block)
@@ -73,7 +73,7 @@ pub record IsLost (fault : PostFault) (old new : Chip) : Type 0 where
   pub faults : new.faults ≡ old.faults
   pub rose : HasRisen fault old.failures new.failures
 
--- after want of memory the chip is unchanged
+-- where memory was refused the chip is unchanged
 abbrev pub AfterFault : ChipFault → Chip → Chip → Type 0
 AfterFault Bus old new = IsLost post.Bus old new
 AfterFault Memory old new = new ≡ old
@@ -83,7 +83,7 @@ pub record TellsAnswer (byte : ℕ) (answer : Answer) : Type 0 where
   pub failed : IsBitSet byte 0 → answer ≡ Failed
   pub done : ¬ IsBitSet byte 0 → answer ≡ Done
 
--- an answer that a status byte tells
+-- an answer that a status byte gives
 abbrev pub IsStatus : Answer → Type 0
 IsStatus (Read content) = ⊥
 IsStatus Done = Unit {0}

@@ -17,7 +17,7 @@ pub data Lun : Type 0 where
   Commanding : List Request → ℕ → Lun
   Posting : List Post → ℕ → Lun
 
--- how often a call's bus failed, and how often a status told that its LUN isn't ready
+-- how often a call's bus failed, and how often a status said that its LUN isn't ready
 pub record Failures : Type 0 where
   pub bus : ℕ
   pub unready : ℕ
@@ -90,7 +90,7 @@ commanded chip r now = queued chip r (now + (spans_for chip r).cmd + (spans_for 
 abbrev pub launched : Chip → Request → ℕ → Chip
 launched chip r now = happened chip r (now + (spans_for chip r).cmd + (spans_for chip r).array)
 
--- the LUN behind a post
+-- the LUN after a post
 abbrev pub after_post : List Post → ℕ → Lun
 after_post [] ready = Idle
 after_post (post ∷ more) ready = Posting (post ∷ more) ready
@@ -109,6 +109,6 @@ luns_ready_by now lun (Some x) luns = slice_set luns lun (ready_by now x)
 abbrev pub found_ready : Chip → ℕ → ℕ → Chip
 found_ready chip lun now = record chip { luns = luns_ready_by now lun (slice_get chip.luns lun) chip.luns }
 
--- a post, at `now`, of which these are left behind it
+-- a post, at `now`, of which these are left after it
 abbrev pub posted : Chip → Post → List Post → ℕ → Chip
 posted chip post left now = record chip { luns = slice_set chip.luns post.place.lun (after_post left (now + (spans_of chip.timing post.kind).post)) }

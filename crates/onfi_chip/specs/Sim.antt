@@ -69,7 +69,7 @@ abbrev pub IsOpenAt : Option Lun → Type 0
 IsOpenAt (Some lun) = IsOpen lun
 IsOpenAt None = ⊥
 
--- one more command of a group, with the end of the wait behind it
+-- one more command of a group, with the end of the wait after it
 abbrev pub added : Closer → Chip → Request → ℕ → Chip
 added More chip r ready = queued chip r ready
 added Last chip r ready = happened chip r ready

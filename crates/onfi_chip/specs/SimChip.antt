@@ -13,7 +13,7 @@ use Rattle.onfi_chip.specs.Numbers.{failed, fails_at, one_more}
 use Rattle.onfi_chip.specs.Arrays.{behind, is_done_at, next_done, one_over, with_change}
 use Rattle.onfi_chip.specs.Sim.{chip_of, is_over_at}
 
--- how often a call's bus failed, and how often a status told that its LUN isn't ready
+-- how often a call's bus failed, and how often a status said that its LUN isn't ready
 abbrev pub failures_of : SimChip → Failures
 failures_of sim = record { bus = failed sim.calls.failing.items sim.calls.made; unready = failed sim.statuses.failing.items sim.statuses.made }
 
@@ -24,7 +24,7 @@ chip_in sim = record (chip_of sim.dies) { failures = failures_of sim }
 abbrev pub failing_calls : SimChip → List ℕ
 failing_calls sim = sim.calls.failing.items
 
--- the numbers of the status calls that tell that their LUN isn't ready
+-- the numbers of the status calls that say that their LUN isn't ready
 abbrev pub failing_statuses : SimChip → List ℕ
 failing_statuses sim = sim.statuses.failing.items
 
@@ -52,7 +52,7 @@ array_times sim = sim.arrays.times.items
 abbrev pub arrays_of : SimChip → List LunArray
 arrays_of sim = sim.arrays.luns.items
 
--- the next moment behind `now` at which an array is done by its real length, which the list has: its LUN says ready from then on
+-- the next moment after `now` at which an array is done by its real length, which the list has: its LUN says ready from then on
 abbrev pub next_ready : SimChip → ℕ → Option ℕ
 next_ready sim now = next_done now (arrays_of sim)
 
@@ -67,7 +67,7 @@ pub record KeepsCalls (old new : SimChip) : Type 0 where
   pub calls : new.calls ≡ old.calls
   pub statuses : new.statuses ≡ old.statuses
 
--- Bus is told exactly at a listed call
+-- Bus is reported exactly at a listed call
 abbrev pub FailsAsListed : {A : Type 0} → SimChip → Result A ChipFault → Type 0
 FailsAsListed old (Ok x) = is_call_listed old ≡ false
 FailsAsListed old (Err Bus) = is_call_listed old ≡ true
@@ -88,11 +88,11 @@ IsCountedStatus old (Err fault) new = statuses_made new ≡ statuses_made old
 abbrev pub IsReadyAsListed : SimChip → ℕ → Type 0
 IsReadyAsListed old byte = IsBitSet byte 6 ↔ (is_status_listed old ≡ false)
 
--- the arrays behind a command at `now`
+-- the arrays after a command at `now`
 abbrev pub arrays_behind : Closer → SimChip → Request → ℕ → List LunArray
 arrays_behind closer sim r now = behind closer (array_times sim) r.place.lun now (spans_of (chip_in sim).timing r.kind) (arrays_of sim)
 
--- the arrays behind a post of that LUN, whose array is over by then
+-- the arrays after a post of that LUN, whose array is over by then
 abbrev pub arrays_posted : SimChip → ℕ → List LunArray
 arrays_posted sim lun = with_change lun one_over (arrays_of sim)
 

@@ -27,7 +27,7 @@ impl Arrays {
     /// No operation has started, and none is listed.
     ///
     /// # Errors
-    /// Want of memory.
+    /// Where memory was refused.
     pub(crate) fn new(alloc: Global, lun_count: u8) -> Result<Arrays, AllocError>
         ensures times { IfOk result (λ arrays. arrays.times.items ≡ []) }
         ensures luns { IfOk result (λ arrays. arrays.luns.items ≡ replicate lun_count spec.unused) }
@@ -63,7 +63,7 @@ impl Arrays {
             .map(|time| time.length)
     }
 
-    /// A command of a LUN's group starts at `now`: behind the last one its array works.
+    /// A command of a LUN's group starts at `now`: after the last one its array works.
     pub(crate) fn command(&mut self, closer: Closer, lun: u8, now: u64, spans: Spans)
         ensures luns { self.new.luns.items ≡ spec.behind closer self.old.times.items lun now spans self.old.luns.items }
         ensures times { self.new.times.items ≡ self.old.times.items }
@@ -111,7 +111,7 @@ impl Arrays {
         }
     }
 
-    /// The next moment behind `now` at which an array is done by its real time.
+    /// The next moment after `now` at which an array is done by its real time.
     pub(crate) fn next_done(&self, now: u64) -> Option<u64>
         ensures { result ≡ spec.next_done now self.now.luns.items }
     {
@@ -123,7 +123,7 @@ impl Arrays {
 }
 
 impl LunArray {
-    /// When the operation that runs is done by its real time, where that is behind `now`.
+    /// When the operation that runs is done by its real time, where that is after `now`.
     fn done_behind(&self, now: u64) -> Option<u64>
         ensures { result ≡ spec.done_behind now self.now }
     {
@@ -141,7 +141,7 @@ impl LunArray {
     }
 }
 
-/// The wait behind a command that starts at `now`, where the array really takes that long.
+/// The wait after a command that starts at `now`, where the array really takes that long.
 fn real_wait(now: u64, spans: Spans, listed: Option<u64>) -> Option<Wait>
     ensures { result ≡ spec.real_wait now spans listed }
 {

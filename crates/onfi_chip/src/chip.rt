@@ -24,7 +24,7 @@ use std::alloc::Global;
 /// member; it gets so where the rules of its problems allow no such group, as they do when they come from the page.
 pub trait Chip {
     /// Its geometry, timing and injected faults, its blocks and LUNs, how often a call's bus failed, and how often a status
-    /// told that its LUN isn't ready.
+    /// said that its LUN isn't ready.
     ghost state: { Self → ChipState };
 
     /// A command of a group: the opener of `opener` (00h, 80h or 60h), the address, for a program the data, and the
@@ -73,7 +73,7 @@ pub trait Chip {
 
     /// Whether the LUN says at `now` that it is ready, asked without the bus (R/B#, ONFI 4.2, pin description). It is said
     /// only where the work of its array is done: its next post may start from `now` on. A chip may always say no, as one does
-    /// that doesn't say otherwise here; so should one that can't tell one LUN from another.
+    /// that doesn't say otherwise here; so should one that can't distinguish its LUNs.
     fn poll(&mut self, now: u64, lun: u8) -> bool
         ensures ready { IsTrue result → state self.new ≡ found_ready (state self.old) lun now }
         ensures busy { result ≡ false → state self.new ≡ state self.old }

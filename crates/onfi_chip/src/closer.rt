@@ -13,7 +13,7 @@ pub enum Closer {
 }
 
 impl Closer {
-    /// How long a command with this closer holds its LUN: the command itself and the wait behind it, in ns.
+    /// How long a command with this closer holds its LUN: the command itself and the wait after it, in ns.
     pub fn hold(self, spans: Spans) -> u64
         ensures { result ≡ hold self spans }
     {

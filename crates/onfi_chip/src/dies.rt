@@ -49,7 +49,7 @@ impl Dies {
     /// The dies of a device as they open: all blocks erased, all LUNs idle.
     ///
     /// # Errors
-    /// Want of memory.
+    /// Where memory was refused.
     pub(crate) fn new(
         alloc: Global,
         geometry: Geometry,
@@ -108,7 +108,7 @@ impl Dies {
     /// A command at `now`; the LUN may take it.
     ///
     /// # Errors
-    /// Want of memory; the dies are then unchanged.
+    /// Where memory was refused; the dies are then unchanged.
     pub(crate) fn take(
         &mut self,
         alloc: Global,

@@ -6,7 +6,7 @@ pub enum ChipFault {
     /// The bus failed: nothing more is known of the chip.
     #[error("the bus failed")]
     Bus,
-    /// Want of memory: the chip is unchanged.
+    /// Memory was refused: the chip is unchanged.
     #[error("out of memory")]
     Memory,
 }
@@ -17,7 +17,7 @@ pub enum PostFault {
     /// The bus failed: nothing more is known of the chip.
     #[error("the bus failed")]
     Bus,
-    /// The status told that the LUN isn't ready: nothing more is known of the chip.
+    /// The status said that the LUN isn't ready: nothing more is known of the chip.
     #[error("the LUN is not ready")]
     NotReady,
 }

@@ -17,7 +17,7 @@ impl Fetch {
     /// The post of a member of that kind at that place; a read has room for the data and spare bytes of a page.
     ///
     /// # Errors
-    /// Want of memory.
+    /// Where memory was refused.
     pub fn of(
         alloc: Global,
         geometry: &Geometry,

@@ -57,7 +57,7 @@ impl Lane {
         }
     }
 
-    /// Takes one more command of a group, with the wait behind it.
+    /// Takes one more command of a group, with the wait after it.
     pub(crate) fn queue(
         &mut self,
         alloc: Global,

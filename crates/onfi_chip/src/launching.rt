@@ -37,7 +37,7 @@ fn launch(store: &mut Store, lane: &mut Lane, mut posts: VecDeque<Post>)
     *lane = Lane::Posting(posts, wait);
 }
 
-/// Takes the last command of a group, with the wait behind it: the group's requests happen, and their answers wait for its
+/// Takes the last command of a group, with the wait after it: the group's requests happen, and their answers wait for its
 /// posts.
 pub(crate) fn close(
     alloc: Global,

@@ -17,7 +17,7 @@ use onfi_timing::Kind;
 /// erase. It takes no memory: a fetch is made with its room before the chip is called.
 ///
 /// # Errors
-/// `Bus`, only where the chip's count of failed buses rose, or `NotReady` where the status of a program or an erase told so,
+/// `Bus`, only where the chip's count of failed buses rose, or `NotReady` where the status of a program or an erase said so,
 /// only where its count of statuses not ready rose. Nothing more is then known of the chip.
 pub fn read_post<C: Chip>(
     chip: &mut C,

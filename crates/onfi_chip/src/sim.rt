@@ -43,10 +43,10 @@ impl SimChip {
 
     /// A chip of this geometry and timing as it opens: all blocks erased, all LUNs idle. `faults` are the programs and
     /// erases that fail, `calls` the numbers, from 0, of the calls whose bus fails, `statuses` the numbers of the status
-    /// calls that tell that their LUN isn't ready. Its arrays take the stated times.
+    /// calls that say that their LUN isn't ready. Its arrays take the stated times.
     ///
     /// # Errors
-    /// Want of memory.
+    /// Where memory was refused.
     pub fn new(
         alloc: Global,
         geometry: Geometry,
@@ -87,8 +87,8 @@ impl SimChip {
         }
     }
 
-    /// The next moment behind `now`, in ns, at which an array is done by its real time: from then on its LUN says that it is
-    /// ready. Of an operation that isn't listed, which takes the stated time, it tells nothing.
+    /// The next moment after `now`, in ns, at which an array is done by its real time: from then on its LUN says that it is
+    /// ready. Of an operation that isn't listed, which takes the stated time, it says nothing.
     pub fn next_ready(&self, now: u64) -> Option<u64>
         ensures { result ≡ next_ready self.now now }
     {

@@ -3,7 +3,7 @@ ghost use Rattle.onfi_chip.specs.Calls.{TellsAnswer, IsStatus};
 
 use onfi_request::Answer;
 
-/// The answer that a status byte tells (ONFI 4.2, status field definition): bit 6 is RDY, bit 0 FAIL; `None` where RDY is
+/// The answer that a status byte gives (ONFI 4.2, status field definition): bit 6 is RDY, bit 0 FAIL; `None` where RDY is
 /// 0, the LUN isn't ready. No other bit is looked at.
 pub fn decode_status(byte: u8) -> Option<Answer>
     ensures { MatchOption result (¬ IsBitSet byte 6) (λ answer. IsBitSet byte 6 × TellsAnswer byte answer) }

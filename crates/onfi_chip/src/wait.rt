@@ -2,7 +2,7 @@ ghost use Rattle.std.specs.Prelude.{◌≡◌, min, nat_le};
 ghost use Rattle.onfi_chip.specs.Sim.{over_at};
 ghost use Rattle.onfi_chip.specs.Arrays.{over_behind};
 
-/// A wait: it is over `length` ns behind the moment `from`.
+/// A wait: it is over `length` ns after the moment `from`.
 #[derive(Clone, Copy, Debug)]
 pub struct Wait {
     pub from: u64,
@@ -17,7 +17,7 @@ impl Wait {
         now >= self.from && now - self.from >= self.length
     }
 
-    /// When it is over, where that is behind `now` and a moment.
+    /// When it is over, where that is after `now` and a moment.
     pub(crate) fn over_behind(&self, now: u64) -> Option<u64>
         ensures { result ≡ over_behind now self.now }
     {

@@ -1,10 +1,10 @@
--- What pieces make that are put behind a text one by one.
+-- What pieces make that are appended to a text one by one.
 use Rattle.std.proofs.Common.{◌≡◌, ◌∙◌, ap, ℕ, List, ◌++◌, append_assoc}
 use Rattle.std.specs.Prelude.{Result, OnOk}
 use Rattle.std.proofs.lemmas.Result.{on_ok_weaker}
 use Rattle.onfi_console.specs.Described.{line}
 
--- a piece behind another
+-- a piece after another
 pub behind : (text first both a b : List ℕ) → first ≡ text ++ a → both ≡ first ++ b → both ≡ text ++ (a ++ b)
 behind text first both a b is more = more ∙ ap (λ t. t ++ b) is ∙ append_assoc text a b
 

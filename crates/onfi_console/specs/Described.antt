@@ -1,4 +1,4 @@
--- What is written of a device: the fields of its parameter page, and the rows of the first form that tell of the same device.
+-- What is written of a device: the fields of its parameter page, and the rows of the first form that describe the same device.
 use Rattle.std.specs.Prelude.{◌≡◌, ℕ, ◌*◌, ◌/◌, ◌%◌, ◌<◌, ◌≤◌, ◌++◌, ◌⊎◌, Bool, true, false, List, length, codes, Result, Ok, Err}
 use Rattle.std.specs.Fmt.{decimal}
 use Rattle.std.specs.List.{list_any}
@@ -17,7 +17,7 @@ use Rattle.onfi_script.specs.Device.{TellsDevice, is_page, page_bytes}
 use Rattle.onfi_script.specs.Input.{TellsRows}
 use Rattle.onfi_script.specs.Text.{Answer, name_of, refused}
 
--- a name, with a comma behind it, and a number
+-- a name, with a comma after it, and a number
 unfoldable pub line : List ℕ → ℕ → List ℕ
 line name n = (name ++ decimal n) ++ codes "\n"
 
@@ -74,7 +74,7 @@ unfoldable pub shape_row : Of → List ℕ
 shape_row device = (codes "shape," ++ decimal device.luns) ++ (codes "," ++ decimal device.plane_bits)
     ++ (codes "," ++ decimal (bit device.reads)) ++ (codes "," ++ decimal (bit device.writes)) ++ codes "\n"
 
--- the row `spans` of a kind, behind its name
+-- the row `spans` of a kind, after its name
 unfoldable pub spans_row : List ℕ → Spans → List ℕ
 spans_row name spans = (name ++ decimal spans.cmd) ++ (codes "," ++ decimal spans.gap) ++ (codes "," ++ decimal spans.array)
     ++ (codes "," ++ decimal spans.post) ++ codes "\n"

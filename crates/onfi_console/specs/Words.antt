@@ -219,7 +219,7 @@ IsInRange Device = ⊤
 abbrev pub given : List ℕ → List Used → Bool
 given name used = is_given (first_of name used)
 
--- an option of `plan` is given that names a search, or bounds one; `first` tells the first value of an option
+-- an option of `plan` is given that names a search, or bounds one; `first` gives the first value of an option
 abbrev pub names_search : (List ℕ → Option (List ℕ)) → Bool
 names_search first =
     is_some (first (codes "limit")) || is_some (first (codes "workers")) || is_given (first (codes "remember")) || is_given (first (codes "within")) || is_given (first (codes "early")) || is_some (first (codes "slack"))
@@ -288,7 +288,7 @@ Ask words parsed = IsSomeAnd (subcommand_of app words) (λ p. IsParsed parsed p.
 abbrev pub is_quiet_word : List ℕ → Bool
 is_quiet_word word = bytes_eq word (codes "--quiet") || bytes_eq word (codes "-q")
 
--- .. where words are told as a call for the version
+-- .. where words are read as a call for the version
 abbrev pub IfVersion : Untaken → Type 0 → Type 0
 IfVersion (Version text) holds = holds
 IfVersion (Refused text) holds = ⊤

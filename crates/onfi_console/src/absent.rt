@@ -16,7 +16,7 @@ struct Counts {
     blocks: Option<u64>,
 }
 
-/// How many channels or hosts the rows of this name tell of.
+/// How many channels or hosts the rows of this name set up.
 fn count_in(records: &[ByteRecord], name: &[u8]) -> u64 {
     let row = records.iter().find(|record| field(record, 0) == name);
     row.and_then(|record| named_number(record, "N"))

@@ -12,7 +12,7 @@ use std::alloc::{AllocError, Global};
 /// The bytes of one copy of a parameter page.
 const PAGE_BYTES: usize = 256;
 
-/// Whether a row of this line may tell of a device of the second form.
+/// Whether a row of this line may describe a device of the second form.
 fn is_of_page(line: &[u8]) -> bool {
     line.starts_with(b"page,")
         || line.starts_with(b"sheet,")
@@ -20,7 +20,7 @@ fn is_of_page(line: &[u8]) -> bool {
         || line.starts_with(b"strict,")
 }
 
-/// The rows of a script that tell of its page, as a script of their own.
+/// The rows of a script that give its page, as a script of their own.
 fn page_script(alloc: Global, script: &[u8]) -> Result<Vec<u8>, AllocError> {
     let mut text = Vec::new(alloc);
     for line in script.split(|byte| *byte == b'\n') {
@@ -51,7 +51,7 @@ fn may_group(geometry: &Geometry, rows: &[Row]) -> bool {
     several && geometry.plane_address_bits > 0 && !strict
 }
 
-/// The rows of a page, and the geometry that they tell of.
+/// The rows of a page, and the geometry that they give.
 fn page_rows(alloc: Global, script: &[u8]) -> Option<(Vec<Row>, Geometry)> {
     let text = page_script(alloc, script).ok()?;
     let rows = read_rows(alloc, Purpose::Problem, text.as_slice()).ok()?;
@@ -59,7 +59,7 @@ fn page_rows(alloc: Global, script: &[u8]) -> Option<(Vec<Row>, Geometry)> {
     Some((rows, device.geometry))
 }
 
-/// Puts behind a message what is to be said of the rows that name blocks or pages beyond the device.
+/// Appends to a message what is to be said of the rows that name blocks or pages beyond the device.
 fn push_beyond(
     alloc: Global,
     message: &mut String,
@@ -104,10 +104,10 @@ fn beyond(record: &ByteRecord, geometry: &Geometry) -> Option<(&'static str, u64
     }
 }
 
-/// Puts behind a message what is to be said of the page of a script.
+/// Appends to a message what is to be said of the page of a script.
 ///
 /// # Errors
-/// Want of memory.
+/// Where memory was refused.
 pub fn push_cautions(
     alloc: Global,
     purpose: Purpose,

@@ -529,7 +529,7 @@ fn shown_words(alloc: Global, words: &[String]) -> Result<Vec<String>, AllocErro
     Ok(shown)
 }
 
-/// A text without the tip to pass an option as a file's name, and without an empty line behind another.
+/// A text without the tip to pass an option as a file's name, and without an empty line after another.
 fn without_tip(alloc: Global, text: &str) -> Result<String, AllocError> {
     let mut left = String::new(alloc);
     let mut empty = false;

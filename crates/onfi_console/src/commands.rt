@@ -198,7 +198,7 @@ fn planning<'a>(alloc: Global) -> Result<Command<'a>, AllocError>
 /// What the program understands.
 ///
 /// # Errors
-/// Want of memory.
+/// Where memory was refused.
 pub fn app<'a>(alloc: Global) -> Result<Command<'a>, AllocError>
     ensures { IfOk result (λ a. app_of a ≡ spec.app) }
 {

@@ -16,7 +16,7 @@ use onfi_script::{
 use onfi_timing::Spans;
 use std::alloc::{AllocError, Global};
 
-/// Puts a line behind a text.
+/// Appends a line to a text.
 #[tactic(auto, unfolding(crate::specs::Described::line))]
 fn put_line(alloc: Global, text: &mut String, name: &str, number: u64) -> Result<(), AllocError>
     ensures { OnOk result (string_bytes text.new ≡ string_bytes text.old ++ spec.line name.now number) }
@@ -25,7 +25,7 @@ fn put_line(alloc: Global, text: &mut String, name: &str, number: u64) -> Result
     text.push_str("\n")
 }
 
-/// Puts behind a text how many LUNs there are, and bits of a plane's address.
+/// Appends to a text how many LUNs there are, and bits of a plane's address.
 #[tactic(auto, unfolding(crate::specs::Described::lun_lines))]
 fn put_luns(alloc: Global, text: &mut String, page: &ParamPage) -> Result<(), AllocError>
     ensures { OnOk result (string_bytes text.new ≡ string_bytes text.old ++ spec.lun_lines page.now) }
@@ -39,7 +39,7 @@ fn put_luns(alloc: Global, text: &mut String, page: &ParamPage) -> Result<(), Al
     )
 }
 
-/// Puts behind a text how many blocks and pages there are.
+/// Appends to a text how many blocks and pages there are.
 #[tactic(auto, unfolding(crate::specs::Described::block_lines))]
 fn put_blocks(alloc: Global, text: &mut String, page: &ParamPage) -> Result<(), AllocError>
     ensures { OnOk result (string_bytes text.new ≡ string_bytes text.old ++ spec.block_lines page.now) }
@@ -58,7 +58,7 @@ fn put_blocks(alloc: Global, text: &mut String, page: &ParamPage) -> Result<(), 
     )
 }
 
-/// Puts behind a text how many bytes a page has.
+/// Appends to a text how many bytes a page has.
 #[tactic(auto, unfolding(crate::specs::Described::byte_lines))]
 fn put_bytes(alloc: Global, text: &mut String, page: &ParamPage) -> Result<(), AllocError>
     ensures { OnOk result (string_bytes text.new ≡ string_bytes text.old ++ spec.byte_lines page.now) }
@@ -67,7 +67,7 @@ fn put_bytes(alloc: Global, text: &mut String, page: &ParamPage) -> Result<(), A
     put_line(alloc, text, "spare-bytes,", u64::from(page.spare_bytes()))
 }
 
-/// Puts behind a text how many cycles addresses have.
+/// Appends to a text how many cycles addresses have.
 #[tactic(auto, unfolding(crate::specs::Described::cycle_lines))]
 fn put_cycles(alloc: Global, text: &mut String, page: &ParamPage) -> Result<(), AllocError>
     ensures { OnOk result (string_bytes text.new ≡ string_bytes text.old ++ spec.cycle_lines page.now) }
@@ -86,7 +86,7 @@ fn put_cycles(alloc: Global, text: &mut String, page: &ParamPage) -> Result<(), 
     )
 }
 
-/// Puts behind a text how much there is of what.
+/// Appends to a text how much there is of what.
 #[tactic(auto, unfolding(crate::specs::Described::sizes))]
 fn put_sizes(alloc: Global, text: &mut String, page: &ParamPage) -> Result<(), AllocError>
     ensures { OnOk result (string_bytes text.new ≡ string_bytes text.old ++ spec.sizes page.now) }
@@ -97,7 +97,7 @@ fn put_sizes(alloc: Global, text: &mut String, page: &ParamPage) -> Result<(), A
     put_cycles(alloc, text, page)
 }
 
-/// Puts behind a text what features say of bus, LUNs and pages.
+/// Appends to a text what features say of bus, LUNs and pages.
 #[tactic(auto, unfolding(crate::specs::Described::feature_lines))]
 fn put_features(alloc: Global, text: &mut String, features: u64) -> Result<(), AllocError>
     ensures { OnOk result (string_bytes text.new ≡ string_bytes text.old ++ spec.feature_lines features) }
@@ -107,7 +107,7 @@ fn put_features(alloc: Global, text: &mut String, features: u64) -> Result<(), A
     put_line(alloc, text, "any-page-order,", features / 4 % 2)
 }
 
-/// Puts behind a text what features say of several planes.
+/// Appends to a text what features say of several planes.
 #[tactic(auto, unfolding(crate::specs::Described::plane_lines))]
 fn put_planes(alloc: Global, text: &mut String, features: u64) -> Result<(), AllocError>
     ensures { OnOk result (string_bytes text.new ≡ string_bytes text.old ++ spec.plane_lines features) }
@@ -116,7 +116,7 @@ fn put_planes(alloc: Global, text: &mut String, features: u64) -> Result<(), All
     put_line(alloc, text, "multi-plane-reads,", features / 64 % 2)
 }
 
-/// Puts behind a text what optional commands there are.
+/// Appends to a text what optional commands there are.
 #[tactic(auto, unfolding(crate::specs::Described::command_lines))]
 fn put_commands(alloc: Global, text: &mut String, commands: u64) -> Result<(), AllocError>
     ensures { OnOk result (string_bytes text.new ≡ string_bytes text.old ++ spec.command_lines commands) }
@@ -130,7 +130,7 @@ fn put_commands(alloc: Global, text: &mut String, commands: u64) -> Result<(), A
     )
 }
 
-/// Puts behind a text what the device can do.
+/// Appends to a text what the device can do.
 #[tactic(auto, unfolding(crate::specs::Described::abilities))]
 fn put_abilities(alloc: Global, text: &mut String, page: &ParamPage) -> Result<(), AllocError>
     ensures { OnOk result (string_bytes text.new ≡ string_bytes text.old ++ spec.abilities page.now) }
@@ -141,7 +141,7 @@ fn put_abilities(alloc: Global, text: &mut String, page: &ParamPage) -> Result<(
     put_commands(alloc, text, u64::from(page.optional_commands()))
 }
 
-/// Puts its times behind a text, in ns.
+/// Appends its times to a text, in ns.
 #[tactic(auto, unfolding(crate::specs::Described::times))]
 fn put_times(alloc: Global, text: &mut String, page: &ParamPage) -> Result<(), AllocError>
     ensures { OnOk result (string_bytes text.new ≡ string_bytes text.old ++ spec.times page.now) }
@@ -159,7 +159,7 @@ fn bit(holds: bool) -> u64
     if holds { 1 } else { 0 }
 }
 
-/// Puts the row `shape` of a device behind a text.
+/// Appends the row `shape` of a device to a text.
 #[tactic(auto, unfolding(crate::specs::Described::shape_row))]
 fn put_shape(alloc: Global, text: &mut String, device: &Device) -> Result<(), AllocError>
     ensures { OnOk result (string_bytes text.new ≡ string_bytes text.old ++ spec.shape_row device.now) }
@@ -171,7 +171,7 @@ fn put_shape(alloc: Global, text: &mut String, device: &Device) -> Result<(), Al
     text.push_str("\n")
 }
 
-/// Puts the row `spans` of a kind behind a text.
+/// Appends the row `spans` of a kind to a text.
 #[tactic(auto, unfolding(crate::specs::Described::spans_row))]
 fn put_spans(alloc: Global, text: &mut String, name: &str, spans: Spans) -> Result<(), AllocError>
     ensures { OnOk result (string_bytes text.new ≡ string_bytes text.old ++ spec.spans_row name.now spans) }
@@ -183,7 +183,7 @@ fn put_spans(alloc: Global, text: &mut String, name: &str, spans: Spans) -> Resu
     text.push_str("\n")
 }
 
-/// Puts the rows of the first form behind a text, or why the device can't be planned for.
+/// Appends the rows of the first form to a text, or why the device can't be planned for.
 #[tactic(auto, unfolding(crate::specs::Described::rows_of))]
 fn put_rows(
     alloc: Global,
@@ -207,7 +207,7 @@ fn put_rows(
     }
 }
 
-/// What is written of a page, and of the device that it tells of with its sheet.
+/// What is written of a page, and of the device that it describes with its sheet.
 fn described(
     alloc: Global,
     page: &ParamPage,
@@ -278,11 +278,11 @@ fn answer_rows(alloc: Global, rows: &[Row]) -> Result<Answer, AllocError>
     }
 }
 
-/// What the page of a script says, and the rows of the first form that tell of the same device; or the line that refuses the
+/// What the page of a script says, and the rows of the first form that describe the same device; or the line that refuses the
 /// script, with status 1.
 ///
 /// # Errors
-/// Want of memory.
+/// Where memory was refused.
 pub fn describe(alloc: Global, input: &[u8]) -> Result<Answer, AllocError>
     ensures { IfOk result (λ a. spec.IsDescription input.now (answer_of a)) }
 {

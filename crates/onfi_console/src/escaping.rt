@@ -8,7 +8,7 @@ const MOST: usize = 120;
 /// A text with each character that can't be printed in its escaped form.
 ///
 /// # Errors
-/// Want of memory.
+/// Where memory was refused.
 pub fn escaped(alloc: Global, text: &str) -> Result<String, AllocError> {
     let mut shown = String::new(alloc);
     for character in text.chars() {
@@ -24,7 +24,7 @@ pub fn escaped(alloc: Global, text: &str) -> Result<String, AllocError> {
 /// The beginning of some bytes, each that isn't printable ASCII in its escaped form; a longer text ends in three dots.
 ///
 /// # Errors
-/// Want of memory.
+/// Where memory was refused.
 pub fn shown(alloc: Global, bytes: &[u8]) -> Result<String, AllocError> {
     let mut shown = String::new(alloc);
     for byte in bytes.iter().take(MOST) {

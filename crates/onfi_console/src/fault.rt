@@ -19,6 +19,6 @@ pub enum Untaken {
     Refused(String),
     /// Memory was refused.
     Memory,
-    /// It asks for the version: the line that tells it.
+    /// It asks for the version: the line that gives it.
     Version(String),
 }

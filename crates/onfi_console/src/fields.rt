@@ -11,6 +11,8 @@ pub enum Range {
     Kind,
     /// By what a batch is chosen.
     Choice,
+    /// When a plan is made anew.
+    Replanning,
 }
 
 /// A field of a row: what it is called, what may stand in it, and how that is said.
@@ -34,7 +36,12 @@ impl FieldRange {
                     || text == b"program".as_slice()
                     || text == b"erase".as_slice()
             }
-            Range::Choice => text == b"by-lun".as_slice() || text == b"reads-first".as_slice(),
+            Range::Choice => {
+                text == b"by-lun".as_slice()
+                    || text == b"reads-first".as_slice()
+                    || text == b"whole-groups".as_slice()
+            }
+            Range::Replanning => text == b"at-once".as_slice() || text == b"lazily".as_slice(),
         }
     }
 }
@@ -136,7 +143,12 @@ fn run_field(row: &str, at: usize) -> Option<FieldRange> {
         ("choice", 1) => Some(FieldRange {
             name: "WORD",
             range: Range::Choice,
-            told: "by-lun or reads-first",
+            told: "by-lun, reads-first or whole-groups",
+        }),
+        ("replanning", 1) => Some(FieldRange {
+            name: "WORD",
+            range: Range::Replanning,
+            told: "at-once or lazily",
         }),
         ("op", 1) => end("HOST"),
         ("op", 2) | ("fault" | "chipfail" | "notready" | "array", 1) => end("CHANNEL"),

@@ -60,7 +60,7 @@ fn is_row(text: &[u8]) -> bool {
     form_of(name).is_some()
 }
 
-/// What a text looks like, where that can be told by its beginning.
+/// What a text looks like, where its beginning shows that.
 pub fn guess(text: &[u8]) -> Option<OtherText> {
     let line = first_line(text);
     if is_wide(text) {

@@ -1,7 +1,7 @@
 /// An input of the program, and where it was read from.
 #[derive(Clone, Copy)]
 pub struct Input<'a> {
-    /// All that was read: the script, and the plan text behind it.
+    /// All that was read: the script, and the plan text after it.
     pub text: &'a [u8],
     /// The file of the script; standard input where none is named.
     pub script: Option<&'a str>,

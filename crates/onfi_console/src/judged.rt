@@ -22,7 +22,7 @@ fn proof_of(command: Command) -> &'static str {
 /// The message beside an answer that refuses a plan text or its certificate, or that memory was refused.
 ///
 /// # Errors
-/// Want of memory.
+/// Where memory was refused.
 pub fn refused_message(
     alloc: Global,
     command: Command,
@@ -77,7 +77,7 @@ fn tokens_message(
     }
 }
 
-/// The text behind the line `end`.
+/// The text after the line `end`.
 fn plan_text<'a>(input: &Input<'a>) -> &'a [u8] {
     match script_len(input.text) {
         Some(size) => behind_end(&input.text[size..]),
@@ -108,7 +108,7 @@ fn plan_line_message(
     }
 }
 
-/// Why what stands in a plan text from a line on, counted from 1, isn't taken, where that can be told.
+/// Why what stands in a plan text from a line on, counted from 1, isn't taken, where that can be said.
 fn line_cause(text: &[u8], number: usize) -> Option<&'static str> {
     let line = line_at(text, 0);
     match guess(text) {
@@ -192,7 +192,7 @@ fn header_fault(command: Command, header: &[u8]) -> &'static str {
     }
 }
 
-/// Why tokens prove nothing, and the token that tells so, counted from 0.
+/// Why tokens prove nothing, and the token that shows so, counted from 0.
 fn token_fault(fault: KnownFault) -> (&'static str, Option<usize>) {
     match fault {
         KnownFault::Cert(fault) => plain_token_fault(fault),

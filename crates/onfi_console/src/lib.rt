@@ -1,7 +1,7 @@
 //! What the program and a person say to each other: the command line, and a message in words beside an answer.
 //!
 //! [`words`] reads a command line, and [`read_words`] says what is wrong with it too; [`message`] says why an answer refuses a
-//! script, a plan or a certificate, and where. [`describe`] says what a parameter page tells of its device.
+//! script, a plan or a certificate, and where. [`describe`] shows what a parameter page says of its device.
 #![tactic(auto)]
 
 mod absent;

@@ -1,6 +1,6 @@
 //! What may be wrong with lines of plan texts and tokens of certificates.
 
-/// Whether a text ends in its first line, with no line end behind it.
+/// Whether a text ends in its first line, with no line end after it.
 pub fn last_of_text(text: &[u8]) -> bool {
     !text.iter().any(|byte| *byte == b'\n')
 }

@@ -59,7 +59,7 @@ pub struct Parsed<'a> {
     pub named: Named,
     /// The file of the script, `-` for standard input; standard input where none is named.
     pub script: Option<&'a str>,
-    /// The file of a plan text that stands behind the script, `-` for standard input; none where the script's own file
+    /// The file of a plan text that comes after the script, `-` for standard input; none where the script's own file
     /// holds it.
     pub plan: Option<&'a str>,
     /// Whether nothing is to be said beside the answer.

@@ -22,7 +22,7 @@ pub fn line_of(text: &[u8], record: &ByteRecord) -> usize {
 /// The fields of a record as a script has them.
 ///
 /// # Errors
-/// Want of memory.
+/// Where memory was refused.
 pub fn row_text(alloc: Global, record: &ByteRecord) -> Result<String, AllocError> {
     let mut bytes = Vec::new(alloc);
     for (at, field) in record.iter().enumerate() {

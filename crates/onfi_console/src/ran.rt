@@ -4,7 +4,7 @@ use std::alloc::{AllocError, Global};
 /// The message beside the report of a run, or nothing where each channel ended well.
 ///
 /// # Errors
-/// Want of memory.
+/// Where memory was refused.
 pub fn run_message(alloc: Global, report: &[u8]) -> Result<Option<String>, AllocError> {
     let mut message = String::new(alloc);
     for line in report.split(|byte| *byte == b'\n') {
@@ -19,7 +19,7 @@ pub fn run_message(alloc: Global, report: &[u8]) -> Result<Option<String>, Alloc
     })
 }
 
-/// Puts behind a message what a line of a report says of its channel.
+/// Appends to a message what a line of a report says of its channel.
 fn push_about(alloc: Global, message: &mut String, line: &str) -> Result<(), AllocError> {
     if let Some(what) = about(line) {
         let text = format!(in alloc; "onfi_sim: '{line}': {what}\n")?;

@@ -3,7 +3,7 @@ use std::alloc::{AllocError, Global};
 use strsim::levenshtein;
 
 /// The names of rows, those that `plan` and `check` take first.
-const NAMES: [&str; 24] = [
+const NAMES: [&str; 25] = [
     "shape",
     "spans",
     "page",
@@ -19,6 +19,7 @@ const NAMES: [&str; 24] = [
     "hosts",
     "batch",
     "choice",
+    "replanning",
     "submitcap",
     "postcap",
     "op",
@@ -84,7 +85,8 @@ fn run_form(name: &str) -> Option<&'static str> {
         "channels" => Some("channels,N: 1 to 4"),
         "hosts" => Some("hosts,N: 1 to 4"),
         "batch" => Some("batch,N: 1 to 8"),
-        "choice" => Some("choice,WORD: by-lun or reads-first"),
+        "choice" => Some("choice,WORD: by-lun, reads-first or whole-groups"),
+        "replanning" => Some("replanning,WORD: at-once or lazily"),
         "submitcap" => Some("submitcap,N: places of a submission queue"),
         "postcap" => Some("postcap,N: places of a completion queue"),
         "op" => Some(

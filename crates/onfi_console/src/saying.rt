@@ -15,7 +15,7 @@ use std::alloc::{AllocError, Global};
 /// answer says all, or where quiet was asked for. Which words is free: no program may rely on them.
 ///
 /// # Errors
-/// Want of memory; the answer is none the worse for it.
+/// Where memory was refused; the answer is none the worse for it.
 pub fn message(
     alloc: Global,
     parsed: &Parsed<'_>,

@@ -38,7 +38,7 @@ struct Refused<'a, 'r> {
 /// The message about a script that is refused, or whose device can't be planned for.
 ///
 /// # Errors
-/// Want of memory.
+/// Where memory was refused.
 pub fn script_message(
     alloc: Global,
     command: CommandName,
@@ -192,27 +192,27 @@ fn out_of_range(
     }
 }
 
-/// Whether a row of this name tells of a device in the first form, of a problem as of a run.
+/// Whether a row of this name describes a device in the first form, of a problem as of a run.
 fn is_shape_or_spans(name: &[u8]) -> bool {
     name == b"shape".as_slice() || name == b"spans".as_slice()
 }
 
-/// Whether a row of this name tells of a device in the first form.
+/// Whether a row of this name describes a device in the first form.
 fn is_of_first(name: &[u8]) -> bool {
     is_shape_or_spans(name) || name == b"geometry".as_slice()
 }
 
-/// Whether a row of this name tells of a device in the second form.
+/// Whether a row of this name describes a device in the second form.
 fn is_of_second(name: &[u8]) -> bool {
     name == b"page".as_slice() || name == b"sheet".as_slice() || name == b"strobe".as_slice()
 }
 
-/// Whether a row of this name tells of a device in either form.
+/// Whether a row of this name describes a device in either form.
 fn is_of_device(name: &[u8]) -> bool {
     is_of_first(name) || is_of_second(name)
 }
 
-/// Why a row of this name isn't taken by the command, or behind the rows before it.
+/// Why a row of this name isn't taken by the command, or after the rows before it.
 fn not_here(alloc: Global, refused: &Refused<'_, '_>, name: &[u8]) -> Result<String, AllocError> {
     let command = refused.command.word();
     let told = |record: &ByteRecord| is_of_device(field(record, 0));
@@ -267,7 +267,7 @@ fn taken(command: CommandName, name: &[u8]) -> &'static str {
         CommandName::Run if is_of_device(name) =>
             "'geometry', then 'shape' and 'spans' rows; or 'page' and 'sheet' rows",
         CommandName::Run =>
-            "page, sheet, strict, channels, hosts, batch, choice, submitcap, postcap, op, fault, chipfail, notready, array; or geometry, shape and spans in place of page and sheet",
+            "page, sheet, strict, channels, hosts, batch, choice, replanning, submitcap, postcap, op, fault, chipfail, notready, array; or geometry, shape and spans in place of page and sheet",
         _ if is_of_run(name) =>
             "shape and spans, or page and sheet; strict, bus, free, running, want or weight",
         _ => "'shape' and 'spans' rows alone, or 'page' and 'sheet' rows alone",
@@ -333,17 +333,17 @@ fn no_end(alloc: Global, input: &Input<'_>) -> Result<String, AllocError> {
     )
 }
 
-/// The timing parameters of a sheet, in the order in which a missing one is told.
+/// The timing parameters of a sheet, in the order in which a missing one is reported.
 const PARAMETERS: [&str; 9] = [
     "tWC", "tRC", "tADL", "tWHR", "tRHW", "tWB", "tPLRBSY", "tPLPBSY", "tPLEBSY",
 ];
 
-/// The parameters of strobes, in the order in which a missing one is told.
+/// The parameters of strobes, in the order in which a missing one is reported.
 const STROBES: [&str; 8] = [
     "tRPRE", "tRC", "tRPST", "tRPSTH", "tWPRE", "tDSC", "tWPST", "tWPSTH",
 ];
 
-/// Puts one more name behind others.
+/// Appends one more name to others.
 fn push_name(names: &mut String, name: &str) -> Result<(), AllocError> {
     if !names.is_empty() {
         names.push_str(", ")?;
@@ -460,7 +460,7 @@ fn geometry_fault(fault: GeometryFault) -> &'static str {
     }
 }
 
-/// What else may be done where a page doesn't tell of a command that the device may have.
+/// What else may be done where a page doesn't show a command that the device may have.
 fn advice(command: CommandName, fault: ScriptFault) -> &'static str {
     match fault {
         ScriptFault::Geometry(

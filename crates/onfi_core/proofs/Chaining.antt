@@ -73,7 +73,7 @@ index_there [] i d low = absurd (omega arith)
 index_there (x ∷ xs) zero d low = refl
 index_there (x ∷ xs) (suc i) d low = index_there xs i d (omega arith)
 
--- what is behind so many items of the chain on the block of the item at the place is marked
+-- what is after so many items of the chain on the block of the item at the place is marked
 pub record IsPassed (items : List Want) (marks : List Bool) (at count : ℕ) : Type 0 where
   pub within : count ≤ at
   pub own : (place : ℕ) (v w : Want) → place + 1 ≡ count → slice_get items place ≡ Some v → slice_get items at ≡ Some w → chain_of v ≡ chain_of w

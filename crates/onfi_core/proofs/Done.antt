@@ -24,6 +24,7 @@ use Rattle.slab.specs.Slab.{Slab}
 use Rattle.onfi_flight.specs.declared.due.Due.{Due}
 use Rattle.onfi_lun.specs.declared.phase_result.PhaseResult.{PhaseResult}
 use Rattle.onfi_lun.specs.declared.phase_result.PhaseResult.TheVariants as ran
+use Rattle.onfi_core.specs.declared.arrivals.Arrivals.{Arrivals}
 use Rattle.onfi_core.specs.declared.setup.Setup.{Setup}
 use Rattle.onfi_core.specs.declared.slot.Slot.{Slot}
 use Rattle.onfi_flight.specs.Flight.{Flight, IsPhase, after_due as flight_after, left_behind, member_of, move_of}
@@ -126,8 +127,8 @@ makes_of accepted faults due (ran.Post answer) le within =
     inr (faults, m.0, answer, le, m.1, rw at refl)
 
 -- there is room for the reply
-pub room_for : (s : Setup) (slots : Slab Slot) (n room : ℕ) (kept : List Reply) (h : HalfState) (lent : Option Reply) (due : Due) (replies : List Reply) → AreFields s slots n room kept None h lent → IsDue h due → Makes h.accepted due.group due.phase replies → length kept + length replies ≤ room
-room_for s slots n room kept h lent due replies f is makes =
+pub room_for : (s : Setup) (slots : Slab Slot) (came : ℕ × Arrivals) (room : ℕ) (kept : List Reply) (h : HalfState) (lent : Option Reply) (due : Due) (replies : List Reply) → AreFields s slots came room kept None h lent → IsDue h due → Makes h.accepted due.group due.phase replies → length kept + length replies ≤ room
+room_for s slots came room kept h lent due replies f is makes =
     let few = replies_few s (after_due h due replies) (sound_due s h due f.sound is replies makes) in
     let l = length-append h.held replies in
     let k = ap length f.lending.1 in
@@ -137,14 +138,14 @@ room_for s slots n room kept h lent due replies f is makes =
     omega arith
 
 -- the fields once the phase is done
-pub fields_done : (s : Setup) (slots : Slab Slot) (n room room' : ℕ) (kept kept' : List Reply) (h : HalfState) (lent lent' : Option Reply) (due : Due) (replies : List Reply) (accepted' : List Item) (held' posted' : List Reply) (flight' : Flight)
-    → AreFields s slots n room kept None h lent → IsDue h due → Makes h.accepted due.group due.phase replies → kept' ≡ kept ++ replies → room' ≡ room
+pub fields_done : (s : Setup) (slots : Slab Slot) (came : ℕ × Arrivals) (room room' : ℕ) (kept kept' : List Reply) (h : HalfState) (lent lent' : Option Reply) (due : Due) (replies : List Reply) (accepted' : List Item) (held' posted' : List Reply) (flight' : Flight)
+    → AreFields s slots came room kept None h lent → IsDue h due → Makes h.accepted due.group due.phase replies → kept' ≡ kept ++ replies → room' ≡ room
     → accepted' ≡ h.accepted → held' ≡ h.held ++ replies → posted' ≡ h.posted → lent' ≡ lent → flight' ≡ flight_after (flight_of h) due
-    → AreFields s slots n room' kept' None (record (with_flight h flight') { accepted = accepted'; held = held'; posted = posted' }) lent'
-fields_done s slots n room room' kept kept' h lent lent' due replies accepted' held' posted' flight' f is makes k c e0 e1 e2 e3 ef =
+    → AreFields s slots came room' kept' None (record (with_flight h flight') { accepted = accepted'; held = held'; posted = posted' }) lent'
+fields_done s slots came room room' kept kept' h lent lent' due replies accepted' held' posted' flight' f is makes k c e0 e1 e2 e3 ef =
     let l = f.lending in
     let same : kept' ≡ h.held ++ replies = k ∙ ap (λ rs. rs ++ replies) l.1 in
-    rw (e0, e1, e2, e3, ef) (fields_but s slots n room room' kept kept' None None h (after_due h due replies) lent lent f refl refl c (l.0, same) (sound_due s h due f.sound is replies makes))
+    rw (e0, e1, e2, e3, ef) (fields_but s slots came room room' kept kept' None None h (after_due h due replies) lent lent f refl refl c (l.0, same) (sound_due s h due f.sound is replies makes))
 
 -- a reply of these parts is that to the member
 pub reply_is : (accepted : List Item) (faults : List Fault) (due : Due) (given : PhaseResult) (answer : Answer) (place : ℕ) (item : Item) (basis : Basis)

@@ -36,7 +36,7 @@ use Rattle.onfi_core.proofs.Going.{going_start}
 use Rattle.onfi_core.proofs.Lists.{drop_next, get_has, All-at}
 use Rattle.onfi_core.proofs.Members.{item_of, place_lun, place_kind, place_page}
 
--- Where the LUN of the group is, as the phase starts: nothing was taken, or the commands before it, or what is behind it waits to be posted
+-- Where the LUN of the group is, as the phase starts: nothing was taken, or the commands before it, or what is after it waits to be posted
 pub record Ready (s : Setup) (h : HalfState) (chip : Chip) (g : List Want) (n start : ℕ) : Type 0 where
   pub group : IsGroup h.now.rules g
   pub members : All (IsTaken s h.planned h.accepted) g

@@ -45,7 +45,7 @@ pub record OnLun (s : Setup) (h : HalfState) (chip : Chip) (l : ℕ) (g : List W
   pub commands : n < length g → taken (slice_get chip.luns l) ≡ map (request_of h.accepted) (take n g)
   pub posts : length g ≤ n → (ready : ℕ) × (slice_get chip.luns l ≡ Some (Posting (map (post_for (device_for s chip) h.accepted) (drop (n - length g) g)) ready))
 
--- from when the group's phase behind this one may start
+-- from when the group's phase after this one may start
 abbrev pub ready_after : Problem → List Want → ℕ → ℕ → ℕ
 ready_after p group phase start = start + phase_length (group_spans p.timing group) (length group) phase + wait_before (group_spans p.timing group) (length group) (phase + 1)
 

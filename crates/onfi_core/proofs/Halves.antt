@@ -12,6 +12,7 @@ use Rattle.onfi_flight.specs.Flight.{IsFlight}
 use Rattle.onfi_die.specs.Order.{IsBeginning}
 use Rattle.onfi_chip.specs.Chip.{Chip}
 use Rattle.slab.specs.Slab.{Slab}
+use Rattle.onfi_core.specs.declared.arrivals.Arrivals.{Arrivals}
 use Rattle.onfi_core.specs.declared.lent.Lent.{Lent}
 use Rattle.onfi_core.specs.declared.outcome.Cause.{Cause}
 use Rattle.onfi_core.specs.declared.setup.Setup.{Setup}
@@ -51,11 +52,12 @@ module _ (s : Setup) (h : HalfState) (half : IsSound s h) (now : Problem) (left 
   }
 
 -- the fields of a half whose slots are as before
-pub fields_but : (s : Setup) (slots : Slab Slot) (n room room' : ℕ) (kept kept' : List Reply) (at at' : Option Lent) (h h' : HalfState) (lent lent' : Option Reply) → AreFields s slots n room kept at h lent
-    → h'.accepted ≡ h.accepted → h'.posted ≡ h.posted → room' ≡ room → IsLent h'.held kept' at' lent' → IsSound s h' → AreFields s slots n room' kept' at' h' lent'
-fields_but s slots n room room' kept kept' at at' h h' lent lent' f accepted posted same lending sound = record {
+pub fields_but : (s : Setup) (slots : Slab Slot) (came : ℕ × Arrivals) (room room' : ℕ) (kept kept' : List Reply) (at at' : Option Lent) (h h' : HalfState) (lent lent' : Option Reply) → AreFields s slots came room kept at h lent
+    → h'.accepted ≡ h.accepted → h'.posted ≡ h.posted → room' ≡ room → IsLent h'.held kept' at' lent' → IsSound s h' → AreFields s slots came room' kept' at' h' lent'
+fields_but s slots came room room' kept kept' at at' h h' lent lent' f accepted posted same lending sound = record {
   slots_are = rw (accepted, posted) f.slots_are;
   count = f.count ∙ ap length (sym accepted);
+  arrivals = rw accepted f.arrivals;
   numbered = rw accepted f.numbered;
   room_is = rw same f.room_is;
   lending = lending;

@@ -3,7 +3,7 @@ use Rattle.std.proofs.Common.{◌≡◌, ℕ, suc, zero, ◌+◌, ◌*◌, ◌-�
 use Rattle.std.specs.Prelude.{◌==◌}
 use Rattle.std.specs.List.{AllByRecursion as All, filter, flat_map}
 use Rattle.std.proofs.lemmas.Bool.{eq-eqb}
-use Rattle.onfi_timing.specs.declared.spans.Spans.{Spans}
+use Rattle.onfi_timing.specs.Phases.{Lengths}
 use Rattle.onfi_timing.specs.declared.timing.Timing.{Timing}
 use Rattle.onfi_request.specs.declared.reply.Reply.{Reply}
 use Rattle.onfi_request.specs.declared.request.Item.{Item}
@@ -18,10 +18,11 @@ use Rattle.onfi_die.proofs.Order.{rule_kept, Pairs-front}
 use Rattle.onfi_die.specs.Order.{AreInOrder, IsBeginning}
 use Rattle.onfi_die.specs.Rightful.{IsRightful}
 use Rattle.onfi_core.specs.declared.setup.Setup.{Setup}
-use Rattle.onfi_core.specs.Kept.{IsReached}
+use Rattle.onfi_core.specs.Kept.{IsReached, IsSound}
 use Rattle.onfi_core.specs.Reaching.{IdleIs, NextBehind, NothingHeld}
 use Rattle.onfi_core.specs.State.{HalfState, ChannelState, device_for, is_to, posted_to}
-use Rattle.onfi_core.specs.Steps.{GoesOut, is_empty, unplanned}
+use Rattle.onfi_core.specs.Steps.{GoesOut, is_empty, none_left, places_left, unplanned}
+use Rattle.onfi_core.proofs.Rooms.{places_idle}
 use Rattle.onfi_core.proofs.Hosts.{post_kept}
 use Rattle.onfi_core.proofs.Hosted.{to_own}
 use Rattle.onfi_core.proofs.Lists.{All-at}
@@ -94,9 +95,9 @@ pub back_nil : {A : Type 0} (xs ys : List A) → xs ++ ys ≡ [] → ys ≡ []
 back_nil [] ys h = h
 back_nil (x ∷ xs) ys h = cc
 
-pub no_start : (lun : ℕ) (spans : Spans) (k n : ℕ) (starts : List ℕ) (more : List Phase) → phases_from lun spans k n starts ++ more ≡ [] → starts ≡ []
-no_start lun spans k n [] more h = refl
-no_start lun spans k n (t ∷ ts) more h = cc
+pub no_start : (lun : ℕ) (lengths : Lengths) (k n : ℕ) (starts : List ℕ) (more : List Phase) → phases_from lun lengths k n starts ++ more ≡ [] → starts ≡ []
+no_start lun lengths k n [] more h = refl
+no_start lun lengths k n (t ∷ ts) more h = cc
 
 no_group : (timing : Timing) (rules : _) (groups : List Placed) → All (λ g. length g.starts ≡ 2 * length g.members) groups → All (λ g. IsGroup rules g.members) groups → flat_map (group_phases timing) groups ≡ [] → groups ≡ []
 no_group timing rules [] two group none = refl
@@ -115,12 +116,16 @@ none_taken n [] some none = refl
 none_taken zero (x ∷ xs) some none = absurd (omega arith)
 none_taken (suc n) (x ∷ xs) some none = cc
 
-pub idle_is : IdleIs
-idle_is s h sound over nothing =
+pub idle_wants : (s : Setup) (h : HalfState) → IsSound s h → none_left h ≡ true → h.now.wants ≡ []
+idle_wants s h sound over =
     let none = back_nil (rest_phases h.now.timing 0 h.now.luns h.left.rest) _ (is_nil _ over) in
     let shape = sound.legal.shape in
     let groups = no_group h.now.timing h.now.rules h.left.groups shape.starts sound.legal.group none in
-    let wants : h.now.wants ≡ [] = no_want h.now.wants (λ id. ap (λ gs. number (has_id id) (flat_map (λ (g : Placed). g.members) gs)) (sym groups) ∙ shape.once id) in
+    no_want h.now.wants (λ id. ap (λ gs. number (has_id id) (flat_map (λ (g : Placed). g.members) gs)) (sym groups) ∙ shape.once id)
+
+pub idle_is : IdleIs
+idle_is s h sound over nothing =
+    let wants = idle_wants s h sound over in
     let some = sound.some_batch in
-    let room : 1 ≤ h.batch - length h.now.wants = (let l = ap length wants in omega arith) in
-    (wants, none_taken (h.batch - length h.now.wants) (unplanned s h) room nothing)
+    let room : 1 ≤ places_left s.choice h = (let l = ap length wants in let e = places_idle s.choice h over in omega arith) in
+    (wants, none_taken (places_left s.choice h) (unplanned s h) room nothing)

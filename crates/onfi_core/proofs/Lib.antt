@@ -9,6 +9,11 @@ pub mod Bus
 pub mod Merged
 pub mod Marks
 pub mod Chaining
+pub mod Wholes
+pub mod Rooms
+pub mod PassedOver
+pub mod Awaited
+pub mod Settled
 pub mod Numbered
 pub mod Plan
 pub mod Accept

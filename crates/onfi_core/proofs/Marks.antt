@@ -19,7 +19,7 @@ wanted_on lun block w h = elim (cases_Bool (w.lun == lun)) [
   | inr k ↦ (let b : false ≡ true = rw k at h in cc)
 ]
 
-picked_merged : (marks : List Bool) (items : List Want) → length marks ≡ length items → AreMerged (picked marks items) (left_out marks items) items
+pub picked_merged : (marks : List Bool) (items : List Want) → length marks ≡ length items → AreMerged (picked marks items) (left_out marks items) items
 picked_merged [] [] e = (refl, refl)
 picked_merged (true ∷ marks) (w ∷ items) e = inl (picked marks items, refl, picked_merged marks items (omega arith))
 picked_merged (false ∷ marks) (w ∷ items) e = inr (left_out marks items, refl, picked_merged marks items (omega arith))
@@ -47,7 +47,7 @@ IsClosed items marks = (at : ℕ) → slice_get marks at ≡ Some true → Follo
 tail_closed : (m : Bool) (marks : List Bool) (w : Want) (items : List Want) → IsClosed (w ∷ items) (m ∷ marks) → IsClosed items marks
 tail_closed m marks w items closed at is before v u low gv gu el eb = closed (suc at) is (suc before) v u (omega arith) gv gu el eb
 
-closed_parts : (l b : ℕ) (marks : List Bool) (items : List Want) → IsClosed items marks → on l b items ≡ on l b (picked marks items) ++ on l b (left_out marks items)
+pub closed_parts : (l b : ℕ) (marks : List Bool) (items : List Want) → IsClosed items marks → on l b items ≡ on l b (picked marks items) ++ on l b (left_out marks items)
 closed_parts l b [] items closed = refl
 closed_parts l b (m ∷ marks) [] closed = refl
 closed_parts l b (true ∷ marks) (w ∷ items) closed =
@@ -70,7 +70,7 @@ closed_parts l b (false ∷ marks) (w ∷ items) closed =
       | inr k ↦ rw k i
     ]
 
-has_picked : (marks : List Bool) (items : List Want) (at : ℕ) (w : Want) → slice_get marks at ≡ Some true → slice_get items at ≡ Some w → Has (picked marks items) w
+pub has_picked : (marks : List Bool) (items : List Want) (at : ℕ) (w : Want) → slice_get marks at ≡ Some true → slice_get items at ≡ Some w → Has (picked marks items) w
 has_picked [] items at w h k = cc
 has_picked (m ∷ marks) [] at w h k = cc
 has_picked (true ∷ marks) (v ∷ items) zero w h k = inl cc
@@ -148,7 +148,7 @@ all_more at marks all here before low = elim (same_place before at) [
     below : (i at : ℕ) → i < at + 1 → (i ≡ at → ⊥) → i < at
     below i at low d = omega arith
 
--- one more is taken behind those that all are
+-- one more is taken after those that all are
 pub front_taken : (batch : ℕ) (items : List Want) (marks : List Bool) (at : ℕ) → IsSelection batch items marks → slice_get marks at ≡ Some false → marked marks < batch → AllBelow at marks → Grows batch items marks (slice_set marks at true)
 front_taken batch items marks at is f low all = taken_more batch items marks at is f low (λ before v w lt gv gw el eb. all before lt)
 
@@ -207,7 +207,7 @@ first_more n first marks new is count some below =
 pub mark_read : (marks : List Bool) (at : ℕ) (b : Bool) → at < length marks → get_or marks at false ≡ b → slice_get marks at ≡ Some b
 mark_read marks at b low e = slice_get-get_or marks at false low ∙ ap Some e
 
--- behind those that are pushed one more is marked
+-- after those that are pushed one more is marked
 pub picked_room : (marks : List Bool) (items wants : List Want) (at : ℕ) → length marks ≡ length items → marked marks ≤ 8 → slice_get marks at ≡ Some true → at < length items → wants ++ picked (drop at marks) (drop at items) ≡ picked marks items → length wants < 8
 picked_room marks items wants at count few here low is =
     let g = get_within items at low in

@@ -18,8 +18,8 @@ use Rattle.onfi_core.specs.declared.outcome.Cause.TheVariants.{Clock}
 use Rattle.onfi_core.specs.declared.outcome.Outcome.{Outcome}
 use Rattle.onfi_core.specs.declared.outcome.Outcome.TheVariants as outcome
 use Rattle.onfi_core.specs.declared.setup.Choice.{Choice}
-use Rattle.onfi_core.specs.declared.setup.Choice.TheVariants.{InOrder, ByLun, ReadsFirst}
-use Rattle.onfi_core.specs.Steps.{RunsLate, Taken, Takes, TakesBy, unplanned, if_stopped, is_current, is_empty, is_late, or_else, problem_with, refused_where, taken_next, nothing_to_plan, plan_refusal}
+use Rattle.onfi_core.specs.declared.setup.Choice.TheVariants.{InOrder, ByLun, ReadsFirst, WholeGroups}
+use Rattle.onfi_core.specs.Steps.{RunsLate, Taken, Takes, TakesBy, unplanned, if_stopped, is_current, is_empty, is_late, or_else, places_left, problem_with, refused_where, taken_next, nothing_to_plan, plan_refusal}
 use Rattle.onfi_group.proofs.Counting.{number-append}
 use Rattle.onfi_problem.specs.Left.{horizon}
 use Rattle.onfi_core.specs.Kept.{IsSound, is_of_place, unposted}
@@ -89,7 +89,7 @@ late_alone stopped none late a b = rw (a, b) refl
 plan_by_time : (s : Setup) (h : HalfState) (late : Bool) → h.stopped ≡ None → nothing_to_plan s h ≡ false → is_late s.choice s h ≡ late → plan_refusal s h ≡ refused_where late (outcome.Stopped Clock)
 plan_by_time s h late going some is = late_alone (if_stopped h.stopped) (nothing_to_plan s h) (is_late s.choice s h) (ap if_stopped going) some ∙ ap (λ b. refused_where b (outcome.Stopped Clock)) is
 
--- a planning of what is taken ends in time: in order the state tells so
+-- a planning of what is taken ends in time: in order the state says so
 early_by : (choice : Choice) (s : Setup) (h : HalfState) (taken : Taken) → TakesBy choice s h taken → horizon (problem_with h taken.wants) < 2 ^ 62
     → is_late choice s h ≡ false
 early_by InOrder s h taken takes low =
@@ -97,6 +97,7 @@ early_by InOrder s h taken takes low =
     grind (arith, nat_tests)
 early_by ByLun s h taken takes low = refl
 early_by ReadsFirst s h taken takes low = refl
+early_by WholeGroups s h taken takes low = refl
 
 -- nothing stands against a planning of what is taken that ends in time
 pub taken_goes_on : (s : Setup) (h : HalfState) (taken : Taken) → h.stopped ≡ None → nothing_to_plan s h ≡ false → Takes s h taken
@@ -127,13 +128,13 @@ empty_or [] = inl (refl, refl)
 empty_or (x ∷ xs) = inr (refl, omega arith)
 
 -- where nothing is set aside it takes what no planning has looked at
-pub new_takes : (s : Setup) (h : HalfState) → length h.now.wants < h.batch → length h.aside ≡ 0 → nat_lt h.planned (length h.accepted) ≡ not (is_empty (taken_next s h))
+pub new_takes : (s : Setup) (h : HalfState) → 1 ≤ places_left s.choice h → length h.aside ≡ 0 → nat_lt h.planned (length h.accepted) ≡ not (is_empty (taken_next s h))
 new_takes s h room none =
     let W = wants_from s.geometry h.planned (drop h.planned h.accepted) in
     let a = length-append h.aside W in
     let b = length_wants s.geometry h.planned (drop h.planned h.accepted) in
     let c = length-drop h.planned h.accepted in
-    let l = length-take (h.batch - length h.now.wants) (unplanned s h) in
+    let l = length-take (places_left s.choice h) (unplanned s h) in
     elim (empty_or (taken_next s h)) [
       | inl e ↦ le-ltb h.planned (length h.accepted) (let z = e.1 in omega (arith, a, b, c, l, z)) ∙ ap not (sym e.0)
       | inr e ↦ lt-ltb h.planned (length h.accepted) (let z = e.1 in omega (arith, a, b, c, l, z)) ∙ ap not (sym e.0)

@@ -29,7 +29,7 @@ split_at geometry n (suc m) (x ∷ xs) =
     let e : n + suc k ≡ n + 1 + k = omega arith in
     rw e (ap (λ zs. want_of geometry n x ∷ zs) (split_at geometry (n + 1) m xs))
 
--- the first m of the items behind n others, as wants that a plan took
+-- the first m of the items after n others, as wants that a plan took
 pub taken_are : (s : Setup) (all : List Item) (n m bound : ℕ) (pre xs : List Item) → all ≡ pre ++ xs → n ≡ length pre → n + length (take m (wants_from s.geometry n xs)) ≡ bound → All (IsTaken s bound all) (take m (wants_from s.geometry n xs))
 taken_are s all n zero bound pre xs e f g = tt
 taken_are s all n (suc m) bound pre [] e f g = tt
@@ -82,7 +82,7 @@ pub wants_rise : (geometry : Geometry) (n : ℕ) (xs : List Item) → Rising (wa
 wants_rise geometry n [] = tt
 wants_rise geometry n (x ∷ xs) = (above n (want_of geometry n x) _ refl (none_below geometry (n + 1) xs), wants_rise geometry (n + 1) xs)
 
--- the items behind n others, where all were looked at
+-- the items after n others, where all were looked at
 pub all_taken : (s : Setup) (all : List Item) (n : ℕ) (pre xs : List Item) → all ≡ pre ++ xs → n ≡ length pre → All (IsTaken s (length all) all) (wants_from s.geometry n xs)
 all_taken s all n pre [] e f = tt
 all_taken s all n pre (x ∷ xs) e f =

@@ -10,6 +10,7 @@ use Rattle.onfi_schedule.specs.Schedule.{Placed, Schedule, Legal, phases}
 use Rattle.onfi_flight.specs.Flight.{Flight, waited as flight_waited}
 use Rattle.onfi_flight.proofs.Stays.{wait_stays}
 use Rattle.slab.specs.Slab.{Slab}
+use Rattle.onfi_core.specs.declared.arrivals.Arrivals.{Arrivals}
 use Rattle.onfi_core.specs.declared.lent.Lent.{Lent}
 use Rattle.onfi_core.specs.declared.setup.Setup.{Setup}
 use Rattle.onfi_core.specs.declared.slot.Slot.{Slot}
@@ -29,9 +30,9 @@ pub wait_kept : (s : Setup) (c : ChannelState) (moment : ℕ) → IsReached s c 
 wait_kept s c moment r = same_replies s c (waited moment c.half) c.chip r refl refl refl refl (sound_waited s moment c.half r.half.sound)
     (λ going. (let g = r.chip going in record { geometry = g.geometry; timing = g.timing; blocks = λ l b. (let o = g.blocks l b in record { ran = o.ran; contents = o.contents; order = o.order }); luns = g.luns }))
 
--- the fields of a half behind a wait
-pub fields_waited : (s : Setup) (slots : Slab Slot) (n room : ℕ) (kept : List Reply) (at : Option Lent) (h : HalfState) (lent : Option Reply) (moment : ℕ) (flight' : Flight) (outdated : Bool)
-    → AreFields s slots n room kept at h lent → flight' ≡ flight_waited moment (flight_of h) → outdated ≡ (if h.outdated then true else nat_lt h.now.bus_free moment)
-    → AreFields s slots n room kept at (record (with_flight h flight') { outdated = outdated }) lent
-fields_waited s slots n room kept at h lent moment flight' outdated f ef eo =
-    rw (ef, eo) (fields_but s slots n room room kept kept at at h (waited moment h) lent lent f refl refl refl f.lending (sound_waited s moment h f.sound))
+-- the fields of a half after a wait
+pub fields_waited : (s : Setup) (slots : Slab Slot) (came : ℕ × Arrivals) (room : ℕ) (kept : List Reply) (at : Option Lent) (h : HalfState) (lent : Option Reply) (moment : ℕ) (flight' : Flight) (outdated : Bool)
+    → AreFields s slots came room kept at h lent → flight' ≡ flight_waited moment (flight_of h) → outdated ≡ (if h.outdated then true else nat_lt h.now.bus_free moment)
+    → AreFields s slots came room kept at (record (with_flight h flight') { outdated = outdated }) lent
+fields_waited s slots came room kept at h lent moment flight' outdated f ef eo =
+    rw (ef, eo) (fields_but s slots came room room kept kept at at h (waited moment h) lent lent f refl refl refl f.lending (sound_waited s moment h f.sound))

@@ -4,8 +4,9 @@ use Rattle.std.specs.Prelude.{slice_get, slice_set, map, ◌==◌}
 use Rattle.std.specs.List.{AllByRecursion as All}
 use Rattle.std.proofs.lemmas.Bool.{lt-ltb, le-ltb, cases_lt, eq-eqb, ne_eqb}
 use Rattle.std.proofs.lemmas.List.{drop_all, map-append, take_all}
+use Rattle.std.proofs.lemmas.Option.{get_or_from_slice_get}
 use Rattle.onfi_timing.specs.Kinds.{spans_of}
-use Rattle.onfi_timing.specs.Phases.{phase_length}
+use Rattle.onfi_timing.specs.Phases.{phase_length, wait_before}
 use Rattle.onfi_timing.specs.declared.spans.Spans.{Spans}
 use Rattle.onfi_timing.specs.declared.timing.Timing.{Timing}
 use Rattle.onfi_request.specs.declared.answer.Answer.{Answer}
@@ -14,13 +15,14 @@ use Rattle.onfi_request.specs.declared.request.Item.{Item}
 use Rattle.onfi_request.specs.declared.want.Want.{Want}
 use Rattle.onfi_group.specs.Group.{group_spans, kind_of, lun_of}
 use Rattle.onfi_group.specs.Words.{Has}
+use Rattle.onfi_group.proofs.PhaseLengths.{member_post}
 use Rattle.onfi_problem.specs.Moves.{lun_after}
 use Rattle.onfi_problem.specs.Problem.{Problem}
 use Rattle.onfi_problem.specs.declared.lun_state.LunState.{LunState}
 use Rattle.onfi_problem.specs.declared.lun_state.LunState.TheVariants.{Free, Running}
 use Rattle.onfi_problem.proofs.LunAfter.{lun_after_running, lun_after_free}
 use Rattle.onfi_problem.proofs.Perm.{All-has}
-use Rattle.onfi_problem.proofs.Places.{get_set_same, get_set_other, same_place, get_within}
+use Rattle.onfi_problem.proofs.Places.{get_set_same, get_set_other, same_place, get_within, within_get}
 use Rattle.onfi_schedule.specs.Schedule.{Schedule}
 use Rattle.onfi_die.specs.Answers.{answer_at}
 use Rattle.onfi_die.specs.Blocks.{happen}
@@ -71,7 +73,7 @@ module _ (s : Setup) (h : HalfState) (timing : h.now.timing ≡ s.timing) (chip 
   done_here : 2 * length g ≤ n + 1 → slice_get now.luns l ≡ Some (Free (start + phase_length (group_spans h.now.timing g) (length g) n))
   done_here le = lun_here ∙ ap Some (lun_after_free h.now.timing g n _ le)
 
-  -- what is in commands behind the phase
+  -- what is in commands after the phase
   commands_go_on : n + 1 < length g → commanding (slice_get now.luns l) ≡ front g n
   commands_go_on lt = let e = runs_here (omega arith) in rw (e, lt-ltb (n + 1) (length g) lt, lt-ltb n (length g) (omega arith)) refl
 
@@ -184,26 +186,34 @@ module _ (s : Setup) (h : HalfState) (timing : h.now.timing ≡ s.timing) (chip 
   with_member : (m : Want) → slice_get g n ≡ Some m → n < length g → taken (slice_get chip.luns l) ++ request_of h.accepted m ∷ [] ≡ map (request_of h.accepted) (take (n + 1) g)
   with_member m at lt = ap (λ rs. rs ++ request_of h.accepted m ∷ []) (lane.commands lt) ∙ sym (map-append (request_of h.accepted) (take n g) (m ∷ [])) ∙ ap (map (request_of h.accepted)) (sym (take_next g n m at))
 
-  -- a member's phases have the lengths of its group
-  spans_are : (m : Want) → Has g m → spans_of chip.timing (request_of h.accepted m).kind ≡ group_spans h.now.timing g
-  spans_are m k =
-      let kind : (request_of h.accepted m).kind ≡ kind_of g = place_kind s h m (All-has (IsTaken s h.planned h.accepted) g m going.members k) ∙ All-has (λ (v : Want). v.kind ≡ kind_of g) g m going.group.kind k in
-      ap (spans_of chip.timing) kind ∙ ap (λ (t : Timing). spans_of t (kind_of g)) (agrees.timing ∙ sym timing)
+  -- a member's lengths are those of its kind
+  kind_spans : (m : Want) → Has g m → spans_of chip.timing (request_of h.accepted m).kind ≡ spans_of h.now.timing m.kind
+  kind_spans m k =
+      let kind = place_kind s h m (All-has (IsTaken s h.planned h.accepted) g m going.members k) in
+      ap (spans_of chip.timing) kind ∙ ap (λ (t : Timing). spans_of t m.kind) (agrees.timing ∙ sym timing)
 
-  after_gap : n + 1 < length g → (spans : Spans) → spans ≡ group_spans h.now.timing g → start + spans.cmd + spans.gap ≡ ready_after h.now g n start
+  -- .. and those that its group shares
+  spans_are : (m : Want) → Has g m → spans_of chip.timing (request_of h.accepted m).kind ≡ spans_of h.now.timing (kind_of g)
+  spans_are m k = kind_spans m k ∙ ap (spans_of h.now.timing) (All-has (λ (v : Want). v.kind ≡ kind_of g) g m going.group.kind k)
+
+  after_gap : n + 1 < length g → (spans : Spans) → spans ≡ spans_of h.now.timing (kind_of g) → start + spans.cmd + spans.gap ≡ ready_after h.now g n start
   after_gap lt spans e = rw (e, lt-ltb n (length g) (omega arith), lt-ltb (n + 1) (length g) lt) refl
 
-  after_array : n + 1 ≡ length g → (spans : Spans) → spans ≡ group_spans h.now.timing g → start + spans.cmd + spans.array ≡ ready_after h.now g n start
+  after_array : n + 1 ≡ length g → (spans : Spans) → spans ≡ spans_of h.now.timing (kind_of g) → start + spans.cmd + spans.array ≡ ready_after h.now g n start
   after_array q spans e =
       let same : (n + 1 == length g) ≡ true = eq-eqb (n + 1) (length g) q in
       rw (e, lt-ltb n (length g) (omega arith), le-ltb (n + 1) (length g) (omega arith), same) refl
 
-  after_last : length g ≤ n → (spans : Spans) → spans ≡ group_spans h.now.timing g → start + spans.post ≡ ready_after h.now g n start
-  after_last le spans e =
+  after_last : length g ≤ n → (m : Want) → slice_get g (n - length g) ≡ Some m → (spans : Spans) → spans ≡ spans_of h.now.timing m.kind → start + spans.post ≡ ready_after h.now g n start
+  after_last le m at spans e =
+      let within = within_get g (n - length g) m at in
+      let post = member_post h.now.timing g n m le (omega arith) ∙ ap (λ (w : Want). (spans_of h.now.timing w.kind).post) (get_or_from_slice_get g (n - length g) m m at) in
       let other : (n + 1 == length g) ≡ false = ne_eqb (n + 1) (length g) (λ q. omega arith) in
-      rw (e, le-ltb n (length g) le, le-ltb (n + 1) (length g) (omega arith), other) (omega arith)
+      let none : wait_before (group_spans h.now.timing g) (length g) (n + 1) ≡ 0 = rw (le-ltb (n + 1) (length g) (omega arith), other) refl in
+      let same = ap (λ (x : Spans). x.post) e in
+      omega (arith, post, none, same)
 
-  -- a command behind which more come
+  -- a command after which more come
   pub after_command : (chip' : Chip) → Commands h.accepted g n start chip chip' → ChipAgrees s later chip'
   after_command chip' c =
       let m = c.member in
@@ -300,12 +310,12 @@ module _ (s : Setup) (h : HalfState) (timing : h.now.timing ≡ s.timing) (chip 
       let has = get_has g (n - length g) member c.is in
       let p = post_is chip' member answer c in
       let at : c.post.place.lun ≡ l = ap (λ (x : Post). x.place.lun) p ∙ member_lun member has in
-      let spans : spans_of chip.timing c.post.kind ≡ group_spans h.now.timing g = ap (λ (x : Post). spans_of chip.timing x.kind) p ∙ spans_are member has in
+      let spans : spans_of chip.timing c.post.kind ≡ spans_of h.now.timing member.kind = ap (λ (x : Post). spans_of chip.timing x.kind) p ∙ kind_spans member has in
       let d = c.done.state in
       let faults = ap (λ (x : Chip). device_for s x) d in
       let luns : chip'.luns ≡ slice_set chip.luns l (posts_behind c.others (ready_after h.now g n start)) =
       ap (λ (x : Chip). x.luns) d
-      ∙ ap (λ z. slice_set chip.luns c.post.place.lun (posts_behind c.others z)) (after_last le (spans_of chip.timing c.post.kind) spans)
+      ∙ ap (λ z. slice_set chip.luns c.post.place.lun (posts_behind c.others z)) (after_last le member c.is (spans_of chip.timing c.post.kind) spans)
       ∙ ap (λ i. slice_set chip.luns i (posts_behind c.others (ready_after h.now g n start))) at in
       let q = tail_same _ _ _ _ (given_is chip' member answer c) in
       record {

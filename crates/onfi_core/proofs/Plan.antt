@@ -20,16 +20,19 @@ use Rattle.onfi_problem.specs.Kept.{problem_of}
 use Rattle.onfi_problem.proofs.Wants.{Pairs-filter, one_with_id}
 use Rattle.onfi_core.specs.Kept.{on, is_want_on, IsTaken, IsSound, ChipAgrees, IsReached, Rise, commanding}
 use Rattle.onfi_core.specs.State.{HalfState, ChannelState, Planning, want_of, wants_from}
-use Rattle.onfi_core.specs.Steps.{unplanned, taken_next, next_problem, planned_by, problem_with, AreItems, Chooses, Plans, Taken, Takes, TakesBy, taken_in_order}
+use Rattle.onfi_core.specs.Steps.{unplanned, taken_next, next_problem, planned_by, problem_with, AreItems, Chooses, ChoosesWhole, Plans, places_left, Taken, Takes, TakesBy, taken_in_order}
 use Rattle.onfi_core.specs.declared.setup.Choice.{Choice}
-use Rattle.onfi_core.specs.declared.setup.Choice.TheVariants.{InOrder, ByLun, ReadsFirst}
+use Rattle.onfi_core.specs.declared.setup.Choice.TheVariants.{InOrder, ByLun, ReadsFirst, WholeGroups}
 use Rattle.onfi_core.specs.declared.setup.Setup.{Setup}
 use Rattle.onfi_core.proofs.Bus.{number-append}
 use Rattle.onfi_core.proofs.Halves.{same_replies}
 use Rattle.onfi_core.proofs.Lists.{All-at, All-drop, All-take}
 use Rattle.onfi_core.proofs.Merged.{all_parts, filter_merged, in_turn, merged_all, number_merged, rise_back, rise_parts}
 use Rattle.onfi_core.proofs.Numbered.{All-wants, all_taken, length_wants, none_below, split_at, taken_are, not_below, numbers_rise, Rising-append, wants_rise}
+use Rattle.onfi_core.proofs.PassedOver.{wants_of_waiters}
 use Rattle.onfi_core.proofs.Promise.{one_each}
+use Rattle.onfi_core.proofs.Rooms.{few_places}
+use Rattle.onfi_core.specs.Choice.{AreMerged}
 
 -- an item in range is a want of a problem
 plane_small : (s : Setup) (block : ℕ) → plane_of_block s.geometry block ≤ 3
@@ -91,14 +94,14 @@ pub record Keeps (s : Setup) (h : HalfState) (taken : Taken) : Type 0 where
 
 module _ (s : Setup) (h : HalfState) (half : IsSound s h) (empty : h.aside ≡ []) where
   abbrev room : ℕ
-  room = h.batch - length h.now.wants
+  room = places_left s.choice h
 
   abbrev items : List Item
   items = drop h.planned h.accepted
 
   -- the first of those that no planning has looked at
-  taken_is : taken_next s h ≡ take (h.batch - length h.now.wants) (wants_from s.geometry h.planned (drop h.planned h.accepted))
-  taken_is = ap (λ (xs : List Want). take (h.batch - length h.now.wants) (xs ++ wants_from s.geometry h.planned (drop h.planned h.accepted))) empty
+  taken_is : taken_next s h ≡ take room (wants_from s.geometry h.planned (drop h.planned h.accepted))
+  taken_is = ap (λ (xs : List Want). take room (xs ++ wants_from s.geometry h.planned (drop h.planned h.accepted))) empty
 
   new_wants : All (IsTaken s (h.planned + length (taken_next s h)) h.accepted) (h.now.wants ++ taken_next s h)
   new_wants =
@@ -127,7 +130,8 @@ module _ (s : Setup) (h : HalfState) (half : IsSound s h) (empty : h.aside ≡ [
   next_few : length (h.now.wants ++ taken_next s h) ≤ 8
   next_few =
       let a = length-append h.now.wants (taken_next s h) in
-      let b = length-take (h.batch - length h.now.wants) (unplanned s h) in
+      let b = length-take room (unplanned s h) in
+      let r = few_places s.choice h in
       let c = half.few in
       let d = half.few_batch in
       omega arith
@@ -183,7 +187,7 @@ module _ (s : Setup) (h : HalfState) (half : IsSound s h) where
       (All-weaker _ _ (later_taken s h.accepted h.planned (length h.accepted) half.planned) h.aside half.aside)
       (all_taken s h.accepted h.planned (take h.planned h.accepted) (drop h.planned h.accepted) (sym (take-append-drop h.planned h.accepted)) (sym (length-take-le h.planned h.accepted half.planned)))
 
-  items_taken : (items : List Want) → AreItems s h items → All (IsTaken s (length h.accepted) h.accepted) items
+  pub items_taken : (items : List Want) → AreItems s h items → All (IsTaken s (length h.accepted) h.accepted) items
   items_taken items are = merged_all (IsTaken s (length h.accepted) h.accepted) h.now.wants (unplanned s h) items are.all (All-weaker _ _ (later_taken s h.accepted h.planned (length h.accepted) half.planned) h.now.wants half.wants) unplanned_taken
 
   -- no want not started is unplanned
@@ -199,17 +203,18 @@ module _ (s : Setup) (h : HalfState) (half : IsSound s h) where
   pub apart : All (λ (x : Want). All (λ (y : Want). x.id ≢ y.id) (unplanned s h)) h.now.wants
   apart = All-each _ h.now.wants (λ x here. All-each _ (unplanned s h) (λ y there. apart_at x y here there))
 
-  module _ (taken : Taken) (chooses : Chooses s h taken) (chosen : s.choice ≢ InOrder) where
+  module _ (taken : Taken) (items : List Want) (are : AreItems s h items) (both : AreMerged taken.wants taken.aside items) (closed : (l b : ℕ) → on l b items ≡ on l b taken.wants ++ on l b taken.aside)
+      (few_chosen : length taken.wants ≤ h.batch) (all : taken.planned ≡ length h.accepted) (chosen : s.choice ≢ InOrder) where
     rises : Rise taken.wants × Rise taken.aside
-    rises = rise_parts taken.wants taken.aside chooses.items chooses.choice.both chooses.are.rise
+    rises = rise_parts taken.wants taken.aside items both are.rise
 
     looked_at : All (IsTaken s (length h.accepted) h.accepted) taken.wants × All (IsTaken s (length h.accepted) h.accepted) taken.aside
-    looked_at = all_parts (IsTaken s (length h.accepted) h.accepted) taken.wants taken.aside chooses.items chooses.choice.both (items_taken chooses.items chooses.are)
+    looked_at = all_parts (IsTaken s (length h.accepted) h.accepted) taken.wants taken.aside items both (items_taken items are)
 
     -- what is set aside is all that is unplanned then
     aside_is : unplanned_by s h taken ≡ taken.aside
     aside_is =
-        let none : wants_from s.geometry taken.planned (drop taken.planned h.accepted) ≡ [] = ap (wants_from s.geometry taken.planned) (drop_all taken.planned h.accepted (let e = chooses.all in omega arith)) in
+        let none : wants_from s.geometry taken.planned (drop taken.planned h.accepted) ≡ [] = ap (wants_from s.geometry taken.planned) (drop_all taken.planned h.accepted (let e = all in omega arith)) in
         ap (λ zs. taken.aside ++ zs) none ∙ append-nil taken.aside
 
     abbrev Looked : ℕ → List Want → Type 0
@@ -217,35 +222,48 @@ module _ (s : Setup) (h : HalfState) (half : IsSound s h) where
 
     pub keeps_chosen : Keeps s h taken
     keeps_chosen = record {
-      seen = let a = half.planned in let e = chooses.all in omega arith;
-      within = let e = chooses.all in omega arith;
+      seen = let a = half.planned in let e = all in omega arith;
+      within = let e = all in omega arith;
       problem = record {
         wants = All-weaker _ IsWant (taken_is_want s (length h.accepted) h.accepted half.in_range) taken.wants looked_at.0;
         running = half.problem.running;
         ids = rises.0;
         in_range = let e = half.luns in rw e (All-weaker _ (λ (w : Want). w.lun < s.geometry.lun_count) (taken_lun s (length h.accepted) h.accepted half.in_range) taken.wants looked_at.0);
       };
-      few = let a = chooses.choice.few in let b = half.few_batch in omega arith;
-      wants = subst (λ n. Looked n taken.wants) (sym chooses.all) looked_at.0;
-      aside = subst (λ n. Looked n taken.aside) (sym chooses.all) looked_at.1;
+      few = let a = few_chosen in let b = half.few_batch in omega arith;
+      wants = subst (λ n. Looked n taken.wants) (sym all) looked_at.0;
+      aside = subst (λ n. Looked n taken.aside) (sym all) looked_at.1;
       aside_rise = rises.1;
       in_order = λ e. absurd (chosen e);
       counts = λ i. (
-          let a = number_merged (has_id i) h.now.wants (unplanned s h) chooses.items chooses.are.all in
-          let b = number_merged (has_id i) taken.wants taken.aside chooses.items chooses.choice.both in
+          let a = number_merged (has_id i) h.now.wants (unplanned s h) items are.all in
+          let b = number_merged (has_id i) taken.wants taken.aside items both in
           let c = ap (number (has_id i)) aside_is in
           omega arith);
       order = λ l b rise. (
-          let m = filter_merged (is_want_on l b) h.now.wants (unplanned s h) chooses.items chooses.are.all in
-          let r = Pairs-filter _ (is_want_on l b) chooses.items chooses.are.rise in
-          let e = in_turn (on l b h.now.wants) (on l b (unplanned s h)) (on l b chooses.items) m rise r in
-          sym e ∙ chooses.choice.closed l b ∙ ap (λ zs. on l b taken.wants ++ on l b zs) (sym aside_is));
+          let m = filter_merged (is_want_on l b) h.now.wants (unplanned s h) items are.all in
+          let r = Pairs-filter _ (is_want_on l b) items are.rise in
+          let e = in_turn (on l b h.now.wants) (on l b (unplanned s h)) (on l b items) m rise r in
+          sym e ∙ closed l b ∙ ap (λ zs. on l b taken.wants ++ on l b zs) (sym aside_is));
     }
+
+keeps_by_lun : (s : Setup) (h : HalfState) (taken : Taken) → IsSound s h → Chooses s h taken → s.choice ≢ InOrder → Keeps s h taken
+keeps_by_lun s h taken half takes chosen =
+    let c = takes.choice in
+    keeps_chosen s h half taken takes.items takes.are c.both c.closed c.few takes.all chosen
+
+keeps_whole : (s : Setup) (h : HalfState) (taken : Taken) → IsSound s h → ChoosesWhole s h taken → s.choice ≢ InOrder → Keeps s h taken
+keeps_whole s h taken half takes chosen =
+    let c = takes.choice in
+    let same = wants_of_waiters h.accepted takes.items takes.items in
+    keeps_chosen s h half taken takes.items takes.are (subst (AreMerged taken.wants taken.aside) same c.both)
+    (λ l b. ap (on l b) (sym same) ∙ c.closed l b) c.few takes.all chosen
 
 keeps_by : (choice : Choice) (s : Setup) (h : HalfState) (taken : Taken) → IsSound s h → s.choice ≡ choice → TakesBy choice s h taken → Keeps s h taken
 keeps_by InOrder s h taken half is takes = subst (Keeps s h) (sym takes) (keeps_in_order s h half (half.in_order is))
-keeps_by ByLun s h taken half is takes = keeps_chosen s h half taken takes (λ e. let q : ByLun ≡ InOrder = sym is ∙ e in cc)
-keeps_by ReadsFirst s h taken half is takes = keeps_chosen s h half taken takes (λ e. let q : ReadsFirst ≡ InOrder = sym is ∙ e in cc)
+keeps_by ByLun s h taken half is takes = keeps_by_lun s h taken half takes (λ e. let q : ByLun ≡ InOrder = sym is ∙ e in cc)
+keeps_by ReadsFirst s h taken half is takes = keeps_by_lun s h taken half takes (λ e. let q : ReadsFirst ≡ InOrder = sym is ∙ e in cc)
+keeps_by WholeGroups s h taken half is takes = keeps_whole s h taken half takes (λ e. let q : WholeGroups ≡ InOrder = sym is ∙ e in cc)
 
 pub keeps_taken : (s : Setup) (h : HalfState) (taken : Taken) → IsSound s h → Takes s h taken → Keeps s h taken
 keeps_taken s h taken half takes = keeps_by s.choice s h taken half refl takes

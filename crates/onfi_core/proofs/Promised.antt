@@ -54,7 +54,7 @@ refused_is s h refused.NothingToPlan h' (e, is) = stop_alone h h' h.stopped is
 refused_is s h (refused.Over opened) h' (e, count, more, is) = stop_alone h h' h.stopped is
 refused_is s h refused.Memory h' (e, is) = stop_alone h h' h.stopped is
 
--- the last plan is such behind a planning, where a new one is
+-- the last plan is such after a planning, where a new one is
 pub planned_last : (Such : Planning → Type 0) (s : Setup) (h : HalfState) (result : Result ℕ PlanRefusal) (h' : HalfState) → IfOk result (λ _. IfSome h'.last Such) → IfErr result (λ refusal. PlanRefused s h refusal h') → IfSome h.last Such → IfSome h'.last Such
 planned_last Such s h (Ok finish) h' new why old = new
 planned_last Such s h (Err refusal) h' new why old = subst (λ l. IfSome l Such) (sym (ap (λ (x : HalfState). x.last) (refused_is s h refusal h' why))) old

@@ -33,7 +33,7 @@ use Rattle.onfi_core.specs.State.{ChannelState, is_from, is_to, sent_by, posted_
 use Rattle.onfi_core.specs.View.{HalfView, IsNext}
 use Rattle.onfi_core.proofs.Lists.{each_set, get_at_length}
 
--- a host of which nothing is told
+-- a host of which nothing is said
 other_queue : (s : Setup) (c c' : ChannelState) (j : ℕ) (q : HostQueue) → sent_by j c' ≡ sent_by j c → posted_to j c' ≡ posted_to j c → collected_by j c' ≡ collected_by j c → IsHostQueue s c j q → IsHostQueue s c' j q
 other_queue s c c' j q es ep ec old = record {
   sent = old.sent ∙ ap length (sym es);
@@ -41,7 +41,7 @@ other_queue s c c' j q es ep ec old = record {
   room = old.room;
 }
 
--- what isn't told of the hosts changes nothing
+-- what isn't said of the hosts changes nothing
 pub queues_same : (s : Setup) (lent lent' : Option Reply) (room room' : ℕ) (hosts : List HostQueue) (lanes lanes' : List AnyLun) (c c' : ChannelState) → AreQueues s lent room hosts lanes c → Reaches s c' → (c'.half.stopped ≡ None → LanesAgree c'.chip lanes') → c'.sent ≡ c.sent → c'.half.posted ≡ c.half.posted → c'.collected ≡ c.collected → lent' ≡ None → room' ≡ room → AreQueues s lent' room' hosts lanes' c'
 queues_same s lent lent' room room' hosts lanes lanes' c c' q reached lanes_are es ep ec el er = record {
   settled = el;

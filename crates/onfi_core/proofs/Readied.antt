@@ -17,6 +17,7 @@ use Rattle.onfi_chip.specs.Chip.{Chip, Lun, found_ready}
 use Rattle.onfi_chip.specs.Chip.Lun.{Posting}
 use Rattle.onfi_chip.specs.declared.post.Post.{Post}
 use Rattle.slab.specs.Slab.{Slab}
+use Rattle.onfi_core.specs.declared.arrivals.Arrivals.{Arrivals}
 use Rattle.onfi_core.specs.declared.lent.Lent.{Lent}
 use Rattle.onfi_core.specs.declared.setup.Setup.{Setup}
 use Rattle.onfi_core.specs.declared.slot.Slot.{Slot}
@@ -151,9 +152,9 @@ ready_kept s c lun r going works = same_replies s c (readied lun c.half) (found_
     (sound_readied s c.half r.half.sound lun works) (λ _. agrees_readied s c.half r.half.sound lun works c.chip (r.chip going))
 
 -- the fields of a half whose LUN is ready
-pub fields_readied : (s : Setup) (slots : Slab Slot) (n room : ℕ) (kept : List Reply) (at : Option Lent) (h : HalfState) (lent : Option Reply) (lun : ℕ) (flight' : Flight) (outdated : Bool)
-    → AreFields s slots n room kept at h lent → InArray (slice_get h.now.luns lun) → flight' ≡ flight_readied lun h.now.bus_free (flight_of h)
+pub fields_readied : (s : Setup) (slots : Slab Slot) (came : ℕ × Arrivals) (room : ℕ) (kept : List Reply) (at : Option Lent) (h : HalfState) (lent : Option Reply) (lun : ℕ) (flight' : Flight) (outdated : Bool)
+    → AreFields s slots came room kept at h lent → InArray (slice_get h.now.luns lun) → flight' ≡ flight_readied lun h.now.bus_free (flight_of h)
     → outdated ≡ (if h.outdated then true else nat_lt h.now.bus_free (free_from (slice_get h.now.luns lun)))
-    → AreFields s slots n room kept at (record (with_flight h flight') { outdated = outdated }) lent
-fields_readied s slots n room kept at h lent lun flight' outdated f works ef eo =
-    rw (ef, eo) (fields_but s slots n room room kept kept at at h (readied lun h) lent lent f refl refl refl f.lending (sound_readied s h f.sound lun works))
+    → AreFields s slots came room kept at (record (with_flight h flight') { outdated = outdated }) lent
+fields_readied s slots came room kept at h lent lun flight' outdated f works ef eo =
+    rw (ef, eo) (fields_but s slots came room room kept kept at at h (readied lun h) lent lent f refl refl refl f.lending (sound_readied s h f.sound lun works))

@@ -136,7 +136,7 @@ lost_by drive.Bus lun stop chip chip' e lost = let told : stop ≡ cause.Bus = c
 lost_by drive.NotReady lun stop chip chip' e lost = let told : stop ≡ cause.NotReady lun = cc in (post_fault.NotReady, (lun, told), lost)
 lost_by drive.Memory lun stop chip chip' e same = cc
 
--- want of memory leaves the chip
+-- refused memory leaves the chip
 pub kept_chip : (fault : DriveFault) (lun : ℕ) (chip chip' : Chip) → cause_of fault lun ≡ None → AfterDrive fault chip chip' → chip' ≡ chip
 kept_chip drive.Bus lun chip chip' e lost = cc
 kept_chip drive.NotReady lun chip chip' e lost = cc

@@ -1,4 +1,4 @@
--- Items in chains: those of a LUN one behind the other.
+-- Items in chains: those of a LUN one after the other.
 use Rattle.std.specs.Prelude.{◌≡◌, ℕ, ◌+◌, ◌<◌, ◌≤◌, ◌%◌, List, length, Some, slice_get}
 use Rattle.onfi_request.specs.declared.want.Want.{Want}
 use Rattle.onfi_core.specs.declared.choosing.chains.Chains.{Chains}

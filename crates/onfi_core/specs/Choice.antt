@@ -21,7 +21,7 @@ AreMerged xs ys (z ∷ zs) =
 abbrev pub Rise : List Want → Type 0
 Rise wants = Pairs (λ a b. a.id < b.id) wants
 
--- how many were accepted behind the item at that place and are no items any more: they started, and passed it over
+-- how many were accepted after the item at that place and are no items any more: they started, and passed it over
 abbrev pub passed_over : ℕ → List Want → ℕ → Want → ℕ
 passed_over accepted items at w = accepted - (w.id + 1) - (length items - (at + 1))
 

@@ -2,6 +2,8 @@ pub mod Ranges
 pub mod State
 pub mod Choice
 pub mod Chains
+pub mod Whole
+pub mod Passed
 pub mod Steps
 pub mod Renewing
 pub mod Kept

@@ -25,7 +25,7 @@ pub record ChannelFields : Type 0 where
 abbrev pub state_with : ChannelFields → Chip → ChannelState
 state_with fields chip = record { half = fields.half; chip = chip; sent = fields.sent; waiting = fields.waiting; collected = fields.collected }
 
--- what callers see of a channel, and of a core with a setup; `state` tells what a chip is
+-- what callers see of a channel, and of a core with a setup; `state` says what a chip is
 abbrev pub ChannelView : Type 0 → Type 0
 ChannelView C = ChannelFields × C
 

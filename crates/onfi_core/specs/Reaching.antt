@@ -8,9 +8,10 @@ use Rattle.onfi_core.specs.declared.event.Event.{Event}
 use Rattle.onfi_core.specs.declared.event.Event.TheVariants.{Plan}
 use Rattle.onfi_core.specs.declared.half.PlanRefusal.{PlanRefusal}
 use Rattle.onfi_core.specs.declared.outcome.Outcome.{Outcome}
+use Rattle.onfi_core.specs.declared.setup.Choice.TheVariants.{WholeGroups}
 use Rattle.onfi_core.specs.declared.setup.Setup.{Setup}
 use Rattle.onfi_core.specs.State.{HalfState, ChannelState, Planning, quiet, posted_to}
-use Rattle.onfi_core.specs.Steps.{Step, GoesOut, Plans, Taken, accept_refusal, held_for, none_left, plan_refusal, planned_by, taken_next, unplanned}
+use Rattle.onfi_core.specs.Steps.{Step, GoesOut, Plans, Taken, accept_refusal, held_for, none_left, nothing_to_plan, plan_refusal, planned_by, taken_next, unplanned}
 use Rattle.onfi_core.specs.Kept.{IsReached, IsSound}
 use Rattle.onfi_core.specs.Core.{Doing, DidAll, IsOpened, with_batch}
 use Rattle.onfi_core.specs.Refusals.{planned_outcome}
@@ -56,6 +57,10 @@ PlannedStep = (s : Setup) (c : ChannelState) (channel : ℕ) (result : Result �
 -- where no phase is left and nothing is to be planned, no want waits to start and no item is unplanned
 abbrev pub IdleIs : Type 0
 IdleIs = (s : Setup) (h : HalfState) → IsSound s h → none_left h ≡ true → taken_next s h ≡ [] → (h.now.wants ≡ []) × (unplanned s h ≡ [])
+
+-- after a planning by whole groups nothing is to be planned until an item is accepted, a want begins, no phase is left or time passes
+abbrev pub PlanSettles : Type 0
+PlanSettles = (s : Setup) (h : HalfState) (taken : Taken) (plan : Planning) → IsSound s h → s.choice ≡ WholeGroups → Plans s h taken plan → nothing_to_plan s (planned_by h taken plan) ≡ true
 
 -- where nothing is held for any host of the setup, nothing is held
 abbrev pub NothingHeld : Type 0

@@ -46,7 +46,7 @@ abbrev pub planned_outcome : Result ℕ PlanRefusal → Outcome
 planned_outcome (Ok finish) = outcome.Planned finish
 planned_outcome (Err refusal) = refusal_outcome refusal
 
--- why the channel stops where the phase on that LUN wasn't run; want of memory stops nothing
+-- why the channel stops where the phase on that LUN wasn't run; refused memory stops nothing
 abbrev pub cause_of : DriveFault → ℕ → Option Cause
 cause_of drive.Bus lun = Some cause.Bus
 cause_of drive.NotReady lun = Some (cause.NotReady lun)

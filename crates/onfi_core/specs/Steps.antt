@@ -1,6 +1,6 @@
 -- What an event does to a channel.
 use Rattle.std.specs.Prelude.{◌≡◌, ◌≢◌, ℕ, ◌+◌, ◌-◌, ◌^◌, ◌<◌, ◌≤◌, ◌⊎◌, ◌==◌, max, not, nat_le, nat_lt, if◌then◌else◌, Bool, true, false, IsTrue, List, [], ◌∷◌, ◌++◌, length, take, drop, Option, Some, None, slice_get}
-use Rattle.std.specs.List.{filter}
+use Rattle.std.specs.List.{filter, list_any}
 use Rattle.onfi_timing.specs.declared.kind.Kind.TheVariants.{Read}
 use Rattle.onfi_request.specs.declared.want.Want.{Want}
 use Rattle.onfi_request.specs.declared.answer.Answer.{Answer}
@@ -24,6 +24,8 @@ use Rattle.onfi_check.specs.Tree.{AcceptsTokens}
 use Rattle.onfi_check.specs.Nodes.{HasMoreNodes}
 use Rattle.onfi_known_check.specs.Laws.{NoneBefore}
 use Rattle.onfi_plan.specs.Certificate.{Certificate, Plain, IsPlain, ShowsBelow}
+use Rattle.onfi_steady.specs.Next.{any_work}
+use Rattle.onfi_steady.specs.Waiting.{Books, channel}
 use Rattle.onfi_chip.specs.declared.fault.PostFault.{PostFault}
 use Rattle.onfi_chip.specs.declared.fault.PostFault.TheVariants as post_fault
 use Rattle.onfi_chip.specs.declared.post.Post.{Post}
@@ -32,8 +34,10 @@ use Rattle.onfi_chip.specs.Chip.Lun.{Posting}
 use Rattle.onfi_chip.specs.Calls.{HasDone, IsLost}
 use Rattle.onfi_core.specs.declared.setup.Setup.{Setup}
 use Rattle.onfi_core.specs.declared.setup.Choice.{Choice}
-use Rattle.onfi_core.specs.declared.setup.Choice.TheVariants.{InOrder, ByLun, ReadsFirst}
+use Rattle.onfi_core.specs.declared.setup.Choice.TheVariants.{InOrder, ByLun, ReadsFirst, WholeGroups}
 use Rattle.onfi_core.specs.Choice.{AreMerged, Rise, IsChoice}
+use Rattle.onfi_core.specs.Passed.{newest_program, waiters_of}
+use Rattle.onfi_core.specs.Whole.{IsWholeChoice, is_running}
 use Rattle.onfi_core.specs.declared.event.Event.{Event}
 use Rattle.onfi_core.specs.declared.event.Event.TheVariants.{Submit, Accept, Plan, Bus, Wait, Ready, Post as PostTo, Collect}
 use Rattle.onfi_core.specs.declared.outcome.Cause.{Cause}
@@ -49,9 +53,31 @@ pub use Rattle.onfi_request.specs.Range.{fault_of}
 abbrev pub unplanned : Setup → HalfState → List Want
 unplanned s h = h.aside ++ wants_from s.geometry h.planned (drop h.planned h.accepted)
 
--- the first of them that find a place beside the wants not started, up to the batch in all
+abbrev pub is_empty : {A : Type 0} → List A → Bool
+is_empty [] = true
+is_empty (x ∷ xs) = false
+
+-- no phase of the plan is left
+abbrev pub none_left : HalfState → Bool
+none_left h = is_empty (phases h.now h.left)
+
+-- fewer wants are left than the last planning took: one began; so it is before the first planning
+abbrev pub has_begun : Option Planning → List Want → Bool
+has_begun None wants = true
+has_begun (Some plan) wants = nat_lt (length wants) (length plan.problem.wants)
+
+-- the last choice stands: no item was accepted since, no want of it began, and a phase is left that will run
+abbrev pub is_settled : HalfState → Bool
+is_settled h = if nat_lt h.planned (length h.accepted) then false else (if has_begun h.last h.now.wants then false else not (none_left h))
+
+-- how many wants find a place beside those not started; by whole groups none while the last choice stands, with what it left open
+abbrev pub places_left : Choice → HalfState → ℕ
+places_left WholeGroups h = if is_settled h then 0 else h.batch - length h.now.wants
+places_left other h = h.batch - length h.now.wants
+
+-- the first of the unplanned that find a place
 abbrev pub taken_next : Setup → HalfState → List Want
-taken_next s h = take (h.batch - length h.now.wants) (unplanned s h)
+taken_next s h = take (places_left s.choice h) (unplanned s h)
 
 -- these wants; the bus and the LUNs as they stand
 abbrev pub problem_with : HalfState → List Want → Problem
@@ -83,10 +109,22 @@ pub record Chooses (s : Setup) (h : HalfState) (taken : Taken) : Type 0 where
   pub choice : IsChoice h.batch (length h.accepted) items taken.wants taken.aside
   pub all : taken.planned ≡ length h.accepted
 
+-- what is known of a choice by whole groups of these wants: how often each was passed over, and the newest program
+abbrev pub books_of : Setup → HalfState → List Want → Books
+books_of s h items = record { rules = s.rules; waiting = waiters_of h.accepted items; newest = newest_program h.accepted }
+
+-- by whole groups: such a choice of all accepted items that aren't started, with the bus and the LUNs as they stand
+pub record ChoosesWhole (s : Setup) (h : HalfState) (taken : Taken) : Type 0 where
+  pub items : List Want
+  pub are : AreItems s h items
+  pub choice : IsWholeChoice s.rules (newest_program h.accepted) (any_work (books_of s h items) (channel s.timing h.now.bus_free h.now.luns (books_of s h items))) (list_any is_running h.now.luns) h.batch (waiters_of h.accepted items) taken.wants taken.aside
+  pub all : taken.planned ≡ length h.accepted
+
 abbrev pub TakesBy : Choice → Setup → HalfState → Taken → Type 0
 TakesBy InOrder s h taken = taken ≡ taken_in_order s h
 TakesBy ByLun s h taken = Chooses s h taken
 TakesBy ReadsFirst s h taken = Chooses s h taken
+TakesBy WholeGroups s h taken = ChoosesWhole s h taken
 
 abbrev pub Takes : Setup → HalfState → Taken → Type 0
 Takes s h taken = TakesBy s.choice s h taken
@@ -151,7 +189,7 @@ RunsLate s h = (taken : Taken) × Takes s h taken × (2 ^ 62 ≤ horizon (proble
 
 -- What a phase does
 
--- a command behind which more come
+-- a command after which more come
 pub record Commands (accepted : List Item) (group : List Want) (phase start : ℕ) (chip chip' : Chip) : Type 0 where
   pub member : Want
   pub is : slice_get group phase ≡ Some member
@@ -211,10 +249,6 @@ pub record Runs (c c' : ChannelState) (start : ℕ) : Type 0 where
 
 -- Refusals that the state decides, the first that holds
 
-abbrev pub is_empty : {A : Type 0} → List A → Bool
-is_empty [] = true
-is_empty (x ∷ xs) = false
-
 abbrev pub or_else : Option Outcome → Option Outcome → Option Outcome
 or_else (Some o) other = Some o
 or_else None other = other
@@ -235,10 +269,6 @@ if_faulty (Some fault) r = Some (Refused fault r)
 abbrev pub unanswered : HalfState → ℕ
 unanswered h = length h.accepted - length h.posted
 
--- no phase of the plan is left
-abbrev pub none_left : HalfState → Bool
-none_left h = is_empty (phases h.now h.left)
-
 abbrev pub held_for : ℕ → HalfState → List Reply
 held_for host h = filter (is_to host) h.held
 
@@ -256,6 +286,7 @@ abbrev pub is_late : Choice → Setup → HalfState → Bool
 is_late InOrder s h = nat_le (2 ^ 62) (horizon (next_problem s h))
 is_late ByLun s h = false
 is_late ReadsFirst s h = false
+is_late WholeGroups s h = false
 
 -- the plan is that of the bus and the LUNs as they stand, or nothing of it is left
 abbrev pub is_current : HalfState → Bool
@@ -366,7 +397,7 @@ pub record AsksStatus (p : Problem) (move : Move) : Type 0 where
   pub there : slice_get group (phase - length group) ≡ Some member
   pub kind : member.kind ≢ Read
 
--- the bus may fail at any phase; only the status of a program or an erase tells that its LUN isn't ready, where it comes next
+-- the bus may fail at any phase; only the status of a program or an erase says that its LUN isn't ready, where it comes next
 abbrev pub IsCauseOf : HalfState → Cause → Type 0
 IsCauseOf h BusFailed = Unit {0}
 IsCauseOf h (NotReady lun) = (move : Move) × (start : ℕ) × (left : Schedule) × ComesNext h.now h.left move start left × (move_lun move ≡ lun) × AsksStatus h.now move
@@ -377,7 +408,7 @@ abbrev pub IsToldAs : PostFault → Cause → Type 0
 IsToldAs post_fault.Bus cause = cause ≡ BusFailed
 IsToldAs post_fault.NotReady cause = (lun : ℕ) × (cause ≡ NotReady lun)
 
--- a chip call failed: then only the chip's faults are known, and its count of the fault that the cause tells, which rose
+-- a chip call failed: then only the chip's faults are known, and its count of the fault that the cause names, which rose
 pub record Fails (c c' : ChannelState) (cause : Cause) : Type 0 where
   pub chip : Chip
   pub fault : PostFault

@@ -70,7 +70,7 @@ impl<C: Chip> Channel<C> {
     /// A channel with nothing sent, accepted or planned. Its queues' room is made here, once for all.
     ///
     /// # Errors
-    /// Want of memory.
+    /// Where memory was refused.
     pub fn open(alloc: Global, setup: Setup, chip: C) -> Result<Channel<C>, AllocError>
     where
         C: Drop,

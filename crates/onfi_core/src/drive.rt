@@ -74,7 +74,7 @@ pub fn run_due<C: Chip>(
     }
 }
 
-/// Why a channel stops where the phase on that LUN wasn't run; want of memory stops nothing.
+/// Why a channel stops where the phase on that LUN wasn't run; refused memory stops nothing.
 pub fn cause_of(fault: DriveFault, lun: u8) -> Option<Cause>
     ensures { result ≡ cause_of fault lun }
 {

@@ -42,7 +42,7 @@ pub enum Event {
     },
     /// The array of this LUN may be done: its group's next phase is the first post. The chip is asked whether the LUN is
     /// ready as the bus is free; where it says so the post may start then, and the next planning plans anew. So a caller
-    /// that tells this of a LUN that works still changes nothing. A chip that says yes too early is one that breaks its
+    /// that says this of a LUN that works still changes nothing. A chip that says yes too early is one that breaks its
     /// contract: the post that comes then finds the LUN busy, and a status stops the channel.
     Ready {
         channel: u8,

@@ -29,13 +29,21 @@ pub fn item_of(slots: &Slab<Slot>, place: u64) -> &Item
     requires { HasSlot slots.now place }
     ensures { (key : ℕ) × (slot : ASlot) × (get slots.now key ≡ Some slot) × (slot.place ≡ place) × (result.now ≡ slot.item) }
 {
+    &slot_of(slots, place).item
+}
+
+/// The slot with that place.
+pub fn slot_of(slots: &Slab<Slot>, place: u64) -> &Slot
+    requires { HasSlot slots.now place }
+    ensures { (key : ℕ) × (get slots.now key ≡ Some result.now) × (result.now.place ≡ place) }
+{
     let Some(key) = find(slots, place) else {
         unreachable!();
     };
     let Some(slot) = slots.get(key) else {
         unreachable!();
     };
-    &slot.item
+    slot
 }
 
 /// The least place of a slot that isn't below this one.

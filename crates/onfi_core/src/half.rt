@@ -10,6 +10,7 @@ ghost use Rattle.onfi_core.specs.Refusals.{fault_outcome};
 ghost use Rattle.onfi_core.specs.View.{IsNext, IsOldest, accepting, plainly_with, planning_of, planning_with, PlannedAs, RefusedAs, refusal_of, taken_of};
 ghost use Rattle.onfi_core.specs.declared.setup.Choice.TheVariants.{InOrder};
 
+use crate::arrivals::Arrivals;
 use crate::batch::Batch;
 use crate::finding::find;
 use crate::history::History;
@@ -33,7 +34,9 @@ mod counts;
 pub(crate) mod passing;
 mod phase;
 mod renewing;
+mod settling;
 mod unanswered;
+mod waiting;
 
 use choosing::Taking;
 
@@ -47,6 +50,7 @@ pub struct Half {
     batch: u8,
     slots: Slab<Slot>,
     accepted: u64,
+    arrivals: Arrivals,
     planned: u64,
     aside: Vec<Want>,
     flight: Flight,
@@ -82,7 +86,7 @@ impl Model for Half {
       lent = h.history.lent;
     } };
 
-    ghost invariant = { λ h. AreFields h.setup h.slots h.accepted (vec_capacity h.held) h.held.items h.lent
+    ghost invariant = { λ h. AreFields h.setup h.slots (h.accepted, h.arrivals) (vec_capacity h.held) h.held.items h.lent
         (record {
           accepted = h.history.accepted;
           planned = h.planned;
@@ -98,7 +102,7 @@ impl Model for Half {
         }) h.history.lent };
 }
 
-/// Why an item isn't accepted, in the order in which it is told.
+/// Why an item isn't accepted, in the order in which it is reported.
 #[derive(Clone, Copy, Debug, PartialEq, Eq)]
 pub enum AcceptFault {
     /// The channel stopped.
@@ -107,13 +111,14 @@ pub enum AcceptFault {
     WindowFull,
 }
 
-/// Why nothing is planned, in the order in which it is told.
+/// Why nothing is planned, in the order in which it is reported.
 #[derive(Clone, Copy, Debug, PartialEq, Eq)]
 pub enum PlanRefusal {
     /// The channel stopped, now or earlier.
     Stopped(Cause),
-    /// No accepted item is unplanned, or the wants not started fill the batch; and no time passed since the plan was made,
-    /// or no phase of it is left.
+    /// No accepted item is unplanned, or the wants not started fill the batch, or, by whole groups, the last choice stands
+    /// though items wait, such as programs that it held back; and no time passed since the plan was made, or no phase of it is
+    /// left.
     NothingToPlan,
     /// The search opened as many nodes as it may and isn't over; the old plan stands.
     Over { opened: u32 },
@@ -121,7 +126,7 @@ pub enum PlanRefusal {
     Memory,
 }
 
-/// Why no phase is due, in the order in which it is told.
+/// Why no phase is due, in the order in which it is reported.
 #[derive(Clone, Copy, Debug, PartialEq, Eq)]
 pub enum DueRefusal {
     /// The channel stopped.
@@ -134,7 +139,7 @@ impl Half {
     /// Nothing is accepted yet, the bus and all LUNs are free from 0 on, and the batch is the setup's.
     ///
     /// # Errors
-    /// Want of memory.
+    /// Where memory was refused.
     pub fn open(alloc: Global, setup: Setup) -> Result<Half, AllocError>
         ensures { IfOk result (λ h. h ≡ record { setup = setup; state = first_half setup; lent = None }) }
     {
@@ -146,6 +151,7 @@ impl Half {
             batch: setup.batch,
             slots,
             accepted: 0,
+            arrivals: Arrivals::new(),
             planned: 0,
             aside: Vec::new(alloc),
             flight: Flight::idle(alloc, setup.timing, setup.rules, 0, lun_count),
@@ -165,7 +171,7 @@ impl Half {
         self.setup
     }
 
-    /// Why no item is accepted, if so: told before the intake's queue is popped.
+    /// Why no item is accepted, if so: reported before the intake's queue is popped.
     pub fn refuses(&self) -> Option<AcceptFault>
         requires settled { self.now.lent ≡ None }
         ensures { MatchOption result (accept_refusal self.now.state ≡ None) (λ f. accept_refusal self.now.state ≡ Some (fault_outcome f)) }
@@ -188,8 +194,10 @@ impl Half {
         ensures place { result ≡ length self.old.state.accepted }
     {
         let place = self.accepted;
+        let nth = self.arrivals.by_lun[usize::from(item.request.place.lun)];
         self.history = self.history.accepting(&item);
-        self.slots.insert_reserved(Slot { place, item });
+        self.arrivals = self.arrivals.counting(place, &item);
+        self.slots.insert_reserved(Slot { place, nth, item });
         self.accepted += 1;
         place
     }
@@ -204,7 +212,7 @@ impl Half {
         self.batch = batch;
     }
 
-    /// Plans, with the bus and the LUNs as they stand: in order the wants not started, and behind them the first unplanned
+    /// Plans, with the bus and the LUNs as they stand: in order the wants not started, and after them the first unplanned
     /// items, up to the batch in all; else a choice of all accepted items that aren't started, and those that it leaves are
     /// set aside. The plan is optimal, and tokens show it. It takes the old one's place; its finish is answered, in ns of the
     /// channel's clock.

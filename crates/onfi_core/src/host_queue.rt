@@ -33,7 +33,7 @@ impl HostQueue {
 /// So many hosts that sent nothing, with room for so many replies each.
 ///
 /// # Errors
-/// Want of memory.
+/// Where memory was refused.
 pub fn host_queues(alloc: Global, count: u8, room: u16) -> Result<Vec<HostQueue>, AllocError>
     ensures count { IfOk result (λ hosts. length hosts.items ≡ count) }
     ensures empty { IfOk result (λ hosts. Each (IsEmptyQueue room) hosts.items) }

@@ -2,7 +2,7 @@
 
 ghost use Rattle.onfi_core.specs.Core.{Headline, OpenedIsReached, StepKeeps, RunKeeps, ReachedKeeps, PostedInOrder};
 ghost use Rattle.onfi_core.specs.Steps.{FinishIsOptimal, PlainIsPlain};
-ghost use Rattle.onfi_core.specs.Reaching.{EventsReach, StepReaches, BatchReached, AcceptingReached, PostingReached, PlannedStep, IdleIs, NothingHeld, NextBehind};
+ghost use Rattle.onfi_core.specs.Reaching.{EventsReach, StepReaches, BatchReached, AcceptingReached, PostingReached, PlannedStep, IdleIs, PlanSettles, NothingHeld, NextBehind};
 
 /// Whatever list of events happens to an opened core, and whichever batches are set between them, each channel keeps
 /// its promise.
@@ -61,7 +61,7 @@ pub fn accepting_reached()
 {}
 
 /// From a channel with nothing on its way, the oldest reply that is held for a host is posted and collected: the channel
-/// behind that is reached too.
+/// after that is reached too.
 pub fn posting_reached()
     ensures { PostingReached }
 {}
@@ -76,6 +76,12 @@ pub fn planned_step()
 #[tactic(auto, using(crate::proofs::HeldFor::idle_is))]
 pub fn idle_is()
     ensures { IdleIs }
+{}
+
+/// After a planning by whole groups nothing is to be planned until an item is accepted, a want begins, no phase is left or time passes.
+#[tactic(auto, using(crate::proofs::Settled::plan_settles))]
+pub fn plan_settles()
+    ensures { PlanSettles }
 {}
 
 /// Where nothing is held for any host of the setup, nothing is held.

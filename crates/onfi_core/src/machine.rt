@@ -47,13 +47,13 @@ impl<C: Chip, P: Planner> Model for Core<C, P> {
     ghost invariant = { λ c. AreChannels C.state (IsPromised P.exact P.certifies) c.setup c.channels.items };
 }
 
-/// Why a core doesn't open, in the order in which it is told.
+/// Why a core doesn't open, in the order in which it is reported.
 #[derive(Clone, Copy, Debug, PartialEq, Eq, Error)]
 pub enum CoreFault {
     /// Not one chip for each channel of the setup.
     #[error("not one chip for each channel")]
     Chips,
-    /// Want of memory.
+    /// Memory was refused.
     #[error("out of memory")]
     Memory,
 }
@@ -142,7 +142,7 @@ impl<C: Chip, P: Planner> Core<C, P> {
     /// The events one after another, and what each came to.
     ///
     /// # Errors
-    /// Want of memory for the answer: then nothing was done.
+    /// Where memory for the answer was refused: then nothing was done.
     pub fn run(&mut self, alloc: Global, events: Vec<Event>) -> Result<Vec<Outcome>, AllocError>
         ensures run { IfOk result (λ outcomes. CoreRun self.old.0 (states_in C.state self.old) events.items outcomes.items (states_in C.state self.new)) }
         ensures nothing { OnErr result (self.new ≡ self.old) }

@@ -49,7 +49,7 @@ pub enum Outcome {
     Waited { bus_free: u64 },
     /// The LUN's first post may start from then on, in ns of the channel's clock.
     ReadyFrom { ready: u64 },
-    /// The moment, or the last start of what would be left of the plan, is at 2^62 ns or behind.
+    /// The moment, or the last start of what would be left of the plan, is at 2^62 ns or later.
     TooLate,
     /// No array of the LUN works: it is free, or its group is in its commands or in its posts.
     NotInArray,
@@ -62,7 +62,7 @@ pub enum Outcome {
 pub enum Cause {
     /// A call of the chip failed.
     Bus,
-    /// The LUN's status told that it isn't ready.
+    /// The LUN's status said that it isn't ready.
     NotReady(u8),
     /// The next plan might end at 2^62 ns or later.
     Clock,

@@ -11,13 +11,16 @@ use thiserror::Error;
 /// Which of the accepted items that aren't started a planning takes, up to the batch.
 #[derive(Clone, Copy, Debug, Default, PartialEq, Eq)]
 pub enum Choice {
-    /// The wants not started, and behind them the first items that no plan has taken.
+    /// The wants not started, and after them the first items that no plan has taken.
     #[default]
     InOrder,
-    /// By LUN, the one that comes free first at first: its oldest request and those that can join its group.
+    /// By LUN, the one that comes free soonest first: its oldest request and those that can join its group.
     ByLun,
     /// By LUN, and of each its oldest read; where it has none its oldest program, else its oldest erase.
     ReadsFirst,
+    /// By LUN, whole groups, as [`choose_whole`](crate::choose_whole) goes: what is due first, and a group of programs waits for
+    /// the mates of the newest one while another LUN has work. So a plan may leave room in the batch, or hold no want.
+    WholeGroups,
 }
 
 /// When a sequencer plans anew while a phase of its plan is left.
@@ -71,7 +74,7 @@ pub struct Setup {
     ghost few_nodes: { limit ≤ 1048576 },
 }
 
-/// Which number of a setup is out of range, in the order in which it is told.
+/// Which number of a setup is out of range, in the order in which it is reported.
 #[derive(Clone, Copy, Debug, PartialEq, Eq, Error)]
 pub enum SetupFault {
     /// Not 1 to 4 channels.

@@ -1,6 +1,7 @@
 -- What has the same left has the same moves, which leave the same.
 use Rattle.std.proofs.Common.{◌≡◌, ◌≢◌, ℕ, ◌+◌, ◌*◌, ◌≤◌, ◌<◌, inl, inr, Bool, true, false, List, [], ◌∷◌, length, map, Option, Some, None, refl, sym, ap, ◌∙◌, subst, arith}
 use Rattle.std.specs.Prelude.{slice_get, slice_set}
+use Rattle.std.specs.List.{AllByRecursion as All}
 use Rattle.std.specs.Option.{option_map}
 use Rattle.std.proofs.lemmas.Bool.{cases_lt}
 use Rattle.std.proofs.lemmas.List.{length-map}
@@ -21,6 +22,7 @@ use Rattle.onfi_schedule.proofs.Exchange.{not_member}
 use Rattle.onfi_bound.specs.Bounds.{on_lun}
 use Rattle.onfi_bound.proofs.DieBound.{on_lun_other}
 use Rattle.onfi_demand.specs.Left.{LunLeft, Idle, Rest, left_on, SameLeft, has_left_at, has_left}
+use Rattle.onfi_demand.proofs.OneKind.{IsAlike, RunsAlike, same_lengths, runs_alike, group_alike}
 
 abbrev pub Alike : List LunState → List LunState → Type 0
 Alike xs ys = map left_on xs ≡ map left_on ys
@@ -53,7 +55,7 @@ free_alike xs ys l b h at = go (slice_get xs l) refl (alike_at xs ys l h ∙ ap 
     go (Some (Free a)) e k = (a, e)
     go (Some (Running g' n' r')) e k = cc
 
--- behind a phase the LUN has the same left, whenever it ended
+-- after a phase the LUN has the same left, whenever it ended
 pub after_alike : (timing : Timing) (g g' : List Want) (n c c' : ℕ) → kind_of g ≡ kind_of g' → length g ≡ length g' → left_on (lun_after timing g n c) ≡ left_on (lun_after timing g' n c')
 after_alike timing g g' n c c' kind size =
     elim (cases_lt (n + 1) (2 * length g)) [
@@ -82,7 +84,7 @@ waits_alike timing g g' n kind size =
 pub set_alike : (xs ys : List LunState) (l : ℕ) (x y : LunState) → Alike xs ys → left_on x ≡ left_on y → Alike (slice_set xs l x) (slice_set ys l y)
 set_alike xs ys l x y h k = map_set left_on xs l x ∙ (ap (λ zs. slice_set zs l (left_on x)) h ∙ (ap (λ z. slice_set (map left_on ys) l z) k ∙ sym (map_set left_on ys l y)))
 
--- behind a phase of LUN l that starts at t
+-- after a phase of LUN l that starts at t
 pub record IsBehind (q p : Problem) (l long wait t : ℕ) : Type 0 where
   pub bus : q.bus_free ≡ t + long
   pub own : free_from (slice_get q.luns l) ≡ t + long + wait
@@ -107,9 +109,10 @@ module _ (timing : Timing) (rules : Rules) where
       let c = t + phase_length (group_spans timing g) (length g) n in
       with_times wants c (slice_set luns l (lun_after timing g n c))
 
-  is_behind : (wants : List Want) (b : ℕ) (luns : List LunState) (l : ℕ) (g g' : List Want) (n t : ℕ) (x : LunState) → slice_get luns l ≡ Some x → kind_of g ≡ kind_of g' → length g ≡ length g' → IsBehind (behind wants luns l g n t) (with_times wants b luns) l (phase_length (group_spans timing g') (length g') n) (waits timing g' n) t
-  is_behind wants b luns l g g' n t x at kind size =
-      let long : phase_length (group_spans timing g) (length g) n ≡ phase_length (group_spans timing g') (length g') n = rw (kind, size) refl in
+  is_behind : (wants : List Want) (b : ℕ) (luns : List LunState) (l : ℕ) (g g' : List Want) (n t : ℕ) (x : LunState) → slice_get luns l ≡ Some x → IsAlike g → IsAlike g' → kind_of g ≡ kind_of g' → length g ≡ length g' → IsBehind (behind wants luns l g n t) (with_times wants b luns) l (phase_length (group_spans timing g') (length g') n) (waits timing g' n) t
+  is_behind wants b luns l g g' n t x at own other kind size =
+      let lengths = same_lengths timing g g' own other kind size in
+      let long : phase_length (group_spans timing g) (length g) n ≡ phase_length (group_spans timing g') (length g') n = ap (λ z. phase_length z (length g) n) lengths ∙ ap (λ k. phase_length (group_spans timing g') k n) size in
       let c = t + phase_length (group_spans timing g) (length g) n in
       let w = waits_behind timing g n c in
       let s = waits_alike timing g g' n kind size in
@@ -119,22 +122,24 @@ module _ (timing : Timing) (rules : Rules) where
   same_behind : (wants : List Want) (luns luns' : List LunState) (l : ℕ) (g g' : List Want) (n t u : ℕ) → Alike luns luns' → kind_of g ≡ kind_of g' → length g ≡ length g' → SameLeft (behind wants luns l g n t) (behind wants luns' l g' n u)
   same_behind wants luns luns' l g g' n t u h kind size = record { timing = refl; rules = refl; wants = refl; luns = set_alike luns luns' l _ _ h (after_alike timing g g' n _ _ kind size) }
 
-  both_times : (m : Move) (wants : List Want) (b b' : ℕ) (luns luns' : List LunState) → Alike luns luns' → IsMove (with_times wants b' luns') m → BothMove (with_times wants b luns) (with_times wants b' luns') m
-  both_times (Next l) wants b b' luns luns' h (g, n, r, at) =
+  both_times : (m : Move) (wants : List Want) (b b' : ℕ) (luns luns' : List LunState) → All RunsAlike luns → All RunsAlike luns' → Alike luns luns' → IsMove (with_times wants b' luns') m → BothMove (with_times wants b luns) (with_times wants b' luns') m
+  both_times (Next l) wants b b' luns luns' own other h (g, n, r, at) =
       let k = running_alike luns luns' l g n r h at in
       let at' = k.here in
+      let kind = group_alike luns' l g n r other at in
+      let kind' = group_alike luns l k.group n k.ready own at' in
       record {
         is_move = (k.group, n, k.ready, at');
         long = phase_length (group_spans timing g) (length g) n;
         wait = waits timing g n;
-        here = λ t. rw at' (is_behind wants b luns l k.group g n t _ at' k.kind k.size);
-        there = λ t. rw at (is_behind wants b' luns' l g g n t _ at refl refl);
+        here = λ t. rw at' (is_behind wants b luns l k.group g n t _ at' kind' kind k.kind k.size);
+        there = λ t. rw at (is_behind wants b' luns' l g g n t _ at kind kind refl refl);
         left = λ t u. rw (at', at) (same_behind wants luns luns' l k.group g n t u h k.kind k.size);
       }
-  both_times (Start ms) wants b b' luns luns' h (since, at, st) =
+  both_times (Start ms) wants b b' luns luns' own other h (since, at, st) =
       let k = free_alike luns luns' (lun_of ms) since h at in
-      let one = λ (t : ℕ). is_behind (without ms wants) b luns (lun_of ms) ms ms 0 t (Free k.0) k.1 refl refl in
-      let two = λ (t : ℕ). is_behind (without ms wants) b' luns' (lun_of ms) ms ms 0 t (Free since) at refl refl in
+      let one = λ (t : ℕ). is_behind (without ms wants) b luns (lun_of ms) ms ms 0 t (Free k.0) k.1 st.group.kind st.group.kind refl refl in
+      let two = λ (t : ℕ). is_behind (without ms wants) b' luns' (lun_of ms) ms ms 0 t (Free since) at st.group.kind st.group.kind refl refl in
       record {
         is_move = (k.0, k.1, record { group = st.group; first = st.first });
         long = phase_length (group_spans timing ms) (length ms) 0;
@@ -151,8 +156,8 @@ of_same P p q s h = subst (λ t. P (with_times t q.rules q.wants q.bus_free q.lu
 pub back_same : (p q : Problem) → SameLeft p q → SameLeft q p
 back_same p q s = record { timing = sym s.timing; rules = sym s.rules; luns = sym s.luns; wants = sym s.wants }
 
-pub both_move : (p q : Problem) (m : Move) → SameLeft p q → IsMove q m → BothMove p q m
-both_move p q m s = of_same (λ z. IsMove z m → BothMove p z m) p q s (both_times p.timing p.rules m p.wants p.bus_free q.bus_free p.luns q.luns s.luns)
+pub both_move : (p q : Problem) (m : Move) → IsProblem p → IsProblem q → SameLeft p q → IsMove q m → BothMove p q m
+both_move p q m ip iq s = of_same (λ z. IsMove z m → BothMove p z m) p q s (both_times p.timing p.rules m p.wants p.bus_free q.bus_free p.luns q.luns (runs_alike p ip) (runs_alike q iq) s.luns)
 
 -- something is left to both or to neither
 abbrev has_rest : List Want → Option LunLeft → Bool

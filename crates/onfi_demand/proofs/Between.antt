@@ -1,37 +1,40 @@
 -- The window bound is at most the finish of each run.
-use Rattle.std.proofs.Common.{◌≡◌, ◌≢◌, ℕ, zero, suc, ◌+◌, ◌*◌, ◌-◌, ◌≤◌, ◌<◌, inl, inr, true, false, List, [], ◌∷◌, ◌++◌, length, Option, Some, None, refl, sym, ap, ◌∙◌, arith}
+use Rattle.std.proofs.Common.{◌≡◌, ◌≢◌, ℕ, zero, suc, ◌+◌, ◌*◌, ◌-◌, ◌≤◌, ◌<◌, inl, inr, true, false, List, [], ◌∷◌, ◌++◌, length, drop, get_or, Option, Some, None, refl, sym, ap, ◌∙◌, arith}
 use Rattle.std.specs.Prelude.{slice_get, max, nat_le, if◌then◌else◌, ◌==◌}
 use Rattle.std.specs.List.{AllByRecursion as All}
+use Rattle.std.proofs.lemmas.List.{get_or-map, drop_more, drop_all}
+use Rattle.std.proofs.lemmas.List.Sums.{get_or-le-sum_by}
 use Rattle.std.proofs.lemmas.Bool.{cases_Bool, cases_lt, lt-ltb, le-ltb, eq-eqb, ne_eqb, leb-true, le-leb}
-use Rattle.onfi_timing.specs.declared.spans.Spans.{Spans}
 use Rattle.onfi_timing.specs.declared.timing.Timing.{Timing}
 use Rattle.onfi_timing.specs.Kinds.{spans_of}
-use Rattle.onfi_timing.specs.Phases.{phase_length, wait_before}
+use Rattle.onfi_timing.specs.Phases.{Lengths, phase_length, wait_before, posts_from}
+use Rattle.onfi_timing.proofs.Phases.{command_length, posts_past_command, posts_past_post, posts_past_all, posts_of_all}
 use Rattle.onfi_request.specs.declared.want.Want.{Want}
 use Rattle.onfi_group.specs.declared.rules.Rules.{Rules}
 use Rattle.onfi_group.specs.Words.{Has, total}
 use Rattle.onfi_group.specs.Group.{kind_of, group_spans, lun_of, IsStartable}
+use Rattle.onfi_group.proofs.PhaseLengths.{no_want, posts_length, member_post}
 use Rattle.onfi_problem.specs.declared.lun_state.LunState.{LunState}
 use Rattle.onfi_problem.specs.declared.lun_state.LunState.TheVariants.{Free, Running}
 use Rattle.onfi_problem.specs.Problem.{Problem, IsProblem}
 use Rattle.onfi_problem.specs.Moves.{Move, Next, Start, IsMove, IsDone, earliest, placed, move_lun, lun_after, ran_with, without, may_go, free_from}
 use Rattle.onfi_problem.proofs.Kept.{kept}
 use Rattle.onfi_problem.proofs.LunAfter.{lun_after_running, lun_after_free}
-use Rattle.onfi_problem.proofs.Perm.{All-has, All-each, All-weaker}
+use Rattle.onfi_problem.proofs.Perm.{All-has, All-each}
 use Rattle.onfi_problem.proofs.Places.{get_set_same, get_set_other, same_place, length_set}
-use Rattle.onfi_problem.proofs.Totals.{total_same, split_total, startable_wanted, startable_apart}
+use Rattle.onfi_problem.proofs.Totals.{split_total, startable_wanted, startable_apart}
 use Rattle.onfi_problem.proofs.Waits.{one_wait}
 use Rattle.onfi_problem.proofs.Wants.{Pairs-filter, Has-filter}
-use Rattle.onfi_problem.proofs.Work.{one_phase}
+use Rattle.onfi_problem.proofs.Work.{one_less}
+use Rattle.onfi_problem.proofs.Lists.{all_at}
 use Rattle.onfi_schedule.proofs.Exchange.{not_member}
 use Rattle.onfi_bound.specs.Bounds.{on_lun, wants_work, die, die_at}
-use Rattle.onfi_bound.proofs.Classes.{times_left}
 use Rattle.onfi_bound.proofs.DieBound.{die_bound, on_lun_other, no_work, on_lun_own}
 use Rattle.onfi_demand.proofs.Opened.{left_there}
 use Rattle.onfi_demand.proofs.Sooner.{move_has}
 use Rattle.onfi_demand.specs.Window.{PhaseLeft, chain_from, group_phase, group_left, wants_left, phases_left_at, phases_left_on, is_within, within, sum_of, window, WindowLaw}
 
--- pointwise later, behind a shift of the time from which the LUN may go on
+-- pointwise later, after a shift of the time from which the LUN may go on
 abbrev pub Later : ℕ → List PhaseLeft → List PhaseLeft → Type 0
 Later a [] [] = Unit {0}
 Later a (x ∷ xs) (y ∷ ys) = (x.from ≤ a + y.from) × (x.length ≡ y.length) × (x.tail ≤ y.tail) × Later a xs ys
@@ -111,7 +114,7 @@ later_self a (x ∷ xs) = (omega arith, refl, omega arith, later_self a xs)
 pub within_sooner : (go go' r q : ℕ) (xs : List PhaseLeft) → go ≤ go' → within go r q xs ≤ within go' r q xs
 within_sooner go go' r q xs le = within_later 0 go go' r q xs xs (later_self 0 xs) (omega arith)
 
-later_group : (a : ℕ) (spans : Spans) (k rest count n from from' : ℕ) → from ≤ a + from' → Later a (group_left spans k rest count n from) (group_left spans k rest count n from')
+later_group : (a : ℕ) (spans : Lengths) (k rest count n from from' : ℕ) → from ≤ a + from' → Later a (group_left spans k rest count n from) (group_left spans k rest count n from')
 later_group a spans k rest zero n from from' h = tt
 later_group a spans k rest (suc count) n from from' h = (h, refl, omega arith, later_group a spans k rest count (n + 1) _ _ (omega arith))
 
@@ -125,15 +128,28 @@ later_append a [] ys (x' ∷ xs') ys' h k = absurd h
 later_append a (x ∷ xs) ys [] ys' h k = absurd h
 later_append a (x ∷ xs) ys (x' ∷ xs') ys' (f, l, t, rest) k = (f, l, t, later_append a xs ys xs' ys' rest k)
 
--- a chain is its first phase, the wait behind it and the rest
-pub chain_step : (spans : Spans) (k n : ℕ) → n < 2 * k → chain_from spans k n ≡ phase_length spans k n + wait_before spans k (n + 1) + chain_from spans k (n + 1)
-chain_step spans k n h = let a = one_phase spans k n h in let b = one_wait spans k n in omega arith
+-- a chain is its first phase, the wait after it and the rest
+pub chain_step : (lengths : Lengths) (k n : ℕ) → length lengths.posts ≡ k → n < 2 * k → chain_from lengths k n ≡ phase_length lengths k n + wait_before lengths k (n + 1) + chain_from lengths k (n + 1)
+chain_step lengths k n size h =
+    let b = one_wait lengths k n in
+    elim (cases_lt n k) [
+      | inl a ↦ (
+          let e = one_less k n lengths.cmd a in
+          let c = command_length lengths k n a in
+          let p = posts_past_command lengths k n a in
+          omega arith)
+      | inr a ↦ (
+          let e : k - n ≡ 0 = omega arith in
+          let e' : k - (n + 1) ≡ 0 = omega arith in
+          let p = posts_past_post lengths k n a (omega arith) in
+          rw (e, e') (omega arith))
+    ]
 
 -- nothing is left of a chain
-chain_over : (spans : Spans) (k n : ℕ) → 1 ≤ k → 2 * k ≤ n → chain_from spans k n ≡ 0
-chain_over spans k n some h =
+chain_over : (lengths : Lengths) (k n : ℕ) → length lengths.posts ≡ k → 1 ≤ k → 2 * k ≤ n → chain_from lengths k n ≡ 0
+chain_over lengths k n size some h =
     let a : k - n ≡ 0 = omega arith in
-    let b : 2 * k - max n k ≡ 0 = omega arith in
+    let b = posts_past_all lengths k n (omega arith) in
     rw (a, b, le-ltb n k (omega arith)) (omega arith)
 
 -- all that is left to a LUN whose group goes on with phase n
@@ -147,7 +163,8 @@ own_phase timing rules g ws n go c r q some h le =
     let k = length g in
     let rest = wants_work timing rules ws in
     let count : 2 * k - n ≡ suc (2 * k - (n + 1)) = omega arith in
-    let step = chain_step spans k n h in
+    let size = posts_length timing g in
+    let step = chain_step spans k n size h in
     let a = phase_length spans k n + wait_before spans k (n + 1) in
     let tail_group = group_left spans k rest (2 * k - (n + 1)) (n + 1) (0 + phase_length spans k n + wait_before spans k (n + 1)) in
     let tail_wants = wants_left timing (chain_from spans k n) ws in
@@ -158,7 +175,7 @@ own_phase timing rules g ws n go c r q some h le =
           let w = within_later a go (max c (c + wait_before spans k (n + 1))) r q (tail_group ++ tail_wants) (running timing rules g ws (n + 1)) later (omega arith) in
           rw (lun_after_running timing g n c more) (omega arith))
       | inr last ↦ (
-          let over = chain_over spans k (n + 1) some last in
+          let over = chain_over spans k (n + 1) size some last in
           let none : 2 * k - (n + 1) ≡ 0 = omega arith in
           let wait : wait_before spans k (n + 1) ≡ 0 = rw (le-ltb (n + 1) k (omega arith), ne_eqb (n + 1) k (λ e. omega arith)) refl in
           let later = later_wants (phase_length spans k n) timing (chain_from spans k n) 0 ws (omega arith) in
@@ -186,49 +203,129 @@ wants_total timing go r q (w ∷ ws) =
     let b = within_cons go r q (post_left timing 0 w) (wants_left timing 0 ws) in
     omega arith
 
--- behind a command of a group stand an array and a post at least
-command_tail : (spans : Spans) (k n : ℕ) → n < k → spans.array + spans.post ≤ wait_before spans k (n + 1) + chain_from spans k (n + 1)
-command_tail spans k n h =
-    let posts = times_left 1 k spans.post (omega arith) in
-    let all : 2 * k - max (n + 1) k ≡ k = omega arith in
-    elim (cases_lt (n + 1) k) [
-      | inl a ↦ rw (all, lt-ltb (n + 1) k a) (omega arith)
-      | inr a ↦ (let e : n + 1 ≡ k = omega arith in rw (all, le-ltb (n + 1) k a, eq-eqb (n + 1) k e) (omega arith))
-    ]
+-- two sums at once
+both_total : (f g : Want → ℕ) (ws : List Want) → total (λ w. f w + g w) ws ≡ total f ws + total g ws
+both_total f g [] = refl
+both_total f g (w ∷ ws) = let e = both_total f g ws in omega arith
 
--- the phases of a group that begins when its wants may, or later
-group_within : (spans : Spans) (k rest count n from go go' r q : ℕ) (x y : PhaseLeft) → n + count ≡ 2 * k → x.from ≡ 0 → x.length ≡ spans.cmd → x.tail ≡ spans.array + spans.post → y.from ≡ spans.cmd + spans.array → y.length ≡ spans.post → y.tail ≡ 0 → go ≤ go' + from → (k ≤ n → go + spans.cmd + spans.array ≤ go' + from) → (k - n) * one go r q x + (2 * k - max n k) * one go r q y ≤ within go' r q (group_left spans k rest count n from)
-group_within spans k rest zero n from go go' r q x y e xf xl xt yf yl yt le post =
-    let a : k - n ≡ 0 = omega arith in
-    let b : 2 * k - max n k ≡ 0 = omega arith in
-    rw (a, b) (omega arith)
-group_within spans k rest (suc count) n from go go' r q x y e xf xl xt yf yl yt le post =
-    let phase = group_phase spans k rest n from in
-    let next = from + phase_length spans k n + wait_before spans k (n + 1) in
-    let cons = within_cons go' r q phase (group_left spans k rest count (n + 1) next) in
-    elim (cases_lt n k) [
-      | inl h ↦ (
-          let long : phase_length spans k n ≡ spans.cmd = rw (lt-ltb n k h) refl in
-          let tail = command_tail spans k n h in
-          let o = one_more go go' r r q x phase (omega arith) (omega arith) (λ s. omega arith) in
-          let ih = group_within spans k rest count (n + 1) next go go' r q x y (omega arith) xf xl xt yf yl yt (omega arith) (λ m. let last : n + 1 ≡ k = omega arith in let w : wait_before spans k (n + 1) ≡ spans.array = rw (le-ltb (n + 1) k m, eq-eqb (n + 1) k last) refl in omega arith) in
-          let a : k - n ≡ suc (k - (n + 1)) = omega arith in
-          let b : 2 * k - max n k ≡ 2 * k - max (n + 1) k = omega arith in
-          rw (a, b) (omega arith))
-      | inr h ↦ (
-          let long : phase_length spans k n ≡ spans.post = rw (le-ltb n k h) refl in
-          let o = one_more go go' r r q y phase (omega arith) (omega arith) (λ s. let p = post h in omega arith) in
-          let ih = group_within spans k rest count (n + 1) next go go' r q x y (omega arith) xf xl xt yf yl yt (omega arith) (λ m. let p = post h in omega arith) in
-          let a : k - n ≡ 0 = omega arith in
-          let a' : k - (n + 1) ≡ 0 = omega arith in
-          let b : 2 * k - max n k ≡ suc (2 * k - max (n + 1) k) = omega arith in
-          let ih' : 0 * one go r q x + (2 * k - max (n + 1) k) * one go r q y ≤ within go' r q (group_left spans k rest count (n + 1) next) = rw a' at ih in
-          rw (a, b) (omega arith))
-    ]
+-- the phases of a group that begins when its members may, or later
+module _ (timing : Timing) (g : List Want) (kinds : All (λ m. m.kind ≡ kind_of g) g) (rest go go' r q : ℕ) where
+  abbrev spans : Lengths
+  spans = group_spans timing g
 
-member_within : (timing : Timing) (ms : List Want) (go r q : ℕ) (m : Want) → m.kind ≡ kind_of ms → of_want timing go r q m ≡ one go r q (record { from = 0; length = (group_spans timing ms).cmd; tail = (group_spans timing ms).array + (group_spans timing ms).post }) + one go r q (record { from = 0 + (group_spans timing ms).cmd + (group_spans timing ms).array; length = (group_spans timing ms).post; tail = 0 })
-unfolding of_want
-member_within timing ms go r q m e = rw e refl
+  command_in : Want → ℕ
+  command_in w = one go r q (command_left timing 0 w)
+
+  post_in : Want → ℕ
+  post_in w = one go r q (post_left timing 0 w)
+
+  commands_in : ℕ → ℕ
+  commands_in n = total command_in (drop n g)
+
+  posts_in : ℕ → ℕ
+  posts_in i = total post_in (drop i g)
+
+  member : ℕ → Want
+  member i = get_or g i no_want
+
+  -- a member has the command, gap and array of the group
+  like_group : (i : ℕ) → i < length g → (member i).kind ≡ kind_of g
+  unfolding member
+  like_group i h = all_at (λ m. m.kind ≡ kind_of g) g i no_want h kinds
+
+  one_command : (n : ℕ) → n < length g → commands_in n ≡ command_in (member n) + commands_in (n + 1)
+  unfolding commands_in member
+  one_command n h = rw (drop_more g n no_want h) refl
+
+  last_command : (n : ℕ) → length g ≤ n → commands_in n ≡ 0
+  unfolding commands_in
+  last_command n h = rw (drop_all n g h) refl
+
+  one_post_in : (i : ℕ) → i < length g → posts_in i ≡ post_in (member i) + posts_in (i + 1)
+  unfolding posts_in member
+  one_post_in i h = rw (drop_more g i no_want h) refl
+
+  last_post : (i : ℕ) → length g ≤ i → posts_in i ≡ 0
+  unfolding posts_in
+  last_post i h = rw (drop_all i g h) refl
+
+  -- each member's post is one of those of the group
+  own_post : (i n : ℕ) → i < length g → n ≤ length g → (spans_of timing (member i).kind).post ≤ posts_from spans (length g) n
+  unfolding member
+  own_post i n h le =
+      let size = posts_length timing g in
+      let some = get_or-le-sum_by (λ x. x) spans.posts i 0 (omega arith) in
+      let is = get_or-map (λ m. (spans_of timing m.kind).post) g i no_want 0 h in
+      let all = posts_of_all spans (length g) n le in
+      omega arith
+
+  -- behind a command of a group stand its array and each post at least
+  command_tail : (n : ℕ) → n < length g → spans.array + posts_from spans (length g) (n + 1) ≤ wait_before spans (length g) (n + 1) + chain_from spans (length g) (n + 1)
+  command_tail n h =
+      elim (cases_lt (n + 1) (length g)) [
+        | inl a ↦ rw (lt-ltb (n + 1) (length g) a) (omega arith)
+        | inr a ↦ (let e : n + 1 ≡ length g = omega arith in rw (le-ltb (n + 1) (length g) a, eq-eqb (n + 1) (length g) e) (omega arith))
+      ]
+
+  command_within : (n from : ℕ) → n < length g → go ≤ go' + from → command_in (member n) ≤ one go' r q (group_phase spans (length g) rest n from)
+  unfolding command_in
+  command_within n from h le =
+      let long = command_length spans (length g) n h in
+      let same = like_group n h in
+      let cmd = ap (λ kind. (spans_of timing kind).cmd) same in
+      let array = ap (λ kind. (spans_of timing kind).array) same in
+      let post = own_post n (n + 1) h (omega arith) in
+      let tail = command_tail n h in
+      one_more go go' r r q (command_left timing 0 (member n)) (group_phase spans (length g) rest n from) (omega arith) (omega arith) (λ s. omega arith)
+
+  post_within : (n from : ℕ) → length g ≤ n → n < 2 * length g → go + spans.cmd + spans.array ≤ go' + from → post_in (member (n - length g)) ≤ one go' r q (group_phase spans (length g) rest n from)
+  unfolding post_in member
+  post_within n from h k le =
+      let long = member_post timing g n no_want h k in
+      let same = like_group (n - length g) (omega arith) in
+      let cmd = ap (λ kind. (spans_of timing kind).cmd) same in
+      let array = ap (λ kind. (spans_of timing kind).array) same in
+      one_more go go' r r q (post_left timing 0 (get_or g (n - length g) no_want)) (group_phase spans (length g) rest n from) (omega arith) (omega arith) (λ s. omega arith)
+
+  group_within : (count n from : ℕ) → n + count ≡ 2 * length g → go ≤ go' + from → (length g ≤ n → go + spans.cmd + spans.array ≤ go' + from) → commands_in n + posts_in (n - length g) ≤ within go' r q (group_left spans (length g) rest count n from)
+  group_within zero n from e le post =
+      let a = last_command n (omega arith) in
+      let b = last_post (n - length g) (omega arith) in
+      omega arith
+  group_within (suc count) n from e le post =
+      let phase = group_phase spans (length g) rest n from in
+      let next = from + phase_length spans (length g) n + wait_before spans (length g) (n + 1) in
+      let cons = within_cons go' r q phase (group_left spans (length g) rest count (n + 1) next) in
+      elim (cases_lt n (length g)) [
+        | inl h ↦ (
+            let long = command_length spans (length g) n h in
+            let o = command_within n from h le in
+            let ih = group_within count (n + 1) next (omega arith) (omega arith) (λ m. let last : n + 1 ≡ length g = omega arith in let w : wait_before spans (length g) (n + 1) ≡ spans.array = rw (le-ltb (n + 1) (length g) m, eq-eqb (n + 1) (length g) last) refl in omega arith) in
+            let a = one_command n h in
+            let b : n - length g ≡ n + 1 - length g = omega arith in
+            let c = ap posts_in b in
+            omega arith)
+        | inr h ↦ (
+            let p = post h in
+            let o = post_within n from h (omega arith) p in
+            let ih = group_within count (n + 1) next (omega arith) (omega arith) (λ m. omega arith) in
+            let a = last_command n h in
+            let a' = last_command (n + 1) (omega arith) in
+            let b = one_post_in (n - length g) (omega arith) in
+            let c : n - length g + 1 ≡ n + 1 - length g = omega arith in
+            let d = ap posts_in c in
+            omega arith)
+      ]
+
+  -- all of them
+  group_has : go ≤ go' → 1 ≤ length g → total (of_want timing go r q) g ≤ within go' r q (group_left spans (length g) rest (2 * length g - 0) 0 0)
+  unfolding of_want command_in post_in commands_in posts_in
+  group_has le some =
+      let both = both_total command_in post_in g in
+      let z : 0 - length g ≡ 0 = omega arith in
+      let all = group_within (2 * length g - 0) 0 0 (omega arith) (omega arith) (λ h. omega arith) in
+      let all' : total command_in g + total post_in g ≤ within go' r q (group_left spans (length g) rest (2 * length g - 0) 0 0) = rw z at all in
+      omega arith
 
 -- as a group that begins with phase 0, wants have as much within
 start_within : (p : Problem) (ms : List Want) (go r q : ℕ) → IsProblem p → IsStartable p.rules p.wants ms → within go r q (wants_left p.timing 0 (on_lun (lun_of ms) p.wants)) ≤ within go r q (running p.timing p.rules ms (on_lun (lun_of ms) (without ms p.wants)) 0)
@@ -241,21 +338,15 @@ start_within p ms go r q ip st =
     let rest = wants_work p.timing p.rules left in
     let rising = Pairs-filter _ (λ w. w.lun == lun) p.wants ip.ids in
     let wanted : All (Has ws) ms = All-each (Has ws) ms (λ m h. Has-filter (λ w. w.lun == lun) p.wants m (All-has (Has p.wants) ms m (startable_wanted p ms st) h) (eq-eqb m.lun lun (All-has _ ms m st.group.lun h))) in
-    let x : PhaseLeft = record { from = 0; length = spans.cmd; tail = spans.array + spans.post } in
-    let y : PhaseLeft = record { from = 0 + spans.cmd + spans.array; length = spans.post; tail = 0 } in
     let old = wants_total p.timing go r q ws in
     let new = wants_total p.timing go r q left in
     let split = split_total (of_want p.timing go r q) ms ws rising wanted (startable_apart p ms ip st) in
-    let same = total_same (of_want p.timing go r q) (one go r q x + one go r q y) ms (All-weaker _ _ (member_within p.timing ms go r q) ms st.group.kind) in
-    let z : k - 0 ≡ k = omega arith in
-    let z' : 2 * k - max 0 k ≡ k = omega arith in
-    let group = group_within spans k rest (2 * k - 0) 0 0 go go r q x y (omega arith) refl refl refl (omega arith) refl refl (omega arith) (λ h. let s = st.group.some in omega arith) in
-    let group' : k * one go r q x + k * one go r q y ≤ within go r q (group_left spans k rest (2 * k - 0) 0 0) = rw (z, z') at group in
+    let group = group_has p.timing ms st.group.kind rest go go r q (omega arith) st.group.some in
     let wants = within_later 0 go go r q (wants_left p.timing 0 left) (wants_left p.timing (chain_from spans k 0) left) (later_wants 0 p.timing 0 (chain_from spans k 0) left (omega arith)) (omega arith) in
     let both = within_append go r q (group_left spans k rest (2 * k - 0) 0 0) (wants_left p.timing (chain_from spans k 0) left) in
     rw (on_lun_own ms p.wants lun) (omega arith)
 
--- behind a phase that ends at c its LUN has its tail to do
+-- after a phase that ends at c its LUN has its tail to do
 tail_left : (p : Problem) (l : ℕ) (g ws : List Want) (n c : ℕ) → 1 ≤ length g → n < 2 * length g → p.bus_free ≡ c → slice_get p.luns l ≡ Some (lun_after p.timing g n c) → c + (wait_before (group_spans p.timing g) (length g) (n + 1) + chain_from (group_spans p.timing g) (length g) (n + 1) + wants_work p.timing p.rules ws) ≤ die_at p l ws (slice_get p.luns l)
 tail_left p l g ws n c some h bus at =
     let spans = group_spans p.timing g in
@@ -266,7 +357,7 @@ tail_left p l g ws n c some h bus at =
           rw is (let go = ap free_from is in omega arith))
       | inr last ↦ (
           let is = at ∙ ap Some (lun_after_free p.timing g n c last) in
-          let over = chain_over spans k (n + 1) some last in
+          let over = chain_over spans k (n + 1) (posts_length p.timing g) some last in
           let wait : wait_before spans k (n + 1) ≡ 0 = rw (le-ltb (n + 1) k (omega arith), ne_eqb (n + 1) k (λ e. omega arith)) refl in
           rw is (idle ws is over wait))
     ]
@@ -358,7 +449,7 @@ within_head go r q x h = elim (cases_Bool (nat_le r (go + x.from))) [
   | inr k ↦ (let h' : false ≡ true = rw k at h in cc)
 ]
 
--- the phase is within: the others stand behind it
+-- the phase is within: the others come after it
 taken : (p p' : Problem) (j t r q : ℕ) → (s : Stepped p p' j t r q) → may_go p j ≤ t → r ≤ may_go p j → window p r q ≤ s.phase.length + window p' (r + s.phase.length) q
 taken p p' j t r q s late h =
     let one = one_below (may_go p j) r q s.phase in

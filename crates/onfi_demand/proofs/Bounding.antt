@@ -1,5 +1,5 @@
 -- The demands of the bounds.
-use Rattle.std.proofs.Common.{◌≡◌, ℕ, suc, ◌+◌, ◌-◌, ◌≤◌, ◌<◌, inl, inr, true, List, [], ◌∷◌, ◌++◌, length, Option, Some, None, refl, sym, ap, ◌∙◌, subst, arith}
+use Rattle.std.proofs.Common.{◌≡◌, ℕ, ◌+◌, ◌-◌, ◌≤◌, ◌<◌, inl, inr, true, List, [], ◌∷◌, length, Option, Some, None, refl, sym, ap, ◌∙◌, subst, arith}
 use Rattle.std.specs.Prelude.{slice_get}
 use Rattle.std.specs.List.{AllByRecursion as All}
 use Rattle.std.specs.Option.{option_map}
@@ -14,7 +14,7 @@ use Rattle.onfi_problem.specs.Left.{all_posts}
 use Rattle.onfi_group.specs.Words.{Has}
 use Rattle.onfi_problem.proofs.Perm.{All-has, All-each}
 use Rattle.onfi_problem.proofs.Places.{same_place}
-use Rattle.onfi_bound.specs.Bounds.{lead, die, least, least_with, plus_each, to_post, post_starts, on_lun}
+use Rattle.onfi_bound.specs.Bounds.{lead, die, least, least_with, to_post, post_starts, on_lun}
 use Rattle.onfi_bound.proofs.BusBound.{bus_bound}
 use Rattle.onfi_bound.proofs.LeadBound.{lead_bound, least_all, least_has, starts_have, start_of}
 use Rattle.onfi_bound.proofs.TrailBound.{trail_bound}
@@ -22,7 +22,8 @@ use Rattle.onfi_bound.proofs.DieBound.{die_bound}
 use Rattle.onfi_demand.specs.Left.{LunLeft, left_on, SameLeft, has_left_at, has_left}
 use Rattle.onfi_demand.specs.Demand.{Meets, Bounded, Holds, of_bus, of_one, of_luns, before_post, lead_at, lead_demand}
 use Rattle.onfi_demand.specs.Laws.{Asks, BusLaw, LeadLaw, TrailLaw, DieLaw, EndLaw}
-use Rattle.onfi_demand.proofs.Alike.{Alike, alike_at, of_same, with_times, same_has, same_luns}
+use Rattle.onfi_demand.proofs.OneKind.{runs_alike_at}
+use Rattle.onfi_demand.proofs.Alike.{alike_at, of_same, with_times, same_has, same_luns}
 use Rattle.onfi_demand.proofs.Sums.{same_commands, same_posts, trail_alike, post_alike, die_is, die_idle, work_at, work_alike}
 
 bus_holds : (p : Problem) (e : ℕ) → Holds e p (of_bus e)
@@ -35,11 +36,11 @@ pub end_asks : EndLaw
 end_asks p e done le = bus_asks_all p e le
 
 pub bus_asks : BusLaw
-bus_asks p e le = record {
+bus_asks p e ip le = record {
   holds = λ q s iq m steps f run.
       let a = bus_bound steps q f iq run in
       let c = same_commands p q s in
-      let d = same_posts p q s in
+      let d = same_posts p q ip iq s in
       omega arith;
   meets = record { bus = omega arith; luns = λ l h. omega arith };
 }
@@ -56,8 +57,8 @@ trail_asks p e t is le = record {
 one_here : (l n : ℕ) → (of_one l n).lun l ≡ n
 one_here l n = rw (eq-eqb l l refl) refl
 
-die_left : (p : Problem) (e lun : ℕ) → lun < length p.luns → e ≤ die p lun → has_left p lun ≡ true → Asks e p (of_one lun (e - (die p lun - may_go p lun)))
-die_left p e lun within le has = record {
+die_left : (p : Problem) (e lun : ℕ) → IsProblem p → lun < length p.luns → e ≤ die p lun → has_left p lun ≡ true → Asks e p (of_one lun (e - (die p lun - may_go p lun)))
+die_left p e lun ip within le has = record {
   holds = λ q s iq m steps f run.
       let long : length q.luns ≡ length p.luns = sym (same_luns p q s) in
       let a = die_bound steps q f lun iq (omega arith) run in
@@ -65,13 +66,13 @@ die_left p e lun within le has = record {
       let b : e - (die p lun - may_go p lun) ≤ may_go q lun = subst (λ n. n ≤ may_go q lun) (one_here lun (e - (die p lun - may_go p lun))) (m.luns lun h) in
       let c = die_is p lun (on_lun lun p.wants) (slice_get p.luns lun) has in
       let d = die_is q lun (on_lun lun q.wants) (slice_get q.luns lun) h in
-      let w = same_work p q lun s in
+      let w = same_work p q lun ip iq s in
       omega arith;
   meets = record { bus = omega arith; luns = met };
 }
   where
-    same_work : (p q : Problem) (l : ℕ) → SameLeft p q → work_at p.timing p.rules (on_lun l p.wants) (slice_get p.luns l) ≡ work_at q.timing q.rules (on_lun l q.wants) (slice_get q.luns l)
-    same_work p q l s = of_same (λ z. work_at p.timing p.rules (on_lun l p.wants) (slice_get p.luns l) ≡ work_at z.timing z.rules (on_lun l z.wants) (slice_get z.luns l)) p q s (work_alike p.timing p.rules (on_lun l p.wants) (slice_get p.luns l) (slice_get q.luns l) (alike_at p.luns q.luns l s.luns))
+    same_work : (p q : Problem) (l : ℕ) → IsProblem p → IsProblem q → SameLeft p q → work_at p.timing p.rules (on_lun l p.wants) (slice_get p.luns l) ≡ work_at q.timing q.rules (on_lun l q.wants) (slice_get q.luns l)
+    same_work p q l ip iq s = of_same (λ z. work_at p.timing p.rules (on_lun l p.wants) (slice_get p.luns l) ≡ work_at z.timing z.rules (on_lun l z.wants) (slice_get z.luns l)) p q s (work_alike p.timing p.rules (on_lun l p.wants) (slice_get p.luns l) (slice_get q.luns l) (runs_alike_at p l ip) (runs_alike_at q l iq) (alike_at p.luns q.luns l s.luns))
 
     met : (l : ℕ) → has_left p l ≡ true → (of_one lun (e - (die p lun - may_go p lun))).lun l ≤ may_go p l
     met l h = elim (same_place l lun) [
@@ -80,8 +81,8 @@ die_left p e lun within le has = record {
     ]
 
 pub die_asks : DieLaw
-die_asks p e lun within le = elim (cases_Bool (has_left p lun)) [
-  | inl h ↦ rw h (die_left p e lun within le h)
+die_asks p e lun ip within le = elim (cases_Bool (has_left p lun)) [
+  | inl h ↦ rw h (die_left p e lun ip within le h)
   | inr h ↦ rw h (let b = die_idle p lun (on_lun lun p.wants) (slice_get p.luns lun) h in bus_asks_all p e (omega arith))
 ]
 
@@ -111,8 +112,8 @@ lead_at_is : (p : Problem) (e l : ℕ) (ws : List Want) (o : Option LunState) (y
 lead_at_is p e l ws None y b h k = cc
 lead_at_is p e l ws (Some x) y b h k = let same = post_alike p.timing ws x y (cc) in rw (same, k) refl
 
-lead_some : (p : Problem) (e first : ℕ) → least (post_starts p 0 p.luns) ≡ Some first → e ≤ first + all_posts p → Asks e p (of_luns (λ l. lead_at p e (on_lun l p.wants) (slice_get p.luns l)))
-lead_some p e first is le = record { holds = λ q s. of_same (λ z. IsProblem z → Meets z (of_luns (λ l. lead_at p e (on_lun l p.wants) (slice_get p.luns l))) → Bounded z e) p q s (bounded q s); meets = record { bus = omega arith; luns = met } }
+lead_some : (p : Problem) (e first : ℕ) → IsProblem p → least (post_starts p 0 p.luns) ≡ Some first → e ≤ first + all_posts p → Asks e p (of_luns (λ l. lead_at p e (on_lun l p.wants) (slice_get p.luns l)))
+lead_some p e first ip is le = record { holds = λ q s. of_same (λ z. IsProblem z → Meets z (of_luns (λ l. lead_at p e (on_lun l p.wants) (slice_get p.luns l))) → Bounded z e) p q s (bounded q s); meets = record { bus = omega arith; luns = met } }
   where
     met_at : (l : ℕ) (o : Option LunState) → slice_get p.luns l ≡ o → lead_at p e (on_lun l p.wants) o ≤ may_go p l
     met_at l None at = omega arith
@@ -141,12 +142,12 @@ lead_some p e first is le = record { holds = λ q s. of_same (λ z. IsProblem z 
         let there = u.1 in
         let value : lead z ≡ u.0 + all_posts z = rw there refl in
         let a = lead_bound steps z f iz run in
-        let posts = same_posts p z (record { timing = refl; rules = refl; luns = s.luns; wants = refl }) in
+        let posts = same_posts p z ip iz (record { timing = refl; rules = refl; luns = s.luns; wants = refl }) in
         omega arith
 
 pub lead_asks : LeadLaw
-lead_asks p e le = go (least (post_starts p 0 p.luns)) refl
+lead_asks p e ip le = go (least (post_starts p 0 p.luns)) refl
   where
     go : (o : Option ℕ) → least (post_starts p 0 p.luns) ≡ o → Asks e p (lead_demand p e)
     go None q = let v : lead p ≡ p.bus_free = rw q refl in rw q (bus_asks_all p e (omega arith))
-    go (Some first) q = let v : lead p ≡ first + all_posts p = rw q refl in rw q (lead_some p e first q (omega arith))
+    go (Some first) q = let v : lead p ≡ first + all_posts p = rw q refl in rw q (lead_some p e first ip q (omega arith))

@@ -1,6 +1,6 @@
 -- The demand of the lead bound, as it is worked out.
-use Rattle.std.proofs.Common.{◌≡◌, ℕ, zero, suc, ◌+◌, ◌-◌, ◌≤◌, ◌<◌, inl, inr, Bool, true, false, List, [], ◌∷◌, ◌++◌, length, map, get_or, take, Option, Some, None, refl, sym, ap, ◌∙◌, subst, arith}
-use Rattle.std.specs.Prelude.{slice_get}
+use Rattle.std.proofs.Common.{◌≡◌, ℕ, ◌+◌, ◌-◌, ◌≤◌, ◌<◌, inl, inr, Bool, true, false, List, [], ◌∷◌, length, map, get_or, take, Option, Some, refl, sym, ap, ◌∙◌, subst, arith}
+use Rattle.std.specs.Prelude.{slice_get, IfSome}
 use Rattle.std.specs.Option.{option_map}
 use Rattle.std.proofs.lemmas.Bool.{cases_lt, false≢true}
 use Rattle.std.proofs.lemmas.Option.{get_or_from_slice_get, slice_get_past}
@@ -12,17 +12,19 @@ use Rattle.onfi_problem.specs.declared.lun_state.LunState.{LunState}
 use Rattle.onfi_problem.specs.declared.lun_state.LunState.TheVariants.{Free, Running}
 use Rattle.onfi_problem.specs.Left.{post_time, want_post, all_posts}
 use Rattle.onfi_problem.specs.Position.{waiting_of}
-use Rattle.onfi_problem.specs.Problem.{Problem}
-use Rattle.onfi_problem.specs.Moves.{may_go}
+use Rattle.onfi_problem.specs.Problem.{Problem, IsProblem}
 use Rattle.onfi_problem.proofs.Places.{get_within, within_get}
-use Rattle.onfi_bound.specs.Bounds.{on_lun, least, least_with, plus_each, to_post, post_starts}
+use Rattle.onfi_bound.specs.Bounds.{on_lun, least, to_post, post_starts}
 use Rattle.onfi_bound.proofs.LeadBound.{least_has, starts_have, start_of}
 pub use Rattle.onfi_demand.proofs.Bounding.{some_state, post_has}
 use Rattle.onfi_bound.proofs.Steps.{waiting_yes, waiting_no, summed}
-use Rattle.onfi_demand.specs.Left.{LunLeft, Idle, left_on, has_left, has_left_at}
+use Rattle.onfi_demand.specs.Left.{Idle, left_on, has_left, has_left_at}
 use Rattle.onfi_demand.specs.Demand.{before_post, lead_at, lead_demand, of_bus}
 use Rattle.onfi_demand.specs.Kept.{IsKept}
+use Rattle.onfi_demand.specs.OneKind.{posts_rest}
 use Rattle.onfi_demand.specs.Work.{left_of, IsWork}
+use Rattle.onfi_demand.proofs.OneKind.{RunsAlike, runs_alike_at}
+use Rattle.onfi_demand.proofs.Sums.{post_by}
 use Rattle.onfi_demand.specs.declared.demand.Demand.{Demand as Kept}
 use Rattle.onfi_demand.specs.declared.left.LunLeft.{LunLeft as KeptLeft}
 use Rattle.onfi_demand.specs.declared.left.LunLeft.TheVariants.{Idle as KeptIdle}
@@ -36,12 +38,13 @@ pub posts_no : (timing : Timing) (marks : List Bool) (ws : List Want) (i sum : �
 posts_no timing marks ws i sum m e = e ∙ sym (ap (total (want_post timing)) (waiting_no marks ws i m))
 
 -- one running group more
-pub rest_more : (p : Problem) (timing : Timing) (i sum next : ℕ) (left : KeptLeft) → timing ≡ p.timing → i < length p.luns → option_map left_on (slice_get p.luns i) ≡ Some (left_of left) → ((x : LunState) → left_on x ≡ left_of left → next ≡ post_time timing x) → sum ≡ total (post_time p.timing) (take i p.luns) → sum + next ≡ total (post_time p.timing) (take (i + 1) p.luns)
-rest_more p timing i sum next left t h l is e =
+pub rest_more : (p : Problem) (timing : Timing) (i sum next : ℕ) (left : KeptLeft) → IsProblem p → timing ≡ p.timing → i < length p.luns → option_map left_on (slice_get p.luns i) ≡ Some (left_of left) → next ≡ posts_rest timing (left_of left) → sum ≡ total (post_time p.timing) (take i p.luns) → sum + next ≡ total (post_time p.timing) (take (i + 1) p.luns)
+rest_more p timing i sum next left ip t h l is e =
     let x = some_state (slice_get p.luns i) (left_of left) l in
-    let v = is x.0 x.2 in
+    let own = subst (λ o. IfSome o RunsAlike) x.1 (runs_alike_at p i ip) in
+    let v : next ≡ post_time p.timing x.0 = is ∙ (ap (λ z. posts_rest z (left_of left)) t ∙ (ap (posts_rest p.timing) (sym x.2) ∙ sym (post_by p.timing x.0 own))) in
     let g = get_or_from_slice_get p.luns i x.0 (Free 0) x.1 in
-    let q : next ≡ post_time p.timing (get_or p.luns i (Free 0)) = v ∙ rw (t, g) refl in
+    let q : next ≡ post_time p.timing (get_or p.luns i (Free 0)) = v ∙ rw g refl in
     summed (post_time p.timing) p.luns i (Free 0) 0 sum (sum + next) h (omega arith) (omega arith) ∙ (omega arith)
 
 pub idle_time : (p : Problem) (lun e left n : ℕ) (timing : Timing) (work : LunWork) (o : Option ℕ) (ws : List Want) → IsWork p lun work → work.left ≡ KeptIdle → timing ≡ p.timing → left ≡ e - all_posts p → ws ≡ work.wants.items → o ≡ least (map (λ w. (spans_of timing w.kind).cmd + (spans_of timing w.kind).array) ws) → n ≡ before_post left o → n ≡ lead_at p e (on_lun lun p.wants) (slice_get p.luns lun)

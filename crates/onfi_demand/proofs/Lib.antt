@@ -1,3 +1,4 @@
+pub mod OneKind
 pub mod Alike
 pub mod Sooner
 pub mod Sums

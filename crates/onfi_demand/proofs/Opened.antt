@@ -1,4 +1,4 @@
--- An open node shows its demand, from those behind its moves.
+-- An open node shows its demand, from those after its moves.
 use Rattle.std.proofs.Common.{◌≡◌, ◌≢◌, ℕ, zero, suc, ◌+◌, ◌-◌, ◌≤◌, ◌<◌, ◌⊎◌, inl, inr, true, List, [], ◌∷◌, length, map, Option, Some, None, refl, sym, ap, ◌∙◌, subst, arith}
 use Rattle.std.specs.Prelude.{slice_get, max, nat_le, if◌then◌else◌, ◌==◌}
 use Rattle.std.specs.List.{AllByRecursion as All}
@@ -125,10 +125,10 @@ spans p q m b =
     let yb = y.bus in
     record { lasts = omega arith; waits = omega arith; ends = yb; ends_here = xb; goes_on = y.own }
 
--- where each LUN goes on as late as is asked, what is left behind a move meets the demand there
+-- where each LUN goes on as late as is asked, what is left after a move meets the demand there
 behind_meets : (p q : Problem) (m : Move) (d : Demand) (needs : ℕ → ℕ) → IsProblem p → IsProblem q → SameLeft p q → IsMove q m → ((l : ℕ) → has_left q l ≡ true → needs l ≤ may_go q l) → ((l : ℕ) → l < length p.luns → asked p m d l ≤ needs l) → Meets (after q m) d
 behind_meets p q m d needs ip iq s mv goes asks =
-    let b = both_move p q m s mv in
+    let b = both_move p q m ip iq s mv in
     let k = spans p q m b in
     let own = goes (move_lun m) (move_has q m mv) in
     let ask = asks (move_lun m) (left_there p (move_lun m) ip (same_has p q (move_lun m) s ∙ move_has q m mv)) in
@@ -164,7 +164,7 @@ behind_meets p q m d needs ip iq s mv goes asks =
 
 pub asked_is_met : AskedLaw
 asked_is_met p m d l ip mv meets h =
-    let b = both_move p p m (same_self p) mv in
+    let b = both_move p p m ip ip (same_self p) mv in
     let k = spans p p m b in
     elim (same_place l (move_lun m)) [
       | inl e ↦ (
@@ -205,19 +205,19 @@ asked_is_met p m d l ip mv meets h =
 -- a phase at its earliest is as good as later
 at_earliest : (p : Problem) (m : Move) (t : ℕ) (steps : List Step) (f : ℕ) → IsProblem p → IsMove p m → earliest p m ≤ t → Run (placed p m t) steps f → (f' : ℕ) × (f' ≤ f) × Run (after p m) steps f'
 at_earliest p m t [] f ip mv le (done, end) =
-    let b = both_move p p m (same_self p) mv in
+    let b = both_move p p m ip ip (same_self p) mv in
     let x = (b.here (earliest p m)).bus in
     let y = (b.here t).bus in
     ((after p m).bus_free, omega arith, (done_alike (after p m) (placed p m t) (b.left (earliest p m) t) done, refl))
 at_earliest p m t (s ∷ steps) f ip mv le run =
-    let b = both_move p p m (same_self p) mv in
+    let b = both_move p p m ip ip (same_self p) mv in
     let sooner = sooner_behind p p m (earliest p m) t ip b (λ l h. omega arith) mv le le in
-    (f, omega arith, run_sooner steps (after p m) (placed p m t) s f (kept p m t ip mv) (b.left (earliest p m) t) sooner run)
+    (f, omega arith, run_sooner steps (after p m) (placed p m t) s f (kept p m (earliest p m) ip mv) (kept p m t ip mv) (b.left (earliest p m) t) sooner run)
 
 -- where there is a move something is left, also to what has the same left
-some_left : (p q : Problem) → SameLeft p q → (ms : List Move) → 1 ≤ length ms → All (IsMove p) ms → IsDone q → ⊥
-some_left p q s [] n all done = omega arith
-some_left p q s (m ∷ ms) n all done = not_done q m done (both_move q p m (back_same p q s) all.0).is_move
+some_left : (p q : Problem) → IsProblem p → IsProblem q → SameLeft p q → (ms : List Move) → 1 ≤ length ms → All (IsMove p) ms → IsDone q → ⊥
+some_left p q ip iq s [] n all done = omega arith
+some_left p q ip iq s (m ∷ ms) n all done = not_done q m done (both_move q p m iq ip (back_same p q s) all.0).is_move
 
 module _ (p : Problem) (e : ℕ) (moves : List Move) (needs : ℕ → ℕ) (ip : IsProblem p) (are : AreMoves p moves) (shows : (m : Move) → Has moves m → Shows e p needs m ⊎ GivesWay e p moves needs m) where
   same_needs : SameLeft p (retiming p needs)
@@ -228,17 +228,17 @@ module _ (p : Problem) (e : ℕ) (moves : List Move) (needs : ℕ → ℕ) (ip :
 
   child_bounded : (m : Move) → IsMove (retiming p needs) m → Shows e p needs m → Bounded (after (retiming p needs) m) e
   child_bounded m mv (d, asks, below) =
-      let b = both_move p (retiming p needs) m same_needs mv in
+      let b = both_move p (retiming p needs) m ip (retiming_problem p needs ip) same_needs mv in
       let iq = retiming_problem p needs ip in
       asks.holds (after (retiming p needs) m) (b.left (earliest p m) (earliest (retiming p needs) m)) (kept (retiming p needs) m (earliest (retiming p needs) m) iq mv) (behind_meets p (retiming p needs) m d needs ip iq same_needs mv (λ l h. let k = goes l h in omega arith) below)
 
   moves_here : (m : Move) → IsMove (retiming p needs) m → Has moves m
-  moves_here m mv = are.each m (both_move p (retiming p needs) m same_needs mv).is_move
+  moves_here m mv = are.each m (both_move p (retiming p needs) m ip (retiming_problem p needs ip) same_needs mv).is_move
 
   fitting : (m : Move) (g : GivesWay e p moves needs m) → IsMove (retiming p needs) m → (n : Move) → IsMove (retiming p needs) n → move_lun n ≡ g.lun → (after (retiming p needs) n).bus_free ≤ earliest (retiming p needs) m
   fitting m g mv n nv at =
       let q = retiming p needs in
-      let b = both_move p q n same_needs nv in
+      let b = both_move p q n ip (retiming_problem p needs ip) same_needs nv in
       let k = spans p q n b in
       let fit = g.fits n (moves_here n nv) at in
       let a = goes (move_lun n) (move_has q n nv) in
@@ -250,7 +250,7 @@ module _ (p : Problem) (e : ℕ) (moves : List Move) (needs : ℕ → ℕ) (ip :
   needs_bounded bounded some q s iq meets steps f run =
       let z = retiming p needs in
       let zq : SameLeft z q = record { timing = s.timing; rules = s.rules; luns = sym (same_needs.luns) ∙ s.luns; wants = s.wants } in
-      bounded steps f (sooner_runs z q steps f iq zq (some_left p q s moves some are.moves_only) (λ l h. let k = goes l (same_has z q l zq ∙ h) in let le = meets.luns l h in omega arith) run)
+      bounded steps f (sooner_runs z q steps f (retiming_problem p needs ip) iq zq (some_left p q ip iq s moves some are.moves_only) (λ l h. let k = goes l (same_has z q l zq ∙ h) in let le = meets.luns l h in omega arith) run)
 
   step_bounded : (s : Step) (steps : List Step) (f : ℕ) → Run (retiming p needs) (s ∷ steps) f → e ≤ f
   step_bounded s steps f (mv, on_time, run) =
@@ -259,7 +259,7 @@ module _ (p : Problem) (e : ℕ) (moves : List Move) (needs : ℕ → ℕ) (ip :
       elim (shows s.move (moves_here s.move mv)) [
         | inl c ↦ (let r = at_earliest q s.move s.start steps f iq mv on_time run in let le = child_bounded s.move mv c steps r.0 r.2 in let le' = r.1 in omega arith)
         | inr g ↦ (
-            let there = (both_move q p g.move (back_same p q same_needs) (All-has (IsMove p) moves g.move are.moves_only g.has_move)).is_move in
+            let there = (both_move q p g.move iq ip (back_same p q same_needs) (All-has (IsMove p) moves g.move are.moves_only g.has_move)).is_move in
             let r = yielding q s.move g.move s.start g.lun f steps iq mv on_time run g.other there g.of_lun (fitting s.move g mv) in
             let le = child_bounded r.move r.is_move (g.shows r.move (moves_here r.move r.is_move) r.of_lun) r.steps r.finish r.run in
             omega arith)
@@ -269,5 +269,5 @@ pub open_asks : OpenLaw
 open_asks p e moves needs ip are some shows = needs_bounded p e moves needs ip are shows bounded some
   where
     bounded : Bounded (retiming p needs) e
-    bounded [] f (done, end) = absurd (some_left p (retiming p needs) (retiming_same p needs) moves some are.moves_only done)
+    bounded [] f (done, end) = absurd (some_left p (retiming p needs) ip (retiming_problem p needs ip) (retiming_same p needs) moves some are.moves_only done)
     bounded (s ∷ steps) f run = step_bounded p e moves needs ip are shows s steps f run

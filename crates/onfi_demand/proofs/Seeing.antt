@@ -6,9 +6,8 @@ use Rattle.onfi_timing.specs.declared.kind.Kind.{Kind}
 use Rattle.onfi_timing.specs.declared.spans.Spans.{Spans}
 use Rattle.onfi_timing.specs.declared.timing.Timing.{Timing}
 use Rattle.onfi_timing.specs.Kinds.{spans_of}
-use Rattle.onfi_timing.specs.Phases.{phase_length, wait_before}
+use Rattle.onfi_timing.specs.Phases.{Lengths, phase_length, wait_before}
 use Rattle.onfi_request.specs.declared.want.Want.{Want}
-use Rattle.onfi_group.specs.Group.{kind_of}
 use Rattle.onfi_problem.specs.declared.lun_state.LunState.{LunState}
 use Rattle.onfi_problem.specs.declared.lun_state.LunState.TheVariants.{Free, Running}
 use Rattle.onfi_problem.specs.Problem.{Problem, IsProblem}
@@ -22,6 +21,8 @@ use Rattle.onfi_demand.specs.Left.{has_left, has_left_at}
 use Rattle.onfi_demand.specs.Work.{left_of, IsWork}
 use Rattle.onfi_demand.specs.declared.left.LunLeft.TheVariants.{Rest as KeptRest}
 use Rattle.onfi_demand.specs.declared.left.LunWork.{LunWork}
+use Rattle.onfi_demand.specs.OneKind.{lengths_of}
+use Rattle.onfi_demand.proofs.OneKind.{runs_alike_at}
 use Rattle.onfi_demand.proofs.Sums.{die_is, work_at}
 use Rattle.onfi_demand.proofs.Opened.{left_there}
 use Rattle.onfi_demand.proofs.WindowAsks.{rest_left, phases_by, idle_phases}
@@ -55,9 +56,9 @@ sees_append look before middle behind xs ys a b =
     }
 
 -- one phase of a group more
-pub group_more : (look : Look) (spans : Spans) (k rest n from long left : ℕ) (before middle behind : Seen) → n < 2 * k → left ≡ chain_from spans k n → long ≡ phase_length spans k n → Sees look before (phase_at from long (left - long + rest) ∷ []) middle → Sees look middle (group_left spans k rest (2 * k - (n + 1)) (n + 1) (from + phase_length spans k n + wait_before spans k (n + 1))) behind → Sees look before (group_left spans k rest (2 * k - n) n from) behind
-group_more look spans k rest n from long left before middle behind h l is one others =
-    let step = chain_step spans k n h in
+pub group_more : (look : Look) (spans : Lengths) (k rest n from long left : ℕ) (before middle behind : Seen) → length spans.posts ≡ k → n < 2 * k → left ≡ chain_from spans k n → long ≡ phase_length spans k n → Sees look before (phase_at from long (left - long + rest) ∷ []) middle → Sees look middle (group_left spans k rest (2 * k - (n + 1)) (n + 1) (from + phase_length spans k n + wait_before spans k (n + 1))) behind → Sees look before (group_left spans k rest (2 * k - n) n from) behind
+group_more look spans k rest n from long left before middle behind size h l is one others =
+    let step = chain_step spans k n size h in
     let count : 2 * k - n ≡ suc (2 * k - (n + 1)) = omega arith in
     let tail : left - long + rest ≡ wait_before spans k (n + 1) + chain_from spans k (n + 1) + rest = omega arith in
     let one' = subst (λ z. Sees look before (phase_at from z (left - long + rest) ∷ []) middle) is one in
@@ -95,16 +96,16 @@ work_small p lun work limits there is = elim (cases_Bool (has_left p lun)) [
 ]
 
 -- .. and all that is left to it
-pub rest_sees : (p : Problem) (lun k n chain rest : ℕ) (kind : Kind) (timing : Timing) (spans : Spans) (work : LunWork) (look : Look) (ws : List Want) (before middle behind : Seen) → IsWork p lun work → work.left ≡ KeptRest kind k n → timing ≡ p.timing → spans ≡ spans_of timing kind → chain ≡ chain_from spans k n → rest ≡ wants_work p.timing p.rules (on_lun lun p.wants) → ws ≡ work.wants.items → Sees look before (group_left spans k rest (2 * k - n) n 0) middle → Sees look middle (wants_left timing chain ws) behind → Sees look before (phases_left_on p lun) behind
-rest_sees p lun k n chain rest kind timing spans work look ws before middle behind w left t s c r e a b =
-    let q = phases_by p.timing p.rules (on_lun lun p.wants) (slice_get p.luns lun) (left_of work.left) w.left ∙ ap (λ z. rest_left p.timing p.rules (on_lun lun p.wants) (left_of z)) left in
+pub rest_sees : (p : Problem) (lun k n chain rest : ℕ) (kind : Kind) (timing : Timing) (spans : Spans) (work : LunWork) (look : Look) (ws : List Want) (before middle behind : Seen) → IsProblem p → IsWork p lun work → work.left ≡ KeptRest kind k n → timing ≡ p.timing → spans ≡ spans_of timing kind → chain ≡ chain_from (lengths_of spans k) k n → rest ≡ wants_work p.timing p.rules (on_lun lun p.wants) → ws ≡ work.wants.items → Sees look before (group_left (lengths_of spans k) k rest (2 * k - n) n 0) middle → Sees look middle (wants_left timing chain ws) behind → Sees look before (phases_left_on p lun) behind
+rest_sees p lun k n chain rest kind timing spans work look ws before middle behind ip w left t s c r e a b =
+    let q = phases_by p.timing p.rules (on_lun lun p.wants) (slice_get p.luns lun) (left_of work.left) (runs_alike_at p lun ip) w.left ∙ ap (λ z. rest_left p.timing p.rules (on_lun lun p.wants) (left_of z)) left in
     let s' : spans ≡ spans_of p.timing kind = s ∙ ap (λ z. spans_of z kind) t in
-    let a' = subst (λ (z : Spans). Sees look before (group_left z k rest (2 * k - n) n 0) middle) s' a in
-    let a'' = subst (λ z. Sees look before (group_left (spans_of p.timing kind) k z (2 * k - n) n 0) middle) r a' in
+    let a' = subst (λ (z : Spans). Sees look before (group_left (lengths_of z k) k rest (2 * k - n) n 0) middle) s' a in
+    let a'' = subst (λ z. Sees look before (group_left (lengths_of (spans_of p.timing kind) k) k z (2 * k - n) n 0) middle) r a' in
     let b' = subst (λ z. Sees look middle (wants_left timing chain z) behind) (e ∙ w.wants) b in
     let b'' = subst (λ z. Sees look middle (wants_left z chain (on_lun lun p.wants)) behind) t b' in
-    let b''' = subst (λ z. Sees look middle (wants_left p.timing z (on_lun lun p.wants)) behind) (c ∙ ap (λ (z : Spans). chain_from z k n) s') b'' in
-    rw q (sees_append look before middle behind (group_left (spans_of p.timing kind) k (wants_work p.timing p.rules (on_lun lun p.wants)) (2 * k - n) n 0) (wants_left p.timing (chain_from (spans_of p.timing kind) k n) (on_lun lun p.wants)) a'' b''')
+    let b''' = subst (λ z. Sees look middle (wants_left p.timing z (on_lun lun p.wants)) behind) (c ∙ ap (λ (z : Spans). chain_from (lengths_of z k) k n) s') b'' in
+    rw q (sees_append look before middle behind (group_left (lengths_of (spans_of p.timing kind) k) k (wants_work p.timing p.rules (on_lun lun p.wants)) (2 * k - n) n 0) (wants_left p.timing (chain_from (lengths_of (spans_of p.timing kind) k) k n) (on_lun lun p.wants)) a'' b''')
 
 -- the numbers of the window bound's demand
 pub window_kept : (p : Problem) (e time : ℕ) (w : Window) (sight : Sight) (luns : List ℕ) (d : Kept) → IsProblem p → IsSight p w sight → time ≡ e - (window p w.start w.tail + w.tail) → time < 2 ^ 64 → d.bus ≡ 0 → d.luns ≡ luns → ((l : ℕ) → l < 8 → get_or luns l 0 ≡ time - get_or sight.firsts l 0) → IsKept d (window_demand p w.start w.tail e)

@@ -57,18 +57,18 @@ sooner_behind p q m t u iq b s mv late le l has =
           omega arith)
     ]
 
-pub run_sooner : (steps : List Step) (p q : Problem) (s : Step) (f : ℕ) → IsProblem q → SameLeft p q → Sooner p q → Run q (s ∷ steps) f → Run p (s ∷ steps) f
-run_sooner [] p q s f iq same sooner (mv, on_time, (done, end)) =
-    let b = both_move p q s.move same mv in
+pub run_sooner : (steps : List Step) (p q : Problem) (s : Step) (f : ℕ) → IsProblem p → IsProblem q → SameLeft p q → Sooner p q → Run q (s ∷ steps) f → Run p (s ∷ steps) f
+run_sooner [] p q s f ip iq same sooner (mv, on_time, (done, end)) =
+    let b = both_move p q s.move ip iq same mv in
     let le = sooner (move_lun s.move) (move_has q s.move mv) in
     let bus : (placed p s.move s.start).bus_free ≡ (placed q s.move s.start).bus_free = let x = (b.here s.start).bus in let y = (b.there s.start).bus in omega arith in
     (b.is_move, omega arith, (done_alike (placed p s.move s.start) (placed q s.move s.start) (b.left s.start s.start) done, bus ∙ end))
-run_sooner (s' ∷ steps) p q s f iq same sooner (mv, on_time, run) =
-    let b = both_move p q s.move same mv in
+run_sooner (s' ∷ steps) p q s f ip iq same sooner (mv, on_time, run) =
+    let b = both_move p q s.move ip iq same mv in
     let le = sooner (move_lun s.move) (move_has q s.move mv) in
-    let rest = run_sooner steps (placed p s.move s.start) (placed q s.move s.start) s' f (kept q s.move s.start iq mv) (b.left s.start s.start) (sooner_behind p q s.move s.start s.start iq b sooner mv on_time (omega arith)) run in
+    let rest = run_sooner steps (placed p s.move s.start) (placed q s.move s.start) s' f (kept p s.move s.start ip b.is_move) (kept q s.move s.start iq mv) (b.left s.start s.start) (sooner_behind p q s.move s.start s.start iq b sooner mv on_time (omega arith)) run in
     (b.is_move, omega arith, rest)
 
-pub sooner_runs : (p q : Problem) (steps : List Step) (f : ℕ) → IsProblem q → SameLeft p q → (IsDone q → ⊥) → Sooner p q → Run q steps f → Run p steps f
-sooner_runs p q [] f iq same left sooner (done, end) = absurd (left done)
-sooner_runs p q (s ∷ steps) f iq same left sooner run = run_sooner steps p q s f iq same sooner run
+pub sooner_runs : (p q : Problem) (steps : List Step) (f : ℕ) → IsProblem p → IsProblem q → SameLeft p q → (IsDone q → ⊥) → Sooner p q → Run q steps f → Run p steps f
+sooner_runs p q [] f ip iq same left sooner (done, end) = absurd (left done)
+sooner_runs p q (s ∷ steps) f ip iq same left sooner run = run_sooner steps p q s f ip iq same sooner run

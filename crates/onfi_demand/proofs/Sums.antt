@@ -1,24 +1,26 @@
 -- What has the same left has the same sums.
 use Rattle.std.proofs.Common.{◌≡◌, ℕ, ◌+◌, ◌*◌, Bool, true, false, if◌then◌else◌, List, [], ◌∷◌, ◌++◌, length, map, Option, Some, None, refl, sym, ap, ◌∙◌, arith}
-use Rattle.std.specs.Prelude.{nat_lt}
-use Rattle.std.specs.List.{list_any}
+use Rattle.std.specs.Prelude.{nat_lt, IfSome}
+use Rattle.std.specs.List.{AllByRecursion as All, list_any}
 use Rattle.std.specs.Option.{option_map}
 use Rattle.onfi_timing.specs.declared.kind.Kind.{Kind}
 use Rattle.onfi_timing.specs.declared.kind.Kind.TheVariants.{Read, Program, Erase}
 use Rattle.onfi_timing.specs.declared.timing.Timing.{Timing}
 use Rattle.onfi_timing.specs.Kinds.{spans_of}
+use Rattle.onfi_timing.specs.Phases.{posts_from}
 use Rattle.onfi_request.specs.declared.want.Want.{Want}
 use Rattle.onfi_group.specs.declared.rules.Rules.{Rules}
 use Rattle.onfi_group.specs.Words.{total}
-use Rattle.onfi_group.specs.Group.{kind_of}
 use Rattle.onfi_problem.specs.declared.lun_state.LunState.{LunState}
 use Rattle.onfi_problem.specs.declared.lun_state.LunState.TheVariants.{Free, Running}
-use Rattle.onfi_problem.specs.Problem.{Problem}
+use Rattle.onfi_problem.specs.Problem.{Problem, IsProblem}
 use Rattle.onfi_problem.specs.Moves.{may_go}
-use Rattle.onfi_problem.specs.Left.{commands_left, posts_left, waits_left, command_time, post_time, chain_time, want_command, want_post, all_commands, all_posts}
+use Rattle.onfi_problem.specs.Left.{commands_left, waits_left, command_time, post_time, chain_time, want_command, want_post, all_commands, all_posts}
 use Rattle.onfi_bound.specs.Bounds.{least, to_post, commands_next, same_kind, has_command, behind_commands, trail, trail_from, wants_work, die_at}
 use Rattle.onfi_problem.proofs.Lists.{total_by, any_by}
 use Rattle.onfi_demand.specs.Left.{LunLeft, Idle, Rest, left_on, SameLeft, has_left_at}
+use Rattle.onfi_demand.specs.OneKind.{lengths_of, posts_rest}
+use Rattle.onfi_demand.proofs.OneKind.{RunsAlike, kind_lengths, runs_alike}
 use Rattle.onfi_demand.proofs.Alike.{Alike, of_same}
 
 total_alike : (f : LunState → ℕ) (g : LunLeft → ℕ) → ((x : LunState) → f x ≡ g (left_on x)) → (xs ys : List LunState) → Alike xs ys → total f xs ≡ total f ys
@@ -31,10 +33,6 @@ command_rest : Timing → LunLeft → ℕ
 command_rest timing Idle = 0
 command_rest timing (Rest kind k n) = commands_left k n * (spans_of timing kind).cmd
 
-post_rest : Timing → LunLeft → ℕ
-post_rest timing Idle = 0
-post_rest timing (Rest kind k n) = posts_left k n * (spans_of timing kind).post
-
 next_rest : Kind → LunLeft → Bool
 next_rest kind Idle = false
 next_rest kind (Rest other k n) = if same_kind kind other then nat_lt n k else false
@@ -44,10 +42,16 @@ unfolding command_rest
 command_by timing (Free since) = refl
 command_by timing (Running g n r) = refl
 
-post_by : (timing : Timing) (x : LunState) → post_time timing x ≡ post_rest timing (left_on x)
-unfolding post_rest
-post_by timing (Free since) = refl
-post_by timing (Running g n r) = refl
+pub post_by : (timing : Timing) (x : LunState) → RunsAlike x → post_time timing x ≡ posts_rest timing (left_on x)
+post_by timing (Free since) h = refl
+post_by timing (Running g n r) h = ap (λ z. posts_from z (length g) n) (kind_lengths timing g h)
+
+all_posts_by : (timing : Timing) (luns : List LunState) → All RunsAlike luns → total (post_time timing) luns ≡ total (posts_rest timing) (map left_on luns)
+all_posts_by timing [] h = refl
+all_posts_by timing (x ∷ luns) h = let a = post_by timing x h.0 in let b = all_posts_by timing luns h.1 in omega arith
+
+running_posts_alike : (timing : Timing) (xs ys : List LunState) → All RunsAlike xs → All RunsAlike ys → Alike xs ys → total (post_time timing) xs ≡ total (post_time timing) ys
+running_posts_alike timing xs ys hx hy e = all_posts_by timing xs hx ∙ (ap (total (posts_rest timing)) e ∙ sym (all_posts_by timing ys hy))
 
 next_by : (kind : Kind) (x : LunState) → commands_next kind x ≡ next_rest kind (left_on x)
 unfolding next_rest
@@ -57,13 +61,13 @@ next_by kind (Running g n r) = refl
 pub same_commands : (p q : Problem) → SameLeft p q → all_commands p ≡ all_commands q
 same_commands p q s = of_same (λ z. all_commands p ≡ all_commands z) p q s (ap (λ n. n + total (want_command p.timing) p.wants) (total_alike (command_time p.timing) (command_rest p.timing) (command_by p.timing) p.luns q.luns s.luns))
 
-pub same_posts : (p q : Problem) → SameLeft p q → all_posts p ≡ all_posts q
-same_posts p q s = of_same (λ z. all_posts p ≡ all_posts z) p q s (ap (λ n. n + total (want_post p.timing) p.wants) (total_alike (post_time p.timing) (post_rest p.timing) (post_by p.timing) p.luns q.luns s.luns))
+pub same_posts : (p q : Problem) → IsProblem p → IsProblem q → SameLeft p q → all_posts p ≡ all_posts q
+same_posts p q ip iq s = of_same (λ z. all_posts p ≡ all_posts z) p q s (ap (λ n. n + total (want_post p.timing) p.wants) (running_posts_alike p.timing p.luns q.luns (runs_alike p ip) (runs_alike q iq) s.luns))
 
 same_command : (p q : Problem) (kind : Kind) → SameLeft p q → has_command p kind ≡ has_command q kind
 same_command p q kind s = of_same (λ z. has_command p kind ≡ has_command z kind) p q s (rw (any_alike (commands_next kind) (next_rest kind) (next_by kind) p.luns q.luns s.luns) refl)
 
--- what is behind the last command
+-- what is after the last command
 abbrev pub rest_behind : Problem → Option ℕ
 rest_behind p = least (behind_commands p Read ++ (behind_commands p Program ++ behind_commands p Erase))
 
@@ -92,9 +96,9 @@ post_alike timing ws (Running g n r) (Running g' n' r') e = ap (λ z. rest_to_po
   where
     rest_to_post : Timing → LunLeft → Option ℕ
     rest_to_post timing Idle = None
-    rest_to_post timing (Rest kind k i) = Some (commands_left k i * (spans_of timing kind).cmd + waits_left (spans_of timing kind) k i)
+    rest_to_post timing (Rest kind k i) = Some (commands_left k i * (spans_of timing kind).cmd + waits_left (lengths_of (spans_of timing kind) k) k i)
 
--- what a LUN with something left takes behind the time from which it may go on
+-- what a LUN with something left takes after the time from which it may go on
 abbrev pub work_at : Timing → Rules → List Want → Option LunState → ℕ
 work_at timing rules ws (Some (Running g n r)) = chain_time timing (Running g n r) + wants_work timing rules ws
 work_at timing rules ws _ = wants_work timing rules ws
@@ -114,13 +118,13 @@ die_idle p l (w ∷ ws) None h = cc
 die_idle p l (w ∷ ws) (Some (Free a)) h = cc
 
 abbrev work_rest : Timing → Rules → List Want → Option LunLeft → ℕ
-work_rest timing rules ws (Some (Rest kind k i)) = commands_left k i * (spans_of timing kind).cmd + posts_left k i * (spans_of timing kind).post + waits_left (spans_of timing kind) k i + wants_work timing rules ws
+work_rest timing rules ws (Some (Rest kind k i)) = commands_left k i * (spans_of timing kind).cmd + posts_rest timing (Rest kind k i) + waits_left (lengths_of (spans_of timing kind) k) k i + wants_work timing rules ws
 work_rest timing rules ws _ = wants_work timing rules ws
 
-work_by : (timing : Timing) (rules : Rules) (ws : List Want) (o : Option LunState) → work_at timing rules ws o ≡ work_rest timing rules ws (option_map left_on o)
-work_by timing rules ws None = refl
-work_by timing rules ws (Some (Free a)) = refl
-work_by timing rules ws (Some (Running g n r)) = refl
+work_by : (timing : Timing) (rules : Rules) (ws : List Want) (o : Option LunState) → IfSome o RunsAlike → work_at timing rules ws o ≡ work_rest timing rules ws (option_map left_on o)
+work_by timing rules ws None h = refl
+work_by timing rules ws (Some (Free a)) h = refl
+work_by timing rules ws (Some (Running g n r)) h = let e = post_by timing (Running g n r) h in omega arith
 
-pub work_alike : (timing : Timing) (rules : Rules) (ws : List Want) (a b : Option LunState) → option_map left_on a ≡ option_map left_on b → work_at timing rules ws a ≡ work_at timing rules ws b
-work_alike timing rules ws a b e = work_by timing rules ws a ∙ (ap (work_rest timing rules ws) e ∙ sym (work_by timing rules ws b))
+pub work_alike : (timing : Timing) (rules : Rules) (ws : List Want) (a b : Option LunState) → IfSome a RunsAlike → IfSome b RunsAlike → option_map left_on a ≡ option_map left_on b → work_at timing rules ws a ≡ work_at timing rules ws b
+work_alike timing rules ws a b ha hb e = work_by timing rules ws a ha ∙ (ap (work_rest timing rules ws) e ∙ sym (work_by timing rules ws b hb))

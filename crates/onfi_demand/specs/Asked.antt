@@ -1,4 +1,4 @@
--- What a demand behind a move asks for, in the numbers of the move.
+-- What a demand after a move asks for, in the numbers of the move.
 use Rattle.std.specs.Prelude.{◌≡◌, ℕ, ◌+◌, ◌-◌, ◌==◌, ◌<◌, max, nat_le, if◌then◌else◌, true, false, List, Option, Some, None, length, slice_index}
 use Rattle.onfi_problem.specs.Problem.{Problem}
 use Rattle.onfi_problem.specs.Moves.{Move, earliest, move_lun, after, may_go}
@@ -35,7 +35,7 @@ pub record IsStep (p : Problem) (m : Move) (step : Step) : Type 0 where
   pub end : step.end ≡ (after p m).bus_free
   pub go : GoesOn (after p m) (move_lun m) step.go
 
--- the numbers asked so far, raised by what the demand behind a move asks
+-- the numbers asked so far, raised by what the demand after a move asks
 abbrev pub AreRaised : Problem → Move → Kept → List ℕ → List ℕ → Type 0
 AreRaised p m d before behind = (lun : ℕ) → lun < 8 → slice_index behind lun ≡ max (slice_index before lun) (asked p m (demand_of d) lun)
 

@@ -72,7 +72,7 @@ abbrev pub greatest : ℕ → (ℕ → ℕ) → ℕ
 greatest zero f = 0
 greatest (suc n) f = max (f n) (greatest n f)
 
--- how long the move's phase lasts, and how long its LUN waits behind it
+-- how long the move's phase lasts, and how long its LUN waits after it
 abbrev pub length_of : Problem → Move → ℕ
 length_of p m = (after p m).bus_free - earliest p m
 
@@ -87,7 +87,7 @@ through_bus p m d lun = if lun == move_lun m then 0 else (if nat_le (d.lun lun) 
 abbrev pub of_own : Problem → Move → Demand → ℕ
 of_own p m d = if has_left (after p m) (move_lun m) then d.lun (move_lun m) - (length_of p m + wait_of p m) else 0
 
--- what a demand behind a move asks of each LUN before it
+-- what a demand after a move asks of each LUN before it
 abbrev pub asked : Problem → Move → Demand → ℕ → ℕ
 asked p m d lun =
     if lun == move_lun m

@@ -10,7 +10,7 @@ use Rattle.onfi_demand.specs.Demand.{Demand, Meets, Holds, bus_demand, trail_dem
 
 -- what may go on sooner has each run of what has the same left, where something is left
 abbrev pub SoonerLaw : Type 0
-SoonerLaw = (p q : Problem) (steps : List Step) (f : ℕ) → IsProblem q → SameLeft p q → (IsDone q → ⊥) → ((lun : ℕ) → has_left q lun ≡ true → may_go p lun ≤ may_go q lun) → Run q steps f → Run p steps f
+SoonerLaw = (p q : Problem) (steps : List Step) (f : ℕ) → IsProblem p → IsProblem q → SameLeft p q → (IsDone q → ⊥) → ((lun : ℕ) → has_left q lun ≡ true → may_go p lun ≤ may_go q lun) → Run q steps f → Run p steps f
 
 -- a bound that reaches e gives a demand that holds, and that the problem meets
 pub record Asks (e : ℕ) (p : Problem) (d : Demand) : Type 0 where
@@ -18,21 +18,21 @@ pub record Asks (e : ℕ) (p : Problem) (d : Demand) : Type 0 where
   pub meets : Meets p d
 
 abbrev pub BusLaw : Type 0
-BusLaw = (p : Problem) (e : ℕ) → e ≤ bus p → Asks e p (bus_demand p e)
+BusLaw = (p : Problem) (e : ℕ) → IsProblem p → e ≤ bus p → Asks e p (bus_demand p e)
 
 abbrev pub LeadLaw : Type 0
-LeadLaw = (p : Problem) (e : ℕ) → e ≤ lead p → Asks e p (lead_demand p e)
+LeadLaw = (p : Problem) (e : ℕ) → IsProblem p → e ≤ lead p → Asks e p (lead_demand p e)
 
 abbrev pub TrailLaw : Type 0
 TrailLaw = (p : Problem) (e t : ℕ) → trail p ≡ Some t → e ≤ t → Asks e p (trail_demand p t e)
 
 abbrev pub DieLaw : Type 0
-DieLaw = (p : Problem) (e lun : ℕ) → lun < length p.luns → e ≤ die p lun → Asks e p (die_demand p lun e)
+DieLaw = (p : Problem) (e lun : ℕ) → IsProblem p → lun < length p.luns → e ≤ die p lun → Asks e p (die_demand p lun e)
 
 abbrev pub EndLaw : Type 0
 EndLaw = (p : Problem) (e : ℕ) → IsDone p → e ≤ p.bus_free → Asks e p (of_bus e)
 
--- the tree behind the move shows a demand, and the node's asks for it
+-- the tree after the move shows a demand, and the node's asks for it
 abbrev pub Shows : ℕ → Problem → (ℕ → ℕ) → Move → Type 0
 Shows e p needs m = (d : Demand) × Asks e (after p m) d × ((lun : ℕ) → lun < length p.luns → asked p m d lun ≤ needs lun)
 

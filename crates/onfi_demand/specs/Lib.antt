@@ -1,4 +1,5 @@
 pub mod Left
+pub mod OneKind
 pub mod Demand
 pub mod Laws
 pub mod Window

@@ -1,9 +1,8 @@
 -- The window bound: phases that don't start before a time and don't end near the finish stand in between, one after another.
 use Rattle.std.specs.Prelude.{ℕ, zero, suc, ◌+◌, ◌*◌, ◌-◌, ◌≤◌, max, nat_le, if◌then◌else◌, Bool, false, List, [], ◌∷◌, ◌++◌, length, Option, Some, slice_get}
-use Rattle.onfi_timing.specs.declared.spans.Spans.{Spans}
 use Rattle.onfi_timing.specs.declared.timing.Timing.{Timing}
 use Rattle.onfi_timing.specs.Kinds.{spans_of}
-use Rattle.onfi_timing.specs.Phases.{phase_length, wait_before}
+use Rattle.onfi_timing.specs.Phases.{Lengths, phase_length, wait_before, posts_from}
 use Rattle.onfi_request.specs.declared.want.Want.{Want}
 use Rattle.onfi_group.specs.declared.rules.Rules.{Rules}
 use Rattle.onfi_group.specs.Words.{total}
@@ -12,13 +11,13 @@ use Rattle.onfi_problem.specs.declared.lun_state.LunState.{LunState}
 use Rattle.onfi_problem.specs.declared.lun_state.LunState.TheVariants.{Running}
 use Rattle.onfi_problem.specs.Problem.{Problem, IsProblem}
 use Rattle.onfi_problem.specs.Moves.{may_go}
-use Rattle.onfi_problem.specs.Left.{commands_left, posts_left, waits_left}
+use Rattle.onfi_problem.specs.Left.{commands_left, waits_left}
 use Rattle.onfi_schedule.specs.Runs.{Step, Run}
 use Rattle.onfi_bound.specs.Bounds.{on_lun, wants_work}
 use Rattle.onfi_demand.specs.Demand.{Demand, of_luns}
 use Rattle.onfi_demand.specs.Laws.{Asks}
 
--- a phase that is left: how long behind the time from which its LUN may go on it starts at the earliest, its length, and what is
+-- a phase that is left: how long after the time from which its LUN may go on it starts at the earliest, its length, and what is
 -- at least between its end and the finish
 pub record PhaseLeft : Type 0 where
   pub from : ℕ
@@ -26,16 +25,16 @@ pub record PhaseLeft : Type 0 where
   pub tail : ℕ
 
 -- what is left of a group of k from phase n on, with its waits
-abbrev pub chain_from : Spans → ℕ → ℕ → ℕ
-chain_from spans k n = commands_left k n * spans.cmd + posts_left k n * spans.post + waits_left spans k n
+abbrev pub chain_from : Lengths → ℕ → ℕ → ℕ
+chain_from lengths k n = commands_left k n * lengths.cmd + posts_from lengths k n + waits_left lengths k n
 
-abbrev pub group_phase : Spans → ℕ → ℕ → ℕ → ℕ → PhaseLeft
-group_phase spans k rest n from = record { from = from; length = phase_length spans k n; tail = wait_before spans k (n + 1) + chain_from spans k (n + 1) + rest }
+abbrev pub group_phase : Lengths → ℕ → ℕ → ℕ → ℕ → PhaseLeft
+group_phase lengths k rest n from = record { from = from; length = phase_length lengths k n; tail = wait_before lengths k (n + 1) + chain_from lengths k (n + 1) + rest }
 
--- `count` phases of a group of k from phase n on, and `rest` behind the group
-abbrev pub group_left : Spans → ℕ → ℕ → ℕ → ℕ → ℕ → List PhaseLeft
-group_left spans k rest zero n from = []
-group_left spans k rest (suc count) n from = group_phase spans k rest n from ∷ group_left spans k rest count (n + 1) (from + phase_length spans k n + wait_before spans k (n + 1))
+-- `count` phases of a group of k from phase n on, and `rest` after the group
+abbrev pub group_left : Lengths → ℕ → ℕ → ℕ → ℕ → ℕ → List PhaseLeft
+group_left lengths k rest zero n from = []
+group_left lengths k rest (suc count) n from = group_phase lengths k rest n from ∷ group_left lengths k rest count (n + 1) (from + phase_length lengths k n + wait_before lengths k (n + 1))
 
 -- a command and a post for each want
 abbrev pub wants_left : Timing → ℕ → List Want → List PhaseLeft
@@ -52,7 +51,7 @@ phases_left_at timing rules wants _ = wants_left timing 0 wants
 abbrev pub phases_left_on : Problem → ℕ → List PhaseLeft
 phases_left_on p lun = phases_left_at p.timing p.rules (on_lun lun p.wants) (slice_get p.luns lun)
 
--- the phase starts at r or later, where its LUN may go on from `go`, and at least q is behind it
+-- the phase starts at r or later, where its LUN may go on from `go`, and at least q is after it
 abbrev pub is_within : ℕ → ℕ → ℕ → PhaseLeft → Bool
 is_within go r q phase = if nat_le r (go + phase.from) then nat_le q phase.tail else false
 

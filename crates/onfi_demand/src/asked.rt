@@ -1,4 +1,4 @@
-//! What a demand behind a move asks for before it.
+//! What a demand after a move asks for before it.
 
 ghost use Rattle.std.specs.Prelude.{◌≡◌, ℕ, ◌≤◌, ◌<◌, length, slice_index, max};
 ghost use Rattle.onfi_demand.specs.Kept.{demand_of};
@@ -13,7 +13,7 @@ pub struct Step {
     pub lun: u8,
     pub start: u64,
     pub end: u64,
-    /// From when on the LUN may go on behind it; None where nothing is left to it then.
+    /// From when on the LUN may go on after it; None where nothing is left to it then.
     pub go: Option<u64>,
 }
 
@@ -51,7 +51,7 @@ impl Demand {
         self.bus.saturating_sub(length).max(own.max(through))
     }
 
-    /// Raises what is asked of each LUN by what this demand behind a move asks before it, where there are so many LUNs.
+    /// Raises what is asked of each LUN by what this demand after a move asks before it, where there are so many LUNs.
     pub fn raise(&self, step: &Step, count: usize, asked: &mut [u64; 8])
         requires lun { step.now.lun < 8 }
         requires count { count ≤ 8 }

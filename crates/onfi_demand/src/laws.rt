@@ -35,17 +35,17 @@ pub fn end_asks()
     ensures { EndLaw }
 {}
 
-/// The demand of an open node, from those behind its moves.
+/// The demand of an open node, from those after its moves.
 pub fn open_asks()
     ensures { OpenLaw }
 {}
 
-/// What is asked before a move is met where it is behind it.
+/// What is asked before a move is met where what is asked after it is.
 pub fn asked_is_met()
     ensures { AskedLaw }
 {}
 
-/// The window bound: phases that start at a time or later and leave some time behind them stand in between.
+/// The window bound: phases that start at a time or later and leave some time after them stand in between.
 pub fn window_is_below()
     ensures { WindowLaw }
 {}

@@ -3,18 +3,18 @@
 ghost use Rattle.std.specs.Prelude.{◌≡◌, ℕ, ◌+◌, ◌-◌, ◌*◌, ◌^◌, ◌≤◌, ◌<◌, IfSome, length, map, slice_get};
 ghost use Rattle.onfi_timing.specs.Kinds.{spans_of};
 ghost use Rattle.onfi_group.specs.Words.{total};
-ghost use Rattle.onfi_problem.specs.declared.lun_state.LunState.{LunState as State};
 ghost use Rattle.onfi_problem.specs.Left.{commands_left, waits_left, post_time, want_post, all_posts};
 ghost use Rattle.onfi_problem.specs.Position.{waiting_of};
 ghost use Rattle.onfi_problem.specs.Problem.{Problem as AnyProblem};
 ghost use Rattle.onfi_bound.specs.Bounds.{on_lun, least, least_with};
-ghost use Rattle.onfi_demand.specs.Left.{left_on};
+ghost use Rattle.onfi_demand.specs.OneKind.{lengths_of, posts_rest};
 ghost use Rattle.onfi_demand.specs.Demand.{lead_demand, lead_at};
 ghost use Rattle.onfi_demand.specs.Kept.{IsKept};
 ghost use Rattle.onfi_demand.specs.Work.{left_of, IsShape, IsWork};
 
 use crate::demand::Demand;
 use crate::left::{LunLeft, LunWork, left_on};
+use crate::lengths::posts_from;
 use onfi_problem::Problem;
 use onfi_request::Want;
 use onfi_timing::{Spans, Timing};
@@ -22,7 +22,7 @@ use onfi_timing::{Spans, Timing};
 // The posts that are left of a running group, in ns.
 fn rest_posts(timing: &Timing, left: LunLeft) -> u64
     requires { IsShape left }
-    ensures value { (x : State) → left_on x ≡ left_of left → result ≡ post_time timing.now x }
+    ensures value { result ≡ posts_rest timing.now (left_of left) }
     ensures small { result ≤ 2 ^ 53 }
 {
     match left {
@@ -31,10 +31,7 @@ fn rest_posts(timing: &Timing, left: LunLeft) -> u64
             kind,
             members,
             next,
-        } => {
-            let posts = 2 * members - next.max(members);
-            posts as u64 * timing.spans(kind).post
-        }
+        } => posts_from(&timing.spans(kind), members, next),
     }
 }
 
@@ -43,12 +40,13 @@ fn posts_of_luns(problem: &Problem) -> u64
     ensures value { result ≡ total (post_time problem.now.problem.timing) problem.now.problem.luns }
     ensures small { result ≤ 2 ^ 57 }
 {
+    problem.in_limits();
     let timing = problem.timing();
     let count = problem.lun_count();
     let mut sum = 0;
     for lun in 0..count {
         let left = left_on(problem, lun as u8);
-        sum += rest_posts(&timing, left);
+        sum += rest_posts(timing, left);
     }
     sum
 }
@@ -73,13 +71,13 @@ fn all_posts(problem: &Problem) -> u64
     ensures { result ≡ all_posts problem.now.problem }
 {
     let timing = problem.timing();
-    posts_of_luns(problem) + posts_of_wants(&timing, problem.wants(), problem.waiting())
+    posts_of_luns(problem) + posts_of_wants(timing, problem.wants(), problem.waiting())
 }
 
 /// How long a running group takes to its first post, in ns.
 pub(crate) fn rest_to_post(spans: &Spans, members: u8, next: u8) -> u64
     requires { members ≤ 4 }
-    ensures value { result ≡ commands_left members next * spans.now.cmd + waits_left spans.now members next }
+    ensures value { result ≡ commands_left members next * spans.now.cmd + waits_left (lengths_of spans.now members) members next }
     ensures small { result ≤ 2 ^ 54 }
 {
     if next < members {
@@ -148,7 +146,7 @@ impl Demand {
         let mut some = false;
         for lun in 0..count {
             let work = LunWork::of(problem, lun as u8);
-            luns[lun] = work.lead_time(&timing, left);
+            luns[lun] = work.lead_time(timing, left);
             if work.is_some() {
                 some = true;
             }

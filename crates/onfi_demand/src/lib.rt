@@ -8,9 +8,11 @@ mod demand;
 pub mod laws;
 mod lead;
 mod left;
+mod lengths;
 mod look;
 
 pub use asked::Step;
 pub use demand::Demand;
 pub use left::{LunLeft, LunWork, has_left, left_on};
+pub use lengths::{phase_length, wait_before};
 pub use look::Window;

@@ -1,4 +1,4 @@
-//! The window bound: phases that start at a time or later and leave some time behind them stand in between.
+//! The window bound: phases that start at a time or later and leave some time after them stand in between.
 
 ghost use Rattle.std.specs.Prelude.{◌≡◌, ℕ, ◌+◌, ◌-◌, ◌*◌, ◌^◌, ◌≤◌, ◌<◌, ◌∷◌, [], IfSome, IfNone, length, slice_index};
 ghost use Rattle.onfi_bound.specs.Bounds.{on_lun, wants_work};
@@ -6,11 +6,13 @@ ghost use Rattle.onfi_bound.specs.Loads.{IsLoad};
 ghost use Rattle.onfi_demand.specs.Kept.{IsKept};
 ghost use Rattle.onfi_demand.specs.Look.{look_of, phase_at, nothing_seen, Sees, IsSight};
 ghost use Rattle.onfi_demand.specs.Window.{chain_from, group_left, wants_left, phases_left_on, window_demand, IsWindow};
+ghost use Rattle.onfi_demand.specs.OneKind.{lengths_of};
 ghost use Rattle.onfi_demand.specs.Work.{IsWork};
 
 use crate::demand::Demand;
 use crate::lead::rest_to_post;
 use crate::left::{LunLeft, LunWork};
+use crate::lengths::{phase_length, posts_from, wait_before};
 use onfi_bound::Load;
 use onfi_problem::Problem;
 use onfi_request::Want;
@@ -30,7 +32,7 @@ pub(crate) struct Look {
     pub window: Window,
 }
 
-/// The phases within that were seen: their lengths, and how long behind the time from which its LUN may go on the first
+/// The phases within that were seen: their lengths, and how long after the time from which its LUN may go on the first
 /// of them may start; the greatest number where none was seen.
 #[derive(Clone, Copy)]
 pub(crate) struct Seen {
@@ -51,7 +53,7 @@ impl Seen {
 }
 
 impl Look {
-    // One phase more, so long behind the time from which the LUN may go on.
+    // One phase more, so long after the time from which the LUN may go on.
     fn see(&self, seen: Seen, from: u64, length: u64, tail: u64) -> Seen
         requires from { self.now.go + from < 2 ^ 64 }
         requires length { seen.length + length < 2 ^ 64 }
@@ -68,24 +70,24 @@ impl Look {
         }
     }
 
-    // The phases of a running group that are left, `chain` in all with their waits, and `rest` behind the group.
+    // The phases of a running group that are left, `chain` in all with their waits, and `rest` after the group.
     fn see_group(&self, spans: &Spans, members: u8, next: u8, chain: u64, rest: u64) -> Seen
         requires go { self.now.go < 2 ^ 62 }
         requires members { members ≤ 4 }
         requires next { next ≤ 2 * members }
-        requires chain { chain ≡ chain_from spans.now members next }
+        requires chain { chain ≡ chain_from (lengths_of spans.now members) members next }
         requires small { chain < 2 ^ 60 }
         requires rest { rest < 2 ^ 62 }
-        ensures sees { Sees self.now nothing_seen (group_left spans.now members rest (2 * members - next) next 0) result }
+        ensures sees { Sees self.now nothing_seen (group_left (lengths_of spans.now members) members rest (2 * members - next) next 0) result }
         ensures small { result.length ≤ 2 ^ 54 }
     {
         let mut seen = Seen::none();
         let mut from = 0;
         let mut left = chain;
         for phase in next..2 * members {
-            let length = spans.phase_length(members as usize, phase as usize);
+            let length = phase_length(spans, members as usize, phase as usize);
             seen = self.see(seen, from, length, left - length + rest);
-            let lasts = length + spans.wait_before(members as usize, phase as usize + 1);
+            let lasts = length + wait_before(spans, members as usize, phase as usize + 1);
             from += lasts;
             left -= lasts;
         }
@@ -114,11 +116,10 @@ impl Look {
 // What is left of a group from phase `next` on, with its waits, in ns.
 fn chain_left(spans: &Spans, members: u8, next: u8) -> u64
     requires { members ≤ 4 }
-    ensures value { result ≡ chain_from spans.now members next }
+    ensures value { result ≡ chain_from (lengths_of spans.now members) members next }
     ensures small { result ≤ 2 ^ 55 }
 {
-    let posts = (2 * members).saturating_sub(next.max(members));
-    rest_to_post(spans, members, next) + posts as u64 * spans.post
+    rest_to_post(spans, members, next) + posts_from(spans, members, next)
 }
 
 impl LunWork {
@@ -131,13 +132,14 @@ impl LunWork {
         ensures sees { Sees (look_of problem.now.problem lun window) nothing_seen (phases_left_on problem.now.problem lun) result }
         ensures small { result.length ≤ 2 ^ 56 }
     {
+        problem.in_limits();
         let timing = problem.timing();
         let look = Look {
             go: self.go,
             window,
         };
         match self.left {
-            LunLeft::Idle => look.see_wants(Seen::none(), &timing, 0, &self.wants),
+            LunLeft::Idle => look.see_wants(Seen::none(), timing, 0, &self.wants),
             LunLeft::Rest {
                 kind,
                 members,
@@ -146,13 +148,13 @@ impl LunWork {
                 let spans = timing.spans(kind);
                 let chain = chain_left(&spans, members, next);
                 let seen = look.see_group(&spans, members, next, chain, rest);
-                look.see_wants(seen, &timing, chain, &self.wants)
+                look.see_wants(seen, timing, chain, &self.wants)
             }
         }
     }
 }
 
-/// What of all that is left is within a window, in ns: the lengths of the phases, and for each LUN how long behind the time
+/// What of all that is left is within a window, in ns: the lengths of the phases, and for each LUN how long after the time
 /// from which it may go on its first phase within may start.
 #[derive(Clone, Copy)]
 pub(crate) struct Sight {

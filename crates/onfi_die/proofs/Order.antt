@@ -21,7 +21,7 @@ pub Pairs-front : {A : Type 0} (R : A → A → Type 0) (xs ys : List A) → Pai
 Pairs-front R [] ys h = tt
 Pairs-front R (x ∷ xs) ys h = (Each-front (R x) xs ys h.0, Pairs-front R xs ys h.1)
 
--- each of the front is so related to each behind it
+-- each of the front is so related to each after it
 all_to : {A : Type 0} (R : A → A → Type 0) (xs : List A) (y : A) (ys : List A) → Pairs R (xs ++ y ∷ ys) → Each (λ x. R x y) xs
 all_to R [] y ys h = tt
 all_to R (x ∷ xs) y ys h = ((Each-back (R x) xs (y ∷ ys) h.0).0, all_to R xs y ys h.1)

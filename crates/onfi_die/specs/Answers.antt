@@ -12,7 +12,7 @@ use Rattle.onfi_die.specs.Blocks.{is_on}
 abbrev pub requests_on : ℕ → ℕ → List Item → List Request
 requests_on lun block items = filter (is_on lun block) (map (λ x. x.request) items)
 
--- the answer to the item accepted behind these: their requests that name its block, one by one on the erased block, and then its own
+-- the answer to the item accepted after these: their requests that name its block, one by one on the erased block, and then its own
 abbrev pub answer_behind : Device → List Item → Item → Answer
 answer_behind device before x =
     answer_of device x.request (runs device (requests_on x.request.place.lun x.request.place.block before) (fresh device))

@@ -37,7 +37,7 @@ impl Block {
     /// programmed in any order (ONFI 4.2, parameter page, features bit 2).
     ///
     /// # Errors
-    /// Want of memory.
+    /// Where memory was refused.
     pub fn erased(alloc: Global, pages: u16, n: u16, any_order: bool) -> Result<Block, AllocError>
         ensures shape { IfOk result (λ b. b.shape ≡ record { pages = pages; bytes = n; any_order = any_order }) }
         ensures pages { IfOk result (λ b. b.pages ≡ replicate pages Erased) }
@@ -59,7 +59,7 @@ impl Block {
     /// An erase makes every page erased. A fault leaves the page, of an erase every page, torn.
     ///
     /// # Errors
-    /// Want of memory; the block is then unchanged.
+    /// Where memory was refused; the block is then unchanged.
     pub fn apply(
         &mut self,
         alloc: Global,

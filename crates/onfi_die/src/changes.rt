@@ -5,7 +5,7 @@ use std::marker::Model;
 
 /// How many programs and erases a block was asked for; contracts see it as that number, which has no greatest value.
 ///
-/// A fault's number is below 2^32, so a count that stays at the greatest `u64` tells all faults apart.
+/// A fault's number is below 2^32, so a count that stays at the greatest `u64` distinguishes all faults.
 #[derive(Debug, Drop)]
 pub struct Changes {
     reached: u64,

@@ -24,7 +24,7 @@ impl Prepared {
     /// An operation on pages of `page_bytes` bytes; a program copies `bytes`, the others don't look at them.
     ///
     /// # Errors
-    /// Want of memory.
+    /// Where memory was refused.
     pub fn of(
         alloc: Global,
         kind: Kind,

@@ -55,7 +55,7 @@ impl Store {
     /// Does a request on its block and answers it, as [`Block::apply`] does.
     ///
     /// # Errors
-    /// Want of memory; the contents of all blocks are then unchanged.
+    /// Where memory was refused; the contents of all blocks are then unchanged.
     pub fn apply(&mut self, alloc: Global, request: &Request) -> Result<Answer, AllocError>
         requires page { request.now.place.page < self.old.device.shape.pages }
         requires data { request.now.kind ≡ kind.Program → length request.now.bytes ≡ self.old.device.shape.bytes }
@@ -78,7 +78,7 @@ impl Store {
     /// read leaves nothing, so nothing is kept for it.
     ///
     /// # Errors
-    /// Want of memory. The contents of all blocks are unchanged, whatever is answered.
+    /// Where memory was refused. The contents of all blocks are unchanged, whatever is answered.
     pub fn keep(&mut self, alloc: Global, kind: Kind, place: Place) -> Result<(), AllocError>
         ensures kept { OnOk result (kind ≢ Kind.Read → IsKept place.lun place.block self.new) }
         ensures read { kind ≡ Kind.Read → self.new ≡ self.old }

@@ -1,14 +1,17 @@
 -- What the first of several lists adds to a cost.
-use Rattle.std.proofs.Common.{◌≡◌, ◌≢◌, ℕ, zero, suc, ◌+◌, ◌<◌, List, [], ◌∷◌, length, get_or, drop, Some, refl, sym, ap, ◌∙◌, subst, arith}
+use Rattle.std.proofs.Common.{◌≡◌, ◌≢◌, ℕ, zero, suc, ◌+◌, ◌-◌, ◌<◌, ◌≤◌, List, [], ◌∷◌, length, get_or, take, drop, replicate, Option, Some, None, refl, sym, ap, ◌∙◌, subst, arith}
 use Rattle.std.specs.Prelude.{slice_get, slice_index_or}
 use Rattle.std.specs.Option.{option_map}
 use Rattle.std.proofs.lemmas.Bool.{ne_eqb}
+use Rattle.std.proofs.lemmas.List.{take-replicate}
+use Rattle.onfi_timing.specs.declared.kind.Kind.{Kind}
 use Rattle.onfi_timing.specs.declared.kind.Kind.TheVariants.{Read}
+use Rattle.onfi_timing.specs.Kinds.{spans_of}
 use Rattle.onfi_timing.specs.declared.timing.Timing.{Timing}
 use Rattle.onfi_request.specs.declared.want.Want.{Want}
 use Rattle.onfi_problem.specs.declared.lun_state.LunState.{LunState}
-use Rattle.onfi_demand.specs.Left.{left_on}
-use Rattle.onfi_early.specs.Cost.{left_cost, rest_cost, weight_of}
+use Rattle.onfi_demand.specs.Left.{LunLeft, Rest, left_on}
+use Rattle.onfi_early.specs.Cost.{posts_cost, left_cost, rest_cost, weight_of}
 
 abbrev pub no_want : Want
 no_want = record { id = 0; kind = Read; lun = 0; plane = 0; block = 0; page = 0 }
@@ -24,11 +27,24 @@ weight_behind (w ∷ wants) (n ∷ weights) id zero d h other = simp (ne_eqb w.i
 weight_behind (w ∷ wants) [] id (suc i) d h other = no_weights (drop i wants) id ∙ sym (no_weights (drop (suc i) wants) id)
 weight_behind (w ∷ wants) (n ∷ weights) id (suc i) d h other = weight_behind wants weights id i d (omega (arith, h)) other
 
--- a want with another id tells nothing
+-- a want with another id says nothing
 pub weight_next : (wants : List Want) (weights : List ℕ) (id i : ℕ) (d : Want) → i < length wants → (get_or wants i d).id ≢ id → weight_of (drop i wants) (drop i weights) id ≡ weight_of (drop (i + 1) wants) (drop (i + 1) weights) id
 weight_next wants weights id i d h other =
     let next : suc i ≡ i + 1 = omega arith in
     subst (λ n. weight_of (drop i wants) (drop i weights) id ≡ weight_of (drop n wants) (drop n weights) id) next (weight_behind wants weights id i d h other)
+
+-- at most four members of one kind have equal posts
+pub few_posts : (k post : ℕ) → k ≤ 4 → take k (post ∷ post ∷ post ∷ post ∷ []) ≡ replicate k post
+few_posts k post h = take-replicate k 4 post h
+
+pub rest_costs : (timing : Timing) (weights starts : List ℕ) (kind : Kind) (k n first commands : ℕ) (posts : List ℕ) → posts ≡ replicate k (spans_of timing kind).post → first ≡ n - k → commands ≡ k - n
+    → posts_cost posts weights first (drop commands starts) ≡ left_cost timing weights (Rest kind k n) starts
+rest_costs timing weights starts kind k n first commands posts a b d = rw (a, b, d) refl
+
+-- what a LUN's state costs is what is left of it
+pub left_costs : (f : LunLeft → ℕ) (o : Option LunState) (l : LunLeft) (n : ℕ) → option_map left_on o ≡ Some l → f l ≡ n → option_map (λ state. f (left_on state)) o ≡ Some n
+left_costs f None l n h e = cc
+left_costs f (Some x) l n h e = let k : left_on x ≡ l = cc in ap Some (ap f k ∙ e)
 
 rest_behind : (timing : Timing) (weights : List (List ℕ)) (luns : List LunState) (rest : List (List ℕ)) (i lun cost : ℕ) (d : List ℕ) → i < length rest
     → option_map (λ state. left_cost timing (slice_index_or weights lun []) (left_on state) (get_or rest i d)) (slice_get luns i) ≡ Some cost

@@ -1,5 +1,5 @@
 -- What a walk finds below a node.
-use Rattle.std.proofs.Common.{◌≡◌, ◌<◌, ◌^◌, true, false, List, [], length, sym}
+use Rattle.std.proofs.Common.{◌≡◌, ◌<◌, ◌^◌, true, List, [], length, sym}
 use Rattle.std.proofs.lemmas.Bool.{false≢true}
 use Rattle.onfi_problem.specs.Moves.{AreMoves}
 use Rattle.onfi_problem.specs.Left.{InLimits}
@@ -21,6 +21,6 @@ at_end x items old new limits are none end small steps = record {
   kept = λ q. absurd (false≢true (sym q));
 }
 
--- behind a step
+-- after a step
 pub walk_moved : (x : Position) (step : KeptMove) (loads : Loads) → IsStep x step → IsWalk x loads → IsWalk (moved x step) loads
 walk_moved x step loads s w = record { limits = after_limits x.problem (move_of x.groups step) w.limits s.move; are_loads = loads_after x step loads.of.items s.move w.are_loads }

@@ -8,6 +8,7 @@ use Rattle.onfi_group.specs.Group.{group_spans}
 use Rattle.onfi_problem.specs.declared.lun_state.LunState.{LunState}
 use Rattle.onfi_problem.specs.Position.{Position}
 use Rattle.onfi_demand.specs.Left.{LunLeft, Idle, Rest, left_on}
+use Rattle.onfi_demand.specs.OneKind.{lengths_of}
 use Rattle.onfi_schedule.specs.Schedule.{Placed, Schedule}
 use Rattle.onfi_early.specs.declared.weights.Weights.{Weights}
 
@@ -17,22 +18,23 @@ weight_of [] weights id = 0
 weight_of (w ∷ wants) [] id = 0
 weight_of (w ∷ wants) (n ∷ weights) id = if w.id == id then n else weight_of wants weights id
 
--- posts of one length, from that of member n on: each costs its member's weight times its end
-abbrev pub posts_cost : ℕ → List ℕ → ℕ → List ℕ → ℕ
-posts_cost length weights n [] = 0
-posts_cost length weights n (start ∷ starts) = slice_index weights n * (start + length) + posts_cost length weights (n + 1) starts
+-- posts that start then, from that of member n on, where `posts` are the lengths of all members' posts: each costs its member's
+-- weight times its end
+abbrev pub posts_cost : List ℕ → List ℕ → ℕ → List ℕ → ℕ
+posts_cost posts weights n [] = 0
+posts_cost posts weights n (start ∷ starts) = slice_index weights n * (start + slice_index posts n) + posts_cost posts weights (n + 1) starts
 
 abbrev pub member_weights : List Want → List ℕ → List Want → List ℕ
 member_weights wants weights members = map (λ m. weight_of wants weights m.id) members
 
--- a new group: behind a command for each member stands a post for each
+-- a new group: after a command for each member comes a post for each
 abbrev pub group_cost : Timing → List Want → List ℕ → Placed → ℕ
-group_cost timing wants weights g = posts_cost (group_spans timing g.members).post (member_weights wants weights g.members) 0 (drop (length g.members) g.starts)
+group_cost timing wants weights g = posts_cost (group_spans timing g.members).posts (member_weights wants weights g.members) 0 (drop (length g.members) g.starts)
 
 -- a group that runs: the commands that are left, then the posts
 abbrev pub left_cost : Timing → List ℕ → LunLeft → List ℕ → ℕ
 left_cost timing weights Idle starts = 0
-left_cost timing weights (Rest kind members next) starts = posts_cost (spans_of timing kind).post weights (next - members) (drop (members - next) starts)
+left_cost timing weights (Rest kind members next) starts = posts_cost (lengths_of (spans_of timing kind) members).posts weights (next - members) (drop (members - next) starts)
 
 -- .. of each LUN from number `lun` on
 abbrev pub rest_cost : Timing → List (List ℕ) → ℕ → List LunState → List (List ℕ) → ℕ

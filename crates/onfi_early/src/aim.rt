@@ -53,7 +53,7 @@ impl Aim {
             groups,
             wants,
             latest,
-            timing: problem.timing(),
+            timing: *problem.timing(),
         })
     }
 

@@ -4,6 +4,7 @@ ghost use Rattle.std.specs.Prelude.{◌≡◌, ◌+◌, ◌*◌, ◌^◌, ◌<�
 ghost use Rattle.std.specs.List.{AllByRecursion as Each};
 ghost use Rattle.std.specs.Option.{option_map};
 ghost use Rattle.onfi_group.specs.Words.{total};
+ghost use Rattle.onfi_group.specs.Group.{group_spans};
 ghost use Rattle.onfi_demand.specs.Left.{left_on};
 ghost use Rattle.onfi_schedule.specs.Schedule.{Legal};
 ghost use Rattle.onfi_schedule.specs.Conditions.{start_count};
@@ -26,8 +27,8 @@ pub fn cost_of(problem: &Problem, schedule: &Schedule, weights: &Weights) -> u12
 {
     problem.in_limits();
     let timing = problem.timing();
-    let left = cost_of_rest(problem, &timing, &weights.running, schedule.rest());
-    left + cost_of_groups(&timing, problem.wants(), &weights.wants, schedule.groups())
+    let left = cost_of_rest(problem, timing, &weights.running, schedule.rest());
+    left + cost_of_groups(timing, problem.wants(), &weights.wants, schedule.groups())
 }
 
 // What is left of running groups costs.
@@ -63,10 +64,11 @@ fn cost_left(problem: &Problem, timing: &Timing, lun: u8, weights: &[u16], start
             members,
             next,
         } => {
-            let post = timing.spans(kind).post;
+            let posts = [timing.spans(kind).post; 4];
             let commands = members.saturating_sub(next) as usize;
             let first = next.saturating_sub(members) as usize;
-            cost_behind(post, weights, first, commands, starts)
+            let own = &posts[..members as usize];
+            cost_behind(own, weights, first, commands, starts)
         }
     }
 }
@@ -91,16 +93,23 @@ fn cost_of_group(timing: &Timing, wants: &[Want], weights: &[u16; 8], group: &Pl
     ensures small { result ≤ length group.now.starts * 2 ^ 80 }
 {
     let members = group.members();
-    let post = timing.spans(members.kind()).post;
+    let posts = posts_of(timing, members.members());
     let own = weights_of(wants, weights, members.members());
-    cost_behind(post, own.as_slice(), 0, members.len(), group.starts())
+    let starts = group.starts();
+    cost_behind(posts.as_slice(), own.as_slice(), 0, members.len(), starts)
 }
 
-// The posts behind so many commands cost; the first of them is that of member `first`.
-fn cost_behind(post: u64, weights: &[u16], first: usize, commands: usize, starts: &Starts) -> u128
-    requires post { post < 2 ^ 50 }
+// What the posts after so many commands cost; the first of them is that of member `first`.
+fn cost_behind(
+    posts: &[u64],
+    weights: &[u16],
+    first: usize,
+    commands: usize,
+    starts: &Starts,
+) -> u128
+    requires posts { Each (λ t. t < 2 ^ 50) posts.now }
     requires first { first < 2 ^ 60 }
-    ensures value { result ≡ posts_cost post weights.now first (drop commands starts.now) }
+    ensures value { result ≡ posts_cost posts.now weights.now first (drop commands starts.now) }
     ensures small { result ≤ length starts.now * 2 ^ 80 }
     ensures few { result ≤ 8 * 2 ^ 80 }
 {
@@ -108,23 +117,35 @@ fn cost_behind(post: u64, weights: &[u16], first: usize, commands: usize, starts
     if starts.len() < commands {
         return 0;
     }
-    cost_of_posts(post, weights, first, &starts[commands..])
+    cost_of_posts(posts, weights, first, &starts[commands..])
 }
 
 // Posts cost; the first of them is that of member `first`.
-fn cost_of_posts(post: u64, weights: &[u16], first: usize, starts: &[u64]) -> u128
-    requires post { post < 2 ^ 50 }
+fn cost_of_posts(posts: &[u64], weights: &[u16], first: usize, starts: &[u64]) -> u128
+    requires posts { Each (λ t. t < 2 ^ 50) posts.now }
     requires first { first < 2 ^ 60 }
     requires starts { Each (λ t. t < 2 ^ 63) starts.now }
     requires few { length starts.now ≤ 8 }
-    ensures value { result ≡ posts_cost post weights.now first starts.now }
+    ensures value { result ≡ posts_cost posts.now weights.now first starts.now }
     ensures small { result ≤ length starts.now * 2 ^ 80 }
 {
     let mut cost = 0;
     for (at, start) in starts.iter().enumerate() {
-        cost += cost_of_post(weights, first + at, *start + post);
+        cost += cost_of_post(weights, first + at, *start + length_of(posts, first + at));
     }
     cost
+}
+
+// How long the post of a member takes, in ns; 0 where there is no such member.
+fn length_of(posts: &[u64], member: usize) -> u64
+    requires { Each (λ t. t < 2 ^ 50) posts.now }
+    ensures value { result ≡ slice_index posts.now member }
+    ensures small { result < 2 ^ 50 }
+{
+    match posts.get(member) {
+        Some(post) => *post,
+        None => 0,
+    }
 }
 
 // The post of a member costs that ends then.
@@ -149,6 +170,19 @@ fn weights_of(wants: &[Want], weights: &[u16; 8], members: &[Want]) -> ArrayVec<
         own.push(weight_of(wants, weights, member.id));
     }
     own
+}
+
+// How long the post of each member takes, in ns.
+fn posts_of(timing: &Timing, members: &[Want]) -> ArrayVec<u64, 4>
+    requires { length members.now ≤ 4 }
+    ensures value { result.items ≡ (group_spans timing.now members.now).posts }
+    ensures short { Each (λ t. t < 2 ^ 50) result.items }
+{
+    let mut posts = ArrayVec::new();
+    for member in members {
+        posts.push(timing.spans(member.kind).post);
+    }
+    posts
 }
 
 /// The weight of the want of that number; 0 where there is none.

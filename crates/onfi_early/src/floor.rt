@@ -1,4 +1,4 @@
-//! What a run costs at least behind each move of a node. No sum wraps: all times of a problem are below 2^62 ns.
+//! What a run costs at least after each move of a node. No sum wraps: all times of a problem are below 2^62 ns.
 
 use crate::aim::Aim;
 use crate::line::Line;
@@ -7,7 +7,7 @@ use onfi_group::Group;
 use onfi_problem::{Move, Problem};
 use onfi_timing::Kind;
 
-/// What is left to each LUN at a node, and room for what is left behind a move.
+/// What is left to each LUN at a node, and room for what is left after a move.
 #[derive(Drop)]
 pub struct Floor {
     luns: [Rest; 8],
@@ -96,7 +96,7 @@ impl Floor {
     }
 
     /// What all posts cost at least where a move of the node goes next: each phase as early as its LUN lets it, those of
-    /// other LUNs behind that phase. What is left to its own LUN ends as it would, but behind a start.
+    /// other LUNs after that phase. What is left to its own LUN ends as it would, but after a start.
     pub fn cost_apart(&self, problem: &Problem, aim: &Aim, phase: Phase) -> u128 {
         let own = phase.step.lun() as usize;
         let bus_free = problem.bus_free();
@@ -134,7 +134,7 @@ impl Floor {
         more.wrapping_add(others as u128 * takes as u128)
     }
 
-    /// By how much the posts cost more behind a move of the node where those of a kind take the bus one after another, and
+    /// By how much the posts cost more after a move of the node where those of a kind take the bus one after another, and
     /// so do its commands.
     pub fn more_in_line(&mut self, problem: &Problem, aim: &Aim, phase: Phase) -> u128 {
         self.reads.clear();

@@ -1,5 +1,5 @@
 //! Schedules that end early all over: among those that end by a given time, one in which the requests end sooner by
-//! their weights. Alone, it tells what a schedule costs, and makes a plan better without losing what is proved of it.
+//! their weights. Alone, it says what a schedule costs, and makes a plan better without losing what is proved of it.
 #![tactic(auto)]
 
 mod aim;

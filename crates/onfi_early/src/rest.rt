@@ -76,7 +76,7 @@ impl Rest {
         }
     }
 
-    // The wants of the LUN that wait, each behind the group alone.
+    // The wants of the LUN that wait, each after the group alone.
     fn add_wants(&mut self, problem: &Problem, aim: &Aim, lun: u8) {
         let waiting = problem.waiting();
         for (at, want) in problem.wants().iter().enumerate() {
@@ -134,7 +134,7 @@ impl Posts {
         self.wait == 0 && self.left > 0
     }
 
-    /// Those behind the first one, from when that starts.
+    /// Those after the first one, from when that starts.
     pub fn behind_first(self, aim: &Aim, post: u64) -> Posts {
         let (member, left) = (self.member.saturating_add(1), self.left.saturating_sub(1));
         Posts {

@@ -29,7 +29,7 @@ pub struct Notes {
     pub lun: u8,
 }
 
-/// Looks below a node, before which posts cost so much, for a run that costs less than the best and ends in time; tells
+/// Looks below a node, before which posts cost so much, for a run that costs less than the best and ends in time; says
 /// whether it found one.
 #[cycle(search)]
 pub fn search(
@@ -103,7 +103,7 @@ fn search_children(
     Ok(improved)
 }
 
-// Looks below a step; tells whether it found something.
+// Looks below a step; says whether it found something.
 #[cycle(search)]
 fn visit(
     problem: &mut Problem,
@@ -134,8 +134,8 @@ fn visit(
     Ok(improved)
 }
 
-// What a run costs at least behind each of the moves that don't yield: one that may go only once all moves of some LUN
-// are over stands behind them. Where each phase apart costs no less than the best run, nothing is hoped of the move.
+// What a run costs at least after each of the moves that don't yield: one that may go only once all moves of some LUN
+// are over comes after them. Where each phase apart costs no less than the best run, nothing is hoped of the move.
 fn list_children(
     problem: &Problem,
     aim: &Aim,

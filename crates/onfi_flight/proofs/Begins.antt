@@ -30,7 +30,7 @@ use Rattle.onfi_flight.proofs.Lists.{cut_there, get_map, index_get}
 use Rattle.onfi_flight.proofs.Shifted.{phases_start}
 use Rattle.onfi_flight.proofs.Turns.{within_groups}
 
--- what is left behind the first of these starts on the LUN
+-- what is left after the first of these starts on the LUN
 abbrev rest_behind : Schedule → ℕ → List ℕ → Schedule
 rest_behind s lun starts = record { rest = slice_set s.rest lun (drop 1 starts); groups = s.groups }
 

@@ -1,4 +1,4 @@
--- A schedule that is legal behind a phase is so later, where the phase is later by as much.
+-- A schedule that is legal after a phase is so later, where the phase is later by as much.
 use Rattle.std.proofs.Common.{◌≡◌, ℕ, ◌+◌, ◌*◌, ◌≤◌, List, length, map, refl, sym, ap, subst, arith}
 use Rattle.std.specs.Prelude.{◌-◌, nat_lt, if◌then◌else◌, Bool, true, false, slice_set}
 use Rattle.onfi_timing.specs.declared.timing.Timing.{Timing}

@@ -14,7 +14,7 @@ index_get [] i x d h = cc
 index_get (y ∷ xs) zero x d h = cc
 index_get (y ∷ xs) (suc i) x d h = index_get xs i x d h
 
--- a list is what is before a place, what stands there, and what is behind
+-- a list is what is before a place, what stands there, and what is after it
 pub cut_there : {A : Type 0} (xs : List A) (i : ℕ) (x : A) → slice_get xs i ≡ Some x → xs ≡ take i xs ++ x ∷ drop (i + 1) xs
 cut_there xs i x h = sym (take-append-drop i xs) ∙ ap (λ zs. take i xs ++ zs) (drop_next xs i x h)
 

@@ -3,9 +3,8 @@ use Rattle.std.proofs.Common.{◌≡◌, ℕ, ◌+◌, ◌*◌, ◌≤◌, inl, 
 use Rattle.std.specs.Prelude.{map, slice_get, slice_set}
 use Rattle.std.specs.List.{AllByRecursion as All, flat_map}
 use Rattle.std.proofs.lemmas.List.{length-map, map-append}
-use Rattle.onfi_timing.specs.declared.spans.Spans.{Spans}
 use Rattle.onfi_timing.specs.declared.timing.Timing.{Timing}
-use Rattle.onfi_timing.specs.Phases.{phase_length, wait_before}
+use Rattle.onfi_timing.specs.Phases.{Lengths, phase_length, wait_before}
 use Rattle.onfi_request.specs.declared.want.Want.{Want}
 use Rattle.onfi_group.specs.Words.{Has, Pairs}
 use Rattle.onfi_group.specs.Group.{IsGroup, group_spans, lun_of}
@@ -35,7 +34,7 @@ later_problem by moment p = record p { bus_free = moment; luns = map (later_stat
 
 -- The phases
 
-from_later : (by lun : ℕ) (spans : Spans) (k n : ℕ) (ts : List ℕ) → phases_from lun spans k n (later_starts by ts) ≡ map (later_phase by) (phases_from lun spans k n ts)
+from_later : (by lun : ℕ) (spans : Lengths) (k n : ℕ) (ts : List ℕ) → phases_from lun spans k n (later_starts by ts) ≡ map (later_phase by) (phases_from lun spans k n ts)
 from_later by lun spans k n [] = refl
 from_later by lun spans k n (t ∷ ts) = ap (λ xs. later_phase by (record { lun = lun; start = t; length = phase_length spans k n }) ∷ xs) (from_later by lun spans k (n + 1) ts)
 
@@ -91,7 +90,7 @@ groups_before by timing g h b =
     let c = group_later by timing h in
     rw (a, c) (later_before by (group_phases timing g) (group_phases timing h) b)
 
-later_in_order : (by : ℕ) (spans : Spans) (k n floor low : ℕ) (ts : List ℕ) → low ≤ floor + by → InOrder spans k n floor ts → InOrder spans k n low (later_starts by ts)
+later_in_order : (by : ℕ) (spans : Lengths) (k n floor low : ℕ) (ts : List ℕ) → low ≤ floor + by → InOrder spans k n floor ts → InOrder spans k n low (later_starts by ts)
 later_in_order by spans k n floor low [] l h = tt
 later_in_order by spans k n floor low (t ∷ ts) l h =
     (omega (arith, h.0), later_in_order by spans k (n + 1) (t + phase_length spans k n + wait_before spans k (n + 1)) (t + by + phase_length spans k n + wait_before spans k (n + 1)) ts (omega arith) h.1)
@@ -261,7 +260,7 @@ ready_legal p s lun group next ready moment at low legal =
 -- All phases of a legal schedule start no earlier than the first of each group
 
 -- a chain whose first start is no earlier
-pub chain_from : (lun : ℕ) (spans : Spans) (k n floor t : ℕ) (ts : List ℕ) → InOrder spans k n floor ts → ((u : ℕ) (us : List ℕ) → ts ≡ u ∷ us → t ≤ u) → All (λ (x : Phase). t ≤ x.start) (phases_from lun spans k n ts)
+pub chain_from : (lun : ℕ) (spans : Lengths) (k n floor t : ℕ) (ts : List ℕ) → InOrder spans k n floor ts → ((u : ℕ) (us : List ℕ) → ts ≡ u ∷ us → t ≤ u) → All (λ (x : Phase). t ≤ x.start) (phases_from lun spans k n ts)
 chain_from lun spans k n floor t [] o h = tt
 chain_from lun spans k n floor t (u ∷ us) o h =
     let low = h u us refl in

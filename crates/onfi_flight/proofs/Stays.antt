@@ -26,7 +26,7 @@ use Rattle.onfi_flight.proofs.Late.{late_legal}
 use Rattle.onfi_flight.proofs.Lists.{set_self}
 use Rattle.onfi_flight.proofs.Shifted.{later_legal, phases_start, ready_legal}
 
--- Behind a phase
+-- After a phase
 
 few_placed : (p : Problem) (move : Move) (t : ℕ) → length p.wants ≤ 8 → IsMove p move → length (placed p move t).wants ≤ 8
 few_placed p (Next lun) t few (g, n, r, at) = subst (λ (q : Problem). length q.wants ≤ 8) (sym (ap (λ o. next_ran p lun o t) at)) few
@@ -46,7 +46,7 @@ late_stays f due started flight is late =
       legal = late_legal f.now (move_of due) due.start started (left_behind f.left due) is.is_move late first.legal;
     }
 
--- Behind a wait
+-- After a wait
 
 waited_legal : (moment : ℕ) (f : Flight) → Legal f.now f.left → Legal (free_at f.now (max f.now.bus_free moment)) (later (wait_lag moment f) f.left)
 waited_legal moment f legal =
@@ -64,7 +64,7 @@ wait_stays f moment flight = record {
   legal = waited_legal moment f flight.legal;
 }
 
--- the fields of a flight behind it
+-- the fields of a flight after it
 pub wait_is : (v f : Flight) (moment free by : ℕ) (left : Schedule) → v ≡ f → free ≡ max v.now.bus_free moment → by ≡ wait_lag moment v → left ≡ later by v.left
     → (let now : Flight = record { now = record { timing = v.now.timing; rules = v.now.rules; bus_free = free; luns = v.now.luns; wants = v.now.wants }; left = left } in now) ≡ waited moment f
 wait_is v f moment free by left same ef eb el = rw (el, eb, ef) (ap (waited moment) same)

@@ -5,7 +5,7 @@ ghost use Rattle.onfi_problem.specs.Moves.{lun_after, without};
 ghost use Rattle.onfi_flight.specs.Flight.{member_of};
 
 use arrayvec::ArrayVec;
-use onfi_group::Group;
+use onfi_group::{Group, wait_before};
 use onfi_problem::LunState;
 use onfi_request::Want;
 use onfi_schedule::Starts;
@@ -51,7 +51,7 @@ pub(crate) fn lun_after(timing: &Timing, group: &Group, phase: u8, ended: u64) -
     let count = group.len();
     let next = usize::from(phase) + 1;
     if next < 2 * count {
-        let wait = timing.spans(group.kind()).wait_before(count, next);
+        let wait = wait_before(timing, group.members(), next);
         LunState::Running {
             group: group.copy(),
             next: next as u8,
@@ -62,7 +62,7 @@ pub(crate) fn lun_after(timing: &Timing, group: &Group, phase: u8, ended: u64) -
     }
 }
 
-// The starts behind the first one.
+// The starts after the first one.
 pub(crate) fn behind_first(starts: &Starts) -> Starts
     requires { 1 ≤ length starts.now }
     ensures { result ≡ drop 1 starts.now }

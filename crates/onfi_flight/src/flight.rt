@@ -78,7 +78,7 @@ impl Flight {
         ensures { result ≡ record { now = problem.now.problem; left = schedule.now } }
     {
         Flight {
-            timing: problem.timing(),
+            timing: *problem.timing(),
             rules: problem.rules(),
             bus_free: problem.bus_free(),
             luns: Luns::of(problem),

@@ -18,7 +18,7 @@ pub fn late_stays_legal()
     ensures { LateStays }
 {}
 
-/// So it is behind a wait.
+/// So it is after a wait.
 pub fn wait_stays_legal()
     ensures { WaitStays }
 {}

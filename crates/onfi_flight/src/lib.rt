@@ -1,4 +1,4 @@
-//! Flights: what is left of a plan, with the channel as it stands. Alone, it tells which phase of a plan is due, whether that
+//! Flights: what is left of a plan, with the channel as it stands. Alone, it says which phase of a plan is due, whether that
 //! phase may run, and what it leaves; and what stays of the plan where the bus waits, a phase is late or a LUN is ready sooner.
 //! It judges one phase at a time, and takes no memory.
 #![tactic(auto)]

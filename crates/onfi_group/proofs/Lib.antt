@@ -5,3 +5,4 @@ mod Growing
 pub mod Counting
 mod Masks
 pub mod Firsts
+pub mod PhaseLengths

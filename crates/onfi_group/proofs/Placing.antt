@@ -20,7 +20,7 @@ length-joined w (m ∷ ms) =
       | inr k ↦ rw k (omega arith)
     ]
 
--- behind a member on a lower plane
+-- after a member on a lower plane
 joined_later : (w m : Want) (ms : List Want) → m.plane < w.plane → joined w (m ∷ ms) ≡ m ∷ joined w ms
 joined_later w m ms h = rw (lt-ltb m.plane w.plane h) refl
 

@@ -1,11 +1,11 @@
 -- Groups: wants that run as one multi-plane operation.
-use Rattle.std.specs.Prelude.{◌≡◌, ℕ, ◌+◌, ◌/◌, ◌^◌, ◌<◌, ◌≤◌, ◌≢◌, ◌==◌, if◌then◌else◌, Bool, false, IsTrue, List, [], ◌∷◌, length, Some, slice_get}
+use Rattle.std.specs.Prelude.{◌≡◌, ℕ, ◌+◌, ◌/◌, ◌^◌, ◌<◌, ◌≤◌, ◌≢◌, ◌==◌, if◌then◌else◌, Bool, false, IsTrue, List, [], ◌∷◌, length, map, Some, slice_get}
 use Rattle.std.specs.List.{AllByRecursion as Each, filter, list_any}
 use Rattle.onfi_timing.specs.declared.kind.Kind.{Kind}
 use Rattle.onfi_timing.specs.declared.kind.Kind.TheVariants.{Read, Program, Erase}
-use Rattle.onfi_timing.specs.declared.spans.Spans.{Spans}
 use Rattle.onfi_timing.specs.declared.timing.Timing.{Timing}
 use Rattle.onfi_timing.specs.Kinds.{spans_of}
+use Rattle.onfi_timing.specs.Phases.{Lengths}
 use Rattle.onfi_request.specs.declared.want.Want.{Want}
 use Rattle.onfi_group.specs.declared.rules.Rules.{Rules}
 use Rattle.onfi_group.specs.Words.{Pairs}
@@ -23,8 +23,11 @@ abbrev pub page_of : List Want → ℕ
 page_of [] = 0
 page_of (m ∷ ms) = m.page
 
-abbrev pub group_spans : Timing → List Want → Spans
-group_spans timing group = spans_of timing (kind_of group)
+-- the post of each member is that of its kind; all else is that of the first member's
+abbrev pub group_spans : Timing → List Want → Lengths
+group_spans timing group =
+    let shared = spans_of timing (kind_of group) in
+    record { cmd = shared.cmd; gap = shared.gap; array = shared.array; posts = map (λ m. (spans_of timing m.kind).post) group }
 
 -- may several of a kind run as one
 abbrev pub may_group : Rules → Kind → Bool

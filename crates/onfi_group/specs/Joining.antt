@@ -23,6 +23,6 @@ pub data AreJoined (rules : Rules) (w : Want) : List (List Want) → List (List 
   kept : (g : List Want) (gs more : List (List Want)) → IsGroup rules (joined w g) → AreJoined rules w gs more → AreJoined rules w (g ∷ gs) (joined w g ∷ more)
   left : (g : List Want) (gs more : List (List Want)) → (IsGroup rules (joined w g) → ⊥) → AreJoined rules w gs more → AreJoined rules w (g ∷ gs) more
 
--- behind the old groups stand the want alone, and what it makes with each of them
+-- after the old groups come the want alone, and what it makes with each of them
 abbrev pub HasGrown : Rules → Want → List (List Want) → List (List Want) → Type 0
 HasGrown rules w old new = (more : List (List Want)) × (new ≡ old ++ (w ∷ []) ∷ more) × AreJoined rules w old more

@@ -12,7 +12,7 @@ pub record IsCandidate (rules : Rules) (wants : List Want) (at : ℕ) (members :
   pub lun : lun_of members ≡ at
   pub listed : Each (Has wants) members
 
--- in rising bit mask of the members' places, which ids tell
+-- in rising bit mask of the members' places, which ids give
 abbrev pub MasksRise : List Want → List (List Want) → Type 0
 MasksRise wants groups = Pairs (λ a b. mask_of wants a < mask_of wants b) groups
 
@@ -32,7 +32,7 @@ abbrev pub first_mask : List Want → List Want → ℕ
 first_mask wants members = total (λ m. 2 ^ first_place wants m) members
 
 -- all groups that may be started on the LUN, and no other, in rising bit mask of their places; so each stands there once
--- (each member is the first want on its block, so the block tells its place, whatever the ids)
+-- (each member is the first want on its block, so the block gives its place, whatever the ids)
 pub record AreStartable (rules : Rules) (wants : List Want) (lun : ℕ) (groups : List (List Want)) : Type 0 where
   pub only : Each (λ members. IsStartable rules wants members × (lun_of members ≡ lun)) groups
   pub each : (members : List Want) → IsStartable rules wants members → lun_of members ≡ lun → Has groups members

@@ -89,7 +89,7 @@ impl Group {
         self.members().iter().any(|m| m.id == want.id)
     }
 
-    /// Whether the rules allow it, as [`is_group`] tells of wants.
+    /// Whether the rules allow it, as [`is_group`] says of wants.
     pub fn is_group(&self, rules: &Rules) -> bool
         ensures { IsTrue result ↔ IsGroup rules.now self.now }
     {

@@ -26,7 +26,7 @@ pub fn startable(
     ensures startable { IfOk result (λ groups. AreStartable rules.now wants.now lun groups.items) }
     ensures few { IfOk result (λ groups. vec_len groups ≤ 80) }
 
-    // Where ids rise, they tell the same order.
+    // Where ids rise, they give the same order.
     ensures by_ids { Pairs (λ a b. a.id < b.id) wants.now →
         IfOk result (λ groups. MasksRise wants.now groups.items) }
 {
@@ -75,7 +75,7 @@ fn has_block(earlier: &[Want], want: &Want) -> bool
         .any(|e| e.lun == want.lun && e.block == want.block)
 }
 
-// Puts behind the groups the want alone, and what it makes with each of them.
+// Appends to the groups the want alone, and what it makes with each of them.
 fn grow(
     alloc: Global,
     groups: &mut Vec<Group>,

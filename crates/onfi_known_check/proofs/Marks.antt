@@ -1,4 +1,4 @@
--- Marks of waiting wants are told by the wants.
+-- Marks of waiting wants are given by the wants.
 use Rattle.std.proofs.Common.{◌≡◌, ℕ, ◌≤◌, ◌<◌, Bool, true, false, List, [], ◌∷◌, length, take, map, get_or, zero, suc, inl, refl, sym, ap, ◌∙◌, subst, arith}
 use Rattle.std.specs.Prelude.{IsTrue, ◌↔◌}
 use Rattle.onfi_request.specs.declared.want.Want.{Want}
@@ -12,7 +12,7 @@ use Rattle.onfi_demand.specs.Work.{left_of}
 use Rattle.onfi_known_check.specs.declared.known.Known.{Known}
 use Rattle.onfi_known_check.specs.Proves.{Describes}
 
--- marks behind the last want mean nothing
+-- marks past the last want mean nothing
 waiting_take : (marks : List Bool) (ws : List Want) → waiting_of (take (length ws) marks) ws ≡ waiting_of marks ws
 waiting_take marks [] = refl
 waiting_take [] (w ∷ ws) = refl
@@ -56,7 +56,7 @@ not_described all k p marks count same c h g r w s f d =
     let t : same ≡ true = s.1 (subst (λ n. take n k.waiting ≡ take n marks) (sym c) equal) in
     cc
 
--- what is told of lists is told of what stands at a place
+-- what is said of lists is said of what stands at a place
 pub map_at : {A B : Type 0} (f : A → B) (xs ys : List A) (i : ℕ) (d : A) → i < length xs → length xs ≡ length ys → map f xs ≡ map f ys → f (get_or xs i d) ≡ f (get_or ys i d)
 map_at f [] ys i d h l e = absurd (omega arith)
 map_at f (x ∷ xs) [] i d h l e = absurd (omega arith)

@@ -1,4 +1,4 @@
--- Where the tokens stand of which a fault tells.
+-- Where the tokens stand that a fault names.
 use Rattle.std.proofs.Common.{◌≡◌, ◌≢◌, ℕ, ◌+◌, ◌⊎◌, inl, inr, List, [], ◌∷◌, length, refl, sym, ap, ◌∙◌, subst, arith, length-append}
 use Rattle.std.specs.Prelude.{Result, Ok, Err, IfErr}
 use Rattle.onfi_request.specs.declared.want.Want.{Want}
@@ -42,7 +42,7 @@ bound_of End nb ny na ne = absurd (ne refl)
 bound_of (Window start tail) nb ny na ne = inr (inr (inr (inr (start, tail, refl))))
 bound_of (Again number) nb ny na ne = absurd (na number refl)
 
--- what fits the tokens behind some fits the whole
+-- what fits the tokens after some fits the whole
 pub fits_behind : (first next : ℕ) (tokens left rest : List Token) (f : KnownFault) → ReadOn first next tokens left → FaultFits next left rest f → FaultFits first tokens rest f
 fits_behind first next tokens left rest (Cert f) r h = kind_behind IsBranch IsBound (λ token. IsToYield token ⊎ IsBranch token) IsToYield (λ token. token ≡ End) (Unit {0}) first next tokens left rest f r h
 fits_behind first next tokens left rest (Unknown place) r h = at_behind first next place tokens left _ r h
@@ -51,7 +51,7 @@ fits_behind first next tokens left rest (Sooner place) r h = at_behind first nex
 fits_behind first next tokens left rest (TooMany place) r h = at_behind first next place tokens left _ r h
 fits_behind first next tokens left rest Above r h = h
 
--- why a yield isn't taken, told at its place
+-- why a yield isn't taken, reported at its place
 yield_fits : (given : List Given) (j l place told lun : ℕ) (token : Token) (behind left : List Token) (f : KnownFault) → told ≡ place → token ≡ Yield lun → IsYieldFault given j l told f → FaultFits place (token ∷ behind) left f
 yield_fits given j l place told lun token behind left (Cert f) n t h = unfit IsBranch IsBound (λ token. IsToYield token ⊎ IsBranch token) IsToYield (λ token. token ≡ End) (Unit {0}) (GoesRound given j l) place told token behind left f n (inl (lun, t)) (lun, t) h
 yield_fits given j l place told lun token behind left (Unknown at) n t h = absurd h

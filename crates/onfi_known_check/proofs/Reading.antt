@@ -52,7 +52,7 @@ one_certificate text r s ts us c d =
 pub no_certificate : (text : List ℕ) (strict : Bool) (ts : List Token) → NoHeader text → IsCertificate text strict ts → ⊥
 no_certificate text strict ts none c = none strict (line ts) c.spelled
 
--- .. nor is one that goes wrong behind its header
+-- .. nor is one that goes wrong after its header
 pub no_bad_token : (text : List ℕ) (place : ℕ) (strict : Bool) (ts : List Token) → HasNoToken text place → IsCertificate text strict ts → ⊥
 no_bad_token text place strict ts (r, a, h, bad) c = by_fault bad
   where

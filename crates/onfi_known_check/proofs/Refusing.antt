@@ -186,7 +186,7 @@ module _ (e : ℕ) (all : List Want) where
   parts p moves xs [] known tokens size part = subst (λ z. Part p moves z known tokens size) (append-nil xs) part
   parts p moves xs (y ∷ ys) known tokens size part = front p moves xs y known tokens size (parts p moves (xs ++ y ∷ []) ys known tokens size (subst (λ z. Part p moves z known tokens size) (sym (append_assoc xs (y ∷ []) ys)) part))
 
-  -- no child of a move behind those that were read
+  -- no child of a move after those that were read
   pub child_refuses : (p : Problem) (moves xs ys : List Move) (m : Move) (known middle : List Known) (tokens left : List Token) (asks : List ℕ) (given : List Given) → Stands p → AreMoves p moves → moves ≡ xs ++ m ∷ ys → Children e all p moves xs known tokens asks given middle left → RefusesChild e all p moves m given middle left → RefusesChildren e all p moves known tokens
   child_refuses p moves xs ys m known middle tokens left asks given s are is read none others asks' given' behind rest a children few =
       let whole : Part p moves ((xs ++ m ∷ []) ++ ys) others tokens (length behind) = subst (λ z. Part p moves z others tokens (length behind)) (is ∙ sym (append_assoc xs (m ∷ []) ys)) (record { asks = asks'; given = given'; behind = behind; rest = rest; children = children; small = omega arith }) in
@@ -215,7 +215,7 @@ module _ (e : ℕ) (all : List Want) where
       let bad = sym t ∙ u.left in
       cc
 
--- the moves before one, that one, and those behind it
+-- the moves before one, that one, and those after it
 moves_around : (groups : List (List Want)) (items : List KeptMove) (i : ℕ) (d : KeptMove) → i < length items → moves_of groups items ≡ moves_of groups (take i items) ++ move_of groups (get_or items i d) ∷ moves_of groups (drop (suc i) items)
 moves_around groups [] i d h = absurd (omega arith)
 moves_around groups (m ∷ items) zero d h = refl

@@ -36,10 +36,10 @@ use Rattle.onfi_known_check.specs.Proves.{Describes, times_of, MayYield, with_yi
 
 -- what closes a node shows that its demand holds each run
 pub closing_asks : (p : Problem) (e : ℕ) (t : Token) → IsProblem p → Closes p e t → Asks e p (closing_demand p e t)
-closing_asks p e Bus ip c = bus_asks p e c
-closing_asks p e Lead ip c = lead_asks p e c
+closing_asks p e Bus ip c = bus_asks p e ip c
+closing_asks p e Lead ip c = lead_asks p e ip c
 closing_asks p e Trail ip (t, is, le) = rw is (trail_asks p e t is le)
-closing_asks p e (Die lun) ip c = die_asks p e lun c.0 c.1
+closing_asks p e (Die lun) ip c = die_asks p e lun ip c.0 c.1
 closing_asks p e End ip c = end_asks p e c.0 c.1
 closing_asks p e (Window start tail) ip c = window_asks p e start tail ip c
 closing_asks p e (Branch width) ip c = absurd c

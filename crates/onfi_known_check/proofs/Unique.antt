@@ -57,7 +57,7 @@ same_greatest : (n : ℕ) (f g : ℕ → ℕ) → ((i : ℕ) → i < n → f i �
 same_greatest zero f g h = refl
 same_greatest (suc n) f g h = let a = h n (omega arith) in let b = same_greatest n f g (λ i k. h i (omega arith)) in omega arith
 
--- so do they behind a move
+-- so do they after a move
 same_asked : (p : Problem) (m : Move) (d c : Kept) → Stands p → IsMove p m → SameAsked d c → (l : ℕ) → l < 8 → asked p m (demand_of d) l ≡ asked p m (demand_of c) l
 same_asked p m d c s mv same l h =
     let own = same.luns (move_lun m) (own_few p m s mv) in

@@ -1,4 +1,4 @@
--- How the token, the child or the tree that was read tells of the whole.
+-- How the token, the child or the tree that was read bears on the whole.
 use Rattle.std.proofs.Common.{◌≡◌, ◌≢◌, ℕ, ◌+◌, ◌≤◌, ◌<◌, List, [], ◌∷◌, ◌++◌, length, take, get_or, Some, refl, sym, ap, ◌∙◌, subst, arith}
 use Rattle.std.specs.Prelude.{Option, slice_index, max}
 use Rattle.std.specs.List.{AllByRecursion as All}
@@ -42,7 +42,7 @@ yield_grows e all p moves m before behind known ends own lun n token tokens left
     let grown = yielded p moves firsts (firsts ++ m ∷ []) m first begun before.asked before.given.items given known left refl (subst (λ z. Children e all p moves firsts first begun before.asked before.given.items known z) token_is children) may in
     subst (λ z. Children e all p moves (firsts ++ m ∷ []) first begun z behind.given.items known left) (sym same) (subst (λ z. Children e all p moves (firsts ++ m ∷ []) first begun before.asked z known left) (sym y.grown) grown)
 
--- a tree was read behind a move
+-- a tree was read after a move
 pub below_grows : (e : ℕ) (all : List Want) (p : Problem) (moves : List Move) (m : Move) (before behind : Standing) (known known' : List Known) (token : Token) (tokens left next : List Token) → tokens ≡ token ∷ left → behind.given ≡ before.given → Below e all p m known (token ∷ left) before.asked behind.asked known' next → Grows e all p moves m before known tokens behind known' next
 below_grows e all p moves m before behind known known' token tokens left next ts same (d, proves, raised) = λ firsts first begun children.
     let grown = tree p moves firsts (firsts ++ m ∷ []) m first begun before.asked behind.asked before.given.items known (token ∷ left) d known' next refl (subst (λ z. Children e all p moves firsts first begun before.asked before.given.items known z) ts children) proves raised in

@@ -51,7 +51,7 @@ abbrev pub NamesNode : Token → Type 0
 NamesNode token = (number : ℕ) × (token ≡ tk.Again number)
 
 -- the first fault of a tree is of the kind of the token at its place; tokens end too soon only where none is left. A
--- branch may be told for its yields, whose times are too great, or as one node too many.
+-- branch may be reported for its yields, whose times are too great, or as one node too many.
 abbrev pub FaultFits : ℕ → List Token → List Token → KnownFault → Type 0
 FaultFits first tokens left (Cert fault) =
     plain.FitsKind IsBranch IsBound (λ token. IsToYield token ⊎ IsBranch token) IsToYield (λ token. token ≡ tk.End) (Unit {0}) first tokens left fault
@@ -78,7 +78,7 @@ IsNameFault place fault = (fault ≡ Unknown place) ⊎ (fault ≡ OtherLeft pla
 abbrev pub NoTree : List Want → Problem → ℕ → List Token → Type 0
 NoTree all p e tokens = (d : Kept) (known : List Known) (rest : List Token) → Proves e all p [] tokens d known rest → length known ≤ MOST_KNOWN → ⊥
 
--- an accepted tree stands in front, and behind it the token at this place
+-- an accepted tree stands in front, and after it the token at this place
 pub record IsTrailing (all : List Want) (p : Problem) (e : ℕ) (tokens : List Token) (place : ℕ) : Type 0 where
   pub demand : Kept
   pub known : List Known
@@ -104,11 +104,11 @@ IsKnownFault all p s below tokens fault =
     ByCause (Legal p s → ⊥) (Legal p s × (below ≤ finish p s)) (EndsBefore p s below)
     (Legal p s × (below ≤ finish p s) × (ProvesTokens all tokens p below → ⊥) × IsTokenFault all p below tokens [] fault) fault
 
--- a line has no token at this place, or goes wrong behind so many; one without tokens has none at place 0
+-- a line has no token at this place, or goes wrong after so many; one without tokens has none at place 0
 abbrev pub IsWrongAt : ℕ → Line Token → Type 0
 IsWrongAt place line = (line.fault ≡ Some (of.BadToken place)) ⊎ ((line.fault ≡ None) × (line.tokens ≡ []) × (place ≡ 0))
 
--- .. the line behind the text's header
+-- .. the line after the text's header
 abbrev pub HasNoToken : List ℕ → ℕ → Type 0
 HasNoToken text place = (strict : Bool) × (line : Line Token) × Holds text strict line × IsWrongAt place line
 
@@ -121,6 +121,6 @@ IsFaultOf text (BadToken place) = HasNoToken text place
 abbrev pub IsTextFault : List Want → Problem → Schedule → ℕ → List ℕ → TextFault KnownFault KnownTextFault → Type 0
 IsTextFault all p s below text fault = plain.IsTextFaultBy (IsCertificate text) (IsFaultOf text) (IsKnownFault all p s below) p.rules.strict fault
 
--- what is said of the text where it is a certificate with the option of the problem's rules: else its own fault is told before
+-- what is said of the text where it is a certificate with the option of the problem's rules: else its own fault is reported before
 abbrev pub OfCertificate : List ℕ → Problem → Type 0 → Type 0
 OfCertificate text p said = (tokens : List Token) → IsCertificate text p.rules.strict tokens → said

@@ -54,7 +54,7 @@ abbrev pub FitTimes : List ℕ → List Given → Type 0
 FitTimes asked given = (lun : ℕ) → lun < 8 → with_yields asked given lun < 2 ^ 64
 
 mutual
-  -- tokens begin with the accepted tree of a node: what was known before it, what it asks for, what is known behind it,
+  -- tokens begin with the accepted tree of a node: what was known before it, what it asks for, what is known after it,
   -- and the tokens left
   pub data Proves (e : ℕ) (all : List Want) : Problem → List Known → List Token → Kept → List Known → List Token → Type 0 where
     -- a bound closes it
@@ -76,7 +76,7 @@ mutual
     -- of none, nothing is asked
     none : (p : Problem) (moves : List Move) (known : List Known) (tokens : List Token) (asks : List ℕ)
         → ((lun : ℕ) → slice_index asks lun ≡ 0) → Children e all p moves [] known tokens asks [] known tokens
-    -- of one move more, behind which a tree raises what is asked
+    -- of one move more, after which a tree raises what is asked
     tree : (p : Problem) (moves firsts more : List Move) (m : Move) (known : List Known) (tokens : List Token)
         (asks raised : List ℕ) (given : List Given) (middle : List Known) (left : List Token) (d : Kept)
         (behind : List Known) (rest : List Token)
@@ -89,7 +89,7 @@ mutual
         → more ≡ firsts ++ m ∷ [] → Children e all p moves firsts known tokens asks given behind (Yield y.lun ∷ rest)
         → MayYield p moves given m y → Children e all p moves more known tokens asks (given ++ y ∷ []) behind rest
 
--- the tokens are those of one accepted tree, with nothing behind them and nothing known before, and no more nodes are remembered than may be
+-- the tokens are those of one accepted tree, with nothing after them and nothing known before, and no more nodes are remembered than may be
 abbrev pub ProvesTokens : List Want → List Token → Problem → ℕ → Type 0
 ProvesTokens all tokens p e = (d : Kept) × (behind : List Known) × Proves e all p [] tokens d behind [] × (length behind ≤ MOST_KNOWN)
 
@@ -116,7 +116,7 @@ pub record Yielded (p : Problem) (ends : List (Option ℕ)) (before : List Given
   pub stays : Each (λ g. g.own ≢ lun) before
   pub grown : behind ≡ before ++ given ∷ []
 
--- the tree behind a move was read, and what is asked was raised by what it asks
+-- the tree after a move was read, and what is asked was raised by what it asks
 abbrev pub Below : ℕ → List Want → Problem → Move → List Known → List Token → List ℕ → List ℕ → List Known → List Token → Type 0
 Below e all p m known tokens asks raised behind rest = (d : Kept) × Proves e all (after p m) known tokens d behind rest × AreRaised p m d asks raised
 

@@ -30,7 +30,7 @@ spelling tk.End = codes "X"
 spelling (tk.Window start tail) = codes "W" ++ (decimal start ++ (codes "," ++ decimal tail))
 spelling (tk.Again number) = codes "R" ++ decimal number
 
--- the tokens with a space between each two, and LF behind them
+-- the tokens with a space between each two, and LF after them
 abbrev pub line : List Token → List ℕ
 line tokens = line_of spelling tokens
 
@@ -51,7 +51,7 @@ pub record IsCertificate (text : List ℕ) (strict : Bool) (tokens : List Token)
   pub in_range : All InRange tokens
   pub spelled : text ≡ header strict ++ line tokens
 
--- a text of which the tokens before a place were read, with this option and this line behind its header
+-- a text of which the tokens before a place were read, with this option and this line after its header
 pub record IsReading (text : List ℕ) (strict : Bool) (whole : Line Token) (place : ℕ) (left : Line Token) : Type 0 where
   pub holds : Holds text strict whole
   pub short : length text < 2 ^ 64

@@ -91,7 +91,7 @@ fn open_text(text: &[u8]) -> Option<(bool, Numbered<Tokens>)>
     }
 }
 
-// Reads a text on to its end behind a check of its tokens: whether it is a certificate with the option of the
+// Reads a text on to its end after a check of its tokens: whether it is a certificate with the option of the
 // problem's rules, where `strict` is that of its header.
 //
 // # Errors
@@ -152,12 +152,12 @@ fn check_text(
 ///
 /// # Errors
 /// `Header` where the text begins with neither header line. Else `BadToken` where the text is no certificate, with the
-/// place of the first word that is no token, or with the number of good tokens where the text doesn't end behind them
-/// with one LF. Else `Option` where its header names another option than the problem's rules have; so behind another fault
+/// place of the first word that is no token, or with the number of good tokens where the text doesn't end after them
+/// with one LF. Else `Option` where its header names another option than the problem's rules have; so after another fault
 /// the text is read on to its end. Else `Cert` with `Illegal` where the schedule isn't legal, else with `Memory` where the
 /// memory for a copy of the problem or for the records was refused; else, only where the tokens aren't accepted, with
-/// `Trailing` and the place behind an accepted tree where one stands in front, or a fault of the kind of the token at its
-/// place. Of several such faults the walk tells the first; no clause says which that is.
+/// `Trailing` and the place after an accepted tree where one stands in front, or a fault of the kind of the token at its
+/// place. Of several such faults the walk reports the first; no clause says which that is.
 pub fn check_known_text(
     alloc: Global,
     problem: &Problem,

@@ -105,7 +105,7 @@ fn closing_asks(problem: &Problem, token: &Token, e: u64) -> Option<Demand>
     }
 }
 
-// What speaks against a token that closes no node, told at that place.
+// What speaks against a token that closes no node, reported at that place.
 fn closing_fault(token: Token, place: usize) -> KnownFault
     requires no_branch { (width : ℕ) → token ≢ Token.Branch width }
     requires no_name { (number : ℕ) → token ≢ Token.Again number }

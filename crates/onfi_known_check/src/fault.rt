@@ -20,19 +20,19 @@ pub enum KnownFault {
     /// There are more open nodes than are remembered.
     #[error("token {0} opens one node too many")]
     TooMany(usize),
-    /// The schedule ends before the number. Faults of the text and an illegal schedule are told before, all else behind it.
+    /// The schedule ends before the number. Faults of the text and an illegal schedule are reported before, all else after it.
     #[error("the schedule ends before the number that none is to end before")]
     Above,
 }
 
-/// Why a text is no certificate that remembers states, in the order in which they are told.
+/// Why a text is no certificate that remembers states, in the order in which they are reported.
 #[derive(Clone, Copy, Debug, PartialEq, Eq, Error)]
 pub enum KnownTextFault {
     /// The text begins with neither header line.
     #[error("the header line is none of a certificate that remembers states")]
     Header,
     /// No token stands at this place, counted from 0; or so many good tokens stand there and the text doesn't end with
-    /// one LF behind them.
+    /// one LF after them.
     #[error("no token at place {0}")]
     BadToken(usize),
 }

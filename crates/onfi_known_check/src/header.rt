@@ -16,7 +16,7 @@ pub(crate) fn header(strict: bool) -> &'static [u8]
     }
 }
 
-/// The option of the header line, and what stands behind it.
+/// The option of the header line, and what follows it.
 pub(crate) fn header_of(text: &[u8]) -> Option<(bool, &[u8])>
     ensures some { IfSome result (λ p. text.now ≡ header p.0 ++ p.1.now) }
     ensures none { IfNone result (NoHeader text.now) }

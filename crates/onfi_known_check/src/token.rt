@@ -32,5 +32,5 @@ pub enum Token {
     Again(u32),
 }
 
-/// A reader that gives the tokens behind a header one by one, without memory.
+/// A reader that gives the tokens after a header one by one, without memory.
 pub type Tokens<'a> = LineTokens<'a, Token>;

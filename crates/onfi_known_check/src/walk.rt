@@ -187,7 +187,7 @@ fn read_child<S: TokenSource<Token = Token>>(
     }
 }
 
-// Reads the tree behind a move, whose first token was taken already, and raises what is asked by what it asks.
+// Reads the tree after a move, whose first token was taken already, and raises what is asked by what it asks.
 #[cycle(read)]
 fn read_below<S: TokenSource<Token = Token>>(
     problem: &mut Problem,
@@ -224,10 +224,10 @@ fn read_below<S: TokenSource<Token = Token>>(
     Ok(())
 }
 
-/// Reads the tree of a problem, with nothing behind it. On Ok the problem is as it was.
+/// Reads the tree of a problem, with nothing after it. On Ok the problem is as it was.
 ///
 /// # Errors
-/// The first fault in reading order, else `Trailing` at the first token behind the tree. Then the problem may be one
+/// The first fault in reading order, else `Trailing` at the first token after the tree. Then the problem may be one
 /// within the tree.
 pub(crate) fn read_whole<S: TokenSource<Token = Token>>(
     problem: &mut Problem,

@@ -30,7 +30,7 @@ use Rattle.onfi_known_plan.specs.Text.{nodes_in}
 use Rattle.onfi_known_plan.specs.Walks.{Awaits, Growing, Halfway, HasWritten, IsAt, IsRunOf, IsSoonest, Visited}
 use Rattle.onfi_known_plan.proofs.Waiting.{yields_here, yields_same}
 
--- behind a step a walk goes on
+-- after a step a walk goes on
 pub at_moved : (x : Position) (step : KeptMove) (loads : Loads) (best : Best) (notes : Notes) → IsStep x step → IsAt x loads best notes → IsAt (moved x step) loads best notes
 at_moved x step loads best notes s at = record {
   tree = record { limits = after_limits x.problem (move_of x.groups step) at.tree.limits s.move; are_loads = loads_after x step loads.of.items s.move at.tree.are_loads; rising = at.tree.rising };
@@ -107,12 +107,12 @@ still_at x moves firsts soonest first best before notes standing loads at h =
     let i = h.more in
     record { tree = at.tree; finish = omega arith; within = h.within; most = omega arith; few = omega arith; full = h.full }
 
--- the nodes of tokens behind one another
+-- the nodes of tokens after one another
 nodes_more : (ts more : List Token) → nodes_in (ts ++ more) ≡ nodes_in ts + nodes_in more
 nodes_more [] more = omega arith
 nodes_more (t ∷ ts) more = let n = nodes_more ts more in omega arith
 
--- tokens and children behind one more
+-- tokens and children after one more
 grown_tokens : (began now next : List Token) (b : Token) (ts more : List Token) → now ≡ began ++ b ∷ ts → next ≡ now ++ more → next ≡ began ++ b ∷ (ts ++ more)
 grown_tokens began now next b ts more e q = q ∙ (ap (λ z. z ++ more) e ∙ append_assoc began (b ∷ ts) more)
 
@@ -187,7 +187,7 @@ module _ (x : Position) (moves firsts : List Move) (soonest : Soonest) (first be
         growing = λ q e. grown_yield m own notes' standing' of few few' awaits opened known (written (e ∙ sym h.same_finish)) asked here others (h.growing (sym cut ∙ q) e);
       }
 
-  -- the node behind the next move was walked over
+  -- the node after the next move was walked over
   grown_child : (step : KeptMove) (best' : Best) (notes' : Notes) (standing' : Standing) (improved : Bool) (v : Visited x step best best' notes notes' standing.asked standing'.asked improved)
       → HasWritten before.cert.finish (moved x step) notes.opened notes notes' v.demand
       → standing'.yielded ≡ standing.yielded → Growing before.cert.finish x moves firsts soonest before notes standing → Growing before.cert.finish x moves (firsts ++ move_of x.groups step ∷ []) soonest before notes' standing'

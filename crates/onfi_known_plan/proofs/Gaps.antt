@@ -1,4 +1,4 @@
--- A gap behind a walk for its middle.
+-- A gap after a walk for its middle.
 use Rattle.std.proofs.Common.{◌≡◌, ℕ, ◌+◌, ◌≤◌, ◌<◌, inl, inr, true, false, List, refl, sym, ap, subst, arith}
 use Rattle.std.proofs.lemmas.Bool.{cases_Bool, cases_lt}
 use Rattle.onfi_problem.specs.Left.{InLimits}

@@ -32,7 +32,7 @@ use Rattle.onfi_known_plan.specs.declared.yields.Soonest.{Soonest}
 use Rattle.onfi_known_plan.specs.Walks.{AreMore, Halfway, IsClosing, IsFound, IsShown, Visited, wait_for}
 use Rattle.onfi_known_plan.proofs.Waiting.{raised_needs, raised_met}
 
--- a step and a run behind it
+-- a step and a run after it
 pub step_run : (x : Position) (b : Begun) (steps items : List Begun) (f : ℕ) → IsMove x.problem (move_of x.groups b.step) → b.start ≡ earliest x.problem (move_of x.groups b.step) → items ≡ steps ++ b ∷ [] → Run (moved x b.step).problem (run_of x.groups steps) f → Run x.problem (run_of x.groups items) f
 step_run x b steps items f mv start e run = subst (λ z. Run x.problem z f) (sym (ap (run_of x.groups) e ∙ run_split x.groups steps b [])) (mv, omega arith, rw start run)
 
@@ -236,7 +236,7 @@ counted_shown x old new before behind phases shown s =
       written = λ q e. let w = s.written q e in record { tree = w.tree; nodes = let c = w.nodes in omega arith; tokens = w.tokens; in_range = w.in_range; proves = w.proves };
     }
 
--- what was shown behind a step
+-- what was shown after a step
 pub step_visited : (x : Position) (step : KeptMove) (start : ℕ) (old mid new : Best) (before behind : Notes) (shown : Shown) (asked raised : List ℕ) → IsMove x.problem (move_of x.groups step) → start ≡ earliest x.problem (move_of x.groups step)
     → IsShown (moved x step) old mid before.opened before behind shown → AreRaised x.problem (move_of x.groups step) shown.demand asked raised
     → new.finish ≡ mid.finish → (shown.improved ≡ true → new.steps.items ≡ mid.steps.items ++ (record { step = step; start = start }) ∷ []) → (shown.improved ≡ false → new ≡ mid)

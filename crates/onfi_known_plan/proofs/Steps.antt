@@ -21,7 +21,7 @@ step_at x items listed i d e are named h =
     let named' = subst (All (IsNamed x.groups)) (sym e) named in
     record { move = item_move x.problem x.groups listed i d h are'; named = all_at (IsNamed x.groups) listed i d h named' }
 
--- .. also behind the step
+-- .. also after the step
 pub there_behind : (x : Position) (m : KeptMove) (lun : ℕ) → IsStep x m → lun ≡ lun_named m → lun < length (moved x m).problem.luns
 there_behind x m lun s e =
     let a = step_there x m lun s e in

@@ -188,7 +188,7 @@ better_more x at old mid new e b c =
 pub over_from_none : (p : Problem) (finish limit l o : ℕ) → l ≡ limit → o ≡ 0 → AreMore p finish (l - o + 1) → AreMore p finish (limit + 1)
 over_from_none p finish limit l o e z over = let n : l - o + 1 ≡ limit + 1 = omega arith in subst (AreMore p finish) n over
 
--- a search that tells its limit tells that it met it
+-- a search that reports its limit says that it met it
 pub over_limit : (p : Problem) (limit told opened : ℕ) → Over told ≡ Over opened → told ≡ limit → HasMoreNodes p limit → (opened ≡ limit) × HasMoreNodes p limit
 over_limit p limit told opened e is over = let same : told ≡ opened = cc in (sym same ∙ is, over)
 
@@ -233,7 +233,7 @@ is_searched x root limit s b better loads opened reopened nodes more again prove
       over = λ q. begun_many x root (limit + 1) b (over q);
     }
 
--- the plan tells how many nodes were opened
+-- the plan says how many nodes were opened
 pub counts_told : {E : Type 0} (p : Problem) (r : Result Plan E) (opened reopened : ℕ) → IfOk r (λ plan. plan.opened ≡ opened) → IfOk r (λ plan. plan.reopened ≡ reopened) → HasSoMany p opened × HasSoMany p reopened → IfOk r (λ plan. HasSoMany p plan.opened × HasSoMany p plan.reopened)
 counts_told p (Ok plan) opened reopened a b many = (subst (HasSoMany p) (sym a) many.0, subst (HasSoMany p) (sym b) many.1)
 counts_told p (Err fault) opened reopened a b many = tt

@@ -138,7 +138,7 @@ pub record IsShown (x : Position) (old new : Best) (began : ℕ) (before behind 
   pub opened : HasOpened x.problem old.finish began before behind
   pub written : behind.cut ≡ false → new.finish ≡ before.cert.finish → HasWritten before.cert.finish x began before behind shown.demand
 
--- what was shown of the node behind a step, and what is asked before it
+-- what was shown of the node after a step, and what is asked before it
 pub record Visited (x : Position) (step : KeptMove) (old new : Best) (before behind : Notes) (asked raised : List ℕ) (improved : Bool) : Type 0 where
   pub found : IsFound x old new improved
   pub demand : Kept

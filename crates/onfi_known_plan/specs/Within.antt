@@ -42,7 +42,7 @@ pub record IsGap (x : Position) (limit : ℕ) (gap : Gap) : Type 0 where
   pub nodes : HasSoMany x.problem gap.reopened
   pub over : gap.shown.below < gap.best.finish → HasMoreNodes x.problem limit
 
--- a legal schedule is told with its finish, and with what no other ends before: all that the root's bounds reach, and the
+-- a legal schedule is given with its finish, and with what no other ends before: all that the root's bounds reach, and the
 -- finish only where the schedule is optimal
 pub record IsWithin (x : Position) (plan : Plan) : Type 0 where
   pub legal : Legal x.problem plan.planned.schedule

@@ -21,7 +21,7 @@ pub struct Gap {
 }
 
 impl Gap {
-    // Whether no walk is due: nothing is between the two, or a walk was made behind the first one.
+    // Whether no walk is due: nothing is between the two, or a walk was made after the first one.
     fn is_done(&self) -> bool
         ensures { result ≡ false → self.now.shown.below < self.now.best.finish }
     {

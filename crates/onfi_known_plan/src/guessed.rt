@@ -3,7 +3,7 @@
 ghost use Rattle.std.specs.Prelude.{◌<◌, length};
 
 use onfi_bound::Loads;
-use onfi_demand::{LunLeft, left_on};
+use onfi_demand::{LunLeft, left_on, phase_length, wait_before};
 use onfi_problem::Problem;
 use onfi_timing::{Kind, Spans};
 
@@ -82,8 +82,8 @@ pub fn rest_of(spans: &Spans, members: u8, next: u8) -> u64 {
     let mut rest = 0u64;
     for phase in next as usize..2 * members {
         rest = rest
-            .saturating_add(spans.phase_length(members, phase))
-            .saturating_add(spans.wait_before(members, phase + 1));
+            .saturating_add(phase_length(spans, members, phase))
+            .saturating_add(wait_before(spans, members, phase + 1));
     }
     rest
 }

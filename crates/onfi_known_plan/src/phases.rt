@@ -4,12 +4,12 @@ ghost use Rattle.std.specs.Prelude.{◌≡◌, ◌≤◌, ◌<◌, ◌^◌, IfOk
 
 use crate::guessed::{KindCounts, rest_of, waiting_counts, waiting_work};
 use onfi_bound::Loads;
-use onfi_demand::{LunLeft, Window, left_on};
+use onfi_demand::{LunLeft, Window, left_on, phase_length, wait_before};
 use onfi_problem::Problem;
 use onfi_timing::{Spans, Timing};
 use std::alloc::{AllocError, Global};
 
-/// Phases of a LUN that may start from the same time on and have the same behind them: that time, how long they are
+/// Phases of a LUN that may start from the same time on and have the same after them: that time, how long they are
 /// together, and what is at least between the end of each and the finish, in ns.
 #[derive(Clone, Copy)]
 struct PhasesAlike {
@@ -18,7 +18,7 @@ struct PhasesAlike {
     tail: u64,
 }
 
-/// The phases that are left to a node, the latest start first, and what they have behind them, each time once. A walk uses
+/// The phases that are left to a node, the latest start first, and what they have after them, each time once. A walk uses
 /// one for all its nodes.
 #[derive(Drop)]
 pub struct Phases {
@@ -62,8 +62,8 @@ impl Phases {
         let counts = waiting_counts(problem);
         let work = waiting_work(problem, loads);
         for lun in 0..problem.lun_count() {
-            let free = self.list_group(problem, &timing, lun as u8, work[lun])?;
-            self.list_wants(&timing, &counts[lun], free)?;
+            let free = self.list_group(problem, timing, lun as u8, work[lun])?;
+            self.list_wants(timing, &counts[lun], free)?;
         }
         Ok(())
     }
@@ -92,7 +92,7 @@ impl Phases {
         }
     }
 
-    // Lists the phases of a group from `next` on, the first of which may start at `go`, where so much is behind the last
+    // Lists the phases of a group from `next` on, the first of which may start at `go`, where so much is after the last
     // one; answers when that one ends.
     fn list_phases(
         &mut self,
@@ -106,11 +106,11 @@ impl Phases {
         let members = members as usize;
         let mut start = go;
         for phase in next as usize..2 * members {
-            let length = spans.phase_length(members, phase);
+            let length = phase_length(spans, members, phase);
             let ended = start.saturating_add(length);
             let tail = end.saturating_sub(ended).saturating_add(work);
             self.insert(start, length, tail)?;
-            start = ended.saturating_add(spans.wait_before(members, phase + 1));
+            start = ended.saturating_add(wait_before(spans, members, phase + 1));
         }
         Ok(end)
     }
@@ -140,7 +140,7 @@ impl Phases {
         self.insert(ready, posts, 0)
     }
 
-    // Puts phases behind those that start no sooner, and what is behind them beside the others.
+    // Puts phases after those that start no sooner, and what is after them beside the others.
     fn insert(&mut self, start: u64, length: u64, tail: u64) -> Result<(), AllocError> {
         let phases = PhasesAlike {
             start,

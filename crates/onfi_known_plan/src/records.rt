@@ -141,7 +141,7 @@ fn with_marks(key: u64, marks: &[bool; 8]) -> u64 {
     key
 }
 
-// A number of seven bits that tells what a LUN has left.
+// A number of seven bits that says what a LUN has left.
 fn code_of(left: LunLeft) -> u64
     requires { IsShape left }
     ensures small { result < 128 }

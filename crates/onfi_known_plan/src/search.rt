@@ -157,7 +157,7 @@ fn search_child(
     Ok(())
 }
 
-// Looks below a step, and raises what its node asks; tells whether it found something.
+// Looks below a step, and raises what its node asks; says whether it found something.
 #[cycle(search)]
 fn visit(
     problem: &mut Problem,
@@ -183,7 +183,7 @@ fn visit(
     Ok(shown.improved)
 }
 
-// Adds the step in front of those of the best schedule, where that was found behind it.
+// Adds the step in front of those of the best schedule, where that was found after it.
 fn add(best: &mut Best, begun: Begun, improved: bool) -> Result<(), AllocError>
     ensures finish { best.new.finish ≡ best.old.finish }
     ensures steps { OnOk result (improved ≡ true → best.new.steps.items ≡ best.old.steps.items ++ begun ∷ []) }

@@ -134,7 +134,7 @@ pub command_size : (c : Closer) (old new : Chip) (r : Request) (now : ℕ) → H
 command_size closer.More old new r now done = ap (λ (x : Chip). length x.luns) done.state ∙ length_set old.luns r.place.lun _
 command_size closer.Last old new r now done = ap (λ (x : Chip). length x.luns) done.state ∙ length_set old.luns r.place.lun _
 
--- the LUNs behind a command, where it was taken
+-- the LUNs after a command, where it was taken
 pub command_agrees :
     {A E : Type 0} (result : Result A E) (c : Closer) (old new : Chip) (r : Request) (now : ℕ) (lanes : List AnyLun) (at : ℕ) (before moving after : AnyLun) → LanesAgree old lanes → slice_get lanes at ≡ Some before → number_in after ≡ number_in before
     → IfOk result (λ _. HasDone (command_of c old r now) new) → IfOk result (λ _. IsThere new after) → IfOk result (λ _. OthersStay (number_in before) old new) → IfOk result (λ _. LanesAgree new (slice_set (slice_set lanes at moving) at after))
@@ -190,7 +190,7 @@ module _ (target : Target) (chip : Chip) (lun : AnyLun) (now : ℕ) (fetch : Fet
         in_range = subst (λ (x : Geometry). IsInRange x post.place) of.geometry next.fetch_is.next.in_range;
       }
 
--- the LUNs behind a post, where it gave its answer
+-- the LUNs after a post, where it gave its answer
 pub post_agrees :
     {A E : Type 0} (result : Result A E) (old new : Chip) (now row : ℕ) (post : Post) (left : List Post) (lanes : List AnyLun) (at : ℕ) (before moving after : AnyLun) → LanesAgree old lanes → slice_get lanes at ≡ Some before → number_in after ≡ number_in before → IsNextPost old now row post left
     → IfOk result (λ _. (p : Post) (ps : List Post) → IsNextPost old now row p ps → HasDone (posted old p ps now) new) → IfOk result (λ _. IsThere new after) → IfOk result (λ _. OthersStay (number_in before) old new) → IfOk result (λ _. LanesAgree new (slice_set (slice_set lanes at moving) at after))

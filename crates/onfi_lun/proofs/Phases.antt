@@ -115,7 +115,7 @@ post_made target old new lun now ready fetch post (x ∷ left) (behind.More l) o
     )
 post_made target old new lun now ready fetch post (x ∷ left) (behind.Last l) of due done time made = absurd (let c = due.posting.count in let m = made.1 in omega (arith, c, m))
 
--- What is known of the chip tells what the typed LUN has
+-- What is known of the chip says what the typed LUN has
 
 pub device_kept : (c : Closer) (target : Target) (old new : Chip) (r : Request) (now : ℕ) → IsOf target old → HasDone (command_of c old r now) new → IsOf target new
 device_kept closer.More target old new r now of done = record { geometry = ap (λ (x : Chip). x.geometry) done.state ∙ of.geometry; timing = ap (λ (x : Chip). x.timing) done.state ∙ of.timing }
@@ -124,7 +124,7 @@ device_kept closer.Last target old new r now of done = record { geometry = ap (�
 pub same_posts : (o : Option Lun) (ps qs : List Post) (t u : ℕ) → o ≡ Some (Posting ps t) → o ≡ Some (Posting qs u) → (ps ≡ qs) × (t ≡ u)
 same_posts o ps qs t u e f = (cc, cc)
 
--- behind the last command
+-- after the last command
 pub launched_at : (old new : Chip) (r : Request) (now : ℕ) (y : Lun) → HasDone (command_of closer.Last old r now) new → slice_get old.luns r.place.lun ≡ Some y →
     slice_get new.luns r.place.lun ≡ Some (Posting (posts_of (device_in old) (taken (Some y) ++ r ∷ []) old.blocks) (now + (spans_for old r).cmd + (spans_for old r).array))
 launched_at old new r now y done there =

@@ -37,7 +37,7 @@ HasRun chip geometry due item (ran.Post answer) chip' =
     (length due.group ≤ due.phase)
     × ((post : Post) (left : List Post) → IsNextPost chip due.start (row_of geometry item.request.place) post left → (answer ≡ post.answer) × HasDone (posted chip post left due.start) chip')
 
--- where it didn't happen: after want of memory the chip is unchanged, else its count of that fault rose
+-- where it didn't happen: where memory was refused the chip is unchanged, else its count of that fault rose
 abbrev pub AfterDrive : DriveFault → Chip → Chip → Type 0
 AfterDrive Bus old new = IsLost post.Bus old new
 AfterDrive NotReady old new = IsLost post.NotReady old new

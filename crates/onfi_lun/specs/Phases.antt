@@ -76,7 +76,7 @@ IsMade closer.More number commands ready (commanded.Last lun) = ⊥
 IsMade closer.Last number commands ready (commanded.More lun) = ⊥
 IsMade closer.Last number commands ready (commanded.Last lun) = (lun.number ≡ number) × (lun.state.members ≡ commands) × (lun.state.ready ≡ ready)
 
--- a LUN behind a post, of which so many were left before it
+-- a LUN after a post, of which so many were left before it
 abbrev pub IsBehind : ℕ → ℕ → ℕ → Posted → Type 0
 IsBehind number left ready (posted.More lun) = (lun.number ≡ number) × (lun.state.left + 1 ≡ left) × (lun.state.ready ≡ ready)
 IsBehind number left ready (posted.Last lun) = (lun.number ≡ number) × (left ≡ 1)

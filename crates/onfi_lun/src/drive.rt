@@ -10,7 +10,7 @@ use onfi_chip::{ChipFault, PostFault};
 pub enum DriveFault {
     /// A call of the chip failed.
     Bus,
-    /// The status of a program or an erase told that the LUN isn't ready.
+    /// The status of a program or an erase said that the LUN isn't ready.
     NotReady,
     /// Memory was refused: the chip is unchanged.
     Memory,

@@ -46,7 +46,7 @@ impl Lanes {
     /// The LUNs of a chip as it opened, so many: nothing runs on any.
     ///
     /// # Errors
-    /// Want of memory.
+    /// Where memory was refused.
     pub fn open(alloc: Global, count: u8) -> Result<Lanes, AllocError>
         ensures { IfOk result (λ lanes. (chip : ChipState) → chip.luns ≡ replicate count DoesNothing → LanesAgree chip lanes) }
     {

@@ -19,7 +19,7 @@ pub enum Commanded {
     Last(Lun<Working>),
 }
 
-/// A LUN behind a post.
+/// A LUN after a post.
 #[derive(Debug, Drop)]
 pub enum Posted {
     /// More posts of the group are left.

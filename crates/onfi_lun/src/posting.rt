@@ -21,7 +21,7 @@ impl Lun<Posting> {
     /// The next post of the group, at `now`, in ns: the data output of a read, the status of a program or an erase.
     ///
     /// # Errors
-    /// `Bus`, or `NotReady` where the status of a program or an erase told so, with the LUN as it was; each only where the
+    /// `Bus`, or `NotReady` where the status of a program or an erase said so, with the LUN as it was; each only where the
     /// chip's count of that fault rose.
     pub fn post<C: Chip>(
         self,
@@ -54,7 +54,7 @@ impl Lun<Posting> {
     }
 }
 
-// The LUN behind a post, of which so many were left before it.
+// The LUN after a post, of which so many were left before it.
 fn behind(number: u8, left: u8, ready: u64) -> Posted
     requires some { 1 ≤ left }
     requires few { left ≤ 4 }

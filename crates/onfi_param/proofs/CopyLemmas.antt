@@ -17,7 +17,7 @@ checks copy crc stored size signed is same = (
   λ page. eq-eqb crc stored (one_check_value (take 254 copy) crc (stored_crc copy) is page.checked ∙ sym same),
 )
 
--- behind the last whole copy there is none
+-- after the last whole copy there is none
 pub none_behind : (bytes : List ℕ) (number : ℕ) → length bytes / 256 ≤ number → IsPageCopy (copy_at bytes number) → ⊥
 none_behind bytes number h page =
     omega (arith, page.size, length-take (256 * (number + 1) - 256 * number) (drop (256 * number) bytes), length-drop (256 * number) bytes)

@@ -128,7 +128,7 @@ unfolding AllBits
 zeros_are_bits zero = tt
 zeros_are_bits (suc n) = (lit< tt, zeros_are_bits n)
 
--- what is left may be told apart
+-- what is left may be split
 apart : (s : List ℕ) (r t : ℕ) → r < 65536 → t < 65536 → AllBits s → remainder_from (bit_xor r t) s ≡ bit_xor (idle r (length s)) (remainder_from t s)
 unfolding idle remainder_from AllBits
 apart [] r t hr ht h = refl

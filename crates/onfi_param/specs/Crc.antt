@@ -29,12 +29,12 @@ unfoldable pub AllBits : List ℕ → Type 0
 AllBits [] = ⊤
 AllBits (b ∷ string) = (b < 2) × AllBits string
 
--- the number that a bit string spells behind n; its bits are the coefficients of a polynomial
+-- the number that a bit string spells after n; its bits are the coefficients of a polynomial
 unfoldable pub number_from : ℕ → List ℕ → ℕ
 number_from n [] = n
 number_from n (b ∷ string) = number_from (n * 2 + b) string
 
--- the product of a bit string and the polynomial, without carries, behind n
+-- the product of a bit string and the polynomial, without carries, after n
 unfoldable pub product_from : ℕ → List ℕ → ℕ
 product_from n [] = n
 product_from n (b ∷ string) = product_from (bit_xor (n * 2) (b * polynomial)) string
@@ -44,7 +44,7 @@ abbrev pub IsRemainder : List ℕ → ℕ → Type 0
 IsRemainder string r =
     (r < 2 ^ 16) × (quotient : List ℕ) × AllBits quotient × (number_from 0 string ≡ bit_xor (product_from 0 quotient) r)
 
--- r is the check value of the bytes: their bits with 16 zero bits behind them, the first 16 of all these flipped by the
+-- r is the check value of the bytes: their bits with 16 zero bits after them, the first 16 of all these flipped by the
 -- start value, leave r when they are divided by the polynomial
 unfoldable pub IsCheckValue : List ℕ → ℕ → Type 0
 IsCheckValue bytes r = IsRemainder (masked start_bits (bits bytes ++ replicate 16 0)) r

@@ -117,7 +117,7 @@ impl ParamPage {
         self.optional_commands() & (1 << 6) != 0
     }
 
-    /// The manufacturer, as ASCII with spaces behind it (bytes 32-43).
+    /// The manufacturer, as ASCII with spaces after it (bytes 32-43).
     #[tactic(auto, unfolding(crate::specs::Fields::manufacturer))]
     pub fn manufacturer(&self) -> &[u8]
         ensures { result.now ≡ field.manufacturer self.now }
@@ -125,7 +125,7 @@ impl ParamPage {
         &self.bytes[32..44]
     }
 
-    /// The model, as ASCII with spaces behind it (bytes 44-63).
+    /// The model, as ASCII with spaces after it (bytes 44-63).
     #[tactic(auto, unfolding(crate::specs::Fields::model))]
     pub fn model(&self) -> &[u8]
         ensures { result.now ≡ field.model self.now }

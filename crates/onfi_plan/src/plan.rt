@@ -13,7 +13,7 @@ pub struct Plan {
     pub below: u64,
     /// The text of the certificate where it remembers states: it stands in place of the tokens.
     pub text: Option<Vec<u8>>,
-    /// How many nodes the search opened; 0 where that isn't told.
+    /// How many nodes the search opened; 0 where that isn't said.
     pub opened: u32,
     /// How many nodes the search opened that wrote the certificate, where that was another one.
     pub reopened: u32,

@@ -36,7 +36,7 @@ impl PartGate for Meeting {
     }
 }
 
-// Counts how often it is told of parts 0, 1 and 2, and of others.
+// Counts how often it is called for parts 0, 1 and 2, and for others.
 #[derive(Drop)]
 struct Counting {
     first: AtomicU64,

@@ -1,4 +1,4 @@
-//! What a reader is told of each fault.
+//! What a reader is shown of each fault.
 use onfi_cert::CertTextFault;
 use onfi_check::{CertFault, TextFault};
 use onfi_planner::PlanFault;

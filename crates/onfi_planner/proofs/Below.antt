@@ -15,6 +15,6 @@ handed_back x below back now undo same was e = e ∙ (ap (λ (z : Position). res
 one_begun : (x : Position) (b : Begun) (steps items : List Begun) → items ≡ steps ++ b ∷ [] → run_of x.groups items ≡ taken x.groups b ∷ run_of x.groups steps
 one_begun x b steps items e = ap (run_of x.groups) e ∙ run_split x.groups steps b []
 
--- the first run from behind a step, and the step, are the first run
+-- the first run from after a step, and the step, are the first run
 pub first_more : (x : Position) (b : Begun) (steps items : List Begun) (f : ℕ) → IsFirstChoice x.problem (move_of x.groups b.step) → b.start ≡ earliest x.problem (move_of x.groups b.step) → items ≡ steps ++ b ∷ [] → IsFirstRun (moved x b.step).problem (run_of x.groups steps) f → IsFirstRun x.problem (run_of x.groups items) f
 first_more x b steps items f choice start e run = subst (λ z. IsFirstRun x.problem z f) (sym (one_begun x b steps items e)) (choice, start, run)

@@ -46,7 +46,7 @@ is_not_later p m n h = elim (cases_eq (earliest p m) (earliest p n)) [
   ]
 ]
 
--- the move, or one behind it
+-- the move, or one after it
 abbrev OrFirst : Problem → Move → Move → Type 0
 OrFirst p c n = (n ≡ c) ⊎ GoesFirst p c n
 

@@ -194,7 +194,7 @@ one_opened p finish found began (c, h) = let e : 1 ≡ began + 1 - began = omega
 pub one_over : (p : Problem) (finish began limit : ℕ) → began ≡ limit → IsOver p finish began began limit
 one_over p finish began limit h = let e : 1 ≡ limit - began + 1 = omega arith in record { limit = h; nodes = λ f k. subst (HasNodes f p) e (node_one f p) }
 
--- what closes a node that was told as closed
+-- what closes a node that was reported as closed
 pub closed_by : (p : Problem) (f : ℕ) (o : Option Token) → true ≡ is_some o → MatchOption o (IsOpen f p) (λ t. (c : Closing) × (token_of c ≡ t) × Closes p f c) → (c : Closing) × Closes p f c
 closed_by p f None s h = absurd (false≢true (sym s))
 closed_by p f (Some t) s h = (h.0, h.2)

@@ -9,7 +9,7 @@ use Rattle.onfi_schedule.proofs.Exchange.{yielding, not_done}
 use Rattle.onfi_planner.specs.Opening.{yield_at, AreYields}
 use Rattle.onfi_planner.specs.Planning.{Bounded}
 
--- each of these moves yields, or no run behind it ends before e
+-- each of these moves yields, or no run after it ends before e
 abbrev pub Done : Problem → List (Option ℕ) → ℕ → List Move → Type 0
 Done p yields e moves = All (λ m. yield_at yields (move_lun m) ≡ None → Bounded (after p m) e) moves
 

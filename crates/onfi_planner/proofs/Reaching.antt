@@ -24,6 +24,6 @@ none_open p e none = record {
   die = λ lun there. less (die p lun) e (λ k. none (Die lun) (there, k));
 }
 
--- a die bound that reaches e, told by a token of the same LUN
+-- a die bound that reaches e, shown by a token of the same LUN
 pub by_die : (p : Problem) (e lun n : ℕ) (b : Bound) → b ≡ Die lun → n ≡ lun → Reaches p e b → (c : Closing) × (token_of c ≡ DieToken n) × Closes p e c
 by_die p e lun n b q k r = (ByDie lun, ap DieToken (sym k), subst (Reaches p e) q r)

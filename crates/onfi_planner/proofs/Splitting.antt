@@ -72,7 +72,7 @@ found_one x first limit (s ∷ steps) (p ∷ found) part a (inl e) = (s, subst (
 found_one x first limit (s ∷ steps) (p ∷ found) part a (inr h) = found_one x first limit steps found part a.1 h
 
 module _ (x : Position) (yields : List (Option ℕ)) (first limit : ℕ) where
-  -- behind a move that doesn't yield nothing ends before e
+  -- after a move that doesn't yield nothing ends before e
   done_parts : (e : ℕ) (items : List KeptMove) (found : List Part) → All (λ s. move_lun (move_of x.groups s) ≡ lun_named s) items → All (λ part. e ≤ part.best.finish) found → AreFound x first limit (parts_of yields items) found → Done x.problem yields e (moves_of x.groups items)
   done_parts e [] found luns least a = tt
   done_parts e (s ∷ items) found luns least a = go (λ found least a. done_parts e items found luns.1 least a) (yield_at yields (lun_named s)) refl found least a

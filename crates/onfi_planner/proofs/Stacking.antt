@@ -50,7 +50,7 @@ run_from_bus (s ∷ steps) p f (mv, on_time, run) =
     let b = bus_after p s.move s.start mv in
     omega arith
 
--- what is known of a step and of the starts behind it
+-- what is known of a step and of the starts after it
 pub record Room (s : Step) (later : Schedule) (f : ℕ) : Type 0 where
   pub room : length (starts_at later (move_lun s.move)) ≤ 7
   pub ends : s.start ≤ f

@@ -76,7 +76,7 @@ module _ {F X : Type 0} (g : Shared F (ℕ × Unit {0}) (Result X Stop)) (f : F)
         t.1,
       )
 
--- an answer in front of those behind it
+-- an answer in front of those after it
 pub in_front : {F X : Type 0} (g : Shared F (ℕ × Unit {0}) (Result X Stop)) (f : F) (call n : ℕ) (x : X) (xs ys : List X) → suc call ≡ n → ys ≡ x ∷ xs → Gives g f call x → GivesFrom g f n xs → GivesFrom g f call ys
 in_front g f call n x xs ys e q a b = subst (GivesFrom g f call) (sym q) (a, subst (λ z. GivesFrom g f z xs) (sym e) b)
 

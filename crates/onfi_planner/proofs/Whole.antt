@@ -69,7 +69,7 @@ pub legal_plan : (p : Problem) (steps : List Step) (s : Schedule) (f : ℕ) → 
     → Legal p s × (finish p s ≡ f) × AreRising s.groups
 legal_plan p steps s f ip run e =
     let l = run_legal steps p f ip run in
-    (subst (Legal p) (sym e) l.0, ap (finish p) e ∙ l.1, subst (λ (z : Schedule). AreRising z.groups) (sym e) (run_rises steps p f run))
+    (subst (Legal p) (sym e) l.0, ap (finish p) e ∙ l.1, subst (λ (z : Schedule). AreRising z.groups) (sym e) (run_rises steps p f ip run))
 
 pub optimal_plan : (p : Problem) (s : Schedule) (tokens : List Token) (e : ℕ) → IsProblem p → Legal p s → finish p s ≡ e → AcceptsTokens tokens p e
     → Optimal p s

@@ -35,12 +35,12 @@ abbrev pub opened_by : List Part → ℕ
 opened_by [] = 0
 opened_by (part ∷ found) = part.opened + opened_by found
 
--- the tokens of the child behind the step s: the LUN that it yields to, or a tree that is accepted for e
+-- the tokens of the child after the step s: the LUN that it yields to, or a tree that is accepted for e
 abbrev pub IsBranch : Position → ℕ → KeptMove → Option ℕ → List Token → Type 0
 IsBranch x e s None tokens = Written (moved x s).problem e [] tokens
 IsBranch x e s (Some lun) tokens = tokens ≡ Yield lun ∷ []
 
--- the tokens of the children behind these steps
+-- the tokens of the children after these steps
 abbrev pub AreBranches : Position → ℕ → List (Option ℕ) → List KeptMove → List (List Token) → Type 0
 AreBranches x e yields [] [] = Unit {0}
 AreBranches x e yields [] (tokens ∷ branches) = ⊥

@@ -99,7 +99,7 @@ fn write_branches<R: Threads + Sync>(
     Ok(branches)
 }
 
-// The tokens of the child behind a step: the LUN that it yields to, or a tree, written on a problem of its own.
+// The tokens of the child after a step: the LUN that it yields to, or a tree, written on a problem of its own.
 fn write_branch(
     alloc: Global,
     problem: &Problem,

@@ -53,7 +53,7 @@ pub fn write(
     Ok(())
 }
 
-/// Appends the tokens of the child behind a step. The move isn't made where the bus bound closes what it leaves.
+/// Appends the tokens of the child after a step. The move isn't made where the bus bound closes what it leaves.
 #[cycle(write)]
 pub fn write_below(
     problem: &mut Problem,

@@ -1,7 +1,7 @@
 use std::alloc::AllocError;
 use thiserror::Error;
 
-/// Why there is no plan, in the order in which it is told.
+/// Why there is no plan, in the order in which it is reported.
 #[derive(Clone, Copy, Debug, PartialEq, Eq, Error)]
 pub enum PlanFault {
     /// So many nodes were opened, as many as may be, and the search was not over.

@@ -1,4 +1,4 @@
-/// What a split search tells of its parts.
+/// What a split search reports of its parts.
 pub trait PartGate {
     /// Called before the first node of the part of this number is opened, by the worker that searches it. It may hold
     /// the worker up, and changes nothing that the search sees.

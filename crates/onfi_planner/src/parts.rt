@@ -165,7 +165,7 @@ fn search_part(
     Ok(Part { best, opened })
 }
 
-// Takes what ends before the best, and so on with the parts behind; tells how many nodes were opened, with the root.
+// Takes what ends before the best, and so on with the parts after it; says how many nodes were opened, with the root.
 fn first_best(best: &mut Best, found: Vec<Part>) -> u32
     requires few { vec_len found ≤ 87 }
     requires small { Each (λ part. part.opened ≤ 1048576) found.items }

@@ -13,7 +13,7 @@ use onfi_schedule::{Placed, Schedule, Starts, no_starts};
 use std::alloc::Global;
 use std::mem;
 
-/// The schedule of the steps of a run, told last first; this takes no memory.
+/// The schedule of the steps of a run, given last first; this takes no memory.
 pub fn schedule_of(alloc: Global, problem: &Problem, steps: &[Begun]) -> Schedule
     requires limits { InLimits problem.now.problem }
     requires run { (f : ℕ) × (f < 2 ^ 63) × Run problem.now.problem (run_of problem.now.groups steps.now) f }
@@ -59,7 +59,7 @@ fn taken_from(rest: &mut ArrayVec<Starts, 9>, lun: usize) -> Starts
     mem::replace(&mut rest[lun], Starts::new())
 }
 
-// A start, and behind it others.
+// A start, and others after it.
 fn in_front(start: u64, others: &Starts) -> Starts
     requires room { length others.now < 8 }
     requires small { start < 2 ^ 63 }

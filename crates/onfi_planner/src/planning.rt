@@ -36,7 +36,7 @@ pub fn plan(alloc: Global, problem: &Problem, limit: u32) -> Result<Planned, Pla
     Ok(plan_counted(alloc, problem, limit)?.planned)
 }
 
-/// What [`plan`] does, which also tells how many nodes the search opened.
+/// What [`plan`] does, which also says how many nodes the search opened.
 ///
 /// # Errors
 /// Those of [`plan`].

@@ -36,7 +36,7 @@ pub enum Stop {
     Memory,
 }
 
-/// Looks below a node for what ends before the best; tells whether it found something. The bus bound of the node comes to
+/// Looks below a node for what ends before the best; says whether it found something. The bus bound of the node comes to
 /// `bus_bound` ns.
 #[cycle(search)]
 pub fn search(
@@ -86,7 +86,7 @@ pub fn search(
     Ok(improved)
 }
 
-/// Looks below a step for what ends before the best; tells whether it found something. A node that the bus bound closes is
+/// Looks below a step for what ends before the best; says whether it found something. A node that the bus bound closes is
 /// counted, and its move isn't made.
 #[cycle(search)]
 pub fn visit(

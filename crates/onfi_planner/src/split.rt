@@ -20,13 +20,13 @@ use std::thread::Threads;
 /// What [`plan`](crate::plan) promises, by `workers` threads, 1 to 8: a part is what stands below a move of the root,
 /// and is searched from the first schedule on, with `limit` nodes, 1 to 1,048,576, of its own.
 ///
-/// Parts are dealt to the workers in turn, and `gate` is told of each before it is searched. The plan is the same for
+/// Parts are dealt to the workers in turn, and `gate` is called for each before it is searched. The plan is the same for
 /// any number of workers. No clause says these three: tests do. Nor does one say how many nodes were opened before
 /// `Memory`.
 ///
 /// # Errors
 /// `Over` with `limit` where a part opened so many nodes and has more; else with how many nodes the parts opened
-/// together, where these are more than 1,048,575. Where parts refuse, the first of them is told. `Memory` where memory
+/// together, where these are more than 1,048,575. Where parts refuse, the first of them is reported. `Memory` where memory
 /// was refused.
 pub fn plan_split<R: Threads + Sync, G: PartGate + Sync>(
     rt: &R,

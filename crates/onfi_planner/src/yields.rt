@@ -9,7 +9,7 @@ use onfi_problem::{Move, Problem};
 /// For each LUN the one that its moves yield to: the least that has moves which all end by their earliest start, and
 /// which doesn't yield itself. A LUN that an earlier one yields to doesn't yield.
 ///
-/// `ends` tells for each LUN by when its moves end.
+/// `ends` says for each LUN by when its moves end.
 pub fn yields_of(problem: &Problem, moves: &[Move], ends: &[Option<u64>; 8]) -> [Option<u8>; 8]
     requires ends { (lun : ℕ) → lun < 8 → IsLastEnd problem.now.problem (moves_of problem.now.groups moves.now) lun (slice_index_or ends.now lun None) }
     ensures yields { AreYields problem.now.problem (moves_of problem.now.groups moves.now) result }

@@ -56,7 +56,7 @@ impl<P: Planner> Planner for EarlyPlanner<P> {
     }
 }
 
-/// Plans likewise, and the last phase may end later by `per_mille` thousandths, 1,000 at most, of what lies between the time
+/// Plans the same way, and the last phase may end later by `per_mille` thousandths, 1,000 at most, of what lies between the time
 /// from when on the bus is free and the one before which no legal schedule ends. It isn't exact; where the other planner
 /// is, its plans end at most so much later than any legal schedule, and with 0 thousandths they are those of
 /// [`EarlyPlanner`]. With 0 nodes they are those of the other planner.

@@ -1,6 +1,6 @@
 //! Planners for the channels of a core: the plain search and the search that remembers states, which are exact, the best
 //! plan so far, which always comes, the rule, which searches nothing, and the plans of each made better, so that requests end
-//! early. Alone, it plans a problem by one of them, or by the one that was chosen when the program runs, behind the trait of
+//! early. Alone, it plans a problem by one of them, or by the one that was chosen when the program runs, under the trait of
 //! `onfi_plan`.
 #![tactic(auto)]
 

@@ -9,7 +9,7 @@ use onfi_request::Want;
 #[derive(Clone, Copy, Debug, Default, PartialEq, Eq)]
 pub enum Weighing {
     /// By its age, so that none is last for ever: 1 + 4 (age / mean age)^2. Ages are counted in places of acceptance, as the
-    /// numbers of wants tell them, from the newest request of the problem on, whose age is 1.
+    /// numbers of wants give them, from the newest request of the problem on, whose age is 1.
     #[default]
     ByAge,
     /// As any other.

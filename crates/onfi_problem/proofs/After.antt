@@ -23,7 +23,7 @@ use Rattle.onfi_problem.proofs.Lists.{map_set, map_found}
 use Rattle.onfi_problem.proofs.Limits.{after_limits, bus_in_limits, lun_in_limits}
 use Rattle.onfi_problem.proofs.Places.{within_get, length_set, set_back}
 
--- what a kept LUN that runs is told by
+-- what a kept LUN that runs is known by
 pub record RunsBy (groups : List (List Want)) (x : Lun) (g : List Want) (n r : ℕ) : Type 0 where
   pub group : slice_index_or groups x.place [] ≡ g
   pub next : x.next ≡ n

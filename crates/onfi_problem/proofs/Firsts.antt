@@ -107,7 +107,7 @@ covered g (false ∷ bs) (w ∷ ws) r f = (
   covered g bs ws r.1 (λ v h m. f v (inr h) m),
 )
 
--- who is told to be a member is one
+-- who is said to be a member is one
 pub member_in : (all : List Want) (g : List Want) (w : Want) → Rising all → All (Has all) g → Has all w → is_member g w ≡ true → Has g w
 member_in all [] w r h k m = absurd (false≢true m)
 member_in all (v ∷ g) w r h k m = elim (cases_Bool (v.id == w.id)) [

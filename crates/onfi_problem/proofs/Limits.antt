@@ -1,19 +1,23 @@
 -- A move keeps a problem in its limits.
-use Rattle.std.proofs.Common.{◌≡◌, ℕ, zero, suc, ◌+◌, ◌*◌, ◌-◌, ◌^◌, ◌≤◌, ◌<◌, List, [], ◌∷◌, length, Some, get_or, refl, sym, ap, ◌∙◌, subst, arith, mul-le-mul_left}
+use Rattle.std.proofs.Common.{◌≡◌, ℕ, zero, suc, ◌+◌, ◌*◌, ◌-◌, ◌^◌, ◌≤◌, ◌<◌, List, [], ◌∷◌, length, map, Some, get_or, refl, sym, ap, ◌∙◌, subst, arith, mul-le-mul_left}
 use Rattle.std.specs.Prelude.{slice_get, slice_set, max}
+use Rattle.std.specs.List.{sum, AllByRecursion as All}
 use Rattle.std.proofs.lemmas.Bool.{lt-ltb}
-use Rattle.onfi_timing.specs.declared.spans.Spans.{Spans}
+use Rattle.std.proofs.lemmas.List.Sums.{sum_by-cons}
+use Rattle.onfi_timing.specs.declared.kind.Kind.{Kind}
+use Rattle.onfi_timing.specs.declared.timing.Timing.{Timing}
 use Rattle.onfi_request.specs.declared.want.Want.{Want}
 use Rattle.onfi_problem.specs.declared.lun_state.LunState.{LunState}
 use Rattle.onfi_problem.specs.declared.lun_state.LunState.TheVariants.{Free, Running}
 use Rattle.onfi_problem.specs.Moves.{Move, Next, Start, IsMove, earliest, free_from, lun_after, after, ran_with}
 use Rattle.onfi_problem.specs.Problem.{Problem, IsProblem}
 use Rattle.onfi_timing.specs.Kinds.{spans_of}
-use Rattle.onfi_group.specs.Group.{group_spans, lun_of}
-use Rattle.onfi_timing.specs.Phases.{phase_length}
+use Rattle.onfi_group.specs.Group.{group_spans, kind_of, lun_of}
+use Rattle.onfi_group.specs.Words.{total}
+use Rattle.onfi_timing.specs.Phases.{Lengths, phase_length}
+use Rattle.onfi_timing.proofs.Phases.{posts_of_all}
 use Rattle.onfi_problem.specs.Left.{waits_left, chain_time, want_time, latest_wait, horizon, InLimits}
-use Rattle.onfi_problem.proofs.Perm.{All-weaker}
-use Rattle.onfi_problem.proofs.Totals.{total_set, total_same, startable_total}
+use Rattle.onfi_problem.proofs.Totals.{total_set, startable_total}
 use Rattle.onfi_problem.proofs.Work.{one_phase}
 use Rattle.onfi_problem.proofs.Waits.{one_wait, chain_after, free_after}
 use Rattle.onfi_problem.proofs.Kept.{kept, kept_small}
@@ -45,12 +49,22 @@ set_in b c (x ∷ luns) (suc l) y = let e = set_in b c luns l y in let p = lates
 pub times_le : (j a b : ℕ) → a ≤ b → j * a ≤ j * b
 times_le j a b h = mul-le-mul_left j h
 
-pub group_waits : (spans : Spans) (k : ℕ) → 1 ≤ k → waits_left spans k 0 ≤ k * max spans.gap spans.array
+pub group_waits : (spans : Lengths) (k : ℕ) → 1 ≤ k → waits_left spans k 0 ≤ k * max spans.gap spans.array
 group_waits spans zero h = absurd (omega arith)
 group_waits spans (suc j) h =
     let e : suc j - 1 - 0 ≡ j = omega arith in
     let a = times_le j spans.gap (max spans.gap spans.array) (omega arith) in
     rw (lt-ltb 0 (suc j) (omega arith), e) (omega arith)
+
+-- wants of one kind take their commands, the longer of their waits, and the post of each
+members_time : (timing : Timing) (kind : Kind) (ms : List Want) → All (λ m. m.kind ≡ kind) ms →
+    total (want_time timing) ms ≡ length ms * ((spans_of timing kind).cmd + max (spans_of timing kind).gap (spans_of timing kind).array) + sum (map (λ m. (spans_of timing m.kind).post) ms)
+members_time timing kind [] h = omega arith
+members_time timing kind (m ∷ ms) h =
+    let r = members_time timing kind ms h.1 in
+    let q = sum_by-cons (λ x. x) (spans_of timing m.kind).post (map (λ m. (spans_of timing m.kind).post) ms) in
+    let a = ap (λ k. (spans_of timing k).cmd + max (spans_of timing k).gap (spans_of timing k).array) h.0 in
+    omega arith
 
 horizon_step : (p : Problem) (m : Move) → IsProblem p → IsMove p m → horizon (after p m) ≤ horizon p
 horizon_step p (Next l) ip (g, n, r, at) =
@@ -65,7 +79,7 @@ horizon_step p (Next l) ip (g, n, r, at) =
     let f = free_after p.timing g n c i.group.some i.unfinished in
     let s = total_set (chain_time p.timing) p.luns l _ (lun_after p.timing g n c) at in
     let q = chain_after p.timing g n c i.group.some in
-    let u = one_phase spans k n i.unfinished in
+    let u = one_phase p.timing g n i.unfinished in
     let w = one_wait spans k n in
     rw at (omega arith)
 horizon_step p (Start ms) ip (since, at, st) =
@@ -81,11 +95,11 @@ horizon_step p (Start ms) ip (since, at, st) =
     let s = total_set (chain_time p.timing) p.luns (lun_of ms) _ (lun_after p.timing ms 0 c) at in
     let q = chain_after p.timing ms 0 c some in
     let z : k - 0 ≡ k = omega arith in
-    let y : 2 * k - max 0 k ≡ k = omega arith in
-    let u = rw (z, y) at (one_phase spans k 0 (omega arith)) in
+    let u = rw z at (one_phase p.timing ms 0 (omega arith)) in
+    let y = posts_of_all spans k 0 (omega arith) in
     let w = one_wait spans k 0 in
     let v = startable_total (want_time p.timing) p ms ip st in
-    let o = total_same (want_time p.timing) (spans.cmd + max spans.gap spans.array + spans.post) ms (All-weaker _ _ (λ m e. ap (λ kind. (spans_of p.timing kind).cmd + max (spans_of p.timing kind).gap (spans_of p.timing kind).array + (spans_of p.timing kind).post) e) ms st.group.kind) in
+    let o : total (want_time p.timing) ms ≡ k * (spans.cmd + max spans.gap spans.array) + sum spans.posts = members_time p.timing (kind_of ms) ms st.group.kind in
     let gw = group_waits spans k some in
     rw at (omega arith)
 

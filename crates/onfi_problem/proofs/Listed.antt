@@ -11,7 +11,7 @@ use Rattle.onfi_problem.specs.declared.moves.Lun.{Lun}
 use Rattle.onfi_problem.specs.Position.{state_of}
 use Rattle.onfi_problem.specs.Kept.{IsOwn}
 
--- the part of a table stays as it is when more is put behind
+-- the part of a table stays as it is when more is appended
 range_stays : (groups more : List (List Want)) (a b : ℕ) → a ≤ b → b ≤ length groups → slice_range (groups ++ more) a b ≡ slice_range groups a b
 range_stays groups more a b h k =
     let le : a ≤ length groups = omega arith in

@@ -1,4 +1,4 @@
--- The state of a LUN behind a phase.
+-- The state of a LUN after a phase.
 use Rattle.std.proofs.Common.{◌≡◌, ℕ, ◌+◌, ◌*◌, ◌≤◌, ◌<◌, inl, inr, List, length, Some}
 use Rattle.std.proofs.lemmas.Bool.{lt-ltb, le-ltb, cases_lt}
 use Rattle.onfi_timing.specs.declared.timing.Timing.{Timing}

@@ -107,7 +107,7 @@ module _ (timing : Timing) (rules : Rules) (bus_free : ℕ) (luns : List Lun) (a
   pub own_listed : (l : ℕ) → l < length luns → All (λ g. All (Has all) g) (own l)
   own_listed l h = All-weaker (IsCandidate rules all l) _ (λ g i. i.listed) (own l) (t.own l h).candidates.only
 
-  -- what the marks of a group tell
+  -- what the marks of a group say
   pub marks_tell : (place : ℕ) (d : StartMarks) → place < length groups → length marks ≡ 8 → All (Has all) (slice_index_or groups place []) →
       are_met marks (get_or tests place d).asked (get_or tests place d).members ≡ can (slice_index_or groups place [])
   marks_tell place d h long i =

@@ -1,8 +1,8 @@
 -- What is left to do, as sums, and by when a problem is surely done.
 use Rattle.std.specs.Prelude.{ℕ, ◌+◌, ◌*◌, ◌-◌, ◌^◌, ◌<◌, max, nat_lt, if◌then◌else◌, List, [], ◌∷◌, length}
-use Rattle.onfi_timing.specs.declared.spans.Spans.{Spans}
 use Rattle.onfi_timing.specs.declared.timing.Timing.{Timing}
 use Rattle.onfi_timing.specs.Kinds.{spans_of}
+use Rattle.onfi_timing.specs.Phases.{Lengths, posts_from}
 use Rattle.onfi_request.specs.declared.want.Want.{Want}
 use Rattle.onfi_group.specs.Words.{total}
 use Rattle.onfi_group.specs.Group.{group_spans}
@@ -10,12 +10,9 @@ use Rattle.onfi_problem.specs.declared.lun_state.LunState.{LunState}
 use Rattle.onfi_problem.specs.declared.lun_state.LunState.TheVariants.{Free, Running}
 use Rattle.onfi_problem.specs.Problem.{Problem, IsSmall, IsProblem}
 
--- of k commands and k posts, n of them done
+-- of k commands, n phases done
 abbrev pub commands_left : ℕ → ℕ → ℕ
 commands_left k n = k - n
-
-abbrev pub posts_left : ℕ → ℕ → ℕ
-posts_left k n = 2 * k - max n k
 
 -- the lengths of the commands that are left to a running group
 abbrev pub command_time : Timing → LunState → ℕ
@@ -25,7 +22,7 @@ command_time timing (Running group next ready) = commands_left (length group) ne
 -- .. and of its posts
 abbrev pub post_time : Timing → LunState → ℕ
 post_time timing (Free since) = 0
-post_time timing (Running group next ready) = posts_left (length group) next * (group_spans timing group).post
+post_time timing (Running group next ready) = posts_from (group_spans timing group) (length group) next
 
 abbrev pub want_command : Timing → Want → ℕ
 want_command timing w = (spans_of timing w.kind).cmd
@@ -45,9 +42,9 @@ all_posts p = total (post_time p.timing) p.luns + total (want_post p.timing) p.w
 abbrev pub work : Problem → ℕ
 work p = all_commands p + all_posts p
 
--- the waits behind phase n: the gaps between the commands that are left, and the array
-abbrev pub waits_left : Spans → ℕ → ℕ → ℕ
-waits_left spans k n = if nat_lt n k then (k - 1 - n) * spans.gap + spans.array else 0
+-- the waits after phase n: the gaps between the commands that are left, and the array
+abbrev pub waits_left : Lengths → ℕ → ℕ → ℕ
+waits_left lengths k n = if nat_lt n k then (k - 1 - n) * lengths.gap + lengths.array else 0
 
 -- the rest of a running group, with its waits
 abbrev pub chain_time : Timing → LunState → ℕ

@@ -1,4 +1,4 @@
--- Which groups of the table may be started, told by the marks of waiting wants.
+-- Which groups of the table may be started, given by the marks of waiting wants.
 use mathlib.Core.Bool.{beq, ◌&&◌}
 use Rattle.std.specs.Prelude.{nat_lt, not, if◌then◌else◌, Bool, true, false, List, [], ◌∷◌, replicate}
 use Rattle.std.specs.List.{list_any}

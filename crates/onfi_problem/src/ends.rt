@@ -5,6 +5,7 @@ ghost use Rattle.onfi_problem.specs.Position.{move_of, lun_named};
 
 use crate::moves::Move;
 use crate::problem::Problem;
+use onfi_group::phase_length;
 
 impl Problem {
     /// From when on a LUN may go on, in ns: the earliest start of each of its moves.
@@ -38,8 +39,7 @@ impl Problem {
         let state = self.luns()[lun as usize];
         let start = self.bus_free().max(state.time);
         let group = &self.groups()[state.place as usize];
-        let spans = self.timing().spans(group.kind());
-        start + spans.phase_length(group.len(), state.next as usize)
+        start + phase_length(self.timing(), group.members(), state.next as usize)
     }
 
     fn end_of_start(&self, lun: u8, place: u8) -> u64
@@ -50,7 +50,6 @@ impl Problem {
     {
         let start = self.bus_free().max(self.luns()[lun as usize].time);
         let group = &self.groups()[place as usize];
-        let spans = self.timing().spans(group.kind());
-        start + spans.phase_length(group.len(), 0)
+        start + phase_length(self.timing(), group.members(), 0)
     }
 }

@@ -1,13 +1,13 @@
 use thiserror::Error;
 
-/// Why what was given is not a problem of the program, in the order in which it is told.
+/// Why what was given is not a problem of the program, in the order in which it is reported.
 #[derive(Clone, Copy, Debug, PartialEq, Eq, Error)]
 pub enum ProblemFault {
     /// More than eight wants, no LUN, or more than eight.
     #[error("more than 8 wants, or not 1 to 8 LUNs")]
     TooMany,
     /// A want's LUN is not there, its plane is above 3, or it is an erase with a page; numbers of the list do not
-    /// rise; or what runs on a LUN is not a group of it, or has no phase behind it, or none left.
+    /// rise; or what runs on a LUN is not a group of it, or has no phase done, or none left.
     #[error("a want, or a running group, that the LUNs cannot have")]
     BadLun,
     /// By the sum of all times the problem may end at 2^62 ns or later.

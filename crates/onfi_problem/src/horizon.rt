@@ -2,12 +2,14 @@
 
 ghost use Rattle.std.specs.Prelude.{◌≡◌, ◌+◌, ◌*◌, ◌^◌, ◌<◌, ◌≤◌, ◌↔◌, IsTrue, length};
 ghost use Rattle.onfi_group.specs.Words.{total};
+ghost use Rattle.onfi_group.specs.Group.{group_spans};
 ghost use Rattle.onfi_problem.specs.Left.{chain_time, want_time, latest_wait, waits_left};
 ghost use Rattle.onfi_problem.specs.Checks.{time_of};
 
 use crate::lun_state::LunState;
+use onfi_group::{Group, posts_from};
 use onfi_request::Want;
-use onfi_timing::{Spans, Timing};
+use onfi_timing::Timing;
 
 /// Times of a problem stay below this many ns.
 const LIMIT: u64 = 1 << 62;
@@ -63,21 +65,20 @@ fn chain_time(timing: &Timing, state: &LunState) -> u64
         LunState::Free { .. } => 0,
         LunState::Running { group, next, .. } => {
             let spans = timing.spans(group.kind());
-            let members = group.len() as u64;
-            let next = *next as u64;
-            let commands = members.saturating_sub(next);
-            let posts = (2 * members).saturating_sub(next.max(members));
-            commands * spans.cmd + posts * spans.post + waits_left(&spans, members, next)
+            let commands = group.len().saturating_sub(*next as usize) as u64;
+            let posts = posts_from(timing, group.members(), *next as usize);
+            commands * spans.cmd + posts + waits_left(timing, group, *next)
         }
     }
 }
 
-// The waits behind phase `next` of a group.
-fn waits_left(spans: &Spans, members: u64, next: u64) -> u64
-    requires { members ≤ 4 }
-    ensures value { result ≡ waits_left spans.now members next }
+// The waits after phase `next` of a group.
+fn waits_left(timing: &Timing, group: &Group, next: u8) -> u64
+    ensures value { result ≡ waits_left (group_spans timing.now group.now) (length group.now) next }
     ensures small { result ≤ 4 * 2 ^ 50 }
 {
+    let spans = timing.spans(group.kind());
+    let (members, next) = (group.len() as u64, next as u64);
     if next < members {
         (members - 1 - next) * spans.gap + spans.array
     } else {

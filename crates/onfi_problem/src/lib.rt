@@ -1,6 +1,6 @@
 //! Problems of one channel: what is left to do, which moves there are, when at the earliest, and what each leaves.
 //!
-//! Alone, it tells whether wants and running groups are a problem at all, lists what may be done next in a fixed order,
+//! Alone, it says whether wants and running groups are a problem at all, lists what may be done next in a fixed order,
 //! and makes moves and takes them back in place, without memory: the ground for a search or a checker of one's own.
 #![tactic(auto)]
 

@@ -2,7 +2,7 @@
 
 ghost use Rattle.std.specs.Prelude.{◌≡◌};
 
-/// A move of a problem: the next phase of a running LUN, or the first one of a group, told by the group's place
+/// A move of a problem: the next phase of a running LUN, or the first one of a group, given by the group's place
 /// among the groups of the problem.
 #[derive(Clone, Copy, Debug, PartialEq, Eq)]
 pub enum Move {
@@ -23,7 +23,7 @@ impl Move {
     }
 }
 
-/// What a LUN does, told by numbers: from `time` on it may go on with phase `next` of the group at that place, or,
+/// What a LUN does, in numbers: from `time` on it may go on with phase `next` of the group at that place, or,
 /// where `next` is 0, with any group.
 #[derive(Clone, Copy, Debug, Default, PartialEq, Eq)]
 pub struct Lun {

@@ -20,7 +20,7 @@ use onfi_timing::Timing;
 use std::alloc::{AllocError, Global};
 use std::marker::Model;
 
-/// What is left to do on a channel: up to eight wants on one to eight LUNs, each free or in the midst of a group.
+/// What is left to do on a channel: up to eight wants on one to eight LUNs, each free or running a group.
 ///
 /// Its groups are made once. All that a move changes stands inline, so that a search or a checker makes a move and
 /// takes it back without memory.

@@ -36,7 +36,7 @@ pub fn open_luns(
     Ok(luns)
 }
 
-// What a LUN does, in numbers, its group behind the others of the table.
+// What a LUN does, in numbers, its group after the others of the table.
 fn open_lun(
     groups: &mut Vec<Group>,
     state: &LunState,
@@ -67,7 +67,7 @@ fn open_lun(
     }
 }
 
-// Puts the groups that the wants of each LUN can form behind the others, and tells where they begin and end.
+// Puts the groups that the wants of each LUN can form after the others, and says where they begin and end.
 pub fn list_groups(
     alloc: Global,
     groups: &mut Vec<Group>,

@@ -28,7 +28,7 @@ impl<'a> From<InputFault> for Unread<'a> {
     }
 }
 
-/// All that a command line names: the script, and where a plan text of its own file begins behind it.
+/// All that a command line names: the script, and where a plan text of its own file begins after it.
 pub fn read<'a, R: Files + Input>(
     rt: &R,
     alloc: Global,
@@ -57,7 +57,7 @@ fn read_file<'a, R: Files + Input>(
     }
 }
 
-/// Whether what was opened is a directory; a file of which that can't be told is none.
+/// Whether what was opened is a directory; a file of which that can't be said is none.
 fn is_directory(file: &impl OpenFile) -> bool {
     match file.metadata() {
         Ok(metadata) => metadata.is_dir(),
@@ -65,7 +65,7 @@ fn is_directory(file: &impl OpenFile) -> bool {
     }
 }
 
-/// A script, and a plan text behind it, in a line of its own; and where that begins.
+/// A script, and a plan text after it, in a line of its own; and where that begins.
 fn joined<'a>(mut script: Vec<u8>, plan: &[u8]) -> Result<(Vec<u8>, usize), Unread<'a>> {
     if !script.is_empty() && !script.ends_with(b"\n") {
         push(&mut script, b"\n")?;
@@ -75,7 +75,7 @@ fn joined<'a>(mut script: Vec<u8>, plan: &[u8]) -> Result<(Vec<u8>, usize), Unre
     Ok((script, at))
 }
 
-/// Puts bytes behind others.
+/// Appends bytes to others.
 fn push<'a>(text: &mut Vec<u8>, more: &[u8]) -> Result<(), Unread<'a>> {
     match text.extend_from_slice(more) {
         Ok(()) => Ok(()),

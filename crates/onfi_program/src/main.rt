@@ -58,7 +58,7 @@ fn tell_word(rt: &(impl std::rt::Env + AllocGlobal + Eprint)) -> u8 {
     5
 }
 
-/// Tells that memory was refused; its status.
+/// Says that memory was refused; its status.
 fn out_of_memory(rt: &impl Print) -> u8 {
     let _ = rt.println("memory");
     4
@@ -87,7 +87,7 @@ fn parsed<'a>(
     }
 }
 
-/// Tells why an input can't be read; its status.
+/// Says why an input can't be read; its status.
 fn unread(rt: &(impl AllocGlobal + Print + Eprint), parsed: &Parsed<'_>, fault: &Unread<'_>) -> u8 {
     match fault {
         Unread::File(name, error) => {

@@ -54,15 +54,15 @@ four_hosts t = fresh_host t 0 ∷ fresh_host t 1 ∷ fresh_host t 2 ∷ fresh_ho
 abbrev pub item_of : HostView → Request → Item
 item_of host request = record { host = host.number; serial = length host.sent; request = request }
 
--- the host sent the request behind all that it sent before
+-- the host sent the request after all that it sent before
 abbrev pub after_sending : HostView → Request → HostView
 after_sending host request = record host { sent = host.sent ++ item_of host request ∷ [] }
 
--- a full queue goes with what the host sent: behind what was accepted of it, what that queue holds of it is what it sent
+-- a full queue goes with what the host sent: after what was accepted of it, what that queue holds of it is what it sent
 abbrev pub SawFull : HostView → Type 0
 SawFull host = Held host.capacity (HostSees (AtHost host.opened host.number host.sent))
 
--- when each fault is told
+-- when each fault is reported
 abbrev pub IsWhyNot : HostView → Request → SubmitFault → Type 0
 IsWhyNot host request (Refused fault) = fault_of host.opened.geometry request ≡ Some fault
 IsWhyNot host request SerialsSpent = Fits host.opened.geometry request × (length host.sent ≡ 2 ^ 32)

@@ -11,13 +11,13 @@ AreNumbered geometry host serial [] = Unit {0}
 AreNumbered geometry host serial (x ∷ xs) =
     (x.host ≡ host) × (x.serial ≡ serial) × Fits geometry x.request × AreNumbered geometry host (serial + 1) xs
 
--- the item may come next behind these: it is of one of so many hosts, has that host's next serial, and the device takes it
+-- the item may come next after these: it is of one of so many hosts, has that host's next serial, and the device takes it
 pub record IsNext (geometry : Geometry) (hosts : ℕ) (accepted : List Item) (x : Item) : Type 0 where
   pub host : x.host < hosts
   pub serial : x.serial ≡ length (items_from x.host accepted)
   pub fits : Fits geometry x.request
 
--- where `sents` tells what the first hosts sent, that is what was accepted of each, and then what waits; the items of each
+-- where `sents` says what the first hosts sent, that is what was accepted of each, and then what waits; the items of each
 -- host are numbered from 0 on, and from the number `hosts` on there are none
 pub record IsSplit (geometry : Geometry) (hosts : ℕ) (accepted : List Item) (sents : List (List Item)) (waiting : List Item) : Type 0 where
   pub sent : (host : ℕ) → host < length sents → slice_index_or sents host [] ≡ items_from host accepted ++ items_from host waiting

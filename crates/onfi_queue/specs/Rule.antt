@@ -82,7 +82,7 @@ after_accepted (AtIntake opened accepted made back) x = AtIntake opened (accepte
 after_accepted Spent x = Spent
 after_accepted Unopened x = Unopened
 
--- what the intake is told of the front
+-- what the intake is shown of the front
 abbrev pub ComesNext : View → Item → Type 0
 ComesNext (AtHost opened host sent) x = Unit {0}
 ComesNext (AtIntake opened accepted made back) x = IsNext opened.geometry made accepted x
@@ -110,7 +110,7 @@ with_back Spent other = Spent
 with_back Unopened other = Unopened
 
 -- ---- what a pass knows of the items that the queue holds at a moment
--- behind what was accepted of the host they are what it sent
+-- after what was accepted of the host they are what it sent
 abbrev pub HostSees : View → List Item → Type 0
 HostSees (AtHost opened host sent) waiting = (accepted : List Item) × (sent ≡ items_from host accepted ++ items_from host waiting)
 HostSees (AtIntake opened accepted made back) waiting = Unit {0}

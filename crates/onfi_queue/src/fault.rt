@@ -1,7 +1,7 @@
 use onfi_request::RequestFault;
 use thiserror::Error;
 
-/// Why a request wasn't sent. Of those that hold, it is `Refused` that is told, else `SerialsSpent`, else `Full`.
+/// Why a request wasn't sent. Of those that hold, it is `Refused` that is reported, else `SerialsSpent`, else `Full`.
 #[derive(Clone, Copy, Debug, PartialEq, Eq, Error)]
 pub enum SubmitFault {
     /// The queue was full at one moment of the call.

@@ -58,7 +58,7 @@ impl Host {
         self.count
     }
 
-    /// Sends a request to the channel, behind all that waits there, and answers its serial: how many items this host
+    /// Sends a request to the channel, after all that waits there, and answers its serial: how many items this host
     /// sent before. It takes no memory.
     ///
     /// # Errors
@@ -66,7 +66,7 @@ impl Host {
     /// and `Full`, where the queue was full. Nothing is sent then, and the request comes back.
     ///
     /// Of `Full` the contract says only that a full queue goes with what this host sent, and other hosts may fill one: that
-    /// it isn't told of a queue with room is tested.
+    /// it isn't answered with room in the queue is tested.
     pub fn submit<R: Wait>(
         &mut self,
         rt: &R,

@@ -12,7 +12,7 @@ use std::alloc::{AllocError, Global};
 /// 1,024: its intake, and its four hosts in the order of their numbers. A host that isn't used sends nothing.
 ///
 /// # Errors
-/// Want of memory.
+/// Where memory was refused.
 pub fn open(
     alloc: Global,
     channel: u8,

@@ -47,7 +47,7 @@ impl Seat {
     /// The seat of a queue that is made here, with no host yet.
     ///
     /// # Errors
-    /// Want of memory.
+    /// Where memory was refused.
     pub(crate) fn open(alloc: Global, opened: Opened, capacity: usize) -> Result<Seat, AllocError>
         requires { 0 < capacity }
         ensures { IfOk result (λ seat. seat ≡ fresh_seat seat.queue opened capacity) }
@@ -61,7 +61,7 @@ impl Seat {
     /// The next host.
     ///
     /// # Errors
-    /// Want of memory.
+    /// Where memory was refused.
     pub(crate) fn make_host(&mut self, number: u8) -> Result<Host, AllocError>
         requires { number ≡ self.old.made }
         ensures host { IfOk result (λ host. host ≡ host_of_seat self.old number) }

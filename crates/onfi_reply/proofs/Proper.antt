@@ -42,7 +42,7 @@ AreProper-snoc opened xs x old new = record {
       (λ (t : (behind' : List Reply) × (xs ≡ before ++ r ∷ behind')). old.rightful before r t.0 t.1) (split_last xs x before r behind e);
 }
 
--- each is next behind those before it
+-- each is next after those before it
 pub AreProper-middle : (opened : OpenedFor) (xs before : List Reply) (x : Reply) (behind : List Reply) → AreProper opened xs → xs ≡ before ++ x ∷ behind → IsNext opened before x
 AreProper-middle opened xs before x behind all e = record {
   host = Each-middle (λ (r : Reply). r.host ≡ opened.host) before x behind (subst (λ (l : List Reply). Each (λ (r : Reply). r.host ≡ opened.host) l) e all.own);

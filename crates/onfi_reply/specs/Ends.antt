@@ -56,7 +56,7 @@ after_collecting i x = record i { given = i.given ++ x ∷ []; waiting = drop 1 
 abbrev pub SawEmpty : InboxView → Type 0
 SawEmpty i = Held 0 (InboxSees (AtInbox i.opened (i.given ++ i.waiting)))
 
--- one reply more waits, the next behind all that were popped; or none was there
+-- one reply more waits, the next after all that were popped; or none was there
 abbrev pub TookIn : Bool → InboxView → InboxView → Type 0
 TookIn true i j = (x : Reply) × (j ≡ record i { waiting = i.waiting ++ x ∷ [] }) × IsNext i.opened (i.given ++ i.waiting) x
 TookIn false i j = (j ≡ i) × SawEmpty i
@@ -117,7 +117,7 @@ SeatSawEmpty p = Held 0 (InboxSees (AtInbox p.opened p.popped))
 abbrev pub given_of : List Reply → List Reply → List Reply
 given_of popped waiting = take (length popped - length waiting) popped
 
--- what waits is the end of what was popped, each next behind those before it
+-- what waits is the end of what was popped, each next after those before it
 pub record IsWhole (seat : InboxSeatView) (waiting : List Reply) : Type 0 where
   pub split : seat.popped ≡ given_of seat.popped waiting ++ waiting
   pub next : (before : List Reply) (r : Reply) (behind : List Reply) → waiting ≡ before ++ r ∷ behind → IsNext seat.opened (given_of seat.popped waiting ++ before) r

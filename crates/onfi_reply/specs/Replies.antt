@@ -5,7 +5,7 @@ use Rattle.onfi_request.specs.declared.reply.Reply.{Reply}
 use Rattle.onfi_die.specs.Order.{AreRightfulIn, EachRightful}
 use Rattle.onfi_reply.specs.declared.opened_for.OpenedFor.{OpenedFor}
 
--- the reply may come next behind these: it is of the queue's host, and they, and then it, are rightful in what it rests on
+-- the reply may come next after these: it is of the queue's host, and they, and then it, are rightful in what it rests on
 pub record IsNext (opened : OpenedFor) (before : List Reply) (r : Reply) : Type 0 where
   pub host : r.host ≡ opened.host
   pub rightful : AreRightfulIn opened.geometry r (before ++ r ∷ [])

@@ -86,7 +86,7 @@ after_popped (AtInbox opened popped) x = AtInbox opened (popped ++ x ∷ [])
 after_popped Spent x = Spent
 after_popped Unopened x = Unopened
 
--- what the inbox is told of the front
+-- what the inbox is shown of the front
 abbrev pub ComesNext : View → Reply → Type 0
 ComesNext (AtPoster opened posted made back) x = Unit {0}
 ComesNext (AtInbox opened popped) x = IsNext opened popped x
@@ -114,7 +114,7 @@ with_back Spent other = Spent
 with_back Unopened other = Unopened
 
 -- ---- what a pass knows of the replies that the queue holds at a moment
--- where the inbox is back, behind what it popped they are what was posted
+-- where the inbox is back, after what it popped they are what was posted
 abbrev pub Completes : List Reply → List Reply → Option (List Reply) → Type 0
 Completes posted waiting None = Unit {0}
 Completes posted waiting (Some back) = posted ≡ back ++ waiting
@@ -126,7 +126,7 @@ PosterSees (AtInbox opened popped) waiting = Unit {0}
 PosterSees Spent waiting = Unit {0}
 PosterSees Unopened waiting = Unit {0}
 
--- behind what was popped they are proper
+-- after what was popped they are proper
 abbrev pub InboxSees : View → List Reply → Type 0
 InboxSees (AtPoster opened posted made back) waiting = Unit {0}
 InboxSees (AtInbox opened popped) waiting = AreProper opened (popped ++ waiting)

@@ -68,7 +68,7 @@ impl Inbox {
     /// popped, up to this one, are rightful in what this one rests on.
     ///
     /// # Errors
-    /// Want of memory; the reply is then still in the queue, and the refusal is counted, for contracts alone.
+    /// Where memory was refused; the reply is then still in the queue, and the refusal is counted, for contracts alone.
     pub fn take_in<R: Wait>(&mut self, rt: &R, _alloc: Global) -> Result<bool, AllocError>
         ensures took { IfOk result (λ moved. TookIn moved self.old self.new) }
         ensures refused { OnErr result (self.new ≡ after_refusing self.old) }

@@ -14,7 +14,7 @@ use std::collections::VecDeque;
 /// `capacity` replies, 1 to 1,024: its poster and its inbox.
 ///
 /// # Errors
-/// Want of memory.
+/// Where memory was refused.
 pub fn open(
     alloc: Global,
     channel: u8,

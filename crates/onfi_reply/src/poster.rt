@@ -34,7 +34,7 @@ impl Model for Poster {
 }
 
 impl Poster {
-    /// Posts a reply behind all that waits in the queue. It takes no memory.
+    /// Posts a reply after all that waits in the queue. It takes no memory.
     ///
     /// The reply is of the queue's host, and all replies that were posted here, and then this one, are rightful in what
     /// this one rests on.

@@ -47,7 +47,7 @@ impl PosterSeat {
     /// The seat of a queue that is made here, with no inbox yet.
     ///
     /// # Errors
-    /// Want of memory.
+    /// Where memory was refused.
     pub(crate) fn open(
         alloc: Global,
         opened: OpenedFor,
@@ -65,7 +65,7 @@ impl PosterSeat {
     /// The inbox's seat.
     ///
     /// # Errors
-    /// Want of memory.
+    /// Where memory was refused.
     pub(crate) fn make_inbox(&mut self) -> Result<InboxSeat, AllocError>
         requires { self.old.made ≡ false }
         ensures inbox { IfOk result (λ inbox. inbox ≡ inbox_seat_of self.old) }
@@ -80,7 +80,7 @@ impl PosterSeat {
         })
     }
 
-    /// Puts a reply behind those that wait.
+    /// Puts a reply after those that wait.
     pub(crate) fn post<R: Wait>(&mut self, rt: &R, reply: Reply) -> Result<(), Reply>
         requires { IsNext self.old.opened self.old.posted reply }
         ensures posted { OnOk result (self.new ≡ with_posted self.old reply) }

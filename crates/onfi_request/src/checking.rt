@@ -6,7 +6,7 @@ use onfi_addr::Geometry;
 use onfi_timing::Kind;
 use thiserror::Error;
 
-/// Why a device doesn't take a request, in the order in which it is told.
+/// Why a device doesn't take a request, in the order in which it is reported.
 #[derive(Clone, Copy, Debug, PartialEq, Eq, Error)]
 pub enum RequestFault {
     /// The LUN isn't there.

@@ -1,4 +1,4 @@
-//! What hosts ask of a channel and what they are told, and the wants that a planning takes up. Alone, it checks
+//! What hosts ask of a channel and what they are answered, and the wants that a planning takes up. Alone, it checks
 //! requests against a device's geometry.
 #![tactic(auto)]
 

@@ -33,7 +33,7 @@ fn four_gates(alloc: Global) -> Result<Vec<Open>, AllocError>
     Vec::from_elem(alloc, Open, 4)
 }
 
-/// The words of a command line behind the program's name.
+/// The words of a command line after the program's name.
 pub(crate) fn words_of(alloc: Global, line: &str) -> Result<Vec<String>, AllocError> {
     let mut given = Vec::new(alloc);
     given.push(String::from_str(alloc, "onfi_sim")?)?;

@@ -23,7 +23,7 @@ struct Count {
     missed: u32,
 }
 
-// Whether an answer is that of the row; behind its text stand empty lines alone.
+// Whether an answer is that of the row; after its text come empty lines alone.
 fn is_told(page: &Page<'_>, answer: &Answer) -> bool {
     let Some(behind) = page.text.strip_prefix(answer.text.as_slice()) else {
         return false;
@@ -119,7 +119,7 @@ fn play_all<R: Threads + Wait + Sync + Print>(
     Ok(count)
 }
 
-// Counts one row more: a failed flush has to be told.
+// Counts one row more: a failed flush has to be reported.
 fn with_flush<R: Print>(rt: &R, alloc: Global, count: Count) -> Result<Count, Ended> {
     let told = unflushed::is_told(alloc);
     if !told {

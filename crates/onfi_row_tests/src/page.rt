@@ -32,7 +32,7 @@ pub(crate) struct Page<'a> {
     /// The words of its command line.
     pub(crate) words: &'a str,
     pub(crate) input: Vec<u8>,
-    /// The status and the text that it is to be answered with; the text has empty lines behind it.
+    /// The status and the text that it is to be answered with; the text has empty lines after it.
     pub(crate) status: &'a str,
     pub(crate) text: Vec<u8>,
     texts: Vec<Named<'a>>,

@@ -24,14 +24,19 @@ acts_still geometry rows now old new number passed same = record {
   moments = same_moment now old.ports.items new.ports.items same;
 }
 
+-- what a host of that number sent, one step further
+pub sent_then : (geometry : Geometry) (rows : List Row) (now : ℕ) (a b : Station) (number : ℕ) → Acts geometry rows now a b → a.number ≡ number
+    → HasSent geometry (take a.passed rows) number a.ports.items → HasSent geometry (take b.passed rows) number b.ports.items
+sent_then geometry rows now a b number acts is sent =
+    let here = subst (λ n. HasSent geometry (take a.passed rows) n a.ports.items) (sym is) sent in
+    subst (λ n. HasSent geometry (take b.passed rows) n b.ports.items) is (acts.sent here)
+
 pub acts_then : (geometry : Geometry) (rows : List Row) (now : ℕ) (a b c : Station) → Acts geometry rows now a b → Acts geometry rows now b c
     → Acts geometry rows now a c
 acts_then geometry rows now a b c first second = record {
   number = second.number ∙ first.number;
   same = second.same ∙ first.same;
-  sent = λ sent.
-      let here = subst (λ n. HasSent geometry (take b.passed rows) n b.ports.items) (sym first.number) (first.sent sent) in
-      subst (λ n. HasSent geometry (take c.passed rows) n c.ports.items) first.number (second.sent here);
+  sent = λ sent. sent_then geometry rows now b c a.number second first.number (first.sent sent);
   come = λ come. second.come (first.come come);
   moments = moment_then now a.ports.items b.ports.items c.ports.items first.moments second.moments;
 }
@@ -49,7 +54,7 @@ acts_collecting geometry rows now old new number passed nothing moments = record
   moments = moments;
 }
 
--- the host went behind a row more, whose moment has come
+-- the host went past a row more, whose moment has come
 pub acts_more : (geometry : Geometry) (rows : List Row) (now : ℕ) (old new : Station) (d : Row) → old.passed < length rows → comes_at rows old.passed ≤ now
     → new.passed ≡ old.passed + 1 → new.number ≡ old.number → HasSamePorts old.ports.items new.ports.items
     → (HasSent geometry (take old.passed rows) old.number old.ports.items → HasSent geometry (take old.passed rows ++ get_or rows old.passed d ∷ []) old.number new.ports.items)

@@ -1,5 +1,5 @@
 -- Lists with an element for each host.
-use Rattle.std.proofs.Common.{◌≡◌, List, [], ◌∷◌, ◌++◌, length, map, refl, sym, ap, ◌∙◌, arith}
+use Rattle.std.proofs.Common.{◌≡◌, ◌<◌, ℕ, zero, suc, List, [], ◌∷◌, ◌++◌, length, get_or, map, refl, sym, ap, ◌∙◌, arith}
 use Rattle.std.specs.List.{AllByRecursion as Each}
 use Rattle.std.proofs.lemmas.List.{length_push, map-append}
 use Rattle.std.proofs.lemmas.Simd.{map-map}
@@ -35,7 +35,7 @@ with_each_of front last whole [] same = refl
 with_each_of front last whole (h ∷ hs) same =
     ap (λ l. l ∷ with_each (map front hs) (map last hs)) (same h) ∙ ap (λ l. whole h ∷ l) (with_each_of front last whole hs same)
 
--- what is told of lists and of the elements behind them is told of the longer lists
+-- what is said of lists and of the elements after them is said of the longer lists
 pub told_with : {A B H : Type 0} (f : A → B) (front : H → List B) (last : H → B) (whole : H → List B) (hs : List H) (lists : List (List A)) (more : List A)
     → ((h : H) → front h ++ last h ∷ [] ≡ whole h) → map (map f) lists ≡ map front hs → map f more ≡ map last hs
     → map (map f) (with_each lists more) ≡ map whole hs
@@ -68,16 +68,23 @@ each_with P [] more all ones = tt
 each_with P (xs ∷ lists) [] all ones = tt
 each_with P (xs ∷ lists) (x ∷ more) (here, all) (one, ones) = (each_longer P xs x here one, each_with P lists more all ones)
 
--- ---- what is told by keys
+-- ---- what is said by keys
 by_key : {A K B : Type 0} (key : A → K) (f : K → B) (lists : List (List A)) → map (map (λ x. f (key x))) lists ≡ map (map f) (map (map key) lists)
 by_key key f [] = refl
 by_key key f (xs ∷ lists) = ap (λ l. l ∷ map (map (λ x. f (key x))) lists) (sym (map-map f key xs)) ∙ ap (λ l. map f (map key xs) ∷ l) (by_key key f lists)
 
--- what is told by a key is the same where the keys are
+-- what is said by a key is the same where the keys are
 pub same_by_key : {A K B : Type 0} (key : A → K) (f : K → B) (old new : List (List A)) → map (map key) new ≡ map (map key) old
     → map (map (λ x. f (key x))) new ≡ map (map (λ x. f (key x))) old
 same_by_key key f old new same = by_key key f new ∙ ap (map (map f)) same ∙ sym (by_key key f old)
 
--- four elements that are equal one by one
-pub four_same : {X : Type 0} (a b c d e f g h : X) → a ≡ e → b ≡ f → c ≡ g → d ≡ h → a ∷ b ∷ c ∷ d ∷ [] ≡ e ∷ f ∷ g ∷ h ∷ []
-four_same a b c d e f g h first second third fourth = cc
+-- what two lists of n tell is the same where it is place by place
+pub map_by_place : {A B X : Type 0} (f : A → X) (g : B → X) (xs : List A) (ys : List B) (n : ℕ) → length xs ≡ n → length ys ≡ n
+    → ((i : ℕ) (d : A) (e : B) → i < n → g (get_or ys i e) ≡ f (get_or xs i d)) → map g ys ≡ map f xs
+map_by_place f g [] [] n a b same = refl
+map_by_place f g [] (y ∷ ys) n a b same = absurd (omega (arith, a, b))
+map_by_place f g (x ∷ xs) [] n a b same = absurd (omega (arith, a, b))
+map_by_place f g (x ∷ xs) (y ∷ ys) zero a b same = absurd (omega (arith, a))
+map_by_place f g (x ∷ xs) (y ∷ ys) (suc n) a b same =
+    ap (λ z. z ∷ map g ys) (same 0 x y (omega arith))
+    ∙ ap (λ l. f x ∷ l) (map_by_place f g xs ys n (omega (arith, a)) (omega (arith, b)) (λ i d e h. same (suc i) d e (omega (arith, h))))

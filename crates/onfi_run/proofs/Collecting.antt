@@ -43,7 +43,7 @@ pub record Emptying (now : ℕ) (old : InboxView) (a : AnswersView) (new : Inbox
 pub empties_none : (now : ℕ) (inbox : InboxView) (got : AnswersView) → Emptying now inbox got inbox got
 empties_none now inbox got = record { replies = []; given = sym (append-nil inbox.given); later = []; waits = sym (append-nil inbox.waiting); kept = refl }
 
--- what is still to come behind one reply more
+-- what is still to come after one reply more
 one_given : (replies waiting old later : List Reply) (r : Reply) → replies ++ waiting ≡ old ++ later → IsFirstOf waiting r
     → (later' : List Reply) × ((replies ++ r ∷ []) ++ drop 1 waiting ≡ old ++ later')
 one_given replies [] old later r waits first =
@@ -151,7 +151,7 @@ gathered_more now all before ports n r f is had fine adds = record {
       each_with IsComplete r.got f.got (had.complete before.0) (each_complete f.got (fine.complete before.1 before.2));
 }
 
--- lists that tell nothing are empty, however they are seen
+-- lists that say nothing are empty, however they are seen
 none_told : {A B D H : Type 0} (f : A → B) (g : A → D) (lists : List (List A)) (hs : List H) → map (map f) lists ≡ map (λ h. []) hs
     → map (λ h. []) hs ≡ map (map g) lists
 none_told f g [] [] e = refl
@@ -160,7 +160,7 @@ none_told f g (xs ∷ lists) [] e = absurd (cc)
 none_told f g ([] ∷ lists) (h ∷ hs) e = ap (λ l. [] ∷ l) (none_told f g lists hs (tail_of [] [] (map (map f) lists) (map (λ h. []) hs) e))
 none_told f g ((x ∷ xs) ∷ lists) (h ∷ hs) e = absurd (cc)
 
--- lists that tell nothing go with as many empty ones
+-- lists that say nothing go with as many empty ones
 none_added : {H : Type 0} (now : ℕ) (lists : List (List Port)) (hs : List H) → map (map port_ends) lists ≡ map (λ h. []) hs → AllZip (AllZip (AddsTo now)) lists (map (λ h. []) hs)
 none_added now [] [] e = tt
 none_added now [] (h ∷ hs) e = absurd (cc)

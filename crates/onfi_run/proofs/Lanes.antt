@@ -16,7 +16,7 @@ opened_more setup rows number (g ∷ gates) gate (l ∷ lanes) lane (here, all) 
     let n : number + length (g ∷ gates) ≡ number + 1 + length gates = omega arith in
     (here, opened_more setup rows (number + 1) gates gate lanes lane all (subst (λ n. IsOpened setup rows n gate lane) n one))
 
--- .. where all are told by equations
+-- .. where all are given by equations
 pub opened_with : {P G : Type 0} (setup : Setup) (rows : List Row) (gates left : List G) (gate : G) (lanes all : List (Lane (Gated P G))) (lane : Lane (Gated P G)) (number : ℕ) → gates ≡ left ++ gate ∷ [] → number ≡ length left
     → AreOpened setup rows 0 left lanes → IsOpened setup rows number gate lane → all ≡ lanes ++ lane ∷ [] → AreOpened setup rows 0 gates all
 opened_with setup rows gates left gate lanes all lane number gates_are number_is opened one all_are =

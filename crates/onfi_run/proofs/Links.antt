@@ -25,7 +25,7 @@ four_same a b c d a' b' c' d' e = (cc, cc, cc, cc)
 four_alike : {A : Type 0} (a b c d a' b' c' d' : A) → a ≡ a' → b ≡ b' → c ≡ c' → d ≡ d' → a ∷ b ∷ c ∷ d ∷ [] ≡ a' ∷ b' ∷ c' ∷ d' ∷ []
 four_alike a b c d a' b' c' d' e0 e1 e2 e3 = cc
 
--- a list of four is told by its elements
+-- a list of four is given by its elements
 four : (is : List TableId) (a b c d : TableId) → 4 ≡ length is → Some a ≡ slice_get is 0 → Some b ≡ slice_get is 1 → Some c ≡ slice_get is 2
     → Some d ≡ slice_get is 3
     → a ∷ b ∷ c ∷ d ∷ [] ≡ is
@@ -59,7 +59,7 @@ pub ends_are : (q : ChannelQueues) (ports : List Port) (hosts : List HostView) (
     → inboxes ≡ map (λ (p : Port). p.inbox) ports → length ports ≡ 4 → AreEndsOf q ports → AreEnds q hosts inboxes
 ends_are q ports hosts inboxes hosts_are inboxes_are four ends = rw (hosts_are, inboxes_are) (ends_by_port q ports four ends)
 
--- what a port's ends tell, by its host and number
+-- what a port's ends say, by its host and number
 ends_at : (p : Port) (requests : TableId) (host : ℕ) → p.host.queue ≡ requests → p.host.number ≡ host
     → port_ends p ≡ (let k : PortEnds = record { queue = requests; number = host; inbox = Some p.inbox.queue; hosts = 4 } in k)
 ends_at p requests host queue number =
@@ -94,7 +94,7 @@ opened_ends lane t posters ports n intake posters_are hosts inboxes =
     in ends_of_hosts lane.channel.sequencer.0.intake.queue (poster_queues lane.channel.sequencer.0.posters) ports n
     (subst (λ id. AreHostsOf id 0 (map (λ (p : Port). p.host) ports)) requests hosts_are) queues
 
--- the same ends behind a drain
+-- the same ends after a drain
 pub still_ends : (q r : ChannelQueues) (hosts : List HostView) (old new : List InboxView) → AreEnds q hosts old → r ≡ q → queues_of new ≡ queues_of old
     → AreEnds r hosts new
 still_ends q r hosts old new ends same queues = rw same (ends.0, queues ∙ ends.1)

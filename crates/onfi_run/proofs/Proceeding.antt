@@ -28,7 +28,7 @@ by_answer now q q' none turn.Idle turned refused = absurd (cc)
 pub refused_kept : (now : ℕ) (q q' : Seen) (none : Bool) (t : TurnAt) (p : Progress) → Turned now q t q' → p ≡ progress_of none t → IsTrue (is_refusal p) → IsTrue q'.0.short
 refused_kept now q q' none t p turned told refused = by_answer now q q' none t turned (sym (ap is_refusal told) ∙ refused)
 
--- a channel is told to be done only where each operation has its answer, or memory was refused
+-- a channel is reported as done only where each operation has its answer, or memory was refused
 pub done_complete : (drained thread : ChannelEnd) (complete short : Bool) → channel_end drained thread complete short ≡ end.Done → short ≡ false → IsTrue complete
 done_complete end.Done thread true short done none = refl
 done_complete end.Done thread false true done none = absurd (cc)

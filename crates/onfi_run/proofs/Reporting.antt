@@ -1,5 +1,5 @@
--- From what came of all channels to what a report tells of its rows.
-use Rattle.std.proofs.Common.{◌≡◌, ℕ, true, false, List, length, map, sym, ap, ◌∙◌, subst, Some, refl}
+-- From what came of all channels to what a report says of its rows.
+use Rattle.std.proofs.Common.{◌≡◌, ℕ, Bool, true, false, List, length, map, sym, ap, ◌∙◌, subst, Some, refl}
 use Rattle.std.specs.Prelude.{IfSome}
 use Rattle.std.specs.Option.{is_some}
 use Rattle.std.proofs.lemmas.List.{length-map}
@@ -13,14 +13,14 @@ use Rattle.onfi_run.specs.Keys.{HaveSamePorts, port_key, ports_of}
 use Rattle.onfi_run.specs.Opening.{AreNew}
 use Rattle.onfi_run.specs.Report.{ReportView}
 use Rattle.onfi_run.specs.Setup.{channels_in}
-use Rattle.onfi_run.specs.Told.{IsClockOf, IsReportOf, TellsClock}
+use Rattle.onfi_run.specs.Told.{IsClockOf, IsReportOf, Tells, TellsClock}
 use Rattle.onfi_run.proofs.ByHost.{same_by_key}
 use Rattle.onfi_run.proofs.Collecting.{status_done}
 
 pub same_length : {A B K : Type 0} (f : A → K) (h : B → K) (xs : List A) (ys : List B) → map f xs ≡ map h ys → length xs ≡ length ys
 same_length f h xs ys e = sym (length-map xs f) ∙ ap length e ∙ length-map ys h
 
-pub report_told : (now : ℕ) (rows : List Row) (before behind : List Station) (channels : ℕ) (r : ReportView) → AreNew rows (channels_in rows) before
+report_told : (now : ℕ) (rows : List Row) (before behind : List Station) (channels : ℕ) (r : ReportView) → AreNew rows (channels_in rows) before
     → HaveSamePorts before behind → channels ≡ channels_in rows
     → IsGathered now (ports_of behind) channels r → IsReportOf false rows r
 report_told now rows before behind channels r new same count all = record {
@@ -32,8 +32,8 @@ report_told now rows before behind channels r new same count all = record {
   complete = λ fine. all.complete (status_done r fine);
 }
 
--- .. with what a clock told
-pub report_clocked : (rows : List Row) (r more : ReportView) (clock : ClockReport) → IsReportOf false rows r → more ≡ record r { clock = Some clock } → IsClockOf r clock → IsReportOf true rows more
+-- .. with what a clock showed
+report_clocked : (rows : List Row) (r more : ReportView) (clock : ClockReport) → IsReportOf false rows r → more ≡ record r { clock = Some clock } → IsClockOf r clock → IsReportOf true rows more
 report_clocked rows r more clock told is tells =
     subst (IsReportOf true rows) (sym is) (record {
       places_are = told.places_are;
@@ -44,7 +44,14 @@ report_clocked rows r more clock told is tells =
       complete = told.complete;
     })
 
--- what was gathered, with a clock that tells these buses
+-- what came of hosts that opened so
+pub report_settled : (clocked : Bool) (now : ℕ) (rows : List Row) (before behind : List Station) (buses : List BusUse) (r : ReportView)
+    → AreNew rows (channels_in rows) before → HaveSamePorts before behind → length buses ≡ channels_in rows → Tells clocked now (ports_of behind) buses r → IsReportOf clocked rows r
+report_settled false now rows before behind buses r new same count all = report_told now rows before behind (length buses) r new same count all
+report_settled true now rows before behind buses r new same count tells =
+    report_clocked rows tells.plain r tells.clock (report_told now rows before behind (length buses) tells.plain new same count tells.gathered) tells.with_it tells.tells
+
+-- what was gathered, with a clock that gives these buses
 pub clock_told : (now : ℕ) (ports : List (List Port)) (buses told : List BusUse) (channels : ℕ) (r : ReportView) → channels ≡ length buses → IsGathered now ports channels r
     → told ≡ buses → (more : ReportView)
     → (clock : ClockReport) × (more ≡ record r { clock = Some clock }) × IsClockOf r clock × (clock.buses.items ≡ told) → TellsClock now ports buses more

@@ -1,5 +1,5 @@
 -- Where channels and hosts have nothing to do.
-use Rattle.std.proofs.Common.{◌≡◌, ◌⊎◌, inl, inr, ◌+◌, ◌<◌, ◌≤◌, ℕ, true, false, List, [], ◌∷◌, ◌++◌, length, get_or, map, take, sym, ap, ◌∙◌, subst, arith, Some, None}
+use Rattle.std.proofs.Common.{◌≡◌, ◌⊎◌, inl, inr, ◌+◌, ◌<◌, ◌≤◌, ℕ, Bool, true, false, List, [], ◌∷◌, ◌++◌, length, get_or, map, take, sym, ap, ◌∙◌, subst, arith, Some, None}
 use Rattle.std.specs.Prelude.{Option, IfSome, max, min, set, slice_get}
 use Rattle.std.specs.List.{AllByRecursion as Each}
 use Rattle.std.proofs.Math.Bool.{cond}
@@ -33,7 +33,7 @@ not_due now pace free later may = let is = due_is pace free may.goes_on in omega
 pub ended_waits : (now : ℕ) (pace : Pace) (free : ℕ) → pace.has_ended ≡ true → Waits now pace free
 ended_waits now pace free ended may = absurd (let e : true ≡ false = sym ended ∙ may.goes_on in cc)
 
--- what waits at a moment, and is due at none behind it, waits at each later one
+-- what waits at a moment, and is due at none after it, waits at each later one
 still_waits : (now at : ℕ) (pace : Pace) (free : ℕ) → now ≤ at → at < no_clock → Waits now pace free → NeedsNone now (due_of pace free) → Waits at pace free
 still_waits now at pace free later before waits none may = by_order (cases_lt now (due_of pace free))
   where
@@ -57,7 +57,7 @@ pub each_weaker : {X : Type 0} (P Q : X → Type 0) → ((x : X) → P x → Q x
 each_weaker P Q so [] all = tt
 each_weaker P Q so (x ∷ xs) (here, all) = (so x here, each_weaker P Q so xs all)
 
--- a moment that is not behind `now`, or none, changes nothing
+-- a moment that is not after `now`, or none, changes nothing
 pub next_same : (now : ℕ) (dues : List ℕ) (due : ℕ) (next : Option ℕ) → NeedsNone now due → IsNext now dues next → IsNext now (dues ++ due ∷ []) next
 next_same now dues due None none all = each_longer (NeedsNone now) dues due all none
 next_same now dues due (Some next) none is =
@@ -112,29 +112,29 @@ each_more {X} P xs at h one all = by_place (slice_get_cases xs at).1
     by_place (inr (past, none)) = absurd (omega (arith, past, h))
 
 -- ---- hosts
-pub stands_as : (now : ℕ) (rows : List Row) (paces paces' : List Pace) (n n' p p' : ℕ) (ports ports' : List Port) → paces' ≡ paces → n' ≡ n → p' ≡ p → ports' ≡ ports
-    → Stands now rows paces n p ports → Stands now rows paces' n' p' ports'
-stands_as now rows paces paces' n n' p p' ports ports' paces_are number passed same s =
-    subst (λ x. Stands now rows x n' p' ports') (sym paces_are) (subst (λ x. Stands now rows paces x p' ports') (sym number)
-    (subst (λ x. Stands now rows paces n x ports') (sym passed) (subst (λ x. Stands now rows paces n p x) (sym same) s)))
+pub stands_as : {A : Type 0} (ends : A → ℕ → Bool → Type 0) (now : ℕ) (rows : List Row) (seen seen' : A) (n n' p p' : ℕ) (ports ports' : List Port) → seen' ≡ seen → n' ≡ n → p' ≡ p → ports' ≡ ports
+    → Stands now rows (ends seen) n p ports → Stands now rows (ends seen') n' p' ports'
+stands_as ends now rows seen seen' n n' p p' ports ports' seen_same number passed same s =
+    subst (λ x. Stands now rows (ends x) n' p' ports') (sym seen_same) (subst (λ x. Stands now rows (ends seen) x p' ports') (sym number)
+    (subst (λ x. Stands now rows (ends seen) n x ports') (sym passed) (subst (λ x. Stands now rows (ends seen) n p x) (sym same) s)))
 
-pub before_row : (now : ℕ) (rows : List Row) (paces : List Pace) (number passed : ℕ) (ports : List Port) (d : Row) (op : Operation) → passed < length rows
-    → operation_of number (get_or rows passed d) ≡ Some op → IsPutOff paces ports op.aim.channel → Stands now rows paces number passed ports
-before_row now rows paces number passed ports d op h told waits = is_before (get_or rows passed d) op (slice_get-get_or rows passed d h) told waits
+pub before_row : (now : ℕ) (rows : List Row) (ends : ℕ → Bool → Type 0) (number passed : ℕ) (ports : List Port) (d : Row) (op : Operation) → passed < length rows
+    → operation_of number (get_or rows passed d) ≡ Some op → IsPutOff ends ports op.aim.channel → Stands now rows ends number passed ports
+before_row now rows ends number passed ports d op h told waits = is_before (get_or rows passed d) op (slice_get-get_or rows passed d h) told waits
 
--- who stands at a moment, and waits for none behind it, stands at each later one
-still_stands : (now at : ℕ) (rows : List Row) (paces : List Pace) (number passed : ℕ) (ports : List Port) → now ≤ at → at < no_clock → NeedsNone now (comes_at rows passed)
-    → Stands now rows paces number passed ports → Stands at rows paces number passed ports
-still_stands now at rows paces number passed ports later before none (is_through h) = is_through h
-still_stands now at rows paces number passed ports later before none (is_early h) = is_early (let far = none h in omega (arith, far, before))
-still_stands now at rows paces number passed ports later before none (is_before row op there told waits) = is_before row op there told waits
+-- who stands at a moment, and waits for none after it, stands at each later one
+still_stands : (now at : ℕ) (rows : List Row) (ends : ℕ → Bool → Type 0) (number passed : ℕ) (ports : List Port) → now ≤ at → at < no_clock → NeedsNone now (comes_at rows passed)
+    → Stands now rows ends number passed ports → Stands at rows ends number passed ports
+still_stands now at rows ends number passed ports later before none (is_through h) = is_through h
+still_stands now at rows ends number passed ports later before none (is_early h) = is_early (let far = none h in omega (arith, far, before))
+still_stands now at rows ends number passed ports later before none (is_before row op there told waits) = is_before row op there told waits
 
-pub all_rest : (now at : ℕ) (rows : List Row) (paces : List Pace) (stations : List Station) → now ≤ at → at < no_clock → Each (Rests now rows paces) stations
-    → Each (NeedsNone now) (map (λ (s : Station). comes_at rows s.passed) stations) → Each (Rests at rows paces) stations
-all_rest now at rows paces [] later before rest none = tt
-all_rest now at rows paces (s ∷ stations) later before (here, rest) (due, none) = (
-  record { stands = still_stands now at rows paces s.number s.passed s.ports.items later before due here.stands; emptied = here.emptied },
-  all_rest now at rows paces stations later before rest none,
+pub all_rest : (now at : ℕ) (rows : List Row) (ends : ℕ → Bool → Type 0) (stations : List Station) → now ≤ at → at < no_clock → Each (Rests now rows ends) stations
+    → Each (NeedsNone now) (map (λ (s : Station). comes_at rows s.passed) stations) → Each (Rests at rows ends) stations
+all_rest now at rows ends [] later before rest none = tt
+all_rest now at rows ends (s ∷ stations) later before (here, rest) (due, none) = (
+  record { stands = still_stands now at rows ends s.number s.passed s.ports.items later before due here.stands; emptied = here.emptied },
+  all_rest now at rows ends stations later before rest none,
 )
 
 pub each_apart : {X : Type 0} (P : X → Type 0) (xs ys : List X) → Each P (xs ++ ys) → Each P xs × Each P ys

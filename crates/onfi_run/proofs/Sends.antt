@@ -100,7 +100,7 @@ row_sent geometry before host op row ports is sent channel p there =
     let split = said ∙ by_test xs op geometry (op.aim.channel == channel) in
     subst (λ l. IsSending l p) (sym split) (sent channel p there)
 
--- a row that tells no operation of the host
+-- a row that gives no operation of the host
 pub row_passed : (geometry : Geometry) (before : List Row) (host : ℕ) (row : Row) (ports : List Port) → operation_of host row ≡ None
     → HasSent geometry before host ports → HasSent geometry (before ++ row ∷ []) host ports
 row_passed geometry before host row ports is sent channel p there =

@@ -15,7 +15,7 @@ pub record Expected : Type 0 where
 abbrev pub expected : Option ℕ → Kind → Expected
 expected arrives kind = record { kind = kind; arrives = arrives }
 
--- the operations of that host on that channel, in the order of their rows: each arrives at the moment that the last row before it told, `arrives` where none did
+-- the operations of that host on that channel, in the order of their rows: each arrives at the moment that the last row before it gave, `arrives` where none did
 unfoldable pub expected_from : Option ℕ → List Row → ℕ → ℕ → List Expected
 expected_from arrives [] host channel = []
 expected_from arrives (row ∷ rows) host channel =
@@ -28,17 +28,17 @@ expected_on rows host channel = expected_from None rows host channel
 abbrev pub expected_of : List Row → ℕ → ℕ → List (List Expected)
 expected_of rows channels host = map (expected_on rows host) (range_with_len 0 channels)
 
--- ---- when hosts go behind rows
--- from when on a host may go behind a row: from the moment that it tells, else from 0 on
+-- ---- when hosts go past rows
+-- from when on a host may go past a row: from the moment that it gives, else from 0 on
 abbrev pub come_of : Option Row → ℕ
 come_of None = 0
 come_of (Some row) = unwrap_or (moment_in row) 0
 
--- .. behind the row at that place
+-- .. past the row at that place
 abbrev pub comes_at : List Row → ℕ → ℕ
 comes_at rows place = come_of (slice_get rows place)
 
--- the row tells no moment, or one that has come
+-- the row gives no moment, or one that has come
 abbrev pub HasCome : ℕ → Row → Type 0
 HasCome now row = IfSome (moment_in row) (λ moment. moment ≤ now)
 

@@ -1,4 +1,4 @@
--- How the threads of channels go on and end, and what is told of a channel.
+-- How the threads of channels go on and end, and what is reported of a channel.
 use Rattle.std.specs.Prelude.{◌≡◌, ℕ, ◌+◌, ◌-◌, ◌^◌, ◌||◌, nat_le, Bool, true, false, if◌then◌else◌, List, Option, Some, None}
 use Rattle.onfi_core.specs.Steps.{none_left}
 use Rattle.onfi_queue.specs.Ends.{HostView}
@@ -18,7 +18,7 @@ use Rattle.onfi_run.specs.declared.channel_end.ChannelEnd.{ChannelEnd}
 use Rattle.onfi_run.specs.declared.channel_end.ChannelEnd.TheVariants as end
 
 -- ---- turns
--- what a turn came to for its thread, where no phase is left behind it, or some is
+-- what a turn came to for its thread, where no phase is left after it, or some is
 abbrev pub progress_of : Bool → TurnAt → Progress
 progress_of none (turn.Stopped cause) = progress.Stopped cause
 progress_of true (turn.Over opened) = progress.Over opened
@@ -50,7 +50,7 @@ is_refusal progress.Starved = true
 is_refusal _ = false
 
 -- ---- threads
--- how a channel's thread ends behind a turn that came to this, if it does: `spent` tells that memory was refused too often, `all_ended` that the hosts have ended
+-- how a channel's thread ends after a turn that came to this, if it does: `spent` says that memory was refused too often, `all_ended` that the hosts have ended
 abbrev pub thread_end : Bool → Bool → Progress → Option ChannelEnd
 thread_end spent all_ended progress.Advanced = None
 thread_end spent all_ended progress.Moved = None
@@ -65,14 +65,14 @@ thread_end spent all_ended (progress.Over opened) = Some (end.Over opened)
 abbrev pub is_spent : ℕ → Bool
 is_spent refusals = nat_le 999 refusals
 
--- how many there are behind a turn that came to this
+-- how many there are after a turn that came to this
 abbrev pub refusals_behind : ℕ → Progress → ℕ
 refusals_behind refusals progress.Advanced = 0
 refusals_behind refusals progress.Refused = if is_spent refusals then refusals else refusals + 1
 refusals_behind refusals _ = refusals
 
 -- ---- channels
--- how a draining ended; memory is told apart
+-- how a draining ended; memory is reported apart
 abbrev pub end_of : Drained → ChannelEnd
 end_of drained.Empty = end.Done
 end_of drained.Memory = end.Done
@@ -98,7 +98,7 @@ thread_or (end.Over opened) other = end.Over opened
 thread_or end.Done other = other
 thread_or end.Unfinished other = other
 
--- What is told of a channel: how its draining ended. Where that left nothing to do and yet an operation has no answer, it is how the thread ended, or that memory was refused, which the last line tells, or that it is unfinished.
+-- What is reported of a channel: how its draining ended. Where that left nothing to do and yet an operation has no answer, it is how the thread ended, or that memory was refused, which the last line says, or that it is unfinished.
 abbrev pub channel_end : ChannelEnd → ChannelEnd → Bool → Bool → ChannelEnd
 channel_end end.Done thread true short = end.Done
 channel_end end.Done thread false true = thread_or thread end.Done

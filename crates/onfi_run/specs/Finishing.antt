@@ -27,7 +27,7 @@ pub record Empties (now : ℕ) (old new : InboxView × AnswersView) : Type 0 whe
 abbrev pub are_complete : List AnswersView → Bool
 are_complete got = list_all is_complete got
 
--- a channel is told to be done only where each operation has its answer, unless memory was refused; each answer suits its operation
+-- a channel is reported as done only where each operation has its answer, unless memory was refused; each answer suits its operation
 pub record IsFinished (f : Finished) : Type 0 where
   pub suited : Each (Each IsSuited) f.got
   pub complete : f.end ≡ Done → f.short_of_memory ≡ false → IsTrue (are_complete f.got)

@@ -23,11 +23,11 @@ pub data Makes (now channel : ℕ) (request : Request) (has_ended : Bool) (old n
   is_short : OnPort LeavesOut channel old.ports.items new.ports.items → new.short_of_memory ≡ true → Makes now channel request has_ended old new
 
 -- ---- moments
--- that moment, or one that was told of the operation before
+-- that moment, or one that was given for the operation before
 abbrev pub IsMoment : ℕ → Completion → ℕ → Type 0
 IsMoment now c m = (m ≡ now) ⊎ ((m ≡ c.sent) ⊎ (m ≡ c.at))
 
--- what is told of an operation changed at that moment, if it did
+-- what is said of an operation changed at that moment, if it did
 pub record ChangedAt (now : ℕ) (old new : Completion) : Type 0 where
   pub sent : IsMoment now old new.sent
   pub at : IsMoment now old new.at
@@ -41,8 +41,8 @@ abbrev pub AllAtMoment : ℕ → List Station → List Station → Type 0
 AllAtMoment now old new = AllZip (λ (s t : Station). AtMoment now s.ports.items t.ports.items) old new
 
 -- ---- a host
--- What a host does at a moment, which takes it behind some of its rows: it keeps its number and its ends; what it sent are the first of the operations in the rows
--- behind it; the moments of arrival that these tell have come; and what is told of operations changed at that moment.
+-- What a host does at a moment, which takes it past some of its rows: it keeps its number and its ends; what it sent are the first of the operations in the rows
+-- that it passed; the moments of arrival that these give have come; and what is said of operations changed at that moment.
 pub record Acts (geometry : Geometry) (rows : List Row) (now : ℕ) (old new : Station) : Type 0 where
   pub number : new.number ≡ old.number
   pub same : HasSamePorts old.ports.items new.ports.items

@@ -22,7 +22,7 @@ use Rattle.onfi_run.specs.Setup.{SetsUp}
 abbrev pub lane_queues : {P G : Type 0} → Lane (Gated P G) → ChannelQueues
 lane_queues lane = record { requests = lane.channel.sequencer.0.intake.queue; replies = poster_queues lane.channel.sequencer.0.posters }
 
--- the channel of that number with that gate as it opens, over the chip that the rows tell of
+-- the channel of that number with that gate as it opens, over the chip that the rows describe
 pub record IsOpened {P G : Type 0} (setup : Setup) (rows : List Row) (number : ℕ) (gate : G) (lane : Lane (Gated P G)) : Type 0 where
   pub setup_is : lane.channel.sequencer.0.setup ≡ setup
   pub number_is : lane.channel.sequencer.0.intake.opened.channel ≡ number
@@ -45,7 +45,7 @@ AreOpened setup rows number (gate ∷ gates) [] = ⊥
 abbrev pub AreOpenedOn : {P G : Type 0} → List Row → PageDevice → ℕ → List G → List (Lane (Gated P G)) → Type 0
 AreOpenedOn rows device limit gates lanes = (setup : Setup) × SetsUp rows device limit setup × AreOpened setup rows 0 (take setup.channels gates) lanes
 
--- these are, behind a run, the channels that the rows set up and that opened with that limit
+-- these are, after a run, the channels that the rows set up and that opened with that limit
 abbrev pub AreBehind : {P G : Type 0} → List Row → PageDevice → ℕ → List G → List (Lane (Gated P G)) → Type 0
 AreBehind {P} {G} rows device limit gates lanes =
     (opened : List (Lane (Gated P G))) × AreOpenedOn rows device limit gates opened × (map lane_queues lanes ≡ map lane_queues opened)

@@ -9,16 +9,16 @@ use Rattle.onfi_run.specs.declared.progress.Progress.{Progress}
 use Rattle.onfi_run.specs.declared.progress.Progress.TheVariants as progress
 use Rattle.onfi_run.specs.Ending.{is_spent, no_clock, refusals_behind, thread_end}
 
--- a turn at `now`, behind which the bus is free from `free` on: where that is later, a phase keeps it busy until then
+-- a turn at `now`, after which the bus is free from `free` on: where that is later, a phase keeps it busy until then
 abbrev pub bus_behind : ℕ → ℕ → BusUse → BusUse
 bus_behind now free bus = if nat_lt now free then record { busy = min no_clock (bus.busy + (free - now)); until = free } else bus
 
--- the lesser of two moments, where the first is told
+-- the lesser of two moments, where the first is given
 abbrev pub least_of : Option ℕ → ℕ → ℕ
 least_of None due = due
 least_of (Some other) due = min other due
 
--- from when on a turn may do something behind one that came to this, where an array is done early at the moment `ready`; at the
+-- from when on a turn may do something after one that came to this, where an array is done early at the moment `ready`; at the
 -- greatest moment none may before a request comes
 abbrev pub wakes_behind : Progress → Option ℕ → ℕ
 wakes_behind (progress.Waits until) ready = least_of ready until
@@ -42,11 +42,11 @@ pub record MayTurn (now : ℕ) (pace : Pace) (free : ℕ) : Type 0 where
 abbrev pub Waits : ℕ → Pace → ℕ → Type 0
 Waits now pace free = MayTurn now pace free → ⊥
 
--- it needs no moment behind `now`: what is told of it is due by then, or at no moment
+-- it needs no moment after `now`: what is said of it is due by then, or at no moment
 abbrev pub NeedsNone : ℕ → ℕ → Type 0
 NeedsNone now due = now < due → no_clock ≤ due
 
--- the moment behind `now` that comes next: the least at which anything is due, if anything is
+-- the moment after `now` that comes next: the least at which anything is due, if anything is
 abbrev pub IsNext : ℕ → List ℕ → Option ℕ → Type 0
 IsNext now dues None = Each (NeedsNone now) dues
 IsNext now dues (Some next) = (now < next) × (next < no_clock) × Contains dues next × Each (λ due. now < due → next ≤ due) dues

@@ -39,7 +39,7 @@ row_fault channels hosts geometry (NotReady channel number) = unless_there (nat_
 row_fault channels hosts geometry (Array channel lun number length) = unless_there (nat_lt channel channels && nat_lt lun geometry.lun_count)
 row_fault channels hosts geometry _ = None
 
--- the fault told of this row, or else what is wrong with the later ones
+-- the fault reported of this row, or else what is wrong with the later ones
 abbrev pub or_later : ℕ → Option ScriptFault → Option Refusal → Option Refusal
 or_later row (Some fault) later = Some (record { row = row; fault = fault })
 or_later row None later = later

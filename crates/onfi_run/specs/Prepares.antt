@@ -10,7 +10,7 @@ use Rattle.onfi_script.specs.Input.{TellsRows}
 use Rattle.onfi_run.specs.Prepared.{first_refused}
 use Rattle.onfi_run.specs.Setup.{channels_in, hosts_in}
 
--- for that purpose the input has these rows, which tell of this device, and nothing is wrong with one
+-- for that purpose the input has these rows, which describe this device, and nothing is wrong with one
 pub record IsPrepared (purpose : Purpose) (input : List ℕ) (rows : List Row) (device : PageDevice) : Type 0 where
   pub read : TellsRows purpose input (Ok rows)
   pub chips : TellsChips rows (Ok device)

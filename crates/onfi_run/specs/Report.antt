@@ -32,7 +32,7 @@ place c = expected c.arrives c.kind
 abbrev pub places : AnswersView → List Expected
 places got = map place got
 
--- what each host got, how each channel ended, whether memory was refused on the way, and what a clock told
+-- what each host got, how each channel ended, whether memory was refused on the way, and what a clock showed
 pub record ReportView : Type 0 where
   pub got : List GotView
   pub ends : List ChannelEnd
@@ -57,7 +57,7 @@ answer_text (answer.Read bytes) = codes "read," ++ page_text bytes
 answer_text answer.Done = codes "done"
 answer_text answer.Failed = codes "failed"
 
--- the moment of a reply, where a clock tells it
+-- the moment of a reply, where a clock gives it
 abbrev pub at_text : Bool → ℕ → List ℕ
 at_text true at = decimal at ++ codes ","
 at_text false at = []
@@ -132,7 +132,7 @@ is_any_cut_short ends = list_any is_cut_short ends
 abbrev pub is_any_over : List ChannelEnd → Bool
 is_any_over ends = list_any is_over ends
 
--- 4 for want of memory, else 3 where a channel stopped or was left unfinished, else 6 where one was over, else 0
+-- 4 where memory was refused, else 3 where a channel stopped or was left unfinished, else 6 where one was over, else 0
 abbrev pub status_of : Bool → List ChannelEnd → ℕ
 status_of true ends = 4
 status_of false ends = if is_any_cut_short ends then 3 else if is_any_over ends then 6 else 0

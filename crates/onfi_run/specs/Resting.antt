@@ -32,20 +32,24 @@ pub record IsEmptied (p : Port) : Type 0 where
 abbrev pub has_ended : List Pace → ℕ → Bool
 has_ended paces channel = unwrap_or (option_map (λ (p : Pace). p.has_ended) (slice_get paces channel)) true
 
--- an operation there has to wait: the queue was full, and the channel goes on
-pub record IsPutOff (paces : List Pace) (ports : List Port) (channel : ℕ) : Type 0 where
-  pub full : IsFullAt ports channel
-  pub goes_on : has_ended paces channel ≡ false
+-- .. as hosts see it
+abbrev pub ends_by : List Pace → ℕ → Bool → Type 0
+ends_by paces channel ended = has_ended paces channel ≡ ended
 
--- at that moment the host of that number, behind so many rows, goes behind no other: it is behind all, or before a moment of arrival that hasn't come, or before an
+-- an operation there has to wait: the queue was full, and the channel goes on
+pub record IsPutOff (ends : ℕ → Bool → Type 0) (ports : List Port) (channel : ℕ) : Type 0 where
+  pub full : IsFullAt ports channel
+  pub goes_on : ends channel false
+
+-- at that moment the host of that number, past so many rows, goes past no other: it is past all, or before a moment of arrival that hasn't come, or before an
 -- operation of its own that has to wait
-pub data Stands (now : ℕ) (rows : List Row) (paces : List Pace) (number passed : ℕ) (ports : List Port) : Type 0 where
-  is_through : length rows ≤ passed → Stands now rows paces number passed ports
-  is_early : now < comes_at rows passed → Stands now rows paces number passed ports
-  is_before : (row : Row) (op : Operation) → slice_get rows passed ≡ Some row → operation_of number row ≡ Some op → IsPutOff paces ports op.aim.channel
-      → Stands now rows paces number passed ports
+pub data Stands (now : ℕ) (rows : List Row) (ends : ℕ → Bool → Type 0) (number passed : ℕ) (ports : List Port) : Type 0 where
+  is_through : length rows ≤ passed → Stands now rows ends number passed ports
+  is_early : now < comes_at rows passed → Stands now rows ends number passed ports
+  is_before : (row : Row) (op : Operation) → slice_get rows passed ≡ Some row → operation_of number row ≡ Some op → IsPutOff ends ports op.aim.channel
+      → Stands now rows ends number passed ports
 
 -- .. and no reply came to it
-pub record Rests (now : ℕ) (rows : List Row) (paces : List Pace) (s : Station) : Type 0 where
-  pub stands : Stands now rows paces s.number s.passed s.ports.items
+pub record Rests (now : ℕ) (rows : List Row) (ends : ℕ → Bool → Type 0) (s : Station) : Type 0 where
+  pub stands : Stands now rows ends s.number s.passed s.ports.items
   pub emptied : Each IsEmptied s.ports.items

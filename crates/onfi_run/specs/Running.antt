@@ -22,7 +22,7 @@ pub data IsAnswer (clocked : Bool) (input : List ℕ) (answer : Answer) : Type 0
   is_refused : (refusal : Refusal) → IsRefused (purpose_of clocked) input refusal → answer ≡ refused refusal → IsAnswer clocked input answer
   is_report : (rows : List Row) (device : PageDevice) (report : ReportView) → IsPrepared (purpose_of clocked) input rows device → IsReportOf clocked rows report → answer ≡ report_answer report → IsAnswer clocked input answer
 
--- the writer was given an answer to what the reader had, where both tell their bytes
+-- the writer was given an answer to what the reader had, where both show their bytes
 abbrev pub Answers : Bool → Option (List ℕ) → Option (List ℕ) → Option (List ℕ) → ℕ → Type 0
 Answers clocked input old new status = IfSome input (λ xs. (answer : Answer) × IsAnswer clocked xs answer × (answer.status ≡ status) × Appends old new answer.text)
 

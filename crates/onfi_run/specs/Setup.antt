@@ -4,7 +4,10 @@ use Rattle.onfi_group.specs.declared.rules.Rules.{Rules}
 use Rattle.onfi_core.specs.declared.setup.Setup.{Setup}
 use Rattle.onfi_core.specs.declared.setup.Choice.{Choice}
 use Rattle.onfi_core.specs.declared.setup.Choice.TheVariants as choice
-use Rattle.onfi_script.specs.declared.choosing.Choosing.TheVariants.{ByLun, ReadsFirst}
+use Rattle.onfi_core.specs.declared.setup.Replanning.{Replanning}
+use Rattle.onfi_core.specs.declared.setup.Replanning.TheVariants as replanning
+use Rattle.onfi_script.specs.declared.replans.Replans.TheVariants.{Lazily}
+use Rattle.onfi_script.specs.declared.choosing.Choosing.TheVariants.{ByLun, ReadsFirst, WholeGroups}
 use Rattle.onfi_script.specs.declared.row.Row.TheVariants as row
 use Rattle.onfi_script.specs.declared.device.PageDevice.{PageDevice}
 use Rattle.onfi_script.specs.declared.row.Row.{Row}
@@ -13,7 +16,7 @@ use Rattle.onfi_script.specs.declared.row.Subject.TheVariants as on
 use Rattle.onfi_script.specs.Setup.{strict_from}
 use Rattle.onfi_script.specs.Subject.{row_on}
 
--- 1, 1, 8, 64 and 64 where no row tells
+-- 1, 1, 8, 64 and 64 where no row says
 abbrev pub channels_from : Option Row → ℕ
 channels_from (Some (Channels count)) = count
 channels_from _ = 1
@@ -26,11 +29,17 @@ abbrev pub batch_from : Option Row → ℕ
 batch_from (Some (Batch count)) = count
 batch_from _ = 8
 
--- in order where no row tells
+-- in order where no row says
 abbrev pub choice_from : Option Row → Choice
 choice_from (Some (row.Choice ByLun)) = choice.ByLun
 choice_from (Some (row.Choice ReadsFirst)) = choice.ReadsFirst
+choice_from (Some (row.Choice WholeGroups)) = choice.WholeGroups
 choice_from _ = choice.InOrder
+
+-- at once where no row says
+abbrev pub replanning_from : Option Row → Replanning
+replanning_from (Some (row.Replanning Lazily)) = replanning.Lazily
+replanning_from _ = replanning.AtOnce
 
 abbrev pub submit_cap_from : Option Row → ℕ
 submit_cap_from (Some (SubmitCap count)) = count
@@ -51,6 +60,9 @@ batch_in rows = batch_from (row_on on.Batch rows)
 
 abbrev pub choice_in : List Row → Choice
 choice_in rows = choice_from (row_on on.Choice rows)
+
+abbrev pub replanning_in : List Row → Replanning
+replanning_in rows = replanning_from (row_on on.Replanning rows)
 
 abbrev pub submit_cap_in : List Row → ℕ
 submit_cap_in rows = submit_cap_from (row_on on.SubmitCap rows)
@@ -77,3 +89,4 @@ pub record SetsUp (rows : List Row) (device : PageDevice) (most : ℕ) (setup : 
   pub post_cap : setup.post_cap ≡ post_cap_in rows
   pub limit : setup.limit ≡ most
   pub choice : setup.choice ≡ choice_in rows
+  pub replanning : setup.replanning ≡ replanning_in rows

@@ -1,5 +1,5 @@
--- What a report tells of the rows that were run.
-use Rattle.std.specs.Prelude.{◌≡◌, ℕ, Bool, List, [], ◌∷◌, length, map, IfSome, Some}
+-- What a report says of the rows that were run.
+use Rattle.std.specs.Prelude.{◌≡◌, ℕ, Bool, true, false, List, [], ◌∷◌, length, map, IfSome, Some}
 use Rattle.std.specs.Option.{is_some}
 use Rattle.std.specs.List.{AllByRecursion as Each}
 use Rattle.onfi_timing.specs.declared.kind.Kind.TheVariants.{Read, Program, Erase}
@@ -18,14 +18,14 @@ use Rattle.onfi_run.specs.Setup.{channels_in}
 abbrev pub places_by_channel : GotView → List (List Expected)
 places_by_channel got = map places got
 
--- what a clock tells of a run: of each channel how busy its bus was, and how long operations of each kind took
+-- what a clock says of a run: of each channel how busy its bus was, and how long operations of each kind took
 pub record IsClockOf (report : ReportView) (clock : ClockReport) : Type 0 where
   pub buses : length clock.buses.items ≡ length report.ends
   pub reads : IsLatencyOf (latencies Read report.got) clock.reads
   pub programs : IsLatencyOf (latencies Program report.got) clock.programs
   pub erases : IsLatencyOf (latencies Erase report.got) clock.erases
 
--- the report of channels and hosts that stood still at that moment: what was gathered of them then, and what their clock told
+-- the report of channels and hosts that stood still at that moment: what was gathered of them then, and what their clock showed
 pub record TellsClock (now : ℕ) (ports : List (List Port)) (buses : List BusUse) (report : ReportView) : Type 0 where
   pub plain : ReportView
   pub gathered : IsGathered now ports (length buses) plain
@@ -34,7 +34,12 @@ pub record TellsClock (now : ℕ) (ports : List (List Port)) (buses : List BusUs
   pub tells : IsClockOf plain clock
   pub buses_are : clock.buses.items ≡ buses
 
--- Of each of four hosts there is, by channel, a place for each of its operations there, in the order of their rows, with its kind and when it arrives, and in it nothing or an answer that suits that operation, collected no sooner than the operation was submitted. Where the status is 0 each place has its answer. Moments are told where the run has a clock.
+-- .. with a clock; else what was gathered alone
+abbrev pub Tells : Bool → ℕ → List (List Port) → List BusUse → ReportView → Type 0
+Tells true now ports buses report = TellsClock now ports buses report
+Tells false now ports buses report = IsGathered now ports (length buses) report
+
+-- Of each of four hosts there is, by channel, a place for each of its operations there, in the order of their rows, with its kind and when it arrives, and in it nothing or an answer that suits that operation, collected no sooner than the operation was submitted. Where the status is 0 each place has its answer. Moments are given where the run has a clock.
 pub record IsReportOf (clocked : Bool) (rows : List Row) (report : ReportView) : Type 0 where
   pub places_are : map places_by_channel report.got ≡ map (expected_of rows (channels_in rows)) (0 ∷ 1 ∷ 2 ∷ 3 ∷ [])
   pub ends_are : length report.ends ≡ channels_in rows

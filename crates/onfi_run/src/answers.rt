@@ -78,7 +78,7 @@ impl Completion {
     }
 }
 
-/// Puts a place for the answer to an operation of that kind, which arrives then, behind others, where there is one.
+/// Appends to others a place for the answer to an operation of that kind, which arrives then, where there is one.
 fn put_awaited(
     places: &mut Vec<Completion>,
     kind: Option<Kind>,
@@ -132,7 +132,7 @@ impl Answers {
     /// Places for the answers to a host's operations on a channel, in the order of their rows.
     ///
     /// # Errors
-    /// Want of memory.
+    /// Where memory was refused.
     pub(crate) fn awaiting(
         alloc: Global,
         rows: &[Row],
@@ -208,10 +208,10 @@ impl Got {
         }
     }
 
-    /// With what it got from one channel more, behind the others.
+    /// With what it got from one channel more, after the others.
     ///
     /// # Errors
-    /// Want of memory; all is dropped then.
+    /// Where memory was refused; all is dropped then.
     pub(crate) fn with(self, answers: Answers) -> Result<Got, AllocError>
         ensures { IfOk result (λ got. got ≡ self ++ answers ∷ []) }
     {

@@ -4,7 +4,7 @@ ghost use Rattle.onfi_run.specs.Arriving.{comes_at as spec_comes_at};
 
 use onfi_script::Row;
 
-/// From when on a host may go behind the row at that place: from the moment of arrival that it tells, in ns of the run's
+/// From when on a host may go past the row at that place: from the moment of arrival that it gives, in ns of the run's
 /// clock, else from 0 on.
 pub(crate) fn comes_at(rows: &[Row], place: usize) -> u64
     ensures { result ≡ spec_comes_at rows.now place }

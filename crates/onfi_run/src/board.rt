@@ -1,61 +1,74 @@
-//! What the threads of a run tell each other.
+//! What the threads of a run show each other.
+use crate::channels::Channels;
+use std::array;
 use std::sync::atomic::{AtomicU64, Ordering};
 
-/// How many hosts a run has room for.
-pub(crate) const HOSTS: u64 = 4;
-
-/// What the threads of a run tell each other: how many hosts have ended, and which channels. It carries no fact that a
-/// contract rests on.
+/// What the threads of a run show each other: which hosts have ended, and which channels. It carries no fact that a contract
+/// rests on.
 #[derive(Drop)]
 pub(crate) struct Board {
-    hosts: AtomicU64,
+    hosts: [AtomicU64; 4],
     channels: [AtomicU64; 4],
 }
 
+/// Marks one of these as ended, if it is there.
+fn end(flags: &[AtomicU64; 4], number: usize) {
+    if let Some(flag) = flags.get(number) {
+        flag.store(1, Ordering::SeqCst);
+    }
+}
+
+/// Whether it ended.
+fn has_ended(flag: &AtomicU64) -> bool {
+    flag.load(Ordering::SeqCst) != 0
+}
+
 impl Board {
-    /// No channel has ended, and of the hosts those that aren't used.
-    pub(crate) fn new(unused: u64) -> Board {
+    /// Nobody has ended.
+    pub(crate) fn new() -> Board {
         Board {
-            hosts: AtomicU64::new(unused),
-            channels: [
-                AtomicU64::new(0),
-                AtomicU64::new(0),
-                AtomicU64::new(0),
-                AtomicU64::new(0),
-            ],
+            hosts: array::from_fn(|_| AtomicU64::new(0)),
+            channels: array::from_fn(|_| AtomicU64::new(0)),
         }
     }
 
-    /// A host has made its last operation.
-    pub(crate) fn end_host(&self) {
-        self.hosts.fetch_add(1, Ordering::SeqCst);
+    /// A host has made its last operation, or is not used.
+    pub(crate) fn end_host(&self, host: u8) {
+        end(&self.hosts, usize::from(host));
     }
 
     /// Whether all hosts have made their last operation.
     pub(crate) fn have_hosts_ended(&self) -> bool {
-        self.hosts.load(Ordering::SeqCst) >= HOSTS
+        self.hosts.iter().all(has_ended)
     }
 
     /// A channel makes no more turns in its thread.
     pub(crate) fn end_channel(&self, channel: usize) {
-        if let Some(flag) = self.channels.get(channel) {
-            flag.store(1, Ordering::SeqCst);
-        }
-    }
-
-    /// Whether a channel makes no more turns in its thread.
-    pub(crate) fn has_channel_ended(&self, channel: usize) -> bool {
-        match self.channels.get(channel) {
-            Some(flag) => flag.load(Ordering::SeqCst) != 0,
-            None => true,
-        }
+        end(&self.channels, channel);
     }
 
     /// A thread can't be made: all that others wait for has ended.
     pub(crate) fn give_up(&self) {
-        self.hosts.store(HOSTS, Ordering::SeqCst);
-        for channel in 0..4usize {
-            self.end_channel(channel);
+        for number in 0..4u8 {
+            self.end_host(number);
+            self.end_channel(usize::from(number));
         }
     }
+}
+
+impl Channels for &Board {
+    ghost use Rattle.std.specs.Prelude.{[]};
+
+    ghost queues = { λ board. [] };
+
+    ghost ended = { λ board channel ended. Unit {0} };
+
+    ghost woken = { λ board channel board'. Unit {0} };
+
+    fn has_ended(&self, channel: usize) -> bool {
+        self.channels.get(channel).is_none_or(has_ended)
+    }
+
+    /// Its channel looks for requests by itself.
+    fn wake(&mut self, _: usize) {}
 }

@@ -17,7 +17,7 @@ impl BusUse {
         BusUse { busy: 0, until: 0 }
     }
 
-    /// A turn was made at `now`, and behind it the bus is free from `free` on: where that is later, a phase keeps it busy
+    /// A turn was made at `now`, and after it the bus is free from `free` on: where that is later, a phase keeps it busy
     /// until then.
     pub(crate) fn turn(&mut self, now: u64, free: u64)
         ensures { self.new ≡ bus_behind now free self.old }

@@ -39,7 +39,7 @@ pub trait Channel {
     /// From when on its bus is free, in ns of its clock.
     ghost free: { Self → ℕ };
 
-    /// The next moment behind that one at which an array of its chip is done sooner than stated, in ns of its clock.
+    /// The next moment after that one at which an array of its chip is done sooner than stated, in ns of its clock.
     ghost done_behind: { Self → ℕ → Option ℕ };
 
     /// What a turn at that moment, from the one to the other, came to.
@@ -59,11 +59,11 @@ pub trait Channel {
     fn bus_free(&self) -> u64
         ensures { result ≡ free self.now };
 
-    /// The next moment behind `now` at which an array of its chip is done sooner than stated, in ns of its clock.
+    /// The next moment after `now` at which an array of its chip is done sooner than stated, in ns of its clock.
     fn next_ready(&self, now: u64) -> Option<u64>
         ensures { result ≡ done_behind self.now now };
 
-    /// Makes turns at the greatest moment, and takes replies in, until everything is answered, or tells why it isn't.
+    /// Makes turns at the greatest moment, and takes replies in, until everything is answered, or says why it isn't.
     fn drain<R: Wait>(
         &mut self,
         rt: &R,

@@ -10,7 +10,7 @@ use onfi_request::Fault;
 use onfi_script::Row;
 use std::alloc::{AllocError, Global};
 
-/// The fault of the channel's chip that a row tells.
+/// The fault of the channel's chip that a row gives.
 fn fault_on(row: &Row, channel: u8) -> Option<Fault>
     ensures { result ≡ spec.fault_on channel row.now }
 {
@@ -20,7 +20,7 @@ fn fault_on(row: &Row, channel: u8) -> Option<Fault>
     }
 }
 
-/// The failing call of the channel's chip that a row tells.
+/// The failing call of the channel's chip that a row gives.
 fn failing_on(row: &Row, channel: u8) -> Option<u32>
     ensures { result ≡ spec.failing_on channel row.now }
 {
@@ -33,7 +33,7 @@ fn failing_on(row: &Row, channel: u8) -> Option<u32>
     }
 }
 
-/// The status call of the channel's chip that tells of a LUN that isn't ready, as a row tells.
+/// The status call of the channel's chip that says that a LUN isn't ready, as a row gives it.
 fn unready_on(row: &Row, channel: u8) -> Option<u32>
     ensures { result ≡ spec.unready_on channel row.now }
 {
@@ -46,7 +46,7 @@ fn unready_on(row: &Row, channel: u8) -> Option<u32>
     }
 }
 
-/// How long an operation of an array of the channel's chip really takes, as a row tells.
+/// How long an operation of an array of the channel's chip really takes, as a row says.
 fn array_time_on(row: &Row, channel: u8) -> Option<ArrayTime>
     ensures { result ≡ spec.array_time_on channel row.now }
 {
@@ -83,7 +83,7 @@ fn failing(alloc: Global, rows: &[Row], channel: u8) -> Result<Vec<u32>, AllocEr
         .collect(alloc)
 }
 
-/// All status calls of the channel's chip that tell of a LUN that isn't ready.
+/// All status calls of the channel's chip that say that a LUN isn't ready.
 fn unready(alloc: Global, rows: &[Row], channel: u8) -> Result<Vec<u32>, AllocError>
     ensures { IfOk result (λ v. v.items ≡ spec.all_on (spec.unready_on channel) rows.now) }
 {
@@ -101,10 +101,10 @@ fn array_times(alloc: Global, rows: &[Row], channel: u8) -> Result<Vec<ArrayTime
         .collect(alloc)
 }
 
-/// The chip of a channel as it opens, with the faults, failing calls and real array times that the rows tell of it.
+/// The chip of a channel as it opens, with the faults, failing calls and real array times that the rows give for it.
 ///
 /// # Errors
-/// Want of memory.
+/// Where memory was refused.
 pub fn chip_of(
     alloc: Global,
     setup: &Setup,

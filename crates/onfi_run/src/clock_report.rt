@@ -1,7 +1,7 @@
 use crate::bus_use::BusUse;
 use crate::latency::Latency;
 
-/// What a clock told of a run.
+/// What a clock showed of a run.
 #[derive(Drop)]
 pub struct ClockReport {
     /// How busy the bus of each channel was.

@@ -5,7 +5,7 @@ use onfi_timing::Kind;
 #[derive(Drop)]
 pub struct Completion {
     pub kind: Kind,
-    /// When it arrived at its host, where a row tells so; else it arrives as it is submitted.
+    /// When it arrived at its host, where a row says so; else it arrives as it is submitted.
     pub arrives: Option<u64>,
     /// The answer, where it came; it suits the kind.
     pub answer: Option<Answer>,

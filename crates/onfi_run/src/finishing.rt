@@ -17,6 +17,7 @@ use crate::station::{Station, apart};
 use onfi_queue::Host;
 use onfi_reply::Inbox;
 use std::alloc::{AllocError, Global};
+use std::array;
 use std::sync::Wait;
 
 /// What came of a channel: what each host got, how it ended, and whether memory was refused.
@@ -75,8 +76,8 @@ fn thread_or(thread: ChannelEnd, other: ChannelEnd) -> ChannelEnd
     }
 }
 
-/// What is told of a channel whose draining and whose thread ended so; where an operation has no answer, never that it is
-/// done, unless memory was refused, which the last line of a report tells.
+/// What is reported of a channel whose draining and whose thread ended so; where an operation has no answer, never that it is
+/// done, unless memory was refused, which the last line of a report says.
 fn channel_end(
     drained: ChannelEnd,
     thread: ChannelEnd,
@@ -199,12 +200,7 @@ impl Report {
         ensures { result ≡ report_of_none short_of_memory }
     {
         Report {
-            got: [
-                Got::new(alloc),
-                Got::new(alloc),
-                Got::new(alloc),
-                Got::new(alloc),
-            ],
+            got: array::from_fn(|_| Got::new(alloc)),
             ends: Vec::new(alloc),
             short_of_memory,
             clock: None,
@@ -233,7 +229,7 @@ impl Report {
     }
 }
 
-/// What came of all channels, in their order; `short_of_memory` tells whether memory was refused to a host.
+/// What came of all channels, in their order; `short_of_memory` says whether memory was refused to a host.
 fn gather<R: Wait, C: Channel + Drop>(
     rt: &R,
     alloc: Global,

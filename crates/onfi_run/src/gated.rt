@@ -26,7 +26,7 @@ pub(crate) struct Gated<P: Planner, G: Gate> {
 }
 
 impl<P: Planner, G: Gate> Gated<P, G> {
-    /// How its thread goes on behind a turn that came to this.
+    /// How its thread goes on after a turn that came to this.
     fn progress(&self, turn: TurnAt) -> Progress
         ensures { result ≡ spec.progress_of (none_left self.now.sequencer.0.half) turn }
     {

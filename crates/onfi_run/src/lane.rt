@@ -31,7 +31,7 @@ pub(crate) struct Lane<C: Channel> {
 }
 
 impl<C: Channel> Lane<C> {
-    /// How the channel's thread ends behind a turn that came to this, if it does.
+    /// How the channel's thread ends after a turn that came to this, if it does.
     fn end_behind(&mut self, progress: Progress, all_ended: bool) -> Option<ChannelEnd>
         ensures channel { self.new.channel ≡ self.old.channel }
         ensures ended { self.new.ended ≡ self.old.ended }
@@ -58,7 +58,7 @@ impl<C: Channel> Lane<C> {
         }
     }
 
-    /// Makes a turn, and answers how the channel's thread ends behind it, if it does.
+    /// Makes a turn, and answers how the channel's thread ends after it, if it does.
     fn step<R: Wait>(&mut self, rt: &R, alloc: Global, board: &Board) -> Option<ChannelEnd>
         ensures ended { (p : AProgress) × (all_ended : Bool) × C.proceeds 18446744073709551615 self.old.channel p self.new.channel × (result ≡ thread_end (is_spent self.old.refusals) all_ended p) }
         ensures same { C.queues self.new.channel ≡ C.queues self.old.channel }

@@ -9,7 +9,7 @@ use crate::completion::Completion;
 use onfi_timing::Kind;
 use std::alloc::{AllocError, Global};
 
-/// How long operations of one kind took, from arrival to reply, in ns of the run's clock; from submission, where no row tells
+/// How long operations of one kind took, from arrival to reply, in ns of the run's clock; from submission, where no row says
 /// when they arrived.
 #[derive(Clone, Copy)]
 pub struct Latency {
@@ -45,7 +45,7 @@ impl Completion {
     }
 }
 
-/// Puts a latency behind others, where there is one.
+/// Appends a latency to others, where there is one.
 fn put(latencies: &mut Vec<u64>, latency: Option<u64>) -> Result<(), AllocError>
     ensures { OnOk result (latencies.new.items ≡ latencies.old.items ++ cons_option latency []) }
 {
@@ -55,7 +55,7 @@ fn put(latencies: &mut Vec<u64>, latency: Option<u64>) -> Result<(), AllocError>
     Ok(())
 }
 
-/// Puts how long the operations of a host on a channel took behind others.
+/// Appends to others how long the operations of a host on a channel took.
 fn add(latencies: &mut Vec<u64>, kind: Kind, all: &[Completion]) -> Result<(), AllocError>
     ensures { OnOk result (latencies.new.items ≡ latencies.old.items ++ filter_map (spec.latency_of kind) all.now) }
 {
@@ -106,7 +106,7 @@ fn mean(numbers: &[u64]) -> u64
     (total(numbers) / numbers.len() as u128) as u64
 }
 
-/// What is told of latencies; nothing of none.
+/// What is said of latencies; nothing of none.
 fn told(latencies: Vec<u64>) -> Option<Latency>
     ensures { spec.IsLatencyOf latencies.items result }
 {
@@ -127,7 +127,7 @@ fn told(latencies: Vec<u64>) -> Option<Latency>
 /// How long the operations of that kind took which have their replies; nothing where there are none.
 ///
 /// # Errors
-/// Want of memory.
+/// Where memory was refused.
 pub(crate) fn latency_of(
     alloc: Global,
     kind: Kind,

@@ -1,12 +1,14 @@
-//! Runs a script of hosts' operations on up to four channels, and tells what each host got.
+//! Runs a script of hosts' operations on up to four channels, and says what each host got.
 #![tactic(auto)]
 
+mod acts;
 mod answers;
 mod arriving;
 mod board;
 mod bus_use;
 mod channel;
 mod channel_end;
+mod channels;
 mod chip;
 mod clock_report;
 mod completion;

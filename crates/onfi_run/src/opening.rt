@@ -47,7 +47,7 @@ fn port(host: Host, inbox: Inbox, answers: Answers) -> Port
     }
 }
 
-/// The lane of a channel with its planner and its gate, over a chip that the rows tell of, with these ends of its queues.
+/// The lane of a channel with its planner and its gate, over a chip that the rows describe, with these ends of its queues.
 fn open_lane<P: Planner + Drop, G: Gate + Drop>(
     alloc: Global,
     setup: Setup,
@@ -243,7 +243,7 @@ impl<P: Planner + Copy + Drop, G: Gate + Drop> Stage<P, G> {
     /// gates of channels that aren't there are dropped.
     ///
     /// # Errors
-    /// Want of memory.
+    /// Where memory was refused.
     pub(crate) fn open(
         alloc: Global,
         rows: &[Row],

@@ -5,7 +5,7 @@ ghost use Rattle.onfi_run.specs.Operations as spec;
 use onfi_script::{Operation, Row};
 use onfi_timing::Kind;
 
-/// The operation that a row tells, where it is one of that host.
+/// The operation that a row gives, where it is one of that host.
 pub(crate) fn operation_of(row: &Row, host: u8) -> Option<&Operation>
     ensures some { IfSome result (λ operation. spec.operation_of host row.now ≡ Some operation.now) }
     ensures none { IfNone result (spec.operation_of host row.now ≡ None) }

@@ -18,7 +18,7 @@ pub(crate) struct Pace {
     pub(crate) bus: BusUse,
 }
 
-/// The lesser of two moments, where the first is told.
+/// The lesser of two moments, where the first is given.
 pub(crate) fn least(other: Option<u64>, due: u64) -> u64
     ensures { result ≡ spec.least_of other due }
 {
@@ -28,7 +28,7 @@ pub(crate) fn least(other: Option<u64>, due: u64) -> u64
     }
 }
 
-/// From when on a turn may do something behind one that came to this, where an array is done early at the moment `ready`.
+/// From when on a turn may do something after one that came to this, where an array is done early at the moment `ready`.
 fn wakes_behind(progress: Progress, ready: Option<u64>) -> u64
     ensures { result ≡ spec.wakes_behind progress ready }
 {
@@ -56,7 +56,7 @@ impl Pace {
         self.wakes = 0;
     }
 
-    /// A turn at `now` came to this, behind it the bus is free from `free` on and an array done early at `ready`, and it was
+    /// A turn at `now` came to this, after it the bus is free from `free` on and an array done early at `ready`, and it was
     /// the last one or not.
     pub(crate) fn turn(
         &mut self,

@@ -46,7 +46,7 @@ impl Port {
         self.left_out = true;
     }
 
-    /// Submits a request at that moment behind all that were submitted, or leaves it out: where one was left out before, where
+    /// Submits a request at that moment after all that were submitted, or leaves it out: where one was left out before, where
     /// the queue never takes it, or where it is full and the channel has ended. Whether either was done; else the queue is full.
     pub(crate) fn submit<R: Wait>(
         &mut self,

@@ -14,7 +14,7 @@ use onfi_script::{
 };
 use std::alloc::{AllocError, Global};
 
-/// The rows of a run that are each in order, and the device that they tell of.
+/// The rows of a run that are each in order, and the device that they describe.
 #[derive(Drop)]
 pub struct Prepared {
     pub rows: Vec<Row>,
@@ -119,7 +119,7 @@ fn refusal_on(
 /// # Errors
 /// The first refusal: no line `end`; the rows from the top, each for its name, its place, its count of fields, its
 /// fields, and what an earlier row said; the device; the rows once more, for hosts, channels, LUNs and blocks that
-/// aren't there and for operations that the device doesn't take. Want of memory.
+/// aren't there and for operations that the device doesn't take. And where memory was refused.
 pub fn prepare(alloc: Global, input: &[u8]) -> Result<Prepared, Stop>
     ensures { MatchResult result (λ p. IsPrepared Purpose.Run input.now p.rows.items p.device) (λ stop. IfRefused stop (λ refusal. IsRefused Purpose.Run input.now refusal)) }
 {

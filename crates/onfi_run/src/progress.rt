@@ -7,7 +7,7 @@ pub enum Progress {
     Advanced,
     /// A reply was posted or an item accepted; or a planning was over, and a phase is left.
     Moved,
-    /// The next phase starts then, behind the moment of the turn; a run without a clock has none such.
+    /// The next phase starts then, after the moment of the turn; a run without a clock has none such.
     Waits { until: u64 },
     /// Nothing is left to do but to post to full queues.
     Quiet,

@@ -19,7 +19,7 @@ pub struct Report {
     pub ends: Vec<ChannelEnd>,
     /// Whether memory was refused on the way.
     pub short_of_memory: bool,
-    /// What the run's clock told, where it has one.
+    /// What the run's clock showed, where it has one.
     pub clock: Option<ClockReport>,
 }
 
@@ -35,11 +35,11 @@ impl Report {
     ghost use Rattle.onfi_run.specs.declared.clock_report.ClockReport.{ClockReport as AClockReport};
     ghost use Rattle.onfi_run.specs.Told.{IsClockOf};
 
-    /// With what a clock told: how busy the bus of each channel was; how long operations took is taken from the moments of
+    /// With what a clock showed: how busy the bus of each channel was; how long operations took is taken from the moments of
     /// the replies.
     ///
     /// # Errors
-    /// Want of memory.
+    /// Where memory was refused.
     pub(crate) fn with_clock(self, alloc: Global, buses: Vec<BusUse>) -> Result<Report, AllocError>
         requires none { self.clock ≡ None }
         requires buses { length buses.items ≡ length self.ends }

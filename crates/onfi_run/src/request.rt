@@ -29,7 +29,7 @@ fn bytes_of(alloc: Global, geometry: &Geometry, content: &Content) -> Result<Byt
 /// The request of an operation to a device of this geometry.
 ///
 /// # Errors
-/// Want of memory.
+/// Where memory was refused.
 pub fn request_of(
     alloc: Global,
     geometry: &Geometry,

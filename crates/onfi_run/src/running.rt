@@ -1,26 +1,24 @@
 //! From the bytes of an input to the bytes of its answer.
-ghost use Rattle.std.specs.Prelude.{◌≡◌, ◌≤◌, List, length, map, IfOk, true, false};
+ghost use Rattle.std.specs.Prelude.{◌≡◌, ◌≤◌, length, map, IfOk, false};
 ghost use Rattle.onfi_run.specs.declared.gated.Gated.{Gated as AGated};
-ghost use Rattle.onfi_run.specs.declared.lane.Lane.{Lane as ALane};
 ghost use Rattle.onfi_run.specs.declared.simulation.Settled.{Settled as ASettled};
-ghost use Rattle.onfi_run.specs.declared.station.Station.{Station as AStation};
-ghost use Rattle.onfi_run.specs.Finishing.{IsGathered};
-ghost use Rattle.onfi_run.specs.Opening.{AreBehind};
+ghost use Rattle.onfi_run.specs.Opening.{AreBehind, lane_queues};
 ghost use Rattle.std.specs.Io.KnownBytes.{Keeps};
 ghost use Rattle.onfi_script.specs.AnswerOf.{answer_of};
 ghost use Rattle.onfi_run.specs.Prepares.{IsPrepared};
 ghost use Rattle.onfi_run.specs.Running.{IsAnswer, Answers, BeginsAnswer, purpose_of as spec_purpose_of};
-ghost use Rattle.onfi_run.specs.Keys.{AreLinked, ports_of};
-ghost use Rattle.onfi_run.specs.Told.{IsReportOf, TellsClock};
+ghost use Rattle.onfi_run.specs.Keys.{AreLinked, HaveSamePorts, ports_of};
+ghost use Rattle.onfi_run.specs.Told.{IsReportOf, Tells};
 
+use crate::acts::Course;
 use crate::channel::Channel;
 use crate::finishing::finish_all;
+use crate::gated::Gated;
 use crate::no_gate::no_gates;
 use crate::opening::Stage;
 use crate::preparing::{Prepared, prepare_for};
 use crate::report::Report;
-use crate::simulation::{Course, Settled, buses_of, simulate};
-use crate::station::NO_MOMENT;
+use crate::simulation::{Settled, buses_of, simulate};
 use crate::text::report_answer;
 use crate::threads::run_threads;
 use onfi_plan::{Limit, PlainPlanner, Planner};
@@ -31,76 +29,53 @@ use std::io::{Read, Write};
 use std::sync::Wait;
 use std::thread::Threads;
 
-/// Runs what was prepared in threads, and answers what it came to.
-fn run<R: Threads + Wait + Sync, P: Planner + Copy + Send + Drop, G: Gate + Send + Drop>(
+/// The channels and hosts of a run after it, by a clock or in threads.
+///
+/// # Errors
+/// Where memory was refused, as where a thread can't be made.
+fn settle<R: Threads + Wait + Sync, P: Planner + Copy + Send + Drop, G: Gate + Send + Drop>(
     rt: &R,
-    alloc: Global,
-    planner: P,
-    limit: Limit,
-    gates: Vec<G>,
-    prepared: &Prepared,
-) -> Result<Report, AllocError>
-    requires gates { length gates.items ≡ 4 }
-    ensures report { IfOk result (λ report. IsReportOf false prepared.now.rows.items report) }
-    ensures tells { IfOk result (λ report. (lanes : List (ALane (AGated P G))) × (stations : List AStation) × AreBehind prepared.now.rows.items prepared.now.device limit gates.items lanes
-        × IsGathered 0 (ports_of stations) (length lanes) report) }
+    course: &Course<'_>,
+    clocked: bool,
+    stage: Stage<P, G>,
+) -> Result<Settled<Gated<P, G>>, AllocError>
+    ensures lanes { IfOk result (λ s. map lane_queues s.lanes.items ≡ map lane_queues stage.lanes.items) }
+    ensures stations { IfOk result (λ s. HaveSamePorts stage.stations s.stations) }
+    ensures no_clock { clocked ≡ false → IfOk result (λ s. s.now ≡ 0) }
 {
-    let rows = prepared.rows.as_slice();
-    let stage = Stage::open(alloc, rows, &prepared.device, planner, limit, gates)?;
     let Stage { lanes, stations } = stage;
-    match run_threads(rt, alloc, &prepared.device.geometry, rows, lanes, stations) {
-        Some(ran) => finish_all(rt, alloc, NO_MOMENT, ran.0, ran.1),
-        None => Err(AllocError),
+    if clocked {
+        Ok(simulate(rt, course, lanes, stations))
+    } else {
+        run_threads(rt, course, lanes, stations)
     }
 }
 
-/// What came of channels and hosts whose clock stood still, and what it told.
+/// What came of the channels and hosts of a run, and what its clock showed, where it has one.
 fn report_of<R: Wait, C: Channel + Drop>(
     rt: &R,
     alloc: Global,
+    clocked: bool,
     settled: Settled<C>,
 ) -> Result<Report, AllocError>
     requires { AreLinked (map (λ l. C.queues l.channel) settled.lanes.items) settled.stations }
-    ensures { IfOk result (λ report. TellsClock settled.now (ports_of settled.stations) (map (λ l. l.pace.bus) settled.lanes.items) report) }
+    ensures { IfOk result (λ report. Tells clocked settled.now (ports_of settled.stations) (map (λ l. l.pace.bus) settled.lanes.items) report) }
 {
     let Settled {
         lanes,
         stations,
         now,
     } = settled;
+    if !clocked {
+        return finish_all(rt, alloc, now, lanes, stations);
+    }
     let buses = buses_of(alloc, lanes.as_slice())?;
     let report = finish_all(rt, alloc, now, lanes, stations)?;
     report.with_clock(alloc, buses)
 }
 
-/// Runs what was prepared by a clock, and answers what it came to.
-fn run_by_clock<R: Wait, P: Planner + Copy + Drop, G: Gate + Drop>(
-    rt: &R,
-    alloc: Global,
-    planner: P,
-    limit: Limit,
-    gates: Vec<G>,
-    prepared: &Prepared,
-) -> Result<Report, AllocError>
-    requires gates { length gates.items ≡ 4 }
-    ensures report { IfOk result (λ report. IsReportOf true prepared.now.rows.items report) }
-    ensures tells { IfOk result (λ report. (settled : ASettled (AGated P G)) × AreBehind prepared.now.rows.items prepared.now.device limit gates.items settled.lanes.items
-        × TellsClock settled.now (ports_of settled.stations) (map (λ l. l.pace.bus) settled.lanes.items) report) }
-{
-    let rows = prepared.rows.as_slice();
-    let opened = Stage::open(alloc, rows, &prepared.device, planner, limit, gates)?;
-    let Stage { lanes, stations } = opened;
-    let course = Course {
-        alloc,
-        geometry: &prepared.device.geometry,
-        rows,
-    };
-    let settled = simulate(rt, &course, lanes, stations);
-    report_of(rt, alloc, settled)
-}
-
-/// Runs what was prepared, by a clock or in threads.
-fn run_either<R: Threads + Wait + Sync, P: Planner + Copy + Send + Drop, G: Gate + Send + Drop>(
+/// Runs what was prepared, by a clock or in threads, and answers what it came to.
+fn run<R: Threads + Wait + Sync, P: Planner + Copy + Send + Drop, G: Gate + Send + Drop>(
     rt: &R,
     alloc: Global,
     planner: P,
@@ -110,13 +85,19 @@ fn run_either<R: Threads + Wait + Sync, P: Planner + Copy + Send + Drop, G: Gate
     prepared: &Prepared,
 ) -> Result<Report, AllocError>
     requires gates { length gates.items ≡ 4 }
-    ensures { IfOk result (λ report. IsReportOf clocked prepared.now.rows.items report) }
+    ensures report { IfOk result (λ report. IsReportOf clocked prepared.now.rows.items report) }
+    ensures tells { IfOk result (λ report. (settled : ASettled (AGated P G)) × AreBehind prepared.now.rows.items prepared.now.device limit gates.items settled.lanes.items
+        × (clocked ≡ false → settled.now ≡ 0) × Tells clocked settled.now (ports_of settled.stations) (map (λ l. l.pace.bus) settled.lanes.items) report) }
 {
-    if clocked {
-        run_by_clock(rt, alloc, planner, limit, gates, prepared)
-    } else {
-        run(rt, alloc, planner, limit, gates, prepared)
-    }
+    let rows = prepared.rows.as_slice();
+    let stage = Stage::open(alloc, rows, &prepared.device, planner, limit, gates)?;
+    let course = Course {
+        alloc,
+        geometry: &prepared.device.geometry,
+        rows,
+    };
+    let settled = settle(rt, &course, clocked, stage)?;
+    report_of(rt, alloc, clocked, settled)
 }
 
 /// What the rows of a run are read for: moments of arrival stand in a run with a clock alone.
@@ -144,7 +125,7 @@ fn answer<R: Threads + Wait + Sync, P: Planner + Copy + Send + Drop, G: Gate + S
 {
     match prepare_for(alloc, purpose_of(clocked), input) {
         Ok(prepared) => {
-            let report = run_either(rt, alloc, planner, limit, clocked, gates, &prepared)?;
+            let report = run(rt, alloc, planner, limit, clocked, gates, &prepared)?;
             report_answer(alloc, &report)
         }
         Err(Stop::Refused(refusal)) => refused(alloc, refusal),
@@ -157,7 +138,7 @@ fn answer<R: Threads + Wait + Sync, P: Planner + Copy + Send + Drop, G: Gate + S
 /// planning. Gate i, of four, is called before each turn of channel i.
 ///
 /// Answers the exit status of the program: 0 only where each operation of the script is answered, 1 where the script is
-/// refused, 3 where a channel stopped or was left unfinished, 4 for want of memory, 6 where a planning opened `limit` nodes
+/// refused, 3 where a channel stopped or was left unfinished, 4 where memory was refused, 6 where a planning opened `limit` nodes
 /// and wasn't over.
 ///
 /// # Errors
@@ -187,7 +168,7 @@ pub fn run_script<R: Threads + Wait + Sync, G: Gate + Send + Drop, I: Read, O: W
 ///
 /// By a clock, one thread goes from moment to moment: at each, hosts submit and collect what they can and channels make
 /// turns until nothing changes, and what a phase takes of the bus is waited for. So the report rests on the script and the
-/// planner alone, tells when each reply was collected, how busy buses were and how long operations took.
+/// planner alone, says when each reply was collected, how busy buses were and how long operations took.
 ///
 /// # Errors
 /// As `run_script`.
@@ -226,7 +207,7 @@ pub fn run_script_by<
 /// The answer to a script, run as [`run_script_by`] does, with gates that hold nothing up: the command `run` of the program.
 ///
 /// # Errors
-/// Want of memory.
+/// Where memory was refused.
 pub fn run_freely<R: Threads + Wait + Sync, P: Planner + Copy + Send + Drop>(
     rt: &R,
     alloc: Global,

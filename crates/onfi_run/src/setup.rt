@@ -5,10 +5,10 @@ ghost use Rattle.onfi_script.specs.Subject.{row_on as spec_row_on};
 ghost use Rattle.onfi_script.specs.declared.row.Subject.TheVariants as on;
 ghost use Rattle.onfi_run.specs.Setup as spec;
 
-use onfi_core::{Choice, Setup};
+use onfi_core::{Choice, Replanning, Setup};
 use onfi_group::Rules;
 use onfi_plan::Limit;
-use onfi_script::{Choosing, PageDevice, Row, Subject, is_strict, row_on};
+use onfi_script::{Choosing, PageDevice, Replans, Row, Subject, is_strict, row_on};
 
 /// How many channels there are.
 pub fn channel_count(rows: &[Row]) -> u8
@@ -54,8 +54,22 @@ fn choice(rows: &[Row]) -> Choice
         Some(Row::Choice { choosing }) => match choosing {
             Choosing::ByLun => Choice::ByLun,
             Choosing::ReadsFirst => Choice::ReadsFirst,
+            Choosing::WholeGroups => Choice::WholeGroups,
         },
         _ => Choice::InOrder,
+    }
+}
+
+/// When a plan is made anew.
+fn replanning(rows: &[Row]) -> Replanning
+    ensures { result ≡ spec.replanning_in rows.now }
+{
+    match row_on(rows, Subject::Replanning) {
+        Some(Row::Replanning { replans }) => match replans {
+            Replans::AtOnce => Replanning::AtOnce,
+            Replans::Lazily => Replanning::Lazily,
+        },
+        _ => Replanning::AtOnce,
     }
 }
 
@@ -113,4 +127,5 @@ pub fn setup_of(rows: &[Row], device: &PageDevice, limit: Limit) -> Setup
     )
     .unwrap()
     .with_choice(choice(rows))
+    .with_replanning(replanning(rows))
 }

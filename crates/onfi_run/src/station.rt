@@ -1,17 +1,16 @@
 //! A host with its ends on all channels.
-ghost use Rattle.std.specs.Prelude.{◌≡◌, ℕ, ◌++◌, [], ◌∷◌, List, map, IsTrue, IfSome, false, true, slice_get};
+ghost use Rattle.std.specs.Prelude.{◌≡◌, ℕ, [], ◌∷◌, List, map, IsTrue, IfSome, false, true, slice_get};
 ghost use Rattle.std.specs.List.{AllByRecursion as Each};
 ghost use Rattle.onfi_request.specs.declared.request.Request.{Request as ARequest};
-ghost use Rattle.onfi_script.specs.declared.row.Row.{Row as ARow};
 ghost use Rattle.onfi_run.specs.Keys.{Collects, HasSamePorts, LeavesOut, SendsNothing, Submits};
 ghost use Rattle.onfi_run.specs.Moments.{AtMoment, Makes, OnPort};
 ghost use Rattle.onfi_run.specs.Requests.{request_of as spec_request_of};
 ghost use Rattle.onfi_run.specs.Resting.{IsEmptied, IsFullAt};
 ghost use Rattle.onfi_run.specs.Sending.{AreSending, HasSent, with_request};
 
+use crate::acts::{Course, act};
 use crate::board::Board;
 use crate::finishing::either;
-use crate::operations::operation_of;
 use crate::port::Port;
 use crate::request::request_of;
 use onfi_addr::Geometry;
@@ -30,7 +29,7 @@ pub(crate) struct Station {
     pub(crate) number: u8,
     /// By channel.
     pub(crate) ports: Vec<Port>,
-    /// How many rows it has gone through, in a run with a clock.
+    /// How many rows it is past.
     pub(crate) passed: usize,
     pub(crate) short_of_memory: bool,
 }
@@ -41,6 +40,13 @@ pub(crate) fn apart<T>(of: [T; 4]) -> (T, T, T, T)
 {
     let [first, second, third, fourth] = of;
     (first, second, third, fourth)
+}
+
+/// Lets other threads run, where nothing was done.
+fn yield_unless(acted: bool) {
+    if !acted {
+        thread::yield_now();
+    }
 }
 
 impl Station {
@@ -78,7 +84,7 @@ impl Station {
         any
     }
 
-    /// Leaves an operation on a channel out for want of memory.
+    /// Leaves an operation on a channel out where memory was refused.
     fn leave_out(&mut self, channel: usize)
         ensures number { self.new.number ≡ self.old.number }
         ensures passed { self.new.passed ≡ self.old.passed }
@@ -119,7 +125,7 @@ impl Station {
     }
 
     /// Makes an operation at that moment, or leaves it out where memory is refused or its channel has ended and its queue is
-    /// full; whether it is behind it then: else the queue is full.
+    /// full; whether it is past it then: else the queue is full.
     pub(crate) fn operate_at<R: Wait>(
         &mut self,
         rt: &R,
@@ -147,83 +153,7 @@ impl Station {
         }
     }
 
-    /// Makes an operation. While its queue is full it collects from all inboxes and tries again, until the channel has ended.
-    fn operate<R: Wait>(
-        &mut self,
-        rt: &R,
-        alloc: Global,
-        geometry: &Geometry,
-        board: &Board,
-        operation: &Operation,
-    )
-        ensures number { self.new.number ≡ self.old.number }
-        ensures same { HasSamePorts self.old.ports.items self.new.ports.items }
-        ensures sent { (requests : ℕ → List ARequest) → AreSending requests self.old.ports.items
-            → AreSending (with_request requests operation.now.aim.channel (spec_request_of geometry.now operation.now)) self.new.ports.items }
-    {
-        let channel = usize::from(operation.aim.channel);
-        for _ in rt.forever() {
-            let has_ended = board.has_channel_ended(channel);
-            if self.operate_at(rt, alloc, geometry, NO_MOMENT, has_ended, operation) {
-                return;
-            }
-            self.collect_all(rt, NO_MOMENT);
-            thread::yield_now();
-        }
-        unreachable!()
-    }
-
-    /// Makes the operation of a row, if it is one of this host.
-    fn follow<R: Wait>(
-        &mut self,
-        rt: &R,
-        alloc: Global,
-        geometry: &Geometry,
-        board: &Board,
-        row: &Row,
-    )
-        ensures number { self.new.number ≡ self.old.number }
-        ensures same { HasSamePorts self.old.ports.items self.new.ports.items }
-        ensures sent { (before : List ARow) → HasSent geometry.now before self.old.number self.old.ports.items → HasSent geometry.now (before ++ row.now ∷ []) self.old.number self.new.ports.items }
-    {
-        if let Some(operation) = operation_of(row, self.number) {
-            self.operate(rt, alloc, geometry, board, operation);
-        }
-    }
-
-    /// Makes all operations of this host in the order of their rows.
-    fn follow_all<R: Wait>(
-        &mut self,
-        rt: &R,
-        alloc: Global,
-        geometry: &Geometry,
-        board: &Board,
-        rows: &[Row],
-    )
-        ensures number { self.new.number ≡ self.old.number }
-        ensures same { HasSamePorts self.old.ports.items self.new.ports.items }
-        ensures sent { HasSent geometry.now [] self.old.number self.old.ports.items → HasSent geometry.now rows.now self.old.number self.new.ports.items }
-    {
-        for row in rows {
-            self.follow(rt, alloc, geometry, board, row);
-        }
-    }
-
-    /// Collects until all hosts have ended.
-    fn wait_for_others<R: Wait>(&mut self, rt: &R, board: &Board)
-        ensures number { self.new.number ≡ self.old.number }
-        ensures same { SendsNothing self.old.ports.items self.new.ports.items }
-    {
-        for _ in rt.forever() {
-            if board.have_hosts_ended() {
-                break;
-            }
-            self.collect_all(rt, NO_MOMENT);
-            thread::yield_now();
-        }
-    }
-
-    /// What the host's thread does: its operations in the order of their rows, and then it collects until all hosts have
+    /// What the host's thread does: it acts until it is past all rows, and then goes on to collect until all hosts have
     /// ended, so that no channel waits for room in a completion queue.
     pub(crate) fn work<R: Wait>(
         mut self,
@@ -236,9 +166,23 @@ impl Station {
         ensures same { HasSamePorts self.ports.items result.ports.items }
         ensures sent { HasSent geometry.now [] self.number self.ports.items → HasSent geometry.now rows.now self.number result.ports.items }
     {
-        self.follow_all(rt, alloc, geometry, board, rows);
-        board.end_host();
-        self.wait_for_others(rt, board);
-        self
+        let course = Course {
+            alloc,
+            geometry,
+            rows,
+        };
+        let mut channels = board;
+        self.passed = 0;
+        for _ in rt.forever() {
+            let acted = act(rt, &course, NO_MOMENT, &mut channels, &mut self);
+            if self.passed >= rows.len() {
+                board.end_host(self.number);
+                if board.have_hosts_ended() {
+                    return self;
+                }
+            }
+            yield_unless(acted);
+        }
+        unreachable!()
     }
 }

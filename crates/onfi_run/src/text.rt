@@ -16,7 +16,7 @@ use onfi_request::Answer;
 use onfi_script::Answer as Written;
 use std::alloc::{AllocError, Global};
 
-/// Puts bytes in hexadecimal behind a text.
+/// Appends bytes in hexadecimal to a text.
 fn put_hex(alloc: Global, text: &mut String, bytes: &[u8]) -> Result<(), AllocError>
     ensures { OnOk result (string_bytes text.new ≡ string_bytes text.old ++ encode_upper bytes.now) }
 {
@@ -31,7 +31,7 @@ fn are_all(bytes: &[u8], byte: u8) -> bool
     bytes.iter().all(|b| *b == byte)
 }
 
-/// Puts a page behind a text.
+/// Appends a page to a text.
 fn put_page(alloc: Global, text: &mut String, page: &[u8]) -> Result<(), AllocError>
     ensures { OnOk result (string_bytes text.new ≡ string_bytes text.old ++ spec.page_text page.now) }
 {
@@ -45,7 +45,7 @@ fn put_page(alloc: Global, text: &mut String, page: &[u8]) -> Result<(), AllocEr
     put_hex(alloc, text, &page[..1])
 }
 
-/// Puts an answer behind a text.
+/// Appends an answer to a text.
 fn put_answer(alloc: Global, text: &mut String, answer: &Answer) -> Result<(), AllocError>
     ensures { OnOk result (string_bytes text.new ≡ string_bytes text.old ++ spec.answer_text answer.now) }
 {
@@ -59,7 +59,7 @@ fn put_answer(alloc: Global, text: &mut String, answer: &Answer) -> Result<(), A
     }
 }
 
-/// Puts the moment of a reply behind a text, where a clock tells it.
+/// Appends the moment of a reply to a text, where a clock gives it.
 fn put_at(alloc: Global, text: &mut String, clocked: bool, at: u64) -> Result<(), AllocError>
     ensures { OnOk result (string_bytes text.new ≡ string_bytes text.old ++ spec.at_text clocked at) }
 {
@@ -70,7 +70,7 @@ fn put_at(alloc: Global, text: &mut String, clocked: bool, at: u64) -> Result<()
     text.push_str(moment.as_str())
 }
 
-/// Puts the line of a reply behind a text, where it came.
+/// Appends the line of a reply to a text, where it came.
 fn put_reply(
     alloc: Global,
     text: &mut String,
@@ -92,7 +92,7 @@ fn put_reply(
     text.push_str("\n")
 }
 
-/// Puts what a host got from a channel behind a text.
+/// Appends what a host got from a channel to a text.
 fn put_answers(
     alloc: Global,
     text: &mut String,
@@ -109,7 +109,7 @@ fn put_answers(
     Ok(())
 }
 
-/// Puts what a host got behind a text.
+/// Appends what a host got to a text.
 fn put_got(
     alloc: Global,
     text: &mut String,
@@ -125,7 +125,7 @@ fn put_got(
     Ok(())
 }
 
-/// Puts all replies behind a text.
+/// Appends all replies to a text.
 fn put_replies(
     alloc: Global,
     text: &mut String,
@@ -163,7 +163,7 @@ fn end_line(alloc: Global, channel: usize, end: ChannelEnd) -> Result<String, Al
     }
 }
 
-/// Puts the line of a channel behind a text.
+/// Appends the line of a channel to a text.
 fn put_end(
     alloc: Global,
     text: &mut String,
@@ -176,7 +176,7 @@ fn put_end(
     text.push_str(line.as_str())
 }
 
-/// Puts the lines of channels behind a text.
+/// Appends the lines of channels to a text.
 fn put_ends(alloc: Global, text: &mut String, ends: &[ChannelEnd]) -> Result<(), AllocError>
     ensures { OnOk result (string_bytes text.new ≡ string_bytes text.old ++ spec.numbered spec.end_line 0 ends.now) }
 {
@@ -186,7 +186,7 @@ fn put_ends(alloc: Global, text: &mut String, ends: &[ChannelEnd]) -> Result<(),
     Ok(())
 }
 
-/// Puts the lines of buses behind a text.
+/// Appends the lines of buses to a text.
 fn put_buses(alloc: Global, text: &mut String, buses: &[BusUse]) -> Result<(), AllocError>
     ensures { OnOk result (string_bytes text.new ≡ string_bytes text.old ++ spec.numbered spec.bus_line 0 buses.now) }
 {
@@ -196,7 +196,7 @@ fn put_buses(alloc: Global, text: &mut String, buses: &[BusUse]) -> Result<(), A
     Ok(())
 }
 
-/// Puts the line of a bus behind a text.
+/// Appends the line of a bus to a text.
 fn put_bus(alloc: Global, text: &mut String, channel: usize, bus: &BusUse) -> Result<(), AllocError>
     ensures { OnOk result (string_bytes text.new ≡ string_bytes text.old ++ spec.bus_line channel bus.now) }
 {
@@ -206,7 +206,7 @@ fn put_bus(alloc: Global, text: &mut String, channel: usize, bus: &BusUse) -> Re
     text.push_str(line.as_str())
 }
 
-/// Puts the line of a kind behind a text, where it has replies.
+/// Appends the line of a kind to a text, where it has replies.
 fn put_latency(
     alloc: Global,
     text: &mut String,
@@ -225,7 +225,7 @@ fn put_latency(
     text.push_str(line.as_str())
 }
 
-/// Puts the lines of a clock behind a text, where there is one.
+/// Appends the lines of a clock to a text, where there is one.
 fn put_clock(
     alloc: Global,
     text: &mut String,
@@ -301,7 +301,7 @@ fn closing_line(short_of_memory: bool) -> &'static str
 /// where memory was refused on the way.
 ///
 /// # Errors
-/// Want of memory.
+/// Where memory was refused.
 pub fn report_answer(alloc: Global, report: &Report) -> Result<Written, AllocError>
     ensures { IfOk result (λ a. answer_of a ≡ spec.report_answer report.now) }
 {

@@ -1,5 +1,5 @@
 //! A thread for each channel, and one for each host that is used.
-ghost use Rattle.std.specs.Prelude.{◌≡◌, ℕ, List, IfSome, map};
+ghost use Rattle.std.specs.Prelude.{◌≡◌, ℕ, List, IfOk, map};
 ghost use Rattle.std.specs.Option.{is_some};
 ghost use Rattle.onfi_script.specs.declared.row.Row.{Row as ARow};
 ghost use Rattle.onfi_run.specs.declared.port.Port.{Port};
@@ -7,13 +7,15 @@ ghost use Rattle.onfi_run.specs.Keys.{HasSamePorts, HaveSamePorts};
 ghost use Rattle.onfi_run.specs.Operations.{operation_of};
 ghost use Rattle.onfi_run.specs.Threads.{IsWorkerOf, is_used as spec_is_used};
 
+use crate::acts::Course;
 use crate::board::Board;
 use crate::channel::Channel;
 use crate::lane::Lane;
-use crate::station::{Station, apart};
+use crate::simulation::Settled;
+use crate::station::{NO_MOMENT, Station};
 use onfi_addr::Geometry;
 use onfi_script::Row;
-use std::alloc::Global;
+use std::alloc::{AllocError, Global};
 use std::snapshot::Snapshot;
 use std::sync::Wait;
 use std::thread;
@@ -21,11 +23,11 @@ use std::thread::{Promise, PromisedHandle, Scope, Threads};
 
 /// What all threads of a run share.
 #[derive(Clone, Copy)]
-pub(crate) struct Shared<'s> {
-    pub(crate) alloc: Global,
-    pub(crate) board: &'s Board,
-    pub(crate) geometry: &'s Geometry,
-    pub(crate) rows: &'s [Row],
+struct Shared<'s> {
+    alloc: Global,
+    board: &'s Board,
+    geometry: &'s Geometry,
+    rows: &'s [Row],
 }
 
 /// It gives back the ends of the channel that it was given.
@@ -76,22 +78,21 @@ fn is_used(rows: &[Row], host: u8) -> bool
     rows.iter().any(|row| is_of_host(row, host))
 }
 
-/// How many of the four hosts aren't used.
-fn unused_hosts(rows: &[Row]) -> u64 {
-    (0..4u8).filter(|host| !is_used(rows, *host)).count() as u64
-}
-
-/// Starts the thread of a host, if it is used; where no thread can be made, all that others wait for has ended.
+/// Starts the thread of a host, if it is used.
+///
+/// # Errors
+/// Where memory was refused, as where no thread can be made: all that others wait for has ended then.
 fn start_host<'s, E, R: Threads + Wait + Sync>(
     scope: &'s Scope<'s, E>,
     rt: &'s R,
     shared: Shared<'s>,
     station: Station,
-) -> Option<Worker>
-    ensures { IfSome result (λ w. IsWorkerOf shared.entry.rows.now station.number station.ports.items w) }
+) -> Result<Worker, AllocError>
+    ensures { IfOk result (λ w. IsWorkerOf shared.entry.rows.now station.number station.ports.items w) }
 {
     if !is_used(shared.rows, station.number) {
-        return Some(Worker::Unused(station));
+        shared.board.end_host(station.number);
+        return Ok(Worker::Unused(station));
     }
     let promise = GivesStation {
         was: Snapshot::of(&station),
@@ -100,15 +101,15 @@ fn start_host<'s, E, R: Threads + Wait + Sync>(
         station.work(rt, shared.alloc, shared.geometry, shared.board, shared.rows)
     });
     match started {
-        Ok(handle) => Some(Worker::AtWork(handle)),
+        Ok(handle) => Ok(Worker::AtWork(handle)),
         Err(_) => {
             shared.board.give_up();
-            None
+            Err(AllocError)
         }
     }
 }
 
-/// The host behind its work.
+/// The host after its work.
 fn finish_host<R: Threads>(rt: &R, worker: Worker) -> Station
     ensures { (rows : List ARow) (host : ℕ) (ports : List Port) → IsWorkerOf rows host ports worker → HasSamePorts ports result.ports.items }
 {
@@ -118,37 +119,42 @@ fn finish_host<R: Threads>(rt: &R, worker: Worker) -> Station
     }
 }
 
-/// All hosts at work, each in its thread; `None` where one can't be made.
+/// All hosts after their work, each in its thread.
+///
+/// # Errors
+/// As [`start_host`].
 fn work_all<'s, E, R: Threads + Wait + Sync>(
     scope: &'s Scope<'s, E>,
     rt: &'s R,
     shared: Shared<'s>,
     stations: [Station; 4],
-) -> Option<[Station; 4]>
-    ensures { IfSome result (λ r. HaveSamePorts stations r) }
+) -> Result<[Station; 4], AllocError>
+    ensures { IfOk result (λ r. HaveSamePorts stations r) }
 {
-    let (s0, s1, s2, s3) = apart(stations);
-    let w0 = start_host(scope, rt, shared, s0)?;
-    let w1 = start_host(scope, rt, shared, s1)?;
-    let w2 = start_host(scope, rt, shared, s2)?;
-    let w3 = start_host(scope, rt, shared, s3)?;
-    Some([
-        finish_host(rt, w0),
-        finish_host(rt, w1),
-        finish_host(rt, w2),
-        finish_host(rt, w3),
-    ])
+    let workers = stations.try_map(
+        |station: Station| -> Result<Worker, AllocError>
+            ensures { IfOk result (λ w. IsWorkerOf shared.entry.rows.now station.number station.ports.items w) }
+        { start_host(scope, rt, shared, station) },
+    )?;
+    Ok(workers.map(
+        |worker: Worker| -> Station
+            ensures { (rows : List ARow) (host : ℕ) (ports : List Port) → IsWorkerOf rows host ports worker → HasSamePorts ports result.ports.items }
+        { finish_host(rt, worker) },
+    ))
 }
 
-/// Starts the thread of a channel; where none can be made, all that others wait for has ended.
+/// Starts the thread of a channel.
+///
+/// # Errors
+/// As [`start_host`].
 fn spawn_lane<'s, E, R: Threads + Wait + Sync, C: Channel + Send + Drop + 's>(
     scope: &'s Scope<'s, E>,
     rt: &'s R,
     shared: Shared<'s>,
     number: usize,
     lane: Lane<C>,
-) -> Option<PromisedHandle<Lane<C>, GivesLane<C>>>
-    ensures { IfSome result (λ h. h.promise.was.value ≡ lane) }
+) -> Result<PromisedHandle<Lane<C>, GivesLane<C>>, AllocError>
+    ensures { IfOk result (λ h. h.promise.was.value ≡ lane) }
 {
     let promise = GivesLane {
         was: Snapshot::of(&lane),
@@ -157,65 +163,73 @@ fn spawn_lane<'s, E, R: Threads + Wait + Sync, C: Channel + Send + Drop + 's>(
         lane.serve(rt, shared.alloc, shared.board, number)
     });
     match started {
-        Ok(handle) => Some(handle),
+        Ok(handle) => Ok(handle),
         Err(_) => {
             shared.board.give_up();
-            None
+            Err(AllocError)
         }
     }
 }
 
-/// All channels served, each in its thread, while the hosts are at work; `None` where a thread can't be made or memory
-/// was refused.
+/// All channels served, each in its thread, while the hosts are at work.
+///
+/// # Errors
+/// As [`start_host`].
 fn serve_all<'s, E, R: Threads + Wait + Sync, C: Channel + Send + Drop + 's>(
     scope: &'s Scope<'s, E>,
     rt: &'s R,
     shared: Shared<'s>,
     lanes: Vec<Lane<C>>,
     stations: [Station; 4],
-) -> Option<(Vec<Lane<C>>, [Station; 4])>
-    ensures lanes { IfSome result (λ r. map (λ l. C.queues l.channel) r.0.items ≡ map (λ l. C.queues l.channel) lanes.items) }
-    ensures stations { IfSome result (λ r. HaveSamePorts stations r.1) }
+) -> Result<(Vec<Lane<C>>, [Station; 4]), AllocError>
+    ensures lanes { IfOk result (λ r. map (λ l. C.queues l.channel) r.0.items ≡ map (λ l. C.queues l.channel) lanes.items) }
+    ensures stations { IfOk result (λ r. HaveSamePorts stations r.1) }
 {
     let mut left = lanes;
     let Some(lane) = left.pop() else {
         let stations = work_all(scope, rt, shared, stations)?;
-        return Some((left, stations));
+        return Ok((left, stations));
     };
     let handle = spawn_lane(scope, rt, shared, left.len(), lane)?;
     let rest = serve_all(scope, rt, shared, left, stations);
     let lane = handle.join(rt);
     let (mut lanes, stations) = rest?;
-    lanes.push(lane).ok()?;
-    Some((lanes, stations))
+    lanes.push(lane)?;
+    Ok((lanes, stations))
 }
 
-/// The channels and hosts behind the work of all hosts, while all channels were served; `None` where a thread can't be
-/// made or memory was refused.
+/// The channels and hosts after the work of all hosts, while all channels were served.
+///
+/// # Errors
+/// Where memory was refused, as where a thread can't be made.
 pub(crate) fn run_threads<R: Threads + Wait + Sync, C: Channel + Send + Drop>(
     rt: &R,
-    alloc: Global,
-    geometry: &Geometry,
-    rows: &[Row],
+    course: &Course<'_>,
     lanes: Vec<Lane<C>>,
     stations: [Station; 4],
-) -> Option<(Vec<Lane<C>>, [Station; 4])>
-    ensures lanes { IfSome result (λ r. map (λ l. C.queues l.channel) r.0.items ≡ map (λ l. C.queues l.channel) lanes.items) }
-    ensures stations { IfSome result (λ r. HaveSamePorts stations r.1) }
+) -> Result<Settled<C>, AllocError>
+    ensures lanes { IfOk result (λ s. map (λ l. C.queues l.channel) s.lanes.items ≡ map (λ l. C.queues l.channel) lanes.items) }
+    ensures stations { IfOk result (λ s. HaveSamePorts stations s.stations) }
+    ensures no_clock { IfOk result (λ s. s.now ≡ 0) }
 {
-    let board = Board::new(unused_hosts(rows));
+    let board = Board::new();
     let shared = Shared {
-        alloc,
+        alloc: course.alloc,
         board: &board,
-        geometry,
-        rows,
+        geometry: course.geometry,
+        rows: course.rows,
     };
-    thread::scope(
+    let (lanes, stations) = thread::scope(
         thread::scope_env(),
         rt,
-        move |scope| -> Option<(Vec<Lane<C>>, [Station; 4])>
-            ensures lanes { IfSome result (λ r. map (λ l. C.queues l.channel) r.0.items ≡ map (λ l. C.queues l.channel) lanes.items) }
-            ensures stations { IfSome result (λ r. HaveSamePorts stations r.1) }
+        move |scope| -> Result<(Vec<Lane<C>>, [Station; 4]), AllocError>
+            ensures lanes { IfOk result (λ r. map (λ l. C.queues l.channel) r.0.items ≡ map (λ l. C.queues l.channel) lanes.items) }
+            ensures stations { IfOk result (λ r. HaveSamePorts stations r.1) }
         { serve_all(scope, rt, shared, lanes, stations) },
-    )
+    )?;
+    Ok(Settled {
+        lanes,
+        stations,
+        now: NO_MOMENT,
+    })
 }

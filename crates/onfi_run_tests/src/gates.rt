@@ -29,7 +29,7 @@ const DEVICE: &str = "\
     sheet,tPLPBSY,500\n\
     sheet,tPLEBSY,500\n";
 
-// What the gates of two channels tell each other: how often each was called, and whether one gave up, or was called for
+// What the gates of two channels show each other: how often each was called, and whether one gave up, or was called for
 // another channel or out of turn.
 #[derive(Drop)]
 struct Meeting {
@@ -230,7 +230,7 @@ fn so_they_do_by_searches_that_remember_states(rt: HostRuntime) {
     assert!(rt; text.as_slice() == READS_ANSWERED);
 }
 
-// Each of the two channels hands the limit of the run on to its planner, and another one is told by the status.
+// Each of the two channels hands the limit of the run on to its planner, and another one is shown by the status.
 #[test]
 fn both_channels_plan_within_the_limit_of_the_run(rt: HostRuntime) {
     let planner = Limited { limit: 12_345 };

@@ -9,7 +9,7 @@ use std::alloc::{AllocError, Global};
 /// The request for an operation at a place; a program brings a page of this byte.
 ///
 /// # Errors
-/// Want of memory.
+/// Where memory was refused.
 pub fn request_of(
     alloc: Global,
     geometry: &Geometry,

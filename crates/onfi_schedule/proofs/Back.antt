@@ -75,7 +75,7 @@ module _ (p : Problem) (ws : List Want) (s' : Schedule) (l : ℕ) (g : List Want
   abbrev tail : List Phase
   tail = phases_from l (group_spans p.timing g) (length g) (n + 1) ts
 
-  -- each other group of the LUN comes behind the phase and the rest of its group
+  -- each other group of the LUN comes after the phase and the rest of its group
   tail_first : (h : Placed) → Has s'.groups h → l ≡ lun_of h.members → Before (first ∷ tail) (group_phases p.timing h)
   tail_first h k e =
       let bus = All-has _ s'.groups h (All-flat_map _ (group_phases p.timing) s'.groups (All-back (λ y. c ≤ y.start) (rest_phases p.timing 0 (slice_set p.luns l (lun_after p.timing g n c)) s'.rest) _ lg.from_bus_free)) k in (

@@ -68,14 +68,14 @@ module _ (p : Problem) (s : Schedule) (ip : IsProblem p) (lg : Legal p s) (ms : 
   old : (h : Placed) → Has gs h → Has s.groups h
   old h k = Has-perm h (back perm) (inr k)
 
-  -- the other groups of the LUN come behind it
+  -- the other groups of the LUN come after it
   begun_first : All (λ x. t ≤ x.start) (phases p s) → (h : Placed) → Has gs h → lun_of ms ≡ lun_of h.members → Before (group_phases p.timing g) (group_phases p.timing h)
   begun_first least h k e =
       let here = old h k in
       let r = rest_phases p.timing 0 p.luns s.rest in
       let turns = All-has _ gs h (Pairs-perm (TakeTurns p.timing) (TakeTurns-sym p.timing) perm lg.turns).0 k in
       let from = All-has _ s.groups h (All-flat_map _ (group_phases p.timing) s.groups (All-back (λ x. t ≤ x.start) r _ least)) here in
-      let takes = All-has _ s.groups h (All-flat_map _ (group_phases p.timing) s.groups (All-back (λ x. 1 ≤ x.length) r _ (phases_long p s))) here in
+      let takes = All-has _ s.groups h (All-flat_map _ (group_phases p.timing) s.groups (All-back (λ x. 1 ≤ x.length) r _ (phases_long p s lg.shape))) here in
       let starts = All-has _ s.groups h lg.shape.starts here in
       let some = (All-has _ s.groups h lg.group here).some in
       let n = phases_number (lun_of h.members) (group_spans p.timing h.members) (length h.members) 0 h.starts in
@@ -84,7 +84,7 @@ module _ (p : Problem) (s : Schedule) (ip : IsProblem p) (lg : Legal p s) (ms : 
   pub begun_legal : All (λ x. t ≤ x.start) (phases p s) → Legal begun begun_schedule
   begun_legal least =
       let least' = All-perm (λ x. t ≤ x.start) begun_phases least in
-      let long' = All-perm (λ x. 1 ≤ x.length) begun_phases (phases_long p s) in
+      let long' = All-perm (λ x. 1 ≤ x.length) begun_phases (phases_long p s lg.shape) in
       let apart = Pairs-perm Apart Apart-sym begun_phases lg.no_overlap in
       let fits = new_fits p s lg l ms 0 b ts us _ at starts_at begun_count in
       let in_order = All-perm (λ h. InOrder (group_spans p.timing h.members) (length h.members) 0 0 h.starts) perm lg.waits in

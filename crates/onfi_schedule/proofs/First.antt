@@ -4,36 +4,37 @@ use Rattle.std.specs.Prelude.{slice_get, slice_set}
 use Rattle.std.specs.List.{AllByRecursion as All, flat_map}
 use Rattle.std.proofs.lemmas.Bool.{cases_lt}
 use Rattle.onfi_timing.specs.declared.timing.Timing.{Timing}
-use Rattle.onfi_timing.specs.declared.spans.Spans.{Spans}
 use Rattle.onfi_request.specs.declared.want.Want.{Want}
 use Rattle.onfi_problem.specs.declared.lun_state.LunState.{LunState}
 use Rattle.onfi_problem.specs.declared.lun_state.LunState.TheVariants.{Free, Running}
 use Rattle.onfi_problem.specs.Problem.{Problem, IsProblem}
 use Rattle.onfi_group.specs.Group.{group_spans, lun_of}
-use Rattle.onfi_timing.specs.Phases.{phase_length, wait_before}
-use Rattle.onfi_schedule.specs.Schedule.{Placed, Schedule, Phase, end_of, phases_from, phases_left, rest_phases, group_phases, phases, InOrder, Apart, Before, StartsFrom, Legal}
-use Rattle.onfi_schedule.specs.Conditions.{StateFits, StateWaits, StateSince, LeftFirst, FromSince}
+use Rattle.onfi_timing.specs.Phases.{Lengths, phase_length, wait_before}
+use Rattle.onfi_schedule.specs.Schedule.{Placed, Schedule, Phase, end_of, phases_from, phases_left, rest_phases, group_phases, phases, InOrder, Apart, Before, StartsFrom, IsSchedule, Legal}
+use Rattle.onfi_schedule.specs.Conditions.{EachRest, StartsFit, StateFits, StateWaits, StateSince, LeftFirst, FromSince}
 use Rattle.onfi_problem.specs.Moves.{lun_after, ran}
 use Rattle.onfi_problem.proofs.Perm.{Perm, same, on_left, All-perm, Pairs-perm, All-append, All-weaker, All-both}
 use Rattle.onfi_problem.proofs.Places.{length_set}
 use Rattle.onfi_problem.proofs.LunAfter.{lun_after_running, lun_after_free}
 use Rattle.onfi_schedule.proofs.Chains.{all_long}
 use Rattle.onfi_schedule.proofs.Rests.{RunningFirst, FromFree, At, set_state, set_at, rest_changed}
-use Rattle.onfi_schedule.proofs.LegalIs.{fits_of, waits_of, left_from, since_from}
+use Rattle.onfi_schedule.proofs.LegalIs.{each_from, fits_of, waits_of, left_from, since_from}
 
 -- every phase takes time
-rest_long : (timing : Timing) (first : ℕ) (luns : List LunState) (rest : List (List ℕ)) → All (λ x. 1 ≤ x.length) (rest_phases timing first luns rest)
-rest_long timing first [] rest = tt
-rest_long timing first (x ∷ luns) [] = tt
-rest_long timing first (Free since ∷ luns) (ts ∷ rest) = rest_long timing (first + 1) luns rest
-rest_long timing first (Running g n r ∷ luns) (ts ∷ rest) = All-append (λ x. 1 ≤ x.length) (phases_from first (group_spans timing g) (length g) n ts) _ (all_long first (group_spans timing g) (length g) n ts) (rest_long timing (first + 1) luns rest)
+rest_long : (timing : Timing) (first : ℕ) (luns : List LunState) (rest : List (List ℕ)) → EachRest StateFits luns rest → All (λ x. 1 ≤ x.length) (rest_phases timing first luns rest)
+rest_long timing first [] rest fits = tt
+rest_long timing first (x ∷ luns) [] fits = tt
+rest_long timing first (Free since ∷ luns) (ts ∷ rest) fits = rest_long timing (first + 1) luns rest fits.1
+rest_long timing first (Running g n r ∷ luns) (ts ∷ rest) fits = All-append (λ x. 1 ≤ x.length) (phases_from first (group_spans timing g) (length g) n ts) _ (all_long first timing g n ts (let e = fits.0 in omega arith)) (rest_long timing (first + 1) luns rest fits.1)
 
-groups_long : (timing : Timing) (groups : List Placed) → All (λ x. 1 ≤ x.length) (flat_map (group_phases timing) groups)
-groups_long timing [] = tt
-groups_long timing (g ∷ groups) = All-append (λ x. 1 ≤ x.length) (group_phases timing g) _ (all_long (lun_of g.members) (group_spans timing g.members) (length g.members) 0 g.starts) (groups_long timing groups)
+groups_long : (timing : Timing) (groups : List Placed) → All StartsFit groups → All (λ x. 1 ≤ x.length) (flat_map (group_phases timing) groups)
+groups_long timing [] fits = tt
+groups_long timing (g ∷ groups) fits = All-append (λ x. 1 ≤ x.length) (group_phases timing g) _ (all_long (lun_of g.members) timing g.members 0 g.starts (let e = fits.0 in omega arith)) (groups_long timing groups fits.1)
 
-pub phases_long : (p : Problem) (s : Schedule) → All (λ x. 1 ≤ x.length) (phases p s)
-phases_long p s = All-append (λ x. 1 ≤ x.length) (rest_phases p.timing 0 p.luns s.rest) _ (rest_long p.timing 0 p.luns s.rest) (groups_long p.timing s.groups)
+pub phases_long : (p : Problem) (s : Schedule) → IsSchedule p s → All (λ x. 1 ≤ x.length) (phases p s)
+phases_long p s shape =
+    let fits = each_from StateFits p.luns s.rest (fits_of p s shape) in
+    All-append (λ x. 1 ≤ x.length) (rest_phases p.timing 0 p.luns s.rest) _ (rest_long p.timing 0 p.luns s.rest fits) (groups_long p.timing s.groups shape.starts)
 
 pub left_after : (timing : Timing) (l : ℕ) (g : List Want) (n ended : ℕ) (ts : List ℕ) → n + suc (length ts) ≡ 2 * length g → phases_left timing l (lun_after timing g n ended) ts ≡ phases_from l (group_spans timing g) (length g) (n + 1) ts
 left_after timing l g n ended [] e = rw (lun_after_free timing g n ended (omega arith))
@@ -43,11 +44,11 @@ pub starts_lower : (a b : ℕ) (ts : List ℕ) → a ≤ b → StartsFrom b ts �
 starts_lower a b [] l h = tt
 starts_lower a b (t ∷ ts) l h = omega arith
 
-pub starts_from : (b lun : ℕ) (spans : Spans) (k n : ℕ) (ts : List ℕ) → All (λ y. b ≤ y.start) (phases_from lun spans k n ts) → StartsFrom b ts
+pub starts_from : (b lun : ℕ) (spans : Lengths) (k n : ℕ) (ts : List ℕ) → All (λ y. b ≤ y.start) (phases_from lun spans k n ts) → StartsFrom b ts
 starts_from b lun spans k n [] h = tt
 starts_from b lun spans k n (t ∷ ts) h = h.0
 
--- the state that a phase leaves, and the starts behind it
+-- the state that a phase leaves, and the starts after it
 fits_after : (timing : Timing) (g : List Want) (n ended : ℕ) (ts : List ℕ) → n + suc (length ts) ≡ 2 * length g → StateFits (lun_after timing g n ended) ts
 fits_after timing g n ended [] e = rw (lun_after_free timing g n ended (omega arith)) refl
 fits_after timing g n ended (t ∷ ts) e = rw (lun_after_running timing g n ended (omega arith)) (omega arith)
@@ -59,7 +60,7 @@ waits_after timing g n ended (t ∷ ts) e h = rw (lun_after_running timing g n e
 since_after : (timing : Timing) (g : List Want) (n ended : ℕ) (ts : List ℕ) → StartsFrom ended ts → StateSince (lun_after timing g n ended) ts
 since_after timing g n ended ts h = elim (cases_lt (n + 1) (2 * length g)) [ inl a ↦ rw (lun_after_running timing g n ended a) tt | inr a ↦ rw (lun_after_free timing g n ended a) h ]
 
--- what holds behind a phase on its LUN l, and what it leaves alone on the others
+-- what holds after a phase on its LUN l, and what it leaves alone on the others
 module _ (p : Problem) (s : Schedule) (lg : Legal p s) (l : ℕ) (g : List Want) (n ended : ℕ) (ts us : List ℕ) (x : LunState) (at : slice_get p.luns l ≡ Some x) (starts_at : slice_get s.rest l ≡ Some us) (count : n + suc (length ts) ≡ 2 * length g) where
   abbrev y : LunState
   y = lun_after p.timing g n ended
@@ -79,7 +80,7 @@ module _ (p : Problem) (s : Schedule) (lg : Legal p s) (l : ℕ) (g : List Want)
   new_since h own old =
       set_state (λ z. StateSince z h.starts) p.luns l x y at (lun_of h.members) (λ e. since_after p.timing g n ended h.starts (starts_from ended (lun_of h.members) (group_spans p.timing h.members) (length h.members) 0 h.starts (own e))) (since_from p.luns h old)
 
--- those that start when the first one may, and don't overlap with it, start behind it
+-- those that start when the first one may, and don't overlap with it, start after it
 pub behind_first : (t b : ℕ) (x : Phase) (xs : List Phase) → x.start ≡ t → end_of x ≡ b → All (Apart x) xs → All (λ y. t ≤ y.start) xs → All (λ y. 1 ≤ y.length) xs → All (λ y. b ≤ y.start) xs
 behind_first t b x [] e f a l k = tt
 behind_first t b x (y ∷ ys) e f a l k = (⊎_elim (λ h. omega (arith, h)) (λ h. absurd (omega (arith, h, l.0, k.0))) a.0, behind_first t b x ys e f a.1 l.1 k.1)
@@ -104,7 +105,7 @@ module _ (p : Problem) (s : Schedule) (ip : IsProblem p) (lg : Legal p s) (l : �
       on_left (flat_map (group_phases p.timing) s.groups) (rest_changed p.timing 0 l l p.luns s.rest (Running g n r) (lun_after p.timing g n (t + phase_length (group_spans p.timing g) (length g) n)) (t ∷ ts) ts [] (next_phase ∷ []) (omega arith) at starts_at
       (rw (left_after p.timing l g n (t + phase_length (group_spans p.timing g) (length g) n) ts next_count) (same _)))
 
-  -- the other groups of the LUN come behind the phase, and behind those that are left
+  -- the other groups of the LUN come after the phase, and after those that are left
   next_before : (h : Placed) → RunningFirst p.timing p.luns s.rest h → l ≡ lun_of h.members → Before (next_phase ∷ phases_from l (group_spans p.timing g) (length g) (n + 1) ts) (group_phases p.timing h)
   next_before h old e =
       subst (λ i. Before (phases_left p.timing i (Running g n r) (t ∷ ts)) (group_phases p.timing h)) (sym e) (old g n r (t ∷ ts) (subst (λ i. slice_get p.luns i ≡ Some (Running g n r)) e at) (subst (λ i. slice_get s.rest i ≡ Some (t ∷ ts)) e starts_at))
@@ -114,7 +115,7 @@ module _ (p : Problem) (s : Schedule) (ip : IsProblem p) (lg : Legal p s) (l : �
       let b = t + phase_length (group_spans p.timing g) (length g) n in
       let order = lg.rest_waits l g n r (t ∷ ts) at starts_at in
       let least' = All-perm (λ x. t ≤ x.start) next_phases least in
-      let long' = All-perm (λ x. 1 ≤ x.length) next_phases (phases_long p s) in
+      let long' = All-perm (λ x. 1 ≤ x.length) next_phases (phases_long p s lg.shape) in
       let apart = Pairs-perm Apart Apart-sym next_phases lg.no_overlap in
       let fits = new_fits p s lg l g n b ts (t ∷ ts) _ at starts_at next_count in
       record {

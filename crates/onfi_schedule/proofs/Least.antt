@@ -4,7 +4,6 @@ use Rattle.std.specs.Prelude.{slice_get, slice_set, true, max, ◌==◌}
 use Rattle.std.specs.List.{AllByRecursion as All}
 use Rattle.std.proofs.lemmas.Bool.{cases_lt, cases_Bool, eqb-true, false≢true}
 use Rattle.std.proofs.lemmas.List.{nil_from_length}
-use Rattle.onfi_timing.specs.declared.spans.Spans.{Spans}
 use Rattle.onfi_request.specs.declared.want.Want.{Want}
 use Rattle.onfi_problem.specs.declared.lun_state.LunState.{LunState}
 use Rattle.onfi_problem.specs.declared.lun_state.LunState.TheVariants.{Free, Running}
@@ -12,12 +11,13 @@ use Rattle.onfi_problem.specs.Moves.{Move, Next, Start, IsMove, IsDone, earliest
 use Rattle.onfi_group.specs.Words.{Has, Pairs, number}
 use Rattle.onfi_problem.specs.Problem.{Problem, IsProblem, has_id}
 use Rattle.onfi_group.specs.Group.{IsGroup, lun_of, group_spans, IsFirst, on_block}
-use Rattle.onfi_timing.specs.Phases.{phase_length}
+use Rattle.onfi_timing.specs.Phases.{Lengths, phase_length}
 use Rattle.onfi_schedule.specs.Schedule.{Placed, Schedule, Phase, end_of, phases_from, phases_left, rest_phases, group_phases, phases, latest, finish, InOrder, KeepsBlockOrder, all_members, Legal}
 use Rattle.onfi_schedule.specs.Runs.{Step, Run}
 use Rattle.onfi_schedule.specs.Laws.{ComesNext}
 use Rattle.onfi_problem.proofs.Perm.{Perm, back, All-perm, All-has, All-each, All-front, All-back, All-flat_map, Has-append_cases, Has-flat_map, Has-flat_map_in, Has-perm, to_front, length_perm}
 use Rattle.onfi_problem.proofs.Places.{get_within, within_get}
+use Rattle.onfi_group.proofs.PhaseLengths.{phase_some}
 use Rattle.onfi_schedule.proofs.Chains.{is_head}
 use Rattle.onfi_schedule.proofs.Rests.{all_at, has_at}
 use Rattle.onfi_schedule.proofs.First.{phases_long, next_phase, next_phases, next_legal}
@@ -71,7 +71,7 @@ cut_at (y ∷ xs) x (inr h) = let r = cut_at xs x h in (y ∷ r.0, r.1, ap (λ y
 abbrev pub NextPhase : Problem → Schedule → Type 0
 NextPhase p s = (move : Move) × (start : ℕ) × (left : Schedule) × ComesNext p s move start left
 
-no_phases : (lun : ℕ) (spans : Spans) (k n : ℕ) (ts : List ℕ) → All (λ x. ⊥) (phases_from lun spans k n ts) → length ts ≡ 0
+no_phases : (lun : ℕ) (spans : Lengths) (k n : ℕ) (ts : List ℕ) → All (λ x. ⊥) (phases_from lun spans k n ts) → length ts ≡ 0
 no_phases lun spans k n [] h = refl
 no_phases lun spans k n (t ∷ ts) h = absurd h.0
 
@@ -177,7 +177,7 @@ module _ (p : Problem) (s : Schedule) (ip : IsProblem p) (lg : Legal p s) where
       let i = (ip.running (lun_of ms) g n r at).unfinished in
       let k = phases_number (lun_of ms) (group_spans p.timing g) (length g) n us in
       absurd (not_before t (record { lun = lun_of ms; start = t; length = phase_length (group_spans p.timing ms) (length ms) 0 }) _ (phases_from (lun_of ms) (group_spans p.timing g) (length g) n us)
-      (of_rest (λ x. t ≤ x.start) (lun_of ms) _ us at starts_at least) (of_rest (λ x. 1 ≤ x.length) (lun_of ms) _ us at starts_at (phases_long p s)) (omega arith) refl before)
+      (of_rest (λ x. t ≤ x.start) (lun_of ms) _ us at starts_at least) (of_rest (λ x. 1 ≤ x.length) (lun_of ms) _ us at starts_at (phases_long p s lg.shape)) (omega arith) refl before)
 
   starts_free : (ms : List Want) (t : ℕ) (ts : List ℕ) (gs : List Placed) → Perm s.groups (record { members = ms; starts = t ∷ ts } ∷ gs) → All (λ x. t ≤ x.start) (phases p s) → StartsFree ms t
   starts_free ms t ts gs perm least =
@@ -190,7 +190,7 @@ module _ (p : Problem) (s : Schedule) (ip : IsProblem p) (lg : Legal p s) where
       let first : All (IsFirst p.wants) ms = All-each (IsFirst p.wants) ms (λ m i. ⊎_elim (λ q. q) (λ (w, hw, el, eb, r).
       let h = group_of w hw in
       let before = r el eb h.0 g h.1 here h.2 i in
-      absurd (not_before t (record { lun = lun_of ms; start = t; length = phase_length (group_spans p.timing ms) (length ms) 0 }) _ (group_phases p.timing h.0) (of_group (λ x. t ≤ x.start) h.0 h.1 least) (of_group (λ x. 1 ≤ x.length) h.0 h.1 (phases_long p s)) (group_number h.0 h.1) refl before)) (first_or_earlier (KeepsBlockOrder p.timing s.groups) p.wants m lg.block_order (wanted g m here i))) in
+      absurd (not_before t (record { lun = lun_of ms; start = t; length = phase_length (group_spans p.timing ms) (length ms) 0 }) _ (group_phases p.timing h.0) (of_group (λ x. t ≤ x.start) h.0 h.1 least) (of_group (λ x. 1 ≤ x.length) h.0 h.1 (phases_long p s lg.shape)) (group_number h.0 h.1) refl before)) (first_or_earlier (KeepsBlockOrder p.timing s.groups) p.wants m lg.block_order (wanted g m here i))) in
       free_at ms t ts us.0 least here group first x.0 x.1 us.1
 
   begun_first : (ms : List Want) (t : ℕ) (ts : List ℕ) (gs : List Placed) → Perm s.groups (record { members = ms; starts = t ∷ ts } ∷ gs) → All (λ x. t ≤ x.start) (phases p s) → FirstMove p s (Start ms) t (record { rest = slice_set s.rest (lun_of ms) ts; groups = gs })
@@ -221,7 +221,8 @@ module _ (p : Problem) (s : Schedule) (ip : IsProblem p) (lg : Legal p s) where
   in_rest l (Running g n r) [] y at starts_at h least = absurd h
   in_rest l (Running g n r) (t ∷ ts) y at starts_at h least =
       let here = of_rest (λ z. y.start ≤ z.start) l _ (t ∷ ts) at starts_at least in
-      let e = is_head l (group_spans p.timing g) (length g) n r t ts y (lg.rest_waits l g n r (t ∷ ts) at starts_at) h here.0 in
+      let fits = lg.shape.rest l g n r (t ∷ ts) at starts_at in
+      let e = is_head l (group_spans p.timing g) (length g) n r t ts y (phase_some p.timing g n (omega arith)) (lg.rest_waits l g n r (t ∷ ts) at starts_at) h here.0 in
       (Next l, t, record { rest = slice_set s.rest l ts; groups = s.groups }, record { begins = (ts, starts_at, refl); least = subst (λ (i : ℕ). All (λ z. i ≤ z.start) (phases p s)) e least })
 
   in_group : (h : Placed) (us : List ℕ) (y : Phase) → h.starts ≡ us → Has s.groups h → Has (group_phases p.timing h) y → All (λ z. y.start ≤ z.start) (phases p s) → NextPhase p s
@@ -232,7 +233,9 @@ module _ (p : Problem) (s : Schedule) (ip : IsProblem p) (lg : Legal p s) where
       let i' = subst (λ (u : List ℕ). Has (phases_from (lun_of h.members) spans k 0 u) y) e i in
       let w = subst (InOrder spans k 0 0) e (All-has _ s.groups h lg.waits here) in
       let low = subst (λ (u : List ℕ). All (λ z. y.start ≤ z.start) (phases_from (lun_of h.members) spans k 0 u)) e (of_group (λ z. y.start ≤ z.start) h here least) in
-      let q = is_head (lun_of h.members) spans k 0 0 t ts y w i' low.0 in
+      let fits = All-has _ s.groups h lg.shape.starts here in
+      let count = ap length e in
+      let q = is_head (lun_of h.members) spans k 0 0 t ts y (phase_some p.timing h.members 0 (omega arith)) w i' low.0 in
       let cut = cut_at s.groups h here in
       let g : Placed = record { members = h.members; starts = t ∷ ts } in
       let same : h ≡ g = ap (λ (u : List ℕ). record { members = h.members; starts = u }) e in (

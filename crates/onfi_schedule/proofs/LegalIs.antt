@@ -28,7 +28,7 @@ each_at P (x ∷ luns) (us ∷ rest) zero state ts h e k =
     subst (λ (z : LunState). P z ts) a (subst (λ (z : List ℕ). P x z) b h.0)
 each_at P (x ∷ luns) (us ∷ rest) (suc i) state ts h e k = each_at P luns rest i state ts h.1 e k
 
-each_from : (P : LunState → List ℕ → Type 0) (luns : List LunState) (rest : List (List ℕ)) → ((i : ℕ) (state : LunState) (ts : List ℕ) → slice_get luns i ≡ Some state → slice_get rest i ≡ Some ts → P state ts) → EachRest P luns rest
+pub each_from : (P : LunState → List ℕ → Type 0) (luns : List LunState) (rest : List (List ℕ)) → ((i : ℕ) (state : LunState) (ts : List ℕ) → slice_get luns i ≡ Some state → slice_get rest i ≡ Some ts → P state ts) → EachRest P luns rest
 each_from P [] rest h = tt
 each_from P (x ∷ luns) [] h = tt
 each_from P (x ∷ luns) (us ∷ rest) h = (h 0 x us refl refl, each_from P luns rest (λ i. h (suc i)))

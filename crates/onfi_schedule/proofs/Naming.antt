@@ -1,14 +1,12 @@
 -- Phases with their names.
-use Rattle.std.proofs.Common.{◌≡◌, ℕ, zero, suc, ◌+◌, ◌*◌, ◌<◌, ◌≤◌, ◌⊎◌, List, [], ◌∷◌, ◌++◌, length, map, take, Some, get_or, inl, inr, refl, sym, ap, ◌∙◌, subst, arith, length-append}
+use Rattle.std.proofs.Common.{◌≡◌, ℕ, zero, suc, ◌+◌, ◌*◌, ◌<◌, ◌≤◌, ◌⊎◌, List, [], ◌∷◌, length, map, take, Some, get_or, inl, inr, refl, ap, ◌∙◌, subst, arith, length-append}
 use Rattle.std.specs.Prelude.{slice_get, slice_index_or}
 use Rattle.std.specs.List.{AllByRecursion as All}
 use Rattle.std.proofs.lemmas.List.{length-map}
 use Rattle.std.proofs.lemmas.Option.{slice_get-get_or}
-use Rattle.onfi_timing.specs.declared.spans.Spans.{Spans}
-use Rattle.onfi_timing.specs.Phases.{phase_length}
+use Rattle.onfi_timing.specs.Phases.{Lengths, phase_length}
 use Rattle.onfi_request.specs.declared.want.Want.{Want}
 use Rattle.onfi_group.specs.Words.{Has}
-use Rattle.onfi_problem.specs.declared.lun_state.LunState.{LunState}
 use Rattle.onfi_problem.specs.declared.moves.Lun.{Lun}
 use Rattle.onfi_problem.specs.Position.{state_of}
 use Rattle.onfi_problem.proofs.Lists.{map_get}
@@ -22,7 +20,7 @@ use Rattle.onfi_schedule.specs.Names.{Named, post_of, owner_of, names_of, name_o
 use Rattle.onfi_schedule.specs.declared.phase_name.Part.TheVariants.{Command}
 use Rattle.onfi_schedule.specs.declared.phase_name.PhaseName.{PhaseName}
 
--- behind the last one stands none
+-- past the last one stands none
 pub read_past : {A : Type 0} (xs : List A) (i : ℕ) (d : A) → length xs ≤ i → slice_index_or xs i d ≡ d
 read_past [] i d h = refl
 read_past (x ∷ xs) zero d h = absurd (omega (arith, h))
@@ -40,16 +38,16 @@ pub state_at : (table : List (List Want)) (luns : List Lun) (i : ℕ) (d : Lun) 
 state_at table luns i d h = map_get (state_of table) luns i (get_or luns i d) (slice_get-get_or luns i d h)
 
 -- all are phases of the LUN
-pub all_of_lun : (next lun : ℕ) (spans : Spans) (ms : List Want) (n : ℕ) (ts : List ℕ) → All (λ (x : Named). x.phase.lun ≡ lun) (named_from next lun spans ms n ts)
+pub all_of_lun : (next lun : ℕ) (spans : Lengths) (ms : List Want) (n : ℕ) (ts : List ℕ) → All (λ (x : Named). x.phase.lun ≡ lun) (named_from next lun spans ms n ts)
 all_of_lun next lun spans ms n [] = tt
 all_of_lun next lun spans ms n (t ∷ ts) = (refl, all_of_lun next lun spans ms (n + 1) ts)
 
 -- phase n of members, at a start
-abbrev pub phase_at : ℕ → ℕ → Spans → List Want → ℕ → ℕ → Named
+abbrev pub phase_at : ℕ → ℕ → Lengths → List Want → ℕ → ℕ → Named
 phase_at next lun spans ms n t = record { name = name_of next lun ms n; phase = record { lun = lun; start = t; length = phase_length spans (length ms) n } }
 
 -- the phase that starts at a place
-pub named_at : (next lun : ℕ) (spans : Spans) (ms : List Want) (n : ℕ) (ts : List ℕ) (i t : ℕ) → slice_get ts i ≡ Some t
+pub named_at : (next lun : ℕ) (spans : Lengths) (ms : List Want) (n : ℕ) (ts : List ℕ) (i t : ℕ) → slice_get ts i ≡ Some t
     → slice_get (named_from next lun spans ms n ts) i ≡ Some (phase_at next lun spans ms (n + i) t)
 named_at next lun spans ms n [] i t h = cc
 named_at next lun spans ms n (u ∷ ts) zero t h =
@@ -60,7 +58,7 @@ named_at next lun spans ms n (u ∷ ts) (suc i) t h =
     let e : n + 1 + i ≡ n + suc i = omega arith in
     named_at next lun spans ms (n + 1) ts i t h ∙ ap Some (ap (λ k. phase_at next lun spans ms k t) e)
 
--- what all of them start at or behind, so do their phases
+-- what all of them start at or after, so do their phases
 pub all_from : (t : ℕ) (slots : List Slot) → All (λ (x : Named). t ≤ x.phase.start) (named_in slots) → All (λ (x : Phase). t ≤ x.start) (phases_in slots)
 all_from t [] h = tt
 all_from t (x ∷ xs) h = (h.0, all_from t xs h.1)

@@ -1,11 +1,10 @@
--- What breaches tell, of what the functions find.
-use Rattle.std.proofs.Common.{◌≡◌, ◌≢◌, Bool, true, false, IsTrue, ℕ, zero, suc, ◌+◌, ◌-◌, ◌*◌, ◌<◌, ◌≤◌, ◌⊎◌, List, [], ◌∷◌, length, drop, Some, get_or, inl, inr, refl, sym, ap, ◌∙◌, subst, arith}
+-- What breaches say, of what the functions find.
+use Rattle.std.proofs.Common.{◌≡◌, Bool, true, false, IsTrue, ℕ, zero, suc, ◌+◌, ◌-◌, ◌<◌, ◌≤◌, ◌⊎◌, List, [], ◌∷◌, length, drop, Some, get_or, inl, inr, refl, sym, ap, ◌∙◌, subst, arith}
 use Rattle.std.specs.Prelude.{slice_get}
 use Rattle.std.specs.List.{AllByRecursion as All}
 use Rattle.std.proofs.lemmas.Option.{slice_get-get_or}
-use Rattle.onfi_timing.specs.declared.spans.Spans.{Spans}
 use Rattle.onfi_timing.specs.declared.timing.Timing.{Timing}
-use Rattle.onfi_timing.specs.Phases.{phase_length, wait_before}
+use Rattle.onfi_timing.specs.Phases.{Lengths, phase_length, wait_before}
 use Rattle.onfi_request.specs.declared.want.Want.{Want}
 use Rattle.onfi_timing.specs.declared.kind.Kind.TheVariants.{Read}
 use Rattle.onfi_group.specs.declared.rules.Rules.{Rules}
@@ -22,7 +21,7 @@ use Rattle.onfi_schedule.specs.declared.breach.Breach.{Breach}
 use Rattle.onfi_schedule.specs.declared.breach.Breach.TheVariants.{NotReady, WaitTooShort, RunningGroupLeft, LunTaken}
 use Rattle.onfi_schedule.specs.declared.slot.Slot.{Slot}
 use Rattle.onfi_schedule.specs.Slots.{phases_in, named_slot, named_in}
-use Rattle.onfi_schedule.specs.Names.{Named, name_of, named_from, named_group, StartsFirst}
+use Rattle.onfi_schedule.specs.Names.{Named, name_of, named_group, StartsFirst}
 use Rattle.onfi_schedule.specs.Tells.{Tells, AreTwo, StartsWithin, Outlasts, HasWork, FallsBack, IsSinglePlane, first_id}
 use Rattle.onfi_schedule.proofs.Twos.{any_has}
 use Rattle.onfi_schedule.proofs.Naming.{all_of_lun, all_from, lasts_beyond, named_at, phase_at, some_behind, some_before, some_slots}
@@ -121,7 +120,7 @@ from_first : (ts : List ℕ) (t : ℕ) → slice_get ts 0 ≡ Some t → ts ≡ 
 from_first [] t e = cc
 from_first (u ∷ ts) t e = let same : u ≡ t = cc in ap (λ k. k ∷ ts) same
 
-pub wait_told : (p : Problem) (s : Schedule) (spans : Spans) (lun : ℕ) (members : List Want) (next due floor : ℕ) (starts : List ℕ) (index number start : ℕ) (b : Breach)
+pub wait_told : (p : Problem) (s : Schedule) (spans : Lengths) (lun : ℕ) (members : List Want) (next due floor : ℕ) (starts : List ℕ) (index number start : ℕ) (b : Breach)
     → spans ≡ group_spans p.timing members → HasWork p s lun members next due starts → number ≡ next + index → slice_get starts index ≡ Some start → start < floor
     → (index ≡ 0 → floor ≡ due)
     → ((i : ℕ) → index ≡ i + 1 → floor ≡ get_or starts i 0 + phase_length spans (length members) (next + i) + wait_before spans (length members) (next + i + 1))
@@ -163,7 +162,7 @@ wait_told p s spans lun members next due floor starts (suc i) number start b es 
       behind = next_there;
       told = (ap (λ n. name_of next lun members n) own, refl);
       told_before = ap (λ n. name_of next lun members n) before;
-      over = rw (← es) (sym floor_is);
+      over = sym (subst (λ (lengths : Lengths). floor ≡ get_or starts i 0 + phase_length lengths (length members) (next + i) + wait_before lengths (length members) (next + i + 1)) es floor_is);
       early = lt;
     })
   where

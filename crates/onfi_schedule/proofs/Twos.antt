@@ -12,7 +12,7 @@ has_taken (suc n) [] o h = h
 has_taken (suc n) (x ∷ xs) o (inl e) = inl e
 has_taken (suc n) (x ∷ xs) o (inr h) = inr (has_taken n xs o h)
 
--- one at a place, and one of those behind it
+-- one at a place, and one of those after it
 pub pair_at : {A : Type 0} (xs : List A) (i j : ℕ) (d o : A) → j ≡ i + 1 → i < length xs → Has (drop j xs) o → ArePair xs (get_or xs i d) o
 pair_at [] i j d o e h k = absurd (omega (arith, h))
 pair_at (x ∷ xs) zero zero d o e h k = absurd (omega (arith, e))

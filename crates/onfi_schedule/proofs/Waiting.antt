@@ -11,7 +11,7 @@ waiting_at marks wants i m d h k =
     at_drop_more (λ (ms : List Bool). waiting_of ms (drop i wants)) marks i m h
     ∙ at_drop_more (λ (ws : List Want). waiting_of (slice_index_or marks i m ∷ drop (i + 1) marks) ws) wants i d k
 
--- one that waits goes behind the others
+-- one that waits goes after the others
 pub one_waits : (marks : List Bool) (wants before : List Want) (i : ℕ) (m : Bool) (d : Want) (all : List Want) → i < length marks → i < length wants → slice_index_or marks i m ≡ true → before ++ waiting_of (drop i marks) (drop i wants) ≡ all → (before ++ slice_index_or wants i d ∷ []) ++ waiting_of (drop (i + 1) marks) (drop (i + 1) wants) ≡ all
 one_waits marks wants before i m d all h k is e =
     let next : waiting_of (drop i marks) (drop i wants) ≡ slice_index_or wants i d ∷ waiting_of (drop (i + 1) marks) (drop (i + 1) wants) = rw is at (waiting_at marks wants i m d h k) in

@@ -5,6 +5,7 @@ use Rattle.onfi_timing.specs.declared.spans.Spans.{Spans}
 use Rattle.onfi_timing.specs.declared.timing.Timing.{Timing}
 use Rattle.onfi_request.specs.declared.want.Want.{Want}
 use Rattle.onfi_group.specs.declared.rules.Rules.{Rules}
+use Rattle.onfi_group.specs.Group.{group_spans}
 use Rattle.onfi_problem.specs.declared.lun_state.LunState.TheVariants.{Free, Running}
 use Rattle.onfi_problem.specs.Problem.{Problem}
 use Rattle.onfi_problem.specs.Moves.{Next, Start, earliest, after}
@@ -45,7 +46,7 @@ together_ends = refl
 apart_ends : finish two_planes apart ≡ 72480
 apart_ends = refl
 
-together_waits : InOrder reads 2 0 0 (0 ∷ 740 ∷ 25980 ∷ 36980 ∷ [])
+together_waits : InOrder (group_spans device two_planes.wants) 2 0 0 (0 ∷ 740 ∷ 25980 ∷ 36980 ∷ [])
 together_waits = (lit≤ tt, (lit≤ tt, (lit≤ tt, (lit≤ tt, tt))))
 
 -- the group one move after the other

@@ -22,7 +22,7 @@ pub record ComesNext (p : Problem) (s : Schedule) (move : Move) (start : ℕ) (l
   pub begins : Begins s move start left
   pub least : Each (λ x. start ≤ x.start) (phases p s)
 
--- that phase is a move of the problem, and the others are legal behind it: at its own start, and at its earliest
+-- that phase is a move of the problem, and the others are legal after it: at its own start, and at its earliest
 pub record IsFirstMove (p : Problem) (s : Schedule) (move : Move) (start : ℕ) (left : Schedule) : Type 0 where
   pub is_move : IsMove p move
   pub on_time : earliest p move ≤ start
@@ -48,7 +48,7 @@ DoneLaw = (p : Problem) (s : Schedule) → IsProblem p → Legal p s → IsDone 
 abbrev pub EarlierLaw : Type 0
 EarlierLaw = (p : Problem) (move : Move) (sooner later : ℕ) (s : Schedule) → IsMove p move → sooner ≤ later → Legal (placed p move later) s → Legal (placed p move sooner) s × (finish (placed p move sooner) s ≤ finish (placed p move later) s)
 
--- a legal schedule behind a move, with the move's phase put before it, is legal and ends when it did
+-- a legal schedule after a move, with the move's phase put before it, is legal and ends when it did
 abbrev pub MoveBackLaw : Type 0
 MoveBackLaw = (p : Problem) (move : Move) (start : ℕ) (s : Schedule) → IsProblem p → IsMove p move → earliest p move ≤ start → Legal (placed p move start) s → Legal p (with_first move start s) × (finish p (with_first move start s) ≡ finish (placed p move start) s)
 

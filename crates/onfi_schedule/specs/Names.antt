@@ -3,9 +3,8 @@ use Rattle.std.specs.Prelude.{ℕ, ◌+◌, ◌≤◌, ◌==◌, if◌then◌els
 use Rattle.std.specs.List.{AllByRecursion as Each, flat_map}
 use Rattle.onfi_timing.specs.declared.kind.Kind.{Kind}
 use Rattle.onfi_timing.specs.declared.kind.Kind.TheVariants.{Read, Program, Erase}
-use Rattle.onfi_timing.specs.declared.spans.Spans.{Spans}
 use Rattle.onfi_timing.specs.declared.timing.Timing.{Timing}
-use Rattle.onfi_timing.specs.Phases.{phase_length}
+use Rattle.onfi_timing.specs.Phases.{Lengths, phase_length}
 use Rattle.onfi_request.specs.declared.want.Want.{Want}
 use Rattle.onfi_group.specs.Words.{Has}
 use Rattle.onfi_group.specs.Group.{lun_of, group_spans}
@@ -38,12 +37,12 @@ owner_of next lun m = if next == 0 then OfRequest m.id else OfRunning lun m.bloc
 abbrev pub names_of : ℕ → ℕ → List Want → List PhaseName
 names_of next lun members = map (λ m. record { part = Command; owner = owner_of next lun m }) members ++ map (λ m. record { part = post_of m.kind; owner = owner_of next lun m }) members
 
--- the name of phase n of them; behind the last one a name that means nothing
+-- the name of phase n of them; past the last one a name that means nothing
 abbrev pub name_of : ℕ → ℕ → List Want → ℕ → PhaseName
 name_of next lun members n = slice_index_or (names_of next lun members) n (record { part = Command; owner = OfRequest 0 })
 
 -- the phases of members from phase n on
-abbrev pub named_from : ℕ → ℕ → Spans → List Want → ℕ → List ℕ → List Named
+abbrev pub named_from : ℕ → ℕ → Lengths → List Want → ℕ → List ℕ → List Named
 named_from next lun spans members n [] = []
 named_from next lun spans members n (t ∷ ts) = record { name = name_of next lun members n; phase = record { lun = lun; start = t; length = phase_length spans (length members) n } } ∷ named_from next lun spans members (n + 1) ts
 

@@ -1,9 +1,8 @@
 -- Schedules, and which of them are legal.
 use Rattle.std.specs.Prelude.{◌≡◌, ℕ, ◌+◌, ◌*◌, ◌≤◌, ◌⊎◌, max, List, [], ◌∷◌, ◌++◌, length, Option, Some, slice_get, slice_set, slice_index_or}
 use Rattle.std.specs.List.{AllByRecursion as Each, flat_map}
-use Rattle.onfi_timing.specs.declared.spans.Spans.{Spans}
 use Rattle.onfi_timing.specs.declared.timing.Timing.{Timing}
-use Rattle.onfi_timing.specs.Phases.{phase_length, wait_before}
+use Rattle.onfi_timing.specs.Phases.{Lengths, phase_length, wait_before}
 use Rattle.onfi_request.specs.declared.want.Want.{Want}
 use Rattle.onfi_group.specs.Words.{Has, Pairs, number}
 use Rattle.onfi_group.specs.Group.{lun_of, group_spans, IsGroup}
@@ -27,7 +26,7 @@ abbrev pub end_of : Phase → ℕ
 end_of p = p.start + p.length
 
 -- the phases of a group of k from phase n on
-abbrev pub phases_from : ℕ → Spans → ℕ → ℕ → List ℕ → List Phase
+abbrev pub phases_from : ℕ → Lengths → ℕ → ℕ → List ℕ → List Phase
 phases_from lun spans k n [] = []
 phases_from lun spans k n (t ∷ ts) = record { lun = lun; start = t; length = phase_length spans k n } ∷ phases_from lun spans k (n + 1) ts
 
@@ -78,7 +77,7 @@ abbrev pub Apart : Phase → Phase → Type 0
 Apart a b = (end_of a ≤ b.start) ⊎ (end_of b ≤ a.start)
 
 -- each phase starts at least its wait after the end of the one before it, the first at `floor` or later
-abbrev pub InOrder : Spans → ℕ → ℕ → ℕ → List ℕ → Type 0
+abbrev pub InOrder : Lengths → ℕ → ℕ → ℕ → List ℕ → Type 0
 InOrder spans k n floor [] = Unit {0}
 InOrder spans k n floor (t ∷ ts) = (floor ≤ t) × InOrder spans k (n + 1) (t + phase_length spans k n + wait_before spans k (n + 1)) ts
 

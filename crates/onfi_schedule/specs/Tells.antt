@@ -28,7 +28,7 @@ first_id (m ∷ ms) = m.id
 abbrev pub IsNumbered : ℕ → Want → Type 0
 IsNumbered id w = w.id ≡ id
 
--- x, and y behind it
+-- x, and y after it
 abbrev pub ArePair : {A : Type 0} → List A → A → A → Type 0
 ArePair [] x y = ⊥
 ArePair (z ∷ zs) x y = ((z ≡ x) × Has zs y) ⊎ ArePair zs x y
@@ -61,7 +61,7 @@ pub record HasOtherRest (p : Problem) (s : Schedule) (lun starts left : ℕ) : T
   pub phases_left : next + left ≡ 2 * length group
   pub other : starts ≢ left
 
--- a group told by its first request, with so many starts in place of two for each member
+-- a group named by its first request, with so many starts in place of two for each member
 pub record HasCounts (request starts phases : ℕ) (g : Placed) : Type 0 where
   pub told : first_id g.members ≡ request
   pub count : length g.starts ≡ starts
@@ -79,7 +79,7 @@ Differs rules Luns first m = m.lun ≢ first.lun
 Differs rules Pages first m = (first.kind ≢ Erase) × (m.page ≢ first.page)
 Differs rules Blocks first m = IsTrue rules.strict × (above_planes rules m ≢ above_planes rules first)
 
--- a group told by its first request, with a member of that number that differs so
+-- a group named by its first request, with a member of that number that differs so
 pub record IsMixed (rules : Rules) (first request : ℕ) (difference : Difference) (g : Placed) : Type 0 where
   pub one : Want
   pub other : Want
@@ -89,13 +89,13 @@ pub record IsMixed (rules : Rules) (first request : ℕ) (difference : Differenc
   pub told_other : other.id ≡ request
   pub differs : Differs rules difference one other
 
--- a group told by its first request, with another member of that number, of a kind of which no several run as one
+-- a group named by its first request, with another member of that number, of a kind of which no several run as one
 pub record IsSinglePlane (rules : Rules) (first request : ℕ) (g : Placed) : Type 0 where
   pub told : first_id g.members ≡ first
   pub other : Any (IsNumbered request) (drop 1 g.members)
   pub rule : may_group rules (kind_of g.members) ≡ false
 
--- a group with two members, the one right behind the other, whose planes don't rise
+-- a group with two members, the one right after the other, whose planes don't rise
 pub record FallsBack (before request : ℕ) (g : Placed) : Type 0 where
   pub place : ℕ
   pub one : Want
@@ -133,7 +133,7 @@ HasWork p s lun members next floor starts =
     ((next ≡ 0) × (floor ≡ 0) × (lun_of members ≡ lun) × Has s.groups (record { members = members; starts = starts }))
     ⊎ ((slice_get p.luns lun ≡ Some (Running members next floor)) × (rest_of s lun ≡ Some starts))
 
--- of a group's phases one starts before the one right in front of it, and the wait behind that, are over
+-- of a group's phases one starts before the one right in front of it, and the wait after that, are over
 pub record StartsInWait (p : Problem) (s : Schedule) (name before : PhaseName) (lun start ready : ℕ) : Type 0 where
   pub members : List Want
   pub next : ℕ
@@ -176,7 +176,7 @@ pub record StartsBeforeLeft (p : Problem) (s : Schedule) (name : PhaseName) (lun
   pub ends : latest 0 (phases_left p.timing lun state starts) ≡ end
   pub early : start < end
 
--- a group starts, by that phase, while another one, told by its first request, has their LUN
+-- a group starts, by that phase, while another one, named by its first request, has their LUN
 pub record TakesLun (p : Problem) (s : Schedule) (name : PhaseName) (lun start holder from to : ℕ) : Type 0 where
   pub group : Placed
   pub other : Placed

@@ -6,12 +6,12 @@ use thiserror::Error;
 /// times are ns of the channel's clock.
 #[derive(Clone, Copy, Debug, PartialEq, Eq, Error)]
 pub enum Breach {
-    /// There are starts for a LUN behind the last one.
+    /// There are starts for a LUN past the last one.
     #[error("the schedule has starts for a LUN that isn't there; the last one is LUN {last}")]
     ForeignLun {
         last: usize,
     },
-    /// There are no starts for that LUN and those behind it, not even an empty list of them; no plan text says this.
+    /// There are no starts for that LUN and those after it, not even an empty list of them; no plan text says this.
     #[error("the schedule leaves out LUN {lun}")]
     MissingLun {
         lun: usize,
@@ -28,7 +28,7 @@ pub enum Breach {
         starts: usize,
         left: usize,
     },
-    /// A group, told by its first request, has not two starts for each member.
+    /// A group, named by its first request, has not two starts for each member.
     #[error("the number of starts for the group of request {request} is {starts} in place of {phases}")]
     StartCount {
         request: u64,
@@ -94,7 +94,7 @@ pub enum Breach {
         start: u64,
         ready: u64,
     },
-    /// A phase starts before the one before it in its group, and the wait behind that one, are over.
+    /// A phase starts before the one before it in its group, and the wait after that one, are over.
     #[error("{phase} starts at {start} ns; behind {before} its LUN {lun} is ready from {ready} ns")]
     WaitTooShort {
         phase: PhaseName,

@@ -14,6 +14,6 @@ pub fn finish(problem: &Problem, schedule: &Schedule) -> u64
 {
     let bus_free = problem.bus_free();
     let (luns, table) = finding::luns_and_groups(problem);
-    let slots = slots::all_slots(&problem.timing(), table, luns, schedule);
+    let slots = slots::all_slots(problem.timing(), table, luns, schedule);
     slots::latest(bus_free, slots.as_slice())
 }

@@ -108,7 +108,7 @@ fn of_bus(problem: &Problem, schedule: &Schedule) -> Option<Breach>
 {
     let bus_free = problem.bus_free();
     let (luns, table) = luns_and_groups(problem);
-    let slots = slots::all_slots(&problem.timing(), table, luns, schedule);
+    let slots = slots::all_slots(problem.timing(), table, luns, schedule);
     let breach = bus::too_early(bus_free, slots.as_slice());
     if breach.is_some() {
         return breach;
@@ -126,11 +126,11 @@ fn of_waits(problem: &Problem, schedule: &Schedule) -> Option<Breach>
 {
     let timing = problem.timing();
     let (luns, table) = luns_and_groups(problem);
-    let breach = waits::in_rest(&timing, table, luns, schedule.rest());
+    let breach = waits::in_rest(timing, table, luns, schedule.rest());
     if breach.is_some() {
         return breach;
     }
-    waits::in_groups(&timing, schedule.groups())
+    waits::in_groups(timing, schedule.groups())
 }
 
 // The groups of a LUN take turns, the running one first, and a free one begins when it may.
@@ -144,15 +144,15 @@ fn of_turns(problem: &Problem, schedule: &Schedule) -> Option<Breach>
     let timing = problem.timing();
     let (luns, table) = luns_and_groups(problem);
     let groups = schedule.groups();
-    let breach = turns::running_not_over(&timing, table, luns, schedule.rest(), groups);
+    let breach = turns::running_not_over(timing, table, luns, schedule.rest(), groups);
     if breach.is_some() {
         return breach;
     }
-    let breach = turns::lun_taken(&timing, groups);
+    let breach = turns::lun_taken(timing, groups);
     if breach.is_some() {
         return breach;
     }
-    since::lun_not_free(&timing, table, luns, groups)
+    since::lun_not_free(timing, table, luns, groups)
 }
 
 // Requests on one block keep their order.
@@ -162,7 +162,7 @@ fn of_block_order(problem: &Problem, schedule: &Schedule) -> Option<Breach>
     ensures told { IfSome result (Tells problem.now.problem schedule.now) }
 {
     let wants = waiting_wants(problem);
-    block_order::wrong_order(&problem.timing(), schedule.groups(), wants.as_slice())
+    block_order::wrong_order(problem.timing(), schedule.groups(), wants.as_slice())
 }
 
 /// The LUNs, and the groups that they name.

@@ -2,7 +2,7 @@
 
 ghost use Rattle.onfi_schedule.specs.Laws.{FirstMoveLaw, NextLaw, DoneLaw, EarlierLaw, MoveBackLaw, LegalRunLaw, RunLegalLaw, YieldLaw, OneTraceLaw};
 
-/// The phase of least start of a legal schedule is that of a move; the others are legal behind it and end when they
+/// The phase of least start of a legal schedule is that of a move; the others are legal after it and end when they
 /// did, and with that phase at its earliest they are legal too and end no later.
 pub fn first_move()
     ensures { FirstMoveLaw }
@@ -18,12 +18,12 @@ pub fn done_without_phase()
     ensures { DoneLaw }
 {}
 
-/// With a move's phase earlier, what was legal behind it still is, and ends no later.
+/// With a move's phase earlier, what was legal after it still is, and ends no later.
 pub fn earlier_is_legal()
     ensures { EarlierLaw }
 {}
 
-/// A legal schedule behind a move, with the move's phase put before it, is legal and ends when it did.
+/// A legal schedule after a move, with the move's phase put before it, is legal and ends when it did.
 pub fn move_back()
     ensures { MoveBackLaw }
 {}

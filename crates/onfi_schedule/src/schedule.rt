@@ -10,7 +10,7 @@ use std::marker::Model;
 /// and new groups in any order.
 ///
 /// All of it stands inline, so a copy takes no memory: up to eight groups, and the starts of up to eight LUNs and of one
-/// that isn't there, such as the text of a plan may tell.
+/// that isn't there, such as the text of a plan may give.
 #[derive(Drop)]
 pub struct Schedule {
     rest: ArrayVec<Starts, 9>,
@@ -66,7 +66,7 @@ impl Schedule {
         self.rest[lun] = starts;
     }
 
-    /// The new group at that place is none of them any more; those behind it keep their order.
+    /// The new group at that place is none of them any more; those after it keep their order.
     pub fn remove_group(&mut self, at: usize)
         requires { at < length self.old.groups }
         ensures { self.new ≡ record self.old { groups = remove self.old.groups at } }

@@ -17,10 +17,10 @@ use crate::schedule::Schedule;
 use crate::slot::Slot;
 use crate::starts::Starts;
 use arrayvec::ArrayVec;
-use onfi_group::Group;
+use onfi_group::{Group, phase_length};
 use onfi_problem::Lun;
 use onfi_request::Want;
-use onfi_timing::{Spans, Timing};
+use onfi_timing::Timing;
 
 /// Slots, kept inline. No schedule of a problem has more phases: at most eight on each of eight LUNs, and two for each
 /// of eight requests.
@@ -31,35 +31,35 @@ pub(crate) type GroupSlots = ArrayVec<Slot, 8>;
 
 /// What is common to the phases of a group from number `next` on; a new group begins with number 0.
 #[derive(Clone, Copy)]
-pub(crate) struct Work {
+pub(crate) struct Work<'t> {
     pub(crate) lun: u8,
-    pub(crate) spans: Spans,
+    pub(crate) timing: &'t Timing,
     pub(crate) next: usize,
 }
 
-impl Work {
+impl<'t> Work<'t> {
     /// Of a new group.
-    pub(crate) fn of_new(timing: &Timing, group: &Group) -> Work
+    pub(crate) fn of_new(timing: &'t Timing, group: &Group) -> Work<'t>
         ensures lun { result.lun ≡ lun_of group.now }
-        ensures spans { result.spans ≡ group_spans timing.now group.now }
+        ensures timing { result.timing.now ≡ timing.now }
         ensures next { result.next ≡ 0 }
     {
         Work {
             lun: group.lun(),
-            spans: timing.spans(group.kind()),
+            timing,
             next: 0,
         }
     }
 
     /// Of the group that runs on a LUN.
-    pub(crate) fn of_running(timing: &Timing, group: &Group, at: u8, lun: &Lun) -> Work
+    pub(crate) fn of_running(timing: &'t Timing, at: u8, lun: &Lun) -> Work<'t>
         ensures lun { result.lun ≡ at }
-        ensures spans { result.spans ≡ group_spans timing.now group.now }
+        ensures timing { result.timing.now ≡ timing.now }
         ensures next { result.next ≡ lun.now.next }
     {
         Work {
             lun: at,
-            spans: timing.spans(group.kind()),
+            timing,
             next: lun.next as usize,
         }
     }
@@ -101,18 +101,18 @@ impl Work {
     }
 }
 
-/// Puts the phases of a group at these starts behind the others.
+/// Appends the phases of a group at these starts to the others.
 fn push_work<const CAP: usize>(
     slots: &mut ArrayVec<Slot, CAP>,
-    work: &Work,
+    work: &Work<'_>,
     members: &[Want],
     starts: &[u64],
 )
     requires room { array_vec_len slots.old + length starts.now ≤ CAP }
     requires few { work.now.next + length starts.now < 2 ^ 60 }
     requires small { Each (λ t. t < 2 ^ 63) starts.now }
-    ensures phases { phases_in slots.new.items ≡ phases_in slots.old.items ++ phases_from work.now.lun work.now.spans (length members.now) work.now.next starts.now }
-    ensures named { named_in slots.new.items ≡ named_in slots.old.items ++ named_from work.now.next work.now.lun work.now.spans members.now work.now.next starts.now }
+    ensures phases { phases_in slots.new.items ≡ phases_in slots.old.items ++ phases_from work.now.lun (group_spans work.now.timing.now members.now) (length members.now) work.now.next starts.now }
+    ensures named { named_in slots.new.items ≡ named_in slots.old.items ++ named_from work.now.next work.now.lun (group_spans work.now.timing.now members.now) members.now work.now.next starts.now }
     ensures len { array_vec_len slots.new ≡ array_vec_len slots.old + length starts.now }
 {
     let mut number = work.next;
@@ -122,14 +122,14 @@ fn push_work<const CAP: usize>(
             phase: Phase {
                 lun: work.lun,
                 start: *start,
-                length: work.spans.phase_length(members.len(), number),
+                length: phase_length(work.timing, members, number),
             },
         });
         number += 1;
     }
 }
 
-/// Puts what is left of a running group behind the others; nothing where the LUN is free.
+/// Appends what is left of a running group to the others; nothing where the LUN is free.
 pub(crate) fn push_left<const CAP: usize>(
     slots: &mut ArrayVec<Slot, CAP>,
     timing: &Timing,
@@ -148,11 +148,11 @@ pub(crate) fn push_left<const CAP: usize>(
         return;
     }
     let group = &table[lun.place as usize];
-    let work = Work::of_running(timing, group, at, lun);
+    let work = Work::of_running(timing, at, lun);
     push_work(slots, &work, group.members(), starts.as_slice());
 }
 
-/// Puts the phases of a new group behind the others.
+/// Appends the phases of a new group to the others.
 pub(crate) fn push_group<const CAP: usize>(
     slots: &mut ArrayVec<Slot, CAP>,
     timing: &Timing,

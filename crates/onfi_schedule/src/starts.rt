@@ -40,7 +40,7 @@ impl Starts {
         }
     }
 
-    /// Puts a start, in ns, behind the others.
+    /// Puts a start, in ns, after the others.
     pub fn push(&mut self, start: u64)
         requires room { length self.old < 8 }
         requires start { start < 2 ^ 63 }

@@ -16,7 +16,7 @@ pub(crate) enum LinePart {
     Post,
 }
 
-/// A phase as a trace tells of it.
+/// A phase as a trace shows it.
 #[derive(Clone, Copy)]
 pub(crate) struct TraceLine {
     pub(crate) start: u64,
@@ -31,7 +31,7 @@ pub(crate) struct TraceLine {
 }
 
 impl TraceLine {
-    /// Puts the line behind a text; where memory is refused, the text is longer by a part of it.
+    /// Appends the line to a text; where memory is refused, the text is longer by a part of it.
     pub(crate) fn push_to(
         &self,
         alloc: Global,

@@ -17,13 +17,13 @@ use crate::breach::Breach;
 use crate::placed::Placed;
 use crate::slots::Work;
 use crate::starts::Starts;
-use onfi_group::Group;
+use onfi_group::{Group, phase_length, wait_before};
 use onfi_problem::Lun;
 use onfi_request::Want;
 use onfi_timing::Timing;
 
 // That phase `number` of these members starts before its LUN is ready for it.
-fn not_ready(work: &Work, members: &[Want], number: usize, start: u64, ready: u64) -> Breach
+fn not_ready(work: &Work<'_>, members: &[Want], number: usize, start: u64, ready: u64) -> Breach
     ensures about { condition_of result ≡ keeps_waits }
     ensures first { number ≤ work.now.next → result ≡ NotReady (name_of work.now.next work.now.lun members.now number) work.now.lun start ready }
     ensures later { work.now.next < number → result ≡ WaitTooShort (name_of work.now.next work.now.lun members.now number) (name_of work.now.next work.now.lun members.now (number - 1)) work.now.lun start ready }
@@ -47,13 +47,14 @@ fn not_ready(work: &Work, members: &[Want], number: usize, start: u64, ready: u6
     }
 }
 
-// A phase of these members that starts before the wait behind the one before it is over, or the first one before `floor`.
-fn in_group(work: &Work, members: &[Want], floor: u64, starts: &[u64]) -> Option<Breach>
+// A phase of these members that starts before the wait after the one before it is over, or the first one before `floor`.
+fn in_group(work: &Work<'_>, members: &[Want], floor: u64, starts: &[u64]) -> Option<Breach>
+    requires some { 1 ≤ length members.now }
     requires starts { Each (λ t. t < 2 ^ 63) starts.now }
     requires phases { work.now.next + length starts.now < 2 ^ 60 }
-    ensures none { IsNone result ↔ InOrder work.now.spans (length members.now) work.now.next floor starts.now }
+    ensures none { IsNone result ↔ InOrder (group_spans work.now.timing.now members.now) (length members.now) work.now.next floor starts.now }
     ensures about { IfSome result (λ b. condition_of b ≡ keeps_waits) }
-    ensures told { (p : Problem) (s : Schedule) → work.now.spans ≡ group_spans p.timing members.now → HasWork p s work.now.lun members.now work.now.next floor starts.now → IfSome result (Tells p s) }
+    ensures told { (p : Problem) (s : Schedule) → work.now.timing.now ≡ p.timing → HasWork p s work.now.lun members.now work.now.next floor starts.now → IfSome result (Tells p s) }
 {
     let mut floor = floor;
     let mut number = work.next;
@@ -61,9 +62,9 @@ fn in_group(work: &Work, members: &[Want], floor: u64, starts: &[u64]) -> Option
         if *start < floor {
             return Some(not_ready(work, members, number, *start, floor));
         }
-        let ended = *start + work.spans.phase_length(members.len(), number);
+        let ended = *start + phase_length(work.timing, members, number);
         number += 1;
-        floor = ended + work.spans.wait_before(members.len(), number);
+        floor = ended + wait_before(work.timing, members, number);
     }
     None
 }
@@ -78,7 +79,7 @@ fn in_left(timing: &Timing, table: &[Group], at: u8, lun: &Lun, starts: &Starts)
         return None;
     }
     let group = &table[lun.place as usize];
-    let work = Work::of_running(timing, group, at, lun);
+    let work = Work::of_running(timing, at, lun);
     in_group(&work, group.members(), lun.time, starts.as_slice())
 }
 

@@ -6,14 +6,14 @@ use Rattle.onfi_script.specs.declared.fault.ScriptFault.{ScriptFault}
 use Rattle.onfi_script.specs.Field.{given, field, block}
 use Rattle.onfi_script.specs.Row.{blocks_of}
 
--- a row from a field on is that field and the row behind it
+-- a row from a field on is that field and the row after it
 pub drop_field : (row : List (List ℕ)) (at : ℕ) → at < length row → drop at row ≡ field row at ∷ drop (at + 1) row
 unfolding field_at
 drop_field [] at h = absurd (omega arith)
 drop_field (f ∷ row) zero h = refl
 drop_field (f ∷ row) (suc at) h = let e : suc (at + 1) ≡ suc at + 1 = omega arith in drop_field row at (omega arith) ∙ ap (λ n. field row at ∷ drop n (f ∷ row)) e
 
--- the blocks behind those that were read
+-- the blocks after those that were read
 more : (o : Result (List ℕ) ScriptFault) (xs : List ℕ) (b : ℕ) → given (given o (λ bs. Ok (b ∷ bs))) (λ rest. Ok (xs ++ rest)) ≡ given o (λ rest. Ok ((xs ++ b ∷ []) ++ rest))
 more (Ok bs) xs b = ap Ok (sym (append_assoc xs (b ∷ []) bs))
 more (Err e) xs b = refl

@@ -16,7 +16,7 @@ begun : (o : Option (List ℕ)) → o ≡ and_then o (λ rest. Some ([] ++ rest)
 begun None = refl
 begun (Some xs) = refl
 
--- the numbers behind one that was read
+-- the numbers after one that was read
 more : (o : Option (List ℕ)) (read : List ℕ) (n : ℕ) → and_then (and_then o (λ rest. Some (n ∷ rest))) (λ rest. Some (read ++ rest)) ≡ and_then o (λ rest. Some ((read ++ n ∷ []) ++ rest))
 more None read n = refl
 more (Some xs) read n = ap Some (sym (append_assoc read (n ∷ []) xs))

@@ -60,7 +60,7 @@ part_ended byte part rest lacks = slice_split_at (λ b. b == byte) part byte res
 pub part_whole : (byte : ℕ) (part : List ℕ) → Lacks byte part → parts byte part ≡ part ∷ []
 part_whole byte part lacks = slice_split_none (λ b. b == byte) part lacks
 
--- words behind spaces, and numbers behind pluses
+-- words after spaces, and numbers after pluses
 pub spaced_parts : (word : List ℕ) (ns : List ℕ) → Lacks 32 word → Each (λ n. n < 2 ^ 63) ns → parts 32 (word ++ spaced ns) ≡ word ∷ map decimal ns
 spaced_parts word [] lacks small = ap (parts 32) (append-nil word) ∙ part_whole 32 word lacks
 spaced_parts word (n ∷ ns) lacks small =

@@ -30,7 +30,7 @@ read_answers : (Tells : ℕ → Problem → ℕ → Type 0) (command : Command) 
 read_answers Tells command None xs answer e is = tt
 read_answers Tells command (Some ys) xs answer e is = subst (λ zs. IsAnswerBy Tells command zs answer) e is
 
--- .. and what is told in place of none
+-- .. and what is said in place of none
 pub all_answers : (Tells : ℕ → Problem → ℕ → Type 0) (command : Command) (input : Option (List ℕ)) (xs : List ℕ) (r : Result Made AllocError)
     → IfSome input (λ ys. xs ≡ ys) → IfOk r (λ a. IsAnswerBy Tells command xs (answer_of a)) → IfSome input (λ ys. IsAnswerBy Tells command ys (told_of r))
 all_answers Tells command input xs (Ok a) e is = read_answers Tells command input xs (answer_of a) e is
@@ -50,7 +50,7 @@ told_part Tells command input old new answer (Ok s) is w e = absurd (cc)
 told_part Tells command None old new answer (Err f) is w e = tt
 told_part Tells command (Some xs) old new answer (Err f) is w e = (answer, w.1, is, w.2)
 
--- a certificate's schedule that is told as one that ends too soon is legal
+-- a certificate's schedule that is reported as one that ends too soon is legal
 pub above_is_legal : (all : List Want) (p : Problem) (s : Schedule) (below : ℕ) (text : List ℕ) (fault : TextFault KnownFault KnownTextFault)
     → IsTextFault all p s below text fault → fault ≡ Cert Above → Legal p s
 above_is_legal all p s below text fault is e = let (tokens, certificate, ends) = subst (IsTextFault all p s below text) e is in ends.0

@@ -1,4 +1,4 @@
--- What a set of operations of arrays tells of rows.
+-- What a set of operations of arrays says of rows.
 use Rattle.std.proofs.Common.{◌≡◌, ◌∙◌, ℕ, Bool, true, false, cond, ◌||◌, List, [], ◌∷◌, ◌++◌, Option, Some, None, refl, sym, ap, arith}
 use Rattle.std.specs.List.{list_any}
 use Rattle.std.specs.HashSet.{HashSet, Updates}
@@ -27,6 +27,7 @@ by_subject (Some on.Channels) channel lun number = refl
 by_subject (Some on.Hosts) channel lun number = refl
 by_subject (Some on.Batch) channel lun number = refl
 by_subject (Some on.Choice) channel lun number = refl
+by_subject (Some on.Replanning) channel lun number = refl
 by_subject (Some on.SubmitCap) channel lun number = refl
 by_subject (Some on.PostCap) channel lun number = refl
 by_subject (Some (on.Array c l n)) channel lun number = refl
@@ -53,7 +54,7 @@ or_it false false = refl
 same_flipped : (a b : Named) → is_same a b ≡ is_same b a
 same_flipped (a, b, c) (x, y, z) = grind (arith, nat_tests)
 
--- a row that tells of no array leaves them as they are
+-- a row that names no array leaves them as they are
 pub same_told : (rows : List Row) (row : Row) (told : List Named) → array_of (subject_of row) ≡ None → AreTold rows told → AreTold (rows ++ row ∷ []) told
 same_told rows row told none are = λ channel lun number.
     are channel lun number
@@ -61,7 +62,7 @@ same_told rows row told none are = λ channel lun number.
     ∙ ap (λ (found : Option Named). list_any (settles (on.Array channel lun number)) rows || (is_found found (channel, lun, number) || false)) (sym none)
     ∙ sym (one_more rows row channel lun number)
 
--- .. one that does is told behind it
+-- .. one that does is named after it
 pub more_told : {S : Type 0} (rows : List Row) (row : Row) (old new : HashSet Named S) (name : Named) → array_of (subject_of row) ≡ Some name
     → Updates is_same old new name true → AreTold rows old.keys → AreTold (rows ++ row ∷ []) new.keys
 more_told rows row old new name some updates are = λ channel lun number.

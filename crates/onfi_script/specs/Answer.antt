@@ -96,15 +96,15 @@ pub record PrintsPlan (options : PlanOptions) (p : Problem) (answer : Answer) : 
   pub spelled : IsSpelled p.rules.strict (certificate_in plan) text
   pub printed : Prints options.output p plan.planned.schedule plan.below text answer
 
--- one search with a limit tells that limit, where the tree of the problem has more nodes
+-- one search with a limit reports that limit, where the tree of the problem has more nodes
 abbrev pub OneTells : ℕ → Problem → ℕ → Type 0
 OneTells limit p opened = (opened ≡ limit) × HasMoreNodes p limit
 
--- several workers with a limit for each part tell as over what `plan_split` tells
+-- several workers with a limit for each part report as over what `plan_split` reports
 abbrev pub PartsTell : ℕ → Problem → ℕ → Type 0
 PartsTell limit p opened = IsSplitOver p limit opened
 
--- what a planner tells as over, where the plain search tells so: the best so far is never over, nor is the rule
+-- what a planner reports as over, where the plain search does so: the best so far is never over, nor is the rule
 abbrev pub TellsOver : (ℕ → Problem → ℕ → Type 0) → ChosenPlanner → ℕ → Problem → ℕ → Type 0
 TellsOver Tells Plain limit p opened = Tells limit p opened
 TellsOver Tells Remembering limit p opened = OneTells limit p opened
@@ -126,7 +126,7 @@ pub record IsShown (planner : ChosenPlanner) (p : Problem) (s : Schedule) (below
   pub shown : ShowsBelow planner p below text
   pub least : below ≤ finish p s
 
--- what is wrong with the schedule or its certificate is told
+-- what is wrong with the schedule or its certificate is reported
 abbrev pub TellsFault : ChosenPlanner → Problem → Schedule → ℕ → List ℕ → Answer → Type 0
 TellsFault Plain p s below text answer = (fault : TextFault CertFault CertTextFault) × IsTextFault p s text fault × (answer ≡ text_refused fault)
 TellsFault _ p s below text answer = (fault : TextFault KnownFault KnownTextFault) × IsKnownTextFault p.wants p s below text fault × (answer ≡ known_text_refused fault)
@@ -162,7 +162,7 @@ pub data TellsLegal (p : Problem) (s : Schedule) (answer : Answer) : Type 0 wher
   is_illegal : (Legal p s → ⊥) → answer ≡ refused_for (codes "1 Illegal") → TellsLegal p s answer
   is_legal : Legal p s → answer ≡ legal_until (finish p s) → TellsLegal p s answer
 
--- .. to the schedule that a plan text says, or its first wrong line; a line `below` may stand there, and tells nothing here
+-- .. to the schedule that a plan text says, or its first wrong line; a line `below` may stand there, and says nothing here
 abbrev pub AnswersAlone : Problem → List ℕ → Answer → Type 0
 AnswersAlone p text answer = MatchResult (plan_within_of p.wants text) (λ r. TellsLegal p (schedule_of p r.0) answer) (λ number. answer ≡ refused_at (codes "plan") number)
 
@@ -179,7 +179,7 @@ output_of false = Plan
 abbrev pub options_of : ChosenPlanner → ℕ → Output → PlanOptions
 options_of planner limit output = record { planner = planner; better = None; limit = limit; output = output }
 
--- what the command asks for; all but those that plan read the plan text behind the script
+-- what the command asks for; all but those that plan read the plan text after the script
 abbrev pub AnswersCommand : (ℕ → Problem → ℕ → Type 0) → Command → List ℕ → Problem → Answer → Type 0
 AnswersCommand Tells (asked.Plan limit trace) text p answer = AnswersPlan Tells (options_of Plain limit (output_of trace)) p answer
 AnswersCommand Tells asked.Check text p answer = AnswersCheck Plain p text answer
@@ -194,7 +194,7 @@ pub data TellsProblem (p : Problem) (told : Result Problem Refusal) : Type 0 whe
   is_late : IsSmall p → IsProblem p → 2 ^ 62 ≤ horizon p → told ≡ Err (whole (Fault Clock)) → TellsProblem p told
   is_problem : InLimits p → told ≡ Ok p → TellsProblem p told
 
--- rows that are each in order: why they tell of no device, the first that names a LUN that isn't there, or the problem that
+-- rows that are each in order: why they describe no device, the first that names a LUN that isn't there, or the problem that
 -- they set up
 pub data TellsSetup (rows : List Row) (told : Result Problem Refusal) : Type 0 where
   has_no_device : (fault : ScriptFault) → TellsDevice rows (Err fault) → told ≡ Err (whole fault) → TellsSetup rows told
@@ -217,7 +217,7 @@ pub data AnswersScript (Answers : List ℕ → Problem → Answer → Type 0) (i
 abbrev pub IsAnswerBy : (ℕ → Problem → ℕ → Type 0) → Command → List ℕ → Answer → Type 0
 IsAnswerBy Tells command input answer = (answer ≡ memory) ⊎ AnswersScript (λ text p a. AnswersCommand Tells command text p a) input answer
 
--- the writer was given the answer to what the reader had, where both tell their bytes
+-- the writer was given the answer to what the reader had, where both show their bytes
 abbrev pub AnswersBy : (ℕ → Problem → ℕ → Type 0) → Command → Option (List ℕ) → Option (List ℕ) → Option (List ℕ) → ℕ → Type 0
 AnswersBy Tells command input old new status = IfSome input (λ xs. (answer : Answer) × IsAnswerBy Tells command xs answer × (answer.status ≡ status) × Appends old new answer.text)
 

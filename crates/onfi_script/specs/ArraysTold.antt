@@ -1,4 +1,4 @@
--- Which operations of arrays rows tell of.
+-- Which operations of arrays rows name.
 use Rattle.std.specs.Prelude.{◌≡◌, ℕ, ◌==◌, ◌&&◌, Bool, List, Option, Some, None}
 use Rattle.std.specs.List.{list_any}
 use Rattle.onfi_script.specs.declared.row.Row.{Row}
@@ -18,6 +18,6 @@ array_of _ = None
 abbrev pub is_same : Named → Named → Bool
 is_same a b = a.0 == b.0 && a.1 == b.1 && a.2 == b.2
 
--- these are the operations that the rows tell of
+-- these are the operations that the rows name
 abbrev pub AreTold : List Row → List Named → Type 0
 AreTold rows told = (channel lun number : ℕ) → list_any (is_same (channel, lun, number)) told ≡ list_any (settles (on.Array channel lun number)) rows

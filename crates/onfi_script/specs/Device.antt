@@ -63,11 +63,11 @@ pub record HasLengths (row : SpansRow) (spans : Lengths) : Type 0 where
   pub array : spans.array ≡ row.array
   pub post : spans.post ≡ row.post
 
--- the lengths of each kind are those that its row tells
+-- the lengths of each kind are those that its row gives
 abbrev pub HasTiming : List Row → Timing → Type 0
 HasTiming rows timing = (kind : Kind) → IsSomeAnd (spans_in kind rows) (λ row. HasLengths row (spans_of timing kind))
 
--- the rows `shape` and `spans` tell of this device
+-- the rows `shape` and `spans` describe this device
 pub record IsShaped (rows : List Row) (device : Device) : Type 0 where
   pub shape : shape_in rows ≡ Some (record { luns = device.luns; plane_bits = device.plane_bits; read = device.reads; write = device.writes })
   pub timing : HasTiming rows device.timing
@@ -100,7 +100,7 @@ IsUntimed sheet None (in_strobes.Sheet f) = IsTimingFault sheet f
 IsUntimed sheet None _ = ⊥
 IsUntimed sheet (Some strobes) f = IsStrobedFault sheet strobes f
 
--- page, sheet and strobes tell of chips of this geometry and timing
+-- page, sheet and strobes describe chips of this geometry and timing
 pub record IsPageDevice (bytes : List ℕ) (sheet : SheetOf) (strobes : Option Strobes) (g : Geometry) (t : Timing) : Type 0 where
   pub page : List ℕ
   pub copy : IsFirstCopy bytes page
@@ -108,7 +108,7 @@ pub record IsPageDevice (bytes : List ℕ) (sheet : SheetOf) (strobes : Option S
   pub layout : IsGeometryOf page g
   pub timing : IsTimed page g sheet strobes t
 
--- why they tell of none: no page, no geometry, or no phase lengths
+-- why they describe none: no page, no geometry, or no phase lengths
 abbrev pub IsUndescribed : List ℕ → SheetOf → Option Strobes → ScriptFault → Type 0
 IsUndescribed bytes sheet strobes (fault.Page Short) = length bytes < 256
 IsUndescribed bytes sheet strobes (fault.Page NoCopy) = (256 ≤ length bytes) × ((number : ℕ) → ¬ IsPageCopy (copy_at bytes number))
@@ -121,12 +121,12 @@ IsUndescribed bytes sheet strobes _ = ⊥
 abbrev pub TellsPageDevice : List ℕ → SheetOf → Option Strobes → Result PageDevice ScriptFault → Type 0
 TellsPageDevice bytes sheet strobes told = MatchResult told (λ d. IsPageDevice bytes sheet strobes d.geometry d.timing) (IsUndescribed bytes sheet strobes)
 
--- the chips that page, sheet and strobes of the rows tell of, or why they tell of none: without bytes of a page a row is missing
+-- the chips that page, sheet and strobes of the rows describe, or why they describe none: without bytes of a page a row is missing
 abbrev pub TellsPaged : List Row → Result PageDevice ScriptFault → Type 0
 TellsPaged rows told =
     MatchBool (list_any is_page rows) (TellsPageDevice (page_bytes rows) (seen rows).sheet (seen rows).strobes told) (told ≡ Err fault.Missing)
 
--- the chips that the rows `shape`, `geometry` and `spans` tell of
+-- the chips that the rows `shape`, `geometry` and `spans` describe
 pub record HasChips (rows : List Row) (chips : PageDevice) : Type 0 where
   pub shape : ShapeRow
   pub geometry : GeometryRow
@@ -145,7 +145,7 @@ TellsChipsInForm rows None told = TellsPaged rows told
 TellsChipsInForm rows (Some First) told = TellsSpanned rows told
 TellsChipsInForm rows (Some Second) told = TellsPaged rows told
 
--- the chips that the rows of a run tell of, or why they tell of none
+-- the chips that the rows of a run describe, or why they describe none
 abbrev pub TellsChips : List Row → Result PageDevice ScriptFault → Type 0
 TellsChips rows told = TellsChipsInForm rows (seen rows).form told
 
@@ -167,6 +167,6 @@ TellsInForm rows None told = told ≡ Err fault.Missing
 TellsInForm rows (Some First) told = TellsFirst rows told
 TellsInForm rows (Some Second) told = TellsSecond rows told
 
--- the device that the rows tell of, or why they tell of none
+-- the device that the rows describe, or why they describe none
 abbrev pub TellsDevice : List Row → Result Device ScriptFault → Type 0
 TellsDevice rows told = TellsInForm rows (seen rows).form told

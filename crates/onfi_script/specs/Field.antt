@@ -10,7 +10,7 @@ use Rattle.onfi_timing.specs.declared.kind.Kind.TheVariants.{Read, Program, Eras
 use Rattle.onfi_script.specs.declared.fault.ScriptFault.{ScriptFault}
 use Rattle.onfi_script.specs.declared.fault.ScriptFault.TheVariants.{Hex, NotANumber, OutOfRange}
 
--- goes on with what was read, or tells why nothing was
+-- goes on with what was read, or says why nothing was
 abbrev pub given : {A B : Type 0} → Result A ScriptFault → (A → Result B ScriptFault) → Result B ScriptFault
 given (Ok x) f = f x
 given (Err fault) f = Err fault

@@ -40,7 +40,7 @@ rest_written lun ((start ∷ starts) ∷ rest) = record { lun = lun; starts = st
 abbrev pub written : Schedule → ℕ → Plan
 written s ends = record { finish = ends; rest = rest_written 0 s.rest; groups = s.groups }
 
--- the text of a schedule, with a certificate behind it, is read as that schedule and that certificate
+-- the text of a schedule, with a certificate after it, is read as that schedule and that certificate
 abbrev pub ReadBackLaw : Type 0
 ReadBackLaw = (wants : List Want) (s : Schedule) (ends : ℕ) (line more : List ℕ) → HasText wants s → ends < 2 ^ 63
     → is_certificate line ≡ true → All (λ b. (b == 10) ≡ false) line

@@ -17,7 +17,7 @@ abbrev pub each_number : List (List ℕ) → Option (List ℕ)
 each_number [] = Some []
 each_number (text ∷ texts) = and_then (written_number text) (λ n. and_then (each_number texts) (λ rest. Some (n ∷ rest)))
 
--- one number more behind the others
+-- one number more after the others
 abbrev pub with_last : List ℕ → ℕ → Option (List ℕ)
 with_last numbers n = Some (numbers ++ n ∷ [])
 

@@ -1,4 +1,4 @@
--- What a plan text says: its schedule, and the text of the certificate behind it, or which line is the first wrong one.
+-- What a plan text says: its schedule, and the text of the certificate after it, or which line is the first wrong one.
 use Rattle.std.specs.Prelude.{ℕ, ◌+◌, ◌==◌, ◌&&◌, nat_eq, nat_le, nat_lt, if◌then◌else◌, Bool, List, [], ◌∷◌, ◌++◌, length, zero, suc, find, option_map, Option, Some, None, Result, Ok, Err, codes}
 use Rattle.std.specs.List.{list_all, list_any, starts_with, join_with_byte}
 use Rattle.std.specs.Str.{bytes_eq}
@@ -24,7 +24,7 @@ begun finish = record { finish = finish; rest = []; groups = [] }
 abbrev pub rises : Plan → ℕ → Bool
 rises plan lun = list_all (λ other. nat_lt other.lun lun) plan.rest
 
--- the line may come next: LUNs rise, no `rest` stands behind a `group`, and there are at most eight of each
+-- the line may come next: LUNs rise, no `rest` comes after a `group`, and there are at most eight of each
 abbrev pub takes : Plan → Line → Bool
 takes plan (Rest line) = rises plan line.lun && nat_lt (length plan.rest) 8 && length plan.groups == 0
 takes plan (Group group) = nat_lt (length plan.groups) 8
@@ -33,7 +33,7 @@ abbrev pub with_line : Plan → Line → Plan
 with_line plan (Rest line) = record plan { rest = plan.rest ++ line ∷ [] }
 with_line plan (Group group) = record plan { groups = plan.groups ++ group ∷ [] }
 
--- the number of the line behind these, counted from 1
+-- the number of the line after these, counted from 1
 abbrev pub next_number : Plan → ℕ
 next_number plan = length plan.rest + length plan.groups + 3
 
@@ -46,12 +46,12 @@ abbrev pub grown : Plan → Option Line → Option Plan
 grown plan None = None
 grown plan (Some line) = if takes plan line then Some (with_line plan line) else None
 
--- goes on with the plan, or tells which line is wrong
+-- goes on with the plan, or says which line is wrong
 abbrev pub told : {A : Type 0} → ℕ → Option Plan → (Plan → Result A ℕ) → Result A ℕ
 told number None go = Err number
 told number (Some plan) go = go plan
 
--- the plan that goes on with the text between these LFs, up to its certificate; no LF stands behind the last part,
+-- the plan that goes on with the text between these LFs, up to its certificate; no LF follows the last part,
 -- which so is no line
 unfoldable pub plan_after : List Want → Plan → List (List ℕ) → Result (Plan × List ℕ) ℕ
 plan_after wants plan [] = Err (next_number plan)
@@ -64,24 +64,24 @@ plan_after wants plan (line ∷ next ∷ more) =
 abbrev pub lines_of : List Want → ℕ → List (List ℕ) → Result (Plan × List ℕ) ℕ
 lines_of wants finish parts = plan_after wants (begun finish) parts
 
--- the finish that the second line tells, with the parts behind it
+-- the finish that the second line gives, with the parts after it
 abbrev pub behind_finish : Option ℕ → List (List ℕ) → Result (ℕ × List (List ℕ)) ℕ
 behind_finish None parts = Err 2
 behind_finish (Some finish) parts = Ok (finish, parts)
 
--- .. read behind the first line
+-- .. read after the first line
 abbrev pub behind_head : List (List ℕ) → Result (ℕ × List (List ℕ)) ℕ
 behind_head [] = Err 2
 behind_head (last ∷ []) = Err 2
 behind_head (line ∷ next ∷ more) = behind_finish (finish_of line) (next ∷ more)
 
--- the finish that the first two lines of a text tell and the parts behind them, or which of the two is wrong
+-- the finish that the first two lines of a text give and the parts after them, or which of the two is wrong
 abbrev pub opened : List (List ℕ) → Result (ℕ × List (List ℕ)) ℕ
 opened [] = Err 1
 opened (last ∷ []) = Err 1
 opened (line ∷ next ∷ more) = if bytes_eq line (codes "ONFIPLAN 1") then behind_head (next ∷ more) else Err 1
 
--- goes on with what was read, or tells the same wrong line
+-- goes on with what was read, or names the same wrong line
 abbrev pub and_on : {A B : Type 0} → Result A ℕ → (A → Result B ℕ) → Result B ℕ
 and_on (Ok x) go = go x
 and_on (Err number) go = Err number
@@ -90,7 +90,7 @@ and_on (Err number) go = Err number
 abbrev pub plan_of : List Want → List ℕ → Result (Plan × List ℕ) ℕ
 plan_of wants text = and_on (opened (parts 10 text)) (λ o. lines_of wants o.0 o.1)
 
--- the number of a line `below` in front, and the parts behind it
+-- the number of a line `below` in front, and the parts after it
 abbrev pub below_first : List (List ℕ) → Option (ℕ × List (List ℕ))
 below_first [] = None
 below_first (last ∷ []) = None
@@ -111,7 +111,7 @@ lines_within wants finish parts None = without_below finish (lines_of wants fini
 lines_within wants finish parts (Some r) = behind_below r.0 (lines_of wants finish r.1)
 
 -- the plan that a text says of these wants, before which time nothing ends, and the text of its certificate, or its first
--- wrong line; a line `below` may stand behind the finish
+-- wrong line; a line `below` may stand after the finish
 abbrev pub plan_within_of : List Want → List ℕ → Result (Plan × ℕ × List ℕ) ℕ
 plan_within_of wants text = and_on (opened (parts 10 text)) (λ o. lines_within wants o.0 o.1 (below_first o.1))
 
@@ -128,11 +128,11 @@ unfoldable pub rests : List RestLine → ℕ → List (List ℕ)
 rests lines zero = []
 rests lines (suc luns) = rests lines luns ++ starts_on lines luns ∷ []
 
--- a line tells of a LUN that isn't there
+-- a line names a LUN that isn't there
 abbrev pub names_absent : ℕ → List RestLine → Bool
 names_absent luns lines = list_any (λ line. nat_le luns line.lun) lines
 
--- the starts on each LUN; and on one LUN more, where a line tells of one that isn't there
+-- the starts on each LUN; and on one LUN more, where a line names one that isn't there
 abbrev pub rest_on : ℕ → List RestLine → List (List ℕ)
 rest_on luns lines = if names_absent luns lines then rests lines luns ++ [] ∷ [] else rests lines luns
 

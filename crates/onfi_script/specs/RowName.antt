@@ -7,7 +7,7 @@ use Rattle.onfi_script.specs.declared.purpose.Purpose.TheVariants.{Problem, Run,
 use Rattle.onfi_script.specs.declared.row_name.Form.{Form}
 use Rattle.onfi_script.specs.declared.row_name.Form.TheVariants.{First, Second}
 use Rattle.onfi_script.specs.declared.row_name.RowName.{RowName}
-use Rattle.onfi_script.specs.declared.row_name.RowName.TheVariants.{Shape, Spans, Page, Sheet, Strobe, Bus, Free, Running, Want, Weight, Strict, Channels, Hosts, Batch, SubmitCap, PostCap, Choice, Op, Fault, ChipFail, NotReady, Array, At, Geometry}
+use Rattle.onfi_script.specs.declared.row_name.RowName.TheVariants.{Shape, Spans, Page, Sheet, Strobe, Bus, Free, Running, Want, Weight, Strict, Channels, Hosts, Batch, SubmitCap, PostCap, Choice, Replanning, Op, Fault, ChipFail, NotReady, Array, At, Geometry}
 
 -- the rows that are taken for a run alone
 abbrev pub run_name_of : List ℕ → Option RowName
@@ -16,6 +16,7 @@ run_name_of text =
     else (if bytes_eq text (codes "hosts") then Some Hosts
     else (if bytes_eq text (codes "batch") then Some Batch
     else (if bytes_eq text (codes "choice") then Some Choice
+    else (if bytes_eq text (codes "replanning") then Some Replanning
     else (if bytes_eq text (codes "submitcap") then Some SubmitCap
     else (if bytes_eq text (codes "postcap") then Some PostCap
     else (if bytes_eq text (codes "op") then Some Op
@@ -25,7 +26,7 @@ run_name_of text =
     else (if bytes_eq text (codes "array") then Some Array
     else (if bytes_eq text (codes "at") then Some At
     else (if bytes_eq text (codes "geometry") then Some Geometry
-    else None))))))))))))
+    else None)))))))))))))
 
 abbrev pub name_of : List ℕ → Option RowName
 name_of text =
@@ -92,13 +93,13 @@ fits None form = true
 fits (Some own) None = true
 fits (Some own) (Some form) = is_form own form
 
--- the rows that tell of a device of the first form, of a problem as well as of a run
+-- the rows that describe a device of the first form, of a problem as well as of a run
 abbrev pub is_of_any_device : RowName → Bool
 is_of_any_device Shape = true
 is_of_any_device Spans = true
 is_of_any_device _ = false
 
--- in a script of a run they stand behind a row `geometry`
+-- in a script of a run they stand after a row `geometry`
 abbrev pub stands : Purpose → RowName → Option Form → Bool
 stands Problem name form = fits (form_of name) form
 stands _ name form = fits (form_of name) form && (is_some form || not (is_of_any_device name))
@@ -124,6 +125,7 @@ has_fields Channels row = length row == 2
 has_fields Hosts row = length row == 2
 has_fields Batch row = length row == 2
 has_fields Choice row = length row == 2
+has_fields Replanning row = length row == 2
 has_fields SubmitCap row = length row == 2
 has_fields PostCap row = length row == 2
 has_fields At row = length row == 2

@@ -8,13 +8,13 @@ use Rattle.onfi_script.specs.declared.fault.Refusal.{Refusal}
 use Rattle.onfi_script.specs.declared.row.Row.{Row}
 use Rattle.onfi_script.specs.declared.row.Subject.{Subject}
 use Rattle.onfi_script.specs.declared.row_name.RowName.{RowName}
-use Rattle.onfi_script.specs.declared.row_name.RowName.TheVariants.{Shape, Spans, Page, Sheet, Strobe, Bus, Free, Running, Want, Weight, Strict, Channels, Hosts, Batch, SubmitCap, PostCap, Choice, Op, Fault, ChipFail, NotReady, Array, At, Geometry}
+use Rattle.onfi_script.specs.declared.row_name.RowName.TheVariants.{Shape, Spans, Page, Sheet, Strobe, Bus, Free, Running, Want, Weight, Strict, Channels, Hosts, Batch, SubmitCap, PostCap, Choice, Replanning, Op, Fault, ChipFail, NotReady, Array, At, Geometry}
 use Rattle.onfi_script.specs.Field.{given, field}
 use Rattle.onfi_script.specs.RowName.{name_of, is_taken, stands, has_fields}
 use Rattle.onfi_script.specs.Row.{Record, shape_row, spans_row, page_row, sheet_row, strobe_row, bus_row, free_row, running_row, want_row, weight_row, strict_row}
 use Rattle.onfi_script.specs.declared.seen.Seen.{Seen}
 use Rattle.onfi_script.specs.Seen.{seen}
-use Rattle.onfi_script.specs.RunRow.{array_row, at_row, geometry_row, channels_row, hosts_row, batch_row, submit_cap_row, post_cap_row, op_row, fault_row, chip_fail_row, not_ready_row, choice_row}
+use Rattle.onfi_script.specs.RunRow.{array_row, at_row, geometry_row, channels_row, hosts_row, batch_row, submit_cap_row, post_cap_row, op_row, fault_row, chip_fail_row, not_ready_row, choice_row, replanning_row}
 use Rattle.onfi_script.specs.Subject.{subject_of, settles, is_op}
 
 -- what row number `number` of that name says; a row of the sheet or of strobes is read with those before it
@@ -34,6 +34,7 @@ said Channels seen number row = channels_row row
 said Hosts seen number row = hosts_row row
 said Batch seen number row = batch_row row
 said Choice seen number row = choice_row row
+said Replanning seen number row = replanning_row row
 said SubmitCap seen number row = submit_cap_row row
 said PostCap seen number row = post_cap_row row
 said Op seen number row = op_row row
@@ -49,7 +50,7 @@ abbrev pub is_settled : Option Subject → List Row → Bool
 is_settled None earlier = false
 is_settled (Some subject) earlier = list_any (settles subject) earlier
 
--- the row, where nothing is wrong with it behind rows that leave so many operations
+-- the row, where nothing is wrong with it after rows that leave so many operations
 abbrev pub admitted : ℕ → List Row → Row → Result Row ScriptFault
 admitted ops_left earlier row =
     if is_settled (subject_of row) earlier then Err Repeated
@@ -62,7 +63,7 @@ row_named purpose seen earlier (Some name) row =
     then (if has_fields name row then given (said name seen (length earlier + 1) row) (admitted seen.ops_left earlier) else Err FieldCount)
     else Err NotHere
 
--- what a row says behind these earlier ones, which show that much
+-- what a row says after these earlier ones, which show that much
 abbrev pub row_of : Purpose → Seen → List Row → Record → Result Row ScriptFault
 row_of purpose seen earlier row = row_named purpose seen earlier (name_of (field row 0)) row
 
@@ -71,7 +72,7 @@ abbrev pub told : {A B : Type 0} → ℕ → Result A ScriptFault → (A → Res
 told row (Ok x) f = f x
 told row (Err fault) f = Err (record { row = row; fault = fault })
 
--- the rows of the records behind these earlier ones
+-- the rows of the records after these earlier ones
 unfoldable pub rows_after : Purpose → List Row → List Record → Result (List Row) Refusal
 rows_after purpose earlier [] = Ok earlier
 rows_after purpose earlier (record' ∷ records) = told (length earlier + 1) (row_of purpose (seen earlier) earlier record') (λ row. rows_after purpose (earlier ++ row ∷ []) records)

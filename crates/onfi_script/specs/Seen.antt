@@ -31,7 +31,7 @@ abbrev pub strobes_in : Row → Option Strobes
 strobes_in (Strobe strobes) = Some strobes
 strobes_in _ = None
 
--- the moment of arrival that the row tells
+-- the moment of arrival that the row gives
 abbrev pub moment_in : Row → Option ℕ
 moment_in (At moment) = Some moment
 moment_in _ = None

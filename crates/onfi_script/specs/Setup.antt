@@ -12,17 +12,17 @@ use Rattle.onfi_script.specs.declared.row.Subject.TheVariants as on
 use Rattle.onfi_script.specs.RowParts.{RunningRow}
 use Rattle.onfi_script.specs.Subject.{row_on}
 
--- from when on the bus is free, 0 where no row tells
+-- from when on the bus is free, 0 where no row says
 abbrev pub bus_from : Option Row → ℕ
 bus_from (Some (Bus bus_free)) = bus_free
 bus_from _ = 0
 
--- groups aren't strict where no row tells
+-- groups aren't strict where no row says
 abbrev pub strict_from : Option Row → Bool
 strict_from (Some (Strict strict)) = strict
 strict_from _ = false
 
--- how much a request counts, 1 where no row tells
+-- how much a request counts, 1 where no row says
 abbrev pub weight_from : Option Row → ℕ
 weight_from (Some (Weight request weight)) = weight
 weight_from _ = 1
@@ -34,14 +34,14 @@ weight_at rows request = weight_from (row_on (on.Weight request) rows)
 abbrev pub weights : List Row → List ℕ
 weights rows = map (weight_at rows) (0 ∷ 1 ∷ 2 ∷ 3 ∷ 4 ∷ 5 ∷ 6 ∷ 7 ∷ [])
 
--- a member of the group that a row tells of
+-- a member of the group that a row names
 abbrev pub member : ℕ → RunningRow → ℕ → WantOf
 member plane_bits row block = record { id = 0; kind = row.kind; lun = row.lun; plane = plane_at plane_bits block; block = block; page = row.page }
 
 abbrev pub members : ℕ → RunningRow → List WantOf
 members plane_bits row = map (member plane_bits row) row.blocks
 
--- what a LUN does, free from 0 where no row tells
+-- what a LUN does, free from 0 where no row says
 abbrev pub state_from : ℕ → Option Row → LunState
 state_from plane_bits (Some (Free lun since)) = state.Free since
 state_from plane_bits (Some (Running row)) = state.Running (members plane_bits row) row.next row.ready
@@ -70,7 +70,7 @@ unfoldable pub wants_from : ℕ → ℕ → List Row → List WantOf
 wants_from plane_bits id [] = []
 wants_from plane_bits id (row ∷ rows) = numbered (want_in plane_bits id row) id (λ next. wants_from plane_bits next rows)
 
--- the row tells of a LUN that isn't there
+-- the row names a LUN that isn't there
 abbrev pub names_absent : ℕ → Row → Bool
 names_absent luns (Free lun since) = not (nat_lt lun luns)
 names_absent luns (Running row) = not (nat_lt row.lun luns)

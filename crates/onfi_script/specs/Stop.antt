@@ -1,4 +1,4 @@
--- What a stop tells of a script.
+-- What a stop says of a script.
 use Rattle.std.specs.Prelude.{◌≡◌, ℕ, Result, Ok, Err, MatchResult}
 use Rattle.onfi_script.specs.declared.fault.Refusal.{Refusal}
 use Rattle.onfi_script.specs.declared.fault.ScriptFault.{ScriptFault}
@@ -7,7 +7,7 @@ use Rattle.onfi_script.specs.declared.fault.RowStop.TheVariants as of
 use Rattle.onfi_script.specs.declared.fault.Stop.{Stop}
 use Rattle.onfi_script.specs.declared.fault.Stop.TheVariants.{Refused, Memory}
 
--- a fact of the refusal, where there is one; want of memory tells nothing
+-- a fact of the refusal, where there is one; refused memory says nothing
 abbrev pub IfRefused : Stop → (Refusal → Type 0) → Type 0
 IfRefused (Refused refusal) P = P refusal
 IfRefused Memory P = Unit {0}
@@ -17,7 +17,7 @@ abbrev pub IfFault : RowStop → (ScriptFault → Type 0) → Type 0
 IfFault (of.Fault fault) P = P fault
 IfFault of.Memory P = Unit {0}
 
--- .. told of row number `row`
+-- .. reported of row number `row`
 abbrev pub stop_at : ℕ → RowStop → Stop
 stop_at row (of.Fault fault) = Refused (record { row = row; fault = fault })
 stop_at row of.Memory = Memory

@@ -111,11 +111,11 @@ name_of NotHere = codes "NotHere"
 abbrev pub refused : Refusal → Answer
 refused refusal = record { text = codes "script refused " ++ (decimal refusal.row ++ (codes " " ++ (name_of refusal.fault ++ codes "\n"))); status = 1 }
 
--- each number behind a space
+-- each number after a space
 abbrev pub spaced : List ℕ → List ℕ
 spaced numbers = flat_map (λ n. codes " " ++ decimal n) numbers
 
--- the numbers of the wants behind the first, each behind a plus
+-- the numbers of the wants after the first, each after a plus
 abbrev pub joined : List Want → List ℕ
 joined wants = flat_map (λ w. codes "+" ++ decimal w.id) wants
 
@@ -144,7 +144,7 @@ below_line ends below = if nat_lt below ends then codes "below " ++ decimal belo
 abbrev pub schedule_text : Schedule → ℕ → ℕ → List ℕ
 schedule_text s ends below = codes "ONFIPLAN 1\n" ++ (codes "finish " ++ decimal ends) ++ codes "\n" ++ below_line ends below ++ rest_lines 0 s.rest ++ flat_map group_line s.groups
 
--- the answer that plans a problem: the schedule, and behind it the text of its certificate
+-- the answer that plans a problem: the schedule, and after it the text of its certificate
 abbrev pub planned : Schedule → ℕ → ℕ → List ℕ → Answer
 planned s ends below certificate = record { text = schedule_text s ends below ++ certificate; status = 0 }
 
@@ -168,7 +168,7 @@ legal_until ends = line (codes "legal") ends 0
 abbrev pub within : ℕ → ℕ → Answer
 within ends below = record { text = codes "within " ++ (decimal ends ++ (codes " " ++ (decimal below ++ codes "\n"))); status = 8 }
 
--- why the tokens of a certificate are refused; want of memory refuses nothing
+-- why the tokens of a certificate are refused; a lack of memory refuses nothing
 abbrev pub cert_refused : CertFault → Answer
 cert_refused cert.Illegal = refused_for (codes "1 Illegal")
 cert_refused cert.Short = refused_for (codes "2 Short")

@@ -11,7 +11,7 @@ use onfi_problem::Problem;
 use onfi_schedule::{Schedule, find_breach, finish};
 use std::alloc::{AllocError, Global};
 
-/// The text, with a line behind it that closes its schedule where no certificate does.
+/// The text, with a line after it that closes its schedule where no certificate does.
 fn closed(alloc: Global, text: &[u8]) -> Result<Vec<u8>, AllocError>
     ensures { IfOk result (λ v. v.items ≡ text.now ++ codes "ONFICERT\n") }
 {

@@ -67,7 +67,7 @@ fn output_of(trace: bool) -> Output
     }
 }
 
-/// What the command asks for; `text` stands behind the script.
+/// What the command asks for; `text` comes after the script.
 fn commanded(
     alloc: Global,
     command: Command,
@@ -140,7 +140,7 @@ fn tell_answer<W: Write>(
 /// Reads all that there is, and writes the answer to it and nothing else.
 ///
 /// Answers the exit status of the program: 0 for a plan and for a schedule that is accepted or legal, 1 where the script is
-/// refused, 2 where the plan text or its certificate is, 4 for want of memory, 6 where as many nodes were opened as may
+/// refused, 2 where the plan text or its certificate is, 4 where memory was refused, 6 where as many nodes were opened as may
 /// be and the search is not over.
 ///
 /// # Errors
@@ -226,7 +226,7 @@ pub fn engine_split_by<T: Threads + Sync, R: Read, W: Write>(
 /// [`engine_split_by`] write with several, 1 to 8.
 ///
 /// # Errors
-/// Want of memory.
+/// Where memory was refused.
 pub fn answer_by<T: Threads + Sync>(
     rt: &T,
     alloc: Global,

@@ -1,4 +1,4 @@
-//! Which operations of arrays rows told of.
+//! Which operations of arrays rows named.
 ghost use Rattle.std.specs.Prelude.{◌≡◌, [], ◌∷◌, ◌++◌, List, OnOk};
 ghost use Rattle.std.specs.List.{list_any};
 ghost use Rattle.onfi_script.specs.ArraysTold.{AreTold, is_same, array_of as spec_array_of};
@@ -8,7 +8,7 @@ use crate::row::{Row, Subject};
 use std::alloc::{AllocError, Global};
 use std::collections::HashSet;
 
-/// The operations of arrays that rows told of, by channel, LUN and number. One is found without a look at the others, since a
+/// The operations of arrays that rows named, by channel, LUN and number. One is found without a look at the others, since a
 /// script may have a row for each operation of a run.
 #[derive(Drop)]
 pub struct ArraysTold {
@@ -41,17 +41,17 @@ impl ArraysTold {
         }
     }
 
-    /// Whether a row told of that one.
+    /// Whether a row named that one.
     pub fn has(&self, channel: u8, lun: u8, number: u32) -> bool
         ensures { result ≡ list_any (is_same (channel, lun, number)) self.now.names.keys }
     {
         self.names.contains(&(channel, lun, number))
     }
 
-    /// With the operation of a further row, where it tells of one.
+    /// With the operation of a further row, where it names one.
     ///
     /// # Errors
-    /// Want of memory.
+    /// Where memory was refused.
     pub fn put(&mut self, row: &Row) -> Result<(), AllocError>
         ensures { OnOk result ((rows : List ARow) → AreTold rows self.old.names.keys → AreTold (rows ++ row.now ∷ []) self.new.names.keys) }
     {

@@ -5,4 +5,6 @@ pub enum Choosing {
     ByLun,
     /// .. and each LUN its reads first.
     ReadsFirst,
+    /// .. and what is due before its reads; a group of programs waits for its mates.
+    WholeGroups,
 }

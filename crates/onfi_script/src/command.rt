@@ -46,15 +46,15 @@ pub enum Command {
     /// Print an optimal schedule with its certificate, or in their place its trace where `trace` says so; the search opens
     /// at most `limit` nodes, 1 to 1,048,576.
     Plan { limit: u32, trace: bool },
-    /// Say whether the plan text behind the script shows by its certificate that its schedule is optimal.
+    /// Say whether the plan text after the script shows by its certificate that its schedule is optimal.
     Check,
     /// Print a plan by these options.
     PlanBy(PlanOptions),
-    /// Say whether the plan text behind the script shows what plans of that planner do: as `Check`, by a certificate that
-    /// remembers states where the planner does. Of the best so far and of the rule a line `below` may tell before which time
+    /// Say whether the plan text after the script shows what plans of that planner do: as `Check`, by a certificate that
+    /// remembers states where the planner does. Of the best so far and of the rule a line `below` may say before which time
     /// nothing ends.
     CheckBy(ChosenPlanner),
-    /// Say whether the schedule of the plan text behind the script is legal, and when it ends. A certificate need not
-    /// stand there, and isn't looked at; nor is the number behind `finish`, nor that of a line `below`.
+    /// Say whether the schedule of the plan text after the script is legal, and when it ends. A certificate need not
+    /// stand there, and isn't looked at; nor is the number after `finish`, nor that of a line `below`.
     Legal,
 }

@@ -3,7 +3,7 @@ ghost use Rattle.std.specs.Prelude.{◌≤◌};
 use onfi_addr::Geometry;
 use onfi_timing::Timing;
 
-/// What a script tells of its device.
+/// What a script says of its device.
 #[derive(Clone, Copy)]
 pub struct Device {
     /// How many LUNs there are, 1 to 8.
@@ -20,7 +20,7 @@ pub struct Device {
     ghost few_planes: { plane_bits ≤ 2 },
 }
 
-/// The chips that a parameter page and a timing sheet tell of, or those of a run of the first form.
+/// The chips that a parameter page and a timing sheet describe, or those of a run of the first form.
 #[derive(Clone, Copy)]
 pub struct PageDevice {
     pub geometry: Geometry,

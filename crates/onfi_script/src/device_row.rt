@@ -167,7 +167,7 @@ pub fn page_row(alloc: Global, row: &ByteRecord) -> Result<Row, RowStop>
     Ok(Row::Page(PageRow { bytes }))
 }
 
-/// `sheet,NAME,VALUE`, behind rows that made this sheet.
+/// `sheet,NAME,VALUE`, after rows that made this sheet.
 pub fn sheet_row(sheet: &Sheet, number: usize, row: &ByteRecord) -> Result<Row, ScriptFault>
     ensures { result ≡ spec.sheet_row sheet.now number (fields_of row.now) }
 {
@@ -178,7 +178,7 @@ pub fn sheet_row(sheet: &Sheet, number: usize, row: &ByteRecord) -> Result<Row, 
     }
 }
 
-/// `strobe,NAME,PS`, behind rows that made these strobes, where there were any.
+/// `strobe,NAME,PS`, after rows that made these strobes, where there were any.
 pub fn strobe_row(
     strobes: Option<Strobes>,
     number: usize,

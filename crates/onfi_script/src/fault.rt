@@ -146,7 +146,7 @@ impl ScriptFault {
     }
 }
 
-/// A fault of a script and the row that it is told of, counted from 1; 0 where it is of no row.
+/// A fault of a script and the row that it is reported of, counted from 1; 0 where it is of no row.
 #[derive(Clone, Copy)]
 pub struct Refusal {
     pub row: u64,
@@ -180,7 +180,7 @@ impl From<ScriptFault> for RowStop {
 }
 
 impl RowStop {
-    /// The same, told of a row.
+    /// The same, reported of a row.
     pub fn at(self, row: u64) -> Stop
         ensures { result ≡ stop_at row self }
     {

@@ -94,7 +94,7 @@ pub fn has_page(rows: &[Row]) -> bool
 /// The bytes of a parameter page, those of all its rows joined.
 ///
 /// # Errors
-/// Want of memory.
+/// Where memory was refused.
 pub fn page_bytes(alloc: Global, rows: &[Row]) -> Result<Vec<u8>, AllocError>
     ensures { IfOk result (λ v. v.items ≡ spec.page_bytes rows.now) }
 {
@@ -123,7 +123,7 @@ fn timed(
     }
 }
 
-/// The chips that page, sheet and strobes tell of.
+/// The chips that page, sheet and strobes describe.
 fn described(
     bytes: &[u8],
     sheet: &Sheet,
@@ -146,7 +146,7 @@ fn described(
     }
 }
 
-/// The chips that page, sheet and strobes of rows tell of, which show this.
+/// The chips that page, sheet and strobes of rows describe, which show this.
 fn paged_chips(alloc: Global, rows: &[Row], seen: &Seen) -> Result<PageDevice, RowStop>
     requires { seen.now ≡ spec_seen rows.now }
     ensures { Tells IfFault (λ device. device) result (spec.TellsPaged rows.now) }
@@ -180,11 +180,11 @@ fn spanned_chips(rows: &[Row]) -> Result<PageDevice, ScriptFault>
     })
 }
 
-/// The chips that the rows of a run tell of.
+/// The chips that the rows of a run describe.
 ///
 /// # Errors
 /// `Missing` where no row has bytes of a page, and where the first form lacks its shape, its geometry or lengths of a kind;
-/// else what is wrong with page, geometry, sheet or strobes; want of memory.
+/// else what is wrong with page, geometry, sheet or strobes; and where memory was refused.
 pub fn page_device(alloc: Global, rows: &[Row]) -> Result<PageDevice, RowStop>
     ensures { MatchResult result (λ device. spec.TellsChips rows.now (Ok device)) (λ stop. IfFault stop (λ fault. spec.TellsChips rows.now (Err fault))) }
 {
@@ -210,7 +210,7 @@ fn second_form(alloc: Global, rows: &[Row], seen: &Seen) -> Result<Device, RowSt
     })
 }
 
-/// The device that the rows tell of.
+/// The device that the rows describe.
 pub fn device_of(alloc: Global, rows: &[Row]) -> Result<Device, RowStop>
     ensures { MatchResult result (λ device. spec.TellsDevice rows.now (Ok device)) (λ stop. IfFault stop (λ fault. spec.TellsDevice rows.now (Err fault))) }
 {

@@ -2,7 +2,7 @@
 
 ghost use Rattle.onfi_script.specs.Laws.{AbsentLaw, ReadBackLaw, StrangerLaw};
 
-/// The text of a schedule is read as that schedule, with the finish that it names and the certificate behind it.
+/// The text of a schedule is read as that schedule, with the finish that it names and the certificate after it.
 pub fn text_is_read_back()
     ensures { ReadBackLaw }
 {}

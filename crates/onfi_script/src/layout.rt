@@ -49,7 +49,7 @@ pub fn geometry_row(row: &ByteRecord) -> Result<Row, ScriptFault>
     }))
 }
 
-/// The least number of bits that tell so many things apart.
+/// The least number of bits that distinguish so many things.
 fn bits_for(count: u32) -> u32
     ensures least { IsBitCount count result }
     ensures below { result ≤ 32 }

@@ -1,6 +1,6 @@
 //! From the bytes of an input to the bytes of its answer: what a script sets up is planned, or a plan of it is checked.
 //!
-//! [`engine`] carries out a [`Command`] on an input, [`engine_split`] plans by several workers, [`engine_split_by`] likewise
+//! [`engine`] carries out a [`Command`] on an input, [`engine_split`] plans by several workers, [`engine_split_by`] does so
 //! by other options.
 #![tactic(auto)]
 
@@ -28,6 +28,7 @@ mod planning;
 mod problem_row;
 mod purpose;
 mod reading;
+mod replans;
 mod row;
 mod row_name;
 mod rows;
@@ -56,6 +57,7 @@ pub use plan_within::{PlanWithin, read_plan_within};
 pub use planning::plan_by;
 pub use purpose::Purpose;
 pub use reading::read_rows;
+pub use replans::Replans;
 pub use row::{Row, Subject};
 pub use script::{behind_end, script_len};
 pub use setup::{Setup, is_strict, set_up};

@@ -9,7 +9,7 @@ fn place(text: &[u8], byte: u8) -> Option<usize>
     text.iter().position(|b| *b == byte)
 }
 
-/// What stands before the first such byte and what stands behind it; None where there is no such byte.
+/// What stands before the first such byte and what stands after it; None where there is no such byte.
 pub fn cut(text: &[u8], byte: u8) -> Option<(&[u8], &[u8])>
     ensures some { IfSome result (λ p. parts byte text.now ≡ p.0.now ∷ parts byte p.1.now) }
     ensures shorter { IfSome result (λ p. length p.1.now < length text.now) }

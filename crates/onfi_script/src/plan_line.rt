@@ -20,7 +20,7 @@ pub struct RestLine {
     pub starts: Starts,
 }
 
-/// A line behind the finish of a plan text.
+/// A line after the finish of a plan text.
 #[derive(Drop)]
 pub enum Line {
     Rest(RestLine),

@@ -1,4 +1,4 @@
-//! Plan texts: a schedule, its finish, and the text of a certificate behind them.
+//! Plan texts: a schedule, its finish, and the text of a certificate after them.
 ghost use Rattle.std.specs.Prelude.{◌≡◌, ◌==◌, ◌≤◌, find, option_map, IfErr, OnOk, IsTrue, MatchResult, Ok, Err, Some, None, length};
 ghost use Rattle.onfi_script.specs.Parts.{parts};
 ghost use Rattle.onfi_script.specs.PlanLine.{line_of};
@@ -51,7 +51,7 @@ impl Plan {
         self.finish
     }
 
-    /// The number of the line behind those that were read.
+    /// The number of the line after those that were read.
     fn next_number(&self) -> u64
         ensures number { result ≡ spec.next_number self.now }
         ensures few { result ≤ 19 }
@@ -78,7 +78,7 @@ impl Plan {
         }
     }
 
-    /// Puts a line behind the others.
+    /// Appends a line to the others.
     fn put(&mut self, line: Line)
         requires { IsTrue (spec.takes self.old line) }
         ensures { self.new ≡ spec.with_line self.old line }
@@ -89,7 +89,7 @@ impl Plan {
         }
     }
 
-    /// Reads the line that comes next, and puts it behind the others.
+    /// Reads the line that comes next, and appends it to the others.
     ///
     /// # Errors
     /// Its number where it is not of its form or may not come next.
@@ -148,14 +148,14 @@ fn rests(lines: &[RestLine], luns: usize) -> ArrayVec<Starts, 9>
     rests
 }
 
-/// Whether a line tells of a LUN that isn't there.
+/// Whether a line names a LUN that isn't there.
 fn names_absent(lines: &[RestLine], luns: usize) -> bool
     ensures { result ≡ spec.names_absent luns lines.now }
 {
     lines.iter().any(|line| luns as u64 <= line.lun)
 }
 
-/// The starts of each LUN, and a place more where a line tells of a LUN that isn't there.
+/// The starts of each LUN, and a place more where a line names a LUN that isn't there.
 fn rest_on(lines: &[RestLine], luns: usize) -> ArrayVec<Starts, 9>
     requires { luns ≤ 8 }
     ensures { result.items ≡ spec.rest_on luns lines.now }
@@ -174,7 +174,7 @@ fn is_certificate(line: &[u8]) -> bool
     line.starts_with(b"ONFICERT")
 }
 
-/// The finish that the first two lines of a text tell and what stands behind them, or which of them is wrong.
+/// The finish that the first two lines of a text give and what follows them, or which of them is wrong.
 pub fn opening(text: &[u8]) -> Result<(u64, &[u8]), u64>
     ensures { MatchResult result (λ p. spec.opened (parts 10 text.now) ≡ Ok (p.0, parts 10 p.1.now)) (λ number. spec.opened (parts 10 text.now) ≡ Err number) }
 {
@@ -222,7 +222,7 @@ pub fn read_lines<'a>(
 /// What a plan text says of these wants, and the text of its certificate.
 ///
 /// # Errors
-/// The first line that is wrong, counted from 1: not of its form, a `rest` whose LUN doesn't rise or that stands behind a
+/// The first line that is wrong, counted from 1: not of its form, a `rest` whose LUN doesn't rise or that comes after a
 /// `group`, the ninth of either, or the one that is missing where the text ends.
 pub fn read_plan<'a>(alloc: Global, wants: &[Want], text: &'a [u8]) -> Result<(Plan, &'a [u8]), u64>
     ensures { MatchResult result (λ r. spec.plan_of wants.now text.now ≡ Ok (r.0, r.1.now)) (λ number. spec.plan_of wants.now text.now ≡ Err number) }

@@ -18,7 +18,7 @@ pub struct PlanWithin<'a> {
     pub certificate: &'a [u8],
 }
 
-/// The number of a line `below` in front of a text, and what stands behind it.
+/// The number of a line `below` in front of a text, and what follows it.
 #[tactic(auto, using(crate::proofs::PlanLemmas::below_taken, crate::proofs::PartsLemmas::some_parts))]
 fn below_first(text: &[u8]) -> Option<(u64, &[u8])>
     ensures { MatchOption result (spec.below_first (parts 10 text.now) ≡ None) (λ r. spec.below_first (parts 10 text.now) ≡ Some (r.0, parts 10 r.1.now)) }
@@ -28,7 +28,7 @@ fn below_first(text: &[u8]) -> Option<(u64, &[u8])>
     Some((below, behind))
 }
 
-/// The plan of that finish, in ns, with the lines behind a line `below`.
+/// The plan of that finish, in ns, with the lines after a line `below`.
 fn read_below<'a>(
     alloc: Global,
     wants: &[Want],
@@ -68,10 +68,10 @@ fn read_optimal<'a>(
 }
 
 /// What a plan text says of these wants, before which time nothing ends, and the text of its certificate: a line
-/// `below N` may stand behind the finish.
+/// `below N` may stand after the finish.
 ///
 /// # Errors
-/// The first line that is wrong, as [`read_plan`](crate::read_plan) tells it.
+/// The first line that is wrong, as [`read_plan`](crate::read_plan) reports it.
 pub fn read_plan_within<'a>(
     alloc: Global,
     wants: &[Want],

@@ -22,7 +22,7 @@ use std::thread::Threads;
 /// The plan that these options ask for.
 ///
 /// # Errors
-/// `Over` as the planner tells it; `Memory` where memory was refused.
+/// `Over` as the planner reports it; `Memory` where memory was refused.
 pub fn plan_by(
     alloc: Global,
     problem: &Problem,
@@ -44,7 +44,7 @@ pub fn plan_by(
 /// The plan that these options ask for, where the plain planner searches by so many workers.
 ///
 /// # Errors
-/// `Over` as the planner tells it, and as [`plan_split`] does where that is the plain one; `Memory` where memory was refused.
+/// `Over` as the planner reports it, and as [`plan_split`] does where that is the plain one; `Memory` where memory was refused.
 pub fn plan_by_workers<R: Threads + Sync>(
     rt: &R,
     alloc: Global,

@@ -31,7 +31,7 @@ pub struct Script {
 /// The rows of an input, each in order by itself.
 ///
 /// # Errors
-/// `NoEnd` where no line `end` closes the script, else the first row that is refused; want of memory.
+/// `NoEnd` where no line `end` closes the script, else the first row that is refused; and where memory was refused.
 pub fn read_rows(alloc: Global, purpose: Purpose, input: &[u8]) -> Result<Vec<Row>, Stop>
     ensures { MatchResult result (λ v. TellsRows purpose input.now (Ok v.items)) (λ stop. IfRefused stop (λ refusal. TellsRows purpose input.now (Err refusal))) }
 {
@@ -97,7 +97,7 @@ fn problem_in(alloc: Global, rows: &[Row]) -> Result<Problem, Stop>
 /// What the script of an input says.
 ///
 /// # Errors
-/// The first refusal of the script; want of memory.
+/// The first refusal of the script; and where memory was refused.
 pub fn read_script(alloc: Global, input: &[u8]) -> Result<Script, Stop>
     ensures told { Tells IfRefused (λ s. s.problem.problem) result (TellsScript input.now) }
     ensures begun { IfOk result (λ s. s.problem.all ≡ s.problem.problem.wants) }

@@ -11,6 +11,7 @@ use crate::device_row::{PageRow, ShapeRow, SpansRow};
 use crate::layout::GeometryRow;
 use crate::operation::Operation;
 use crate::problem_row::RunningRow;
+use crate::replans::Replans;
 use crate::row_name::Form;
 use onfi_addr::plane_at;
 use onfi_request::{Fault, Want};
@@ -65,6 +66,10 @@ pub enum Row {
     Choice {
         choosing: Choosing,
     },
+    /// When a plan is made anew; without such a row at once.
+    Replanning {
+        replans: Replans,
+    },
     /// How many items a submission queue holds.
     SubmitCap {
         count: Count<1024>,
@@ -84,7 +89,7 @@ pub enum Row {
         channel: u8,
         number: u32,
     },
-    /// The number, from 0, of a status call that tells of a LUN that isn't ready.
+    /// The number, from 0, of a status call that says that a LUN isn't ready.
     NotReady {
         channel: u8,
         number: u32,
@@ -96,7 +101,7 @@ pub enum Row {
         number: u32,
         length: u64,
     },
-    /// When the operations behind it arrive, up to the next such row; those before the first arrive as they are submitted.
+    /// When the operations after it arrive, up to the next such row; those before the first arrive as they are submitted.
     At {
         moment: u64,
     },
@@ -118,6 +123,7 @@ pub enum Subject {
     Hosts,
     Batch,
     Choice,
+    Replanning,
     SubmitCap,
     PostCap,
     /// An operation of an array.
@@ -144,6 +150,7 @@ impl Row {
             Row::Hosts { .. } => Some(Subject::Hosts),
             Row::Batch { .. } => Some(Subject::Batch),
             Row::Choice { .. } => Some(Subject::Choice),
+            Row::Replanning { .. } => Some(Subject::Replanning),
             Row::SubmitCap { .. } => Some(Subject::SubmitCap),
             Row::PostCap { .. } => Some(Subject::PostCap),
             Row::Op(_)
@@ -172,7 +179,7 @@ impl Row {
         matches!(self, Row::Op(_))
     }
 
-    /// The moment of arrival that it tells, in ns.
+    /// The moment of arrival that it gives, in ns.
     pub fn moment(&self) -> Option<u64>
         ensures { result ≡ moment_in self.now }
     {
@@ -253,7 +260,7 @@ impl Row {
         }
     }
 
-    /// Whether it tells of a LUN that isn't there.
+    /// Whether it names a LUN that isn't there.
     pub fn names_absent(&self, luns: u8) -> bool
         ensures { result ≡ names_absent luns self.now }
     {
@@ -288,6 +295,7 @@ impl Subject {
             | (Subject::Hosts, Subject::Hosts)
             | (Subject::Batch, Subject::Batch)
             | (Subject::Choice, Subject::Choice)
+            | (Subject::Replanning, Subject::Replanning)
             | (Subject::SubmitCap, Subject::SubmitCap)
             | (Subject::PostCap, Subject::PostCap)
             | (Subject::Geometry, Subject::Geometry) => true,

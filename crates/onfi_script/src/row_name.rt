@@ -24,6 +24,7 @@ pub enum RowName {
     Hosts,
     Batch,
     Choice,
+    Replanning,
     SubmitCap,
     PostCap,
     Op,
@@ -100,6 +101,8 @@ impl RowName {
             Some(RowName::Batch)
         } else if is_word(text, "choice") {
             Some(RowName::Choice)
+        } else if is_word(text, "replanning") {
+            Some(RowName::Replanning)
         } else if is_word(text, "submitcap") {
             Some(RowName::SubmitCap)
         } else if is_word(text, "postcap") {
@@ -187,14 +190,14 @@ impl RowName {
         }
     }
 
-    /// Whether it tells of a device of the first form that a problem can have too.
+    /// Whether it describes a device of the first form that a problem can have too.
     fn is_of_any_device(self) -> bool
         ensures { result ≡ spec.is_of_any_device self }
     {
         matches!(self, RowName::Shape | RowName::Spans)
     }
 
-    /// Whether its rows may stand in a script of that form and for that purpose: a run takes `shape` and `spans` behind a row
+    /// Whether its rows may stand in a script of that form and for that purpose: a run takes `shape` and `spans` after a row
     /// `geometry` alone.
     pub fn stands(self, purpose: Purpose, form: Option<Form>) -> bool
         ensures { result ≡ spec.stands purpose self form }
@@ -220,6 +223,7 @@ impl RowName {
             | RowName::Hosts
             | RowName::Batch
             | RowName::Choice
+            | RowName::Replanning
             | RowName::SubmitCap
             | RowName::PostCap
             | RowName::At => count == 2,

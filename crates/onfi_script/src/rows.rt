@@ -19,13 +19,13 @@ use crate::row::{Row, Subject};
 use crate::row_name::RowName;
 use crate::run_row::{
     array_row, at_row, batch_row, channels_row, chip_fail_row, choice_row, fault_row, hosts_row,
-    not_ready_row, op_row, post_cap_row, submit_cap_row,
+    not_ready_row, op_row, post_cap_row, replanning_row, submit_cap_row,
 };
 use crate::seen::Seen;
 use csv::ByteRecord;
 use std::alloc::{AllocError, Global};
 
-/// What row number `number` says, behind rows that show that much.
+/// What row number `number` says, after rows that show that much.
 fn said(
     alloc: Global,
     name: RowName,
@@ -52,6 +52,7 @@ fn said(
         RowName::Hosts => Ok(hosts_row(fields)?),
         RowName::Batch => Ok(batch_row(fields)?),
         RowName::Choice => Ok(choice_row(fields)?),
+        RowName::Replanning => Ok(replanning_row(fields)?),
         RowName::SubmitCap => Ok(submit_cap_row(fields)?),
         RowName::PostCap => Ok(post_cap_row(fields)?),
         RowName::Op => op_row(alloc, fields),
@@ -103,7 +104,7 @@ fn admitted(ops_left: u16, arrays: &ArraysTold, earlier: &[Row], row: Row) -> Re
     }
 }
 
-/// What a row says behind these earlier ones, which show that much.
+/// What a row says after these earlier ones, which show that much.
 fn row_of(
     alloc: Global,
     purpose: Purpose,
@@ -128,7 +129,7 @@ fn row_of(
     admitted(seen.ops_left, arrays, earlier, row)
 }
 
-/// Keeps a row behind the others, and with it the operation of an array that it tells of.
+/// Keeps a row after the others, and with it the operation of an array that it names.
 fn keep(rows: &mut Vec<Row>, arrays: &mut ArraysTold, row: Row) -> Result<(), AllocError>
     ensures rows { OnOk result (rows.new.items ≡ rows.old.items ++ row ∷ []) }
     ensures arrays { OnOk result (AreTold rows.old.items arrays.old.names.keys → AreTold rows.new.items arrays.new.names.keys) }

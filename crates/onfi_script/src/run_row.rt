@@ -10,6 +10,7 @@ use crate::count::Count;
 use crate::fault::{RowStop, ScriptFault};
 use crate::field::{block, field, hex_bytes, is_word, kind, lun, number, page, small, span};
 use crate::operation::{Aim, Content, Operation};
+use crate::replans::Replans;
 use crate::row::Row;
 use csv::ByteRecord;
 use onfi_addr::Place;
@@ -32,6 +33,21 @@ fn choosing(text: &[u8]) -> Result<Choosing, ScriptFault>
         Ok(Choosing::ByLun)
     } else if is_word(text, "reads-first") {
         Ok(Choosing::ReadsFirst)
+    } else if is_word(text, "whole-groups") {
+        Ok(Choosing::WholeGroups)
+    } else {
+        Err(ScriptFault::OutOfRange)
+    }
+}
+
+/// When a plan is made anew.
+fn replans(text: &[u8]) -> Result<Replans, ScriptFault>
+    ensures { result ≡ spec.replans text.now }
+{
+    if is_word(text, "at-once") {
+        Ok(Replans::AtOnce)
+    } else if is_word(text, "lazily") {
+        Ok(Replans::Lazily)
     } else {
         Err(ScriptFault::OutOfRange)
     }
@@ -76,12 +92,20 @@ pub fn batch_row(row: &ByteRecord) -> Result<Row, ScriptFault>
     Ok(Row::Batch { count })
 }
 
-/// `choice,by-lun` or `choice,reads-first`
+/// `choice,by-lun`, `choice,reads-first` or `choice,whole-groups`
 pub fn choice_row(row: &ByteRecord) -> Result<Row, ScriptFault>
     ensures { result ≡ spec.choice_row (fields_of row.now) }
 {
     let choosing = choosing(field(row, 1))?;
     Ok(Row::Choice { choosing })
+}
+
+/// `replanning,at-once` or `replanning,lazily`
+pub fn replanning_row(row: &ByteRecord) -> Result<Row, ScriptFault>
+    ensures { result ≡ spec.replanning_row (fields_of row.now) }
+{
+    let replans = replans(field(row, 1))?;
+    Ok(Row::Replanning { replans })
 }
 
 /// `submitcap,N`
@@ -148,7 +172,7 @@ pub fn array_row(row: &ByteRecord) -> Result<Row, ScriptFault>
     })
 }
 
-/// `at,NS`, behind a moment of arrival.
+/// `at,NS`, after a moment of arrival.
 pub fn at_row(before: u64, row: &ByteRecord) -> Result<Row, ScriptFault>
     ensures { result ≡ spec.at_row before (fields_of row.now) }
 {
@@ -203,7 +227,7 @@ fn aim(row: &ByteRecord) -> Result<Aim, ScriptFault>
     })
 }
 
-/// `op,HOST,CHANNEL,KIND,LUN,BLOCK,PAGE`, and the bytes of a program behind it.
+/// `op,HOST,CHANNEL,KIND,LUN,BLOCK,PAGE`, and the bytes of a program after it.
 pub fn op_row(alloc: Global, row: &ByteRecord) -> Result<Row, RowStop>
     ensures { Gives IfFault (λ r. r) result (spec.op_row (fields_of row.now)) }
 {

@@ -31,7 +31,7 @@ pub fn script_len(input: &[u8]) -> Option<usize>
     None
 }
 
-/// What stands behind the line `end` that a text begins with.
+/// What follows the line `end` that a text begins with.
 pub fn behind_end(text: &[u8]) -> &[u8]
     ensures { result.now ≡ behind_end text.now }
 {
@@ -39,7 +39,7 @@ pub fn behind_end(text: &[u8]) -> &[u8]
     &text[text.len().min(len)..]
 }
 
-/// What stands behind the line that closes the script of an input; nothing where none does.
+/// What follows the line that closes the script of an input; nothing where none does.
 pub fn plan_text_of(input: &[u8]) -> &[u8]
     ensures { result.now ≡ plan_text_of input.now }
 {

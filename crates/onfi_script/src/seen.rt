@@ -11,10 +11,10 @@ const MOST_OPS: u16 = 10_000;
 /// What the rows so far show of a script.
 #[derive(Clone, Copy)]
 pub struct Seen {
-    /// The form of the script, where a row told it.
+    /// The form of the script, where a row gave it.
     pub form: Option<Form>,
     pub sheet: Sheet,
-    /// The strobes, where a row told of any.
+    /// The strobes, where a row gave any.
     pub strobes: Option<Strobes>,
     /// How many operations may come.
     pub ops_left: u16,

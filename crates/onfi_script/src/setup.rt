@@ -90,7 +90,7 @@ fn wants(alloc: Global, rows: &[Row], plane_bits: u8) -> Result<Vec<Want>, Alloc
     Ok(wants)
 }
 
-/// The first row that tells of a LUN that isn't there, counted from 0.
+/// The first row that names a LUN that isn't there, counted from 0.
 pub fn absent(rows: &[Row], luns: u8) -> Option<usize>
     ensures { result ≡ position (spec.names_absent luns) rows.now }
 {

@@ -182,7 +182,7 @@ fn line_of(alloc: Global, why: Why) -> Result<Answer, AllocError>
 /// The answer that refuses so: its line, and why.
 ///
 /// # Errors
-/// Want of memory.
+/// Where memory was refused.
 pub fn refuse(alloc: Global, why: Why) -> Result<Answer, AllocError>
     ensures answer { IfOk result (λ a. answer_of a ≡ spec.refused_by why) }
     ensures why { IfOk result (λ a. a.why ≡ Some why) }
@@ -195,7 +195,7 @@ pub fn refuse(alloc: Global, why: Why) -> Result<Answer, AllocError>
 /// The answer to a script that is refused.
 ///
 /// # Errors
-/// Want of memory.
+/// Where memory was refused.
 pub fn refused(alloc: Global, refusal: Refusal) -> Result<Answer, AllocError>
     ensures { IfOk result (λ a. answer_of a ≡ spec.refused refusal) }
 {
@@ -209,10 +209,10 @@ pub fn over(alloc: Global, opened: u32) -> Result<Answer, AllocError>
     refuse(alloc, Why::Over(opened))
 }
 
-/// Puts a mark and a number behind a text.
+/// Appends a mark and a number to a text.
 ///
 /// # Errors
-/// Want of memory.
+/// Where memory was refused.
 pub fn put_number(
     alloc: Global,
     text: &mut String,
@@ -225,7 +225,7 @@ pub fn put_number(
     text.push_str(piece.as_str())
 }
 
-/// Puts numbers behind a text, each behind a space.
+/// Appends numbers to a text, each after a space.
 fn put_spaced(alloc: Global, text: &mut String, numbers: &[u64]) -> Result<(), AllocError>
     ensures { OnOk result (string_bytes text.new ≡ string_bytes text.old ++ spec.spaced numbers.now) }
 {
@@ -235,7 +235,7 @@ fn put_spaced(alloc: Global, text: &mut String, numbers: &[u64]) -> Result<(), A
     Ok(())
 }
 
-/// Puts the numbers of wants behind a text, each behind a plus.
+/// Appends the numbers of wants to a text, each after a plus.
 fn put_joined(alloc: Global, text: &mut String, wants: &[Want]) -> Result<(), AllocError>
     ensures { OnOk result (string_bytes text.new ≡ string_bytes text.old ++ spec.joined wants.now) }
 {
@@ -245,7 +245,7 @@ fn put_joined(alloc: Global, text: &mut String, wants: &[Want]) -> Result<(), Al
     Ok(())
 }
 
-/// Puts the numbers of a group's members behind a text.
+/// Appends the numbers of a group's members to a text.
 fn put_ids(alloc: Global, text: &mut String, members: &[Want]) -> Result<(), AllocError>
     ensures { OnOk result (string_bytes text.new ≡ string_bytes text.old ++ spec.ids members.now) }
 {
@@ -256,7 +256,7 @@ fn put_ids(alloc: Global, text: &mut String, members: &[Want]) -> Result<(), All
     put_joined(alloc, text, rest)
 }
 
-/// Puts the line of a group behind a text.
+/// Appends the line of a group to a text.
 fn put_group(alloc: Global, text: &mut String, group: &Placed) -> Result<(), AllocError>
     ensures { OnOk result (string_bytes text.new ≡ string_bytes text.old ++ spec.group_line group.now) }
 {
@@ -266,7 +266,7 @@ fn put_group(alloc: Global, text: &mut String, group: &Placed) -> Result<(), All
     text.push_str("\n")
 }
 
-/// Puts the lines of new groups behind a text.
+/// Appends the lines of new groups to a text.
 fn put_groups(alloc: Global, text: &mut String, groups: &[Placed]) -> Result<(), AllocError>
     ensures { OnOk result (string_bytes text.new ≡ string_bytes text.old ++ flat_map spec.group_line groups.now) }
 {
@@ -276,7 +276,7 @@ fn put_groups(alloc: Global, text: &mut String, groups: &[Placed]) -> Result<(),
     Ok(())
 }
 
-/// Puts the line of a LUN with phases left of a running group behind a text.
+/// Appends the line of a LUN with phases left of a running group to a text.
 fn put_rest(alloc: Global, text: &mut String, lun: usize, starts: &[u64]) -> Result<(), AllocError>
     ensures { OnOk result (string_bytes text.new ≡ string_bytes text.old ++ spec.rest_line lun starts.now) }
 {
@@ -288,7 +288,7 @@ fn put_rest(alloc: Global, text: &mut String, lun: usize, starts: &[u64]) -> Res
     text.push_str("\n")
 }
 
-/// Puts the lines of running groups behind a text.
+/// Appends the lines of running groups to a text.
 #[tactic(auto, unfolding(crate::specs::Text::rest_lines))]
 fn put_rests(alloc: Global, text: &mut String, rest: &[Starts]) -> Result<(), AllocError>
     ensures { OnOk result (string_bytes text.new ≡ string_bytes text.old ++ spec.rest_lines 0 rest.now) }
@@ -299,7 +299,7 @@ fn put_rests(alloc: Global, text: &mut String, rest: &[Starts]) -> Result<(), Al
     Ok(())
 }
 
-/// Puts a line of the time before which nothing ends, in ns, behind a text, where that isn't the finish.
+/// Appends a line of the time before which nothing ends, in ns, to a text, where that isn't the finish.
 fn put_below(alloc: Global, text: &mut String, finish: u64, below: u64) -> Result<(), AllocError>
     ensures { OnOk result (string_bytes text.new ≡ string_bytes text.old ++ spec.below_line finish below) }
 {
@@ -329,7 +329,7 @@ fn schedule_text(
     Ok(text)
 }
 
-/// .. with the text of its certificate behind them.
+/// .. with the text of its certificate after them.
 pub fn plan_text(
     alloc: Global,
     schedule: &Schedule,

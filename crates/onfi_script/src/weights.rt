@@ -7,7 +7,7 @@ use crate::forms::row_on;
 use crate::row::{Row, Subject};
 use onfi_early::Weights;
 
-/// How much the want of that number counts; 1 where no row tells.
+/// How much the want of that number counts; 1 where no row says.
 fn weight_of(rows: &[Row], request: u8) -> u16
     ensures { result ≡ spec.weight_at rows.now request }
 {
@@ -17,7 +17,7 @@ fn weight_of(rows: &[Row], request: u8) -> u16
     }
 }
 
-/// How much each want counts, as the rows tell; members of running groups count 1.
+/// How much each want counts, as the rows say; members of running groups count 1.
 pub fn weights(rows: &[Row]) -> Weights
     ensures wants { result.wants ≡ spec.weights rows.now }
     ensures running { Each (Each (λ w. w ≡ 1)) result.running }

@@ -182,7 +182,7 @@ module _ (now : ℕ) (q : Seen) (inboxes : List InboxView) (made : ℕ) (q' : Se
         taken = so_far.taken;
       }
 
-  -- so many takings in were refused behind it
+  -- so many takings in were refused after it
   counted : (inboxes'' : List InboxView) (n : ℕ) → refusals_of inboxes'' ≡ refusals_of inboxes' + n → refusals_of inboxes'' ≡ refusals_of inboxes + n
   counted inboxes'' n more = let taken = so_far.taken in omega (arith, taken, more)
 
@@ -215,7 +215,7 @@ module _ (now : ℕ) (q : Seen) (inboxes : List InboxView) (made : ℕ) (q' : Se
         after = after;
       }
 
-  -- ended so behind a turn
+  -- ended so after a turn
   drains_then : (hosts : List HostView) (turns : ℕ) (answer : TurnAt) (q'' : Seen) (end : DrainedAt) → made < turns → Turned now q' answer q''
       → EndsAs end q''.0.half hosts turns (answer ∷ so_far.answers) 0 → q'' ≡ left_by end q'' → Drains now q hosts inboxes turns end q'' inboxes'
   drains_then hosts turns answer q'' end few turned ends after =

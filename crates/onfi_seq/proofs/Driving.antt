@@ -1,5 +1,5 @@
 -- A half with its chip: what its calls come to, and what they keep.
-use Rattle.std.proofs.Common.{◌≡◌, ℕ, ◌<◌, ◌≤◌, ◌^◌, List, [], ◌∷◌, ◌++◌, Some, None, Option, Result, Ok, Err, IfOk, IfErr, refl, sym, ap, ◌∙◌, subst, arith}
+use Rattle.std.proofs.Common.{◌≡◌, ℕ, ◌≤◌, List, [], ◌∷◌, ◌++◌, None, Option, Result, Ok, Err, IfOk, IfErr, refl, sym, ap, ◌∙◌, subst, arith}
 use Rattle.std.specs.Prelude.{IfSome, replicate}
 use Rattle.std.specs.List.{filter}
 use Rattle.onfi_addr.specs.declared.geometry.Geometry.{Geometry}
@@ -11,7 +11,6 @@ use Rattle.onfi_die.specs.Order.{AreRightfulIn}
 use Rattle.onfi_flight.specs.declared.due.Due.{Due}
 use Rattle.onfi_core.specs.declared.event.Event.TheVariants as event
 use Rattle.onfi_core.specs.declared.half.PlanRefusal.{PlanRefusal}
-use Rattle.onfi_core.specs.declared.half.PlanRefusal.TheVariants as refused
 use Rattle.onfi_core.specs.declared.drive.PhaseStop.{PhaseStop}
 use Rattle.onfi_core.specs.declared.drive.PhaseStop.TheVariants as phase
 use Rattle.onfi_core.specs.declared.outcome.Outcome.{Outcome}
@@ -57,7 +56,7 @@ driven_opened Such s h chip lanes is fresh agree =
     } in
     subst (λ (v : HalfView). IsDriven Such v.setup v.lent v.state chip lanes) (sym is) opened
 
--- What is told of a driver, of its fields and back
+-- What is said of a driver, of its fields and back
 module _ {C : Type 0} where
   pub within : (P : DriverFields → Type 0) (inside now : DriverView C) → inside ≡ now → P now.0 → P inside.0
   within P inside now is h = subst (λ (x : DriverView C). P x.0) (sym is) h
@@ -143,7 +142,7 @@ pub phase_step : (old new : HalfView) (chip chip' : Chip) (channel : ℕ) (o : O
 phase_step old new chip chip' channel o kept step =
     subst (λ (c : ChannelState). Step old.setup (quiet old.state chip) (event.Bus channel) o c) (quiet_is old.state new.state chip chip' kept.accepted kept.posted) (step (quiet old.state chip) channel)
 
--- events reach the channel behind it
+-- events reach the channel after it
 pub driven_ran : (Such : Planning → Type 0) (old new : HalfView) (chip chip' : Chip) (lanes lanes' : List AnyLun) (o : Outcome) → IsKeptByPhase old new
     → ((c : ChannelState) (n : ℕ) → Step old.setup (channel_with c old.state chip) (event.Bus n) o (channel_with c new.state chip')) → (new.state.stopped ≡ None → LanesAgree chip' lanes')
     → IsDriven Such old.setup old.lent old.state chip lanes → IsDriven Such new.setup new.lent new.state chip' lanes'

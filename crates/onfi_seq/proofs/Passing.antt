@@ -1,9 +1,9 @@
 -- Time that passes: what it comes to, and what it keeps.
-use Rattle.std.proofs.Common.{◌≡◌, ℕ, zero, suc, ◌+◌, ◌-◌, ◌^◌, ◌<◌, ◌≤◌, inl, inr, Bool, true, false, List, [], ◌∷◌, ◌++◌, length, take, Option, Some, None, Result, Ok, Err, IfOk, IfErr, refl, sym, ap, ◌∙◌, subst, arith}
-use Rattle.std.specs.Prelude.{IfSome, MatchOption, if◌then◌else◌, OnErr, is_some, map, max, slice_get, slice_set}
+use Rattle.std.proofs.Common.{◌≡◌, ℕ, zero, suc, ◌+◌, ◌-◌, ◌^◌, ◌<◌, ◌≤◌, ◌⊎◌, inl, inr, Bool, true, false, List, [], ◌∷◌, ◌++◌, length, take, Option, Some, None, Result, Ok, Err, IfOk, IfErr, refl, sym, ap, ◌∙◌, subst, arith}
+use Rattle.std.specs.Prelude.{IfSome, MatchOption, if◌then◌else◌, OnErr, is_some, map, max, nat_lt, not, slice_get, slice_set}
 use Rattle.std.specs.List.{flat_map}
 use Rattle.std.proofs.Math.Seq.{take-nil}
-use Rattle.onfi_timing.specs.declared.spans.Spans.{Spans}
+use Rattle.onfi_timing.specs.Phases.{Lengths}
 use Rattle.onfi_timing.specs.declared.timing.Timing.{Timing}
 use Rattle.onfi_group.specs.Group.{group_spans, lun_of}
 use Rattle.onfi_problem.specs.declared.lun_state.LunState.{LunState}
@@ -17,17 +17,19 @@ use Rattle.onfi_core.specs.declared.half.passing.WaitRefusal.{WaitRefusal}
 use Rattle.onfi_core.specs.declared.outcome.Outcome.TheVariants as outcome
 use Rattle.onfi_core.specs.declared.setup.Setup.{Setup}
 use Rattle.onfi_core.specs.declared.setup.Choice.{Choice}
-use Rattle.onfi_core.specs.declared.setup.Choice.TheVariants.{InOrder}
+use Rattle.onfi_core.specs.declared.setup.Choice.TheVariants.{InOrder, ByLun, ReadsFirst, WholeGroups}
 use Rattle.onfi_core.specs.Reaching.{Reaches}
 use Rattle.onfi_core.specs.Refusals.{wait_outcome, waited_outcome}
 use Rattle.onfi_core.specs.State.{HalfState, ChannelState, Planning, flight_of, quiet}
 use Rattle.onfi_flight.specs.Flight.{luns_ready_by, ready_by, wait_lag}
-use Rattle.onfi_core.specs.Steps.{Step, is_current, is_empty, none_left, nothing_to_plan, readied, ready_of, ready_refusal, taken_next, unplanned, wait_refusal, waited}
+use Rattle.onfi_core.specs.Steps.{Step, has_begun, is_current, is_empty, is_settled, none_left, nothing_to_plan, places_left, readied, ready_of, ready_refusal, taken_next, unplanned, wait_refusal, waited}
 use Rattle.onfi_flight.specs.Times.{later_group, later_starts}
 use Rattle.onfi_core.specs.View.{HalfView, WantsBy}
 use Rattle.onfi_core.proofs.HeldFor.{is_nil}
 use Rattle.onfi_core.proofs.Reaching.{step_reaches}
+use Rattle.onfi_core.proofs.Rooms.{few_places, places_idle}
 use Rattle.onfi_core.proofs.Refused.{after_waiting, finds_ready, waiting_posts}
+use Rattle.std.proofs.lemmas.Bool.{cases_Bool}
 use Rattle.onfi_lun.specs.declared.lanes.any_lun.AnyLun.{AnyLun}
 use Rattle.onfi_lun.specs.Lanes.{LanesAgree}
 use Rattle.onfi_seq.specs.declared.turn.TurnAt.{TurnAt}
@@ -117,9 +119,9 @@ rest_back by timing lun (x ∷ luns) (ts ∷ rest) none =
 group_back : (by : ℕ) (timing : Timing) (g : Placed) → group_phases timing (later_group by g) ≡ [] → group_phases timing g ≡ []
 group_back by timing g none = from_back (group_spans timing g.members) (length g.members) g.starts none
   where
-    from_back : (spans : Spans) (k : ℕ) (ts : List ℕ) → phases_from (lun_of g.members) spans k 0 (later_starts by ts) ≡ [] → phases_from (lun_of g.members) spans k 0 ts ≡ []
-    from_back spans k [] none = refl
-    from_back spans k (t ∷ ts) none = cc
+    from_back : (lengths : Lengths) (k : ℕ) (ts : List ℕ) → phases_from (lun_of g.members) lengths k 0 (later_starts by ts) ≡ [] → phases_from (lun_of g.members) lengths k 0 ts ≡ []
+    from_back lengths k [] none = refl
+    from_back lengths k (t ∷ ts) none = cc
 
 groups_back : (by : ℕ) (timing : Timing) (groups : List Placed) → flat_map (group_phases timing) (map (later_group by) groups) ≡ [] → flat_map (group_phases timing) groups ≡ []
 groups_back by timing [] none = refl
@@ -254,7 +256,7 @@ module _ (q q' : Seen) (after : q' ≡ (record q.0 { half = q'.0.half }, q'.1)) 
       let is : q' ≡ (record q.0 { half = k }, q'.1) = after ∙ ap (λ (h : HalfState). let x : Seen = (record q.0 { half = h }, q'.1) in x) half_is in
       subst TakesNothing (sym is) (takes_still q k.now k.left k.outdated q'.1 t)
 
--- nothing is to be planned before time passes where neither a phase is left behind it nor an item is to be planned
+-- nothing is to be planned before time passes where neither a phase is left after it nor an item is to be planned
 
 current_is : (outdated over : Bool) → over ≡ true → (if outdated then over else true) ≡ true
 current_is true over is = is
@@ -263,15 +265,56 @@ current_is false over is = refl
 taken_none : (s : Setup) (h : HalfState) → taken_next s h ≡ [] → is_current h ≡ true → nothing_to_plan s h ≡ true
 taken_none s h none current = ap (λ (ws : List Want). if is_empty ws then is_current h else false) none ∙ current
 
-pub nothing_before : (s : Setup) (c c' : ChannelState) → c' ≡ in_time c c' → none_left c.half ≡ true → taken_next s c'.half ≡ [] → nothing_to_plan s c.half ≡ true
-nothing_before s c c' kept over none =
-    let taken : taken_next s c.half ≡ [] = sym (ap (λ (x : ChannelState). taken_next s x.half) kept) ∙ none in
+-- where no phase is left a planning takes what the batch has room for
+abbrev taken_idle : Setup → HalfState → List Want
+taken_idle s h = take (h.batch - length h.now.wants) (unplanned s h)
+
+idle_takes : (s : Setup) (h : HalfState) → none_left h ≡ true → taken_next s h ≡ taken_idle s h
+idle_takes s h over = ap (λ n. take n (unplanned s h)) (places_idle s.choice h over)
+
+pub nothing_before : (s : Setup) (c c' : ChannelState) → c' ≡ in_time c c' → none_left c'.half ≡ true → none_left c.half ≡ true → taken_next s c'.half ≡ [] → nothing_to_plan s c.half ≡ true
+nothing_before s c c' kept later over none =
+    let taken : taken_next s c.half ≡ [] = idle_takes s c.half over ∙ sym (ap (λ (x : ChannelState). taken_idle s x.half) kept) ∙ sym (idle_takes s c'.half later) ∙ none in
     taken_none s c.half taken (current_is c.half.outdated (none_left c.half) over)
+
+-- where nothing is taken nothing is once time has passed: a choice by whole groups that stands stands on
+take_less : {A : Type 0} (xs : List A) (few many : ℕ) → few ≤ many → take many xs ≡ [] → take few xs ≡ []
+take_less [] few many low none = take-nil few
+take_less (x ∷ xs) few zero low none = let z : few ≡ zero = omega (arith, low) in ap (λ n. take n (x ∷ xs)) z
+take_less (x ∷ xs) few (suc many) low none = cc
+
+stands_on : (new begun none none' : Bool) → (none' ≡ true → none ≡ true) → (if new then false else (if begun then false else not none)) ≡ true → (if new then false else (if begun then false else not none')) ≡ true
+stands_on true begun none none' on stands = cc
+stands_on false true none none' on stands = cc
+stands_on false false none false on stands = refl
+stands_on false false none true on stands = let t = on refl in let e : not none ≡ false = ap not t in cc
+
+places_then : (choice : Choice) (c c' : ChannelState) → (none_left (in_time c c').half ≡ true → none_left c.half ≡ true) → (places_left choice (in_time c c').half ≤ places_left choice c.half) ⊎ (places_left choice c.half ≡ c.half.batch - length c.half.now.wants)
+places_then WholeGroups c c' on = elim (cases_Bool (is_settled c.half)) [
+  | inl stands ↦ inl (
+      let stood = stands_on (nat_lt c.half.planned (length c.half.accepted)) (has_begun c.half.last c.half.now.wants) (none_left c.half) (none_left (in_time c c').half) on stands in
+      let none : places_left WholeGroups (in_time c c').half ≡ 0 = ap (λ b. if b then 0 else c.half.batch - length c.half.now.wants) stood in
+      omega arith)
+  | inr falls ↦ inr (ap (λ b. if b then 0 else c.half.batch - length c.half.now.wants) falls)
+]
+places_then InOrder c c' on = inr refl
+places_then ByLun c c' on = inr refl
+places_then ReadsFirst c c' on = inr refl
+
+pub still_nothing : (s : Setup) (c c' : ChannelState) → c' ≡ in_time c c' → (none_left c'.half ≡ true → none_left c.half ≡ true) → taken_next s c.half ≡ [] → taken_next s c'.half ≡ []
+still_nothing s c c' kept on none =
+    let on' = subst (λ (x : ChannelState). none_left x.half ≡ true → none_left c.half ≡ true) kept on in
+    let few = few_places s.choice (in_time c c').half in
+    let taken : taken_next s (in_time c c').half ≡ [] = elim (places_then s.choice c c' on') [
+      | inl low ↦ take_less (unplanned s c.half) (places_left s.choice (in_time c c').half) (places_left s.choice c.half) low none
+      | inr all ↦ take_less (unplanned s c.half) (places_left s.choice (in_time c c').half) (places_left s.choice c.half) (omega (arith, few, all)) none
+    ] in
+    subst (λ (x : ChannelState). taken_next s x.half ≡ []) (sym kept) taken
 
 -- What a turn comes to that takes no item in
 
 none_next : (s : Setup) (h : HalfState) → unplanned s h ≡ [] → taken_next s h ≡ []
-none_next s h none = ap (take (h.batch - length h.now.wants)) none ∙ take-nil (h.batch - length h.now.wants)
+none_next s h none = ap (take (places_left s.choice h)) none ∙ take-nil (places_left s.choice h)
 
 rests_here : (now : ℕ) (q mid : Seen) (answer : TurnAt) (q' : Seen) → RestsAtOnce q mid → Rests mid → Goes now mid answer q' → Goes now q answer q'
 rests_here now q mid answer q' still rests goes =

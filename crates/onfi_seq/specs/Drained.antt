@@ -32,7 +32,7 @@ pub record AreOtherEnds (q : SequencerFields) (hosts : List HostView) (inboxes :
   pub inboxes_are : inbox_queues inboxes ≡ poster_queues q.posters
 
 -- ---- what inboxes take in
--- each is next behind those and behind what of these stands before it
+-- each is next after those and after what of these stands before it
 abbrev pub AreNextBehind : OpenedFor → List Reply → List Reply → Type 0
 AreNextBehind opened before [] = Unit {0}
 AreNextBehind opened before (r ∷ rs) = IsNext opened before r × AreNextBehind opened (before ++ r ∷ []) rs
@@ -110,7 +110,7 @@ EndsAs drained.Memory h hosts turns answers refused =
     (IsLast turn.Memory answers × (none_left h ≡ true) × (refused ≡ 0)) ⊎ (GoesOn answers h × (refused ≡ 1))
 EndsAs (drained.Waits until) h hosts turns answers refused = IsLast (turn.Waits until) answers × (refused ≡ 0)
 
--- a draining that ends by want of memory leaves the mark of it; another end changes nothing
+-- a draining that ends where memory was refused leaves the mark of it; another end changes nothing
 abbrev pub left_by : DrainedAt → Seen → Seen
 left_by drained.Memory q = (record q.0 { short = true }, q.1)
 left_by drained.Empty q = q
@@ -119,7 +119,7 @@ left_by (drained.Stopped cause) q = q
 left_by (drained.Waits until) q = q
 left_by (drained.Over opened) q = q
 
--- no more such turns than those were made, the end is told as it was, and so many takings in were refused
+-- no more such turns than those were made, the end is given as it was, and so many takings in were refused
 pub record DrainsBy (Turns : Seen → TurnAt → Seen → Type 0) (q : Seen) (hosts : List HostView) (inboxes : List InboxView) (turns : ℕ) (end : DrainedAt) (q' : Seen) (inboxes' : List InboxView) : Type 0 where
   pub answers : List TurnAt
   pub last : Seen
@@ -144,7 +144,7 @@ EndsBefore (drained.Waits until) h hosts turns made = ⊥
 EndsBefore (drained.Over opened) h hosts turns made = ⊥
 EndsBefore drained.Memory h hosts turns made = ⊥
 
--- how it ends behind that answer
+-- how it ends after that answer
 abbrev pub EndsBehind : DrainedAt → TurnAt → HalfState → Type 0
 EndsBehind (drained.Stopped cause) answer h = answer ≡ turn.Stopped cause
 EndsBehind (drained.Waits until) answer h = answer ≡ turn.Waits until

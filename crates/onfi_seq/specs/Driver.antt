@@ -27,7 +27,7 @@ pub record DriverFields : Type 0 where
   pub setup : Setup
   pub half : HalfState
 
--- what callers see of a driver; `state` tells what a chip is
+-- what callers see of a driver; `state` says what a chip is
 abbrev pub DriverView : Type 0 → Type 0
 DriverView C = DriverFields × C
 
@@ -52,7 +52,7 @@ pub record StartsNext (h : HalfState) (start : ℕ) : Type 0 where
 abbrev pub WasDue : ℕ → HalfState → Type 0
 WasDue now h = (start : ℕ) × StartsNext h start × (start ≤ now)
 
--- a phase runs only where its start isn't behind the moment
+-- a phase runs only where its start isn't after the moment
 abbrev pub RunsBy : ℕ → HalfState → Ran → Type 0
 RunsBy now h (ran.Phase start) = StartsNext h start × (start ≤ now)
 RunsBy now h (ran.Stopped cause) = h.stopped ≡ None → WasDue now h
@@ -118,7 +118,7 @@ pub record Passes (now : ℕ) (s : Setup) (c c' : ChannelState) : Type 0 where
   pub asked : ((now ≤ mid.half.now.bus_free) × AsksBelow s s.geometry.lun_count mid c') ⊎ ((mid.half.now.bus_free < now) × (c' ≡ mid))
   pub kept : c' ≡ in_time c c'
 
--- .. a moment at 2^62 ns or behind is none of the channel
+-- .. a moment at 2^62 ns or later is none of the channel
 abbrev pub PassesTo : ℕ → Setup → ChannelState → ChannelState → Type 0
 PassesTo now s c c' = ((2 ^ 62 ≤ now) × (c' ≡ c)) ⊎ Passes now s c c'
 

@@ -13,7 +13,7 @@ use Rattle.onfi_queue.specs.Ends.{IntakeView, fresh_intake}
 use Rattle.onfi_reply.specs.declared.opened_for.OpenedFor.{OpenedFor}
 use Rattle.onfi_reply.specs.Ends.{PosterView, fresh_poster}
 
--- a sequencer but for its chip; `refused` tells that a planning was over, or lacked memory, since the last phase; `short` tells that
+-- a sequencer but for its chip; `refused` says that a planning was over, or lacked memory, since the last phase; `short` says that
 -- a turn or a draining answered Memory, at any time
 pub record SequencerFields : Type 0 where
   pub setup : Setup

@@ -79,7 +79,7 @@ pub record Rests (q : Seen) : Type 0 where
   pub items : unplanned q.0.setup q.0.half ≡ []
 
 -- ---- time
--- nothing is told of a moment: it is none of the channel; or nothing is to be planned, and the next phase starts just then or none is left
+-- nothing is said of a moment: it is none of the channel; or nothing is to be planned, and the next phase starts just then or none is left
 abbrev pub IsUntold : ℕ → Seen → Type 0
 IsUntold now q = (2 ^ 62 ≤ now) ⊎ ((nothing_to_plan q.0.setup q.0.half ≡ true) × (StartsNext q.0.half now ⊎ (none_left q.0.half ≡ true)))
 
@@ -88,11 +88,11 @@ pub record PassesIn (now : ℕ) (q q' : Seen) : Type 0 where
   pub passes : Passes now q.0.setup (channel_of q) (channel_of q')
   pub after : q' ≡ (record q.0 { half = q'.0.half }, q'.1)
 
--- .. or nothing was told
+-- .. or nothing was said
 abbrev pub LetsPass : ℕ → Seen → Seen → Type 0
 LetsPass now q q' = (IsUntold now q × (q' ≡ q)) ⊎ PassesIn now q q'
 
--- the next phase starts behind the moment
+-- the next phase starts after the moment
 pub record WaitsFor (now until : ℕ) (q : Seen) : Type 0 where
   pub may : MayRunPhase q
   pub due : StartsNext q.0.half until

@@ -28,6 +28,6 @@ pub enum DrainedAt {
     Over { opened: u32 },
     /// Memory was refused, to a planning with no phase left or to a taking in.
     Memory,
-    /// The next phase starts then, behind the moment of the draining, in ns of the channel's clock.
+    /// The next phase starts then, after the moment of the draining, in ns of the channel's clock.
     Waits { until: u64 },
 }

@@ -52,7 +52,7 @@ impl<C: Chip, P: Planner> Driver<C, P> {
     /// Nothing is accepted yet, and the chip's LUNs are idle.
     ///
     /// # Errors
-    /// Want of memory.
+    /// Where memory was refused.
     pub(crate) fn open(
         alloc: Global,
         setup: Setup,
@@ -147,7 +147,7 @@ impl<C: Chip, P: Planner> Driver<C, P> {
         self.half.plan_by(alloc, &self.planner)
     }
 
-    /// Runs the undone phase of least start on the chip, if it doesn't start behind that moment, in ns. Memory is asked for
+    /// Runs the undone phase of least start on the chip, if it doesn't start after that moment, in ns. Memory is asked for
     /// before the chip is called.
     pub(crate) fn run(&mut self, alloc: Global, now: u64) -> Ran
         ensures ran { RanTo self.old.0.setup (channel_in C.state self.old) result (channel_in C.state self.new) }
@@ -163,7 +163,7 @@ impl<C: Chip, P: Planner> Driver<C, P> {
         }
     }
 
-    // Runs the due phase, if it doesn't start behind that moment.
+    // Runs the due phase, if it doesn't start after that moment.
     fn run_by(&mut self, alloc: Global, due: Due, now: u64) -> Ran
         requires due { IsDue self.old.0.half due }
         requires open { bus_refusal self.old.0.half ≡ None }

@@ -24,7 +24,7 @@ impl Ends {
     /// [`Sequencer::open`](crate::Sequencer::open) asks, and their other ends.
     ///
     /// # Errors
-    /// Want of memory.
+    /// Where memory was refused.
     pub fn open(alloc: Global, setup: &Setup, channel: u8) -> Result<Ends, AllocError>
         requires { channel < setup.now.channels }
         ensures intake { IfOk result (λ ends. IsFreshIntake setup.now channel ends.intake) }

@@ -9,7 +9,7 @@ pub(crate) enum Ran {
     Stopped(Cause),
     /// Memory was refused: nothing happened.
     Memory,
-    /// It starts then, behind the moment up to which phases may run, in ns of the channel's clock: nothing happened.
+    /// It starts then, after the moment up to which phases may run, in ns of the channel's clock: nothing happened.
     NotBefore { start: u64 },
     /// No phase is left.
     NoPhase,

@@ -68,7 +68,7 @@ impl<C: Chip> Sequencer<C> {
     /// its capacities, host h at place h.
     ///
     /// # Errors
-    /// Want of memory; chip, intake and posters are dropped then.
+    /// Where memory was refused; chip, intake and posters are dropped then.
     pub fn open(
         alloc: Global,
         setup: Setup,
@@ -105,7 +105,7 @@ impl<C: Chip, P: Planner> Sequencer<C, P> {
     /// As [`Sequencer::open`], with a planner that plans its batches.
     ///
     /// # Errors
-    /// Want of memory; planner, chip, intake and posters are dropped then.
+    /// Where memory was refused; planner, chip, intake and posters are dropped then.
     pub fn open_with(
         alloc: Global,
         setup: Setup,
@@ -173,7 +173,7 @@ impl<C: Chip, P: Planner> Sequencer<C, P> {
     /// Host and serial of each accepted item without a posted reply, in acceptance order; at most 64.
     ///
     /// # Errors
-    /// Want of memory.
+    /// Where memory was refused.
     pub fn unanswered(&self, alloc: Global) -> Result<Vec<(u8, u32)>, AllocError>
         ensures { IfOk result (λ senders. senders.items ≡ unanswered_senders self.now.0.half) }
     {
@@ -187,7 +187,7 @@ impl<C: Chip, P: Planner> Sequencer<C, P> {
         self.driver.half().has_phase()
     }
 
-    /// From when on the channel's bus is free, in ns of the channel's clock: behind a phase that is its end. A caller with a
+    /// From when on the channel's bus is free, in ns of the channel's clock: after a phase that is its end. A caller with a
     /// clock makes no turn before: it would plan for a bus that is busy.
     pub fn bus_free(&self) -> u64
         ensures { result ≡ self.now.0.half.now.bus_free }

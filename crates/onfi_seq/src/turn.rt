@@ -44,7 +44,7 @@ pub enum TurnAt {
     PostFull,
     /// Nothing is left to do.
     Idle,
-    /// The next phase starts then, behind the moment of the turn, in ns of the channel's clock: until then, or until a request
+    /// The next phase starts then, after the moment of the turn, in ns of the channel's clock: until then, or until a request
     /// comes or a LUN is ready, there is nothing to do.
     Waits { until: u64 },
 }

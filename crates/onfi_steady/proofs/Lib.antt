@@ -6,7 +6,7 @@ pub mod FirstPhase
 pub mod GreatestBound
 pub mod RuleRun
 pub mod Firsts
-pub mod OnLun
+pub mod Leaving
 pub mod Starting
 pub mod KeptFrom
 pub mod NextMove
@@ -15,3 +15,5 @@ pub mod Extremes
 pub mod NextFound
 pub mod OneToken
 pub mod EachLun
+pub mod Works
+pub mod Showing

@@ -1,5 +1,5 @@
 -- A certificate of one token, as one that remembers states.
-use Rattle.std.proofs.Common.{◌≡◌, ℕ, zero, suc, ◌+◌, ◌<◌, ◌≤◌, List, [], ◌∷◌, ◌++◌, length, refl, sym, ap, ◌∙◌, subst, arith, length-append}
+use Rattle.std.proofs.Common.{◌≡◌, ℕ, zero, suc, ◌<◌, ◌≤◌, List, [], ◌∷◌, ◌++◌, length, refl, sym, ap, ◌∙◌, subst, arith, length-append}
 use Rattle.std.specs.Prelude.{Some, slice_get, slice_index}
 use Rattle.std.specs.List.{AllByRecursion as Each}
 use Rattle.std.proofs.lemmas.List.Elements.{All-from_recursion}
@@ -7,7 +7,7 @@ use Rattle.onfi_cert.specs.declared.token.Token.{Token}
 use Rattle.onfi_problem.specs.Problem.{Problem}
 use Rattle.onfi_problem.specs.Left.{InLimits}
 use Rattle.onfi_problem.specs.Position.{Position}
-use Rattle.onfi_check.specs.Tree.{Closing, AtEnd, ByBus, ByLead, ByTrail, ByDie, Tree, Closed, Opened, NoMore, Child, Yields, preorder, preorders, token_of, Closes, Accepts, AcceptsTokens}
+use Rattle.onfi_check.specs.Tree.{Closing, AtEnd, ByBus, ByLead, ByTrail, ByDie, Tree, Closed, Opened, NoMore, Child, Yields, preorder, preorders, token_of, Closes, AcceptsTokens}
 use Rattle.onfi_demand.specs.Demand.{Demand}
 use Rattle.onfi_demand.specs.Kept.{IsKept}
 use Rattle.onfi_demand.specs.declared.demand.Demand.{Demand as Kept}

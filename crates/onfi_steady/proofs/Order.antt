@@ -73,14 +73,14 @@ not_both_before p m n (inr (a, d)) (inl b) = omega arith
 not_both_before p m n (inr (a, d)) (inr (b, c)) = omega arith
 
 module _ (numbers : Move → List ℕ) (p : Problem) where
-  -- one that isn't less, and is listed later, comes behind
+  -- one that isn't less, and is listed later, comes after
   pub behind : (c s : Move) → length (numbers s) ≡ length (numbers c) → is_less (numbers s) (numbers c) ≡ false → ComesBefore p c s → GoesBefore numbers p c s
   behind c s e h b = elim (less_or_same (numbers s) (numbers c) e h) [
     | inl k ↦ inl k
     | inr q ↦ inr (q, b)
   ]
 
-  -- one that is less goes before all that come behind the other
+  -- one that is less goes before all that come after the other
   pub before_all : (c s n : Move) → is_less (numbers s) (numbers c) ≡ true → (n ≡ c) ⊎ GoesBefore numbers p c n → GoesBefore numbers p s n
   before_all c s n h (inl e) = inl (rw e h)
   before_all c s n h (inr (inl k)) = inl (less_after (numbers s) (numbers c) (numbers n) h k)

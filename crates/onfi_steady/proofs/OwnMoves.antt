@@ -61,7 +61,7 @@ module _ (x : Position) where
   own_other ms s lun None d none = All-append (λ n. lun_named n ≢ lun) ms (s ∷ []) none (d, tt)
   own_other ms s lun (Some c) d known = (Has-append_left ms (s ∷ []) c known.0, known.1, All-append (λ n. lun_named n ≡ lun → Follows c n) ms (s ∷ []) known.2 ((λ q. absurd (d q)), tt))
 
-  -- behind one more move of the list
+  -- after one more move of the list
   pub own_after : (items : List KeptMove) (i own : ℕ) (d : KeptMove) (found : List (Option KeptMove)) → i < length items → own < length found → lun_named (get_or items i d) ≡ own → AreMoves x.problem (moves_of x.groups items) → AreOwn x (take i items) found → (lun : ℕ) → lun < 8 → IsOwnAmong x (take (i + 1) items) lun (own_at (slice_set found own (Some (own_of x (get_or found own None) (get_or items i d)))) lun)
   own_after items i own d found h within e are known lun small = elim (cases_eq lun own) [
     | inl q ↦ rw (q, take_more items i d h, get_or-set_same found own (Some (own_of x (get_or found own None) (get_or items i d))) None within) (own_more (take i items) (get_or items i d) own (get_or found own None) e (λ c k. earlier_before (ComesBefore x.problem) (move_of x.groups) items i d c h are.order k) (subst (λ z. IsOwnAmong x (take i items) z (get_or found z None)) q (known lun small)))

@@ -15,7 +15,7 @@ pub rule_is_run : (steps : List Step) (p : Problem) (f : ℕ) → IsRuleRun p st
 rule_is_run [] p f d = d
 rule_is_run (s ∷ steps) p f (choice, start, more) = (choice.own.is_move, omega arith, rw start (rule_is_run steps _ f more))
 
--- .. told as a slice
+-- .. given as a slice
 pub kept_run : (x : Position) (steps items : List Begun) (f : ℕ) → items ≡ steps → IsRuleRun x.problem (run_of x.groups steps) f
     → Run x.problem (run_of x.groups items) f
 kept_run x steps items f e run = subst (λ z. Run x.problem (run_of x.groups z) f) (sym e) (rule_is_run (run_of x.groups steps) x.problem f run)

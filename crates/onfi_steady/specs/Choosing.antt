@@ -14,7 +14,7 @@ use Rattle.onfi_steady.specs.declared.phase.Phase.{Phase}
 use Rattle.onfi_steady.specs.Order.{is_less, GoesBefore}
 use Rattle.onfi_steady.specs.Rule.{IsOwn, group_of, oldest, own_numbers, phase_numbers, phase_rank}
 
--- n is m, or comes behind it
+-- n is m, or comes after it
 abbrev pub IsOrFollows : (Problem → Move → List ℕ) → Position → KeptMove → KeptMove → Type 0
 IsOrFollows numbers x m n = (n ≡ m) ⊎ GoesBefore (numbers x.problem) x.problem (move_of x.groups m) (move_of x.groups n)
 

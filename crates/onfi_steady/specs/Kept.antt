@@ -21,11 +21,10 @@ use Rattle.onfi_steady.specs.Waiting.{Books, begins_with, channel, is_on, passed
 use Rattle.onfi_steady.specs.Offer.{IsOffer, is_kind, own_group, ready_on}
 use Rattle.onfi_steady.specs.Next.{given_move, move_by}
 
--- what waits, with the offer of each LUN
-pub record AreKept (rules : Rules) (waiting : List Waiter) (offers : List Offer) : Type 0 where
+-- what waits has room, and is on planes that a device may have
+pub record AreKept (waiting : List Waiter) : Type 0 where
   pub few : length waiting ≤ 64
   pub planes : Each (λ w. w.want.plane ≤ 3) waiting
-  pub right : (lun : ℕ) → IfSome (slice_get offers lun) (IsOffer rules waiting lun)
 
 -- nothing waits for the LUN
 pub record IsNothing (offer : Offer) : Type 0 where
@@ -33,6 +32,23 @@ pub record IsNothing (offer : Offer) : Type 0 where
   pub opened : offer.is_open ≡ false
   pub erase : offer.erase.items ≡ []
   pub reads : offer.reads ≡ false
+
+-- the offer of a LUN, where it runs nothing
+abbrev pub IsOfferOn : Rules → List Waiter → List LunState → ℕ → Offer → Type 0
+IsOfferOn rules waiting luns lun offer = (since : ℕ) → slice_get luns lun ≡ Some (Free since) → IsOffer rules waiting lun offer
+
+abbrev pub IsOfferedTo : Books → List LunState → ℕ → Offer → Type 0
+IsOfferedTo books luns lun offer = IsOfferOn books.rules books.waiting luns lun offer
+
+-- the offer of each LUN that runs nothing
+abbrev pub AreOffered : Books → List LunState → List Offer → Type 0
+AreOffered books luns offers = (lun : ℕ) → IfSome (slice_get offers lun) (IsOfferedTo books luns lun)
+
+-- what is known of the books: these offers, and the newest program
+pub record AreKnown (books : Books) (luns : List LunState) (offers : List Offer) (newest : Option ℕ) : Type 0 where
+  pub planes : Each (λ w. w.want.plane ≤ 3) books.waiting
+  pub latest : newest ≡ books.newest
+  pub offered : AreOffered books luns offers
 
 -- one more of a LUN's requests that may begin
 abbrev pub ready_with : ℕ → List Waiter → Waiter → List Waiter
@@ -72,7 +88,7 @@ pub record IsGivenBy (books : Books) (p : Problem) (at : ℕ) (candidate : Candi
   pub given : given_move books p at ≡ Some (move_by at candidate.members.now)
   pub numbers : numbers_of candidate.turn ≡ phase_numbers p (move_by at candidate.members.now)
 
--- a phase from `start` on, so long, would end behind that time
+-- a phase from `start` on, so long, would end after that time
 abbrev pub is_kept : Option ℕ → ℕ → ℕ → Bool
 is_kept None start length = false
 is_kept (Some from) start length = nat_lt from (start + length)

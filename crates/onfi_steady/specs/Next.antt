@@ -3,6 +3,7 @@ use Rattle.std.specs.Prelude.{◌≡◌, ◌≢◌, ◌⊎◌, ℕ, ◌+◌, ◌
 use Rattle.std.specs.List.{AllByRecursion as Each, find, list_any}
 use Rattle.onfi_timing.specs.declared.kind.Kind.TheVariants.{Read, Erase}
 use Rattle.onfi_request.specs.declared.want.Want.{Want}
+use Rattle.onfi_group.specs.declared.rules.Rules.{Rules}
 use Rattle.onfi_group.specs.Words.{Has}
 use Rattle.onfi_group.specs.Group.{kind_of}
 use Rattle.onfi_problem.specs.declared.lun_state.LunState.{LunState}
@@ -16,7 +17,7 @@ use Rattle.onfi_steady.specs.Rule.{kind_rank, phase_numbers}
 use Rattle.onfi_steady.specs.Waiting.{Books}
 use Rattle.onfi_steady.specs.Offer.{ready_on, on_lun, own_group, erase_group, is_open, is_kind, is_due}
 
--- a LUN has work: its group is in its commands and is no erase, or may be told of within the array time of a program; or it
+-- a LUN has work: its group is in its commands and is no erase, or is ready within the array time of a program; or it
 -- runs nothing, and a read waits for it
 abbrev pub has_work : Problem → Bool → LunState → Bool
 has_work p reads (Free since) = reads
@@ -89,7 +90,7 @@ move_of_phase phase = move_by phase.lun phase.members.items
 abbrev pub TakesDue : Books → NextPhase → Type 0
 TakesDue books phase = (w : Waiter) → find is_due (ready_on phase.lun books.waiting) ≡ Some w → phase.members.items ≢ [] → Has phase.members.items w.want
 
--- what is told of the phase that is next: it is what a LUN gives, or where none gives any what the lowest one holds; it may come
+-- what is said of the phase that is next: it is what a LUN gives, or where none gives any what the lowest one holds; it may come
 -- next on the channel, and starts as soon as it may
 pub record IsNextPhase (books : Books) (p : Problem) (phase : NextPhase) : Type 0 where
   pub next : IsFirstGiven books p (move_of_phase phase) ⊎ IsFirstHeld books p (move_of_phase phase)
@@ -97,3 +98,10 @@ pub record IsNextPhase (books : Books) (p : Problem) (phase : NextPhase) : Type 
   pub lun : move_lun (move_of_phase phase) ≡ phase.lun
   pub start : phase.start ≡ earliest p (move_of_phase phase)
   pub due : TakesDue books phase
+
+-- what is shown of the books: all that waits for LUNs that run nothing, in its order, be there more or not
+pub record IsShown (books : Books) (luns : List LunState) (rules : Rules) (waiting : List Waiter) (newest : Option ℕ) : Type 0 where
+  pub planes : Each (λ w. w.want.plane ≤ 3) books.waiting
+  pub grouping : rules ≡ books.rules
+  pub latest : newest ≡ books.newest
+  pub free : (lun since : ℕ) → slice_get luns lun ≡ Some (Free since) → on_lun lun waiting ≡ on_lun lun books.waiting

@@ -12,7 +12,7 @@ use Rattle.onfi_steady.specs.declared.offer.Offer.{Offer}
 use Rattle.onfi_steady.specs.Rule.{kind_rank}
 use Rattle.onfi_steady.specs.Waiting.{is_on, want_of}
 
--- those that may begin: without what waits behind another one of its block
+-- those that may begin: without what waits for another one of its block
 abbrev pub firsts : List Waiter → List Waiter
 firsts [] = []
 firsts (w ∷ ws) = w ∷ filter (λ v. not (on_block w.want v.want)) (firsts ws)

@@ -72,7 +72,7 @@ abbrev pub move_keeps_bus : Problem → Move → Bool
 move_keeps_bus p (Next lun) = keeps_bus_at p (slice_get p.luns lun)
 move_keeps_bus p (Start group) = false
 
--- the bus is kept from a phase: it keeps it not itself, and would end behind the start of one that does
+-- the bus is kept from a phase: it keeps it not itself, and would end after the start of one that does
 abbrev pub is_kept_from : Problem → Move → Bool
 is_kept_from p m = if move_keeps_bus p m then false else list_any (keeps_bus_before (after p m).bus_free p) p.luns
 
@@ -96,7 +96,7 @@ abbrev pub phase_rank : Problem → Move → ℕ
 phase_rank p (Next lun) = running_rank (slice_get p.luns lun)
 phase_rank p (Start group) = start_rank (kind_of group)
 
--- of all LUNs the phase that starts soonest, behind all others where the bus is kept from it; of equals by what it does; then
+-- of all LUNs the phase that starts soonest, after all others where the bus is kept from it; of equals by what it does; then
 -- the larger group that begins; then the one with the oldest request
 abbrev pub phase_numbers : Problem → Move → List ℕ
 phase_numbers p m = (if is_kept_from p m then 1 else 0) ∷ earliest p m ∷ phase_rank p m ∷ (4 - wants_started m) ∷ oldest (group_of p m) ∷ []

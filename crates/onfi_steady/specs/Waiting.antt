@@ -28,7 +28,7 @@ abbrev pub newest_with : Option ℕ → Kind → ℕ → Option ℕ
 newest_with newest Program id = Some id
 newest_with newest other id = newest
 
--- one more waits behind the others; no group passed it over
+-- one more waits after the others; no group passed it over
 abbrev pub accepted : Books → Want → Books
 accepted books want = record {
   rules = books.rules;

@@ -7,22 +7,23 @@ ghost use Rattle.onfi_problem.specs.Moves.{free_from};
 ghost use Rattle.onfi_steady.specs.Rule.{keeps_bus};
 ghost use Rattle.onfi_steady.specs.Waiting.{Books, channel};
 ghost use Rattle.onfi_steady.specs.Next.{any_work, has_work};
-ghost use Rattle.onfi_steady.specs.Kept.{IsKeptFrom, earlier, is_kept, kept_with};
+ghost use Rattle.onfi_steady.specs.Kept.{AreOffered, IsKeptFrom, earlier, is_kept, kept_with};
 
+use crate::offer::Offer;
 use crate::own::kind_rank;
-use crate::waiting::Waiting;
 use onfi_group::Group;
 use onfi_problem::LunState;
 use onfi_timing::{Kind, Timing};
 
 /// Whether a LUN has work: its group is in its commands and is no erase, or its array ends within that of a program; or it runs
 /// nothing, and a read waits for it.
-pub fn any_work(timing: &Timing, from: u64, luns: &[LunState], waiting: &Waiting) -> bool
-    requires { length luns.now ≤ 8 }
-    ensures { result ≡ any_work waiting.now (channel timing.now from luns.now waiting.now) }
+pub fn any_work(timing: &Timing, from: u64, luns: &[LunState], offers: &[Offer; 8]) -> bool
+    requires few { length luns.now ≤ 8 }
+    requires offers { length offers.now ≡ 8 }
+    ensures { (books : Books) → AreOffered books luns.now offers.now → result ≡ any_work books (channel timing.now from luns.now books) }
 {
     for (lun, state) in luns.iter().enumerate() {
-        if has_work(timing, from, waiting.offer(lun as u8).reads, state) {
+        if has_work(timing, from, offers[lun].reads, state) {
             return true;
         }
     }

@@ -1,6 +1,6 @@
 //! Plans by a rule, without a search: of each LUN the group that it would begin, of all LUNs the phase that starts soonest,
 //! one phase after another. Alone, it makes a legal schedule of a problem in one pass, and says how far that is from the best
-//! at most; as [`RulePlanner`] it stands behind the trait of `onfi_plan`.
+//! at most; as [`RulePlanner`] it stands under the trait of `onfi_plan`.
 #![tactic(auto)]
 
 mod below;
@@ -23,7 +23,7 @@ mod waiter;
 mod waiting;
 
 pub use dispatch::run_by_rule;
-pub use next::{NextPhase, next_phase};
+pub use next::{NextPhase, next_phase, next_phase_of};
 pub use planner::RulePlanner;
 pub use planning::plan_by_rule;
 pub use text::plan_by_rule_with_text;

@@ -1,18 +1,21 @@
 //! The phase that is next on a channel whose requests are not planned.
 
-ghost use Rattle.std.specs.Prelude.{◌≡◌, ◌<◌, ◌≤◌, [], List, length, max, None, Option, Some, MatchOption, slice_get};
+ghost use Rattle.std.specs.Prelude.{◌≡◌, ◌≤◌, ℕ, [], List, length, max, None, Some, IfSome, MatchOption, slice_get};
 ghost use Rattle.onfi_problem.specs.declared.lun_state.LunState.{LunState as AnyState};
 ghost use Rattle.std.specs.List.{AllByRecursion as Each, list_any};
-ghost use Rattle.onfi_steady.specs.Waiting.{channel};
-ghost use Rattle.onfi_steady.specs.Offer.{ready_on};
-ghost use Rattle.onfi_steady.specs.Next.{IsIdle, IsNextPhase, any_work, given_group, given_move, is_number};
-ghost use Rattle.onfi_steady.specs.Kept.{IsBeginOf, IsFirstBelow, IsGivenBy, IsHeldAt, IsHeldBy, IsKeptFrom, NoneBelow, first_of, candidate_with};
+ghost use Rattle.onfi_steady.specs.Waiting.{Books, channel};
+ghost use Rattle.onfi_steady.specs.Offer.{IsOffer, ready_on};
+ghost use Rattle.onfi_steady.specs.Next.{IsIdle, IsNextPhase, IsShown, any_work, given_group, given_move, is_number};
+ghost use Rattle.onfi_steady.specs.Kept.{AreOffered, AreKnown, IsBeginOf, IsFirstBelow, IsGivenBy, IsHeldAt, IsHeldBy, IsKeptFrom, IsOfferedTo, NoneBelow, first_of, candidate_with};
 
 use crate::bus::{any_work, kept_from};
 use crate::next_turn::{turn_of_begin, turn_of_running};
+use crate::offer::{Offer, offers_of};
 use crate::turn::Turn;
+use crate::waiter::Waiter;
 use crate::waiting::Waiting;
 use arrayvec::ArrayVec;
+use onfi_group::Rules;
 use onfi_problem::LunState;
 use onfi_request::Want;
 use onfi_timing::Timing;
@@ -71,12 +74,39 @@ pub fn next_phase(
     ensures { let p = channel timing.now (max bus_free now) luns.now waiting.now in
         MatchOption result (IsIdle p) (IsNextPhase waiting.now p) }
 {
+    next_phase_of(
+        timing,
+        bus_free,
+        now,
+        luns,
+        waiting.rules(),
+        waiting.as_slice(),
+        waiting.newest(),
+    )
+}
+
+/// The same of a list that a caller keeps otherwise: what waits for LUNs that run nothing, in the order in which it was accepted,
+/// be there more for other LUNs in it or not; and the number of the newest accepted program.
+pub fn next_phase_of(
+    timing: &Timing,
+    bus_free: u64,
+    now: u64,
+    luns: &[LunState],
+    rules: &Rules,
+    waiting: &[Waiter],
+    newest: Option<u64>,
+) -> Option<NextPhase>
+    requires few_luns { length luns.now ≤ 8 }
+    requires few { length waiting.now ≤ 64 }
+    ensures { (books : Books) → IsShown books luns.now rules.now waiting.now newest
+        → MatchOption result (IsIdle (channel timing.now (max bus_free now) luns.now books)) (IsNextPhase books (channel timing.now (max bus_free now) luns.now books)) }
+{
     let from = bus_free.max(now);
-    let work = any_work(timing, from, luns, waiting);
-    let _planes = waiting.as_slice();
-    match first_given(timing, from, luns, waiting, work) {
+    let offers = offers_of(rules, luns, waiting);
+    let work = any_work(timing, from, luns, &offers);
+    match first_given(timing, from, luns, &offers, newest, work) {
         Some(first) => Some(phase_of(first)),
-        None => first_held(from, luns, waiting),
+        None => first_held(from, luns, &offers),
     }
 }
 
@@ -98,21 +128,30 @@ fn first_given<'a>(
     timing: &Timing,
     from: u64,
     luns: &[LunState],
-    waiting: &'a Waiting,
+    offers: &'a [Offer; 8],
+    newest: Option<u64>,
     work: bool,
 ) -> Option<Candidate<'a>>
     requires few { length luns.now ≤ 8 }
-    requires work { work ≡ any_work waiting.now (channel timing.now from luns.now waiting.now) }
-    ensures { IsFirstBelow waiting.now (channel timing.now from luns.now waiting.now) (length luns.now) result }
+    requires offers { length offers.now ≡ 8 }
+    ensures first { (books : Books) → AreKnown books luns.now offers.now newest → work ≡ any_work books (channel timing.now from luns.now books)
+        → IsFirstBelow books (channel timing.now from luns.now books) (length luns.now) result }
+    ensures few { IfSome result (λ c. length c.members.now ≤ 4) }
 {
     let kept = kept_from(timing, from, luns);
-    let _planes = waiting.as_slice();
     let mut first = None;
     for (lun, state) in luns.iter().enumerate() {
-        first = first_of(
-            first,
-            given(timing, from, kept, state, lun as u8, waiting, work),
+        let other = given(
+            timing,
+            from,
+            kept,
+            state,
+            lun as u8,
+            &offers[lun],
+            newest,
+            work,
         );
+        first = first_of(first, other);
     }
     first
 }
@@ -150,15 +189,17 @@ fn given<'a>(
     kept: Option<u64>,
     state: &LunState,
     lun: u8,
-    waiting: &'a Waiting,
+    offer: &'a Offer,
+    newest: Option<u64>,
     work: bool,
 ) -> Option<Candidate<'a>>
-    requires few { lun < 8 }
-    ensures { (luns : List AnyState) → IsKeptFrom (channel timing.now from luns waiting.now) kept
-        → work ≡ any_work waiting.now (channel timing.now from luns waiting.now)
+    ensures given { (luns : List AnyState) (books : Books) → Each (λ w. w.want.plane ≤ 3) books.waiting → newest ≡ books.newest
+        → IsOfferedTo books luns lun offer.now
+        → IsKeptFrom (channel timing.now from luns books) kept
+        → work ≡ any_work books (channel timing.now from luns books)
         → slice_get luns lun ≡ Some state.now
-        → MatchOption result (given_move waiting.now (channel timing.now from luns waiting.now) lun ≡ None)
-        (IsGivenBy waiting.now (channel timing.now from luns waiting.now) lun) }
+        → MatchOption result (given_move books (channel timing.now from luns books) lun ≡ None) (IsGivenBy books (channel timing.now from luns books) lun) }
+    ensures few { IfSome result (λ c. length c.members.now ≤ 4) }
 {
     match state {
         LunState::Running { group, next, ready } => Some(Candidate {
@@ -167,14 +208,8 @@ fn given<'a>(
             turn: turn_of_running(timing, from, kept, group, *next, *ready),
         }),
         LunState::Free { since } => {
-            begin(
-                timing,
-                from,
-                kept,
-                *since,
-                lun,
-                given_group(waiting, lun, work),
-            )
+            let members = given_group(offer, newest, work);
+            begin(timing, from, kept, *since, lun, members)
         }
     }
 }
@@ -199,14 +234,12 @@ fn begin<'a>(
 }
 
 // The group that a LUN gives: an erase in place of what is held.
-fn given_group(waiting: &Waiting, lun: u8, work: bool) -> &[Want]
-    requires few { lun < 8 }
-    ensures members { result.now ≡ given_group waiting.now work (ready_on lun waiting.now.waiting) }
+fn given_group(offer: &Offer, newest: Option<u64>, work: bool) -> &[Want]
+    ensures members { (books : Books) (lun : ℕ) → IsOffer books.rules books.waiting lun offer.now → newest ≡ books.newest
+        → result.now ≡ given_group books work (ready_on lun books.waiting) }
     ensures few { length result.now ≤ 4 }
-    ensures planes { Each (λ w. w.want.plane ≤ 3) waiting.now.waiting }
 {
-    let offer = waiting.offer(lun);
-    if offer.is_open && work && has_newest(waiting, offer.group.as_slice()) {
+    if offer.is_open && work && has_newest(newest, offer.group.as_slice()) {
         offer.erase.as_slice()
     } else {
         offer.group.as_slice()
@@ -214,22 +247,24 @@ fn given_group(waiting: &Waiting, lun: u8, work: bool) -> &[Want]
 }
 
 // Whether one of them is the newest accepted program.
-fn has_newest(waiting: &Waiting, members: &[Want]) -> bool
-    ensures { result ≡ list_any (is_number waiting.now.newest) members.now }
+fn has_newest(newest: Option<u64>, members: &[Want]) -> bool
+    ensures { result ≡ list_any (is_number newest) members.now }
 {
-    match waiting.newest() {
+    match newest {
         Some(id) => members.iter().any(|m| m.id == id),
         None => false,
     }
 }
 
 // Where no LUN gives any, what the lowest LUN holds.
-fn first_held(from: u64, luns: &[LunState], waiting: &Waiting) -> Option<NextPhase>
+fn first_held(from: u64, luns: &[LunState], offers: &[Offer; 8]) -> Option<NextPhase>
     requires few { length luns.now ≤ 8 }
-    ensures { MatchOption result (NoneBelow waiting.now luns.now (length luns.now)) (IsHeldBy from luns.now waiting.now) }
+    requires offers { length offers.now ≡ 8 }
+    ensures { (books : Books) → AreOffered books luns.now offers.now
+        → MatchOption result (NoneBelow books luns.now (length luns.now)) (IsHeldBy from luns.now books) }
 {
     for (lun, state) in luns.iter().enumerate() {
-        if let Some(phase) = held(from, state, lun as u8, waiting) {
+        if let Some(phase) = held(from, state, lun as u8, &offers[lun]) {
             return Some(phase);
         }
     }
@@ -237,14 +272,14 @@ fn first_held(from: u64, luns: &[LunState], waiting: &Waiting) -> Option<NextPha
 }
 
 // What a LUN holds that runs nothing.
-fn held(from: u64, state: &LunState, lun: u8, waiting: &Waiting) -> Option<NextPhase>
-    requires few { lun < 8 }
-    ensures { IsHeldAt from state.now lun waiting.now result }
+fn held(from: u64, state: &LunState, lun: u8, offer: &Offer) -> Option<NextPhase>
+    ensures { (luns : List AnyState) (books : Books) → IsOfferedTo books luns lun offer.now → slice_get luns lun ≡ Some state.now
+        → IsHeldAt from state.now lun books result }
 {
     match state {
         LunState::Running { .. } => None,
         LunState::Free { since } => {
-            let members = waiting.offer(lun).group.as_slice();
+            let members = offer.group.as_slice();
             if members.is_empty() {
                 return None;
             }

@@ -14,7 +14,7 @@ ghost use Rattle.onfi_steady.specs.Kept.{IsKeptFrom, is_kept};
 use crate::bus::{is_kept, running_keeps_bus};
 use crate::own::oldest;
 use crate::turn::{Turn, post_rank, start_rank};
-use onfi_group::Group;
+use onfi_group::{Group, phase_length};
 use onfi_request::Want;
 use onfi_timing::{Kind, Timing};
 
@@ -32,16 +32,15 @@ pub fn turn_of_running(
         → numbers_of result ≡ phase_numbers (channel timing.now from luns books) (Next lun) }
 {
     let start = from.max(ready);
-    let length = timing
-        .spans(group.kind())
-        .phase_length(group.len(), next as usize);
+    let members = group.members();
+    let length = phase_length(timing, members, next as usize);
     let keeps = running_keeps_bus(timing, from, group, next, ready);
     Turn {
         kept: is_kept_beside(keeps, kept, start, length),
         start,
         rank: rank_of(group, next),
         smaller: 4,
-        oldest: oldest(group.members()),
+        oldest: oldest(members),
     }
 }
 

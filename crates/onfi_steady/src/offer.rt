@@ -1,10 +1,10 @@
 //! The group that a LUN would begin, of what waits for it.
 
-ghost use Rattle.std.specs.Prelude.{◌≡◌, ◌≤◌, ◌<◌, ◌+◌, ◌++◌, [], true, length};
+ghost use Rattle.std.specs.Prelude.{◌≡◌, ℕ, ◌≤◌, ◌<◌, ◌+◌, ◌++◌, [], true, length, slice_get, IfSome};
 ghost use Rattle.std.specs.List.{find, list_any, cons_option};
 ghost use Rattle.onfi_timing.specs.declared.kind.Kind.{Kind as AnyKind};
 ghost use Rattle.onfi_group.specs.Group.{may_group};
-ghost use Rattle.onfi_steady.specs.Kept.{IsNothing};
+ghost use Rattle.onfi_steady.specs.Kept.{IsNothing, IsOfferOn};
 ghost use Rattle.onfi_steady.specs.Offer.{IsOffer, erase_group, turned_to, group_with, goes_with, is_mate, is_on_last_plane, is_same_page, is_same_row, is_due as is_due_waiter, is_kind as is_kind_of, may_grow, member_on};
 
 use crate::own::kind_rank;
@@ -12,6 +12,7 @@ use crate::ready::list_ready;
 use crate::waiter::Waiter;
 use arrayvec::ArrayVec;
 use onfi_group::Rules;
+use onfi_problem::LunState;
 use onfi_request::Want;
 use onfi_timing::Kind;
 
@@ -30,9 +31,7 @@ pub struct Offer {
 
 impl Offer {
     /// Nothing.
-    pub fn none() -> Offer
-        ensures { IsNothing result }
-    {
+    pub fn none() -> Offer {
         Offer {
             group: ArrayVec::new(),
             is_open: false,
@@ -58,6 +57,38 @@ impl Offer {
             erase,
             reads,
         }
+    }
+}
+
+/// What each of eight LUNs would begin that runs nothing; nothing of the others.
+pub fn offers_of(rules: &Rules, luns: &[LunState], waiting: &[Waiter]) -> [Offer; 8]
+    requires { length waiting.now ≤ 64 }
+    ensures length { length result ≡ 8 }
+    ensures offers { (lun : ℕ) → IfSome (slice_get result lun) (IsOfferOn rules.now waiting.now luns.now lun) }
+{
+    [
+        offer_on(rules, luns, waiting, 0),
+        offer_on(rules, luns, waiting, 1),
+        offer_on(rules, luns, waiting, 2),
+        offer_on(rules, luns, waiting, 3),
+        offer_on(rules, luns, waiting, 4),
+        offer_on(rules, luns, waiting, 5),
+        offer_on(rules, luns, waiting, 6),
+        offer_on(rules, luns, waiting, 7),
+    ]
+}
+
+// What a LUN would begin, if it runs nothing.
+fn offer_on(rules: &Rules, luns: &[LunState], waiting: &[Waiter], lun: u8) -> Offer
+    requires { length waiting.now ≤ 64 }
+    ensures { IsOfferOn rules.now waiting.now luns.now lun result }
+{
+    let Some(state) = luns.get(usize::from(lun)) else {
+        return Offer::none();
+    };
+    match state {
+        LunState::Free { .. } => Offer::of(rules, waiting, lun),
+        LunState::Running { .. } => Offer::none(),
     }
 }
 
@@ -116,7 +147,7 @@ fn group_with(rules: &Rules, ready: &[Waiter], head: Option<Waiter>) -> ArrayVec
     members
 }
 
-// Puts a member behind the others, where there is one.
+// Appends a member to the others, where there is one.
 fn put(members: &mut ArrayVec<Want, 4>, member: Option<Want>)
     requires { length members.old.items < 4 }
     ensures items { members.new.items ≡ members.old.items ++ cons_option member [] }

@@ -29,7 +29,7 @@ pub fn list_ready(ready: &mut ArrayVec<Waiter, 64>, waiting: &[Waiter], lun: u8)
     reads
 }
 
-// Puts one behind the others, where it is of the LUN and none of them is on its block. Answers whether it is a read of it.
+// Appends one to the others, where it is of the LUN and none of them is on its block. Answers whether it is a read of it.
 fn put(ready: &mut ArrayVec<Waiter, 64>, lun: u8, waiter: &Waiter) -> bool
     requires { length ready.old.items < 64 }
     ensures items { ready.new.items ≡ ready_with lun ready.old.items waiter.now }

@@ -19,7 +19,7 @@ use Rattle.onfi_timing.specs.declared.values.Values.{Values}
 use Rattle.onfi_timing.specs.StrobeRows.{strobe_given}
 use Rattle.onfi_timing.specs.Table.{Gives, first_missing, ns_of, command_cycles}
 
--- the parameters of strobes, in the order in which a missing one is told
+-- the parameters of strobes, in the order in which a missing one is reported
 abbrev pub strobes_in_order : List Strobe
 strobes_in_order = Trpre ∷ Trc ∷ Trpst ∷ Trpsth ∷ Twpre ∷ Tdsc ∷ Twpst ∷ Twpsth ∷ []
 

@@ -13,7 +13,7 @@ use Rattle.onfi_timing.specs.declared.fault.SheetFault.TheVariants.{Missing, Zer
 use Rattle.onfi_timing.specs.declared.values.Values.{Values}
 use Rattle.onfi_timing.specs.Sheet.{given}
 
--- the parameters, in the order in which a missing one is told
+-- the parameters, in the order in which a missing one is reported
 abbrev pub in_order : List Parameter
 in_order = Twc ∷ Trc ∷ Tadl ∷ Twhr ∷ Trhw ∷ Twb ∷ Tplrbsy ∷ Tplpbsy ∷ Tplebsy ∷ []
 

@@ -1,7 +1,7 @@
 use std::fmt;
 
 /// A timing parameter that a sheet gives, in ns (ONFI 4.2, timing parameters), in the order in which a missing one is
-/// told.
+/// reported.
 #[derive(Clone, Copy, Debug, PartialEq, Eq)]
 pub enum Parameter {
     /// tWC: one write cycle of a command, an address or a data byte.

@@ -29,7 +29,7 @@ pub fn read_records(alloc: Global, text: &[u8]) -> Result<Vec<ByteRecord>, Alloc
     }
 }
 
-// The same, with what `csv` says of want of memory.
+// The same, with what `csv` says where memory was refused.
 fn records(alloc: Global, text: &[u8]) -> Result<Vec<ByteRecord>, Error>
     ensures { IfOk result (λ v. AreRecords default_config st.StartRecord (strip_bom text.now) (map fields_of v.items)) }
 {

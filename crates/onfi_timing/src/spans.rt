@@ -34,8 +34,6 @@ pub enum SpanFault {
 }
 
 impl Spans {
-    ghost use Rattle.onfi_timing.specs.Phases.{phase_length, wait_before};
-
     /// The lengths of a kind, in ns.
     ///
     /// # Errors
@@ -57,29 +55,5 @@ impl Spans {
             array,
             post,
         })
-    }
-
-    /// The length of phase number `phase` of a group, in ns: commands first, then posts.
-    pub fn phase_length(&self, members: usize, phase: usize) -> u64
-        ensures length { result ≡ phase_length self.now members phase }
-        ensures some { 1 ≤ result }
-        ensures short { result < 2 ^ 50 }
-    {
-        if phase < members { self.cmd } else { self.post }
-    }
-
-    /// The wait between phase number `phase` of a group and the phase before it, in ns. No phase goes before number 0: the
-    /// answer for it, the gap, means nothing.
-    pub fn wait_before(&self, members: usize, phase: usize) -> u64
-        ensures wait { result ≡ wait_before self.now members phase }
-        ensures short { result < 2 ^ 50 }
-    {
-        if phase < members {
-            self.gap
-        } else if phase == members {
-            self.array
-        } else {
-            0
-        }
     }
 }

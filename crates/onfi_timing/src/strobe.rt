@@ -1,14 +1,14 @@
 use std::fmt;
 
 /// A parameter of the strobes of NV-DDR2 and NV-DDR3, in ps (ONFI 4.2, timing parameters), in the order in which a missing
-/// one is told.
+/// one is reported.
 #[derive(Clone, Copy, Debug, PartialEq, Eq)]
 pub enum Strobe {
     /// tRPRE: the preamble of RE_n before data out, warm-up cycles among it.
     Trpre,
     /// tRC: one cycle of RE_n, two bytes out.
     Trc,
-    /// tRPST: the postamble of RE_n behind data out, tDQSRE among it.
+    /// tRPST: the postamble of RE_n after data out, tDQSRE among it.
     Trpst,
     /// tRPSTH: how long the postamble of RE_n is held.
     Trpsth,
@@ -16,7 +16,7 @@ pub enum Strobe {
     Twpre,
     /// tDSC: one cycle of DQS, two bytes in.
     Tdsc,
-    /// tWPST: the postamble of DQS behind data in.
+    /// tWPST: the postamble of DQS after data in.
     Twpst,
     /// tWPSTH: how long the postamble of DQS is held.
     Twpsth,

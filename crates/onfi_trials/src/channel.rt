@@ -90,7 +90,7 @@ impl Played {
         Ok(Played { alloc, core })
     }
 
-    /// What a row tells to do, so many times.
+    /// What a row says to do, so many times.
     fn play(&mut self, rt: &impl Print, row: &Row, times: u64) -> Result<(), Ended> {
         for _time in 0..times {
             match row.word {
@@ -167,7 +167,7 @@ fn events_of(alloc: Global, rows: &[Row]) -> Result<Vec<Event>, AllocError> {
     Ok(events)
 }
 
-/// A core as its first rows say, and the rows behind these; none where it didn't open, which is told then.
+/// A core as its first rows say, and the rows after these; none where it didn't open, which is reported then.
 fn open_core<'a>(
     rt: &impl Print,
     alloc: Global,
@@ -194,7 +194,7 @@ fn open_core<'a>(
     }
 }
 
-/// The events of the rows one by one, each told.
+/// The events of the rows one by one, each reported.
 pub(crate) fn step_by_step(rt: &impl Print, alloc: Global, rows: &[Row]) -> Result<(), Ended> {
     let Some((mut played, rest)) = open_core(rt, alloc, rows)? else {
         return Ok(());

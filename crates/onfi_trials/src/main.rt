@@ -1,4 +1,4 @@
-//! Makes calls of the libraries, and prints a line for what each answers. A call that answers Memory is told as `memory`
+//! Makes calls of the libraries, and prints a line for what each answers. A call that answers Memory is reported as `memory`
 //! and made once more: so whoever refuses it memory sees whether anything else changed.
 #![tactic(auto)]
 

@@ -27,7 +27,7 @@ pub(crate) fn play_page<R: Input + Print + Wait>(rt: &R, alloc: Global) -> Resul
     Ok(())
 }
 
-// Plays a trial: its name, its command and its rows, each behind a line end.
+// Plays a trial: its name, its command and its rows, each after a line end.
 fn play<R: Print + Wait>(rt: &R, alloc: Global, trial: &str) -> Result<(), Ended> {
     let Some((name, rest)) = trial.split_once("\n") else {
         return Err(Ended::NoTrial);

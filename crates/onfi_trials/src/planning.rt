@@ -129,7 +129,7 @@ fn reads_apart(alloc: Global) -> Result<Problem, Ended> {
     problem(alloc, long_gap()?, &luns, &wants)
 }
 
-/// A data output of LUN 0, a status of LUN 1 that is ready later, and an erase behind it.
+/// A data output of LUN 0, a status of LUN 1 that is ready later, and an erase after it.
 fn erase_behind(alloc: Global) -> Result<Problem, Ended> {
     let luns = [
         running(alloc, want(0, Kind::Read, 0, 0), 0),

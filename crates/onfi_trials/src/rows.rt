@@ -1,4 +1,4 @@
-//! What a trial reads: rows of a word, and of numbers behind it.
+//! What a trial reads: rows of a word, and of numbers after it.
 
 use crate::ended::Ended;
 use csv::ByteRecord;
@@ -16,6 +16,7 @@ pub(crate) enum Word {
     /// By what a planning chooses.
     ByLun,
     ReadsFirst,
+    WholeGroups,
     /// Which planner plans.
     Remembering,
     Best,
@@ -23,7 +24,7 @@ pub(crate) enum Word {
     Fault,
     /// The number of a call of the chip that fails.
     ChipFail,
-    /// The number of a status that tells of a LUN that isn't ready.
+    /// The number of a status that says that a LUN isn't ready.
     NotReady,
     /// LUN, number of an operation of its array, and how long that really takes.
     Array,
@@ -44,7 +45,7 @@ pub(crate) enum Word {
     Collect,
     /// How many wants a plan has.
     Batch,
-    /// What is told of the last plan.
+    /// What is said of the last plan.
     Last,
     Turn,
     /// A moment.
@@ -68,6 +69,7 @@ impl Word {
             "longest" => Word::Longest,
             "by-lun" => Word::ByLun,
             "reads-first" => Word::ReadsFirst,
+            "whole-groups" => Word::WholeGroups,
             "remembering" => Word::Remembering,
             "best" => Word::Best,
             "fault" => Word::Fault,

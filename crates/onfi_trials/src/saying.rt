@@ -40,7 +40,7 @@ fn say_return(rt: &impl Print, why: &str, request: &Request) -> Result<(), Ended
     Ok(())
 }
 
-/// What came of an event that came to something, by the name of what it tells.
+/// What came of an event that came to something, by the name of what it gives.
 fn say_step(rt: &impl Print, outcome: &Outcome) -> Result<(), Ended> {
     match outcome {
         Outcome::Submitted(serial) => println!(rt; "Submitted {{ serial: {serial} }}")?,

@@ -17,7 +17,7 @@ use std::alloc::Global;
 use std::marker::Model;
 use std::sync::Wait;
 
-/// Sees that each turn of its channel is told once, by its number.
+/// Sees that each turn of its channel is reported once, by its number.
 #[derive(Drop)]
 struct Watch {
     channel: u8,
@@ -88,7 +88,7 @@ impl Served {
         })
     }
 
-    /// What a row tells to do, so many times.
+    /// What a row says to do, so many times.
     fn play<R: Print + Wait>(&mut self, rt: &R, row: &Row, times: u64) -> Result<(), Ended> {
         let [first, second, ..] = row.numbers;
         for _time in 0..times {
@@ -109,7 +109,7 @@ impl Served {
         Ok(())
     }
 
-    /// A host submits the request of a row, and its serial is told, or why it isn't taken; once more where memory was
+    /// A host submits the request of a row, and its serial is reported, or why it isn't taken; once more where memory was
     /// refused.
     fn send<R: Print + Wait>(&mut self, rt: &R, kind: Kind, row: &Row) -> Result<(), Ended> {
         let host = row.numbers[4] as usize;
@@ -152,7 +152,7 @@ impl Served {
         Ok(())
     }
 
-    /// A turn, told.
+    /// A turn, reported.
     fn turn<R: Print + Wait>(&mut self, rt: &R) -> Result<(), Ended> {
         let turn = self.next_turn(rt)?;
         println!(rt; "{turn:?}")?;
@@ -188,7 +188,7 @@ impl Served {
         Err(Ended::Memory)
     }
 
-    /// A turn at that moment, told; once more where memory was refused.
+    /// A turn at that moment, reported; once more where memory was refused.
     fn turn_at<R: Print + Wait>(&mut self, rt: &R, now: u64) -> Result<(), Ended> {
         for _try in 0..2u8 {
             let turn = self.make_turn_at(rt, now);
@@ -236,7 +236,7 @@ impl Served {
         Err(Ended::Memory)
     }
 
-    /// Drains the channel, told; once more where memory was refused, which may also spend its turns.
+    /// Drains the channel, reported; once more where memory was refused, which may also spend its turns.
     fn drain<R: Print + Wait>(&mut self, rt: &R, turns: u64) -> Result<(), Ended> {
         for _try in 0..2u8 {
             match self.make_draining(rt, turns) {
@@ -310,7 +310,7 @@ impl Served {
         inbox.collect(rt)
     }
 
-    /// Closes the channel, and tells what went through it, and whether its gate missed a turn.
+    /// Closes the channel, and reports what went through it, and whether its gate missed a turn.
     fn close<R: Print + Wait>(self, rt: &R) -> Result<(), Ended> {
         let Served {
             sequencer,
@@ -338,7 +338,7 @@ fn submit_by<R: Wait>(
     host.submit(rt, request)
 }
 
-/// The calls of the rows one by one, each told, and then a closing.
+/// The calls of the rows one by one, each reported, and then a closing.
 pub(crate) fn serve<R: Print + Wait>(rt: &R, alloc: Global, rows: &[Row]) -> Result<(), Ended> {
     let (stage, place) = Stage::of(alloc, rows)?;
     let (Some(open), Some(rest)) = (rows.get(place), rows.get(place.saturating_add(1)..)) else {

@@ -66,6 +66,7 @@ impl Stage {
             Word::Longest => self.timing = longest()?,
             Word::ByLun => self.choice = Choice::ByLun,
             Word::ReadsFirst => self.choice = Choice::ReadsFirst,
+            Word::WholeGroups => self.choice = Choice::WholeGroups,
             Word::Remembering => self.planner = ChosenPlanner::Remembering,
             Word::Best => self.planner = ChosenPlanner::BestSoFar,
             _ => return Err(Ended::NoTrial),

@@ -110,7 +110,7 @@ static void put_number(uint64_t number, unsigned least)
         board_put(digit[--count]);
 }
 
-/* With so many digits behind the point: the nearest such number, of two the even one. */
+/* With so many digits after the point: the nearest such number, of two the even one. */
 static void put_fixed(double number, unsigned digits)
 {
     uint64_t bits, ten = 1;
@@ -138,7 +138,7 @@ static void put_text(const char *text, unsigned most)
         board_put(*text++);
 }
 
-/* One conversion, behind its %; gives where it ends. */
+/* One conversion, after its %; gives where it ends. */
 static const char *convert(const char *format, va_list *values)
 {
     unsigned precision = UINT32_MAX;

@@ -1,4 +1,4 @@
-//! The items of LUNs, one behind the other.
+//! The items of LUNs, one after the other.
 
 ghost use Rattle.std.specs.Prelude.{◌≡◌, ◌<◌, ◌≤◌, ◌↔◌, true, false, length, Some, IfOk, IsTrue, slice_get};
 ghost use Rattle.onfi_request.specs.declared.want.Want.{Want as AWant};
@@ -24,7 +24,7 @@ impl Chains {
     /// The chains of these items.
     ///
     /// # Errors
-    /// Want of memory.
+    /// Where memory was refused.
     pub fn of(alloc: Global, items: &[Want]) -> Result<Chains, AllocError>
         ensures { IfOk result (λ chains. AreChains items.now chains) }
     {
@@ -87,7 +87,7 @@ fn chain_at(items: &[Want], at: usize) -> usize
     usize::from(items[at].lun) % 8
 }
 
-// Puts a place behind that of the last one before it in its chain, or in front of all where there is none.
+// Puts a place after that of the last one before it in its chain, or in front of all where there is none.
 fn link(next: &mut Vec<usize>, first: &mut [usize; 8], chain: usize, earlier: usize, at: usize)
     requires chain { chain < 8 }
     requires earlier { earlier ≤ length next.old.items }

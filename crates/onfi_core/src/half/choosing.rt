@@ -1,11 +1,11 @@
 //! What a planning takes.
 
 ghost use Rattle.std.specs.Prelude.{◌≡◌, ◌≢◌, ◌++◌, not, IfOk, IfErr};
-ghost use Rattle.onfi_core.specs.Steps.{Chooses, Takes, is_empty, nothing_to_plan, taken_in_order, taken_next, unplanned};
+ghost use Rattle.onfi_core.specs.Steps.{AreItems, Chooses, ChoosesWhole, Takes, is_empty, nothing_to_plan, taken_in_order, taken_next, unplanned};
 ghost use Rattle.onfi_core.specs.View.{taken_of};
 ghost use Rattle.onfi_core.specs.declared.setup.Choice.TheVariants.{InOrder};
 
-use crate::choosing::choose;
+use crate::choosing::{choose, choose_whole};
 use crate::finding::item_of;
 use crate::half::Half;
 use crate::merging::merged;
@@ -27,19 +27,20 @@ pub struct Taking {
 }
 
 impl Half {
-    /// Whether nothing is to be planned, stopped or not: no item is unplanned, or the wants not started fill the batch, and
-    /// the plan is that of the bus and the LUNs as they stand, or nothing of it is left.
+    /// Whether nothing is to be planned, stopped or not: no item is unplanned, or the wants not started fill the batch, or by
+    /// whole groups the last choice stands; and the plan is that of the bus and the LUNs as they stand, or nothing of
+    /// it is left.
     pub fn nothing_to_plan(&self) -> bool
         ensures { result ≡ nothing_to_plan self.now.setup self.now.state }
     {
         !self.takes_more() && self.is_current()
     }
 
-    // Whether an item is unplanned, and the wants not started leave room in the batch.
+    // Whether an item is unplanned, and finds a place.
     fn takes_more(&self) -> bool
         ensures { result ≡ not (is_empty (taken_next self.now.setup self.now.state)) }
     {
-        if self.flight.wants().len() >= usize::from(self.batch) {
+        if !self.has_place() {
             return false;
         }
         if !self.aside.is_empty() {
@@ -56,10 +57,11 @@ impl Half {
         match self.setup.choice {
             Choice::InOrder => Ok(self.take_in_order(alloc)),
             Choice::ByLun | Choice::ReadsFirst => self.take_chosen(alloc),
+            Choice::WholeGroups => self.take_whole(alloc),
         }
     }
 
-    // In order: the wants not started, and behind them the first unplanned items, up to the batch in all.
+    // In order: the wants not started, and after them the first unplanned items, up to the batch in all.
     fn take_in_order(&self, alloc: Global) -> Taking
         requires in_order { self.now.setup.choice ≡ InOrder }
         ensures { taken_of result ≡ taken_in_order self.now.setup self.now.state }
@@ -73,7 +75,7 @@ impl Half {
         }
     }
 
-    // The wants not started, and behind them those that the next planning takes.
+    // The wants not started, and after them those that the next planning takes.
     fn next_wants(&self) -> ArrayVec<Want, 8>
         requires in_order { self.now.setup.choice ≡ InOrder }
         ensures { result.items ≡ self.now.state.now.wants ++ taken_next self.now.setup self.now.state }
@@ -92,8 +94,7 @@ impl Half {
     fn take_chosen(&self, alloc: Global) -> Result<Taking, AllocError>
         ensures { IfOk result (λ taking. Chooses self.now.setup self.now.state (taken_of taking)) }
     {
-        let unplanned = self.unplanned_wants(alloc)?;
-        let items = merged(alloc, self.flight.wants(), unplanned.as_slice())?;
+        let items = self.all_items(alloc)?;
         let chosen = choose(
             alloc,
             &self.setup.timing,
@@ -110,6 +111,37 @@ impl Half {
             planned: self.accepted,
             aside: chosen.rest,
         })
+    }
+
+    // By whole groups: such a choice of them.
+    fn take_whole(&self, alloc: Global) -> Result<Taking, AllocError>
+        ensures { IfOk result (λ taking. ChoosesWhole self.now.setup self.now.state (taken_of taking)) }
+    {
+        let items = self.all_items(alloc)?;
+        let waiters = self.waiters(alloc, items.as_slice())?;
+        let chosen = choose_whole(
+            alloc,
+            &self.setup.timing,
+            &self.setup.rules,
+            self.flight.bus_free(),
+            self.flight.luns(),
+            waiters.as_slice(),
+            self.arrivals.newest,
+            self.batch,
+        )?;
+        Ok(Taking {
+            wants: chosen.wants,
+            planned: self.accepted,
+            aside: chosen.rest,
+        })
+    }
+
+    // All accepted items that aren't started.
+    fn all_items(&self, alloc: Global) -> Result<Vec<Want>, AllocError>
+        ensures { IfOk result (λ items. AreItems self.now.setup self.now.state items.items) }
+    {
+        let unplanned = self.unplanned_wants(alloc)?;
+        merged(alloc, self.flight.wants(), unplanned.as_slice())
     }
 
     // The items that no plan has taken, as wants.

@@ -16,7 +16,7 @@ impl Half {
     {
         match self.setup.choice {
             Choice::InOrder => self.accepted - self.planned < u64::from(self.batch),
-            Choice::ByLun | Choice::ReadsFirst => true,
+            Choice::ByLun | Choice::ReadsFirst | Choice::WholeGroups => true,
         }
     }
 

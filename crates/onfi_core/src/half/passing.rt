@@ -11,16 +11,16 @@ use onfi_flight::TooLate;
 use onfi_problem::LunState;
 use std::alloc::Global;
 
-/// Why the bus doesn't wait, in the order in which it is told.
+/// Why the bus doesn't wait, in the order in which it is reported.
 #[derive(Clone, Copy, Debug, PartialEq, Eq)]
 pub enum WaitRefusal {
     /// The channel stopped.
     Stopped(Cause),
-    /// The moment, or the last start of what would be left of the plan, is at 2^62 ns or behind.
+    /// The moment, or the last start of what would be left of the plan, is at 2^62 ns or later.
     TooLate,
 }
 
-/// Why a LUN isn't found ready, in the order in which it is told.
+/// Why a LUN isn't found ready, in the order in which it is reported.
 #[derive(Clone, Copy, Debug, PartialEq, Eq)]
 pub enum ReadyRefusal {
     /// There is no such LUN.
@@ -39,7 +39,7 @@ impl Half {
     ///
     /// # Errors
     /// `Stopped` where the channel stopped; `TooLate` where the moment, or the last start of what would be left of the plan,
-    /// is at 2^62 ns or behind. Then nothing changes.
+    /// is at 2^62 ns or later. Then nothing changes.
     pub fn wait(&mut self, alloc: Global, moment: u64) -> Result<u64, WaitRefusal>
         requires settled { self.old.lent ≡ None }
         ensures waited { IfOk result (λ bus_free. (wait_refusal moment self.old.state ≡ None) × (bus_free ≡ max self.old.state.now.bus_free moment)
@@ -62,7 +62,7 @@ impl Half {
         }
     }
 
-    /// Why no LUN is found ready, if so: told before the chip is asked.
+    /// Why no LUN is found ready, if so: reported before the chip is asked.
     pub fn refuses_ready(&self, lun: u8) -> Option<ReadyRefusal>
         ensures { MatchOption result (ready_refusal lun self.now.state ≡ None) (λ refusal. ready_refusal lun self.now.state ≡ Some (ready_outcome refusal)) }
     {

@@ -29,7 +29,7 @@ impl Half {
         item_of(&self.slots, due.member().id)
     }
 
-    /// The phase that [`Half::due`] told is done, and the chip gave `ran` at it; the reply of a post is held behind all
+    /// The phase that [`Half::due`] gave is done, and the chip answered it with `ran`; the reply of a post is held after all
     /// others. It takes no memory. The chip is shown for the caller's proof alone, which picks the faults that the reply
     /// rests on.
     pub fn done<T>(&mut self, due: &Due, ran: PhaseResult, chip: &T)

@@ -51,7 +51,7 @@ fn new_may_start(flight: &Flight, slots: &Slab<Slot>, planned: u64, moment: u64)
     false
 }
 
-// Whether the slot is at that place or behind, and its item could start before the moment.
+// Whether the slot is at that place or after it, and its item could start before the moment.
 fn is_new_start(flight: &Flight, slot: &Slot, planned: u64, moment: u64) -> bool
     ensures { IsTrue result ↔ ((planned ≤ slot.now.place) × MayStartOn moment flight.now.now slot.now.item.request.place.lun slot.now.item.request.place.block) }
 {

@@ -11,7 +11,7 @@ impl Half {
     /// Host and serial of each accepted item without a posted reply, in acceptance order.
     ///
     /// # Errors
-    /// Want of memory.
+    /// Where memory was refused.
     pub fn unanswered(&self, alloc: Global) -> Result<Vec<(u8, u32)>, AllocError>
         ensures { IfOk result (λ senders. senders.items ≡ unanswered_senders self.now.state) }
     {

@@ -10,6 +10,7 @@ use crate::flight::passing::{END, TooLate};
 use crate::lag::lag_of;
 use crate::later::delay_schedule;
 use arrayvec::ArrayVec;
+use onfi_group::phase_length;
 use onfi_request::Want;
 use onfi_schedule::{Schedule, Starts};
 use std::alloc::Global;
@@ -26,7 +27,7 @@ impl Flight {
     /// The due phase ran from then on, at or after its start: what is left starts later by as much. It stays legal.
     ///
     /// # Errors
-    /// Where a start would be at 2^62 ns or behind; then nothing changes.
+    /// Where a start would be at 2^62 ns or later; then nothing changes.
     pub fn ran_late(&mut self, alloc: Global, due: &Due, started: u64) -> Result<(), TooLate>
         requires due { IsDue self.old due.now }
         requires late { due.now.start ≤ started }
@@ -50,8 +51,8 @@ impl Flight {
         requires time { started < 2 ^ 63 }
         ensures { self.new ≡ record { now = placed self.old.now (move_of due.now) started; left = left_behind self.old.left due.now } }
     {
-        let spans = self.timing.spans(due.group.kind());
-        let ended = started + spans.phase_length(due.group.len(), usize::from(due.phase));
+        let members = due.group.members();
+        let ended = started + phase_length(&self.timing, members, usize::from(due.phase));
         let lun = usize::from(due.lun);
         let rest = self.rest_behind(due);
         self.wants = self.wants_behind(due);

@@ -17,7 +17,7 @@ use std::alloc::Global;
 /// All moments of a channel are before this one, in ns.
 pub(crate) const END: u64 = 1 << 62;
 
-/// A start, or a moment, would be at 2^62 ns or behind.
+/// A start, or a moment, would be at 2^62 ns or later.
 #[derive(Clone, Copy, Debug, PartialEq, Eq)]
 pub struct TooLate;
 
@@ -26,7 +26,7 @@ impl Flight {
     /// all of it by as much as its first phase would start too soon; it stays legal. From when on the bus is free is answered.
     ///
     /// # Errors
-    /// Where the moment, or a start, would be at 2^62 ns or behind; then nothing changes.
+    /// Where the moment, or a start, would be at 2^62 ns or later; then nothing changes.
     pub fn wait(&mut self, alloc: Global, moment: u64) -> Result<u64, TooLate>
         ensures waited { IfOk result (λ bus_free. (bus_free ≡ max self.old.now.bus_free moment) × (self.new ≡ waited moment self.old)) }
         ensures in_time { IsOk result ↔ (latest_waited moment self.old < 2 ^ 62) }

@@ -148,7 +148,7 @@ impl AnyLun {
     }
 }
 
-// The LUN behind a command.
+// The LUN after a command.
 fn behind_command(commanded: Commanded) -> AnyLun
     ensures { result ≡ behind_command commanded }
 {
@@ -158,7 +158,7 @@ fn behind_command(commanded: Commanded) -> AnyLun
     }
 }
 
-// The LUN behind a post.
+// The LUN after a post.
 fn behind_post(posted: Posted) -> AnyLun
     ensures { result ≡ behind_post posted }
 {

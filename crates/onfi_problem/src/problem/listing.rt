@@ -74,7 +74,7 @@ impl Problem {
         self.steps().get(at)
     }
 
-    // Puts behind the moves those of the groups from one place to another, all of that LUN, that may be started.
+    // Appends to the moves those of the groups from one place to another, all of that LUN, that may be started.
     fn starts(&self, lun: u8, from: usize, to: usize, moves: &mut Moves)
         requires order { from ≤ to }
         requires within { to ≤ length self.now.groups }
@@ -97,7 +97,7 @@ impl Problem {
         }
     }
 
-    // Whether each member of the group at that place waits first on its block, which its marks tell.
+    // Whether each member of the group at that place waits first on its block, which its marks show.
     fn can_start(&self, place: usize) -> bool
         requires within { place < length self.now.groups }
         requires listed { Each (Has self.now.all) (slice_index_or self.now.groups place []) }

@@ -10,7 +10,7 @@ ghost use Rattle.onfi_problem.specs.Position.{move_of, lun_named, moved, restore
 
 use super::Problem;
 use crate::moves::{Lun, Move, Undo};
-use onfi_group::Group;
+use onfi_group::{Group, phase_length, wait_before};
 use onfi_request::Want;
 use onfi_timing::Timing;
 use std::alloc::{AllocError, Global};
@@ -116,15 +116,14 @@ fn run(timing: &Timing, group: &Group, place: u8, next: u8, start: u64) -> (u64,
     ensures state { (groups : List (List Want)) → slice_index_or groups place [] ≡ group.now →
         state_of groups result.1 ≡ lun_after timing.now group.now next result.0 }
 {
-    let spans = timing.spans(group.kind());
-    let members = group.len();
-    let ended = start + spans.phase_length(members, next as usize);
+    let members = group.members();
+    let ended = start + phase_length(timing, members, next as usize);
     let next = next + 1;
-    let behind = if (next as usize) < 2 * members {
+    let behind = if (next as usize) < 2 * members.len() {
         Lun {
             next,
             place,
-            time: ended + spans.wait_before(members, next as usize),
+            time: ended + wait_before(timing, members, next as usize),
         }
     } else {
         Lun {

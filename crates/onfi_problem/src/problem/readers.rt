@@ -1,4 +1,4 @@
-//! What a problem tells of itself, without memory.
+//! What a problem says of itself, without memory.
 
 ghost use Rattle.std.specs.Prelude.{◌≡◌, ◌≤◌, ◌<◌, ◌^◌, [], length, map, slice_index_or};
 ghost use Rattle.onfi_problem.specs.Left.{InLimits};
@@ -12,10 +12,10 @@ use onfi_timing::Timing;
 
 impl Problem {
     /// The phase lengths of the channel.
-    pub fn timing(&self) -> Timing
-        ensures { result ≡ self.now.problem.timing }
+    pub fn timing(&self) -> &Timing
+        ensures { result.now ≡ self.now.problem.timing }
     {
-        self.timing
+        &self.timing
     }
 
     /// What may be grouped.
@@ -67,7 +67,7 @@ impl Problem {
         self.wants.as_slice()
     }
 
-    /// Which of `wants` wait: those of the problem as it stands. Entries behind the last want mean nothing.
+    /// Which of `wants` wait: those of the problem as it stands. Entries past the last want mean nothing.
     pub fn waiting(&self) -> &[bool; 8]
         ensures value { waiting_of result.now self.now.all ≡ self.now.problem.wants }
     {

@@ -25,9 +25,9 @@ impl<C: Chip, P: Planner> Driver<C, P> {
         }
     }
 
-    /// Time passes up to that moment, in ns of the channel's clock: where the bus was free before it, the half is told that
+    /// Time passes up to that moment, in ns of the channel's clock: where the bus was free before it, the half is shown that
     /// it waited; then each LUN whose array works is asked whether it is ready, by rising number. Whether one is that wasn't
-    /// by what is stated is answered. A moment at 2^62 or behind is none of the channel, and nothing is told. It takes no memory.
+    /// by what is stated is answered. A moment at 2^62 or later is none of the channel, and nothing is done. It takes no memory.
     pub(crate) fn pass(&mut self, alloc: Global, now: u64) -> bool
         ensures passed { PassesTo now self.old.0.setup (channel_in C.state self.old) (channel_in C.state self.new) }
         ensures kept { channel_in C.state self.new ≡ in_time (channel_in C.state self.old) (channel_in C.state self.new) }

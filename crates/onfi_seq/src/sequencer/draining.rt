@@ -25,7 +25,7 @@ impl<C: Chip, P: Planner> Sequencer<C, P> {
     /// numbers. Stopped ends it, and so do Over and Memory of a turn where no phase is left then, and a taking in that is
     /// refused memory. No time passes, as in [`Sequencer::turn`].
     ///
-    /// Behind the last turn it takes in and looks once more, so turns that just suffice give Empty.
+    /// After the last turn it takes in and looks once more, so turns that just suffice give Empty.
     pub fn drain<R: Wait, G: Gate>(
         &mut self,
         rt: &R,
@@ -125,7 +125,7 @@ impl<C: Chip, P: Planner> Sequencer<C, P> {
         true
     }
 
-    // How a draining ends behind that answer, if it does.
+    // How a draining ends after that answer, if it does.
     fn end_behind_turn(&self, turn: TurnAt) -> Option<DrainedAt>
         ensures some { IfSome result (λ end. EndsBehind end turn self.now.0.half) }
         ensures none { IfNone result (ends_it turn self.now.0.half ≡ false) }

@@ -47,14 +47,14 @@ impl<C: Chip, P: Planner> Sequencer<C, P> {
         turn_of(answer)
     }
 
-    /// As [`Sequencer::turn`] at the moment `now` that the caller's clock tells, in ns of the channel's clock: the next phase
+    /// As [`Sequencer::turn`] at the moment `now` that the caller's clock gives, in ns of the channel's clock: the next phase
     /// runs if it starts by then, and where it starts later the answer is Waits.
     ///
-    /// Before a planning and before a phase, but for one that starts just then, the half is told of the moment: the bus waited
+    /// Before a planning and before a phase, but for one that starts just then, the half is given the moment: the bus waited
     /// until then, where it was free before, so no phase starts in the past; then each LUN whose array works, by rising
     /// number, is asked whether it is ready as the bus is free, and one that says so is planned with from then on, at once. So
     /// a turn that answers Memory may have made the events of time. The moment may be any; one that falls is one at which less
-    /// is due. One at 2^62 or behind, as `u64::MAX` is, is none of the channel: the bus never waits, no LUN is asked, and what
+    /// is due. One at 2^62 or later, as `u64::MAX` is, is none of the channel: the bus never waits, no LUN is asked, and what
     /// comes next runs. Nothing is said of how much time a call takes.
     pub fn turn_at<R: Wait, G: Gate>(
         &mut self,
@@ -76,7 +76,7 @@ impl<C: Chip, P: Planner> Sequencer<C, P> {
         turn
     }
 
-    // The turn behind its gate.
+    // The turn after its gate.
     fn take_turn<R: Wait>(&mut self, rt: &R, alloc: Global, now: u64) -> TurnAt
         ensures { Turned now (seen_in C.state self.old) result (seen_in C.state self.new) }
     {
@@ -135,7 +135,7 @@ impl<C: Chip, P: Planner> Sequencer<C, P> {
         found || stale
     }
 
-    // Whether nothing is told of the moment: the plan stands, and the next phase starts just then, or none is left.
+    // Whether nothing is said of the moment: the plan stands, and the next phase starts just then, or none is left.
     fn is_untold(&self, now: u64, current: bool) -> bool
         requires { self.now.0.half.stopped ≡ None }
         ensures current { IsTrue result → IsTrue current }

@@ -8,7 +8,7 @@ use Rattle.onfi_batch.proofs.batch.run_batch.Goals as goal
 
 pub loop-due-init : goal.loop-due-init
 loop-due-init g c =
-    let target : Target = record { geometry = c.args.geometry.now; timing = c.timing.result } in
+    let target : Target = record { geometry = c.args.geometry.now; timing = c.timing.result.now } in
     let opened = c.requires.opened in
     opens target c.args.items.items c.args.problem.now.problem c.args.schedule.now opened.0 opened.1
     (g.C.Chip.state c.args.chip.now) c.timing.ensures opened.2 c.requires.batch c.problem_is_one.ensures.problem c.problem_is_one.ensures.few c.requires.legal
@@ -16,7 +16,7 @@ loop-due-init g c =
 
 pub loop-due-preserved : goal.loop-due-preserved
 loop-due-preserved g c =
-    let target : Target = record { geometry = c.args.geometry.now; timing = c.timing.result } in
+    let target : Target = record { geometry = c.args.geometry.now; timing = c.timing.result.now } in
     course_kept target c.args.schedule.now c.args.items.items (g.C.Chip.state c.args.chip.now) c.loop-due.course c.loop-due.lanes
     (g.C.Chip.state c.loop-due.chip) c.loop-due.invariant
     c.run.new.self c.run.new.lanes (g.C.Chip.state c.run.new.chip) c.in-Some.due c.in-Some.ensures.due c.in_ok-run.ensures.ran c.in_ok-run.ensures.driven
@@ -36,20 +36,20 @@ returns-in_err-run-clause-told g c =
 
 pub returns-clause-rightful : goal.returns-clause-rightful
 returns-clause-rightful g c =
-    let target : Target = record { geometry = c.args.geometry.now; timing = c.timing.result } in
+    let target : Target = record { geometry = c.args.geometry.now; timing = c.timing.result.now } in
     ended_rightful target c.args.items.items c.args.schedule.now (g.C.Chip.state c.args.chip.now)
     (g.C.Chip.state c.loop-due.chip) c.loop-due.course c.loop-due.lanes c.loop-due.invariant
 
 pub returns-clause-each : goal.returns-clause-each
 returns-clause-each g c =
-    let target : Target = record { geometry = c.args.geometry.now; timing = c.timing.result } in
+    let target : Target = record { geometry = c.args.geometry.now; timing = c.timing.result.now } in
     let none = none_is c.due.result c.due.ensures.none c.in_default-due.not-Some in
     ended_replied target c.args.items.items c.args.schedule.now (g.C.Chip.state c.args.chip.now)
     (g.C.Chip.state c.loop-due.chip) c.loop-due.course c.loop-due.lanes c.loop-due.invariant none
 
 pub returns-clause-blocks : goal.returns-clause-blocks
 returns-clause-blocks g c =
-    let target : Target = record { geometry = c.args.geometry.now; timing = c.timing.result } in
+    let target : Target = record { geometry = c.args.geometry.now; timing = c.timing.result.now } in
     let none = none_is c.due.result c.due.ensures.none c.in_default-due.not-Some in
     ended_blocks target c.args.items.items c.args.schedule.now (g.C.Chip.state c.args.chip.now)
     (g.C.Chip.state c.loop-due.chip) c.loop-due.course c.loop-due.lanes c.loop-due.invariant none

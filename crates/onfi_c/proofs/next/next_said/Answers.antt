@@ -1,25 +1,19 @@
-use Rattle.std.proofs.Common.{length}
-use Rattle.onfi_c.specs.Next.{is_idle}
-use Rattle.onfi_c.proofs.NextTold.{few_said, next_told, next_untold, waiting_said}
+use Rattle.onfi_c.specs.Next.{IsIdleSaid, is_idle}
+use Rattle.onfi_c.proofs.NextTold.{next_told, next_untold, none_told}
 use Rattle.onfi_c.proofs.next.next_said.Goals as goal
 
-pub returns-in-Some-clause-next : goal.returns-in-Some-clause-next
-returns-in-Some-clause-next c =
-    let few = few_said (length c.args.luns.now) c.args.queue.now.count c.are_more.result c.are_more.ensures c.if-are_more.false in
-    let w = c.waiting_of-waiting in
-    next_told c.args.channel.now c.args.luns.now c.args.queue.now c.args.now c.in-Ok.timing w.result c.few_states_of-states.result few c.in-Ok.ensures.timing w.ensures.rules
-    w.ensures.waiting w.ensures.newest c.few_states_of-states.ensures c.args.geometry.now c.in-Some.next c.phase_told.result c.in-Some.ensures c.phase_told.ensures.told
+pub returns-in-Ok-Some-clause-next : goal.returns-in-Ok-Some-clause-next
+returns-in-Ok-Some-clause-next c =
+    next_told c.args.channel.now c.args.luns.now c.args.queue.now c.args.now c.args.geometry.now c.in-Ok-Some.next (rw c.in-Ok-Some.field-0-is at c.in-Ok-Some.ensures.next) c.phase_on.result c.phase_on.ensures.phase
 
-pub returns-in-Some-clause-none : goal.returns-in-Some-clause-none
-returns-in-Some-clause-none c =
-    let few = few_said (length c.args.luns.now) c.args.queue.now.count c.are_more.result c.are_more.ensures c.if-are_more.false in
-    let w = c.waiting_of-waiting in
-    next_untold c.args.channel.now c.args.luns.now c.args.queue.now c.args.now c.in-Ok.timing w.result c.few_states_of-states.result few c.in-Ok.ensures.timing w.ensures.rules
-    w.ensures.waiting w.ensures.newest c.few_states_of-states.ensures c.args.geometry.now c.in-Some.next c.phase_told.result c.in-Some.ensures c.phase_told.ensures.none
+pub returns-in-Ok-Some-clause-none : goal.returns-in-Ok-Some-clause-none
+returns-in-Ok-Some-clause-none c =
+    next_untold c.args.channel.now c.args.luns.now c.args.queue.now c.args.now c.args.geometry.now c.in-Ok-Some.next (rw c.in-Ok-Some.field-0-is at c.in-Ok-Some.ensures.next) c.phase_on.result c.phase_on.ensures.none
 
-pub returns-clause-none : goal.returns-clause-none
-returns-clause-none c =
-    let few = few_said (length c.args.luns.now) c.args.queue.now.count c.are_more.result c.are_more.ensures c.if-are_more.false in
-    let w = c.waiting_of-waiting in
-    is_idle w.result _ (waiting_said c.args.channel.now c.args.luns.now c.args.queue.now c.args.now c.in-Ok.timing w.result c.few_states_of-states.result few c.in-Ok.ensures.timing w.ensures.rules
-    w.ensures.waiting w.ensures.newest c.few_states_of-states.ensures) c.in-None.ensures c.over_status.ensures
+pub returns-in-Ok-None-clause-none : goal.returns-in-Ok-None-clause-none
+returns-in-Ok-None-clause-none c =
+    let idle : IsIdleSaid c.args.channel.now c.args.luns.now c.args.queue.now c.args.now = rw c.in-Ok-None.field-0-is at c.in-Ok-None.ensures.next in
+    is_idle idle.0 idle.1 idle.2 idle.3 c.over_status.ensures
+
+pub returns-in-Err-clause-none : goal.returns-in-Err-clause-none
+returns-in-Err-clause-none c = none_told c.args.channel.now c.args.luns.now c.args.queue.now c.args.now c.args.geometry.now c.in-Err.status c.in-Err.ensures.none

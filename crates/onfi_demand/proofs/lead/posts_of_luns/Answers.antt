@@ -7,6 +7,6 @@ loop-lun-preserved c =
     let p = c.args.problem.now.problem in
     let within : c.loop-lun.lun < length p.luns = omega arith in
     record {
-      sum = rest_more p c.timing-timing.result c.loop-lun.lun c.loop-lun.sum c.rest_posts-sum.result c.left_on-left.result c.timing-timing.ensures within c.left_on-left.ensures.left c.rest_posts-sum.ensures.value c.loop-lun.invariant.sum;
+      sum = rest_more p c.timing-timing.result.now c.loop-lun.lun c.loop-lun.sum c.rest_posts-sum.result c.left_on-left.result c.in_limits.ensures.limits.problem c.timing-timing.ensures within c.left_on-left.ensures.left c.rest_posts-sum.ensures.value c.loop-lun.invariant.sum;
       small = omega arith;
     }

@@ -1,7 +1,7 @@
 use Rattle.std.proofs.Common.{◌∙◌, map, sym, subst}
 use Rattle.std.specs.List.{AllByRecursion as Each}
 use Rattle.std.proofs.lemmas.Bool.{or_parts}
-use Rattle.onfi_run.specs.Resting.{Rests}
+use Rattle.onfi_run.specs.Resting.{Rests, ends_by}
 use Rattle.onfi_run.proofs.simulation.round.Goals as goal
 
 pub returns-clause-rest : goal.returns-clause-rest
@@ -9,7 +9,7 @@ returns-clause-rest g c none =
     let both = or_parts c.act_all-acted.result c.turn_all-turned.result (sym c.either.ensures ∙ none) in
     let acted = c.act_all-acted.ensures.rest both.0 in
     let turned = c.turn_all-turned.ensures.wait both.1 in
-    subst (λ ls. Each (Rests c.args.now c.args.course.now.rows.now (map (λ l. l.pace) ls)) c.act_all-acted.new.stations) (sym turned.0) acted.1
+    subst (λ ls. Each (Rests c.args.now c.args.course.now.rows.now (ends_by (map (λ l. l.pace) ls))) c.act_all-acted.new.stations) (sym turned.0) acted.1
 
 pub returns-clause-wait : goal.returns-clause-wait
 returns-clause-wait g c none =

@@ -4,6 +4,7 @@ use Rattle.onfi_run.specs.declared.lane.Lane.{Lane}
 use Rattle.onfi_run.specs.declared.station.Station.{Station}
 use Rattle.onfi_run.specs.Arriving.{comes_at}
 use Rattle.onfi_run.specs.Pace.{NeedsNone, due_of}
+use Rattle.onfi_run.specs.Resting.{ends_by}
 use Rattle.onfi_run.proofs.Resting.{all_rest, all_wait, each_apart}
 use Rattle.onfi_run.proofs.simulation.simulate.Goals as goal
 
@@ -21,4 +22,4 @@ returns-in-None-next_moment-clause-rest g c at later before =
     let rows = c.args.course.now.rows.now in
     let comes : Station → ℕ = λ s. comes_at rows s.passed in
     let none = each_apart (NeedsNone c.loop.now) (map due c.as_slice.result.now) (map comes c.settle.new.stations) c.in-None-next_moment.ensures in
-    all_rest c.loop.now at rows (map (λ l. l.pace) c.settle.new.lanes.items) c.settle.new.stations later before c.settle.ensures.rest none.1
+    all_rest c.loop.now at rows (ends_by (map (λ l. l.pace) c.settle.new.lanes.items)) c.settle.new.stations later before c.settle.ensures.rest none.1

@@ -1,4 +1,4 @@
-use Rattle.std.proofs.Common.{List, inl, inr, length, sym, subst}
+use Rattle.std.proofs.Common.{inl, inr, sym, subst}
 use Rattle.onfi_group.specs.Words.{Has}
 use Rattle.onfi_group.proofs.Lists.{Has-get}
 use Rattle.onfi_schedule.specs.declared.slot.Slot.{Slot}

@@ -3,7 +3,7 @@ use Rattle.onfi_timing.specs.declared.kind.Kind.TheVariants.{Read}
 use Rattle.onfi_steady.specs.declared.waiter.Waiter.{Waiter}
 use Rattle.onfi_steady.specs.Waiting.{left_waiting}
 use Rattle.onfi_steady.specs.Kept.{settled}
-use Rattle.onfi_steady.proofs.OnLun.{settle_all, settle_more, settle_none}
+use Rattle.onfi_steady.proofs.Leaving.{settle_all, settle_more, settle_none}
 use Rattle.onfi_steady.proofs.left.leave.Goals as goal
 
 abbrev blank : Waiter

@@ -5,7 +5,7 @@ use Rattle.onfi_timing.specs.declared.kind.Kind.TheVariants.{Read}
 use Rattle.onfi_problem.proofs.Lists.{refilled}
 use Rattle.onfi_steady.specs.declared.waiter.Waiter.{Waiter}
 use Rattle.onfi_steady.specs.Waiting.{begins_with, passed_by}
-use Rattle.onfi_steady.proofs.OnLun.{settled_kept}
+use Rattle.onfi_steady.proofs.Leaving.{settled_kept}
 use Rattle.onfi_steady.proofs.left.settle.Goals as goal
 
 abbrev blank : Waiter

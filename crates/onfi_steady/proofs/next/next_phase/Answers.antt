@@ -1,23 +1,11 @@
-use Rattle.std.proofs.Common.{length, refl, subst}
-use Rattle.std.specs.Prelude.{MatchOption, max}
-use Rattle.onfi_steady.specs.Waiting.{channel}
-use Rattle.onfi_steady.specs.Kept.{IsFirstBelow, IsHeldBy, NoneBelow}
-use Rattle.onfi_steady.proofs.NextFound.{given_phase, held_found, no_move}
+use Rattle.std.proofs.Common.{ap}
+use Rattle.onfi_steady.specs.Offer.{on_lun}
 use Rattle.onfi_steady.proofs.next.next_phase.Goals as goal
 
-pub returns-in-Some : goal.returns-in-Some
-returns-in-Some c =
-    let books = c.args.waiting.now in
-    let luns = c.args.luns.now in
-    let found = subst (λ z. IsFirstBelow books (channel c.args.timing.now z luns books) (length luns) c.first_given.result) c.max-from.ensures c.first_given.ensures in
-    let p = channel c.args.timing.now (max c.args.bus_free c.args.now) luns books in
-    given_phase books c.as_slice-planes.ensures.planes p refl refl c.in-Some.first c.phase_of.result (subst (IsFirstBelow books p (length luns)) c.in-Some.is found) c.phase_of.ensures.lun c.phase_of.ensures.members c.phase_of.ensures.start
-
-pub returns-in-None : goal.returns-in-None
-returns-in-None c =
-    let books = c.args.waiting.now in
-    let luns = c.args.luns.now in
-    let found = subst (λ z. IsFirstBelow books (channel c.args.timing.now z luns books) (length luns) c.first_given.result) c.max-from.ensures c.first_given.ensures in
-    let p = channel c.args.timing.now (max c.args.bus_free c.args.now) luns books in
-    let held = subst (λ z. MatchOption c.first_held.result (NoneBelow books luns (length luns)) (IsHeldBy z luns books)) c.max-from.ensures c.first_held.ensures in
-    held_found books c.as_slice-planes.ensures.planes p refl refl c.first_held.result (no_move books c.as_slice-planes.ensures.planes p refl refl (subst (IsFirstBelow books p (length luns)) c.in-None.is found)) held
+pub returns : goal.returns
+returns c = c.next_phase_of.ensures c.args.waiting.now (record {
+  planes = c.as_slice.ensures.planes;
+  grouping = c.rules.ensures;
+  latest = c.newest.ensures;
+  free = λ lun since e. ap (on_lun lun) c.as_slice.ensures.value;
+})

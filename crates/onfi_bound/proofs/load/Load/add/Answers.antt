@@ -5,7 +5,8 @@ use Rattle.onfi_problem.specs.Left.{want_command, want_post}
 use Rattle.onfi_problem.proofs.Perm.{All-append}
 use Rattle.onfi_problem.proofs.Wants.{total-append}
 use Rattle.onfi_bound.specs.Bounds.{same_kind}
-use Rattle.onfi_bound.proofs.Loading.{IsOwnFirst, total_few, any_more, firsts_with, firsts_short, works_with, works_short}
+use Rattle.onfi_bound.proofs.GroupPosts.{total_few}
+use Rattle.onfi_bound.proofs.Loading.{IsOwnFirst, any_more, firsts_with, firsts_short, works_with, works_short}
 use Rattle.onfi_bound.proofs.load.Load.add.Goals as goal
 use Rattle.onfi_bound.proofs.load.Load.add.Goals.{then-self-lun-eq0, else-self-lun-eq0}
 

@@ -1,5 +1,7 @@
 use Rattle.std.proofs.Common.{◌≡◌, ◌+◌, ◌*◌, ◌-◌, ◌<◌, subst, arith}
 use Rattle.onfi_timing.specs.Phases.{phase_length, wait_before}
+use Rattle.std.proofs.lemmas.List.{length-replicate}
+use Rattle.onfi_demand.specs.OneKind.{lengths_of}
 use Rattle.onfi_demand.specs.Look.{Sees}
 use Rattle.onfi_demand.specs.Window.{group_left}
 use Rattle.onfi_demand.proofs.Between.{chain_step}
@@ -8,14 +10,14 @@ use Rattle.onfi_demand.proofs.look.Look.see_group.Goals as goal
 
 pub overflow_sub-left : goal.overflow_sub-left
 overflow_sub-left c =
-    let step = chain_step c.args.spans.now c.args.members c.loop-phase.phase (omega arith) in
+    let step = chain_step (lengths_of c.args.spans.now c.args.members) c.args.members c.loop-phase.phase (length-replicate c.args.members c.args.spans.now.post) (omega arith) in
     let l = c.loop-phase.invariant.left in
     let long = c.phase_length-length.ensures.length in
     omega arith
 
 pub overflow_sub-left-in-loop-phase : goal.overflow_sub-left-in-loop-phase
 overflow_sub-left-in-loop-phase c =
-    let step = chain_step c.args.spans.now c.args.members c.loop-phase.phase (omega arith) in
+    let step = chain_step (lengths_of c.args.spans.now c.args.members) c.args.members c.loop-phase.phase (length-replicate c.args.members c.args.spans.now.post) (omega arith) in
     let l = c.loop-phase.invariant.left in
     let long = c.phase_length-length.ensures.length in
     let wait = c.wait_before.ensures.wait in
@@ -24,11 +26,12 @@ overflow_sub-left-in-loop-phase c =
 pub loop-phase-preserved : goal.loop-phase-preserved
 loop-phase-preserved c =
     let look = c.args.self.now in
-    let spans = c.args.spans.now in
     let k = c.args.members in
+    let spans = lengths_of c.args.spans.now k in
+    let size = length-replicate k c.args.spans.now.post in
     let n = c.loop-phase.phase in
     let h : n < 2 * k = omega arith in
-    let step = chain_step spans k n h in
+    let step = chain_step spans k n size h in
     let l = c.loop-phase.invariant.left in
     let less = c.loop-phase.invariant.less in
     let from = c.loop-phase.invariant.from in
@@ -44,11 +47,11 @@ loop-phase-preserved c =
       less = omega arith;
       from = omega arith;
       small = omega arith;
-      sees = λ b s. c.loop-phase.invariant.sees b (group_more look spans k c.args.rest n c.loop-phase.from c.phase_length-length.result c.loop-phase.left c.loop-phase.seen c.see-seen.result b h l long c.see-seen.ensures.sees (subst (λ z. Sees look c.see-seen.result (group_left spans k c.args.rest (2 * k - (n + 1)) (n + 1) z) b) next s));
+      sees = λ b s. c.loop-phase.invariant.sees b (group_more look spans k c.args.rest n c.loop-phase.from c.phase_length-length.result c.loop-phase.left c.loop-phase.seen c.see-seen.result b size h l long c.see-seen.ensures.sees (subst (λ z. Sees look c.see-seen.result (group_left spans k c.args.rest (2 * k - (n + 1)) (n + 1) z) b) next s));
     }
 
 pub returns-clause-sees : goal.returns-clause-sees
 returns-clause-sees c =
     let look = c.args.self.now in
     let none : 0 ≡ 2 * c.args.members - c.loop-phase.phase = omega arith in
-    c.loop-phase.invariant.sees c.loop-phase.seen (subst (λ z. Sees look c.loop-phase.seen (group_left c.args.spans.now c.args.members c.args.rest z c.loop-phase.phase c.loop-phase.from) c.loop-phase.seen) none (sees_none look c.loop-phase.seen))
+    c.loop-phase.invariant.sees c.loop-phase.seen (subst (λ z. Sees look c.loop-phase.seen (group_left (lengths_of c.args.spans.now c.args.members) c.args.members c.args.rest z c.loop-phase.phase c.loop-phase.from) c.loop-phase.seen) none (sees_none look c.loop-phase.seen))

@@ -1,4 +1,4 @@
-use Rattle.std.proofs.Common.{◌≡◌, ◌+◌, ◌-◌, ◌*◌, ◌^◌, ◌≤◌, ◌<◌, ℕ, length, get_or}
+use Rattle.std.proofs.Common.{◌≡◌, ◌-◌, ◌*◌, ◌^◌, ◌≤◌, ◌<◌, ℕ, length, get_or}
 use Rattle.onfi_problem.specs.Moves.{may_go}
 use Rattle.onfi_demand.specs.Window.{phases_left_on, within, needed, sum_of}
 use Rattle.onfi_demand.proofs.look.Sight.of.Given as goal

@@ -1,7 +1,7 @@
-use Rattle.std.proofs.Common.{◌≡◌, ◌+◌, length, drop, sym, ap, ◌∙◌, arith}
+use Rattle.std.proofs.Common.{◌≡◌, ◌+◌, List, length, drop, sym, ap, ◌∙◌, arith}
 use Rattle.std.specs.Prelude.{slice_set}
-use Rattle.onfi_timing.specs.Kinds.{spans_of}
 use Rattle.onfi_timing.specs.Phases.{phase_length}
+use Rattle.onfi_request.specs.declared.want.Want.{Want}
 use Rattle.onfi_group.specs.Group.{group_spans}
 use Rattle.onfi_schedule.specs.Schedule.{Schedule}
 use Rattle.onfi_flight.specs.Flight.{Flight, groups_left, starts_of, wants_behind}
@@ -20,8 +20,8 @@ returns c =
     let left = c.self.inside.left in
     let spans = group_spans c.self.inside.timing due.group in
     let long : c.phase_length.result ≡ phase_length spans (length due.group) due.phase =
-    c.phase_length.ensures.length ∙ ap (λ s. phase_length s c.len.result c.from.result) (c.spans-spans.ensures ∙ ap (spans_of c.self.inside.timing) c.kind.ensures)
-    ∙ ap (λ n. phase_length spans n c.from.result) c.len.ensures.value ∙ ap (phase_length spans (length due.group)) c.from.ensures in
+    c.phase_length.ensures.length ∙ ap (λ (g : List Want). phase_length (group_spans c.self.inside.timing g) (length g) c.from.result) c.members-members.ensures.value
+    ∙ ap (phase_length spans (length due.group)) c.from.ensures in
     run_is _ c.args.self.now due c.args.started _ _ _ _ c.self.view_is c.requires.due (ap (λ n. c.args.started + n) long)
     (c.set.ensures ∙ ap (λ l. slice_set c.self.inside.luns l c.lun_after.result) c.from-lun.ensures ∙ ap (slice_set c.self.inside.luns due.lun) c.lun_after.ensures)
     (c.wants_behind-self-inside.ensures ∙ ap (λ (f : Flight). wants_behind due.place due.group f.now.wants) (sym c.self.view_is))

@@ -18,7 +18,7 @@ returns-clause-value c =
     let here = next_place x.problem x.groups c.luns.result.now c.luns.ensures.states c.args.lun blank c.bus_free.ensures.limits c.requires in
     let same = read_group x.groups _ c.index-groups-state.result here (rw c.groups.ensures.value at c.index-groups-state.is) in
     let ends = next_ends x.problem x.groups c.luns.result.now c.luns.ensures.states c.args.lun blank c.index-groups-state.result c.requires same in
-    rw (c.phase_length.ensures.length, c.spans-spans.ensures, c.kind.ensures, c.timing.ensures, c.len.ensures.value, c.max-start.ensures, c.bus_free.ensures.value) ends
+    rw (c.phase_length.ensures.length, c.members.ensures.value, c.timing.ensures, c.max-start.ensures, c.bus_free.ensures.value) ends
 
 pub returns-clause-small : goal.returns-clause-small
 returns-clause-small c = rw (returns-clause-value c) (ends_small c.args.self.now.problem (Next c.args.lun) c.bus_free.ensures.limits c.requires)

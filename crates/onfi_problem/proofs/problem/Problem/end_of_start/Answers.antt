@@ -12,7 +12,7 @@ returns-clause-value c =
     let here = in_table x.groups c.args.place c.requires.step.2.group.some in
     let same = read_group x.groups c.args.place c.index-groups-place.result here (rw c.groups.ensures.value at c.index-groups-place.is) in
     let ends = start_ends x.problem x.groups c.luns.result.now c.luns.ensures.states (slice_index_or x.groups c.args.place []) c.args.lun blank c.index-groups-place.result c.requires.step c.requires.lun same in
-    rw (c.phase_length.ensures.length, c.spans-spans.ensures, c.kind.ensures, c.timing.ensures, c.len.ensures.value, c.max-start.ensures, c.bus_free.ensures.value) ends
+    rw (c.phase_length.ensures.length, c.members.ensures.value, c.timing.ensures, c.max-start.ensures, c.bus_free.ensures.value) ends
 
 pub returns-clause-small : goal.returns-clause-small
 returns-clause-small c = rw (returns-clause-value c) (ends_small c.args.self.now.problem (Start (slice_index_or c.args.self.now.groups c.args.place [])) c.bus_free.ensures.limits c.requires.step)

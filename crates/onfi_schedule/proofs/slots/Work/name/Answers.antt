@@ -1,4 +1,4 @@
-use Rattle.std.proofs.Common.{◌++◌, length, map, sym, arith, length-append}
+use Rattle.std.proofs.Common.{sym, arith}
 use Rattle.onfi_schedule.specs.Names.{names_of}
 use Rattle.onfi_schedule.proofs.Naming.{read_past, names_are}
 use Rattle.onfi_schedule.proofs.slots.Work.name.Goals as goal

@@ -1,16 +1,14 @@
-use Rattle.std.proofs.Common.{◌≤◌, ◌∙◌, ap, length, subst}
+use Rattle.std.proofs.Common.{◌≤◌, ◌∙◌, ap, arith, length, subst, sym}
+use Rattle.std.specs.List.{AllByRecursion as All}
 use Rattle.onfi_steady.specs.Waiting.{left_waiting, wants_of}
-use Rattle.onfi_steady.specs.Offer.{IsOffer}
-use Rattle.onfi_steady.proofs.OnLun.{kept_begun, left_wants}
+use Rattle.onfi_steady.proofs.Leaving.{left_few, left_planes, left_wants}
 use Rattle.onfi_steady.proofs.waiting.Waiting.begin.Goals as goal
 
 pub invariant_of-self : goal.invariant_of-self
-invariant_of-self c =
-    let rules = c.self.inside.rules in
-    let left = c.leave.new.waiting.items in
-    kept_begun rules c.self.inside.waiting.items left c.self.inside.offers c.args.lun c.args.members.now c.of.result c.self.invariant c.leave.ensures
-    (subst (λ z. length z ≤ 64) c.as_slice.ensures.value c.as_slice.ensures.fits)
-    (subst (λ z. IsOffer rules z c.args.lun c.of.result) c.as_slice.ensures.value c.of.ensures)
+invariant_of-self c = record {
+  few = let h = left_few c.args.lun c.args.members.now c.self.inside.waiting.items in let k = c.self.invariant.few in subst (λ z. length z ≤ 64) (sym c.leave.ensures) (omega arith);
+  planes = subst (All (λ w. w.want.plane ≤ 3)) (sym c.leave.ensures) (left_planes c.args.lun c.args.members.now c.self.inside.waiting.items c.self.invariant.planes);
+}
 
 pub returns-clause-left : goal.returns-clause-left
 returns-clause-left c = λ own.

@@ -1,0 +1,12 @@
+use Rattle.std.proofs.Common.{◌≡◌}
+use Rattle.onfi_core.specs.Choice.{Grows, marked}
+use Rattle.onfi_core.specs.Whole.{IsDoneBelow, IsHeldAsBefore}
+use Rattle.onfi_core.proofs.choosing.whole.take_rest.Given as goal
+
+abbrev pub invariant-loop-at : goal.invariant-loop-at
+invariant-loop-at l = record {
+  grows : Grows l.batch l.items l.fn.marks l.marks;
+  count : l.taken ≡ marked l.marks;
+  held : IsHeldAsBefore l.held l.items l.fn.marks l.marks;
+  done : IsDoneBelow l.at l.held l.items l.marks;
+}

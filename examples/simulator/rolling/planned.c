@@ -1,0 +1,128 @@
+/* Ways that plan a batch, and follow the plan until there is something new. */
+#include "rolling.h"
+
+#include <stdlib.h>
+#include <string.h>
+#include <time.h>
+
+onfi_lun lun_of(const lun_state *lun)
+{
+    onfi_lun made = {.since = lun->ready, .members = (uint8_t)lun->members, .next = (uint8_t)lun->next};
+    for (unsigned at = 0; at < lun->members; at++)
+        made.member[at] = lun->member[at].want;
+    return made;
+}
+
+static void put_ages(const machine *m, unsigned lun, uint64_t *age)
+{
+    for (unsigned at = 0; at < m->lun[lun].members; at++)
+        age[at] = m->now - m->lun[lun].member[at].arrived;
+}
+
+/* The batch as the library takes it, planned from now on. */
+static problem problem_of(const machine *m, const batch *batch, uint16_t slack)
+{
+    problem made = {.channel = m->setup->channel, .luns = m->setup->luns, .wants = batch->count, .slack = slack};
+    made.channel.bus_free = later_of(m->now, m->bus_free);
+    for (unsigned lun = 0; lun < m->setup->luns; lun++) {
+        made.lun[lun] = lun_of(&m->lun[lun]);
+        put_ages(m, lun, made.member_age[lun]);
+    }
+    for (size_t at = 0; at < batch->count; at++) {
+        made.want[at] = m->waiting[batch->place[at]].want;
+        made.age[at] = m->now - m->waiting[batch->place[at]].arrived;
+    }
+    return made;
+}
+
+static int by_start(const void *one, const void *other)
+{
+    uint64_t a = ((const step *)one)->start, b = ((const step *)other)->start;
+    return (a > b) - (a < b);
+}
+
+/* Appends the steps of a new group to the others. */
+static void add_group(const problem *problem, const onfi_group *group, plan *plan)
+{
+    unsigned lun = 0;
+    for (size_t at = 0; at < problem->wants; at++)
+        if (problem->want[at].id == group->want[0])
+            lun = problem->want[at].lun;
+    for (size_t at = 0; at < 2u * group->members; at++) {
+        step *next = &plan->step[plan->steps++];
+        *next = (step){.start = group->start[at], .lun = lun, .members = at ? 0 : group->members};
+        memcpy(next->member, group->want, sizeof group->want);
+    }
+}
+
+/* The steps of a schedule in order of start. */
+static void put_steps(const problem *problem, const onfi_schedule *schedule, plan *plan)
+{
+    plan->steps = plan->at = 0;
+    for (unsigned lun = 0; lun < schedule->luns; lun++)
+        for (unsigned at = 0; at < schedule->rest[lun].starts; at++)
+            plan->step[plan->steps++] = (step){.start = schedule->rest[lun].start[at], .lun = lun};
+    for (unsigned at = 0; at < schedule->groups; at++)
+        add_group(problem, &schedule->group[at], plan);
+    qsort(plan->step, plan->steps, sizeof *plan->step, by_start);
+}
+
+/* Notes how much processor time a plan took since `begun`. */
+static void note_plan(planning *planning, clock_t begun, uint32_t status, const onfi_planned *planned)
+{
+    double seconds = (double)(clock() - begun) / CLOCKS_PER_SEC;
+    planning->plans++;
+    planning->seconds += seconds;
+    planning->longest = seconds > planning->longest ? seconds : planning->longest;
+    planning->over += status == ONFI_OVER;
+    planning->nodes += status == ONFI_DONE ? planned->opened : 0;
+}
+
+static bool make_plan(const way *way, mind *mind, const machine *m, const batch *batch)
+{
+    problem problem = problem_of(m, batch, m->setup->slack == OF_THE_WAY ? way->slack : m->setup->slack);
+    onfi_planned planned;
+    clock_t begun = clock();
+    uint32_t status = way->planner(&problem, m->setup->limit, &planned);
+    note_plan(&mind->planning, begun, status, &planned);
+    mind->told = false;
+    mind->plan.wants = problem.wants;
+    for (size_t at = 0; at < problem.wants; at++)
+        mind->plan.want[at] = problem.want[at].id;
+    mind->plan.over = status == ONFI_OVER;
+    if (status == ONFI_DONE)
+        put_steps(&problem, &planned.schedule, &mind->plan);
+    else if (status != ONFI_OVER)
+        mind->refused = status;
+    return !mind->refused;
+}
+
+static bool is_planned(const plan *plan, uint64_t id)
+{
+    for (size_t at = 0; at < plan->wants; at++)
+        if (plan->want[at] == id)
+            return true;
+    return false;
+}
+
+/* Whether the batch has a request that isn't planned. */
+static bool is_new(const plan *plan, const machine *m, const batch *batch)
+{
+    for (size_t at = 0; at < batch->count; at++)
+        if (!is_planned(plan, m->waiting[batch->place[at]].want.id))
+            return true;
+    return false;
+}
+
+bool by_plan(const way *way, mind *mind, const machine *m, const batch *batch, step *step)
+{
+    if ((mind->told || is_new(&mind->plan, m, batch)) && !make_plan(way, mind, m, batch))
+        return false;
+    if (mind->plan.over)
+        return by_rule(way, mind, m, batch, step);
+    if (mind->plan.at == mind->plan.steps)
+        return false;
+    *step = mind->plan.step[mind->plan.at];
+    step->start = later_of(step->start, m->now);
+    return true;
+}

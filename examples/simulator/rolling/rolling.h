@@ -1,0 +1,297 @@
+/*
+ * One channel in rolling use: requests come while others run, and a way says again and again what has the bus next.
+ *
+ *   device.c    how long phases take on a device and a bus
+ *   source.c    the requests, and when they come
+ *   machine.c   the channel as it stands, and what a phase changes of it
+ *   judge.c     whether a phase is legal, by books of its own
+ *   choice.c    which requests a way looks at, by code of its own
+ *   greedy.c    ways that take of what can start soonest what ranks first
+ *   planned.c   ways that plan a batch, and follow the plan until there is something new
+ *   library.c   the library's choices, planners, and phase by phase
+ *   ways.c      all ways by name: to compare a scheduler of your own, add its line there
+ *   figures.c   what came of it
+ *   simulate.c  the loop
+ *
+ * Times are simulated, in ns. Where nothing is said a pointer isn't null.
+ */
+#ifndef ROLLING_H
+#define ROLLING_H
+
+#include <onfi.h>
+
+#include <stdio.h>
+
+#define NEVER UINT64_MAX
+
+enum {
+    KINDS = 3,
+    MOST_OUTSTANDING = 256,
+    MOST_WAITING = MOST_OUTSTANDING + ONFI_MEMBERS, /* erases of several planes come together */
+    OF_THE_WAY = UINT16_MAX,
+    PLAN_STEPS = ONFI_LUNS * ONFI_STARTS + 2 * ONFI_WANTS
+};
+
+/* What is simulated. */
+
+typedef enum { RANDOM_READS, MIXED, SEQUENTIAL, WITH_ERASES } workload;
+
+typedef struct {
+    onfi_channel channel; /* its timing is what is stated; its bus_free isn't looked at */
+    unsigned luns;
+    workload workload;
+    size_t outstanding; /* how many requests may be accepted and not answered */
+    double load; /* the share of the bus that arriving requests ask for; 0: a new one comes with each answer */
+    double least_array, most_array; /* how long arrays take in truth, in shares of what is stated */
+    bool told; /* LUNs say when they are ready; else they count as ready at the stated time */
+    size_t requests; /* how many are answered before it ends; the first tenth isn't measured */
+    uint64_t seed;
+    uint32_t limit; /* of nodes in a search */
+    uint16_t slack; /* by how many thousandths plans in which requests end early may end later; OF_THE_WAY: as its way says */
+} setup;
+
+/* Puts timing and rules of a device by name, at so many ns a byte; false where there is no such device. */
+bool put_device(const char *name, double byte, onfi_channel *channel);
+/* The workload of that name; false where there is none. */
+bool put_workload(const char *name, workload *workload);
+
+typedef struct {
+    onfi_want want; /* its id is its place in the order of acceptance */
+    uint64_t arrived;
+    uint16_t passed; /* how many groups with a later request began on its LUN while it waited */
+} request;
+
+/* Where requests come from: the same ones in the same order for each way, by the seed. */
+typedef struct {
+    const setup *setup;
+    uint64_t wants, arrivals; /* states of random numbers */
+    uint64_t drawn, programs; /* how many so far */
+    onfi_want mate; /* the erase after which `mates` more of its planes come */
+    unsigned mates;
+    uint64_t next_arrival;
+} source;
+
+source source_of(const setup *setup);
+onfi_want draw_want(source *source);
+/*
+ * Prints how many planes and pages there are, how long the phases of each kind take, and the requests in their order, by kind and
+ * LUN: those that come with the one before them, room or not, as mates.
+ */
+void print_source(const setup *setup, FILE *out);
+void draw_arrival(source *source);
+/* A number from 0 to below 1 that the seed gives to a request. */
+double share_of(uint64_t seed, uint64_t id);
+
+/* The channel as it stands. */
+
+typedef struct {
+    request member[ONFI_MEMBERS]; /* planes rising */
+    unsigned members; /* 0: it is free */
+    unsigned next; /* which phase of the group comes next: its commands are 0 .., its posts follow */
+    uint64_t ready; /* from when on that phase may start, or a group begin, by what is known */
+    uint64_t real; /* from when on in truth */
+} lun_state;
+
+typedef struct {
+    const setup *setup;
+    uint64_t now, bus_free;
+    lun_state lun[ONFI_LUNS];
+    request waiting[MOST_WAITING]; /* accepted and not started, in order of acceptance */
+    size_t waiting_count;
+    size_t outstanding; /* accepted and not answered */
+    uint64_t accepted; /* how many so far */
+    bool has_newest;
+    uint64_t newest; /* the id of the newest accepted program, where there is one */
+} machine;
+
+/* What has the bus next: the next phase of a LUN's group, or the first one of a new group. */
+typedef struct step {
+    uint64_t start;
+    unsigned lun;
+    size_t members; /* 0: the running group goes on */
+    uint64_t member[ONFI_MEMBERS]; /* the ids of the new group's wants */
+} step;
+
+typedef struct {
+    uint64_t start, end;
+    unsigned lun;
+    bool is_post;
+    onfi_want want; /* whose command or post it is */
+    size_t opens; /* of how many members the group is that it begins; 0: it begins none */
+    onfi_want member[ONFI_MEMBERS];
+    uint64_t array; /* where it is a group's last command: how long the array takes in truth */
+} phase;
+
+const onfi_spans *spans_of(const onfi_timing *timing, unsigned kind);
+unsigned plane_of(const onfi_rules *rules, unsigned block);
+unsigned planes_of(const setup *setup);
+uint64_t later_of(uint64_t one, uint64_t other);
+bool is_running(const lun_state *lun);
+/* The soonest start of the next phase of a LUN, by what is known. */
+uint64_t soonest(const machine *m, unsigned lun);
+/* Whether an earlier request on its block waits. */
+bool is_behind(const machine *m, size_t place);
+/* The place of a waiting request; waiting_count where it doesn't wait. */
+size_t place_of(const machine *m, uint64_t id);
+/* Takes a request in, from `arrived` on. */
+void accept_request(machine *m, onfi_want want, uint64_t arrived);
+/* Whether a LUN has become ready before its stated time: it is known then. */
+bool tell_ready(machine *m);
+/* When the next LUN becomes so; NEVER where none does. */
+uint64_t next_told(const machine *m);
+/* Runs a step: what is on the bus, and of which request it was where it is a post. */
+phase run_step(machine *m, const step *step, request *answered);
+
+/* Legality, by books of its own. */
+
+typedef struct {
+    onfi_want member[ONFI_MEMBERS];
+    size_t members, commands, posts; /* posts: how many have ended */
+    uint64_t may; /* from when on its next phase may start */
+} judged_lun;
+
+typedef struct {
+    onfi_want want;
+    uint64_t since;
+} accepted;
+
+typedef struct {
+    const setup *setup;
+    uint64_t bus_free;
+    judged_lun lun[ONFI_LUNS];
+    accepted waiting[MOST_WAITING]; /* in order of acceptance */
+    size_t waiting_count;
+    uint64_t answered;
+} judge;
+
+judge judge_of(const setup *setup);
+void judge_acceptance(judge *j, const onfi_want *want, uint64_t since);
+/* Null where the phase is legal, which it is taken for then; else what it breaks. */
+const char *judge_phase(judge *j, const phase *p);
+
+/* Ways. */
+
+/* The requests that a way looks at, as rising places among those that wait. */
+typedef struct {
+    size_t count;
+    size_t place[MOST_WAITING];
+    uint32_t refused; /* the status of the library's choice where it failed */
+} batch;
+
+typedef void choice(const machine *m, batch *chosen);
+
+choice everything, first_eight, by_lun_one_kind;
+/* By onfi_choose. */
+choice by_lun, by_lun_reads_first;
+/* By onfi_choose_whole. */
+choice whole_groups;
+
+/* Whether it may join the group of the waiting requests at those places. */
+bool joins(const machine *m, const size_t *group, size_t members, size_t place);
+
+/* What a LUN can do next: go on with commands, with posts, or begin a group. */
+typedef enum { GOES_ON, ANSWERS, BEGINS } move;
+
+/* How a greedy way ranks what can start soonest. */
+typedef struct {
+    unsigned (*rank)(move move, unsigned kind); /* the lower goes first */
+    bool largest; /* an idle LUN begins its largest group; else that of its oldest read, else program, else erase */
+    bool by_age; /* of one rank larger groups go first, then older ones; else the LUNs in turn */
+} rule;
+
+extern const rule ROUND_ROBIN, COMMANDS_FIRST, MQSIM, READS_FIRST;
+
+/* A LUN as the library takes it. */
+onfi_lun lun_of(const lun_state *lun);
+
+/* A problem as the library takes it. */
+typedef struct {
+    onfi_channel channel;
+    onfi_lun lun[ONFI_LUNS];
+    size_t luns;
+    onfi_want want[ONFI_WANTS];
+    uint64_t age[ONFI_WANTS]; /* since they arrived */
+    uint64_t member_age[ONFI_LUNS][ONFI_MEMBERS]; /* those of running groups too */
+    size_t wants;
+    uint16_t slack;
+} problem;
+
+/* Plans by at most `limit` nodes; gives an onfi_status. */
+typedef uint32_t planner(const problem *problem, uint32_t limit, onfi_planned *plan);
+
+planner plan_known, plan_early, plan_early_by_age, plan_early_reads, plan_rule;
+
+typedef struct {
+    step step[PLAN_STEPS]; /* in order of start */
+    size_t steps, at; /* `at`: how many have run */
+    uint64_t want[ONFI_WANTS]; /* the ids of what was planned */
+    size_t wants;
+    bool over; /* the search was over: the rule decides until there is something new */
+} plan;
+
+typedef struct {
+    uint64_t plans, over, nodes;
+    double seconds, longest; /* processor time of all plans, and of the longest */
+} planning;
+
+/* What a firmware that goes phase by phase by the library keeps of its channel. */
+typedef struct {
+    onfi_channel channel;
+    onfi_lun lun[ONFI_LUNS];
+    onfi_queue queue;
+    uint64_t accepted; /* 1 more than the id of the last request that the queue took; 0: it took none */
+} kept;
+
+/* What a way keeps. */
+typedef struct {
+    unsigned turn; /* the LUN after the one that had the bus last */
+    bool told; /* a LUN has reported that it is ready since the last plan */
+    bool has_begun, has_run; /* of phase by phase: whether it has begun, and whether the step that it gave last has run */
+    kept now, after; /* how the channel stands, and how after that step */
+    plan plan;
+    planning planning;
+    uint32_t refused; /* the status of a call that failed otherwise than by being over */
+} mind;
+
+typedef struct way {
+    const char *name;
+    choice *choose;
+    /* What has the bus next, and from when on; false where there is nothing to do. */
+    bool (*decide)(const struct way *way, mind *mind, const machine *m, const batch *batch, step *step);
+    const rule *rule; /* of a greedy way, and of a planner that is over */
+    planner *planner;
+    uint16_t slack; /* of plans in which requests end early */
+} way;
+
+bool in_order(const way *way, mind *mind, const machine *m, const batch *batch, step *step);
+bool by_rule(const way *way, mind *mind, const machine *m, const batch *batch, step *step);
+bool phase_by_phase(const way *way, mind *mind, const machine *m, const batch *batch, step *step);
+bool by_plan(const way *way, mind *mind, const machine *m, const batch *batch, step *step);
+
+/* The way of that name; null where there is none. */
+const way *way_of(const char *name);
+void print_ways(FILE *out);
+
+/* What came of it. */
+
+typedef struct figures {
+    uint64_t *latency[KINDS]; /* from arrival to the end of the post */
+    size_t answered[KINDS];
+    uint64_t from, to; /* what is measured: from the end of a post to that of the last */
+    uint64_t busy; /* how long the bus was busy in between */
+    uint64_t groups, grouped; /* how many groups began, and of how many requests */
+    uint64_t erases, erasing, erasing_until; /* how long the erases took together, how long any LUN erased, and up to when */
+    planning planning;
+} figures;
+
+bool figures_begin(figures *figures, const setup *setup);
+void figures_end(figures *figures);
+void figures_print(const figures *figures, FILE *out);
+
+/*
+ * Runs the channel by a way until so many requests are answered; prints its phases where there is a trace. Null where all
+ * went well, else what went wrong.
+ */
+const char *simulate(const setup *setup, const way *way, FILE *trace, figures *figures);
+
+#endif

@@ -1,0 +1,45 @@
+/* The ways by name. */
+#include "rolling.h"
+
+#include <string.h>
+
+/* Without the library (-DWITHOUT_LIBRARY) there are greedy ways alone. */
+static const way WAYS[] = {
+    {"fifo", everything, in_order, NULL, NULL, 0},
+    {"round-robin", first_eight, by_rule, &ROUND_ROBIN, NULL, 0},
+    {"commands-first", first_eight, by_rule, &COMMANDS_FIRST, NULL, 0},
+    {"mqsim", first_eight, by_rule, &MQSIM, NULL, 0},
+    {"rfirst:8", first_eight, by_rule, &READS_FIRST, NULL, 0},
+    {"rfirst:all", everything, by_rule, &READS_FIRST, NULL, 0},
+#ifndef WITHOUT_LIBRARY
+    {"steady", everything, phase_by_phase, NULL, NULL, 0},
+    {"rule-by-lun", by_lun, by_plan, NULL, plan_rule, 0},
+    {"rule-one-kind", by_lun_one_kind, by_plan, NULL, plan_rule, 0},
+    {"rule-whole-groups", whole_groups, by_plan, NULL, plan_rule, 0},
+    {"plan", first_eight, by_plan, &ROUND_ROBIN, plan_known, 0},
+    {"plan-by-lun", by_lun, by_plan, &ROUND_ROBIN, plan_known, 0},
+    {"plan-reads-first", by_lun_reads_first, by_plan, &ROUND_ROBIN, plan_known, 0},
+    {"plan-early", first_eight, by_plan, &ROUND_ROBIN, plan_early_by_age, 0},
+    {"plan-early-by-lun", by_lun, by_plan, &ROUND_ROBIN, plan_early_by_age, 0},
+    {"plan-early-reads-first", by_lun_reads_first, by_plan, &ROUND_ROBIN, plan_early, 0},
+    {"plan-near-by-lun", by_lun, by_plan, &ROUND_ROBIN, plan_early_by_age, 20},
+    {"plan-near-reads-first", by_lun_reads_first, by_plan, &ROUND_ROBIN, plan_early, 20},
+    {"plan-near-heavy-reads", by_lun_reads_first, by_plan, &ROUND_ROBIN, plan_early_reads, 20},
+    {"plan-near-one-kind", by_lun_one_kind, by_plan, &ROUND_ROBIN, plan_early_reads, 20},
+    {"plan-near-whole-groups", whole_groups, by_plan, &ROUND_ROBIN, plan_early_reads, 20},
+#endif
+};
+
+const way *way_of(const char *name)
+{
+    for (size_t at = 0; at < sizeof WAYS / sizeof *WAYS; at++)
+        if (!strcmp(WAYS[at].name, name))
+            return &WAYS[at];
+    return NULL;
+}
+
+void print_ways(FILE *out)
+{
+    for (size_t at = 0; at < sizeof WAYS / sizeof *WAYS; at++)
+        fprintf(out, "%s\n", WAYS[at].name);
+}

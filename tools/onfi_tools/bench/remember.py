@@ -1,0 +1,226 @@
+"""Plans that remember states beside plain ones: `plan --remember` beside `plan`, each checked.
+
+    tools/bench remember [PROGRAM] [SEED] [--scripts N] [--chains N] [--jobs N] [--few | --hard FILE..]
+
+From the seed (1) come N scripts (2,000) of eight requests, a quarter of each set:
+
+    mixed              on 1 to 8 LUNs, on devices of any lengths, may any groups or not, some LUNs running a group
+    mixed, 8 LUNs      the same on 8 LUNs
+    reads, 8 LUNs      reads alone on 8 LUNs
+    devices            five devices as they are built, on 4 and 8 LUNs, half of the LUNs running a group, requests of all kinds
+
+and each script of examples/hard and examples/hard-states and those that --hard names, with --few none. Of each:
+
+    over               how many scripts have no plan within the greatest limit
+    nodes              the least `--limit` that answers: how many nodes the search opens; of two walks of a search that remembers
+                       states, the greater count
+    ms                 processor time of the whole program
+    bytes              the text of the certificate
+
+of a set the median, the number that 99 of 100 scripts don't pass, and the greatest; over counts as greater than all. A finish that
+differs between the two, a plan that `check --remember` doesn't accept with its finish, and an answer of another form end the run with
+status 1.
+
+Then N chains (400) of six rolling batches: eight requests on one of those devices, planned by `plan --within`, run to a phase drawn at
+random, filled up to eight again. Of all these: how many are over within a limit, by `plan` and by `plan --remember`; of
+`plan --within` how many plans are proved optimal, and by how much of the time from the free bus to the finish the others may be too
+long at most: the median, nine of ten, the greatest. Each such plan is checked by `check --within`.
+"""
+
+from __future__ import annotations
+
+import argparse
+import concurrent.futures
+import os
+import random
+import re
+import sys
+from pathlib import Path
+from typing import Callable, Dict, List, NamedTuple, Optional, Sequence, Tuple
+
+from onfi_tools import chains
+from onfi_tools.bench.runs import HARD, MOST, OVER, PROGRAM, ROOT, WITHIN, answered, at_place, run, said, table
+from onfi_tools.device import spans_of
+from onfi_tools.drawn import DEVICES, MIX, REQUESTS, SETS, SHEET, drawn_wants
+from onfi_tools.policies import Device
+
+HARD_STATES = sorted((ROOT / "examples" / "hard-states").glob("*.onfi"))
+HARD_MOST = 100_000
+BATCHES = 6
+LIMITS = (200, 2_000, 65_536)
+PLAN = re.compile(r"ONFIPLAN 1\nfinish (\d+)\n.*^(ONFICERT [^\n]*\n([^\n]*)\n)\Z", re.DOTALL | re.MULTILINE)
+
+
+class Plan(NamedTuple):
+    """A plan: its finish in ns, the nodes of its search, the ms that it took, the bytes of its certificate."""
+
+    finish: int
+    nodes: int
+    ms: float
+    bytes: int
+    text: str
+
+
+def least_limit(answers: Callable[[int], bool], near: int) -> int:
+    """The least limit that answers, by few runs where it is the given one or a little above."""
+    low, high, step = near - 1, near, max(near // 64, 1)
+    while not answers(high):
+        low, high, step = high, min(high + step, MOST), 2 * step
+    if high == near and low and answers(low):
+        low, high = 0, low
+    while high - low > 1:
+        middle = (low + high) // 2
+        low, high = (low, middle) if answers(middle) else (middle, high)
+    return high
+
+
+def plan_of(program: str, options: Sequence[str], script: str) -> Optional[Plan]:
+    """The plan by these options; None where it is over within the greatest limit."""
+    words = [program, "plan", *options, "--limit"]
+    ran = run([*words, str(MOST)], script)
+    if (ran.status, ran.output) == (OVER, f"over {MOST}\n"):
+        return None
+    found = PLAN.match(ran.output)
+    if ran.status or not found:
+        raise ValueError(f"no plan, status {ran.status}: {ran.output[:200]}\n{script}")
+    tree = sum(not token.startswith("Y") for token in found[3].split())
+    nodes = least_limit(lambda limit: run([*words, str(limit)], script).status == 0, tree)
+    return Plan(int(found[1]), nodes, 1000 * ran.processor, len(found[2].encode()), ran.output)
+
+
+class Pair(NamedTuple):
+    """A script's plain plan and the one that remembers states."""
+
+    plain: Optional[Plan]
+    remembered: Optional[Plan]
+
+
+def measure(program: str, script: str) -> Pair:
+    pair = Pair(plan_of(program, [], script), plan_of(program, ["--remember"], script))
+    if pair.remembered:
+        answered(program, ["check", "--remember"], script + pair.remembered.text, f"accepted {pair.remembered.finish}\n")
+        if pair.plain and pair.plain.finish != pair.remembered.finish:
+            raise ValueError(f"finishes {pair.plain.finish} and {pair.remembered.finish}\n{script}")
+    return pair
+
+
+def quantiles(plans: Sequence[Optional[Plan]], field: str) -> str:
+    """The median, the one that 99 of 100 don't pass, the greatest."""
+    rising = sorted(getattr(plan, field) for plan in plans if plan)
+    places = (len(plans) // 2, -(-99 * len(plans) // 100) - 1, len(plans) - 1)
+    return " / ".join(said(at_place(rising, place)) for place in places)
+
+
+def set_rows(name: str, pairs: Sequence[Pair]) -> List[List[str]]:
+    both = (("plan", [pair.plain for pair in pairs]), ("plan --remember", [pair.remembered for pair in pairs]))
+    return [[name, f"`{word}`", said(plans.count(None)), *(quantiles(plans, field) for field in ("nodes", "ms", "bytes"))] for word, plans in both]
+
+
+def measure_sets(asked: argparse.Namespace, pool: concurrent.futures.Executor) -> List[str]:
+    rng = random.Random(asked.seed)
+    rows: List[List[str]] = []
+    pairs: List[Pair] = []
+    for name, draw in SETS.items():
+        scripts = [draw(rng) for _ in range(asked.scripts // len(SETS))]
+        own = list(pool.map(lambda script: measure(asked.program, script), scripts))
+        rows += set_rows(name, own)
+        pairs += own
+        print(f"measured: {name}", file=sys.stderr, flush=True)
+    both = sum(pair.plain is not None and pair.remembered is not None for pair in pairs)
+    accepted = sum(pair.remembered is not None for pair in pairs)
+    line = (f"seed {asked.seed}, {len(pairs):,} scripts; {both:,} finishes of both agree, {accepted:,} plans of "
+            f"`plan --remember` accepted by `check --remember`, {len(pairs) - accepted:,} over")
+    return [line, "", *table(["scripts", "by", "over", "nodes", "ms", "bytes of the certificate"], [*rows, *set_rows("all", pairs)], 2), ""]
+
+
+def measure_hard(asked: argparse.Namespace, pool: concurrent.futures.Executor) -> List[str]:
+    files = [] if asked.few else [*HARD, *HARD_STATES, *asked.hard]
+    pairs = list(pool.map(lambda path: measure(asked.program, path.read_text()), files))
+    few = sum(pair.remembered is not None and pair.remembered.nodes <= HARD_MOST for pair in pairs)
+    cells = [[cell for plan in pair for cell in ([said(plan.nodes), said(plan.ms), said(plan.bytes)] if plan else ["over", "", ""])] for pair in pairs]
+    columns = ["hard script", "nodes of `plan`", "ms", "bytes", "nodes of `plan --remember`", "ms", "bytes"]
+    return [f"{few} of {len(files)} hard scripts are answered by `plan --remember` within {HARD_MOST:,} nodes", "",
+            *table(columns, [[path.stem, *own] for path, own in zip(files, cells)])]
+
+
+class Within(NamedTuple):
+    """A plan by `plan --within`: its text, and by how much of its time it may be too long at most, in per cent."""
+
+    text: str
+    gap: float
+
+
+def within_of(program: str, state: chains.State, limit: int) -> Within:
+    """The plan within so many nodes, checked."""
+    script = state.script()
+    ran = run([program, "plan", "--within", "--limit", str(limit)], script)
+    finish, below = chains.finish_of(ran.output), chains.below_of(ran.output)
+    if ran.status or finish is None or below is None:
+        raise ValueError(f"plan --within, status {ran.status}: {ran.output[:200]}\n{script}")
+    text, status = (f"accepted {finish}\n", 0) if finish == below else (f"within {finish} {below}\n", WITHIN)
+    answered(program, ["check", "--within"], script + ran.output, text, status)
+    return Within(ran.output, 100 * (finish - below) / max(finish - state.bus, 1))
+
+
+class Batch(NamedTuple):
+    """One of a chain: which searches are over, by option and limit, and the gap of `plan --within` by limit."""
+
+    over: Dict[Tuple[str, int], bool]
+    gaps: Dict[int, float]
+
+
+SEARCHES = [("plan", limit) for limit in (2_000, MOST)] + [("plan --remember", limit) for limit in (*LIMITS, MOST)]
+
+
+def is_over(program: str, words: str, limit: int, script: str) -> bool:
+    return run([program, *words.split(), "--limit", str(limit)], script).status == OVER
+
+
+def chain_of(program: str, seed: str) -> List[Batch]:
+    """The batches of a chain that is drawn from this seed."""
+    rng = random.Random(seed)
+    bits, page, cycle = rng.choice(DEVICES)
+    device = Device(rng.choice((2, 4, 8)), bits, True, True, spans_of(page, {**SHEET, "tWC": cycle, "tRC": cycle}))
+    state, batches = chains.idle(device, drawn_wants(rng, device.luns, MIX)), []
+    for _ in range(BATCHES):
+        plans = {limit: within_of(program, state, limit) for limit in LIMITS}
+        over = {(words, limit): is_over(program, words, limit, state.script()) for words, limit in SEARCHES}
+        batches.append(Batch(over, {limit: plan.gap for limit, plan in plans.items()}))
+        text = plans[LIMITS[-1]].text
+        count = rng.randint(1, len(chains.phases_of(state, text)))
+        state = chains.filled(chains.left(state, text, count), drawn_wants(rng, device.luns, MIX), REQUESTS)
+    return batches
+
+
+def gaps_row(batches: Sequence[Batch], limit: int) -> List[str]:
+    gaps = sorted(batch.gaps[limit] for batch in batches if batch.gaps[limit] > 0)
+    cells = [f"{limit:,}", f"{100 - 100 * len(gaps) / len(batches):.1f} %"]
+    return cells + ([f"{gaps[place]:.1f} %" for place in (len(gaps) // 2, 9 * len(gaps) // 10, -1)] if gaps else ["", "", ""])
+
+
+def measure_chains(asked: argparse.Namespace, pool: concurrent.futures.Executor) -> List[str]:
+    seeds = [f"chain {asked.seed} {number}" for number in range(asked.chains)]
+    batches = [batch for chain in pool.map(lambda seed: chain_of(asked.program, seed), seeds) for batch in chain]
+    if not batches:
+        return []
+    over = [[f"`{words}`", f"{limit:,}", f"{sum(batch.over[words, limit] for batch in batches):,}"] for words, limit in SEARCHES]
+    columns = ["limit of `plan --within`", "proved optimal", "others too long by at most: median", "nine of ten", "greatest"]
+    return [f"seed {asked.seed}, {asked.chains:,} chains of {BATCHES} rolling batches: {len(batches):,}", "",
+            *table(["by", "limit", "over"], over), "", *table(columns, [gaps_row(batches, limit) for limit in LIMITS], 0), ""]
+
+
+def words(parser: argparse.ArgumentParser) -> None:
+    parser.add_argument("program", nargs="?", default=PROGRAM)
+    parser.add_argument("seed", nargs="?", type=int, default=1)
+    parser.add_argument("--scripts", type=int, default=2000)
+    parser.add_argument("--chains", type=int, default=400)
+    parser.add_argument("--jobs", type=int, default=os.cpu_count())
+    parser.add_argument("--hard", nargs="+", type=Path, default=[])
+    parser.add_argument("--few", action="store_true")
+
+
+def main(asked: argparse.Namespace) -> int:
+    with concurrent.futures.ThreadPoolExecutor(asked.jobs) as pool:
+        lines = measure_sets(asked, pool) + measure_chains(asked, pool) + measure_hard(asked, pool)
+    print("\n".join(lines))
+    return 0

@@ -1,0 +1,76 @@
+"""What a channel gets done where requests come while others run: greedy ways, plans, and phase by phase.
+
+    tools/bench rolling [--quick] [--library FOLDER] [--requests N] [--seed N] [--limit N] [--jobs N] [--rows FILE] [--ways NAMES]
+                        [--array SHARES]
+
+It builds the simulator of a channel (examples/simulator/rolling) with the library of FOLDER (lib; greedy ways alone need none), and runs
+216 configurations by each way, JOBS at a time (one for each processor), until N requests are answered (4,000; with erases at least
+10,000, since a shorter run gains by leaving them undone); the first tenth isn't measured. Each phase is judged by code of its own, and
+an illegal one ends the run with status 1. A search opens at most LIMIT nodes (100,000); where it is over, round robin decides until
+there is something new, and that is counted. Beside each throughput stands a bound that no scheduler passes, of the same requests
+(tools/onfi_tools/channel_bound.py says why).
+
+--quick takes twelve of the configurations, and of two of them early arrays and open loops, and 1,000 requests where no N is named:
+within ten minutes of processor time. --ways takes these ways alone, with commas between them, beside the one that each is compared
+with; --array has the arrays of all configurations take less than is stated, by shares such as 0.7-0.9, which LUNs report. --rows keeps all
+figures of all runs in a file, each as it comes; a run that the file has isn't run again.
+
+All that is random comes from the seed, the same for all ways: which requests come and when, and how long arrays take. Devices, buses,
+requests and ways are in docs/WORTH.md.
+"""
+
+from __future__ import annotations
+
+import argparse
+import os
+import tempfile
+from pathlib import Path
+from typing import List
+
+from onfi_tools.bench.runs import ROOT, processor_time
+from onfi_tools.rolling_tables import quick_tables, whole_tables
+from onfi_tools.rolling_use import ALL, TWELVE, Asked, Rows, build, measure, open_loops, readiness
+from onfi_tools.rolling_ways import BASE, GREEDY, QUICK, SOME, WAYS
+
+
+def quick(program: Path, ways: List[str], asked: Asked, rows: Rows) -> List[str]:
+    """The twelve configurations, early arrays of two, open loops of one."""
+    some = [way for way in ways if way in SOME or way not in QUICK]
+    twelve = measure(program, TWELVE, ways, asked, rows)
+    early = measure(program, [*readiness(TWELVE[0]), *readiness(TWELVE[10])], some, asked, rows)
+    return quick_tables([twelve, early, measure(program, open_loops(TWELVE[1]), some, asked, rows)], ways, some)
+
+
+def ways_named(names: str) -> List[str]:
+    """Ways by their names, after the one that each is compared with."""
+    found = names.split(",")
+    wrong = [name for name in found if name not in WAYS]
+    if wrong:
+        raise argparse.ArgumentTypeError(f"no way {wrong[0]}; there are {', '.join(WAYS)}")
+    return [BASE, *(name for name in found if name != BASE)]
+
+
+def words(parser: argparse.ArgumentParser) -> None:
+    parser.add_argument("--quick", action="store_true")
+    parser.add_argument("--library", type=Path, default=ROOT / "lib")
+    parser.add_argument("--requests", type=int)
+    parser.add_argument("--seed", type=int, default=1)
+    parser.add_argument("--limit", type=int, default=100_000)
+    parser.add_argument("--jobs", type=int, default=os.cpu_count() or 1)
+    parser.add_argument("--rows", type=Path)
+    parser.add_argument("--ways", type=ways_named)
+    parser.add_argument("--array", default="1-1")
+
+
+def main(asked: argparse.Namespace) -> int:
+    how = Asked(asked.requests or (1000 if asked.quick else 4000), asked.seed, asked.limit, asked.jobs)
+    ways, rows = asked.ways or (QUICK if asked.quick else ways_named(",".join(WAYS))), Rows(asked.rows)
+    with tempfile.TemporaryDirectory(prefix="rolling-") as room:
+        program = build(Path(room) / "rolling", asked.library if set(ways) - set(GREEDY) else None)
+        if asked.quick:
+            lines = quick(program, ways, how, rows)
+        else:
+            lines = whole_tables(measure(program, [of._replace(array=asked.array) for of in ALL], ways, how, rows), ways)
+    print("\n".join([*lines, "", f"seed {how.seed}, {how.requests:,} requests a run, at most {how.limit:,} nodes a search; "
+                                 f"{processor_time():,.0f} s of processor time"]))
+    return 0

@@ -1,0 +1,100 @@
+"""Runs of a built program, with what they took; and tables of what was measured."""
+
+from __future__ import annotations
+
+import os
+import resource
+import subprocess
+import tempfile
+import time
+from pathlib import Path
+from typing import Iterable, List, NamedTuple, Optional, Sequence, Union
+
+ROOT = Path(__file__).resolve().parent.parent.parent.parent
+PROGRAM = str(ROOT / "bin" / "onfi_sim")
+HARD = sorted((ROOT / "examples" / "hard").glob("*.onfi"))
+# The greatest limit, and statuses.
+MOST = 1 << 20
+OVER, WITHIN = 6, 8
+
+
+class Run(NamedTuple):
+    """What a program printed, its status, its seconds of processor time and by the clock, and its greatest memory in bytes where asked."""
+
+    output: str
+    status: int
+    processor: float
+    clock: float
+    peak: int = 0
+
+
+def most_memory(process: int) -> int:
+    """The most memory that a running process has had so far, in bytes; 0 where it is over."""
+    try:
+        for line in Path(f"/proc/{process}/status").read_text(encoding="ascii").splitlines():
+            if line.startswith("VmHWM:"):
+                return int(line.split()[1]) * 1024
+    except OSError:
+        pass
+    return 0
+
+
+def run(words: Sequence[str], given: Union[str, Path] = "", watched: bool = False) -> Run:
+    """Runs a program on a text, or on a file; where it is watched its memory is looked at again and again."""
+    with tempfile.TemporaryFile() as text, tempfile.TemporaryFile() as taken:
+        text.write(given.read_bytes() if isinstance(given, Path) else given.encode())
+        text.flush()
+        text.seek(0)
+        begun, peak, ended, status = time.perf_counter(), 0, 0, 0
+        child = subprocess.Popen(words, stdin=text, stdout=taken, stderr=subprocess.DEVNULL)
+        while not ended:
+            if watched:
+                peak = max(peak, most_memory(child.pid))
+                time.sleep(0.001)
+            ended, status, used = os.wait4(child.pid, os.WNOHANG if watched else 0)
+        clock = time.perf_counter() - begun
+        child.returncode = os.waitstatus_to_exitcode(status)
+        taken.seek(0)
+        return Run(taken.read().decode(), child.returncode, used.ru_utime + used.ru_stime, clock, peak)
+
+
+def answered(program: str, words: Sequence[str], given: str, text: str, status: int = 0) -> Run:
+    """A run that has to answer so; ValueError says what it answered."""
+    ran = run([program, *words], given)
+    if (ran.output, ran.status) != (text, status):
+        raise ValueError(f"{' '.join(words)}: {ran.output[:200]} in place of {text}\n{given[:4000]}")
+    return ran
+
+
+def best_of(runs: Sequence[Run]) -> Run:
+    return min(runs, key=lambda one: one.processor)
+
+
+def processor_time() -> float:
+    """Of all programs that have ended, in s."""
+    used = resource.getrusage(resource.RUSAGE_CHILDREN)
+    return used.ru_utime + used.ru_stime
+
+
+def built(compiler: str, words: Sequence[object], made: Path) -> Path:
+    """What a compiler makes."""
+    subprocess.run([compiler, *map(str, words), "-o", str(made)], check=True)
+    return made
+
+
+def row(cells: Iterable[object]) -> str:
+    return "| " + " | ".join(map(str, cells)) + " |"
+
+
+def table(columns: Sequence[str], rows: Iterable[Iterable[object]], left: int = 1) -> List[str]:
+    """Rows below their columns, of which the first so many are texts."""
+    return [row(columns), "|" + "---|" * left + "---:|" * (len(columns) - left), *map(row, rows)]
+
+
+def at_place(rising: Sequence[float], place: int) -> Optional[float]:
+    """The number at a place; none where there are fewer, as what is over counts as greater than all."""
+    return rising[place] if place < len(rising) else None
+
+
+def said(number: Optional[float]) -> str:
+    return "over" if number is None else f"{number:,.1f}" if isinstance(number, float) else f"{number:,}"

@@ -1,0 +1,177 @@
+"""Instructions of whole calls of the library for C, made in one process under callgrind."""
+
+from __future__ import annotations
+
+import random
+import re
+import subprocess
+import tempfile
+from pathlib import Path
+from typing import Dict, List, NamedTuple, Optional, Sequence
+
+from onfi_tools.bench.runs import ROOT, at_place, built, table
+from onfi_tools.bench.worth import drawn_batch
+from onfi_tools.drawn import SETS
+from onfi_tools.policies import script_of
+
+SEED = 1
+REQUESTS = (1, 3, 8)
+SCRIPTS = 40
+LIMIT = 100_000
+# Scripts whose certificates are checked: how many, of so many drawn, with that many nodes at least and at most.
+PLAIN = (12, 1000, 1000, 30_000)
+# The same of each set of `tools/bench remember`.
+KNOWN = (6, 500, 1000, 14_000)
+PART = re.compile(r"^desc: Trigger: Client Request: (\w+ \d+)$.*?^(?:summary|totals): (\d+)$", re.DOTALL | re.MULTILINE)
+
+
+class Answer(NamedTuple):
+    """What planning a script answered: its status, how many nodes its search opened, nodes and tokens of the certificate."""
+
+    status: int
+    opened: int
+    nodes: int
+    tokens: int
+
+
+class Cost(NamedTuple):
+    """An answer, and the instructions of planning and of checking; of checking 0 where there is no plan."""
+
+    answer: Answer
+    plan: int
+    check: int
+
+
+def parts_of(counts: str) -> Dict[str, int]:
+    """Instructions of each named part of a file of callgrind."""
+    return {name: int(instructions) for name, instructions in PART.findall(counts)}
+
+
+def answers_of(output: str) -> List[Answer]:
+    return [Answer(*map(int, line.split())) for line in output.splitlines()]
+
+
+def ranked(costs: Sequence[Optional[int]], place: int) -> Optional[float]:
+    """The cost at a place as they rise; none where that one isn't known, which counts as greater than all."""
+    return at_place(sorted(cost for cost in costs if cost is not None), place)
+
+
+def median(costs: Sequence[Optional[int]]) -> Optional[float]:
+    return ranked(costs, len(costs) // 2)
+
+
+def nine_of_ten(costs: Sequence[Optional[int]]) -> Optional[float]:
+    return ranked(costs, -(-9 * len(costs) // 10) - 1)
+
+
+def chosen(scripts: Sequence[Path], answers: Sequence[Answer], count: int, low: int, high: int) -> List[Path]:
+    """The first scripts whose searches opened so many nodes."""
+    return [script for script, answer in zip(scripts, answers) if answer.status == 0 and low <= answer.opened <= high][:count]
+
+
+def drawn_batches(count: int, requests: int) -> List[str]:
+    """Scripts of `tools/bench worth` with so many requests."""
+    rng = random.Random(SEED)
+    batches = [drawn_batch(rng, requests) for _ in range(count)]
+    return [script_of(batch.device, batch.wants) for batch in batches]
+
+
+def drawn_sets(count: int) -> Dict[str, List[str]]:
+    """So many scripts of each set of `tools/bench remember`."""
+    rng = random.Random(SEED)
+    return {name: [draw(rng) for _ in range(count)] for name, draw in SETS.items()}
+
+
+class Library:
+    """A library for C, and a program over it that plans and checks scripts. `room` is a folder for what it makes."""
+
+    def __init__(self, folder: Path, room: Path) -> None:
+        self.room = room
+        self.program = room / "count_calls"
+        sources = [f"-I{ROOT / 'include'}", f"-I{ROOT / 'tests/libraries'}", ROOT / "tools/onfi_tools/count_calls.c"]
+        built("cc", ["-O2", *sources, folder / "libonfi.a"], self.program)
+
+    def files_of(self, scripts: Sequence[str]) -> List[Path]:
+        folder = Path(tempfile.mkdtemp(dir=self.room))
+        files = [folder / f"{number}.onfi" for number in range(len(scripts))]
+        for file, script in zip(files, scripts):
+            file.write_text(script)
+        return files
+
+    def answers(self, way: str, limit: int, scripts: Sequence[Path]) -> List[Answer]:
+        words = [str(self.program), way, str(limit), *map(str, scripts)]
+        return answers_of(subprocess.run(words, check=True, capture_output=True, text=True).stdout)
+
+    def costs(self, way: str, limit: int, scripts: Sequence[Path]) -> List[Cost]:
+        counts = self.room / "counts"
+        tool = ["valgrind", "--tool=callgrind", "--combine-dumps=yes", f"--callgrind-out-file={counts}"]
+        words = [*tool, str(self.program), way, str(limit), *map(str, scripts)]
+        answers = answers_of(subprocess.run(words, check=True, capture_output=True, text=True).stdout)
+        parts = parts_of(counts.read_text(errors="replace"))
+        counts.unlink()
+        return [Cost(answer, parts[f"plan {at}"], parts.get(f"check {at}", 0)) for at, answer in enumerate(answers)]
+
+    def small(self, way: str, requests: int) -> List[Optional[int]]:
+        """Instructions of whole plans of scripts of `tools/bench worth`; none where one is over."""
+        costs = self.costs(way, LIMIT, self.files_of(drawn_batches(SCRIPTS, requests)))
+        return [None if cost.answer.status else cost.plan for cost in costs]
+
+    def plain(self) -> List[Cost]:
+        """Of the scripts whose plain certificates are checked."""
+        count, drawn, low, high = PLAIN
+        files = self.files_of(drawn_batches(drawn, REQUESTS[-1]))
+        return self.costs("plain", high, chosen(files, self.answers("plain", high, files), count, low, high))
+
+    def known(self) -> List[Cost]:
+        """Of the scripts of `tools/bench remember` whose searches open many nodes."""
+        count, drawn, low, high = KNOWN
+        files: List[Path] = []
+        for scripts in drawn_sets(drawn).values():
+            some = self.files_of(scripts)
+            files += chosen(some, self.answers("known", high, some), count, low, high)
+        return self.costs("known", high, files)
+
+
+def a_node(costs: Sequence[Cost]) -> float:
+    """Instructions of planning for each node, of the search and of the walk that writes the certificate together."""
+    return sum(cost.plan for cost in costs) / sum(cost.answer.opened + cost.answer.nodes for cost in costs)
+
+
+def a_token(costs: Sequence[Cost]) -> float:
+    return sum(cost.check for cost in costs) / sum(cost.answer.tokens for cost in costs)
+
+
+def told(number: Optional[float]) -> str:
+    return "over" if number is None else f"{number:,.0f}"
+
+
+def small_cell(costs: Sequence[Optional[int]]) -> str:
+    """Median, nine of ten, and the greatest of those that aren't over."""
+    known = [cost for cost in costs if cost is not None]
+    greatest = max(known) if known else None
+    over = f" ({len(costs) - len(known)} over)" if len(known) < len(costs) else ""
+    return f"{told(median(costs))} / {told(nine_of_ten(costs))} / {told(greatest)}{over}"
+
+
+def rows_of(library: Library) -> Dict[str, str]:
+    """What each row of the table says of a library."""
+    rows = {}
+    for way, word in (("plain", "plan"), ("known", "plan --remember"), ("early", "plan --early --within")):
+        for requests in REQUESTS:
+            rows[f"`{word}` of {requests}, median / nine of ten / greatest"] = small_cell(library.small(way, requests))
+    plain, known = library.plain(), library.known()
+    rows[f"a node of `plan`, with its certificate, {len(plain)} scripts"] = told(a_node(plain))
+    rows[f"a node of `plan --remember`, both walks, {len(known)} scripts"] = told(a_node(known))
+    rows["a token of `check`, read and checked"] = told(a_token(plain))
+    rows["a token of `check --remember`, read and checked"] = told(a_token(known))
+    return rows
+
+
+def columns(folders: Sequence[Path]) -> List[str]:
+    """A column for each folder's library."""
+    found = []
+    for folder in folders:
+        with tempfile.TemporaryDirectory() as room:
+            found.append(rows_of(Library(folder, Path(room))))
+    names = list(dict.fromkeys(name for rows in found for name in rows))
+    return table(["instructions of", *map(str, folders)], [[name, *(rows.get(name, "") for rows in found)] for name in names])
