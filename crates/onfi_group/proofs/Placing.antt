@@ -3,10 +3,11 @@ use Rattle.std.proofs.Common.{◌≡◌, ◌≢◌, ◌+◌, ◌<◌, ◌≤◌,
 use Rattle.std.specs.Prelude.{nat_lt, IsTrue}
 use Rattle.std.specs.List.{AllByRecursion as All}
 use Rattle.std.proofs.lemmas.Bool.{cases_Bool, lt-ltb, le-ltb, ltb-true}
+use Rattle.onfi_timing.specs.Kinds.{operation_of}
 use Rattle.onfi_request.specs.declared.want.Want.{Want}
 use Rattle.onfi_group.specs.declared.rules.Rules.{Rules}
 use Rattle.onfi_group.specs.Words.{Has}
-use Rattle.onfi_group.specs.Group.{IsGroup, kind_of, lun_of, page_of, above_planes, above_planes_of, may_group}
+use Rattle.onfi_group.specs.Group.{IsGroup, group_operation, kind_of, lun_of, page_of, above_planes, above_planes_of, may_group}
 use Rattle.onfi_group.specs.Joining.{joined}
 use Rattle.onfi_group.proofs.Rising.{PlanesRise}
 use Rattle.onfi_group.proofs.Lists.{All-weaker, All-has, All-each}
@@ -103,13 +104,13 @@ taken_out w (m ∷ ms) r (inr h) =
 pub part_is_group : (rules : Rules) (group part : List Want) → IsGroup rules group → 1 ≤ length part → length part ≤ length group → PlanesRise part → ((x : Want) → Has part x → Has group x) → IsGroup rules part
 part_is_group rules group [] g some short rises each = absurd (omega arith)
 part_is_group rules group (y ∷ ys) g some short rises each =
-    let kinds = λ (x : Want) (h : Has (y ∷ ys) x). All-has (λ m. m.kind ≡ kind_of group) group x g.kind (each x h) in
+    let kinds = λ (x : Want) (h : Has (y ∷ ys) x). All-has (λ m. operation_of m.kind ≡ group_operation group) group x g.operation (each x h) in
     let luns = λ (x : Want) (h : Has (y ∷ ys) x). All-has (λ m. m.lun ≡ lun_of group) group x g.lun (each x h) in
-    let kind : y.kind ≡ kind_of group = kinds y (inl refl) in
+    let kind : operation_of y.kind ≡ group_operation group = kinds y (inl refl) in
     record {
       some = some;
       few = let few = g.few in omega arith;
-      kind = All-each (λ m. m.kind ≡ y.kind) (y ∷ ys) (λ x h. kinds x h ∙ sym kind);
+      operation = All-each (λ m. operation_of m.kind ≡ operation_of y.kind) (y ∷ ys) (λ x h. kinds x h ∙ sym kind);
       lun = All-each (λ m. m.lun ≡ y.lun) (y ∷ ys) (λ x h. luns x h ∙ sym (luns y (inl refl)));
       planes = rises;
       page = λ no.
@@ -126,7 +127,7 @@ pub one_is_group : (rules : Rules) (w : Want) → IsGroup rules (w ∷ [])
 one_is_group rules w = record {
   some = omega arith;
   few = omega arith;
-  kind = (refl, tt);
+  operation = (refl, tt);
   lun = (refl, tt);
   planes = (tt, tt);
   page = λ no. (refl, tt);

@@ -2,9 +2,11 @@
 use Rattle.std.specs.Prelude.{◌≡◌, ℕ, ◌+◌, ◌/◌, ◌^◌, ◌<◌, ◌≤◌, ◌≢◌, ◌==◌, if◌then◌else◌, Bool, false, IsTrue, List, [], ◌∷◌, length, map, Some, slice_get}
 use Rattle.std.specs.List.{AllByRecursion as Each, filter, list_any}
 use Rattle.onfi_timing.specs.declared.kind.Kind.{Kind}
-use Rattle.onfi_timing.specs.declared.kind.Kind.TheVariants.{Read, Program, Erase}
+use Rattle.onfi_timing.specs.declared.kind.Kind.TheVariants.{Read as ReadPage}
+use Rattle.onfi_timing.specs.declared.operation.Operation.{Operation}
+use Rattle.onfi_timing.specs.declared.operation.Operation.TheVariants.{Read, Program, Erase}
 use Rattle.onfi_timing.specs.declared.timing.Timing.{Timing}
-use Rattle.onfi_timing.specs.Kinds.{spans_of}
+use Rattle.onfi_timing.specs.Kinds.{operation_of, spans_of}
 use Rattle.onfi_timing.specs.Phases.{Lengths}
 use Rattle.onfi_request.specs.declared.want.Want.{Want}
 use Rattle.onfi_group.specs.declared.rules.Rules.{Rules}
@@ -12,8 +14,11 @@ use Rattle.onfi_group.specs.Words.{Pairs}
 
 -- what a group's members share is that of its first
 abbrev pub kind_of : List Want → Kind
-kind_of [] = Read
+kind_of [] = ReadPage
 kind_of (m ∷ ms) = m.kind
+
+abbrev pub group_operation : List Want → Operation
+group_operation group = operation_of (kind_of group)
 
 abbrev pub lun_of : List Want → ℕ
 lun_of [] = 0
@@ -29,8 +34,8 @@ group_spans timing group =
     let shared = spans_of timing (kind_of group) in
     record { cmd = shared.cmd; gap = shared.gap; array = shared.array; posts = map (λ m. (spans_of timing m.kind).post) group }
 
--- may several of a kind run as one
-abbrev pub may_group : Rules → Kind → Bool
+-- may several of an operation run as one
+abbrev pub may_group : Rules → Operation → Bool
 may_group rules Read = rules.read
 may_group rules Program = rules.write
 may_group rules Erase = rules.write
@@ -43,16 +48,16 @@ abbrev pub above_planes_of : Rules → List Want → ℕ
 above_planes_of rules [] = 0
 above_planes_of rules (m ∷ ms) = above_planes rules m
 
--- one kind, one LUN, distinct planes in rising order, one page for read and program;
--- several only where the rule of the kind allows it, and where groups are strict with one block number above the plane bits
+-- one operation, whatever is put out, one LUN, distinct planes in rising order, one page for read and program;
+-- several only where the rule of the operation allows it, and where groups are strict with one block number above the plane bits
 pub record IsGroup (rules : Rules) (group : List Want) : Type 0 where
   pub some : 1 ≤ length group
   pub few : length group ≤ 4
-  pub kind : Each (λ m. m.kind ≡ kind_of group) group
+  pub operation : Each (λ m. operation_of m.kind ≡ group_operation group) group
   pub lun : Each (λ m. m.lun ≡ lun_of group) group
   pub planes : Pairs (λ a b. a.plane < b.plane) group
-  pub page : kind_of group ≢ Erase → Each (λ m. m.page ≡ page_of group) group
-  pub rule : 1 < length group → IsTrue (may_group rules (kind_of group))
+  pub page : group_operation group ≢ Erase → Each (λ m. m.page ≡ page_of group) group
+  pub rule : 1 < length group → IsTrue (may_group rules (group_operation group))
   pub strict : IsTrue rules.strict → Each (λ m. above_planes rules m ≡ above_planes_of rules group) group
 
 abbrev pub on_block : Want → Want → Bool

@@ -1,15 +1,16 @@
 -- How a group grows by one want.
 use Rattle.std.specs.Prelude.{◌≡◌, ◌≢◌, nat_lt, if◌then◌else◌, IsTrue, List, [], ◌∷◌, ◌++◌}
-use Rattle.onfi_timing.specs.declared.kind.Kind.TheVariants.{Erase}
+use Rattle.onfi_timing.specs.declared.operation.Operation.TheVariants.{Erase}
+use Rattle.onfi_timing.specs.Kinds.{operation_of}
 use Rattle.onfi_request.specs.declared.want.Want.{Want}
 use Rattle.onfi_group.specs.declared.rules.Rules.{Rules}
 use Rattle.onfi_group.specs.Group.{IsGroup, above_planes}
 
 -- what a member shares with the first one
 pub record GoesWith (rules : Rules) (first member : Want) : Type 0 where
-  pub kind : member.kind ≡ first.kind
+  pub operation : operation_of member.kind ≡ operation_of first.kind
   pub lun : member.lun ≡ first.lun
-  pub page : first.kind ≢ Erase → member.page ≡ first.page
+  pub page : operation_of first.kind ≢ Erase → member.page ≡ first.page
   pub strict : IsTrue rules.strict → above_planes rules member ≡ above_planes rules first
 
 -- the members and this want, at its plane

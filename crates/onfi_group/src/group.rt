@@ -1,12 +1,12 @@
 ghost use Rattle.std.specs.Prelude.{◌≡◌, ◌<◌, ◌≤◌, length, List, IsTrue, ◌↔◌};
 ghost use Rattle.std.specs.List.{insert};
-ghost use Rattle.onfi_group.specs.Group.{IsGroup, kind_of, lun_of, is_member};
+ghost use Rattle.onfi_group.specs.Group.{IsGroup, group_operation, kind_of, lun_of, is_member};
 ghost use Rattle.onfi_group.specs.Joining.{joined};
 
 use crate::members::is_group;
 use crate::rules::Rules;
 use onfi_request::Want;
-use onfi_timing::Kind;
+use onfi_timing::{Kind, Operation};
 use smallvec::SmallVec;
 use std::alloc::Global;
 use std::marker::Model;
@@ -73,6 +73,13 @@ impl Group {
         ensures { result ≡ kind_of self.now }
     {
         self.members()[0].kind
+    }
+
+    /// What its wants have the LUN do, as the first says.
+    pub fn operation(&self) -> Operation
+        ensures { result ≡ group_operation self.now }
+    {
+        self.kind().operation()
     }
 
     /// The LUN of its first want.

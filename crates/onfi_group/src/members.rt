@@ -6,9 +6,9 @@ ghost use Rattle.onfi_group.specs.Joining.{GoesWith};
 
 use crate::rules::Rules;
 use onfi_request::Want;
-use onfi_timing::Kind;
+use onfi_timing::Operation;
 
-/// Whether these wants may run as one operation (ONFI 4.2, multi-plane operations): one to four of one kind and LUN,
+/// Whether these wants may run as one operation (ONFI 4.2, multi-plane operations): one to four of one operation and LUN,
 /// planes rising, one page for reads and programs, several only where the rules allow it, and where the rules are
 /// strict with one block number above the plane bits.
 pub fn is_group(rules: &Rules, members: &[Want]) -> bool
@@ -18,19 +18,19 @@ pub fn is_group(rules: &Rules, members: &[Want]) -> bool
         return false;
     }
     let first = &members[0];
-    if members.len() > 1 && !may_group(rules, first.kind) {
+    if members.len() > 1 && !may_group(rules, first.kind.operation()) {
         return false;
     }
     all_go_with(rules, first, members) && planes_rise(members)
 }
 
-// Whether several wants of that kind may run as one.
-fn may_group(rules: &Rules, kind: Kind) -> bool
-    ensures { result ≡ may_group rules.now kind }
+// Whether several wants of that operation may run as one.
+fn may_group(rules: &Rules, operation: Operation) -> bool
+    ensures { result ≡ may_group rules.now operation }
 {
-    match kind {
-        Kind::Read => rules.read,
-        Kind::Program | Kind::Erase => rules.write,
+    match operation {
+        Operation::Read => rules.read,
+        Operation::Program | Operation::Erase => rules.write,
     }
 }
 
@@ -49,9 +49,10 @@ fn all_go_with(rules: &Rules, first: &Want, members: &[Want]) -> bool
 fn goes_with(rules: &Rules, first: &Want, member: &Want) -> bool
     ensures { IsTrue result ↔ GoesWith rules.now first.now member.now }
 {
-    member.kind == first.kind
+    let operation = first.kind.operation();
+    member.kind.operation() == operation
         && member.lun == first.lun
-        && (first.kind == Kind::Erase || member.page == first.page)
+        && (operation == Operation::Erase || member.page == first.page)
         && (!rules.strict || member.block >> rules.plane_bits == first.block >> rules.plane_bits)
 }
 

@@ -1,5 +1,5 @@
-ghost use Rattle.std.specs.Prelude.{◌≡◌, ◌<◌, ◌≤◌, ◌↔◌, length, IsTrue, IsOk, IsErrOf, MatchResult, Some, None};
-ghost use Rattle.onfi_request.specs.Range.{Fits, IsPageFor, IsLengthFor, fault_of};
+ghost use Rattle.std.specs.Prelude.{◌≡◌, ◌<◌, ◌≤◌, ◌↔◌, length, IsTrue, IsOk, IsErrOf, MatchResult, Some, None, false};
+ghost use Rattle.onfi_request.specs.Range.{Fits, IsPageFor, IsLengthFor, fault_of, is_whole};
 
 use crate::request::Request;
 use onfi_addr::Geometry;
@@ -21,12 +21,15 @@ pub enum RequestFault {
     /// A program doesn't bring exactly the bytes of a page, or a read or an erase brings bytes.
     #[error("a wrong count of data bytes")]
     DataLength,
+    /// A read names sectors: hosts ask for pages as a whole.
+    #[error("sectors of a page")]
+    Sectors,
 }
 
 /// Whether the device takes the request.
 ///
 /// # Errors
-/// The first of `Lun`, `Block`, `Page` and `DataLength` that holds.
+/// The first of `Lun`, `Block`, `Page`, `DataLength` and `Sectors` that holds.
 pub fn check(geometry: &Geometry, request: &Request) -> Result<(), RequestFault>
     ensures fits { IsOk result ↔ Fits geometry.now request.now }
     ensures lun { IsErrOf result RequestFault.Lun ↔ (geometry.now.lun_count ≤ request.now.place.lun) }
@@ -41,6 +44,12 @@ pub fn check(geometry: &Geometry, request: &Request) -> Result<(), RequestFault>
         × (request.now.place.block < geometry.now.blocks_per_lun)
         × IsPageFor geometry.now request.now.kind request.now.place.page
         × ¬ IsLengthFor geometry.now request.now.kind (length request.now.bytes)) }
+    ensures sectors { IsErrOf result RequestFault.Sectors
+        ↔ ((request.now.place.lun < geometry.now.lun_count)
+        × (request.now.place.block < geometry.now.blocks_per_lun)
+        × IsPageFor geometry.now request.now.kind request.now.place.page
+        × IsLengthFor geometry.now request.now.kind (length request.now.bytes)
+        × (is_whole request.now.kind ≡ false)) }
     ensures fault { MatchResult result (λ _. fault_of geometry.now request.now ≡ None) (λ fault. fault_of geometry.now request.now ≡ Some fault) }
 {
     if request.place.lun >= geometry.lun_count {
@@ -55,6 +64,9 @@ pub fn check(geometry: &Geometry, request: &Request) -> Result<(), RequestFault>
     if !has_length(geometry, request.kind, request.bytes.as_slice().len()) {
         return Err(RequestFault::DataLength);
     }
+    if let Kind::ReadSectors { .. } = request.kind {
+        return Err(RequestFault::Sectors);
+    }
     Ok(())
 }
 
@@ -62,7 +74,7 @@ fn names_a_page(geometry: &Geometry, kind: Kind, page: u16) -> bool
     ensures { IsTrue result ↔ IsPageFor geometry.now kind page }
 {
     match kind {
-        Kind::Read | Kind::Program => page < geometry.pages_per_block,
+        Kind::Read | Kind::ReadSectors { .. } | Kind::Program => page < geometry.pages_per_block,
         Kind::Erase => page == 0,
     }
 }
@@ -72,6 +84,6 @@ fn has_length(geometry: &Geometry, kind: Kind, count: usize) -> bool
 {
     match kind {
         Kind::Program => count == usize::from(geometry.page_bytes()),
-        Kind::Read | Kind::Erase => count == 0,
+        Kind::Read | Kind::ReadSectors { .. } | Kind::Erase => count == 0,
     }
 }

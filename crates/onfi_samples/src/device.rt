@@ -38,24 +38,24 @@ pub fn sample_timing() -> Timing
         × (result.program.post ≡ 280) }
     ensures erase { (result.erase.cmd ≡ 100) × (result.erase.gap ≡ 600) × (result.erase.array ≡ 1500100) × (result.erase.post ≡ 280) }
 {
-    Timing {
-        read: Spans {
+    Timing::new(
+        Spans {
             cmd: 140,
             gap: 600,
             array: 25_100,
             post: 11_000,
         },
-        program: Spans {
+        Spans {
             cmd: 10_800,
             gap: 600,
             array: 200_100,
             post: 280,
         },
-        erase: Spans {
+        Spans {
             cmd: 100,
             gap: 600,
             array: 1_500_100,
             post: 280,
         },
-    }
+    )
 }

@@ -24,7 +24,7 @@ pub fn request_of(
 {
     let count = match kind {
         Kind::Program => usize::from(geometry.page_bytes()),
-        Kind::Read | Kind::Erase => 0,
+        Kind::Read | Kind::ReadSectors { .. } | Kind::Erase => 0,
     };
     Ok(Request {
         kind,

@@ -1,5 +1,6 @@
 pub mod Lengths
 pub mod Phases
+pub mod Sectors
 pub mod Kinds
 pub mod Decimal
 pub mod Record
