@@ -7,7 +7,7 @@ use Rattle.onfi_timing.specs.Kinds.{operation_of}
 use Rattle.onfi_request.specs.declared.want.Want.{Want}
 use Rattle.onfi_group.specs.declared.rules.Rules.{Rules}
 use Rattle.onfi_group.specs.Words.{Has}
-use Rattle.onfi_group.specs.Group.{IsGroup, group_operation, kind_of, lun_of, page_of, above_planes, above_planes_of, may_group}
+use Rattle.onfi_group.specs.Group.{IsGroup, group_operation, lun_of, page_of, above_planes, above_planes_of, may_group}
 use Rattle.onfi_group.specs.Joining.{joined}
 use Rattle.onfi_group.proofs.Rising.{PlanesRise}
 use Rattle.onfi_group.proofs.Lists.{All-weaker, All-has, All-each}

@@ -1,6 +1,5 @@
 -- A number of wants that rises, one after the other.
 use Rattle.std.proofs.Common.{◌≡◌, ℕ, zero, suc, ◌-◌, ◌<◌, ◌≤◌, ◌↔◌, List, [], ◌∷◌, length, drop, get_or, subst, arith}
-use Rattle.std.specs.List.{AllByRecursion as All}
 use Rattle.onfi_request.specs.declared.want.Want.{Want}
 use Rattle.onfi_group.specs.Words.{Pairs}
 use Rattle.onfi_group.proofs.Lists.{All-weaker}

@@ -80,10 +80,9 @@ impl PartGate for Counting {
 // Two reads of two planes, which stay apart since the gap is longer than the array time. Of the root's moves three don't
 // yield, and none of the parts below them has more than four nodes.
 fn reads_apart(alloc: Global) -> Result<Problem, ProblemFault> {
-    let timing = Timing::new(
-        Spans::new(140, 30100, 25100, 11000).unwrap_or(sample_timing().read),
-        ..sample_timing()
-    );
+    let sample = sample_timing();
+    let read = Spans::new(140, 30100, 25100, 11000).unwrap_or(sample.read);
+    let timing = Timing::new(read, sample.program, sample.erase);
     let wants = [want(0, Kind::Read, 0, 0), want(1, Kind::Read, 0, 1)];
     let rules = Rules::new(true, true, false, 1);
     Problem::new(alloc, timing, rules, 0, &[free(), free()], &wants)

@@ -5,6 +5,8 @@ use Rattle.std.specs.List.{sum, AllByRecursion as All}
 use Rattle.std.proofs.lemmas.Bool.{lt-ltb}
 use Rattle.std.proofs.lemmas.List.Sums.{sum_by-cons}
 use Rattle.onfi_timing.specs.declared.kind.Kind.{Kind}
+use Rattle.onfi_timing.specs.Kinds.{operation_of}
+use Rattle.onfi_timing.proofs.Shared.{one_operation}
 use Rattle.onfi_timing.specs.declared.timing.Timing.{Timing}
 use Rattle.onfi_request.specs.declared.want.Want.{Want}
 use Rattle.onfi_problem.specs.declared.lun_state.LunState.{LunState}
@@ -56,14 +58,15 @@ group_waits spans (suc j) h =
     let a = times_le j spans.gap (max spans.gap spans.array) (omega arith) in
     rw (lt-ltb 0 (suc j) (omega arith), e) (omega arith)
 
--- wants of one kind take their commands, the longer of their waits, and the post of each
-members_time : (timing : Timing) (kind : Kind) (ms : List Want) → All (λ m. m.kind ≡ kind) ms →
+-- wants of one operation take their commands, the longer of their waits, and the post of each
+members_time : (timing : Timing) (kind : Kind) (ms : List Want) → All (λ m. operation_of m.kind ≡ operation_of kind) ms →
     total (want_time timing) ms ≡ length ms * ((spans_of timing kind).cmd + max (spans_of timing kind).gap (spans_of timing kind).array) + sum (map (λ m. (spans_of timing m.kind).post) ms)
 members_time timing kind [] h = omega arith
 members_time timing kind (m ∷ ms) h =
     let r = members_time timing kind ms h.1 in
     let q = sum_by-cons (λ x. x) (spans_of timing m.kind).post (map (λ m. (spans_of timing m.kind).post) ms) in
-    let a = ap (λ k. (spans_of timing k).cmd + max (spans_of timing k).gap (spans_of timing k).array) h.0 in
+    let same = one_operation timing kind m.kind (sym h.0) in
+    let a : (spans_of timing m.kind).cmd + max (spans_of timing m.kind).gap (spans_of timing m.kind).array ≡ (spans_of timing kind).cmd + max (spans_of timing kind).gap (spans_of timing kind).array = rw (same.cmd, same.gap, same.array) refl in
     omega arith
 
 horizon_step : (p : Problem) (m : Move) → IsProblem p → IsMove p m → horizon (after p m) ≤ horizon p
@@ -99,7 +102,7 @@ horizon_step p (Start ms) ip (since, at, st) =
     let y = posts_of_all spans k 0 (omega arith) in
     let w = one_wait spans k 0 in
     let v = startable_total (want_time p.timing) p ms ip st in
-    let o : total (want_time p.timing) ms ≡ k * (spans.cmd + max spans.gap spans.array) + sum spans.posts = members_time p.timing (kind_of ms) ms st.group.kind in
+    let o : total (want_time p.timing) ms ≡ k * (spans.cmd + max spans.gap spans.array) + sum spans.posts = members_time p.timing (kind_of ms) ms st.group.operation in
     let gw = group_waits spans k some in
     rw at (omega arith)
 

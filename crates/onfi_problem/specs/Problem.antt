@@ -3,12 +3,13 @@ use Rattle.std.specs.Prelude.{◌≡◌, ℕ, ◌*◌, ◌<◌, ◌≤◌, ◌==
 use Rattle.std.specs.List.{AllByRecursion as Each}
 use Rattle.onfi_timing.specs.declared.kind.Kind.TheVariants.{Erase}
 use Rattle.onfi_timing.specs.declared.timing.Timing.{Timing}
+use Rattle.onfi_timing.specs.Kinds.{IsStated}
 use Rattle.onfi_request.specs.declared.want.Want.{Want}
 use Rattle.onfi_group.specs.declared.rules.Rules.{Rules}
 use Rattle.onfi_group.specs.Words.{Pairs}
 use Rattle.onfi_group.specs.Group.{lun_of, IsGroup}
 use Rattle.onfi_problem.specs.declared.lun_state.LunState.{LunState}
-use Rattle.onfi_problem.specs.declared.lun_state.LunState.TheVariants.{Running}
+use Rattle.onfi_problem.specs.declared.lun_state.LunState.TheVariants.{Free, Running}
 
 -- the lengths of phases, what may be grouped, from when on the bus is free, what each LUN does, and the wants not started
 pub record Problem : Type 0 where
@@ -43,6 +44,19 @@ pub record IsProblem (p : Problem) : Type 0 where
   pub in_range : Each (λ w. w.lun < length p.luns) p.wants
   pub ids : Pairs (λ a b. a.id < b.id) p.wants
   pub running : (lun : ℕ) (group : List Want) (next ready : ℕ) → slice_get p.luns lun ≡ Some (Running group next ready) → IsRunning p.rules lun group next
+
+abbrev pub AreStated : Timing → List Want → Type 0
+AreStated timing wants = Each (λ w. IsStated timing w.kind) wants
+
+-- the timing states the lengths of what runs
+abbrev pub IsLunStated : Timing → LunState → Type 0
+IsLunStated timing (Free since) = Unit {0}
+IsLunStated timing (Running group next ready) = AreStated timing group
+
+-- the timing states lengths for all that waits or runs: posts of so many sectors
+pub record HasLengths (p : Problem) : Type 0 where
+  pub wants : AreStated p.timing p.wants
+  pub luns : Each (IsLunStated p.timing) p.luns
 
 abbrev pub has_id : ℕ → Want → Bool
 has_id id w = w.id == id

@@ -2,16 +2,18 @@
 
 ghost use Rattle.std.specs.Prelude.{ℕ, ◌<◌, ◌≤◌, ◌↔◌, IsTrue, length};
 ghost use Rattle.std.specs.List.{AllByRecursion as Each};
-ghost use Rattle.onfi_timing.specs.declared.timing.Timing.{Timing};
+ghost use Rattle.onfi_timing.specs.Kinds.{IsStated};
+ghost use Rattle.onfi_timing.specs.declared.timing.Timing.{Timing as AnyTiming};
+ghost use Rattle.onfi_group.specs.declared.rules.Rules.{Rules as AnyRules};
 ghost use Rattle.onfi_group.specs.Words.{Pairs};
-ghost use Rattle.onfi_problem.specs.Problem.{IsProblem, IsRunning, IsWant};
+ghost use Rattle.onfi_problem.specs.Problem.{AreStated, HasLengths, IsLunStated, IsProblem, IsRunning, IsWant};
 ghost use Rattle.onfi_problem.specs.Kept.{problem_of};
 ghost use Rattle.onfi_problem.specs.Checks.{IsLun, AreLuns};
 
 use crate::lun_state::LunState;
 use onfi_group::{Group, Rules};
 use onfi_request::Want;
-use onfi_timing::Kind;
+use onfi_timing::{Kind, Timing};
 
 // At most eight wants, and one to eight LUNs.
 pub fn is_small(luns: &[LunState], wants: &[Want]) -> bool
@@ -22,10 +24,49 @@ pub fn is_small(luns: &[LunState], wants: &[Want]) -> bool
 
 // Wants of these LUNs with rising numbers, and what runs is a group of its LUN.
 pub fn is_problem(rules: &Rules, luns: &[LunState], wants: &[Want]) -> bool
-    ensures { (timing : Timing) (bus_free : ℕ) →
+    ensures { (timing : AnyTiming) (bus_free : ℕ) →
         IsTrue result ↔ IsProblem (problem_of timing rules.now bus_free luns.now wants.now) }
 {
     is_list(wants, luns.len()) && are_luns(rules, luns)
+}
+
+// Whether the timing states lengths for all that waits or runs.
+pub fn has_lengths(timing: &Timing, luns: &[LunState], wants: &[Want]) -> bool
+    ensures { (rules : AnyRules) (bus_free : ℕ) →
+        IsTrue result ↔ HasLengths (problem_of timing.now rules bus_free luns.now wants.now) }
+{
+    are_stated(timing, wants) && are_luns_stated(timing, luns)
+}
+
+fn are_stated(timing: &Timing, wants: &[Want]) -> bool
+    ensures { IsTrue result ↔ AreStated timing.now wants.now }
+{
+    for want in wants {
+        if !timing.states(want.kind) {
+            return false;
+        }
+    }
+    true
+}
+
+fn are_luns_stated(timing: &Timing, luns: &[LunState]) -> bool
+    ensures { IsTrue result ↔ Each (IsLunStated timing.now) luns.now }
+{
+    for state in luns {
+        if !is_lun_stated(timing, state) {
+            return false;
+        }
+    }
+    true
+}
+
+fn is_lun_stated(timing: &Timing, state: &LunState) -> bool
+    ensures { IsTrue result ↔ IsLunStated timing.now state.now }
+{
+    match state {
+        LunState::Free { .. } => true,
+        LunState::Running { group, .. } => are_stated(timing, group.members()),
+    }
 }
 
 // Wants of so many LUNs, with rising numbers.

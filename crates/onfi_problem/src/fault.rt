@@ -10,6 +10,10 @@ pub enum ProblemFault {
     /// rise; or what runs on a LUN is not a group of it, or has no phase done, or none left.
     #[error("a want, or a running group, that the LUNs cannot have")]
     BadLun,
+    /// The timing states no lengths for a want or a member of what runs: no post of so many sectors (from
+    /// [`Timing::with_sectors`](onfi_timing::Timing::with_sectors)).
+    #[error("sectors without lengths")]
+    NoLengths,
     /// By the sum of all times the problem may end at 2^62 ns or later.
     #[error("times that reach 2^62 ns")]
     Clock,

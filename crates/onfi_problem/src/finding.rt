@@ -4,7 +4,7 @@ ghost use Rattle.std.specs.Prelude.{◌≡◌};
 ghost use Rattle.onfi_problem.specs.Faults.{TellsFault};
 ghost use Rattle.onfi_problem.specs.Kept.{problem_of};
 
-use crate::checks::{is_problem, is_small};
+use crate::checks::{has_lengths, is_problem, is_small};
 use crate::fault::ProblemFault;
 use crate::horizon::reaches_limit;
 use crate::lun_state::LunState;
@@ -28,6 +28,9 @@ pub fn find_fault(
     }
     if !is_problem(rules, luns, wants) {
         return Some(ProblemFault::BadLun);
+    }
+    if !has_lengths(timing, luns, wants) {
+        return Some(ProblemFault::NoLengths);
     }
     if reaches_limit(timing, bus_free, luns, wants) {
         return Some(ProblemFault::Clock);

@@ -1,5 +1,5 @@
 ghost use Rattle.std.specs.Prelude.{◌≡◌, ◌≤◌, ◌^◌, ◌↔◌, IfOk, IsErrOf, length};
-ghost use Rattle.onfi_problem.specs.Problem.{IsSmall, IsProblem};
+ghost use Rattle.onfi_problem.specs.Problem.{HasLengths, IsSmall, IsProblem};
 ghost use Rattle.onfi_problem.specs.Left.{InLimits, horizon};
 ghost use Rattle.onfi_problem.specs.Kept.{problem_of};
 
@@ -57,9 +57,10 @@ impl Problem {
     /// # Errors
     /// `TooMany` where there are more than eight wants, no LUN or more than eight; else `BadLun` where a want is of a
     /// LUN that is not there, on a plane above 3, or an erase with a page, numbers of the list do not rise, or what
-    /// runs on a LUN is not a group of it of which at least one phase is over and one is left; else `Clock` where the
-    /// greatest time, the rest of all running groups and all wants together reach 2^62 ns; `Memory` where memory for
-    /// the table of groups was refused.
+    /// runs on a LUN is not a group of it of which at least one phase is over and one is left; else `NoLengths`
+    /// where the timing states no post for so many sectors as a want or a member of what runs puts out; else `Clock`
+    /// where the greatest time, the rest of all running groups and all wants together reach 2^62 ns; `Memory` where
+    /// memory for the table of groups was refused.
     pub fn new(
         alloc: Global,
         timing: Timing,
@@ -70,14 +71,17 @@ impl Problem {
     ) -> Result<Problem, ProblemFault>
         ensures ok { IfOk result (λ p. p.problem ≡ problem_of timing rules bus_free luns.now wants.now) }
         ensures begun { IfOk result (λ p. p.all ≡ wants.now) }
+        ensures lengths { IfOk result (λ p. HasLengths p.problem) }
         ensures too_many { let p = problem_of timing rules bus_free luns.now wants.now in
             IsErrOf result ProblemFault.TooMany ↔ (IsSmall p → ⊥) }
         ensures bad_lun { let p = problem_of timing rules bus_free luns.now wants.now in
             IsErrOf result ProblemFault.BadLun ↔ (IsSmall p × (IsProblem p → ⊥)) }
+        ensures no_lengths { let p = problem_of timing rules bus_free luns.now wants.now in
+            IsErrOf result ProblemFault.NoLengths ↔ (IsSmall p × IsProblem p × (HasLengths p → ⊥)) }
         ensures clock { let p = problem_of timing rules bus_free luns.now wants.now in
-            IsErrOf result ProblemFault.Clock ↔ (IsSmall p × IsProblem p × (2 ^ 62 ≤ horizon p)) }
+            IsErrOf result ProblemFault.Clock ↔ (IsSmall p × IsProblem p × HasLengths p × (2 ^ 62 ≤ horizon p)) }
         ensures memory { let p = problem_of timing rules bus_free luns.now wants.now in
-            IsErrOf result ProblemFault.Memory → InLimits p }
+            IsErrOf result ProblemFault.Memory → InLimits p × HasLengths p }
     {
         if let Some(fault) = find_fault(&timing, &rules, bus_free, luns, wants) {
             return Err(fault);

@@ -16,6 +16,7 @@ use Rattle.onfi_schedule.specs.Schedule.{Phase, Before, end_of, latest}
 use Rattle.onfi_schedule.specs.Conditions.{states_of}
 use Rattle.onfi_schedule.specs.declared.slot.Slot.{Slot}
 use Rattle.onfi_schedule.specs.Slots.{phases_in, named_slot, named_in}
+use Rattle.onfi_timing.specs.Kinds.{operation_of}
 use Rattle.onfi_schedule.specs.Names.{Named, post_of, owner_of, names_of, name_of, named_from, StartsFirst}
 use Rattle.onfi_schedule.specs.declared.phase_name.Part.TheVariants.{Command}
 use Rattle.onfi_schedule.specs.declared.phase_name.PhaseName.{PhaseName}
@@ -30,7 +31,7 @@ read_past (x ∷ xs) (suc i) d h = read_past xs i d (omega (arith, h))
 pub names_are : (next lun : ℕ) (ms : List Want) → length (names_of next lun ms) ≡ 2 * length ms
 names_are next lun ms =
     let command : Want → PhaseName = λ m. record { part = Command; owner = owner_of next lun m } in
-    let post : Want → PhaseName = λ m. record { part = post_of m.kind; owner = owner_of next lun m } in
+    let post : Want → PhaseName = λ m. record { part = post_of (operation_of m.kind); owner = owner_of next lun m } in
     omega (arith, length-append (map command ms) (map post ms), length-map ms command, length-map ms post)
 
 -- the state at a place

@@ -7,6 +7,7 @@ use Rattle.onfi_timing.specs.declared.timing.Timing.{Timing}
 use Rattle.onfi_timing.specs.Phases.{Lengths, phase_length, wait_before}
 use Rattle.onfi_request.specs.declared.want.Want.{Want}
 use Rattle.onfi_timing.specs.declared.kind.Kind.TheVariants.{Read}
+use Rattle.onfi_timing.specs.Kinds.{operation_of}
 use Rattle.onfi_group.specs.declared.rules.Rules.{Rules}
 use Rattle.onfi_group.specs.Words.{Has, Pairs}
 use Rattle.onfi_group.specs.Group.{lun_of, group_spans, may_group, above_planes, IsGroup}
@@ -189,11 +190,11 @@ falls_back ms at starts some within le =
     }
 
 group_of : (rules : Rules) (m : Want) (ms : List Want) → length (m ∷ ms) ≤ 4 → All (GoesWith rules m) (m ∷ ms) → Pairs (λ a b. a.plane < b.plane) (m ∷ ms)
-    → (1 < length (m ∷ ms) → IsTrue (may_group rules m.kind)) → IsGroup rules (m ∷ ms)
+    → (1 < length (m ∷ ms) → IsTrue (may_group rules (operation_of m.kind))) → IsGroup rules (m ∷ ms)
 group_of rules m ms few all planes rule = record {
   some = omega arith;
   few = few;
-  kind = All-weaker (GoesWith rules m) (λ (w : Want). w.kind ≡ m.kind) (λ w g. g.kind) (m ∷ ms) all;
+  operation = All-weaker (GoesWith rules m) (λ (w : Want). operation_of w.kind ≡ operation_of m.kind) (λ w g. g.operation) (m ∷ ms) all;
   lun = All-weaker (GoesWith rules m) (λ (w : Want). w.lun ≡ m.lun) (λ w g. g.lun) (m ∷ ms) all;
   planes = planes;
   page = λ ne. All-weaker (GoesWith rules m) (λ (w : Want). w.page ≡ m.page) (λ w g. g.page ne) (m ∷ ms) all;
@@ -215,7 +216,7 @@ single_plane rules (m ∷ n ∷ ms) starts some few not goes planes =
     let last = get_or (m ∷ n ∷ ms) (length (m ∷ n ∷ ms) - 1) no_want in
     let e : length (m ∷ n ∷ ms) - 1 ≡ suc (length ms) = omega arith in
     let there : Has (n ∷ ms) last = rw e (Has-get (n ∷ ms) (length ms) no_want (omega arith)) in
-    elim (true_or_false (may_group rules m.kind)) [
+    elim (true_or_false (may_group rules (operation_of m.kind))) [
       | inl t ↦ absurd (not (group_of rules m (n ∷ ms) few (goes m refl) planes (λ h. t)))
       | inr f ↦ record { told = refl; other = any_has (λ (w : Want). w.id ≡ last.id) (n ∷ ms) last there refl; rule = f }
     ]

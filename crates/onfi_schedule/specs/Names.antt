@@ -1,8 +1,9 @@
 -- What the phases of a schedule are called.
 use Rattle.std.specs.Prelude.{ℕ, ◌+◌, ◌≤◌, ◌==◌, if◌then◌else◌, List, [], ◌∷◌, ◌++◌, length, map, slice_index_or}
 use Rattle.std.specs.List.{AllByRecursion as Each, flat_map}
-use Rattle.onfi_timing.specs.declared.kind.Kind.{Kind}
-use Rattle.onfi_timing.specs.declared.kind.Kind.TheVariants.{Read, Program, Erase}
+use Rattle.onfi_timing.specs.declared.operation.Operation.{Operation}
+use Rattle.onfi_timing.specs.declared.operation.Operation.TheVariants.{Read, Program, Erase}
+use Rattle.onfi_timing.specs.Kinds.{operation_of}
 use Rattle.onfi_timing.specs.declared.timing.Timing.{Timing}
 use Rattle.onfi_timing.specs.Phases.{Lengths, phase_length}
 use Rattle.onfi_request.specs.declared.want.Want.{Want}
@@ -23,8 +24,8 @@ pub record Named : Type 0 where
   pub name : PhaseName
   pub phase : Phase
 
--- what ends a request of that kind
-abbrev pub post_of : Kind → Part
+-- what ends a request of that operation
+abbrev pub post_of : Operation → Part
 post_of Read = DataOutput
 post_of Program = Status
 post_of Erase = Status
@@ -35,7 +36,7 @@ owner_of next lun m = if next == 0 then OfRequest m.id else OfRunning lun m.bloc
 
 -- the names of the phases of members: their commands in order, then their posts in order
 abbrev pub names_of : ℕ → ℕ → List Want → List PhaseName
-names_of next lun members = map (λ m. record { part = Command; owner = owner_of next lun m }) members ++ map (λ m. record { part = post_of m.kind; owner = owner_of next lun m }) members
+names_of next lun members = map (λ m. record { part = Command; owner = owner_of next lun m }) members ++ map (λ m. record { part = post_of (operation_of m.kind); owner = owner_of next lun m }) members
 
 -- the name of phase n of them; past the last one a name that means nothing
 abbrev pub name_of : ℕ → ℕ → List Want → ℕ → PhaseName

@@ -1,13 +1,14 @@
 -- What a breach says: its requests, LUNs, phases, counts and times are those of the schedule that break the condition.
 use Rattle.std.specs.Prelude.{◌≡◌, ◌≢◌, ℕ, ◌+◌, ◌*◌, ◌<◌, ◌≤◌, ◌⊎◌, false, IsTrue, List, [], ◌∷◌, length, drop, Some, slice_get}
 use Rattle.std.specs.List.{Any}
-use Rattle.onfi_timing.specs.declared.kind.Kind.TheVariants.{Erase}
+use Rattle.onfi_timing.specs.declared.operation.Operation.TheVariants.{Erase}
+use Rattle.onfi_timing.specs.Kinds.{operation_of}
 use Rattle.onfi_timing.specs.declared.timing.Timing.{Timing}
 use Rattle.onfi_timing.specs.Phases.{wait_before}
 use Rattle.onfi_request.specs.declared.want.Want.{Want}
 use Rattle.onfi_group.specs.declared.rules.Rules.{Rules}
 use Rattle.onfi_group.specs.Words.{Has}
-use Rattle.onfi_group.specs.Group.{kind_of, lun_of, group_spans, may_group, above_planes}
+use Rattle.onfi_group.specs.Group.{group_operation, lun_of, group_spans, may_group, above_planes}
 use Rattle.onfi_problem.specs.declared.lun_state.LunState.{LunState}
 use Rattle.onfi_problem.specs.declared.lun_state.LunState.TheVariants.{Free, Running}
 use Rattle.onfi_problem.specs.Problem.{Problem}
@@ -74,9 +75,9 @@ IsUnknown wants id m = (m.id ≡ id) × (Has wants m → ⊥)
 
 -- the member differs from the first one in that
 abbrev pub Differs : Rules → Difference → Want → Want → Type 0
-Differs rules Kinds first m = m.kind ≢ first.kind
+Differs rules Kinds first m = operation_of m.kind ≢ operation_of first.kind
 Differs rules Luns first m = m.lun ≢ first.lun
-Differs rules Pages first m = (first.kind ≢ Erase) × (m.page ≢ first.page)
+Differs rules Pages first m = (operation_of first.kind ≢ Erase) × (m.page ≢ first.page)
 Differs rules Blocks first m = IsTrue rules.strict × (above_planes rules m ≢ above_planes rules first)
 
 -- a group named by its first request, with a member of that number that differs so
@@ -93,7 +94,7 @@ pub record IsMixed (rules : Rules) (first request : ℕ) (difference : Differenc
 pub record IsSinglePlane (rules : Rules) (first request : ℕ) (g : Placed) : Type 0 where
   pub told : first_id g.members ≡ first
   pub other : Any (IsNumbered request) (drop 1 g.members)
-  pub rule : may_group rules (kind_of g.members) ≡ false
+  pub rule : may_group rules (group_operation g.members) ≡ false
 
 -- a group with two members, the one right after the other, whose planes don't rise
 pub record FallsBack (before request : ℕ) (g : Placed) : Type 0 where

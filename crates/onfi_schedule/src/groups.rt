@@ -15,18 +15,19 @@ use crate::breach::{Breach, Difference};
 use crate::placed::Placed;
 use onfi_group::{Rules, is_group};
 use onfi_request::Want;
-use onfi_timing::Kind;
+use onfi_timing::Operation;
 
 // What members share, and these two don't.
 fn difference(rules: &Rules, first: &Want, member: &Want) -> Option<Difference>
     ensures none { IsNone result → GoesWith rules.now first.now member.now }
     ensures told { IfSome result (λ d. Differs rules.now d first.now member.now) }
 {
-    if member.kind != first.kind {
+    let operation = first.kind.operation();
+    if member.kind.operation() != operation {
         Some(Difference::Kind)
     } else if member.lun != first.lun {
         Some(Difference::Lun)
-    } else if first.kind != Kind::Erase && member.page != first.page {
+    } else if operation != Operation::Erase && member.page != first.page {
         Some(Difference::Page)
     } else if rules.strict && member.block >> rules.plane_bits != first.block >> rules.plane_bits {
         Some(Difference::Block)

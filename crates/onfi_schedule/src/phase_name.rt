@@ -1,7 +1,7 @@
 ghost use Rattle.std.specs.Prelude.{◌≡◌};
 ghost use Rattle.onfi_schedule.specs.Names.{post_of};
 
-use onfi_timing::Kind;
+use onfi_timing::Operation;
 use std::fmt;
 
 /// What a phase is to its request.
@@ -17,13 +17,13 @@ pub enum Part {
 }
 
 impl Part {
-    /// What the post of that kind is.
-    pub(crate) fn post_of(kind: Kind) -> Part
-        ensures { result ≡ post_of kind }
+    /// What the post of that operation is.
+    pub(crate) fn post_of(operation: Operation) -> Part
+        ensures { result ≡ post_of operation }
     {
-        match kind {
-            Kind::Read => Part::DataOutput,
-            Kind::Program | Kind::Erase => Part::Status,
+        match operation {
+            Operation::Read => Part::DataOutput,
+            Operation::Program | Operation::Erase => Part::Status,
         }
     }
 

@@ -90,7 +90,7 @@ impl<'t> Work<'t> {
         let place = number.saturating_sub(members.len());
         match members.get(place) {
             Some(member) => PhaseName {
-                part: Part::post_of(member.kind),
+                part: Part::post_of(member.kind.operation()),
                 owner: self.owner(member),
             },
             None => PhaseName {

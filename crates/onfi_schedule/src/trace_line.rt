@@ -1,10 +1,10 @@
 //! The lines of a trace.
 
 ghost use Rattle.std.specs.Prelude.{◌≡◌, ◌++◌, IfOk, OnOk, string_bytes};
-ghost use Rattle.onfi_schedule.specs.Trace.{kind_word, part_word, opener_word, closer_word, times_text, work_text, place_text, bytes_text, request_word, request_text, line_text};
+ghost use Rattle.onfi_schedule.specs.Trace.{operation_word, part_word, opener_word, closer_word, times_text, work_text, place_text, bytes_text, request_word, request_text, line_text};
 
 use onfi_request::Want;
-use onfi_timing::Kind;
+use onfi_timing::Operation;
 use std::alloc::{AllocError, Global};
 
 /// The part of an operation that a phase is.
@@ -61,9 +61,9 @@ impl TraceLine {
     fn work(&self, alloc: Global) -> Result<String, AllocError>
         ensures { IfOk result (λ s. string_bytes s ≡ work_text self.now) }
     {
-        let kind = kind_word(self.want.kind);
+        let operation = operation_word(self.want.kind.operation());
         let part = part_word(self.part);
-        format!(in alloc; "{kind} {part} ")
+        format!(in alloc; "{operation} {part} ")
     }
 
     fn place(&self, alloc: Global) -> Result<String, AllocError>
@@ -77,8 +77,8 @@ impl TraceLine {
     fn bytes(&self, alloc: Global) -> Result<String, AllocError>
         ensures { IfOk result (λ s. string_bytes s ≡ bytes_text self.now) }
     {
-        let opener = opener_word(self.want.kind, self.part);
-        let closer = closer_word(self.want.kind, self.part, self.last);
+        let opener = opener_word(self.want.kind.operation(), self.part);
+        let closer = closer_word(self.want.kind.operation(), self.part, self.last);
         format!(in alloc; "{opener} {closer}")
     }
 
@@ -109,13 +109,13 @@ impl TraceLine {
     }
 }
 
-fn kind_word(kind: Kind) -> &'static str
-    ensures { result.now ≡ kind_word kind }
+fn operation_word(operation: Operation) -> &'static str
+    ensures { result.now ≡ operation_word operation }
 {
-    match kind {
-        Kind::Read => "read",
-        Kind::Program => "program",
-        Kind::Erase => "erase",
+    match operation {
+        Operation::Read => "read",
+        Operation::Program => "program",
+        Operation::Erase => "erase",
     }
 }
 
@@ -128,26 +128,26 @@ fn part_word(part: LinePart) -> &'static str
     }
 }
 
-fn opener_word(kind: Kind, part: LinePart) -> &'static str
-    ensures { result.now ≡ opener_word kind part }
+fn opener_word(operation: Operation, part: LinePart) -> &'static str
+    ensures { result.now ≡ opener_word operation part }
 {
-    match (part, kind) {
-        (LinePart::Command, Kind::Read) => "00",
-        (LinePart::Command, Kind::Program) => "80",
-        (LinePart::Command, Kind::Erase) => "60",
-        (LinePart::Post, Kind::Read) => "06",
+    match (part, operation) {
+        (LinePart::Command, Operation::Read) => "00",
+        (LinePart::Command, Operation::Program) => "80",
+        (LinePart::Command, Operation::Erase) => "60",
+        (LinePart::Post, Operation::Read) => "06",
         (LinePart::Post, _) => "78",
     }
 }
 
-fn closer_word(kind: Kind, part: LinePart, last: bool) -> &'static str
-    ensures { result.now ≡ closer_word kind part last }
+fn closer_word(operation: Operation, part: LinePart, last: bool) -> &'static str
+    ensures { result.now ≡ closer_word operation part last }
 {
-    match (part, kind) {
-        (LinePart::Command, Kind::Read) => if last { "30" } else { "32" },
-        (LinePart::Command, Kind::Program) => if last { "10" } else { "11" },
-        (LinePart::Command, Kind::Erase) => if last { "D0" } else { "D1" },
-        (LinePart::Post, Kind::Read) => "E0",
+    match (part, operation) {
+        (LinePart::Command, Operation::Read) => if last { "30" } else { "32" },
+        (LinePart::Command, Operation::Program) => if last { "10" } else { "11" },
+        (LinePart::Command, Operation::Erase) => if last { "D0" } else { "D1" },
+        (LinePart::Post, Operation::Read) => "E0",
         (LinePart::Post, _) => "-",
     }
 }

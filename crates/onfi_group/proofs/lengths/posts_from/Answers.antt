@@ -1,7 +1,5 @@
 use Rattle.std.proofs.Common.{arith}
-use Rattle.onfi_timing.specs.declared.kind.Kind.TheVariants.{Read}
-use Rattle.onfi_request.specs.declared.want.Want.{Want}
-use Rattle.onfi_group.proofs.PhaseLengths.{no_want, one_post}
+use Rattle.onfi_group.proofs.PhaseLengths.{one_post}
 use Rattle.onfi_group.proofs.lengths.posts_from.Goals as goal
 
 pub loop-at-preserved : goal.loop-at-preserved
