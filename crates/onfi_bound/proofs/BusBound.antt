@@ -1,6 +1,7 @@
 -- The bus bound is at most the finish of each run.
 use Rattle.std.proofs.Common.{◌≡◌, ◌≢◌, ℕ, suc, ◌+◌, ◌-◌, ◌≤◌, List, [], ◌∷◌, length, Some, refl, ap, arith}
 use Rattle.std.specs.Prelude.{slice_get}
+use Rattle.onfi_timing.proofs.Shared.{one_operation}
 use Rattle.onfi_request.specs.declared.want.Want.{Want}
 use Rattle.onfi_problem.specs.declared.lun_state.LunState.{LunState}
 use Rattle.onfi_problem.specs.declared.lun_state.LunState.TheVariants.{Free, Running}
@@ -8,7 +9,7 @@ use Rattle.onfi_problem.specs.Moves.{Move, Next, Start, IsMove, earliest, placed
 use Rattle.onfi_group.specs.Words.{total}
 use Rattle.onfi_problem.specs.Problem.{Problem, IsProblem}
 use Rattle.onfi_timing.specs.Kinds.{spans_of}
-use Rattle.onfi_group.specs.Group.{group_spans, lun_of}
+use Rattle.onfi_group.specs.Group.{kind_of, group_spans, lun_of}
 use Rattle.onfi_timing.specs.Phases.{phase_length}
 use Rattle.onfi_schedule.specs.Runs.{Step, Run}
 use Rattle.onfi_problem.specs.Left.{command_time, post_time, want_command, want_post, work}
@@ -44,7 +45,7 @@ bus_placed p (Start ms) t ip (since, at, st) =
     let b' = posts_after p.timing ms 0 c some in
     let wc = startable_total (want_command p.timing) p ms ip st in
     let wp = startable_total (want_post p.timing) p ms ip st in
-    let mc = total_same (want_command p.timing) spans.cmd ms (All-weaker _ _ (λ m e. ap (λ kind. (spans_of p.timing kind).cmd) e) ms st.group.kind) in
+    let mc = total_same (want_command p.timing) spans.cmd ms (All-weaker _ _ (λ (m : Want) e. (one_operation p.timing (kind_of ms) m.kind (sym e)).cmd) ms st.group.operation) in
     let mp = start_posts p.timing ms in
     omega arith
 

@@ -3,24 +3,25 @@ use Rattle.std.proofs.Common.{◌≡◌, ◌≢◌, ℕ, zero, suc, ◌+◌, ◌
 use Rattle.std.specs.Prelude.{min, ◌==◌, ◌^◌, if◌then◌else◌}
 use Rattle.std.specs.List.{AllByRecursion as All}
 use Rattle.std.proofs.lemmas.Bool.{cases_Bool, cases_eq, false≢true, eqb-true, eq-eqb, ne_eqb, lt-ltb}
-use Rattle.onfi_timing.specs.declared.kind.Kind.{Kind}
-use Rattle.onfi_timing.specs.declared.kind.Kind.TheVariants.{Read, Program, Erase}
+use Rattle.onfi_timing.proofs.Shared.{of_operation}
+use Rattle.onfi_timing.specs.declared.operation.Operation.{Operation}
+use Rattle.onfi_timing.specs.declared.operation.Operation.TheVariants.{Read, Program, Erase}
 use Rattle.onfi_timing.specs.declared.spans.Spans.{Spans}
 use Rattle.onfi_timing.specs.declared.timing.Timing.{Timing}
-use Rattle.onfi_timing.specs.Kinds.{spans_of}
+use Rattle.onfi_timing.specs.Kinds.{operation_of, operation_spans, spans_of}
 use Rattle.onfi_timing.specs.Phases.{Lengths}
 use Rattle.onfi_request.specs.declared.want.Want.{Want}
 use Rattle.onfi_group.specs.Words.{Has, Pairs, total, number}
-use Rattle.onfi_group.specs.Group.{IsGroup, kind_of, page_of, above_planes_of, group_spans}
+use Rattle.onfi_group.specs.Group.{group_operation, IsGroup, kind_of, page_of, above_planes_of, group_spans}
 use Rattle.onfi_problem.specs.Moves.{without}
 use Rattle.onfi_problem.specs.Left.{waits_left}
 use Rattle.onfi_group.specs.declared.rules.Rules.{Rules}
-use Rattle.onfi_bound.specs.Bounds.{sum_upto, same_kind, page_class, above_class, in_class, on_plane, deepest, class_waits, waits_of, kind_waits, all_waits}
+use Rattle.onfi_bound.specs.Bounds.{sum_upto, same_operation, page_class, above_class, in_class, on_plane, deepest, class_waits, waits_of, operation_waits, all_waits}
 use Rattle.onfi_problem.proofs.Perm.{All-weaker, All-both, All-each}
 use Rattle.onfi_problem.proofs.Wants.{Rising}
 use Rattle.onfi_problem.proofs.Limits.{times_le}
 use Rattle.onfi_problem.proofs.Totals.{split_total}
-use Rattle.onfi_bound.proofs.Steps.{one_kind}
+use Rattle.onfi_bound.proofs.Steps.{one_operation_of}
 
 sum_zero : (n : ℕ) (f : ℕ → ℕ) → ((i : ℕ) → f i ≡ 0) → sum_upto n f ≡ 0
 unfolding sum_upto
@@ -57,92 +58,92 @@ total_le : {A : Type 0} (f g : A → ℕ) (xs : List A) → ((x : A) → f x ≤
 total_le f g [] h = omega arith
 total_le f g (x ∷ xs) h = let e = total_le f g xs h in let a = h x in omega arith
 
-pub same_kind_is : (a b : Kind) → same_kind a b ≡ true → a ≡ b
-same_kind_is Read Read h = refl
-same_kind_is Program Program h = refl
-same_kind_is Erase Erase h = refl
-same_kind_is Read Program h = absurd (false≢true h)
-same_kind_is Read Erase h = absurd (false≢true h)
-same_kind_is Program Read h = absurd (false≢true h)
-same_kind_is Program Erase h = absurd (false≢true h)
-same_kind_is Erase Read h = absurd (false≢true h)
-same_kind_is Erase Program h = absurd (false≢true h)
+pub same_operation_is : (a b : Operation) → same_operation a b ≡ true → a ≡ b
+same_operation_is Read Read h = refl
+same_operation_is Program Program h = refl
+same_operation_is Erase Erase h = refl
+same_operation_is Read Program h = absurd (false≢true h)
+same_operation_is Read Erase h = absurd (false≢true h)
+same_operation_is Program Read h = absurd (false≢true h)
+same_operation_is Program Erase h = absurd (false≢true h)
+same_operation_is Erase Read h = absurd (false≢true h)
+same_operation_is Erase Program h = absurd (false≢true h)
 
-pub same_kind_self : (a : Kind) → same_kind a a ≡ true
-same_kind_self Read = refl
-same_kind_self Program = refl
-same_kind_self Erase = refl
+pub same_operation_self : (a : Operation) → same_operation a a ≡ true
+same_operation_self Read = refl
+same_operation_self Program = refl
+same_operation_self Erase = refl
 
 -- the class of a group's members
-abbrev InClass : Rules → Kind → ℕ → ℕ → List Want → Type 0
-InClass rules kind page above ms = All (λ m. (m.kind ≡ kind) × (page_class m ≡ page) × (above_class rules m ≡ above)) ms
+abbrev InClass : Rules → Operation → ℕ → ℕ → List Want → Type 0
+InClass rules operation page above ms = All (λ m. (operation_of m.kind ≡ operation) × (page_class m ≡ page) × (above_class rules m ≡ above)) ms
 
 abbrev group_page : List Want → ℕ
-group_page ms = if same_kind Erase (kind_of ms) then 0 else page_of ms
+group_page ms = if same_operation Erase (group_operation ms) then 0 else page_of ms
 
 abbrev group_above : Rules → List Want → ℕ
 group_above rules ms = if rules.strict then above_planes_of rules ms else 0
 
 -- another class
-abbrev Other : Kind → ℕ → ℕ → Kind → ℕ → ℕ → Type 0
-Other kind page above kind' page' above' = (same_kind kind' kind ≡ false) ⊎ ((page' ≢ page) ⊎ (above' ≢ above))
+abbrev Other : Operation → ℕ → ℕ → Operation → ℕ → ℕ → Type 0
+Other operation page above operation' page' above' = (same_operation operation' operation ≡ false) ⊎ ((page' ≢ page) ⊎ (above' ≢ above))
 
-pub not_in : (rules : Rules) (kind : Kind) (page above : ℕ) (w : Want) → Other w.kind (page_class w) (above_class rules w) kind page above → in_class rules kind page above w ≡ false
-not_in rules kind page above w (inl k) = rw k refl
-not_in rules kind page above w (inr (inl d)) = elim (cases_Bool (same_kind kind w.kind)) [ inl k ↦ rw (k, ne_eqb (page_class w) page (λ e. d (sym e))) refl | inr k ↦ rw k refl ]
-not_in rules kind page above w (inr (inr d)) = elim (cases_Bool (same_kind kind w.kind)) [
+pub not_in : (rules : Rules) (operation : Operation) (page above : ℕ) (w : Want) → Other (operation_of w.kind) (page_class w) (above_class rules w) operation page above → in_class rules operation page above w ≡ false
+not_in rules operation page above w (inl k) = rw k refl
+not_in rules operation page above w (inr (inl d)) = elim (cases_Bool (same_operation operation (operation_of w.kind))) [ inl k ↦ rw (k, ne_eqb (page_class w) page (λ e. d (sym e))) refl | inr k ↦ rw k refl ]
+not_in rules operation page above w (inr (inr d)) = elim (cases_Bool (same_operation operation (operation_of w.kind))) [
   | inl k ↦ elim (cases_Bool (page_class w == page)) [ inl q ↦ rw (k, q, ne_eqb (above_class rules w) above (λ e. d (sym e))) refl | inr q ↦ rw (k, q) refl ]
   | inr k ↦ rw k refl
 ]
 
-none_in : (rules : Rules) (kind : Kind) (page above : ℕ) (kind' : Kind) (page' above' : ℕ) (ms : List Want) → InClass rules kind page above ms → Other kind page above kind' page' above' → number (in_class rules kind' page' above') ms ≡ 0
-none_in rules kind page above kind' page' above' [] h d = refl
-none_in rules kind page above kind' page' above' (m ∷ ms) h d =
-    let r = none_in rules kind page above kind' page' above' ms h.1 d in
-    let no = not_in rules kind' page' above' m (rw (h.0.1, h.0.2, h.0.0) d) in
+none_in : (rules : Rules) (operation : Operation) (page above : ℕ) (operation' : Operation) (page' above' : ℕ) (ms : List Want) → InClass rules operation page above ms → Other operation page above operation' page' above' → number (in_class rules operation' page' above') ms ≡ 0
+none_in rules operation page above operation' page' above' [] h d = refl
+none_in rules operation page above operation' page' above' (m ∷ ms) h d =
+    let r = none_in rules operation page above operation' page' above' ms h.1 d in
+    let no = not_in rules operation' page' above' m (rw (h.0.1, h.0.2, h.0.0) d) in
     rw no (omega arith)
 
-all_in : (rules : Rules) (kind : Kind) (page above : ℕ) (ms : List Want) → InClass rules kind page above ms → number (in_class rules kind page above) ms ≡ length ms
-all_in rules kind page above [] h = refl
-all_in rules kind page above (m ∷ ms) h =
-    let r = all_in rules kind page above ms h.1 in
-    let k : same_kind kind m.kind ≡ true = rw h.0.0 (same_kind_self kind) in
-    let yes : in_class rules kind page above m ≡ true = rw (k, eq-eqb (page_class m) page h.0.1, eq-eqb (above_class rules m) above h.0.2) refl in
+all_in : (rules : Rules) (operation : Operation) (page above : ℕ) (ms : List Want) → InClass rules operation page above ms → number (in_class rules operation page above) ms ≡ length ms
+all_in rules operation page above [] h = refl
+all_in rules operation page above (m ∷ ms) h =
+    let r = all_in rules operation page above ms h.1 in
+    let k : same_operation operation (operation_of m.kind) ≡ true = rw h.0.0 (same_operation_self operation) in
+    let yes : in_class rules operation page above m ≡ true = rw (k, eq-eqb (page_class m) page h.0.1, eq-eqb (above_class rules m) above h.0.2) refl in
     rw yes (omega arith)
 
-plane_in : (rules : Rules) (kind : Kind) (page above plane : ℕ) (ws : List Want) → number (on_plane rules kind page above plane) ws ≤ number (in_class rules kind page above) ws
-plane_in rules kind page above plane ws = total_le _ _ ws (λ w. elim (cases_Bool (in_class rules kind page above w)) [
+plane_in : (rules : Rules) (operation : Operation) (page above plane : ℕ) (ws : List Want) → number (on_plane rules operation page above plane) ws ≤ number (in_class rules operation page above) ws
+plane_in rules operation page above plane ws = total_le _ _ ws (λ w. elim (cases_Bool (in_class rules operation page above w)) [
   | inl k ↦ elim (cases_Bool (w.plane == plane)) [ inl q ↦ simp (k, q) (omega arith) | inr q ↦ simp (k, q) (omega arith) ]
   | inr k ↦ simp k (omega arith)
 ])
 
 -- at most one member on a plane
-none_on : (rules : Rules) (kind : Kind) (page above plane : ℕ) (ms : List Want) → All (λ m. plane < m.plane) ms → number (on_plane rules kind page above plane) ms ≡ 0
-none_on rules kind page above plane [] h = refl
-none_on rules kind page above plane (m ∷ ms) h =
-    let r = none_on rules kind page above plane ms h.1 in
+none_on : (rules : Rules) (operation : Operation) (page above plane : ℕ) (ms : List Want) → All (λ m. plane < m.plane) ms → number (on_plane rules operation page above plane) ms ≡ 0
+none_on rules operation page above plane [] h = refl
+none_on rules operation page above plane (m ∷ ms) h =
+    let r = none_on rules operation page above plane ms h.1 in
     let lt = h.0 in
     let d : (m.plane == plane) ≡ false = ne_eqb m.plane plane (λ e. omega arith) in
-    elim (cases_Bool (in_class rules kind page above m)) [ inl k ↦ simp (k, d) (omega arith) | inr k ↦ simp k (omega arith) ]
+    elim (cases_Bool (in_class rules operation page above m)) [ inl k ↦ simp (k, d) (omega arith) | inr k ↦ simp k (omega arith) ]
 
-one_on : (rules : Rules) (kind : Kind) (page above plane : ℕ) (ms : List Want) → Pairs (λ a b. a.plane < b.plane) ms → number (on_plane rules kind page above plane) ms ≤ 1
-one_on rules kind page above plane [] h = omega arith
-one_on rules kind page above plane (m ∷ ms) h =
-    let r = one_on rules kind page above plane ms h.1 in
-    elim (cases_Bool (in_class rules kind page above m)) [
+one_on : (rules : Rules) (operation : Operation) (page above plane : ℕ) (ms : List Want) → Pairs (λ a b. a.plane < b.plane) ms → number (on_plane rules operation page above plane) ms ≤ 1
+one_on rules operation page above plane [] h = omega arith
+one_on rules operation page above plane (m ∷ ms) h =
+    let r = one_on rules operation page above plane ms h.1 in
+    elim (cases_Bool (in_class rules operation page above m)) [
       | inl k ↦ elim (cases_Bool (m.plane == plane)) [
         | inl q ↦ (
             let e = eqb-true m.plane plane q in
-            let z = none_on rules kind page above plane ms (All-weaker _ _ (λ b lt. omega arith) ms h.0) in
+            let z = none_on rules operation page above plane ms (All-weaker _ _ (λ b lt. omega arith) ms h.0) in
             simp (k, q) (omega arith))
         | inr q ↦ simp (k, q) (omega arith)
       ]
       | inr k ↦ simp k (omega arith)
     ]
 
-pub deepest_in : (rules : Rules) (kind : Kind) (page above : ℕ) (vs : List Want) → deepest rules kind page above vs ≤ number (in_class rules kind page above) vs
-deepest_in rules kind page above vs =
-    let a = plane_in rules kind page above 0 vs in let b = plane_in rules kind page above 1 vs in let c = plane_in rules kind page above 2 vs in let d = plane_in rules kind page above 3 vs in
+pub deepest_in : (rules : Rules) (operation : Operation) (page above : ℕ) (vs : List Want) → deepest rules operation page above vs ≤ number (in_class rules operation page above) vs
+deepest_in rules operation page above vs =
+    let a = plane_in rules operation page above 0 vs in let b = plane_in rules operation page above 1 vs in let c = plane_in rules operation page above 2 vs in let d = plane_in rules operation page above 3 vs in
     omega arith
 
 -- g·array + (n-g)·min(gap, array), as n·min + g·(array - min)
@@ -180,9 +181,9 @@ module _ (timing : Timing) (rules : Rules) (ms ws : List Want) (group : IsGroup 
   own_wait = waits_left (group_spans timing ms) (length ms) 0
 
   pages : All (λ m. page_class m ≡ group_page ms) ms
-  pages = elim (cases_Bool (same_kind Erase (kind_of ms))) [
-    | inl k ↦ All-weaker _ _ (λ m e. simp (e, k) refl) ms group.kind
-    | inr k ↦ All-both _ _ _ (λ m e q. simp (e, k) q) ms group.kind (group.page (λ e. false≢true (sym k ∙ ap (same_kind Erase) e)))
+  pages = elim (cases_Bool (same_operation Erase (group_operation ms))) [
+    | inl k ↦ All-weaker _ _ (λ m e. simp (e, k) refl) ms group.operation
+    | inr k ↦ All-both _ _ _ (λ m e q. simp (e, k) q) ms group.operation (group.page (λ e. false≢true (sym k ∙ ap (same_operation Erase) e)))
   ]
 
   aboves : All (λ m. above_class rules m ≡ group_above rules ms) ms
@@ -191,46 +192,47 @@ module _ (timing : Timing) (rules : Rules) (ms ws : List Want) (group : IsGroup 
     | inr k ↦ All-each _ ms (λ m h. simp k refl)
   ]
 
-  classes : InClass rules (kind_of ms) (group_page ms) (group_above rules ms) ms
-  classes = All-both _ _ _ (λ m a b. (a, b.0, b.1)) ms group.kind (All-both _ _ (λ m. (page_class m ≡ group_page ms) × (above_class rules m ≡ group_above rules ms)) (λ m a b. (a, b)) ms pages aboves)
+  classes : InClass rules (group_operation ms) (group_page ms) (group_above rules ms) ms
+  classes = All-both _ _ _ (λ m a b. (a, b.0, b.1)) ms group.operation (All-both _ _ (λ m. (page_class m ≡ group_page ms) × (above_class rules m ≡ group_above rules ms)) (λ m a b. (a, b)) ms pages aboves)
 
   split_number : (test : Want → Bool) → number test ws ≡ number test ms + number test left
   split_number test = split_total (λ w. if test w then 1 else 0) ms ws rising wanted apart
 
-  plane_step : (kind : Kind) (page above plane : ℕ) → number (on_plane rules kind page above plane) ws ≤ 1 + number (on_plane rules kind page above plane) left
-  plane_step kind page above plane = let a = split_number (on_plane rules kind page above plane) in let b = one_on rules kind page above plane ms group.planes in omega arith
+  plane_step : (operation : Operation) (page above plane : ℕ) → number (on_plane rules operation page above plane) ws ≤ 1 + number (on_plane rules operation page above plane) left
+  plane_step operation page above plane = let a = split_number (on_plane rules operation page above plane) in let b = one_on rules operation page above plane ms group.planes in omega arith
 
-  same_class : (kind : Kind) (page above : ℕ) → Other (kind_of ms) (group_page ms) (group_above rules ms) kind page above → waits_of timing rules ws kind page above ≡ waits_of timing rules left kind page above
-  same_class kind page above d =
-      let z = none_in rules (kind_of ms) (group_page ms) (group_above rules ms) kind page above ms classes d in
-      let n : number (in_class rules kind page above) ws ≡ number (in_class rules kind page above) left = omega (arith, split_number (in_class rules kind page above)) in
-      let p : (plane : ℕ) → number (on_plane rules kind page above plane) ws ≡ number (on_plane rules kind page above plane) left = λ plane. omega (arith, split_number (on_plane rules kind page above plane), plane_in rules kind page above plane ms) in
+  same_class : (operation : Operation) (page above : ℕ) → Other (group_operation ms) (group_page ms) (group_above rules ms) operation page above → waits_of timing rules ws operation page above ≡ waits_of timing rules left operation page above
+  same_class operation page above d =
+      let z = none_in rules (group_operation ms) (group_page ms) (group_above rules ms) operation page above ms classes d in
+      let n : number (in_class rules operation page above) ws ≡ number (in_class rules operation page above) left = omega (arith, split_number (in_class rules operation page above)) in
+      let p : (plane : ℕ) → number (on_plane rules operation page above plane) ws ≡ number (on_plane rules operation page above plane) left = λ plane. omega (arith, split_number (on_plane rules operation page above plane), plane_in rules operation page above plane ms) in
       rw (n, p 0, p 1, p 2, p 3) refl
 
-  own_class : waits_of timing rules ws (kind_of ms) (group_page ms) (group_above rules ms) ≤ own_wait + waits_of timing rules left (kind_of ms) (group_page ms) (group_above rules ms)
+  own_class : waits_of timing rules ws (group_operation ms) (group_page ms) (group_above rules ms) ≤ own_wait + waits_of timing rules left (group_operation ms) (group_page ms) (group_above rules ms)
   own_class =
-      let kind = kind_of ms in
+      let operation = group_operation ms in
       let page = group_page ms in
       let above = group_above rules ms in
-      let q : number (in_class rules kind page above) ws ≡ length ms + number (in_class rules kind page above) left = omega (arith, split_number (in_class rules kind page above), all_in rules kind page above ms classes) in
-      let a : deepest rules kind page above ws ≤ 1 + deepest rules kind page above left = omega (arith, plane_step kind page above 0, plane_step kind page above 1, plane_step kind page above 2, plane_step kind page above 3) in
-      class_step (spans_of timing (kind_of ms)) (group_spans timing ms).posts (length ms) (number (in_class rules kind page above) ws) (number (in_class rules kind page above) left) (deepest rules kind page above ws) (deepest rules kind page above left) group.some q a (deepest_in rules kind page above ws) (deepest_in rules kind page above left)
+      let q : number (in_class rules operation page above) ws ≡ length ms + number (in_class rules operation page above) left = omega (arith, split_number (in_class rules operation page above), all_in rules operation page above ms classes) in
+      let a : deepest rules operation page above ws ≤ 1 + deepest rules operation page above left = omega (arith, plane_step operation page above 0, plane_step operation page above 1, plane_step operation page above 2, plane_step operation page above 3) in
+      let same = of_operation timing (kind_of ms) in
+      rw (sym same.gap, sym same.array) (class_step (spans_of timing (kind_of ms)) (group_spans timing ms).posts (length ms) (number (in_class rules operation page above) ws) (number (in_class rules operation page above) left) (deepest rules operation page above ws) (deepest rules operation page above left) group.some q a (deepest_in rules operation page above ws) (deepest_in rules operation page above left))
 
-  kind_step : (kind : Kind) → kind_waits timing rules ws kind ≤ (if same_kind kind (kind_of ms) then own_wait else 0) + kind_waits timing rules left kind
-  kind_step kind =
-      elim (cases_Bool (same_kind kind (kind_of ms))) [
+  kind_step : (operation : Operation) → operation_waits timing rules ws operation ≤ (if same_operation operation (group_operation ms) then own_wait else 0) + operation_waits timing rules left operation
+  kind_step operation =
+      elim (cases_Bool (same_operation operation (group_operation ms))) [
         | inl k ↦ (
-            let e = same_kind_is kind (kind_of ms) k in
-            let here : waits_of timing rules ws kind (group_page ms) (group_above rules ms) ≤ own_wait + waits_of timing rules left kind (group_page ms) (group_above rules ms) = rw e own_class in
-            rw k (grid_step (2 ^ 16) (2 ^ 16) (waits_of timing rules ws kind) (waits_of timing rules left kind) (group_page ms) (group_above rules ms) own_wait (λ page above d. let q = same_class kind page above (inr d) in omega arith) here))
-        | inr k ↦ rw k (grid_step (2 ^ 16) (2 ^ 16) (waits_of timing rules ws kind) (waits_of timing rules left kind) 0 0 0 (λ page above d. let q = same_class kind page above (inl k) in omega arith) (let q = same_class kind 0 0 (inl k) in omega arith))
+            let e = same_operation_is operation (group_operation ms) k in
+            let here : waits_of timing rules ws operation (group_page ms) (group_above rules ms) ≤ own_wait + waits_of timing rules left operation (group_page ms) (group_above rules ms) = rw e own_class in
+            rw k (grid_step (2 ^ 16) (2 ^ 16) (waits_of timing rules ws operation) (waits_of timing rules left operation) (group_page ms) (group_above rules ms) own_wait (λ page above d. let q = same_class operation page above (inr d) in omega arith) here))
+        | inr k ↦ rw k (grid_step (2 ^ 16) (2 ^ 16) (waits_of timing rules ws operation) (waits_of timing rules left operation) 0 0 0 (λ page above d. let q = same_class operation page above (inl k) in omega arith) (let q = same_class operation 0 0 (inl k) in omega arith))
       ]
 
   -- a started group takes at least the waits after its first command
   pub waits_step : all_waits timing rules ws ≤ own_wait + all_waits timing rules left
   waits_step =
       let a = kind_step Read in let b = kind_step Program in let c = kind_step Erase in
-      let d = one_kind (kind_of ms) own_wait in
+      let d = one_operation_of (group_operation ms) own_wait in
       omega arith
 
 pub no_waits_left : (timing : Timing) (rules : Rules) → all_waits timing rules [] ≡ 0

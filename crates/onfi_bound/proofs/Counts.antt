@@ -4,20 +4,21 @@ use Rattle.std.specs.Prelude.{min, max, ◌==◌, slice_set}
 use Rattle.std.proofs.lemmas.Bool.{cases_Bool, cases_eq, eq-eqb, ne_eqb}
 use Rattle.std.proofs.lemmas.List.{append-nil, take_more, length-take}
 use Rattle.std.proofs.lemmas.List.Elements.{filter-append}
-use Rattle.onfi_timing.specs.declared.kind.Kind.{Kind}
-use Rattle.onfi_timing.specs.declared.kind.Kind.TheVariants.{Read, Program, Erase}
+use Rattle.onfi_timing.specs.declared.operation.Operation.{Operation}
+use Rattle.onfi_timing.specs.declared.operation.Operation.TheVariants.{Read, Program, Erase}
 use Rattle.onfi_timing.specs.declared.spans.Spans.{Spans}
 use Rattle.onfi_timing.specs.declared.timing.Timing.{Timing}
-use Rattle.onfi_timing.specs.Kinds.{spans_of}
+use Rattle.onfi_timing.specs.Kinds.{operation_of, operation_spans, spans_of}
+use Rattle.onfi_timing.proofs.Shared.{of_operation}
 use Rattle.onfi_request.specs.declared.want.Want.{Want}
 use Rattle.onfi_group.specs.declared.rules.Rules.{Rules}
 use Rattle.onfi_group.specs.Words.{number}
 use Rattle.onfi_problem.specs.Left.{want_command, want_post}
 use Rattle.onfi_problem.proofs.Wants.{total-append, filter_shorter}
-use Rattle.onfi_bound.specs.Bounds.{on_lun, sum_upto, same_kind, page_class, above_class, in_class, on_plane, deepest, class_waits, waits_of, kind_waits, wants_work}
+use Rattle.onfi_bound.specs.Bounds.{on_lun, sum_upto, same_operation, page_class, above_class, in_class, on_plane, deepest, class_waits, waits_of, operation_waits, wants_work}
 use Rattle.onfi_bound.specs.Parts.{plane_counts, added_wait}
-use Rattle.onfi_bound.proofs.Classes.{same_kind_is, same_kind_self, deepest_in, not_in}
-use Rattle.onfi_bound.proofs.Steps.{one_kind}
+use Rattle.onfi_bound.proofs.Classes.{same_operation_is, same_operation_self, deepest_in, not_in}
+use Rattle.onfi_bound.proofs.Steps.{one_operation_of}
 
 -- one more want on the LUN, or on another
 pub on_lun_with : (lun : ℕ) (ws : List Want) (w : Want) → w.lun ≡ lun → on_lun lun (ws ++ w ∷ []) ≡ on_lun lun ws ++ w ∷ []
@@ -36,15 +37,15 @@ number_more : (test : Want → Bool) (ws : List Want) (x : Want) → number test
 number_more test ws x = let e = total-append (λ w. if test w then 1 else 0) ws (x ∷ []) in omega arith
 
 -- the counts on each plane, with one more want of the class
-one_more_on : (rules : Rules) (kind : Kind) (page above plane : ℕ) (ws : List Want) (x : Want) → in_class rules kind page above x ≡ true → number (on_plane rules kind page above plane) (ws ++ x ∷ []) ≡ number (on_plane rules kind page above plane) ws + (if x.plane == plane then 1 else 0)
-one_more_on rules kind page above plane ws x e = number_more (on_plane rules kind page above plane) ws x ∙ rw e refl
+one_more_on : (rules : Rules) (operation : Operation) (page above plane : ℕ) (ws : List Want) (x : Want) → in_class rules operation page above x ≡ true → number (on_plane rules operation page above plane) (ws ++ x ∷ []) ≡ number (on_plane rules operation page above plane) ws + (if x.plane == plane then 1 else 0)
+one_more_on rules operation page above plane ws x e = number_more (on_plane rules operation page above plane) ws x ∙ rw e refl
 
-none_more_on : (rules : Rules) (kind : Kind) (page above plane : ℕ) (ws : List Want) (x : Want) → in_class rules kind page above x ≡ false → number (on_plane rules kind page above plane) (ws ++ x ∷ []) ≡ number (on_plane rules kind page above plane) ws
-none_more_on rules kind page above plane ws x e = let q = number_more (on_plane rules kind page above plane) ws x in let z : number (on_plane rules kind page above plane) (ws ++ x ∷ []) ≡ number (on_plane rules kind page above plane) ws + 0 = q ∙ rw e refl in omega arith
+none_more_on : (rules : Rules) (operation : Operation) (page above plane : ℕ) (ws : List Want) (x : Want) → in_class rules operation page above x ≡ false → number (on_plane rules operation page above plane) (ws ++ x ∷ []) ≡ number (on_plane rules operation page above plane) ws
+none_more_on rules operation page above plane ws x e = let q = number_more (on_plane rules operation page above plane) ws x in let z : number (on_plane rules operation page above plane) (ws ++ x ∷ []) ≡ number (on_plane rules operation page above plane) ws + 0 = q ∙ rw e refl in omega arith
 
-counts_in : (rules : Rules) (w : Want) (ws : List Want) (x : Want) (n : ℕ) → x.plane ≡ n → n ≤ 3 → in_class rules w.kind (page_class w) (above_class rules w) x ≡ true → plane_counts rules w (ws ++ x ∷ []) ≡ slice_set (plane_counts rules w ws) n (get_or (plane_counts rules w ws) n 0 + 1)
+counts_in : (rules : Rules) (w : Want) (ws : List Want) (x : Want) (n : ℕ) → x.plane ≡ n → n ≤ 3 → in_class rules (operation_of w.kind) (page_class w) (above_class rules w) x ≡ true → plane_counts rules w (ws ++ x ∷ []) ≡ slice_set (plane_counts rules w ws) n (get_or (plane_counts rules w ws) n 0 + 1)
 counts_in rules w ws x n e le q =
-    let a : (plane : ℕ) → number (on_plane rules w.kind (page_class w) (above_class rules w) plane) (ws ++ x ∷ []) ≡ number (on_plane rules w.kind (page_class w) (above_class rules w) plane) ws + (if n == plane then 1 else 0) = λ plane. one_more_on rules w.kind (page_class w) (above_class rules w) plane ws x q ∙ rw e refl in
+    let a : (plane : ℕ) → number (on_plane rules (operation_of w.kind) (page_class w) (above_class rules w) plane) (ws ++ x ∷ []) ≡ number (on_plane rules (operation_of w.kind) (page_class w) (above_class rules w) plane) ws + (if n == plane then 1 else 0) = λ plane. one_more_on rules (operation_of w.kind) (page_class w) (above_class rules w) plane ws x q ∙ rw e refl in
     rw (a 0, a 1, a 2, a 3) (go n le _ _ _ _)
   where
     go : (n : ℕ) → n ≤ 3 → (b c d f : ℕ) → (b + (if n == 0 then 1 else 0)) ∷ (c + (if n == 1 then 1 else 0)) ∷ (d + (if n == 2 then 1 else 0)) ∷ (f + (if n == 3 then 1 else 0)) ∷ [] ≡ slice_set (b ∷ c ∷ d ∷ f ∷ []) n (get_or (b ∷ c ∷ d ∷ f ∷ []) n 0 + 1)
@@ -54,16 +55,16 @@ counts_in rules w ws x n e le q =
     go (suc (suc (suc zero))) le b c d f = simp add-zero refl
     go (suc (suc (suc (suc n)))) le b c d f = absurd (omega arith)
 
-counts_out : (rules : Rules) (w : Want) (ws : List Want) (x : Want) → in_class rules w.kind (page_class w) (above_class rules w) x ≡ false → plane_counts rules w (ws ++ x ∷ []) ≡ plane_counts rules w ws
+counts_out : (rules : Rules) (w : Want) (ws : List Want) (x : Want) → in_class rules (operation_of w.kind) (page_class w) (above_class rules w) x ≡ false → plane_counts rules w (ws ++ x ∷ []) ≡ plane_counts rules w ws
 counts_out rules w ws x out =
-    let a = λ (plane : ℕ). none_more_on rules w.kind (page_class w) (above_class rules w) plane ws x out in
+    let a = λ (plane : ℕ). none_more_on rules (operation_of w.kind) (page_class w) (above_class rules w) plane ws x out in
     rw (a 0, a 1, a 2, a 3) refl
 
 -- a loop's counts with one more want
-pub counts_more : (rules : Rules) (w : Want) (before : List Want) (i : ℕ) (d : Want) (counts next : List ℕ) → i < length before → (get_or before i d).plane ≤ 3 → (get_or before i d).lun ≡ w.lun → in_class rules w.kind (page_class w) (above_class rules w) (get_or before i d) ≡ true → counts ≡ plane_counts rules w (on_lun w.lun (take i before)) → next ≡ slice_set counts (get_or before i d).plane (get_or counts (get_or before i d).plane 0 + 1) → next ≡ plane_counts rules w (on_lun w.lun (take (i + 1) before))
+pub counts_more : (rules : Rules) (w : Want) (before : List Want) (i : ℕ) (d : Want) (counts next : List ℕ) → i < length before → (get_or before i d).plane ≤ 3 → (get_or before i d).lun ≡ w.lun → in_class rules (operation_of w.kind) (page_class w) (above_class rules w) (get_or before i d) ≡ true → counts ≡ plane_counts rules w (on_lun w.lun (take i before)) → next ≡ slice_set counts (get_or before i d).plane (get_or counts (get_or before i d).plane 0 + 1) → next ≡ plane_counts rules w (on_lun w.lun (take (i + 1) before))
 counts_more rules w before i d counts next h le lun q a b = b ∙ rw (a, on_lun_yes w.lun before i d h lun) (sym (counts_in rules w (on_lun w.lun (take i before)) (get_or before i d) _ refl le q))
 
-pub counts_same : (rules : Rules) (w : Want) (before : List Want) (i : ℕ) (d : Want) (counts : List ℕ) → i < length before → in_class rules w.kind (page_class w) (above_class rules w) (get_or before i d) ≡ false → counts ≡ plane_counts rules w (on_lun w.lun (take i before)) → counts ≡ plane_counts rules w (on_lun w.lun (take (i + 1) before))
+pub counts_same : (rules : Rules) (w : Want) (before : List Want) (i : ℕ) (d : Want) (counts : List ℕ) → i < length before → in_class rules (operation_of w.kind) (page_class w) (above_class rules w) (get_or before i d) ≡ false → counts ≡ plane_counts rules w (on_lun w.lun (take i before)) → counts ≡ plane_counts rules w (on_lun w.lun (take (i + 1) before))
 counts_same rules w before i d counts h q a = elim (cases_eq (get_or before i d).lun w.lun) [
   | inl e ↦ a ∙ rw (on_lun_yes w.lun before i d h e) (sym (counts_out rules w (on_lun w.lun (take i before)) (get_or before i d) q))
   | inr n ↦ a ∙ rw (on_lun_no w.lun before i d h n) refl
@@ -138,16 +139,16 @@ module _ (timing : Timing) (rules : Rules) (ws : List Want) (w : Want) (plane : 
   above = above_class rules w
 
   abbrev count : ℕ → ℕ
-  count q = number (on_plane rules w.kind page above q) ws
+  count q = number (on_plane rules (operation_of w.kind) page above q) ws
 
-  own : in_class rules w.kind page above w ≡ true
-  own = rw (same_kind_self w.kind, eq-eqb page page refl, eq-eqb above above refl) refl
+  own : in_class rules (operation_of w.kind) page above w ≡ true
+  own = rw (same_operation_self (operation_of w.kind), eq-eqb page page refl, eq-eqb above above refl) refl
 
-  same_waits : (kind : Kind) (page' above' : ℕ) → (same_kind kind w.kind ≡ false) ⊎ ((page' ≢ page) ⊎ (above' ≢ above)) → waits_of timing rules (ws ++ w ∷ []) kind page' above' ≡ waits_of timing rules ws kind page' above'
-  same_waits kind page' above' d =
-      let out = not_in rules kind page' above' w d in
-      let n : number (in_class rules kind page' above') (ws ++ w ∷ []) ≡ number (in_class rules kind page' above') ws = (let q = number_more (in_class rules kind page' above') ws w in let z : number (in_class rules kind page' above') (ws ++ w ∷ []) ≡ number (in_class rules kind page' above') ws + 0 = q ∙ rw out refl in omega arith) in
-      let a = λ (q : ℕ). none_more_on rules kind page' above' q ws w out in
+  same_waits : (operation : Operation) (page' above' : ℕ) → (same_operation operation (operation_of w.kind) ≡ false) ⊎ ((page' ≢ page) ⊎ (above' ≢ above)) → waits_of timing rules (ws ++ w ∷ []) operation page' above' ≡ waits_of timing rules ws operation page' above'
+  same_waits operation page' above' d =
+      let out = not_in rules operation page' above' w d in
+      let n : number (in_class rules operation page' above') (ws ++ w ∷ []) ≡ number (in_class rules operation page' above') ws = (let q = number_more (in_class rules operation page' above') ws w in let z : number (in_class rules operation page' above') (ws ++ w ∷ []) ≡ number (in_class rules operation page' above') ws + 0 = q ∙ rw out refl in omega arith) in
+      let a = λ (q : ℕ). none_more_on rules operation page' above' q ws w out in
       rw (n, a 0, a 1, a 2, a 3) refl
 
   -- the greatest count once the want is on that plane too
@@ -156,7 +157,7 @@ module _ (timing : Timing) (rules : Rules) (ws : List Want) (w : Want) (plane : 
 
   -- it is greater by one where the want's plane was the deepest
   abbrev Deepens : ℕ → ℕ → Type 0
-  Deepens n now = (count n ≡ deepest rules w.kind page above ws → now ≡ deepest rules w.kind page above ws + 1) × (count n ≢ deepest rules w.kind page above ws → now ≡ deepest rules w.kind page above ws)
+  Deepens n now = (count n ≡ deepest rules (operation_of w.kind) page above ws → now ≡ deepest rules (operation_of w.kind) page above ws + 1) × (count n ≢ deepest rules (operation_of w.kind) page above ws → now ≡ deepest rules (operation_of w.kind) page above ws)
 
   deepens : (n : ℕ) → n ≤ 3 → Deepens n (deepest_with n)
   deepens zero le = ((λ h. omega arith), (λ h. omega arith))
@@ -165,36 +166,39 @@ module _ (timing : Timing) (rules : Rules) (ws : List Want) (w : Want) (plane : 
   deepens (suc (suc (suc zero))) le = ((λ h. omega arith), (λ h. omega arith))
   deepens (suc (suc (suc (suc n)))) le = absurd (omega arith)
 
-  depth : Deepens w.plane (deepest rules w.kind page above (ws ++ w ∷ []))
+  depth : Deepens w.plane (deepest rules (operation_of w.kind) page above (ws ++ w ∷ []))
   depth =
-      let a = λ (q : ℕ). one_more_on rules w.kind page above q ws w own in
+      let a = λ (q : ℕ). one_more_on rules (operation_of w.kind) page above q ws w own in
       rw (a 0, a 1, a 2, a 3) (deepens w.plane plane)
 
-  own_waits : waits_of timing rules (ws ++ w ∷ []) w.kind page above ≡ added_wait (spans_of timing w.kind) rules ws w + waits_of timing rules ws w.kind page above
+  own_waits : waits_of timing rules (ws ++ w ∷ []) (operation_of w.kind) page above ≡ added_wait (operation_spans timing (operation_of w.kind)) rules ws w + waits_of timing rules ws (operation_of w.kind) page above
   own_waits =
-      let n : number (in_class rules w.kind page above) (ws ++ w ∷ []) ≡ number (in_class rules w.kind page above) ws + 1 = number_more (in_class rules w.kind page above) ws w ∙ rw own refl in
-      let few = deepest_in rules w.kind page above ws in
-      elim (cases_eq (count w.plane) (deepest rules w.kind page above ws)) [
-        | inl e ↦ rw (n, depth.0 e, eq-eqb (count w.plane) (deepest rules w.kind page above ws) e) (class_more (spans_of timing w.kind) (number (in_class rules w.kind page above) ws) (deepest rules w.kind page above ws) few)
-        | inr d ↦ rw (n, depth.1 d, ne_eqb (count w.plane) (deepest rules w.kind page above ws) d) (class_wider (spans_of timing w.kind) (number (in_class rules w.kind page above) ws) (deepest rules w.kind page above ws) few)
+      let n : number (in_class rules (operation_of w.kind) page above) (ws ++ w ∷ []) ≡ number (in_class rules (operation_of w.kind) page above) ws + 1 = number_more (in_class rules (operation_of w.kind) page above) ws w ∙ rw own refl in
+      let few = deepest_in rules (operation_of w.kind) page above ws in
+      elim (cases_eq (count w.plane) (deepest rules (operation_of w.kind) page above ws)) [
+        | inl e ↦ rw (n, depth.0 e, eq-eqb (count w.plane) (deepest rules (operation_of w.kind) page above ws) e) (class_more (operation_spans timing (operation_of w.kind)) (number (in_class rules (operation_of w.kind) page above) ws) (deepest rules (operation_of w.kind) page above ws) few)
+        | inr d ↦ rw (n, depth.1 d, ne_eqb (count w.plane) (deepest rules (operation_of w.kind) page above ws) d) (class_wider (operation_spans timing (operation_of w.kind)) (number (in_class rules (operation_of w.kind) page above) ws) (deepest rules (operation_of w.kind) page above ws) few)
       ]
 
-  kind_more : (kind : Kind) → page < 2 ^ 16 → above < 2 ^ 16 → kind_waits timing rules (ws ++ w ∷ []) kind ≡ (if same_kind kind w.kind then added_wait (spans_of timing w.kind) rules ws w else 0) + kind_waits timing rules ws kind
-  kind_more kind a b =
-      elim (cases_Bool (same_kind kind w.kind)) [
+  same_added : added_wait (spans_of timing w.kind) rules ws w ≡ added_wait (operation_spans timing (operation_of w.kind)) rules ws w
+  same_added = let same = of_operation timing w.kind in rw (same.gap, same.array) refl
+
+  kind_more : (operation : Operation) → page < 2 ^ 16 → above < 2 ^ 16 → operation_waits timing rules (ws ++ w ∷ []) operation ≡ (if same_operation operation (operation_of w.kind) then added_wait (spans_of timing w.kind) rules ws w else 0) + operation_waits timing rules ws operation
+  kind_more operation a b =
+      elim (cases_Bool (same_operation operation (operation_of w.kind))) [
         | inl k ↦ (
-            let e = same_kind_is kind w.kind k in
-            let here : waits_of timing rules (ws ++ w ∷ []) kind page above ≡ added_wait (spans_of timing w.kind) rules ws w + waits_of timing rules ws kind page above = rw e own_waits in
-            rw k (grid_more (2 ^ 16) (2 ^ 16) (waits_of timing rules (ws ++ w ∷ []) kind) (waits_of timing rules ws kind) page above (added_wait (spans_of timing w.kind) rules ws w) a b (λ page' above' d. same_waits kind page' above' (inr d)) here))
+            let e = same_operation_is operation (operation_of w.kind) k in
+            let here : waits_of timing rules (ws ++ w ∷ []) operation page above ≡ added_wait (spans_of timing w.kind) rules ws w + waits_of timing rules ws operation page above = rw (e, same_added) own_waits in
+            rw k (grid_more (2 ^ 16) (2 ^ 16) (waits_of timing rules (ws ++ w ∷ []) operation) (waits_of timing rules ws operation) page above (added_wait (spans_of timing w.kind) rules ws w) a b (λ page' above' d. same_waits operation page' above' (inr d)) here))
         | inr k ↦ (
-            let same = grid_same (2 ^ 16) (2 ^ 16) (waits_of timing rules (ws ++ w ∷ []) kind) (waits_of timing rules ws kind) (λ page' above'. same_waits kind page' above' (inl k)) in
+            let same = grid_same (2 ^ 16) (2 ^ 16) (waits_of timing rules (ws ++ w ∷ []) operation) (waits_of timing rules ws operation) (λ page' above'. same_waits operation page' above' (inl k)) in
             rw k (omega arith))
       ]
 
   pub work_with : page < 2 ^ 16 → above < 2 ^ 16 → wants_work timing rules (ws ++ w ∷ []) ≡ wants_work timing rules ws + ((spans_of timing w.kind).cmd + (spans_of timing w.kind).post + added_wait (spans_of timing w.kind) rules ws w)
   work_with a b =
       let r = kind_more Read a b in let p = kind_more Program a b in let e = kind_more Erase a b in
-      let o = one_kind w.kind (added_wait (spans_of timing w.kind) rules ws w) in
+      let o = one_operation_of (operation_of w.kind) (added_wait (spans_of timing w.kind) rules ws w) in
       let t = total-append (λ v. want_command timing v + want_post timing v) ws (w ∷ []) in
       omega arith
 

@@ -3,6 +3,7 @@ use Rattle.std.proofs.Common.{◌≡◌, ◌≢◌, ℕ, ◌+◌, ◌*◌, ◌-�
 use Rattle.std.specs.Prelude.{slice_get, slice_set, max, ◌==◌}
 use Rattle.std.specs.List.{AllByRecursion as All}
 use Rattle.std.proofs.lemmas.Bool.{cases_Bool, eq-eqb, eqb-true}
+use Rattle.onfi_timing.proofs.Shared.{one_operation}
 use Rattle.onfi_timing.specs.declared.timing.Timing.{Timing}
 use Rattle.onfi_request.specs.declared.want.Want.{Want}
 use Rattle.onfi_problem.specs.declared.lun_state.LunState.{LunState}
@@ -12,7 +13,7 @@ use Rattle.onfi_group.specs.declared.rules.Rules.{Rules}
 use Rattle.onfi_group.specs.Words.{Has, total}
 use Rattle.onfi_problem.specs.Problem.{Problem, IsProblem}
 use Rattle.onfi_timing.specs.Kinds.{spans_of}
-use Rattle.onfi_group.specs.Group.{group_spans, lun_of, IsStartable, is_member}
+use Rattle.onfi_group.specs.Group.{kind_of, group_spans, lun_of, IsStartable, is_member}
 use Rattle.onfi_timing.specs.Phases.{phase_length, posts_from}
 use Rattle.onfi_schedule.specs.Runs.{Step, Run}
 use Rattle.onfi_problem.specs.Left.{commands_left, waits_left, chain_time, want_command, want_post}
@@ -104,7 +105,7 @@ start_work p ms ip st =
     let a = waits_step p.timing p.rules ms ws st.group rising wanted apart in
     let b = split_total (λ w. want_command p.timing w + want_post p.timing w) ms ws rising wanted apart in
     let both = total_both (want_command p.timing) (want_post p.timing) ms in
-    let d = total_same (want_command p.timing) spans.cmd ms (All-weaker _ _ (λ m e. ap (λ kind. (spans_of p.timing kind).cmd) e) ms st.group.kind) in
+    let d = total_same (want_command p.timing) spans.cmd ms (All-weaker _ _ (λ (m : Want) e. (one_operation p.timing (kind_of ms) m.kind (sym e)).cmd) ms st.group.operation) in
     let posts = start_posts p.timing ms in
     rw (on_lun_own ms p.wants lun) (omega arith)
 

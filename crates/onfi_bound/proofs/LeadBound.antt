@@ -3,6 +3,7 @@ use Rattle.std.proofs.Common.{◌≡◌, ◌≢◌, ℕ, zero, suc, ◌+◌, ◌
 use Rattle.std.specs.Prelude.{slice_get, slice_set, max, min, ◌==◌}
 use Rattle.std.specs.List.{AllByRecursion as All}
 use Rattle.std.proofs.lemmas.Bool.{cases_lt, eq-eqb, lt-ltb, le-ltb}
+use Rattle.onfi_timing.proofs.Shared.{one_operation}
 use Rattle.onfi_request.specs.declared.want.Want.{Want}
 use Rattle.onfi_problem.specs.declared.lun_state.LunState.{LunState}
 use Rattle.onfi_problem.specs.declared.lun_state.LunState.TheVariants.{Free, Running}
@@ -10,7 +11,7 @@ use Rattle.onfi_problem.specs.Moves.{Move, Next, Start, IsMove, IsDone, earliest
 use Rattle.onfi_group.specs.Words.{Has, total}
 use Rattle.onfi_problem.specs.Problem.{Problem, IsProblem}
 use Rattle.onfi_timing.specs.Kinds.{spans_of}
-use Rattle.onfi_group.specs.Group.{group_spans, lun_of, IsStartable}
+use Rattle.onfi_group.specs.Group.{kind_of, group_spans, lun_of, IsStartable}
 use Rattle.onfi_group.proofs.PhaseLengths.{posts_behind_command, posts_behind_post}
 use Rattle.onfi_timing.specs.Phases.{phase_length, wait_before, posts_from}
 use Rattle.onfi_schedule.specs.Runs.{Step, Run}
@@ -179,11 +180,12 @@ lead_start p ms since t e ip at st late sts =
     let spans = group_spans p.timing ms in
     let c = t + phase_length spans k 0 in
     let m = some_member ms some in
-    let kind = All-has _ ms m.0 st.group.kind m.1 in
+    let operation = All-has _ ms m.0 st.group.operation m.1 in
     let there : Has (on_lun l p.wants) m.0 = Has-filter (λ w. w.lun == l) p.wants m.0 (All-has (Has p.wants) ms m.0 (startable_wanted p ms st) m.1) (eq-eqb m.0.lun l (All-has _ ms m.0 st.group.lun m.1)) in
     let b = least_has _ _ (Has-map (λ w. (spans_of p.timing w.kind).cmd + (spans_of p.timing w.kind).array) (on_lun l p.wants) m.0 there) in
     let first : e ≤ max p.bus_free since + b.0 = rw at at (sts l (Free since) b.0 at b.1) in
-    let value : b.0 ≤ spans.cmd + spans.array = subst (λ q. b.0 ≤ (spans_of p.timing q).cmd + (spans_of p.timing q).array) kind b.2 in
+    let same = one_operation p.timing (kind_of ms) m.0.kind (sym operation) in
+    let value : b.0 ≤ spans.cmd + spans.array = rw (same.cmd, same.array) at b.2 in
     let z : k - 0 ≡ k = omega arith in
     let times = times_left 1 k spans.cmd some in
     let waits : spans.array ≤ waits_left spans k 0 = rw (lt-ltb 0 k (omega arith)) (omega arith) in

@@ -5,7 +5,7 @@ use Rattle.std.specs.List.{AllByRecursion as All, list_any}
 use Rattle.std.proofs.lemmas.Bool.{cases_eq, false≢true}
 use Rattle.std.proofs.lemmas.List.{get_or-set_same, get_or-set_other, map-append, length-append}
 use Rattle.std.proofs.lemmas.List.Folds.{list_any-append}
-use Rattle.onfi_timing.specs.declared.kind.Kind.{Kind}
+use Rattle.onfi_timing.specs.declared.operation.Operation.{Operation}
 use Rattle.onfi_timing.specs.declared.timing.Timing.{Timing}
 use Rattle.onfi_timing.specs.Kinds.{spans_of}
 use Rattle.onfi_request.specs.declared.want.Want.{Want}
@@ -16,7 +16,7 @@ use Rattle.onfi_problem.specs.Moves.{Move, Next, Start, IsMove, after}
 use Rattle.onfi_problem.specs.Position.{Position, waiting_of, move_of, moved}
 use Rattle.onfi_bound.specs.declared.load.Load.{Load}
 use Rattle.onfi_bound.specs.Bounds.{least, least_with, on_lun, wants_work, page_class, above_class}
-use Rattle.onfi_bound.specs.Parts.{added_wait, has_kind}
+use Rattle.onfi_bound.specs.Parts.{added_wait, has_operation}
 use Rattle.onfi_bound.specs.Loads.{IsLeast, IsLoad, IsShortLoad, IsLoadBefore, AreLoads, AreLoadsBefore, commands_to_post}
 use Rattle.onfi_problem.proofs.Perm.{All-weaker}
 use Rattle.onfi_bound.proofs.DieBound.{no_work}
@@ -35,12 +35,12 @@ zero_at (suc n) zero = refl
 zero_at (suc n) (suc k) = zero_at n k
 
 -- the load of no want
-pub nothing_taken : (timing : Timing) (rules : Rules) (load : Load) → load.sums.commands ≡ 0 → load.sums.posts ≡ 0 → ((kind : Kind) → has_kind load.sums.kinds kind ≡ false) → load.firsts ≡ replicate 8 0 → load.work ≡ replicate 8 0 → IsShortLoad timing rules [] load
-nothing_taken timing rules load commands posts kinds firsts work = record {
+pub nothing_taken : (timing : Timing) (rules : Rules) (load : Load) → load.sums.commands ≡ 0 → load.sums.posts ≡ 0 → ((operation : Operation) → has_operation load.sums.operations operation ≡ false) → load.firsts ≡ replicate 8 0 → load.work ≡ replicate 8 0 → IsShortLoad timing rules [] load
+nothing_taken timing rules load commands posts operations firsts work = record {
   takes = record {
     commands = commands;
     posts = posts;
-    kinds = kinds;
+    operations = operations;
     firsts = λ lun few. tt;
     short = λ lun. let z = zero_at 8 lun in rw firsts (omega arith);
     work = λ lun few. rw work (zero_at 8 lun ∙ sym (no_work timing rules));
@@ -153,7 +153,7 @@ marked x number load more d before within there b m h a =
     let a' = subst (λ ws. IsShortLoad x.problem.timing x.problem.rules ws more) e a in
     record {
       takes = record {
-        takes = record { commands = a'.takes.commands; posts = a'.takes.posts; kinds = a'.takes.kinds; firsts = a'.takes.firsts; short = a'.takes.short; work = a'.takes.work };
+        takes = record { commands = a'.takes.commands; posts = a'.takes.posts; operations = a'.takes.operations; firsts = a'.takes.firsts; short = a'.takes.short; work = a'.takes.work };
         legal = a'.legal;
         short = a'.short;
       };

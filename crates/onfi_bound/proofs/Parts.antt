@@ -3,13 +3,13 @@ use Rattle.std.proofs.Common.{◌≡◌, ℕ, suc, ◌+◌, ◌*◌, ◌-◌, �
 use Rattle.std.specs.Prelude.{slice_get, ◌==◌, nat_lt}
 use Rattle.std.specs.List.{AllByRecursion as All, list_any}
 use Rattle.std.proofs.lemmas.Bool.{cases_Bool, cases_lt, ne_eqb, lt-ltb, le-ltb}
-use Rattle.onfi_timing.specs.declared.kind.Kind.{Kind}
+use Rattle.onfi_timing.specs.declared.operation.Operation.{Operation}
 use Rattle.onfi_timing.specs.declared.timing.Timing.{Timing}
-use Rattle.onfi_timing.specs.Kinds.{spans_of}
+use Rattle.onfi_timing.specs.Kinds.{operation_of, spans_of}
 use Rattle.onfi_timing.specs.Phases.{posts_from}
 use Rattle.onfi_request.specs.declared.want.Want.{Want}
 use Rattle.onfi_group.specs.Words.{total}
-use Rattle.onfi_group.specs.Group.{kind_of, group_spans}
+use Rattle.onfi_group.specs.Group.{group_operation, kind_of, group_spans}
 use Rattle.onfi_problem.specs.declared.lun_state.LunState.{LunState}
 use Rattle.onfi_problem.specs.declared.lun_state.LunState.TheVariants.{Free, Running}
 use Rattle.onfi_problem.specs.declared.moves.Lun.{Lun}
@@ -18,8 +18,8 @@ use Rattle.onfi_problem.specs.Problem.{Problem}
 use Rattle.onfi_problem.specs.Left.{waits_left, command_time, post_time, want_command, want_post, all_commands, all_posts, InLimits}
 use Rattle.onfi_problem.proofs.Limits.{lun_in_limits}
 use Rattle.onfi_bound.specs.declared.chain.Chain.{Chain}
-use Rattle.onfi_bound.specs.Bounds.{same_kind, commands_next, has_command}
-use Rattle.onfi_bound.specs.Parts.{chain_of, IsShort, is_kind}
+use Rattle.onfi_bound.specs.Bounds.{same_operation, commands_next, has_command}
+use Rattle.onfi_bound.specs.Parts.{chain_of, IsShort, is_operation}
 use Rattle.onfi_bound.proofs.Classes.{times_left}
 use Rattle.onfi_bound.proofs.GroupPosts.{posts_short}
 use Rattle.onfi_problem.proofs.After.{in_table}
@@ -75,15 +75,15 @@ chain_commands timing luns = sym (total_by (command_time timing) (λ (c : Chain)
 chain_posts : (timing : Timing) (luns : List LunState) → total (λ (c : Chain). c.posts) (map (chain_of timing) luns) ≡ total (post_time timing) luns
 chain_posts timing luns = sym (total_by (post_time timing) (λ (c : Chain). c.posts) (chain_of timing) (λ x. sym (own_posts timing x)) luns)
 
-pub next_kind : (timing : Timing) (kind : Kind) (x : LunState) → is_kind kind (chain_of timing x).command ≡ commands_next kind x
-next_kind timing kind (Free since) = refl
-next_kind timing kind (Running g n r) = elim (cases_Bool (nat_lt n (length g))) [
-  | inl a ↦ elim (cases_Bool (same_kind kind (kind_of g))) [ inl b ↦ simp (a, b) refl | inr b ↦ simp (a, b) refl ]
-  | inr a ↦ elim (cases_Bool (same_kind kind (kind_of g))) [ inl b ↦ simp (a, b) refl | inr b ↦ simp (a, b) refl ]
+pub next_operation : (timing : Timing) (operation : Operation) (x : LunState) → is_operation operation (chain_of timing x).command ≡ commands_next operation x
+next_operation timing operation (Free since) = refl
+next_operation timing operation (Running g n r) = elim (cases_Bool (nat_lt n (length g))) [
+  | inl a ↦ elim (cases_Bool (same_operation operation (group_operation g))) [ inl b ↦ simp (a, b) refl | inr b ↦ simp (a, b) refl ]
+  | inr a ↦ elim (cases_Bool (same_operation operation (group_operation g))) [ inl b ↦ simp (a, b) refl | inr b ↦ simp (a, b) refl ]
 ]
 
-pub chain_kinds : (timing : Timing) (kind : Kind) (luns : List LunState) → list_any (λ (c : Chain). is_kind kind c.command) (map (chain_of timing) luns) ≡ list_any (commands_next kind) luns
-chain_kinds timing kind luns = sym (any_by (commands_next kind) (λ (c : Chain). is_kind kind c.command) (chain_of timing) (λ x. sym (next_kind timing kind x)) luns)
+pub chain_operations : (timing : Timing) (operation : Operation) (luns : List LunState) → list_any (λ (c : Chain). is_operation operation c.command) (map (chain_of timing) luns) ≡ list_any (commands_next operation) luns
+chain_operations timing operation luns = sym (any_by (commands_next operation) (λ (c : Chain). is_operation operation c.command) (chain_of timing) (λ x. sym (next_operation timing operation x)) luns)
 
 -- what the code reads is what is left
 pub chains_are : (p : Problem) (timing : Timing) (groups groups' : List (List Want)) (luns : List Lun) (chains : List Chain) → timing ≡ p.timing → groups ≡ groups' → map (state_of groups') luns ≡ p.luns → chains ≡ map (chain_of timing) (map (state_of groups) luns) → chains ≡ map (chain_of p.timing) p.luns
@@ -95,5 +95,5 @@ commands_are p timing chains cs wants ws first all t a b c d e q = q ∙ rw (e, 
 pub posts_are : (p : Problem) (timing : Timing) (chains cs : List Chain) (wants ws : List Want) (first all : ℕ) → timing ≡ p.timing → chains ≡ map (chain_of p.timing) p.luns → wants ≡ p.wants → cs ≡ chains → ws ≡ wants → first ≡ total (λ c. c.posts) cs → all ≡ first + total (want_post timing) ws → all ≡ all_posts p
 posts_are p timing chains cs wants ws first all t a b c d e q = q ∙ rw (e, c, a, d, b, t, chain_posts p.timing p.luns) refl
 
-pub kinds_are : (p : Problem) (kind : Kind) (chains cs : List Chain) (wants ws : List Want) (first all : Bool) → chains ≡ map (chain_of p.timing) p.luns → wants ≡ p.wants → cs ≡ chains → ws ≡ wants → first ≡ list_any (λ c. is_kind kind c.command) cs → all ≡ (if first then true else list_any (λ w. same_kind kind w.kind) ws) → all ≡ has_command p kind
-kinds_are p kind chains cs wants ws first all a b c d e q = q ∙ rw (e, c, a, d, b, chain_kinds p.timing kind p.luns) refl
+pub operations_are : (p : Problem) (operation : Operation) (chains cs : List Chain) (wants ws : List Want) (first all : Bool) → chains ≡ map (chain_of p.timing) p.luns → wants ≡ p.wants → cs ≡ chains → ws ≡ wants → first ≡ list_any (λ c. is_operation operation c.command) cs → all ≡ (if first then true else list_any (λ w. same_operation operation (operation_of w.kind)) ws) → all ≡ has_command p operation
+operations_are p operation chains cs wants ws first all a b c d e q = q ∙ rw (e, c, a, d, b, chain_operations p.timing operation p.luns) refl

@@ -3,14 +3,14 @@ use Rattle.std.proofs.Common.{◌≡◌, ℕ, zero, suc, ◌+◌, ◌<◌, Bool,
 use Rattle.std.specs.List.{list_any}
 use Rattle.std.proofs.lemmas.List.{map-append, take_more}
 use Rattle.std.proofs.lemmas.List.Folds.{list_any_more}
-use Rattle.onfi_timing.specs.declared.kind.Kind.TheVariants.{Read, Program, Erase}
+use Rattle.onfi_timing.specs.declared.operation.Operation.TheVariants.{Read, Program, Erase}
 use Rattle.onfi_request.specs.declared.want.Want.{Want}
 use Rattle.onfi_group.specs.Words.{total}
 use Rattle.onfi_problem.specs.Position.{waiting_of}
 use Rattle.onfi_bound.specs.declared.chain.Chain.{Chain}
 use Rattle.onfi_problem.proofs.Sums.{total_more}
-use Rattle.onfi_timing.specs.declared.kind.Kind.{Kind}
-use Rattle.onfi_bound.specs.Bounds.{same_kind}
+use Rattle.onfi_timing.specs.declared.operation.Operation.{Operation}
+use Rattle.onfi_bound.specs.Bounds.{same_operation}
 pub use Rattle.onfi_problem.proofs.Lists.{all_at}
 
 -- what a list gives past its end
@@ -66,8 +66,8 @@ both_mapped f g xs i d before now x h so_far made is =
     let more = ap (λ z. map f (map g z)) (take_more xs i d h) ∙ (ap (map f) (map-append g (take i xs) (get_or xs i d ∷ [])) ∙ map-append f (map g (take i xs)) (g (get_or xs i d) ∷ [])) in
     made ∙ (ap (λ z. z ++ x ∷ []) so_far ∙ (ap (λ z. map f (map g (take i xs)) ++ z ∷ []) is ∙ sym more))
 
--- a number counted for one kind alone
-pub one_kind : (kind : Kind) (c : ℕ) → (if same_kind Read kind then c else 0) + ((if same_kind Program kind then c else 0) + (if same_kind Erase kind then c else 0)) ≡ c
-one_kind Read c = omega arith
-one_kind Program c = omega arith
-one_kind Erase c = omega arith
+-- a number counted for one operation alone
+pub one_operation_of : (operation : Operation) (c : ℕ) → (if same_operation Read operation then c else 0) + ((if same_operation Program operation then c else 0) + (if same_operation Erase operation then c else 0)) ≡ c
+one_operation_of Read c = omega arith
+one_operation_of Program c = omega arith
+one_operation_of Erase c = omega arith

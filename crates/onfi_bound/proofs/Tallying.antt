@@ -5,7 +5,7 @@ use Rattle.std.specs.List.{list_any}
 use Rattle.std.proofs.lemmas.Bool.{cases_lt}
 use Rattle.std.proofs.lemmas.List.{drop_all}
 use Rattle.std.proofs.lemmas.Option.{slice_get-get_or}
-use Rattle.onfi_timing.specs.declared.kind.Kind.{Kind}
+use Rattle.onfi_timing.specs.declared.operation.Operation.{Operation}
 use Rattle.onfi_timing.specs.declared.timing.Timing.{Timing}
 use Rattle.onfi_timing.specs.Kinds.{spans_of}
 use Rattle.onfi_request.specs.declared.want.Want.{Want}
@@ -25,10 +25,10 @@ use Rattle.onfi_bound.specs.declared.chain.Chain.{Chain}
 use Rattle.onfi_bound.specs.declared.load.Load.{Load}
 use Rattle.onfi_bound.specs.declared.tally.Tally.{Tally}
 use Rattle.onfi_bound.specs.Bounds.{on_lun, wants_work, least, least_with, earlier, commands_next, has_command, to_post, post_starts, die}
-use Rattle.onfi_bound.specs.Parts.{chain_of, is_kind, has_kind, AreSums}
+use Rattle.onfi_bound.specs.Parts.{chain_of, is_operation, has_operation, AreSums}
 use Rattle.onfi_bound.specs.Loads.{IsLoad, IsLeast, commands_to_post, IsChainAt, IsTally}
 use Rattle.onfi_bound.proofs.DieBound.{no_work}
-use Rattle.onfi_bound.proofs.Parts.{next_kind, own_commands, own_posts}
+use Rattle.onfi_bound.proofs.Parts.{next_operation, own_commands, own_posts}
 use Rattle.onfi_bound.proofs.Whole.{die_working, die_nothing}
 use Rattle.onfi_bound.proofs.Ends.{bus_small, die_small}
 use Rattle.onfi_bound.proofs.Counting.{any_cons}
@@ -96,8 +96,8 @@ tally_room p lun t chain lim (x, at, q) h =
     (omega arith, omega arith)
 
 -- a LUN with something left
-pub tally_more : (p : Problem) (lun post : ℕ) (load : Load) (chain : Chain) (t t' : Tally) → IsLoad p.timing p.rules p.wants load → IsChainAt p lun chain → lun < 8 → (chain.running ≡ true) ⊎ (1 ≤ get_or load.work lun 0) → IsTally p lun t → t'.sums.commands ≡ t.sums.commands + chain.commands → t'.sums.posts ≡ t.sums.posts + chain.posts → ((kind : Kind) → has_kind t'.sums.kinds kind ≡ (if has_kind t.sums.kinds kind then true else is_kind kind chain.command)) → post ≡ (if chain.running then chain.commands + chain.waits else get_or load.firsts lun 0) → t'.first ≡ Some (least_with (max p.bus_free chain.from + post) t.first) → ((l : ℕ) → l < lun + 1 → die p l ≤ max t'.done p.bus_free) → IsTally p (lun + 1) t'
-tally_more p lun post load chain t t' h (x, at, q) small b so commands posts kinds is first done =
+pub tally_more : (p : Problem) (lun post : ℕ) (load : Load) (chain : Chain) (t t' : Tally) → IsLoad p.timing p.rules p.wants load → IsChainAt p lun chain → lun < 8 → (chain.running ≡ true) ⊎ (1 ≤ get_or load.work lun 0) → IsTally p lun t → t'.sums.commands ≡ t.sums.commands + chain.commands → t'.sums.posts ≡ t.sums.posts + chain.posts → ((operation : Operation) → has_operation t'.sums.operations operation ≡ (if has_operation t.sums.operations operation then true else is_operation operation chain.command)) → post ≡ (if chain.running then chain.commands + chain.waits else get_or load.firsts lun 0) → t'.first ≡ Some (least_with (max p.bus_free chain.from + post) t.first) → ((l : ℕ) → l < lun + 1 → die p l ≤ max t'.done p.bus_free) → IsTally p (lun + 1) t'
+tally_more p lun post load chain t t' h (x, at, q) small b so commands posts operations is first done =
     let d = drop_next p.luns lun x at in
     let rest = drop (lun + 1) p.luns in
     let c1 : chain.commands ≡ command_time p.timing x = ap (λ (c : Chain). c.commands) q ∙ own_commands p.timing x in
@@ -113,10 +113,10 @@ tally_more p lun post load chain t t' h (x, at, q) small b so commands posts kin
     record {
       commands = omega arith;
       posts = omega arith;
-      kinds = λ kind.
-          let k1 : (if has_kind t.sums.kinds kind then true else list_any (commands_next kind) (x ∷ rest)) ≡ has_command p kind = rw d at (so.kinds kind) in
-          let k2 : is_kind kind chain.command ≡ commands_next kind x = ap (λ (c : Chain). is_kind kind c.command) q ∙ next_kind p.timing kind x in
-          rw (kinds kind, k2, or_more (has_kind t.sums.kinds kind) (commands_next kind x) (list_any (commands_next kind) rest), ← any_cons (commands_next kind) x rest) k1;
+      operations = λ operation.
+          let k1 : (if has_operation t.sums.operations operation then true else list_any (commands_next operation) (x ∷ rest)) ≡ has_command p operation = rw d at (so.operations operation) in
+          let k2 : is_operation operation chain.command ≡ commands_next operation x = ap (λ (c : Chain). is_operation operation c.command) q ∙ next_operation p.timing operation x in
+          rw (operations operation, k2, or_more (has_operation t.sums.operations operation) (commands_next operation x) (list_any (commands_next operation) rest), ← any_cons (commands_next operation) x rest) k1;
       first = rw (first, earlier_more t.first (max p.bus_free chain.from + post) (least (post_starts p (lun + 1) rest))) old;
       done = done;
     }
@@ -143,7 +143,7 @@ tally_idle p lun load chain t t' h (x, at, q) small idle z so sums first done =
         record {
           commands = rw sums (omega arith);
           posts = rw sums (omega arith);
-          kinds = λ kind. let k1 : (if has_kind t.sums.kinds kind then true else list_any (commands_next kind) (Free since ∷ rest)) ≡ has_command p kind = rw d at (so.kinds kind) in rw (sums, ← any_cons (commands_next kind) (Free since) rest) k1;
+          operations = λ operation. let k1 : (if has_operation t.sums.operations operation then true else list_any (commands_next operation) (Free since ∷ rest)) ≡ has_command p operation = rw d at (so.operations operation) in rw (sums, ← any_cons (commands_next operation) (Free since) rest) k1;
           first = rw first (subst (λ z. earlier t.first (least z) ≡ least (post_starts p 0 p.luns)) starts (subst (λ z. earlier t.first (least (post_starts p lun z)) ≡ least (post_starts p 0 p.luns)) d so.first));
           done = done;
         }
@@ -157,7 +157,7 @@ tally_sums p t h =
     record {
       commands = omega arith;
       posts = omega arith;
-      kinds = λ kind. last (has_kind t.sums.kinds kind) (has_command p kind) (rw d at (h.kinds kind));
+      operations = λ operation. last (has_operation t.sums.operations operation) (has_command p operation) (rw d at (h.operations operation));
     }
   where
     last : (a b : Bool) → (if a then true else false) ≡ b → a ≡ b

@@ -1,15 +1,15 @@
 -- Four bounds on the finish, as sums over what is left: no legal schedule ends before any of them.
 use Rattle.std.specs.Prelude.{ℕ, zero, suc, ◌+◌, ◌*◌, ◌-◌, ◌^◌, ◌==◌, max, min, nat_lt, Bool, true, false, if◌then◌else◌, List, [], ◌∷◌, ◌++◌, length, map, Option, Some, None, slice_get}
 use Rattle.std.specs.List.{filter, list_any}
-use Rattle.onfi_timing.specs.declared.kind.Kind.{Kind}
-use Rattle.onfi_timing.specs.declared.kind.Kind.TheVariants.{Read, Program, Erase}
+use Rattle.onfi_timing.specs.declared.operation.Operation.{Operation}
+use Rattle.onfi_timing.specs.declared.operation.Operation.TheVariants.{Read, Program, Erase}
 use Rattle.onfi_timing.specs.declared.spans.Spans.{Spans}
 use Rattle.onfi_timing.specs.declared.timing.Timing.{Timing}
-use Rattle.onfi_timing.specs.Kinds.{spans_of}
+use Rattle.onfi_timing.specs.Kinds.{least_rest, operation_of, operation_spans, spans_of}
 use Rattle.onfi_request.specs.declared.want.Want.{Want}
 use Rattle.onfi_group.specs.declared.rules.Rules.{Rules}
 use Rattle.onfi_group.specs.Words.{total, number}
-use Rattle.onfi_group.specs.Group.{kind_of, group_spans, above_planes}
+use Rattle.onfi_group.specs.Group.{group_operation, kind_of, group_spans, above_planes}
 use Rattle.onfi_problem.specs.declared.lun_state.LunState.{LunState}
 use Rattle.onfi_problem.specs.declared.lun_state.LunState.TheVariants.{Free, Running}
 use Rattle.onfi_problem.specs.Problem.{Problem}
@@ -60,29 +60,29 @@ lead_from p (Some start) = start + all_posts p
 abbrev pub lead : Problem → ℕ
 lead p = lead_from p (least (post_starts p 0 p.luns))
 
-abbrev pub same_kind : Kind → Kind → Bool
-same_kind Read Read = true
-same_kind Program Program = true
-same_kind Erase Erase = true
-same_kind _ _ = false
+abbrev pub same_operation : Operation → Operation → Bool
+same_operation Read Read = true
+same_operation Program Program = true
+same_operation Erase Erase = true
+same_operation _ _ = false
 
--- a command is next on the LUN, and its group is of that kind
-abbrev pub commands_next : Kind → LunState → Bool
-commands_next kind (Free since) = false
-commands_next kind (Running group next ready) = if same_kind kind (kind_of group) then nat_lt next (length group) else false
+-- a command is next on the LUN, and its group is of that operation
+abbrev pub commands_next : Operation → LunState → Bool
+commands_next operation (Free since) = false
+commands_next operation (Running group next ready) = if same_operation operation (group_operation group) then nat_lt next (length group) else false
 
--- a command of that kind is left
-abbrev pub has_command : Problem → Kind → Bool
-has_command p kind = if list_any (commands_next kind) p.luns then true else list_any (λ w. same_kind kind w.kind) p.wants
+-- a command of that operation is left
+abbrev pub has_command : Problem → Operation → Bool
+has_command p operation = if list_any (commands_next operation) p.luns then true else list_any (λ w. same_operation operation (operation_of w.kind)) p.wants
 
-abbrev pub behind_commands : Problem → Kind → List ℕ
-behind_commands p kind = if has_command p kind then ((spans_of p.timing kind).array + (spans_of p.timing kind).post) ∷ [] else []
+abbrev pub behind_commands : Problem → Operation → List ℕ
+behind_commands p operation = if has_command p operation then least_rest p.timing operation ∷ [] else []
 
 abbrev pub trail_from : Problem → Option ℕ → Option ℕ
 trail_from p None = None
 trail_from p (Some rest) = Some (p.bus_free + all_commands p + rest)
 
--- after the last command there is an array and a post; there is no such bound where no command is left
+-- after the last command there is an array and the least post that is stated of it; there is no such bound where no command is left
 abbrev pub trail : Problem → Option ℕ
 trail p = trail_from p (least (behind_commands p Read ++ (behind_commands p Program ++ behind_commands p Erase)))
 
@@ -93,36 +93,36 @@ sum_upto (suc n) f = f n + sum_upto n f
 
 -- all erases count as one page
 abbrev pub page_class : Want → ℕ
-page_class w = if same_kind Erase w.kind then 0 else w.page
+page_class w = if same_operation Erase (operation_of w.kind) then 0 else w.page
 
 -- where groups are strict, the block number above the plane bits counts too
 abbrev pub above_class : Rules → Want → ℕ
 above_class rules w = if rules.strict then above_planes rules w else 0
 
 -- wants that might run in one group are of one class
-abbrev pub in_class : Rules → Kind → ℕ → ℕ → Want → Bool
-in_class rules kind page above w = if same_kind kind w.kind then (if page_class w == page then above_class rules w == above else false) else false
+abbrev pub in_class : Rules → Operation → ℕ → ℕ → Want → Bool
+in_class rules operation page above w = if same_operation operation (operation_of w.kind) then (if page_class w == page then above_class rules w == above else false) else false
 
-abbrev pub on_plane : Rules → Kind → ℕ → ℕ → ℕ → Want → Bool
-on_plane rules kind page above plane w = if in_class rules kind page above w then w.plane == plane else false
+abbrev pub on_plane : Rules → Operation → ℕ → ℕ → ℕ → Want → Bool
+on_plane rules operation page above plane w = if in_class rules operation page above w then w.plane == plane else false
 
 -- the greatest count on one plane
-abbrev pub deepest : Rules → Kind → ℕ → ℕ → List Want → ℕ
-deepest rules kind page above wants = max (max (number (on_plane rules kind page above 0) wants) (number (on_plane rules kind page above 1) wants)) (max (number (on_plane rules kind page above 2) wants) (number (on_plane rules kind page above 3) wants))
+abbrev pub deepest : Rules → Operation → ℕ → ℕ → List Want → ℕ
+deepest rules operation page above wants = max (max (number (on_plane rules operation page above 0) wants) (number (on_plane rules operation page above 1) wants)) (max (number (on_plane rules operation page above 2) wants) (number (on_plane rules operation page above 3) wants))
 
 -- n wants of a class, g of them on one plane, run in at least g groups: each has its array, each other want a wait
 abbrev pub class_waits : Spans → ℕ → ℕ → ℕ
 class_waits spans n g = g * spans.array + (n - g) * min spans.gap spans.array
 
-abbrev pub waits_of : Timing → Rules → List Want → Kind → ℕ → ℕ → ℕ
-waits_of timing rules wants kind page above = class_waits (spans_of timing kind) (number (in_class rules kind page above) wants) (deepest rules kind page above wants)
+abbrev pub waits_of : Timing → Rules → List Want → Operation → ℕ → ℕ → ℕ
+waits_of timing rules wants operation page above = class_waits (operation_spans timing operation) (number (in_class rules operation page above) wants) (deepest rules operation page above wants)
 
 -- for each page, and for each block number above the plane bits
-abbrev pub kind_waits : Timing → Rules → List Want → Kind → ℕ
-kind_waits timing rules wants kind = sum_upto (2 ^ 16) (λ page. sum_upto (2 ^ 16) (λ above. waits_of timing rules wants kind page above))
+abbrev pub operation_waits : Timing → Rules → List Want → Operation → ℕ
+operation_waits timing rules wants operation = sum_upto (2 ^ 16) (λ page. sum_upto (2 ^ 16) (λ above. waits_of timing rules wants operation page above))
 
 abbrev pub all_waits : Timing → Rules → List Want → ℕ
-all_waits timing rules wants = kind_waits timing rules wants Read + (kind_waits timing rules wants Program + kind_waits timing rules wants Erase)
+all_waits timing rules wants = operation_waits timing rules wants Read + (operation_waits timing rules wants Program + operation_waits timing rules wants Erase)
 
 abbrev pub wants_work : Timing → Rules → List Want → ℕ
 wants_work timing rules wants = total (λ w. want_command timing w + want_post timing w) wants + all_waits timing rules wants

@@ -1,9 +1,9 @@
 -- What sets of wants take, and what a walk over the LUNs has met.
 use Rattle.std.specs.Prelude.{◌≡◌, ℕ, ◌+◌, ◌*◌, ◌^◌, ◌<◌, ◌≤◌, max, true, false, if◌then◌else◌, List, [], ◌∷◌, length, map, drop, Some, slice_get, slice_index, slice_index_or}
 use Rattle.std.specs.List.{AllByRecursion as Each, list_any}
-use Rattle.onfi_timing.specs.declared.kind.Kind.{Kind}
+use Rattle.onfi_timing.specs.declared.operation.Operation.{Operation}
 use Rattle.onfi_timing.specs.declared.timing.Timing.{Timing}
-use Rattle.onfi_timing.specs.Kinds.{spans_of}
+use Rattle.onfi_timing.specs.Kinds.{operation_of, spans_of}
 use Rattle.onfi_request.specs.declared.want.Want.{Want}
 use Rattle.onfi_group.specs.declared.rules.Rules.{Rules}
 use Rattle.onfi_group.specs.Words.{total}
@@ -14,8 +14,8 @@ use Rattle.onfi_problem.specs.Left.{want_command, want_post, command_time, post_
 use Rattle.onfi_bound.specs.declared.chain.Chain.{Chain}
 use Rattle.onfi_bound.specs.declared.load.Load.{Load}
 use Rattle.onfi_bound.specs.declared.tally.Tally.{Tally}
-use Rattle.onfi_bound.specs.Bounds.{on_lun, wants_work, least, same_kind, commands_next, has_command, post_starts, die, earlier}
-use Rattle.onfi_bound.specs.Parts.{chain_of, has_kind}
+use Rattle.onfi_bound.specs.Bounds.{on_lun, wants_work, least, same_operation, commands_next, has_command, post_starts, die, earlier}
+use Rattle.onfi_bound.specs.Parts.{chain_of, has_operation}
 
 -- the command and the array of each want
 abbrev pub commands_to_post : Timing → List Want → List ℕ
@@ -30,7 +30,7 @@ IsLeast (x ∷ xs) n = least (x ∷ xs) ≡ Some n
 pub record IsLoad (timing : Timing) (rules : Rules) (wants : List Want) (load : Load) : Type 0 where
   pub commands : load.sums.commands ≡ total (want_command timing) wants
   pub posts : load.sums.posts ≡ total (want_post timing) wants
-  pub kinds : (kind : Kind) → has_kind load.sums.kinds kind ≡ list_any (λ w. same_kind kind w.kind) wants
+  pub operations : (operation : Operation) → has_operation load.sums.operations operation ≡ list_any (λ w. same_operation operation (operation_of w.kind)) wants
   pub firsts : (lun : ℕ) → lun < 8 → IsLeast (commands_to_post timing (on_lun lun wants)) (slice_index load.firsts lun)
   pub short : (lun : ℕ) → slice_index load.firsts lun < 2 ^ 51
   pub work : (lun : ℕ) → lun < 8 → slice_index load.work lun ≡ wants_work timing rules (on_lun lun wants)
@@ -62,6 +62,6 @@ IsChainAt p lun chain = (x : LunState) × (slice_get p.luns lun ≡ Some x) × (
 pub record IsTally (p : Problem) (lun : ℕ) (t : Tally) : Type 0 where
   pub commands : t.sums.commands + total (command_time p.timing) (drop lun p.luns) ≡ all_commands p
   pub posts : t.sums.posts + total (post_time p.timing) (drop lun p.luns) ≡ all_posts p
-  pub kinds : (kind : Kind) → (if has_kind t.sums.kinds kind then true else list_any (commands_next kind) (drop lun p.luns)) ≡ has_command p kind
+  pub operations : (operation : Operation) → (if has_operation t.sums.operations operation then true else list_any (commands_next operation) (drop lun p.luns)) ≡ has_command p operation
   pub first : earlier t.first (least (post_starts p lun (drop lun p.luns))) ≡ least (post_starts p 0 p.luns)
   pub done : (l : ℕ) → l < lun → die p l ≤ max t.done p.bus_free

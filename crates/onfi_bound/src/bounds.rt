@@ -1,18 +1,18 @@
 ghost use Rattle.std.specs.Prelude.{◌≡◌, ◌+◌, ◌^◌, ◌<◌, length, Option, Some, None, if◌then◌else◌, IfSome};
 ghost use Rattle.onfi_bound.specs.Bounds.{bus, lead, trail, die, least, least_with, post_starts, has_command};
-ghost use Rattle.onfi_timing.specs.declared.kind.Kind.{Kind as AnyKind};
+ghost use Rattle.onfi_timing.specs.declared.operation.Operation.{Operation as AnyOperation};
 ghost use Rattle.onfi_problem.specs.Left.{all_commands};
 ghost use Rattle.onfi_problem.specs.Problem.{Problem as AnyProblem};
-ghost use Rattle.onfi_bound.specs.Parts.{AreSums, IsLeft, has_kind};
+ghost use Rattle.onfi_bound.specs.Parts.{AreSums, IsLeft, has_operation};
 
 use crate::chain::Chain;
-use crate::kinds::Kinds;
+use crate::operations::Operations;
 use crate::left::{Left, Sums, list_marked};
 use crate::posts::{first_post, least_of};
 use crate::waits::work_of_wants;
 use arrayvec::ArrayVec;
 use onfi_problem::Problem;
-use onfi_timing::{Spans, Timing};
+use onfi_timing::{Operation, Timing};
 
 /// The bus bound, in ns of the channel's clock: when the bus is free, plus all phases that are left.
 pub fn bus(problem: &Problem) -> u64
@@ -32,7 +32,7 @@ pub fn lead(problem: &Problem) -> u64
 }
 
 /// The trail bound, in ns of the channel's clock: when the bus is free, plus all commands that are left, plus the least
-/// array time and post of a kind that has a command left; None where no command is left.
+/// array time of an operation that has a command left and the least post that is stated of it; None where no command is left.
 pub fn trail(problem: &Problem) -> Option<u64>
     ensures value { result ≡ trail problem.now.problem }
     ensures small { IfSome result (λ t. t < 2 ^ 62) }
@@ -44,7 +44,7 @@ pub fn trail(problem: &Problem) -> Option<u64>
 /// its running group with waits, plus the phases of its wants and the waits that the best grouping leaves them
 /// (ONFI 4.2, multi-plane operations); where the LUN has nothing left it is when the bus is free.
 ///
-/// Wants are counted for each kind and page, all erases as one page; where groups are strict, also for each block
+/// Wants are counted for each operation and page, all erases as one page; where groups are strict, also for each block
 /// number above the plane bits.
 pub fn die(problem: &Problem, lun: u8) -> u64
     requires { lun < length problem.now.problem.luns }
@@ -93,32 +93,32 @@ impl Sums {
         ensures value { result ≡ trail problem.now.problem }
         ensures small { IfSome result (λ t. t < 2 ^ 62) }
     {
-        trail_of(problem, self.commands, self.kinds)
+        trail_of(problem, self.commands, self.operations)
     }
 }
 
-/// The trail bound of a problem to which commands of these kinds are left, with the sum of their lengths in ns.
-pub fn trail_of(problem: &Problem, commands: u64, kinds: Kinds) -> Option<u64>
+/// The trail bound of a problem to which commands of these operations are left, with the sum of their lengths in ns.
+pub fn trail_of(problem: &Problem, commands: u64, operations: Operations) -> Option<u64>
     requires commands { commands ≡ all_commands problem.now.problem }
-    requires kinds { (kind : AnyKind) → has_kind kinds kind ≡ has_command problem.now.problem kind }
+    requires operations { (operation : AnyOperation) → has_operation operations operation ≡ has_command problem.now.problem operation }
     ensures value { result ≡ trail problem.now.problem }
     ensures small { IfSome result (λ t. t < 2 ^ 62) }
 {
     let (timing, bus_free) = (problem.timing(), problem.bus_free());
-    trail_by(timing, bus_free, commands, kinds)
+    trail_by(timing, bus_free, commands, operations)
 }
 
 /// The trail bound, in ns, of any problem with these phase lengths whose bus is free from `bus_free` on and to which
-/// commands of these kinds are left, with the sum of their lengths.
-pub fn trail_by(timing: &Timing, bus_free: u64, commands: u64, kinds: Kinds) -> Option<u64>
+/// commands of these operations are left, with the sum of their lengths.
+pub fn trail_by(timing: &Timing, bus_free: u64, commands: u64, operations: Operations) -> Option<u64>
     requires bus_free { bus_free < 2 ^ 62 }
     requires commands { commands < 2 ^ 62 }
     ensures { (p : AnyProblem) → timing.now ≡ p.timing → bus_free ≡ p.bus_free → commands ≡ all_commands p
-        → ((kind : AnyKind) → has_kind kinds kind ≡ has_command p kind) → result ≡ trail p }
+        → ((operation : AnyOperation) → has_operation operations operation ≡ has_command p operation) → result ≡ trail p }
 {
-    let rest = behind_command(kinds.erase, &timing.erase, None);
-    let rest = behind_command(kinds.program, &timing.program, rest);
-    let rest = behind_command(kinds.read, &timing.read, rest)?;
+    let rest = behind_command(operations.erase, timing.least_rest(Operation::Erase), None);
+    let rest = behind_command(operations.program, timing.least_rest(Operation::Program), rest);
+    let rest = behind_command(operations.read, timing.least_rest(Operation::Read), rest)?;
     Some(bus_free + commands + rest)
 }
 
@@ -135,14 +135,15 @@ impl Left {
     }
 }
 
-/// The lesser of what comes after a command of this kind, where one is left, and what comes after others.
-fn behind_command(left: bool, spans: &Spans, others: Option<u64>) -> Option<u64>
-    requires { IfSome others (λ rest. rest < 2 ^ 51) }
-    ensures value { result ≡ (if left then Some (least_with (spans.now.array + spans.now.post) others) else others) }
+/// The lesser of what comes at least after a command, in ns, where one is left, and what comes after others.
+fn behind_command(left: bool, least: u64, others: Option<u64>) -> Option<u64>
+    requires others { IfSome others (λ rest. rest < 2 ^ 51) }
+    requires least { least < 2 ^ 51 }
+    ensures value { result ≡ (if left then Some (least_with least others) else others) }
     ensures short { IfSome result (λ rest. rest < 2 ^ 51) }
 {
     if left {
-        Some(least_of(spans.array + spans.post, others))
+        Some(least_of(least, others))
     } else {
         others
     }

@@ -8,7 +8,7 @@ ghost use Rattle.onfi_bound.specs.Parts.{chain_of};
 
 use onfi_group::{Group, posts_from};
 use onfi_problem::Lun;
-use onfi_timing::{Kind, Timing};
+use onfi_timing::{Operation, Timing};
 
 /// What is left of a LUN's running group, in ns; where it is free only `from` is not 0.
 #[derive(Clone, Copy, Default)]
@@ -23,8 +23,8 @@ pub struct Chain {
     pub posts: u64,
     /// The waits between the phases that are left.
     pub waits: u64,
-    /// The kind of the next phase, where that is a command.
-    pub command: Option<Kind>,
+    /// What the next phase has the LUN do, where that is a command.
+    pub command: Option<Operation>,
 }
 
 // The posts of a group from phase `next` on, in ns. Most groups have one member, for which no walk is needed.
@@ -95,7 +95,7 @@ impl Chain {
             commands: (members - commands_done) * spans.cmd,
             posts: posts_left(timing, group, next),
             waits: (members - 1 - commands_done) * spans.gap + spans.array,
-            command: Some(group.kind()),
+            command: Some(group.operation()),
         }
     }
 

@@ -1,25 +1,25 @@
-//! How many commands of each kind are left, kept from node to node of a walk.
+//! How many commands of each operation are left, kept from node to node of a walk.
 
 ghost use Rattle.std.specs.Prelude.{◌≡◌, ◌+◌, ◌^◌, ◌<◌, ◌≤◌, ◌↔◌, IsTrue, if◌then◌else◌, length, slice_index_or, []};
-ghost use Rattle.onfi_timing.specs.declared.kind.Kind.{Kind as AnyKind};
+ghost use Rattle.onfi_timing.specs.declared.operation.Operation.{Operation as AnyOperation};
 ghost use Rattle.onfi_group.specs.Words.{total};
 ghost use Rattle.onfi_problem.specs.Moves.{IsMove, after, move_lun, Next, Start};
 ghost use Rattle.onfi_problem.specs.Position.{lun_named, move_of, state_of, waiting_of};
 ghost use Rattle.onfi_problem.specs.Problem.{Problem as AnyProblem};
-ghost use Rattle.onfi_bound.specs.Bounds.{same_kind, trail};
+ghost use Rattle.onfi_bound.specs.Bounds.{same_operation, trail};
 ghost use Rattle.onfi_bound.specs.Commands.{AreCommands, count_of, commands_on, one_of};
 ghost use Rattle.onfi_bound.specs.Reaching.{Reaches};
 
 use crate::bound::Bound;
 use crate::bounds::trail_by;
-use crate::kinds::Kinds;
+use crate::operations::Operations;
 use crate::reaching::is_reached;
 use onfi_group::Group;
 use onfi_problem::{Lun, Move, Problem};
 use onfi_request::Want;
-use onfi_timing::{Kind, Timing};
+use onfi_timing::{Operation, Timing};
 
-/// How many commands of each kind are left to a problem, of its running groups and its wants.
+/// How many commands of each operation are left to a problem, of its running groups and its wants.
 ///
 /// A walk that makes moves keeps them by [`Commands::after`], and asks for the trail bound without a look at each LUN.
 #[derive(Clone, Copy, Debug, PartialEq, Eq)]
@@ -46,8 +46,8 @@ impl Commands {
     // Those of the marked wants.
     fn of_wants(wants: &[Want], marks: &[bool; 8]) -> Commands
         requires { length wants.now ≤ 8 }
-        ensures counts { (kind : AnyKind) → count_of result kind ≡ total (one_of kind) (waiting_of marks.now wants.now) }
-        ensures few { (kind : AnyKind) → count_of result kind ≤ 8 }
+        ensures counts { (operation : AnyOperation) → count_of result operation ≡ total (one_of operation) (waiting_of marks.now wants.now) }
+        ensures few { (operation : AnyOperation) → count_of result operation ≤ 8 }
     {
         let mut counts = Commands {
             read: 0,
@@ -56,7 +56,7 @@ impl Commands {
         };
         for (i, want) in wants.iter().enumerate() {
             if marks[i] {
-                counts = counts.with(want.kind, 1);
+                counts = counts.with(want.kind.operation(), 1);
             }
         }
         counts
@@ -65,54 +65,54 @@ impl Commands {
     // These and those of a LUN's running group.
     fn with_lun(self, groups: &[Group], lun: Lun) -> Commands
         requires place { 1 ≤ lun.next → lun.place < length groups.now }
-        requires room { (kind : AnyKind) → count_of self kind ≤ 40 }
-        ensures counts { (kind : AnyKind) → count_of result kind ≡ count_of self kind + commands_on kind (state_of groups.now lun) }
-        ensures few { (kind : AnyKind) → count_of result kind ≤ count_of self kind + 4 }
+        requires room { (operation : AnyOperation) → count_of self operation ≤ 40 }
+        ensures counts { (operation : AnyOperation) → count_of result operation ≡ count_of self operation + commands_on operation (state_of groups.now lun) }
+        ensures few { (operation : AnyOperation) → count_of result operation ≤ count_of self operation + 4 }
     {
         if lun.next == 0 {
             return self;
         }
         let group = &groups[lun.place as usize];
         let left = group.len().saturating_sub(lun.next as usize);
-        self.with(group.kind(), left as u8)
+        self.with(group.operation(), left as u8)
     }
 
-    // These and so many more of a kind.
-    fn with(self, more: Kind, number: u8) -> Commands
-        requires { (kind : AnyKind) → count_of self kind + number < 2 ^ 8 }
-        ensures { (kind : AnyKind) → count_of result kind ≡ count_of self kind + (if same_kind kind more then number else 0) }
+    // These and so many more of an operation.
+    fn with(self, more: Operation, number: u8) -> Commands
+        requires { (operation : AnyOperation) → count_of self operation + number < 2 ^ 8 }
+        ensures { (operation : AnyOperation) → count_of result operation ≡ count_of self operation + (if same_operation operation more then number else 0) }
     {
         match more {
-            Kind::Read => Commands {
+            Operation::Read => Commands {
                 read: self.read + number,
                 ..self
             },
-            Kind::Program => Commands {
+            Operation::Program => Commands {
                 program: self.program + number,
                 ..self
             },
-            Kind::Erase => Commands {
+            Operation::Erase => Commands {
                 erase: self.erase + number,
                 ..self
             },
         }
     }
 
-    // One of a kind less.
-    fn less_one(self, less: Kind) -> Commands
+    // One of an operation less.
+    fn less_one(self, less: Operation) -> Commands
         requires { 1 ≤ count_of self less }
-        ensures { (kind : AnyKind) → count_of result kind + (if same_kind kind less then 1 else 0) ≡ count_of self kind }
+        ensures { (operation : AnyOperation) → count_of result operation + (if same_operation operation less then 1 else 0) ≡ count_of self operation }
     {
         match less {
-            Kind::Read => Commands {
+            Operation::Read => Commands {
                 read: self.read - 1,
                 ..self
             },
-            Kind::Program => Commands {
+            Operation::Program => Commands {
                 program: self.program - 1,
                 ..self
             },
-            Kind::Erase => Commands {
+            Operation::Erase => Commands {
                 erase: self.erase - 1,
                 ..self
             },
@@ -140,7 +140,7 @@ impl Commands {
         let state = problem.luns()[lun as usize];
         let group = &problem.groups()[state.place as usize];
         if (state.next as usize) < group.len() {
-            self.less_one(group.kind())
+            self.less_one(group.operation())
         } else {
             self
         }
@@ -152,7 +152,7 @@ impl Commands {
         ensures { AreCommands (after problem.now.problem (Start (slice_index_or problem.now.groups place []))) result }
     {
         problem.in_limits();
-        self.less_one(problem.group(place).kind())
+        self.less_one(problem.group(place).operation())
     }
 
     /// The trail bound of a problem to which these are left, in ns of the channel's clock; None where none is left.
@@ -170,7 +170,7 @@ impl Commands {
         requires { bus_free < 2 ^ 62 }
         ensures { (p : AnyProblem) → timing.now ≡ p.timing → bus_free ≡ p.bus_free → AreCommands p self → result ≡ trail p }
     {
-        let kinds = Kinds {
+        let operations = Operations {
             read: self.read > 0,
             program: self.program > 0,
             erase: self.erase > 0,
@@ -178,7 +178,7 @@ impl Commands {
         let reads = self.read as u64 * timing.read.cmd;
         let programs = self.program as u64 * timing.program.cmd;
         let erases = self.erase as u64 * timing.erase.cmd;
-        trail_by(timing, bus_free, reads + programs + erases, kinds)
+        trail_by(timing, bus_free, reads + programs + erases, operations)
     }
 
     /// Whether the trail bound of a problem to which these are left is at least `e` ns.

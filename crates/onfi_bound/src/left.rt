@@ -1,19 +1,20 @@
 ghost use Rattle.std.specs.Prelude.{◌≡◌, ◌+◌, ◌*◌, ◌^◌, ◌<◌, ◌≤◌, length, map, if◌then◌else◌, true, false, []};
 ghost use Rattle.std.specs.List.{AllByRecursion as Each, list_any};
-ghost use Rattle.onfi_timing.specs.declared.kind.Kind.{Kind as AnyKind};
+ghost use Rattle.onfi_timing.specs.Kinds.{operation_of};
+ghost use Rattle.onfi_timing.specs.declared.operation.Operation.{Operation as AnyOperation};
 ghost use Rattle.onfi_group.specs.Words.{total};
 ghost use Rattle.onfi_problem.specs.Position.{state_of, waiting_of};
 ghost use Rattle.onfi_problem.specs.Left.{want_command, want_post, InLimits};
-ghost use Rattle.onfi_bound.specs.Bounds.{same_kind};
-ghost use Rattle.onfi_bound.specs.Parts.{chain_of, has_kind, is_kind, IsShort, IsLeft};
+ghost use Rattle.onfi_bound.specs.Bounds.{same_operation};
+ghost use Rattle.onfi_bound.specs.Parts.{chain_of, has_operation, is_operation, IsShort, IsLeft};
 
 use crate::chain::Chain;
-use crate::kinds::Kinds;
+use crate::operations::Operations;
 use arrayvec::ArrayVec;
 use onfi_group::Group;
 use onfi_problem::{Lun, Problem};
 use onfi_request::Want;
-use onfi_timing::{Kind, Spans, Timing};
+use onfi_timing::{Operation, Spans, Timing};
 
 /// Sums over all LUNs of what is left, in ns.
 #[derive(Clone, Copy)]
@@ -22,8 +23,8 @@ pub struct Sums {
     pub commands: u64,
     /// All posts that are left.
     pub posts: u64,
-    /// The kinds of which a command is left.
-    pub kinds: Kinds,
+    /// The operations of which a command is left.
+    pub operations: Operations,
 }
 
 impl Sums {
@@ -31,12 +32,12 @@ impl Sums {
     pub fn none() -> Sums
         ensures commands { result.commands ≡ 0 }
         ensures posts { result.posts ≡ 0 }
-        ensures kinds { (kind : AnyKind) → has_kind result.kinds kind ≡ false }
+        ensures operations { (operation : AnyOperation) → has_operation result.operations operation ≡ false }
     {
         Sums {
             commands: 0,
             posts: 0,
-            kinds: Kinds::none(),
+            operations: Operations::none(),
         }
     }
 
@@ -46,7 +47,7 @@ impl Sums {
         requires few { length chains.now ≤ 8 }
         ensures commands { result.commands ≡ total (λ c. c.commands) chains.now }
         ensures posts { result.posts ≡ total (λ c. c.posts) chains.now }
-        ensures kinds { (kind : AnyKind) → has_kind result.kinds kind ≡ list_any (λ c. is_kind kind c.command) chains.now }
+        ensures operations { (operation : AnyOperation) → has_operation result.operations operation ≡ list_any (λ c. is_operation operation c.command) chains.now }
         ensures commands_short { result.commands ≤ 2 ^ 55 }
         ensures posts_short { result.posts ≤ 2 ^ 55 }
     {
@@ -63,16 +64,16 @@ impl Sums {
         requires posts { self.posts + chain.posts < 2 ^ 64 }
         ensures commands { result.commands ≡ self.commands + chain.commands }
         ensures posts { result.posts ≡ self.posts + chain.posts }
-        ensures kinds { (kind : AnyKind) → has_kind result.kinds kind ≡ (if has_kind self.kinds kind then true else is_kind kind chain.command) }
+        ensures operations { (operation : AnyOperation) → has_operation result.operations operation ≡ (if has_operation self.operations operation then true else is_operation operation chain.command) }
     {
-        let kinds = match chain.command {
-            Some(kind) => self.kinds.with(kind),
-            None => self.kinds,
+        let operations = match chain.command {
+            Some(operation) => self.operations.with(operation),
+            None => self.operations,
         };
         Sums {
             commands: self.commands + chain.commands,
             posts: self.posts + chain.posts,
-            kinds,
+            operations,
         }
     }
 
@@ -83,27 +84,27 @@ impl Sums {
         requires posts { self.posts ≤ 2 ^ 55 }
         ensures commands { result.commands ≡ self.commands + total (want_command timing.now) wants.now }
         ensures posts { result.posts ≡ self.posts + total (want_post timing.now) wants.now }
-        ensures kinds { (kind : AnyKind) → has_kind result.kinds kind ≡ (if has_kind self.kinds kind then true else list_any (λ w. same_kind kind w.kind) wants.now) }
+        ensures operations { (operation : AnyOperation) → has_operation result.operations operation ≡ (if has_operation self.operations operation then true else list_any (λ w. same_operation operation (operation_of w.kind)) wants.now) }
     {
         let mut sums = self;
         for want in wants {
-            sums = sums.with_want(&timing.spans(want.kind), want.kind);
+            sums = sums.with_want(&timing.spans(want.kind), want.kind.operation());
         }
         sums
     }
 
-    /// One want more, of that kind and with these phase lengths.
-    pub fn with_want(self, spans: &Spans, kind: Kind) -> Sums
+    /// One want more, of that operation and with these phase lengths.
+    pub fn with_want(self, spans: &Spans, operation: Operation) -> Sums
         requires commands { self.commands + spans.now.cmd < 2 ^ 64 }
         requires posts { self.posts + spans.now.post < 2 ^ 64 }
         ensures commands { result.commands ≡ self.commands + spans.now.cmd }
         ensures posts { result.posts ≡ self.posts + spans.now.post }
-        ensures kinds { (of : AnyKind) → has_kind result.kinds of ≡ (if has_kind self.kinds of then true else same_kind of kind) }
+        ensures operations { (of : AnyOperation) → has_operation result.operations of ≡ (if has_operation self.operations of then true else same_operation of operation) }
     {
         Sums {
             commands: self.commands + spans.cmd,
             posts: self.posts + spans.post,
-            kinds: self.kinds.with(kind),
+            operations: self.operations.with(operation),
         }
     }
 }

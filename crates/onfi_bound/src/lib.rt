@@ -6,7 +6,7 @@ mod bound;
 mod bounds;
 mod chain;
 mod commands;
-mod kinds;
+mod operations;
 pub mod laws;
 mod left;
 mod load;

@@ -104,7 +104,7 @@ impl Load {
         } else {
             to_post.min(self.firsts[lun])
         };
-        self.sums = self.sums.with_want(&spans, want.kind);
+        self.sums = self.sums.with_want(&spans, want.kind.operation());
         self.work[lun] += spans.cmd + spans.post + wait;
     }
 

@@ -2,18 +2,19 @@
 
 ghost use Rattle.std.specs.Prelude.{◌≡◌, ◌+◌, ◌^◌, ◌<◌, ◌≤◌, length, take};
 ghost use Rattle.std.specs.List.{AllByRecursion as Each};
+ghost use Rattle.onfi_timing.specs.Kinds.{operation_of};
 ghost use Rattle.onfi_problem.specs.Problem.{IsWant};
 ghost use Rattle.onfi_bound.specs.Bounds.{on_lun, page_class, above_class, in_class, wants_work};
 ghost use Rattle.onfi_bound.specs.Parts.{plane_counts, added_wait};
 
 use onfi_group::Rules;
 use onfi_request::Want;
-use onfi_timing::{Kind, Spans, Timing};
+use onfi_timing::{Operation, Spans, Timing};
 
 /// What wants share that might run in one group.
 #[derive(Clone, Copy)]
 struct Class {
-    kind: Kind,
+    operation: Operation,
     /// The page; all erases count as one page.
     page: u16,
     /// Where groups are strict, the block number above the plane bits.
@@ -23,16 +24,17 @@ struct Class {
 impl Class {
     /// The class of a want.
     fn of(rules: &Rules, want: &Want) -> Class
-        ensures kind { result.kind ≡ want.now.kind }
+        ensures operation { result.operation ≡ operation_of want.now.kind }
         ensures page { result.page ≡ page_class want.now }
         ensures above { result.above ≡ above_class rules.now want.now }
         ensures page_fits { page_class want.now < 2 ^ 16 }
         ensures above_fits { above_class rules.now want.now < 2 ^ 16 }
     {
         let (page, block) = (want.page, want.block);
+        let operation = want.kind.operation();
         Class {
-            kind: want.kind,
-            page: if want.kind == Kind::Erase { 0 } else { page },
+            operation,
+            page: if operation == Operation::Erase { 0 } else { page },
             above: if rules.strict {
                 block >> rules.plane_bits
             } else {
@@ -43,10 +45,10 @@ impl Class {
 
     /// Whether a want is of this class.
     fn has(&self, rules: &Rules, want: &Want) -> bool
-        ensures { result ≡ in_class rules.now self.now.kind self.now.page self.now.above want.now }
+        ensures { result ≡ in_class rules.now self.now.operation self.now.page self.now.above want.now }
     {
         let class = Class::of(rules, want);
-        self.kind == class.kind && class.page == self.page && class.above == self.above
+        self.operation == class.operation && class.page == self.page && class.above == self.above
     }
 }
 

@@ -26,21 +26,21 @@ less_one-requires c =
     omega arith
 
 pub returns-then-state-len : goal.returns-then-state-len
-returns-then-state-len c = λ kind.
+returns-then-state-len c = λ operation.
     let x = c.args.problem.now in
     let blank : Lun = record { next = 0; place = 0; time = 0 } in
     let lim = c.in_limits.ensures.limits in
     let here = next_place x.problem x.groups c.luns.result.now c.luns.ensures.states c.args.lun blank lim c.requires.step in
     let group = c.index-groups-state.result in
     let same = read_group x.groups _ group here (rw c.groups.ensures.value at c.index-groups-state.is) in
-    one_left kind c.kind.result _ _ _ _ _ c.kind.ensures (c.less_one.ensures kind) (c.requires.counts kind) (next_command x.problem x.groups c.luns.result.now c.luns.ensures.states c.args.lun blank group lim c.requires.step same (omega arith) kind)
+    one_left operation c.kind.result _ _ _ _ _ c.kind.ensures (c.less_one.ensures operation) (c.requires.counts operation) (next_command x.problem x.groups c.luns.result.now c.luns.ensures.states c.args.lun blank group lim c.requires.step same (omega arith) operation)
 
 pub returns-else-state-len : goal.returns-else-state-len
-returns-else-state-len c = λ kind.
+returns-else-state-len c = λ operation.
     let x = c.args.problem.now in
     let blank : Lun = record { next = 0; place = 0; time = 0 } in
     let lim = c.in_limits.ensures.limits in
     let here = next_place x.problem x.groups c.luns.result.now c.luns.ensures.states c.args.lun blank lim c.requires.step in
     let group = c.index-groups-state.result in
     let same = read_group x.groups _ group here (rw c.groups.ensures.value at c.index-groups-state.is) in
-    c.requires.counts kind ∙ sym (next_post x.problem x.groups c.luns.result.now c.luns.ensures.states c.args.lun blank group lim c.requires.step same (omega arith) kind)
+    c.requires.counts operation ∙ sym (next_post x.problem x.groups c.luns.result.now c.luns.ensures.states c.args.lun blank group lim c.requires.step same (omega arith) operation)

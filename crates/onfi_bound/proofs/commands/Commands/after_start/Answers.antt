@@ -14,8 +14,8 @@ less_one-requires c =
     omega arith
 
 pub returns : goal.returns
-returns c = λ kind.
+returns c = λ operation.
     let x = c.args.problem.now in
     let g = slice_index_or x.groups c.args.place [] in
     let own : c.kind.result ≡ kind_of g = c.kind.ensures ∙ ap kind_of c.group.ensures in
-    one_left kind c.kind.result (kind_of g) _ _ _ _ own (c.less_one.ensures kind) (c.requires.counts kind) (start_counts x.problem g kind c.in_limits.ensures.limits.problem c.requires.step)
+    one_left operation c.kind.result (kind_of g) _ _ _ _ own (c.less_one.ensures operation) (c.requires.counts operation) (start_counts x.problem g operation c.in_limits.ensures.limits.problem c.requires.step)

@@ -18,12 +18,12 @@ loop-lun-preserved c =
     let x = c.args.problem.now in
     let blank : Lun = record { next = 0; place = 0; time = 0 } in
     record {
-      same = λ kind. one_lun kind x.groups _ c.luns-lun-items.result.now c.loop-lun.lun-index blank _ _ _ c.loop-lun-test.true c.groups-groups.ensures.value (c.loop-lun.invariant.same kind) (c.with_lun-counts.ensures.counts kind);
-      few = λ kind. (let f = c.loop-lun.invariant.few kind in let g = c.with_lun-counts.ensures.few kind in omega arith);
+      same = λ operation. one_lun operation x.groups _ c.luns-lun-items.result.now c.loop-lun.lun-index blank _ _ _ c.loop-lun-test.true c.groups-groups.ensures.value (c.loop-lun.invariant.same operation) (c.with_lun-counts.ensures.counts operation);
+      few = λ operation. (let f = c.loop-lun.invariant.few operation in let g = c.with_lun-counts.ensures.few operation in omega arith);
     }
 
 pub returns : goal.returns
-returns c = λ kind.
+returns c = λ operation.
     let x = c.args.problem.now in
-    let first = c.of_wants-counts.ensures.counts kind ∙ (ap (λ z. total (one_of kind) (waiting_of c.waiting.result.now z)) c.wants.ensures.value ∙ ap (total (one_of kind)) c.waiting.ensures.value) in
-    all_counted kind x.problem x.groups c.luns-lun-items.result.now c.luns-lun-items.ensures.states c.loop-lun.lun-index _ _ c.loop-lun-test.false (c.loop-lun.invariant.same kind) first
+    let first = c.of_wants-counts.ensures.counts operation ∙ (ap (λ z. total (one_of operation) (waiting_of c.waiting.result.now z)) c.wants.ensures.value ∙ ap (total (one_of operation)) c.waiting.ensures.value) in
+    all_counted operation x.problem x.groups c.luns-lun-items.result.now c.luns-lun-items.ensures.states c.loop-lun.lun-index _ _ c.loop-lun-test.false (c.loop-lun.invariant.same operation) first

@@ -1,6 +1,6 @@
 use Rattle.std.proofs.Common.{ap, ◌∙◌}
 use Rattle.onfi_problem.specs.Position.{waiting_of}
-use Rattle.onfi_bound.proofs.Parts.{placed, chains_are, chains_short, commands_are, posts_are, kinds_are}
+use Rattle.onfi_bound.proofs.Parts.{placed, chains_are, chains_short, commands_are, posts_are, operations_are}
 use Rattle.onfi_bound.proofs.left.Left.read.Goals as goal
 
 pub list_chains-requires-clause-placed : goal.list_chains-requires-clause-placed
@@ -24,6 +24,6 @@ returns c =
       sums = record {
         commands = commands_are p _ _ _ _ _ _ _ c.timing-timing.ensures e w c.deref.ensures.0 c.deref-2.ensures.0 c.of_chains.ensures.commands c.with_wants-self.ensures.commands;
         posts = posts_are p _ _ _ _ _ _ _ c.timing-timing.ensures e w c.deref.ensures.0 c.deref-2.ensures.0 c.of_chains.ensures.posts c.with_wants-self.ensures.posts;
-        kinds = λ kind. kinds_are p kind _ _ _ _ _ _ e w c.deref.ensures.0 c.deref-2.ensures.0 (c.of_chains.ensures.kinds kind) (c.with_wants-self.ensures.kinds kind);
+        operations = λ operation. operations_are p operation _ _ _ _ _ _ e w c.deref.ensures.0 c.deref-2.ensures.0 (c.of_chains.ensures.operations operation) (c.with_wants-self.ensures.operations operation);
       };
     }

@@ -1,5 +1,5 @@
 use Rattle.std.proofs.Common.{arith}
-use Rattle.onfi_bound.specs.Parts.{is_kind, IsShort}
+use Rattle.onfi_bound.specs.Parts.{is_operation, IsShort}
 use Rattle.onfi_bound.proofs.Steps.{no_chain, summed, tested, all_at}
 use Rattle.onfi_bound.proofs.left.Sums.of_chains.Goals as goal
 
@@ -12,7 +12,7 @@ loop-chain-preserved c =
     record {
       commands = omega arith;
       posts = omega arith;
-      kinds = λ kind. tested (λ x. is_kind kind x.command) c.args.chains.now c.loop-chain.chain-index _ _ _ c.loop-chain-test.true (at.kinds kind) (c.with_chain-sums.ensures.kinds kind);
+      operations = λ operation. tested (λ x. is_operation operation x.command) c.args.chains.now c.loop-chain.chain-index _ _ _ c.loop-chain-test.true (at.operations operation) (c.with_chain-sums.ensures.operations operation);
       commands_short = (let s = c.with_chain-sums.ensures.commands in omega (arith, short.commands));
       posts_short = (let s = c.with_chain-sums.ensures.posts in omega (arith, short.posts));
     }

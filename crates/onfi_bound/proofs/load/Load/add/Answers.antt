@@ -1,10 +1,10 @@
 use Rattle.std.proofs.Common.{◌<◌, ◌∷◌, [], if◌then◌else◌, true, length, inl, inr, sym, ap, ◌∙◌, arith}
-use Rattle.onfi_timing.specs.Kinds.{spans_of}
+use Rattle.onfi_timing.specs.Kinds.{operation_of, spans_of}
 use Rattle.onfi_problem.specs.Problem.{IsWant}
 use Rattle.onfi_problem.specs.Left.{want_command, want_post}
 use Rattle.onfi_problem.proofs.Perm.{All-append}
 use Rattle.onfi_problem.proofs.Wants.{total-append}
-use Rattle.onfi_bound.specs.Bounds.{same_kind}
+use Rattle.onfi_bound.specs.Bounds.{same_operation}
 use Rattle.onfi_bound.proofs.GroupPosts.{total_few}
 use Rattle.onfi_bound.proofs.Loading.{IsOwnFirst, any_more, firsts_with, firsts_short, works_with, works_short}
 use Rattle.onfi_bound.proofs.load.Load.add.Goals as goal
@@ -42,7 +42,7 @@ returns-clause-load c =
       takes = record {
         commands = (let t = total-append (want_command timing) ws (w ∷ []) in let a = h.takes.commands in let e = ap (λ z. z.cmd) s in omega arith);
         posts = (let t = total-append (want_post timing) ws (w ∷ []) in let a = h.takes.posts in let e = ap (λ z. z.post) s in omega arith);
-        kinds = λ kind. sums.kinds kind ∙ (ap (λ b. if b then true else same_kind kind w.kind) (h.takes.kinds kind) ∙ sym (any_more (λ v. same_kind kind v.kind) ws w));
+        operations = λ operation. sums.operations operation ∙ (ap (λ b. if b then true else same_operation operation (operation_of w.kind)) (h.takes.operations operation) ∙ sym (any_more (λ v. same_operation operation (operation_of v.kind)) ws w));
         firsts = firsts_with timing rules ws w load h first within c.requires.lun way;
         short = firsts_short timing rules ws w load h first within way;
         work = rw s (works_with timing rules ws w load h c.wait_of-wait.result within' c.requires.lun c.requires.want.plane wait.page_fits wait.above_fits (rw s at wait.value));

@@ -71,6 +71,6 @@ returns c =
     ] in
     let d : c.done_by-done.result ≡ die p c.args.lun = c.done_by-done.ensures ∙ rw c.bus_free-bus_free.ensures.value (done_is p c.args.lun load chain c.requires.load c.requires.chain c.requires.small b) in
     let s = c.with_chain-self.ensures in
-    tally_more p c.args.lun c.if-chain.to_post load chain t _ c.requires.load c.requires.chain c.requires.small b c.requires.so_far s.commands s.posts s.kinds is
+    tally_more p c.args.lun c.if-chain.to_post load chain t _ c.requires.load c.requires.chain c.requires.small b c.requires.so_far s.commands s.posts s.operations is
     (ap Some (c.least_of.ensures ∙ ap (λ z. least_with (z + c.if-chain.to_post) t.first) m))
     (done_more p c.args.lun t.done c.max-self.result c.requires.so_far.done (omega arith) (omega arith))
